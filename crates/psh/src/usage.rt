@@ -1,0 +1,39 @@
+//! What a command line may ask for, and what is wrong with one.
+use sh_world::Settings;
+use std::alloc::{AllocError, AllocFailed};
+
+/// A command line that is in order.
+#[derive(Debug, Drop)]
+pub struct Asked {
+    /// How the first shell is started.
+    pub settings: Settings,
+    /// Whether a report follows the terminal's bytes. No word asks for one yet.
+    pub report: bool,
+    /// The path of the image.
+    pub image: String,
+    /// The path of the events.
+    pub events: String,
+}
+
+/// Why there is nothing to run.
+#[derive(Debug, Drop)]
+pub enum UsageFault {
+    /// The words are not in order; the text says how they should be.
+    Usage { text: String },
+    /// Help is asked for; this is its text.
+    Help { text: String },
+    /// No memory was found.
+    NoMemory,
+}
+
+impl From<AllocError> for UsageFault {
+    fn from(_error: AllocError) -> Self {
+        UsageFault::NoMemory
+    }
+}
+
+impl<T: Drop> From<AllocFailed<T>> for UsageFault {
+    fn from(_error: AllocFailed<T>) -> Self {
+        UsageFault::NoMemory
+    }
+}

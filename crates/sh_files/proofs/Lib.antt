@@ -1,0 +1,5 @@
+pub mod Entries
+pub mod Places
+pub mod Slashes
+pub mod Spaces
+pub mod Walks

@@ -1,0 +1,10 @@
+use Rattle.std.proofs.Common.{◌≡◌, length, codes}
+use Rattle.sh_files.specs.Paths.{components}
+use Rattle.sh_files.specs.Nodes.{walked}
+use Rattle.sh_files.proofs.files.Files.walk.Given as goal
+
+abbrev pub invariant-names : goal.invariant-names
+invariant-names l = walked l.self (codes "/") (components l.path) ≡ walked l.self l.place.items (components l.rest)
+
+abbrev pub decreases-names : goal.decreases-names
+decreases-names l = length l.rest

@@ -1,0 +1,11 @@
+pub mod Trees
+pub mod Predict
+pub mod Reach
+pub mod Front
+pub mod SoFar
+pub mod Check
+pub mod Computing
+pub mod Stack
+pub mod Step
+pub mod Standing
+pub mod Bits

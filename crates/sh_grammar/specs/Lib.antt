@@ -1,0 +1,10 @@
+pub mod Grammar
+pub mod Leftmost
+pub mod Tabulation
+pub mod Table
+pub mod Predictive
+pub mod Passes
+pub mod Text
+pub mod Computed
+pub mod Reach
+pub mod Recognized

@@ -1,0 +1,9 @@
+pub mod Class
+pub mod Grammar
+pub mod Commands
+pub mod Tokens
+pub mod Reading
+pub mod Fronts
+pub mod Turns
+pub mod DefinedTokens
+pub mod Defined

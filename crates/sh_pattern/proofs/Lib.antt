@@ -1,0 +1,2 @@
+pub mod Backtrack
+pub mod ItemLemmas

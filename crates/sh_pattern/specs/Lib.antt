@@ -1,0 +1,4 @@
+pub mod Classes
+pub mod Items
+pub mod Match
+pub mod Place

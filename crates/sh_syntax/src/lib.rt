@@ -1,0 +1,7 @@
+//! Syntax of the Shell Command Language as values: words with their parts, and commands.
+#![tactic(auto)]
+
+pub mod command;
+pub mod memory;
+pub mod sequence;
+pub mod word;

@@ -1,0 +1,133 @@
+//! Lists that contracts see as lists.
+ghost use Rattle.std.specs.Prelude.{◌≡◌, ◌↔◌, [], ◌∷◌, ◌++◌, length, IsSome, IsTrue, ◌<◌, OnOk, OnErr, option_to_list};
+
+use std::alloc::{AllocError, Global};
+use std::marker::Model;
+
+/// Items in order. A contract sees nothing but the list of its items.
+#[derive(Debug, Drop)]
+pub struct Sequence<T> {
+    items: Vec<T>,
+}
+
+/// Bytes of a script, in order.
+pub type Text = Sequence<u8>;
+
+impl<T> Model for Sequence<T> {
+    ghost use Rattle.std.specs.Prelude.{List};
+
+    ghost Value = { List T };
+
+    ghost view = { λ s. s.items.items };
+}
+
+impl<T> Sequence<T> {
+    /// No items yet. Takes no memory.
+    pub fn new(alloc: Global) -> Self
+        ensures { result ≡ [] }
+    {
+        Sequence {
+            items: Vec::new(alloc),
+        }
+    }
+
+    /// The items of a vector. Takes no memory.
+    pub fn from_vec(items: Vec<T>) -> Self
+        ensures { result ≡ items.items }
+    {
+        Self { items }
+    }
+
+    /// The items as a vector. Takes no memory.
+    pub fn into_vec(self) -> Vec<T>
+        ensures { result.items ≡ self }
+    {
+        let Sequence { items } = self;
+        items
+    }
+
+    /// The items, lent.
+    pub fn as_slice(&self) -> &[T]
+        ensures { result.now ≡ self.now }
+    {
+        self.items.as_slice()
+    }
+
+    /// How many items there are.
+    pub fn len(&self) -> usize
+        ensures { result ≡ length self.now }
+    {
+        self.items.len()
+    }
+
+    /// Whether there is no item.
+    pub fn is_empty(&self) -> bool
+        ensures { IsTrue result ↔ (self.now ≡ []) }
+    {
+        self.items.is_empty()
+    }
+}
+
+impl<T: Drop> Sequence<T> {
+    /// Puts an item behind the others. After an `Err`, which only want of memory gives, the items are
+    /// as they were.
+    pub fn push(&mut self, item: T) -> Result<(), AllocError>
+        ensures pushed { OnOk result (self.new ≡ self.old ++ item ∷ []) }
+        ensures unchanged { OnErr result (self.new ≡ self.old) }
+    {
+        self.items.push(item)?;
+        Ok(())
+    }
+
+    /// Takes the last item.
+    pub fn pop(&mut self) -> Option<T>
+        ensures items { self.old ≡ self.new ++ option_to_list result }
+        ensures some { IsSome result ↔ (0 < length self.old) }
+    {
+        self.items.pop()
+    }
+}
+
+impl<T: Copy> Sequence<T> {
+    /// Puts copies of the items behind the others. After an `Err`, which only want of memory gives, the
+    /// items are as they were.
+    pub fn extend_from_slice(&mut self, items: &[T]) -> Result<(), AllocError>
+        ensures extended { OnOk result (self.new ≡ self.old ++ items.now) }
+        ensures unchanged { OnErr result (self.new ≡ self.old) }
+    {
+        self.items.extend_from_slice(items)
+    }
+}
+
+#[cfg(test)]
+mod tests {
+    use super::{Sequence, Text};
+    use std::test::Fail;
+
+    #[test]
+    fn texts(rt: HostRuntime) -> Result<(), Fail> {
+        let mut text: Text = Sequence::new(rt.alloc());
+        assert!(rt; text.is_empty());
+        text.push(b'a')?;
+        text.extend_from_slice(b"bc")?;
+        assert_eq!(rt; text.as_slice(), b"abc".as_slice());
+        assert_eq!(rt; text.pop(), Some(b'c'));
+        assert_eq!(rt; text.len(), 2);
+        assert_eq!(rt; text.into_vec().as_slice(), b"ab".as_slice());
+        Ok(())
+    }
+
+    #[test]
+    fn texts_in_order(rt: HostRuntime) -> Result<(), Fail> {
+        let mut texts: Sequence<Text> = Sequence::new(rt.alloc());
+        texts.push(Sequence::from_vec(b"x".to_vec(rt.alloc())?))?;
+        texts.push(Sequence::new(rt.alloc()))?;
+        assert_eq!(rt; texts.len(), 2);
+        assert!(rt; texts.pop().is_some_and(|text| text.is_empty()));
+        assert_eq!(rt;
+            format!(in rt.alloc(); "{texts:?}")?.as_str(),
+            "Sequence { items: [Sequence { items: [120] }] }"
+        );
+        Ok(())
+    }
+}

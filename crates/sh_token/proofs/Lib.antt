@@ -1,0 +1,10 @@
+pub mod Base
+pub mod Longest
+pub mod Complete
+pub mod Pieces
+pub mod Parts
+pub mod Found
+pub mod Sound
+pub mod Nul
+pub mod Laws
+pub mod More

@@ -1,0 +1,10 @@
+pub mod Bytes
+pub mod Operators
+pub mod Growth
+pub mod Characters
+pub mod Words
+pub mod Tokens
+pub mod Machine
+pub mod FirstToken
+pub mod Placed
+pub mod Steps

@@ -1,0 +1,7 @@
+pub mod Codes
+pub mod Environment
+pub mod Names
+pub mod Places
+pub mod Refusals
+pub mod ShellOptions
+pub mod Starting

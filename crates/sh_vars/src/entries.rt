@@ -1,0 +1,128 @@
+// Variables with their names.
+ghost use Rattle.std.specs.Prelude.{◌≡◌, IfOk, option_map, true};
+
+use crate::texts::Text;
+use std::alloc::{AllocError, Global};
+use std::marker::Model;
+
+/// A variable with its name and its attributes (XCU 2.5.3).
+#[derive(Drop)]
+pub struct Entry {
+    name: Text,
+    value: Option<Text>,
+    exported: bool,
+    read_only: bool,
+}
+
+impl Model for Entry {
+    ghost use Rattle.std.specs.Prelude.{List, ℕ};
+    ghost use Rattle.sh_vars.specs.Environment.{Variable};
+
+    ghost Value = { List ℕ × Variable };
+
+    ghost view = { λ entry. (entry.name, record { value = entry.value; exported = entry.exported; read_only = entry.read_only }) };
+}
+
+impl Entry {
+    ghost use Rattle.sh_vars.specs.Environment.{absent, assigned};
+    ghost use Rattle.sh_vars.specs.Starting.{changeable};
+
+    /// A variable without value and attributes.
+    pub(crate) fn absent(alloc: Global, name: &[u8]) -> Result<Entry, AllocError>
+        ensures { IfOk result (λ entry. entry ≡ (name.now, absent)) }
+    {
+        Ok(Entry {
+            name: Text::copy_of(alloc, name)?,
+            value: None,
+            exported: false,
+            read_only: false,
+        })
+    }
+
+    /// A variable that can be changed.
+    #[tactic(auto, unfolding(crate::specs::Starting::changeable))]
+    pub(crate) fn with_value(
+        alloc: Global,
+        name: &[u8],
+        value: &[u8],
+        exported: bool,
+    ) -> Result<Entry, AllocError>
+        ensures { IfOk result (λ entry. entry ≡ (name.now, changeable value.now exported)) }
+    {
+        Ok(Entry {
+            name: Text::copy_of(alloc, name)?,
+            value: Some(Text::copy_of(alloc, value)?),
+            exported,
+            read_only: false,
+        })
+    }
+
+    /// A copy of the variable with its name. The only error is want of memory.
+    pub fn copy(&self, alloc: Global) -> Result<Entry, AllocError>
+        ensures { IfOk result (λ entry. entry ≡ self.now) }
+    {
+        let value = match &self.value {
+            Some(value) => Some(value.copy(alloc)?),
+            None => None,
+        };
+        Ok(Entry {
+            name: self.name.copy(alloc)?,
+            value,
+            exported: self.exported,
+            read_only: self.read_only,
+        })
+    }
+
+    /// Assigns to the variable, and exports it if asked.
+    pub(crate) fn assign(&mut self, value: Text, export: bool)
+        ensures { self.new ≡ (self.old.0, assigned self.old.1 value export) }
+    {
+        self.value = Some(value);
+        self.exported = self.exported || export;
+    }
+
+    /// Makes the variable one that programs inherit.
+    pub(crate) fn export(&mut self)
+        ensures { self.new ≡ (self.old.0, record self.old.1 { exported = true }) }
+    {
+        self.exported = true;
+    }
+
+    /// Makes the variable one that can't be changed.
+    pub(crate) fn make_read_only(&mut self)
+        ensures { self.new ≡ (self.old.0, record self.old.1 { read_only = true }) }
+    {
+        self.read_only = true;
+    }
+
+    /// The variable's name.
+    pub fn name(&self) -> &[u8]
+        ensures { result.now ≡ self.now.0 }
+    {
+        self.name.as_bytes()
+    }
+
+    /// The variable's value, `None` where it is unset.
+    pub fn value(&self) -> Option<&[u8]>
+        ensures { option_map (λ value. value.now) result ≡ self.now.1.value }
+    {
+        match &self.value {
+            Some(value) => Some(value.as_bytes()),
+            None => None,
+        }
+    }
+
+    /// Whether programs inherit the variable.
+    pub fn is_exported(&self) -> bool
+        ensures { result ≡ self.now.1.exported }
+    {
+        self.exported
+    }
+
+    /// Whether the variable can't be assigned to or unset.
+    pub fn is_read_only(&self) -> bool
+        ensures { result ≡ self.now.1.read_only }
+    {
+        self.read_only
+    }
+}

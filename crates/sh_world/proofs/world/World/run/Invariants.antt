@@ -1,0 +1,7 @@
+use Rattle.std.proofs.Common.{take}
+use Rattle.sh_world.specs.State.{State, run}
+use Rattle.sh_world.specs.Kept.{WorldStands}
+use Rattle.sh_world.proofs.world.World.run.Given as goal
+
+abbrev pub invariant-loop-event : goal.invariant-loop-event
+invariant-loop-event l = (s : State) → WorldStands l.fn.self s → WorldStands l.self (run s (take l.event-index l.events))

@@ -1,0 +1,13 @@
+pub mod Builtins
+pub mod Choice
+pub mod Codes
+pub mod Expansion
+pub mod Image
+pub mod Kept
+pub mod Messages
+pub mod Reading
+pub mod Reduction
+pub mod Requests
+pub mod Running
+pub mod State
+pub mod Tree

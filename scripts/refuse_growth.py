@@ -1,0 +1,85 @@
+#!/usr/bin/env python3
+"""Refuses each growth of memory in turn in the built program, for some scripts.
+
+Each run must answer as with ample memory, or with 3 (4 while its files are read) and the terminal's bytes after
+some of the events. Needs a C compiler; build psh first (./psh --help).
+"""
+import os
+import subprocess
+import sys
+import tempfile
+
+SHIM = r"""
+#define _GNU_SOURCE
+#include <errno.h>
+#include <stddef.h>
+#include <stdlib.h>
+static long left = -1;
+static int known = 0;
+static int refuse(void) {
+    if (!known) { char *n = getenv("REFUSE"); known = 1; if (n) left = atol(n); }
+    if (left > 0 && --left == 0) { errno = ENOMEM; return 1; }
+    return 0;
+}
+void *__libc_malloc(size_t); void *__libc_calloc(size_t, size_t);
+void *__libc_realloc(void *, size_t); void *__libc_memalign(size_t, size_t);
+void *malloc(size_t n) { return refuse() ? NULL : __libc_malloc(n); }
+void *calloc(size_t a, size_t b) { return refuse() ? NULL : __libc_calloc(a, b); }
+void *realloc(void *p, size_t n) { return refuse() ? NULL : __libc_realloc(p, n); }
+void *aligned_alloc(size_t a, size_t n) { return refuse() ? NULL : __libc_memalign(a, n); }
+int posix_memalign(void **p, size_t a, size_t n) {
+    if (refuse()) return ENOMEM;
+    *p = __libc_memalign(a, n);
+    return *p ? 0 : ENOMEM;
+}
+"""
+
+ROWS = [
+    ("echo 'a  b'; x=1; echo $x $?", 8),
+    ("exit 3", 3),
+    ("exit 256", 4),
+    ("echo a; fi", 3),
+    ("echo a  \"b  c\" 'd'\\ e", 5),
+    ("echo ok\nfi", 6),
+    ("echo ok; if", 3),
+    ("echo a", 5),
+    ("nosuch; x=a y=$x; echo \"$y\"$?", 12),
+]
+
+
+def main():
+    top = os.path.dirname(os.path.dirname(os.path.abspath(__file__)))
+    program = os.path.join(top, "crates", "psh", "out", "psh")
+    bad = 0
+    with tempfile.TemporaryDirectory() as folder:
+        shim = os.path.join(folder, "shim.so")
+        subprocess.run(["cc", "-shared", "-fPIC", "-x", "c", "-", "-o", shim], input=SHIM.encode(), check=True)
+        image, events = os.path.join(folder, "image"), os.path.join(folder, "events")
+        with open(image, "w") as file:
+            file.write("psh image 1\nend\n")
+
+        def run(text, turns, refused):
+            with open(events, "w") as file:
+                file.write("next %d\n" % turns if turns else "")
+            env = {"LD_PRELOAD": shim, "REFUSE": str(refused)} if refused else {}
+            done = subprocess.run([program, "-c", text, image, events], capture_output=True, env=env)
+            return done.returncode, done.stdout
+
+        for text, turns in ROWS:
+            whole = run(text, turns, 0)
+            fronts = [run(text, k, 0)[1] for k in range(turns)] + [whole[1]]
+            refusals = 0
+            for n in range(1, 401):
+                status, out = run(text, turns, n)
+                if (status, out) == whole:
+                    continue
+                refusals += 1
+                if not ((status == 3 and out in fronts) or (status == 4 and out == b"")):
+                    bad += 1
+                    print("growth %d of %r: status %d, %r" % (n, text, status, out))
+            print("%r: %d refusals" % (text, refusals))
+    print("%d bad" % bad)
+    return 1 if bad else 0
+
+
+sys.exit(main())
