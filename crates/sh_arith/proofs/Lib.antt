@@ -1,0 +1,5 @@
+pub mod Answering
+pub mod Running
+pub mod Starting
+pub mod Telling
+pub mod Whole

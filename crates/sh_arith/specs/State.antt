@@ -1,0 +1,30 @@
+-- What the program's machine stands for.
+use Rattle.std.specs.Prelude.{◌≡◌, ◌≢◌, ℕ, suc, [], reverse, Option, Some, None}
+use Rattle.sh_arith.specs.declared.machine.Machine.{Machine as Parts}
+use Rattle.sh_arith.specs.declared.faults.ArithFault.{ArithFault}
+use Rattle.sh_arith.specs.declared.faults.ArithFault.TheVariants.{NoMemory}
+use Rattle.sh_vars.specs.Environment.{Environment}
+use Rattle.sh_arith.specs.Steps.{Stacks, Machine, Runs, Skips, Halts}
+
+abbrev pub stacks_of : Parts → Stacks
+stacks_of m = record { values = reverse m.values.items; ops = reverse m.operators.items; names = reverse m.names.items }
+
+abbrev pub state : Option ℕ → Stacks → Environment → Machine
+state None s env = Runs s env
+state (Some n) s env = Skips n s env
+
+abbrev pub state_of : Parts → Environment → Machine
+state_of m env = state m.skip (stacks_of m) env
+
+-- a fault other than want of memory is the definition's
+abbrev pub Halting : ArithFault → Environment → Machine → Type 0
+Halting f env m = f ≢ NoMemory → Halts f env ≡ m
+
+-- no value yet
+abbrev pub none_yet : Stacks
+none_yet = record { values = []; ops = []; names = [] }
+
+-- how many skipped operands stand around
+abbrev pub depth : Option ℕ → ℕ
+depth None = 0
+depth (Some n) = suc n

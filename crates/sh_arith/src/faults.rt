@@ -1,0 +1,50 @@
+//! Why an arithmetic expression has no value.
+ghost use Rattle.std.specs.Prelude.{◌≡◌};
+ghost use Rattle.sh_arith.specs.declared.faults.ArithFault.TheVariants.{NoMemory};
+
+use std::alloc::AllocError;
+use thiserror::Error;
+
+/// Why an arithmetic expression has no value (XCU 2.6.4). Places count the bytes of the text before them.
+#[derive(Clone, Copy, Debug, PartialEq, Eq, Error)]
+pub enum ArithFault {
+    /// The token at this place is the first that no expression goes on with. It is the text's length where the text ends
+    /// too early. No variable has changed.
+    #[error("syntax")]
+    Syntax {
+        /// The place of the token.
+        at: usize,
+    },
+    /// A divisor is 0.
+    #[error("division by zero")]
+    DivideByZero,
+    /// A variable's value is no number, or a number is out of range.
+    #[error("not a number")]
+    NotANumber,
+    /// The variable that is named at this place can't be assigned to.
+    #[error("read only")]
+    ReadOnly {
+        /// The place of the name.
+        at: usize,
+    },
+    /// A token before any that is refused opens level 501. No variable has changed.
+    #[error("too deep")]
+    TooDeep,
+    /// There was no memory.
+    #[error("out of memory")]
+    NoMemory,
+    /// Under `set -u`: the variable that is named at this place has no value.
+    #[error("not set")]
+    Unset {
+        /// The place of the name.
+        at: usize,
+    },
+}
+
+impl From<AllocError> for ArithFault {
+    ghost from_gives = { λ _ fault. fault ≡ NoMemory };
+
+    fn from(_error: AllocError) -> ArithFault {
+        ArithFault::NoMemory
+    }
+}

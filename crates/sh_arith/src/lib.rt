@@ -1,0 +1,59 @@
+//! Arithmetic expressions of the Shell Command Language (IEEE Std 1003.1-2024, XCU 2.6.4).
+//!
+//! `evaluate` reads a text whole and gives its value in 64 bits with a sign, over the variables of a shell. What is
+//! served: decimal, octal and hexadecimal constants, variables, parentheses and C's integer operators other than `++`,
+//! `--`, `sizeof` and the comma, with C's precedences, in at most 500 levels.
+#![tactic(auto)]
+
+ghost use Rattle.std.specs.Prelude.{◌≡◌, ◌≢◌, ℕ, List, IfOk, IfErr};
+ghost use Rattle.sh_arith.specs.Evaluation.{HasFault, Says};
+ghost use Rattle.sh_arith.specs.Expression.{Expression};
+ghost use Rattle.sh_arith.specs.Outcome.{Gives};
+ghost use Rattle.sh_arith.specs.Value.{value};
+
+#[cfg(test)]
+mod expressions;
+mod faults;
+mod machine;
+mod read;
+#[cfg(test)]
+mod tests;
+mod values;
+
+pub use faults::ArithFault;
+use sh_vars::Vars;
+use std::alloc::Global;
+
+/// Law: a text says one expression at most.
+pub fn says_one_expression()
+    ensures { (text : List ℕ) (x y : Expression) → Says text x → Says text y → x ≡ y }
+{
+    sh_grammar::one_tree();
+}
+
+/// The value of an arithmetic expression (XCU 2.6.4). A blank text is 0.
+///
+/// Values have 64 bits and a sign, and wrap: the least value divided by -1 is itself, and its remainder is 0. Division
+/// is towards zero; shift counts are taken modulo 64, and a right shift keeps the sign. Operands are evaluated from left to
+/// right, a variable that an operator assigns to before its right side; what `&&`, `||` and `?:` skip is not evaluated.
+///
+/// A variable's value is blanks, a sign or none, a constant and blanks; an empty or unset one is 0.
+///
+/// Each parenthesis, prefix operator, `?` and assignment operator opens a level; 500 may be open, and operators between
+/// two operands open none. Both parts of a choice stand inside its `?`, the right side of an assignment inside it.
+///
+/// Errors: `Syntax` for a text that is no expression, and `TooDeep` where level 501 opens before a token is refused, both
+/// before anything is evaluated; `DivideByZero`; `NotANumber` for a constant above 9223372036854775807 that is evaluated,
+/// or a variable's value that is no number; `ReadOnly` for an assignment to a read-only variable; `Unset` where `set -u`
+/// is on and the value of an unset variable is needed. What was assigned before such an error stays. `NoMemory` may come
+/// at any place, and leaves open which of the text's assignments were done.
+pub fn evaluate(alloc: Global, text: &[u8], vars: &mut Vars) -> Result<i64, ArithFault>
+    ensures value { IfOk result (λ v. (e : Expression) × Says text.now e × (value text.now e vars.old ≡ Gives v vars.new)) }
+    ensures fault { IfErr result (λ f. f ≢ ArithFault.NoMemory → HasFault text.now vars.old f vars.new) }
+{
+    let actions = match read::read(alloc, text) {
+        Ok(actions) => actions,
+        Err(fault) => return Err(fault),
+    };
+    machine::value_of(alloc, text, actions.as_slice(), vars)
+}

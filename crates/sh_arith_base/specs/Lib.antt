@@ -1,0 +1,10 @@
+pub mod Constants
+pub mod Grammar
+pub mod Integers
+pub mod Levels
+pub mod Lexical
+pub mod Nesting
+pub mod Numbers
+pub mod Operators
+pub mod Roles
+pub mod Stack

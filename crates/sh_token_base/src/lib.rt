@@ -1,0 +1,8 @@
+//! What the grammar of the shell sees of tokens: their classes, and the grammar's tables for the generic recognizer.
+#![tactic(auto)]
+
+pub mod class;
+pub mod grammar;
+mod tables;
+#[cfg(test)]
+mod tests;
