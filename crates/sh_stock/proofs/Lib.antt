@@ -1,0 +1,5 @@
+pub mod Digits
+pub mod Fronts
+pub mod LineMeanings
+pub mod Searches
+pub mod Statuses

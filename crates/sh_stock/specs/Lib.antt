@@ -1,0 +1,15 @@
+pub mod Asking
+pub mod CatLaw
+pub mod CountLaw
+pub mod Courses
+pub mod FilterLaws
+pub mod Filtering
+pub mod Filters
+pub mod HavingLaw
+pub mod HeadLaw
+pub mod LineLaws
+pub mod Lines
+pub mod ProgramLaws
+pub mod Programs
+pub mod Twice
+pub mod TwiceLaws

@@ -1,0 +1,69 @@
+-- Lines of bytes (XBD 3.185): each ends with a newline, but for a last one that isn't finished.
+use Rattle.std.specs.Prelude.{◌≡◌, ℕ, map, List, [], ◌∷◌, ◌++◌, ◌+◌, Bool, true, false, ◌||◌, ◌==◌, nat_eq, ◌-◌, if◌then◌else◌}
+use Rattle.std.specs.List.{starts_with, filter}
+use Rattle.std.specs.List.{flat_map}
+
+abbrev pub is_newline : ℕ → Bool
+is_newline byte = byte == 10
+
+abbrev pub is_empty : List ℕ → Bool
+is_empty [] = true
+is_empty (byte ∷ bytes) = false
+
+-- how many newlines there are
+abbrev pub newlines : List ℕ → ℕ
+newlines [] = 0
+newlines (byte ∷ bytes) = if is_newline byte then newlines bytes + 1 else newlines bytes
+
+-- the bytes up to and with the newline that ends line n; all, where there are fewer
+abbrev pub first_lines : ℕ → List ℕ → List ℕ
+first_lines n [] = []
+first_lines n (byte ∷ bytes) =
+    if n == 0 then [] else byte ∷ first_lines (if is_newline byte then n - 1 else n) bytes
+
+-- the lines that are whole once these bytes follow the unfinished line `line`, without their newlines
+abbrev pub whole_lines : List ℕ → List ℕ → List (List ℕ)
+whole_lines line [] = []
+whole_lines line (byte ∷ bytes) =
+    if is_newline byte then line ∷ whole_lines [] bytes else whole_lines (line ++ byte ∷ []) bytes
+
+-- the line that is unfinished then
+abbrev pub unfinished : List ℕ → List ℕ → List ℕ
+unfinished line [] = line
+unfinished line (byte ∷ bytes) =
+    if is_newline byte then unfinished [] bytes else unfinished (line ++ byte ∷ []) bytes
+
+-- whether a text stands somewhere in a line
+abbrev pub contains : List ℕ → List ℕ → Bool
+contains text [] = is_empty text
+contains text (byte ∷ bytes) = starts_with nat_eq (byte ∷ bytes) text || contains text bytes
+
+-- a line with its newline
+abbrev pub ended : List ℕ → List ℕ
+ended line = line ++ 10 ∷ []
+
+-- of the lines that are whole once these bytes follow the unfinished line, those that contain a text
+abbrev pub kept_lines : List ℕ → List ℕ → List ℕ → List ℕ
+kept_lines text line bytes = flat_map ended (filter (contains text) (whole_lines line bytes))
+
+-- the unfinished line, if there is one
+abbrev pub last_of : List ℕ → List (List ℕ)
+last_of [] = []
+last_of (byte ∷ bytes) = (byte ∷ bytes) ∷ []
+
+-- the lines, each with its newline but for an unfinished one, where bytes follow the unfinished line `line`
+abbrev pub lines_behind : List ℕ → List ℕ → List (List ℕ)
+lines_behind line bytes = map ended (whole_lines line bytes) ++ last_of (unfinished line bytes)
+
+-- a text is a part of a line
+abbrev pub IsPart : List ℕ → List ℕ → Type 0
+IsPart text line = (before : List ℕ) × (after : List ℕ) × (before ++ (text ++ after) ≡ line)
+
+-- no line has a newline inside
+abbrev pub HaveNone : List (List ℕ) → Type 0
+HaveNone [] = Unit {0}
+HaveNone (line ∷ lines) = (newlines line ≡ 0) × HaveNone lines
+
+-- the lines without their newlines
+abbrev pub contents : List ℕ → List (List ℕ)
+contents bytes = whole_lines [] bytes ++ last_of (unfinished [] bytes)

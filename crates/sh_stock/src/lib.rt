@@ -1,0 +1,29 @@
+//! The stock programs of a modelled machine, and those of them that are filters.
+//!
+//! A program is a state machine: each turn takes the answer to its last ask and gives its next ask. [`Stock`] is what a
+//! machine needs to know of a kind of program, and [`Filter`] what a proof about pipelines needs to know: a filter's
+//! output and status are functions of its input alone, in whatever pieces it is read. [`Program`] has the programs
+//! `cat`, `echo`, `true`, `false`, `yes`, `spin`, `head`, `having`, `count` and `readstop`; `specs/Programs.antt` is the
+//! table of their turns, and `specs/Filters.antt` says which are filters.
+#![tactic(auto)]
+
+mod asking;
+mod laws;
+mod lines;
+mod memory;
+mod name;
+mod program;
+mod start;
+mod stock;
+#[cfg(test)]
+mod tests;
+mod text;
+#[cfg(test)]
+mod twice;
+
+pub use asking::{Answer, Ask, Turn};
+pub use laws::laws_of_lines;
+pub use memory::NoMemory;
+pub use program::{Program, Search};
+pub use stock::{Filter, Stock};
+pub use text::Text;
