@@ -1,5 +1,7 @@
 pub mod Entries
-pub mod Places
-pub mod Slashes
-pub mod Spaces
 pub mod Walks
+pub mod Lookups
+pub mod Restored
+pub mod Whole
+pub mod Kept
+pub mod Sizes

@@ -1,7 +1,4 @@
-pub mod Codes
-pub mod Contents
-pub mod Files
 pub mod Image
 pub mod Nodes
-pub mod Paths
-pub mod Places
+pub mod Writing
+pub mod Whole

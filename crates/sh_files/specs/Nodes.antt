@@ -2,13 +2,14 @@
 use Rattle.std.specs.Prelude.{ℕ, ◌+◌, ◌++◌, List, [], ◌∷◌, ◌&&◌, ◌||◌, ◌==◌, not, Bool, true, false, if◌then◌else◌, Option, Some, None, Result, Ok, Err, codes, length, nat_eq, nat_le, set, slice_get, take, drop}
 use Rattle.std.specs.Option.{option_and_then}
 use Rattle.std.specs.List.{list_any, starts_with}
-use Rattle.std.specs.FinMap.{get, insert}
-use Rattle.sh_files.specs.Paths.{PathMap, absolute, components, fits, stepped}
-use Rattle.sh_files.specs.Files.{starting_paths}
-use Rattle.sh_files.specs.Contents.{Regular, written}
-use Rattle.sh_files.specs.declared.node.Flags.{Flags}
-use Rattle.sh_files.specs.declared.node.Node.{Node}
-use Rattle.sh_files.specs.declared.node.Node.TheVariants.{Directory, File, Null, Terminal}
+use Rattle.std.specs.FinMap.{entries, get, insert}
+use Rattle.sh_files_base.specs.Listing.{front_of, names_in}
+use Rattle.sh_files_base.specs.Paths.{PathMap, absolute, components, fits, stepped}
+use Rattle.sh_files_base.specs.Starting.{starting_paths}
+use Rattle.sh_files_base.specs.Contents.{Regular, written}
+use Rattle.sh_files_base.specs.declared.node.Flags.{Flags}
+use Rattle.sh_files_base.specs.declared.node.Node.{Node}
+use Rattle.sh_files_base.specs.declared.node.Node.TheVariants.{Directory, File, Null, Terminal}
 use Rattle.sh_files.specs.declared.fault.FileFault.{FileFault}
 use Rattle.sh_files.specs.declared.fault.FileFault.TheVariants.{NoEntry, NoAccess, IsDirectory, NotDirectory, Exists, BadNumber, TooLarge}
 use Rattle.sh_files.specs.declared.opening.Opening.{Opening}
@@ -179,3 +180,16 @@ runs_at files (Ok place) = runs (node_at files place)
 -- a path names a regular file that may be executed
 abbrev pub is_executable : FileMap → List ℕ → List ℕ → Bool
 is_executable files directory path = runs_at files (resolved files directory path)
+
+-- ---- the names in a directory (XSH readdir, without dot and dot-dot)
+abbrev pub names_at : FileMap → List ℕ → Result (Unit {0}) FileFault → Result (List (List ℕ)) FileFault
+names_at files place (Ok _) = Ok (names_in (front_of place) (entries files.paths))
+names_at files place (Err fault) = Err fault
+
+abbrev pub list_place : FileMap → Result (List ℕ) FileFault → Result (List (List ℕ)) FileFault
+list_place files (Err fault) = Err fault
+list_place files (Ok place) = names_at files place (entrance (node_at files place))
+
+-- the names in the directory that a path names, in the order of their paths' bytes
+abbrev pub listed : FileMap → List ℕ → List ℕ → Result (List (List ℕ)) FileFault
+listed files directory path = list_place files (resolved files directory path)

@@ -1,16 +1,19 @@
 // The files by path and by number.
 ghost use Rattle.std.specs.Prelude.{◌≡◌, ◌≢◌, ◌+◌, ◌≤◌, ◌^◌, IfOk, IfErr, OnOk, OnErr, Ok, Err, option_map, slice_get, length, codes, true, false, ◌⊎◌, take, drop, if◌then◌else◌};
+ghost use Rattle.std.specs.Prelude.{List, ℕ, map as list_map};
+ghost use Rattle.std.specs.Borrow.{Bor};
 ghost use Rattle.std.specs.FinMap as map;
-ghost use Rattle.sh_files.specs.Paths.{fits, components};
+ghost use Rattle.sh_files_base.specs.Listing.{front_of, names_in};
+ghost use Rattle.sh_files_base.specs.Paths.{fits, components};
 ghost use Rattle.std.specs.Result.{result_map_both};
-ghost use Rattle.sh_files.specs.Contents.{written};
+ghost use Rattle.sh_files_base.specs.Contents.{written};
 ghost use Rattle.sh_files.specs.Nodes.{allows, node_opened, node_truncated, node_written, emptied, runs, write_fits, created, entrance, is_empty, is_executable, may_create, node_at, open_node, open_number, opened, read_at, resolved, starting, truncated, walked, with_new, write_at};
 
 use crate::fault::FileFault;
-use crate::node::{File, Flags, MAX_LENGTH, Node};
 use crate::opening::Opening;
-use crate::paths::{MAX_PATH, absolute, begins_at_root, names_fit, split_slash, step};
-use crate::table::{Entry, Table};
+use sh_files_base::{
+    Entry, File, Flags, MAX_LENGTH, MAX_PATH, Node, Table, absolute, names_fit, split_slash, step,
+};
 use std::alloc::{AllocError, Global};
 use std::marker::Model;
 
@@ -28,9 +31,9 @@ pub struct Files {
 impl Model for Files {
     ghost use Rattle.std.specs.Coded.{codes};
     ghost use Rattle.std.specs.Result.{result_map_both};
-    ghost use Rattle.sh_files.specs.Contents.{written};
+    ghost use Rattle.sh_files_base.specs.Contents.{written};
     ghost use Rattle.sh_files.specs.Nodes.{allows, node_opened, node_truncated, node_written, emptied, runs, write_fits, FileMap};
-    ghost use Rattle.sh_files.specs.Codes.{map_code};
+    ghost use Rattle.sh_files_base.specs.Codes.{map_code};
 
     ghost Value = { FileMap };
 
@@ -70,7 +73,7 @@ impl Files {
         ensures { option_map (λ node. node.now) result ≡ node_at self.now place.now }
     {
         match self.paths.find(place) {
-            Some(number) => self.nodes.get(number),
+            Some(number) => self.node(number),
             None => None,
         }
     }
@@ -82,13 +85,35 @@ impl Files {
         self.paths.find(place)
     }
 
+    /// All nodes, each at its number.
+    pub(crate) fn nodes(&self) -> &[Node]
+        ensures { result.now ≡ self.now.nodes }
+    {
+        self.nodes.as_slice()
+    }
+
+    /// The paths with the numbers of their nodes, in the order of their bytes.
+    pub(crate) fn entries(&self) -> &[Entry]
+        ensures { result.now ≡ map.entries self.now.paths }
+    {
+        self.paths.entries()
+    }
+
+    /// The names in the directory at a place, in the order of their paths' bytes.
+    pub(crate) fn names_at(&self, place: &[u8]) -> Result<Vec<&[u8]>, AllocError>
+        ensures { IfOk result (λ names. list_map (λ (name : Bor (List ℕ)). name.now) names.items ≡ names_in (front_of place.now) (map.entries self.now.paths)) }
+    {
+        let names = self.paths.names_in(self.alloc, place)?;
+        Ok(names)
+    }
+
     /// Where memory comes from.
     pub(crate) fn alloc(&self) -> Global {
         self.alloc
     }
 
     /// Refuses a place where no directory is.
-    fn check_directory(&self, place: &[u8]) -> Result<(), FileFault>
+    pub(crate) fn check_directory(&self, place: &[u8]) -> Result<(), FileFault>
         ensures { result ≡ entrance (node_at self.now place.now) }
     {
         match self.node_at(place) {
@@ -116,7 +141,7 @@ impl Files {
     }
 
     /// The place that a path stands for in a directory.
-    fn resolve(&self, directory: &[u8], path: &[u8]) -> Result<Vec<u8>, FileFault>
+    pub(crate) fn resolve(&self, directory: &[u8], path: &[u8]) -> Result<Vec<u8>, FileFault>
         ensures ok { IfOk result (λ place. resolved self.now directory.now path.now ≡ Ok place.items) }
         ensures refused { IfErr result (λ fault. fault ≢ FileFault.NoMemory → resolved self.now directory.now path.now ≡ Err fault) }
     {
@@ -206,7 +231,7 @@ impl Files {
     pub fn read(&self, number: usize, offset: usize, count: usize) -> Result<&[u8], FileFault>
         ensures { result_map_both (λ bytes. bytes.now) (λ fault. fault) result ≡ read_at self.now number offset count }
     {
-        match self.nodes.get(number) {
+        match self.node(number) {
             Some(Node::File(file)) => Ok(part(file.bytes(), offset, count)),
             Some(Node::Null) => Ok(&[]),
             _ => Err(FileFault::BadNumber),

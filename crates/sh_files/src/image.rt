@@ -1,59 +1,16 @@
 // Reading an image.
 ghost use Rattle.std.specs.Prelude.{◌≡◌, ◌≢◌, ◌≤◌, IfOk, IfErr, OnOk, OnErr, Ok, Err, None, length, [], slice_get, Some};
-ghost use Rattle.sh_files.specs.Paths.{components};
+ghost use Rattle.sh_files_base.specs.Fields.{line_of};
 ghost use Rattle.sh_files.specs.Nodes.{node_at};
-ghost use Rattle.sh_files.specs.Image.{by_header, image_of, read_image, stands, content_fault, line_of, entries, entry, file_entry, good_names, is_device, is_directory, is_good_name, is_image_path, path_fault, placed};
+ghost use Rattle.sh_files.specs.Image.{by_header, image_of, read_image, stands, content_fault, entries, entry, file_entry, is_directory, path_fault, placed};
 
-use crate::fields::{
-    FaultKind, ImageFault, MAX_IMAGE, Stop, behind, count_newlines, file_fields, first, skip,
-    split_line,
-};
 use crate::files::Files;
-use crate::node::{File, Flags, Node};
-use crate::paths::{MAX_NAME, MAX_PATH, begins_at_root, parent, split_slash};
+use crate::image_fault::{FaultKind, ImageFault, Stop};
+use sh_files_base::{
+    File, Flags, MAX_IMAGE, Node, behind, count_newlines, file_fields, first, is_image_path,
+    parent, skip, split_line,
+};
 use std::alloc::Global;
-
-/// Whether an image may have a name.
-fn is_good_name(name: &[u8]) -> bool
-    ensures { result ≡ is_good_name name.now }
-{
-    !name.is_empty()
-        && name != b".".as_slice()
-        && name != b"..".as_slice()
-        && name.len() <= MAX_NAME
-}
-
-/// Whether an image may have all names of a path, which is given from behind its first slash.
-fn good_names(path: &[u8]) -> bool
-    ensures { result ≡ good_names (components path.now) }
-{
-    let mut rest = path;
-    'names: while let Some((name, behind)) = split_slash(rest) {
-        if !is_good_name(name) {
-            return false;
-        }
-        rest = behind;
-    }
-    is_good_name(rest)
-}
-
-/// Whether a path is that of the devices or below.
-fn is_device(path: &[u8]) -> bool
-    ensures { result ≡ is_device path.now }
-{
-    path == b"/dev".as_slice() || path.starts_with(b"/dev/")
-}
-
-/// Whether an image may name a path.
-fn is_image_path(path: &[u8]) -> bool
-    ensures { result ≡ is_image_path path.now }
-{
-    begins_at_root(path)
-        && good_names(skip(path, 1))
-        && !path.contains(&0)
-        && path.len() <= MAX_PATH
-        && !is_device(path)
-}
 
 /// What is wrong with a file's bytes and the newline behind them.
 fn check_content(size: usize, after: &[u8]) -> Result<(), FaultKind>

@@ -2,19 +2,23 @@
 #![tactic(auto)]
 
 mod fault;
-mod fields;
+#[cfg(test)]
+mod fault_tests;
 mod files;
 mod image;
-mod node;
+mod image_fault;
+#[cfg(test)]
+mod image_tests;
+mod laws;
+mod listing;
 mod opening;
-mod paths;
-mod table;
 #[cfg(test)]
 mod tests;
+mod writing;
 
 pub use fault::FileFault;
-pub use fields::{FaultKind, ImageFault, MAX_IMAGE};
 pub use files::Files;
-pub use node::{File, Flags, MAX_LENGTH, Node};
+pub use image_fault::{FaultKind, ImageFault};
+pub use laws::{names_rise, read_files_are_whole, written_image_is_read};
 pub use opening::Opening;
-pub use paths::{MAX_NAME, MAX_PATH};
+pub use sh_files_base::{File, Flags, MAX_IMAGE, MAX_LENGTH, MAX_NAME, MAX_PATH, Node};

@@ -5,7 +5,7 @@ use crate::FaultKind::{
 use crate::{FaultKind, FileFault, Files, ImageFault, MAX_LENGTH, Opening};
 use std::test::Fail;
 
-const READ: Opening = Opening {
+pub(crate) const READ: Opening = Opening {
     read: true,
     write: false,
     create: false,
@@ -13,7 +13,7 @@ const READ: Opening = Opening {
     truncate: false,
 };
 
-const WRITE: Opening = Opening {
+pub(crate) const WRITE: Opening = Opening {
     read: false,
     write: true,
     create: true,
@@ -29,15 +29,16 @@ const NO_CLOBBER: Opening = Opening {
     truncate: true,
 };
 
-const SMALL: &[u8] = b"psh image 1\ndir /d\nfile /d/a b r-x 3\nx\ny\nfile /e rw- 0\n\nend\n";
+pub(crate) const SMALL: &[u8] =
+    b"psh image 1\ndir /d\nfile /d/a b r-x 3\nx\ny\nfile /e rw- 0\n\nend\n";
 
 /// Reads an image.
-fn image(rt: HostRuntime, bytes: &[u8]) -> Result<Files, ImageFault> {
+pub(crate) fn image(rt: HostRuntime, bytes: &[u8]) -> Result<Files, ImageFault> {
     Files::from_image(rt.alloc(), bytes)
 }
 
 /// Opens a file.
-fn open(
+pub(crate) fn open(
     files: &mut Files,
     directory: &[u8],
     path: &[u8],
@@ -47,7 +48,12 @@ fn open(
 }
 
 /// Writes to a file.
-fn write(files: &mut Files, number: usize, offset: usize, bytes: &[u8]) -> Result<(), FileFault> {
+pub(crate) fn write(
+    files: &mut Files,
+    number: usize,
+    offset: usize,
+    bytes: &[u8],
+) -> Result<(), FileFault> {
     files.write(number, offset, bytes)
 }
 
@@ -57,7 +63,13 @@ fn truncate(files: &mut Files, number: usize, length: usize) -> Result<(), FileF
 }
 
 /// Whether a part of a file is these bytes.
-fn holds(files: &Files, number: usize, offset: usize, count: usize, bytes: &[u8]) -> bool {
+pub(crate) fn holds(
+    files: &Files,
+    number: usize,
+    offset: usize,
+    count: usize,
+    bytes: &[u8],
+) -> bool {
     match files.read(number, offset, count) {
         Ok(part) => part == bytes,
         Err(_) => false,
@@ -70,7 +82,7 @@ fn executable(files: &Files, path: &[u8]) -> bool {
 }
 
 /// Whether an image is refused with this fault.
-fn has_fault(rt: HostRuntime, bytes: &[u8], kind: FaultKind, line: usize) -> bool {
+pub(crate) fn has_fault(rt: HostRuntime, bytes: &[u8], kind: FaultKind, line: usize) -> bool {
     match image(rt, bytes) {
         Ok(_) => false,
         Err(fault) => fault.kind == kind && fault.line == line,

@@ -1,0 +1,27 @@
+// Laws of images and lists.
+ghost use Rattle.std.specs.Prelude.{◌≡◌, ◌≤◌, List, ℕ, Ok, length, true};
+ghost use Rattle.std.specs.FinMap as map;
+ghost use Rattle.sh_files_base.specs.Listing.{front_of, names_in, rise};
+ghost use Rattle.sh_files.specs.Nodes.{FileMap};
+ghost use Rattle.sh_files.specs.Image.{read_image};
+ghost use Rattle.sh_files.specs.Whole.{AreSame, IsWhole};
+ghost use Rattle.sh_files.specs.Writing.{image_text};
+
+/// Law: the image that is written of files reads as files with the same nodes at the same paths, where the files are
+/// such that an image can hold them and the image isn't too long.
+pub fn written_image_is_read()
+    ensures { (files : FileMap) → IsWhole files → length (image_text files) ≤ 268435456 → (read : FileMap) × ((read_image (image_text files) ≡ Ok read) × AreSame read files) }
+{}
+
+/// Law: files that were read from an image are such that an image can hold them, and their image isn't too long. So it
+/// reads as files with the same nodes at the same paths.
+pub fn read_files_are_whole()
+    ensures whole { (bytes : List ℕ) (files : FileMap) → read_image bytes ≡ Ok files → IsWhole files }
+    ensures short { (bytes : List ℕ) (files : FileMap) → read_image bytes ≡ Ok files → length (image_text files) ≤ 268435456 }
+    ensures again { (bytes : List ℕ) (files : FileMap) → read_image bytes ≡ Ok files → (read : FileMap) × ((read_image (image_text files) ≡ Ok read) × AreSame read files) }
+{}
+
+/// Law: the names in a directory rise by their bytes, and none stands twice.
+pub fn names_rise()
+    ensures { (files : FileMap) (place : List ℕ) → rise (names_in (front_of place) (map.entries files.paths)) ≡ true }
+{}

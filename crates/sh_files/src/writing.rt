@@ -1,0 +1,47 @@
+// Writing an image.
+ghost use Rattle.std.specs.Prelude.{◌≡◌, ◌++◌, IfOk, OnOk};
+ghost use Rattle.sh_files_base.specs.Places.{Entries};
+ghost use Rattle.sh_files.specs.Writing.{image_text, path_text, paths_text};
+
+use crate::files::Files;
+use sh_files_base::{Entry, Node, is_left_out, write_node};
+use std::alloc::AllocError;
+
+/// Writes what the image has of one path.
+fn write_path(image: &mut Vec<u8>, nodes: &[Node], entry: &Entry) -> Result<(), AllocError>
+    ensures { OnOk result (image.new.items ≡ image.old.items ++ path_text nodes.now entry.now) }
+{
+    if is_left_out(entry.path()) {
+        return Ok(());
+    }
+    match nodes.get(entry.node()) {
+        Some(node) => write_node(image, entry.path(), node),
+        None => Ok(()),
+    }
+}
+
+/// Writes what the image has of these paths.
+fn write_paths(image: &mut Vec<u8>, nodes: &[Node], entries: &[Entry]) -> Result<(), AllocError>
+    ensures { OnOk result (image.new.items ≡ image.old.items ++ paths_text nodes.now entries.now) }
+{
+    let mut rest = entries;
+    'paths: while let Some((entry, behind)) = rest.split_first() {
+        write_path(image, nodes, entry)?;
+        rest = behind;
+    }
+    Ok(())
+}
+
+impl Files {
+    /// The image of the files, as [`Files::from_image`] reads it, its lines sorted by the bytes of their paths. The root
+    /// and the devices are in no image. One that is longer than [`MAX_IMAGE`](crate::MAX_IMAGE) isn't read again. The only
+    /// error is want of memory.
+    pub fn write_image(&self) -> Result<Vec<u8>, AllocError>
+        ensures { IfOk result (λ image. image.items ≡ image_text self.now) }
+    {
+        let mut image = Vec::from_slice(self.alloc(), b"psh image 1\n")?;
+        write_paths(&mut image, self.nodes(), self.entries())?;
+        image.extend_from_slice(b"end\n")?;
+        Ok(image)
+    }
+}

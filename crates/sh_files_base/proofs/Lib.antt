@@ -1,0 +1,5 @@
+pub mod Places
+pub mod Slashes
+pub mod Spaces
+pub mod Held
+pub mod Wording

@@ -1,0 +1,21 @@
+-- What a search for a path answers in a list of entries: where the path stands, or where it belongs.
+use Rattle.std.specs.Prelude.{◌≡◌, ◌⊎◌, false, ℕ, ◌<◌, ◌≤◌, List, length, MatchResult, Result}
+use Rattle.std.specs.List.{HoldsAt}
+use Rattle.std.specs.List.Sorted.{IsPartitionPoint}
+use Rattle.std.specs.Ordering.{is_gt, nat_cmp}
+use Rattle.std.specs.declared.cmp.Ordering.TheVariants.{Less, Greater}
+use Rattle.std.specs.Cmp.Lexicographic.{slice_cmp}
+
+abbrev pub Entries : Type 0
+Entries = List (List ℕ × ℕ)
+
+-- at `Ok i` the path stands at i, and at `Err i` the paths before i come before it and those from i on after it
+abbrev pub IsPlace : Entries → List ℕ → Result ℕ ℕ → Type 0
+IsPlace entries path place =
+    MatchResult place
+    (λ i. (i < length entries) × HoldsAt (λ e. e.0 ≡ path) entries i)
+    (λ i. (i ≤ length entries) × IsPartitionPoint (λ e. slice_cmp nat_cmp e.0 path ≡ Less) (λ e. slice_cmp nat_cmp e.0 path ≡ Greater) entries i)
+
+-- at the first entry, or at one that doesn't come after the path
+abbrev pub MayStart : List ℕ → Entries → ℕ → Type 0
+MayStart path entries start = (start ≡ 0) ⊎ ((start < length entries) × HoldsAt (λ e. is_gt (slice_cmp nat_cmp e.0 path) ≡ false) entries start)

@@ -1,0 +1,255 @@
+-- The scanner as a machine: the contexts, the pieces so far, a piece that has begun, and a backslash that waits for its byte.
+use Rattle.std.specs.Prelude.{ℕ, suc, Bool, true, false, ◌&&◌, ◌||◌, nat_eq, nat_lt, List, [], ◌∷◌, ◌++◌, length, ◌-◌, Option, Some, None, if◌then◌else◌}
+use Rattle.sh_scanner.specs.declared.character.Character.{Character}
+use Rattle.sh_scanner.specs.declared.character.Character.TheVariants.{Plain, Quoted, Raw}
+use Rattle.sh_scanner.specs.declared.operator.Operator.{Operator}
+use Rattle.sh_scanner.specs.declared.head.Head.{Head}
+use Rattle.sh_scanner.specs.declared.mark.Mark.{Mark}
+use Rattle.sh_scanner.specs.declared.mark.Mark.TheVariants.{Byte, Escaped, Backslash, SingleQuoted, DoubleQuotesOpen, DoubleQuotesClose, Dollar, Variable, Parameter, BraceOpen, BraceClose, ArithmeticOpen, ArithmeticClose, CommandsOpen, CommandsClose, Backquoted, WordOpen, WordClose, Blank, Comment}
+use Rattle.sh_scanner.specs.declared.pending.Pending.{Pending}
+use Rattle.sh_scanner.specs.Bytes.{is_blank, is_operator_byte, is_end, is_redirection, is_name_start, is_name_byte, is_short_parameter}
+use Rattle.sh_scanner.specs.Growth.{grown, may_grow}
+use Rattle.sh_scanner.specs.Heads.{grown_head}
+use Rattle.sh_scanner.specs.declared.context.Context.{Context}
+use Rattle.sh_scanner.specs.declared.context.Context.TheVariants.{Top, Commands, Word, Quotes, Arithmetic, Parenthesis}
+use Rattle.sh_scanner.specs.Marks.{is_text, between_tokens, has_single_quotes, has_double_quotes, is_quotes, is_braces, is_arithmetic, is_parenthesis, is_word, quotes, may_close, is_quoted, braces_of, with_token, class_of_operator, word_over}
+
+pub record State : Type 0 where
+  pub contexts : List Context
+  pub done : List Mark
+  pub pending : Pending
+  pub bytes : List ℕ
+  -- how many levels are open, that of the piece that has begun included
+  pub levels : ℕ
+
+-- what a character makes of it
+pub data Stepped : Type 0 where
+  On : (s : State) → Stepped
+  -- a token of the text itself ended before the character, or ends with it
+  Before : (s : State) → Stepped
+  After : (s : State) → Stepped
+  -- level 501 would open
+  TooDeep : (s : State) → Stepped
+
+-- a piece is over that leaves the contexts as they were, that goes into a context, or that leaves one
+abbrev pub same : Mark → State → State
+same m s = record { contexts = s.contexts; done = s.done ++ m ∷ []; pending = Pending.Nothing; bytes = []; levels = s.levels }
+
+abbrev pub into : Context → Mark → State → State
+into x m s = record { contexts = x ∷ s.contexts; done = s.done ++ m ∷ []; pending = Pending.Nothing; bytes = []; levels = s.levels }
+
+abbrev pub outer : List Context → List Context
+outer [] = []
+outer (x ∷ xs) = xs
+
+abbrev pub out : Mark → State → State
+out m s = record { contexts = outer s.contexts; done = s.done ++ m ∷ []; pending = Pending.Nothing; bytes = []; levels = s.levels }
+
+-- one that leaves a level
+abbrev pub out_level : Mark → State → State
+out_level m s = record { contexts = outer s.contexts; done = s.done ++ m ∷ []; pending = Pending.Nothing; bytes = []; levels = s.levels - 1 }
+
+abbrev pub level_over : Mark → State → State
+level_over m s = record { contexts = s.contexts; done = s.done ++ m ∷ []; pending = Pending.Nothing; bytes = []; levels = s.levels - 1 }
+
+-- a word is over; r: < or > follows it
+abbrev pub word_out : Bool → State → State
+word_out r s = record { contexts = word_over r s.done s.contexts; done = s.done ++ WordClose r ∷ []; pending = Pending.Nothing; bytes = []; levels = s.levels }
+
+abbrev pub operator_out : Operator → State → State
+operator_out o s =
+    record { contexts = with_token (class_of_operator o) s.contexts; done = s.done ++ Mark.Operator o ∷ []; pending = Pending.Nothing; bytes = []; levels = s.levels }
+
+abbrev pub top_of : List Context → Context
+top_of [] = Top
+top_of (x ∷ xs) = x
+
+abbrev pub pend : Pending → State → State
+pend p s = record { contexts = s.contexts; done = s.done; pending = p; bytes = []; levels = s.levels }
+
+abbrev pub keep : Pending → ℕ → State → State
+keep p b s = record { contexts = s.contexts; done = s.done; pending = p; bytes = s.bytes ++ b ∷ []; levels = s.levels }
+
+-- a piece begins that opens a level
+abbrev pub opens : Pending → State → Stepped
+opens p s =
+    if nat_lt s.levels 500
+    then On (record { contexts = s.contexts; done = s.done; pending = p; bytes = []; levels = suc s.levels })
+    else TooDeep s
+
+abbrev pub is_top : List Context → Bool
+is_top xs = is_text (top_of xs)
+
+-- a byte of a word or of a part of one, in the innermost context, but for one that ends the word
+unfoldable pub inner_byte : Context → State → ℕ → Stepped
+inner_byte x s b =
+    if nat_eq b 41 && is_arithmetic x then On (pend Pending.Parenthesis s)
+    else if nat_eq b 41 && is_parenthesis x then On (out (Byte b) s)
+    else if nat_eq b 40 && (is_arithmetic x || is_parenthesis x) then On (into Parenthesis (Byte b) s)
+    else On (same (Byte b) s)
+
+unfoldable pub word_byte : Context → State → ℕ → Stepped
+word_byte x s b =
+    if nat_eq b 39 && has_single_quotes x then On (pend Pending.Single s)
+    else if nat_eq b 34 && has_double_quotes x then On (into Quotes DoubleQuotesOpen s)
+    else if nat_eq b 34 && is_quotes x then On (out DoubleQuotesClose s)
+    else if nat_eq b 125 && is_braces x then On (out_level BraceClose s)
+    else if nat_eq b 36 then On (pend Pending.Dollar s)
+    else if nat_eq b 96 then opens Pending.Backquotes s
+    else inner_byte x s b
+
+abbrev pub operator_of : ℕ → Operator
+operator_of b =
+    if nat_eq b 38 then Operator.And
+    else if nat_eq b 59 then Operator.Semicolon
+    else if nat_eq b 124 then Operator.Pipe
+    else if nat_eq b 60 then Operator.Less
+    else if nat_eq b 62 then Operator.Great
+    else if nat_eq b 40 then Operator.LeftParenthesis
+    else if nat_eq b 41 then Operator.RightParenthesis
+    else Operator.Newline
+
+-- a token of the text itself is over, or one of a substitution
+abbrev pub over : (State → Stepped) → State → Stepped
+over f s = if is_top s.contexts then f s else On s
+
+-- an operator as far as it has come
+abbrev pub grow : Operator → State → Stepped
+grow o s = if may_grow o then On (pend (Pending.Operator o) s) else over After (operator_out o s)
+
+-- a byte between tokens
+unfoldable pub between : State → ℕ → Stepped
+between s b =
+    if is_blank b then On (same (Blank b) s)
+    else if nat_eq b 35 then On (pend Pending.Comment s)
+    else if nat_eq b 41 && may_close (top_of s.contexts) then On (out_level CommandsClose s)
+    else if is_operator_byte b then grow (operator_of b) s
+    else word_byte (Word (length s.done)) (into (Word (length s.done)) WordOpen s) b
+
+abbrev pub after_word : State → ℕ → Stepped
+after_word s b = if is_top s.contexts then Before s else between s b
+
+-- a byte where nothing has begun
+unfoldable pub plain_byte : State → ℕ → Stepped
+plain_byte s b =
+    if between_tokens (top_of s.contexts) then between s b
+    else if is_word (top_of s.contexts) && is_end b then after_word (word_out (is_redirection b) s) b
+    else word_byte (top_of s.contexts) s b
+
+-- a byte behind a backslash, where nothing has begun
+abbrev pub escape : Context → State → ℕ → Stepped
+escape x s b = On (same (if quotes x b then Escaped b else Backslash b) s)
+
+unfoldable pub quoted_byte : State → ℕ → Stepped
+quoted_byte s b =
+    if between_tokens (top_of s.contexts) then escape (Word (length s.done)) (into (Word (length s.done)) WordOpen s) b
+    else escape (top_of s.contexts) s b
+
+abbrev pub act : State → Character → Stepped
+act s (Plain b) = plain_byte s b
+act s (Quoted b) = quoted_byte s b
+act s (Raw b) = On s
+
+abbrev pub form_byte : State → ℕ → Stepped
+form_byte s b =
+    if is_name_start b then On (keep Pending.Name b (pend Pending.Name s))
+    else if is_short_parameter b then On (same (Parameter b) s)
+    else if nat_eq b 123 then opens (Pending.Head Head.Start) s
+    else if nat_eq b 40 then opens Pending.DollarParenthesis s
+    else plain_byte (same Dollar s) b
+
+unfoldable pub after_dollar : State → Character → Stepped
+after_dollar s (Plain b) = form_byte s b
+after_dollar s (Quoted b) = quoted_byte (same Dollar s) b
+after_dollar s (Raw b) = On s
+
+unfoldable pub after_parenthesis : State → Character → Stepped
+after_parenthesis s (Plain b) =
+    if nat_eq b 40 then On (into Arithmetic ArithmeticOpen s) else plain_byte (into (Commands []) CommandsOpen s) b
+after_parenthesis s (Quoted b) = quoted_byte (into (Commands []) CommandsOpen s) b
+after_parenthesis s (Raw b) = On s
+
+unfoldable pub in_name : State → Character → Stepped
+in_name s (Plain b) = if is_name_byte b then On (keep Pending.Name b s) else plain_byte (same (Variable s.bytes) s) b
+in_name s (Quoted b) = quoted_byte (same (Variable s.bytes) s) b
+in_name s (Raw b) = On s
+
+abbrev pub headed : Head → State → ℕ → Option Head → Stepped
+headed h s b (Some longer) = On (keep (Pending.Head longer) b s)
+headed h s b None = plain_byte (into (braces_of (is_quoted (top_of s.contexts)) (Some h)) (BraceOpen s.bytes) s) b
+
+unfoldable pub in_head : Head → State → Character → Stepped
+in_head h s (Plain b) = headed h s b (grown_head h b)
+in_head h s (Quoted b) = quoted_byte (into (braces_of (is_quoted (top_of s.contexts)) (Some h)) (BraceOpen s.bytes) s) b
+in_head h s (Raw b) = On s
+
+unfoldable pub in_single : State → Character → Stepped
+in_single s (Raw b) = if nat_eq b 39 then On (same (SingleQuoted s.bytes) s) else On (keep Pending.Single b s)
+in_single s (Plain b) = On s
+in_single s (Quoted b) = On s
+
+unfoldable pub in_backquotes : State → Character → Stepped
+in_backquotes s (Raw b) =
+    if nat_eq b 96 then On (level_over (Backquoted s.bytes) s)
+    else if nat_eq b 92 then On (keep Pending.BackquotesEscape b s)
+    else On (keep Pending.Backquotes b s)
+in_backquotes s (Plain b) = On s
+in_backquotes s (Quoted b) = On s
+
+abbrev pub in_escape : State → Character → Stepped
+in_escape s (Raw b) = On (keep Pending.Backquotes b s)
+in_escape s (Plain b) = On s
+in_escape s (Quoted b) = On s
+
+unfoldable pub at_parenthesis : State → Character → Stepped
+at_parenthesis s (Plain b) =
+    if nat_eq b 41 then On (out_level ArithmeticClose s) else plain_byte (same (Byte 41) s) b
+at_parenthesis s (Quoted b) = quoted_byte (same (Byte 41) s) b
+at_parenthesis s (Raw b) = On s
+
+abbrev pub then_act : State → Character → Stepped
+then_act s c = if is_top s.contexts then Before s else act s c
+
+abbrev pub grow_to : Operator → Option Operator → State → ℕ → Stepped
+grow_to o (Some longer) s b = grow longer s
+grow_to o None s b = then_act (operator_out o s) (Plain b)
+
+unfoldable pub in_operator : Operator → State → Character → Stepped
+in_operator o s (Plain b) = grow_to o (grown o b) s b
+in_operator o s (Quoted b) = then_act (operator_out o s) (Quoted b)
+in_operator o s (Raw b) = On s
+
+unfoldable pub in_comment : State → Character → Stepped
+in_comment s (Raw b) = if nat_eq b 10 then plain_byte (same (Comment s.bytes) s) b else On (keep Pending.Comment b s)
+in_comment s (Plain b) = On s
+in_comment s (Quoted b) = On s
+
+abbrev pub step_in : Pending → State → Character → Stepped
+step_in Pending.Nothing s c = act s c
+step_in Pending.Dollar s c = after_dollar s c
+step_in Pending.DollarParenthesis s c = after_parenthesis s c
+step_in Pending.Name s c = in_name s c
+step_in (Pending.Head h) s c = in_head h s c
+step_in Pending.Single s c = in_single s c
+step_in Pending.Backquotes s c = in_backquotes s c
+step_in Pending.BackquotesEscape s c = in_escape s c
+step_in Pending.Parenthesis s c = at_parenthesis s c
+step_in (Pending.Operator o) s c = in_operator o s c
+step_in Pending.Comment s c = in_comment s c
+
+abbrev pub step : State → Character → Stepped
+step s c = step_in s.pending s c
+
+-- whether a backslash is a byte like any other there
+abbrev pub is_raw : Pending → Bool
+is_raw Pending.Nothing = false
+is_raw Pending.Dollar = false
+is_raw Pending.DollarParenthesis = false
+is_raw Pending.Name = false
+is_raw (Pending.Head h) = false
+is_raw Pending.Single = true
+is_raw Pending.Backquotes = true
+is_raw Pending.BackquotesEscape = true
+is_raw Pending.Parenthesis = false
+is_raw (Pending.Operator o) = false
+is_raw Pending.Comment = true

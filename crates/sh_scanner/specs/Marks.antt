@@ -1,0 +1,419 @@
+-- What a text is made of (XCU 2.2, 2.3, 2.6): pieces, how each is written, and where each may stand.
+use Rattle.std.specs.Prelude.{◌≡◌, ℕ, suc, Bool, true, false, ◌||◌, ◌&&◌, not, nat_eq, nat_lt, List, [], ◌∷◌, ◌++◌, length, drop, take, position, Option, Some, None, if◌then◌else◌}
+use Rattle.std.specs.List.{list_all}
+use Rattle.std.specs.Str.{bytes_eq}
+use Rattle.sh_grammar.specs.Computed.{is_whole}
+use Rattle.sh_token_base.specs.declared.class.TokenClass.{TokenClass}
+use Rattle.sh_token_base.specs.Classes.{class_of_text, is_name}
+use Rattle.sh_token_base.specs.Shell.{substitution}
+use Rattle.sh_scanner.specs.declared.character.Character.{Character}
+use Rattle.sh_scanner.specs.declared.character.Character.TheVariants.{Plain, Quoted, Raw}
+use Rattle.sh_scanner.specs.declared.operator.Operator.{Operator}
+use Rattle.sh_scanner.specs.declared.head.Head.{Head}
+use Rattle.sh_scanner.specs.declared.context.Context.{Context}
+use Rattle.sh_scanner.specs.declared.context.Context.TheVariants.{Top, Commands, Word, Quotes, Braces, Arithmetic, Parenthesis}
+use Rattle.sh_scanner.specs.declared.mark.Mark.{Mark}
+use Rattle.sh_scanner.specs.declared.mark.Mark.TheVariants.{Byte, Escaped, Backslash, SingleQuoted, DoubleQuotesOpen, DoubleQuotesClose, Dollar, Variable, Parameter, BraceOpen, BraceClose, ArithmeticOpen, ArithmeticClose, CommandsOpen, CommandsClose, Backquoted, WordOpen, WordClose, Blank, Comment}
+use Rattle.sh_scanner.specs.Taken.{followed_by}
+use Rattle.sh_scanner.specs.Bytes.{is_blank, is_end, is_digit, is_redirection, is_name_byte, is_short_parameter, is_form, is_quoted_escape, is_no_quote, is_no_newline}
+use Rattle.sh_scanner.specs.Operators.{operator_text}
+use Rattle.sh_scanner.specs.Growth.{grown, may_grow}
+use Rattle.sh_scanner.specs.Heads.{head_of, grows_head, reads_bare}
+use Rattle.sh_scanner.specs.Characters.{Ahead, Next, InputEnd, Unknown, first_of, next_is, plain, raw}
+
+-- how each is written
+abbrev pub spell_mark : Mark → List Character
+spell_mark (Byte b) = Plain b ∷ []
+spell_mark (Escaped b) = Quoted b ∷ []
+spell_mark (Backslash b) = Quoted b ∷ []
+spell_mark (SingleQuoted bs) = Plain 39 ∷ (raw bs ++ Raw 39 ∷ [])
+spell_mark DoubleQuotesOpen = Plain 34 ∷ []
+spell_mark DoubleQuotesClose = Plain 34 ∷ []
+spell_mark Dollar = Plain 36 ∷ []
+spell_mark (Variable bs) = Plain 36 ∷ plain bs
+spell_mark (Parameter b) = Plain 36 ∷ Plain b ∷ []
+spell_mark (BraceOpen bs) = Plain 36 ∷ Plain 123 ∷ plain bs
+spell_mark BraceClose = Plain 125 ∷ []
+spell_mark ArithmeticOpen = Plain 36 ∷ Plain 40 ∷ Plain 40 ∷ []
+spell_mark ArithmeticClose = Plain 41 ∷ Plain 41 ∷ []
+spell_mark CommandsOpen = Plain 36 ∷ Plain 40 ∷ []
+spell_mark CommandsClose = Plain 41 ∷ []
+spell_mark (Backquoted bs) = Plain 96 ∷ (raw bs ++ Raw 96 ∷ [])
+spell_mark WordOpen = []
+spell_mark (WordClose r) = []
+spell_mark (Blank b) = Plain b ∷ []
+spell_mark (Comment bs) = Plain 35 ∷ raw bs
+spell_mark (Mark.Operator o) = plain (operator_text o)
+
+abbrev pub spell : List Mark → List Character
+spell [] = []
+spell (m ∷ ms) = spell_mark m ++ spell ms
+
+-- a byte that stands for itself where `next` follows
+abbrev pub stands : Context → ℕ → Ahead → Bool
+stands Top b next = false
+stands (Commands ts) b next = false
+stands (Word n) b next = not (nat_eq b 34 || (nat_eq b 36 || nat_eq b 96)) && not (nat_eq b 39 || is_end b)
+stands Quotes b next = not (nat_eq b 34 || (nat_eq b 36 || nat_eq b 96))
+stands (Braces false) b next = not (nat_eq b 34 || (nat_eq b 36 || nat_eq b 96)) && not (nat_eq b 39 || nat_eq b 125)
+stands (Braces true) b next = not (nat_eq b 34 || (nat_eq b 36 || nat_eq b 96)) && not (nat_eq b 125)
+stands Arithmetic b next = not (nat_eq b 36 || nat_eq b 96) && not (nat_eq b 41 && next_is (λ c. nat_eq c 41) next)
+stands Parenthesis b next = not (nat_eq b 36 || nat_eq b 96)
+
+-- whether a backslash quotes a byte there (XCU 2.2.1, 2.2.3)
+abbrev pub quotes : Context → ℕ → Bool
+quotes Top b = false
+quotes (Commands ts) b = false
+quotes (Word n) b = true
+quotes Quotes b = is_quoted_escape b || nat_eq b 34
+quotes (Braces false) b = true
+quotes (Braces true) b = is_quoted_escape b || (nat_eq b 34 || nat_eq b 125)
+quotes Arithmetic b = is_quoted_escape b
+quotes Parenthesis b = is_quoted_escape b
+
+-- a word or a part of one
+abbrev pub in_word : Context → Bool
+in_word Top = false
+in_word (Commands ts) = false
+in_word (Word n) = true
+in_word Quotes = true
+in_word (Braces q) = true
+in_word Arithmetic = true
+in_word Parenthesis = true
+
+abbrev pub has_single_quotes : Context → Bool
+has_single_quotes Top = false
+has_single_quotes (Commands ts) = false
+has_single_quotes (Word n) = true
+has_single_quotes Quotes = false
+has_single_quotes (Braces q) = not q
+has_single_quotes Arithmetic = false
+has_single_quotes Parenthesis = false
+
+abbrev pub has_double_quotes : Context → Bool
+has_double_quotes Top = false
+has_double_quotes (Commands ts) = false
+has_double_quotes (Word n) = true
+has_double_quotes Quotes = false
+has_double_quotes (Braces q) = true
+has_double_quotes Arithmetic = false
+has_double_quotes Parenthesis = false
+
+-- whether what a `${` there has is read as between double quotes
+abbrev pub is_quoted : Context → Bool
+is_quoted Top = false
+is_quoted (Commands ts) = false
+is_quoted (Word n) = false
+is_quoted Quotes = true
+is_quoted (Braces q) = q
+is_quoted Arithmetic = true
+is_quoted Parenthesis = true
+
+-- the tokens so far are a compound list or newlines
+abbrev pub may_close : Context → Bool
+may_close Top = false
+may_close (Commands ts) = is_whole substitution ts
+may_close (Word n) = false
+may_close Quotes = false
+may_close (Braces q) = false
+may_close Arithmetic = false
+may_close Parenthesis = false
+
+abbrev pub between_tokens : Context → Bool
+between_tokens Top = true
+between_tokens (Commands ts) = true
+between_tokens (Word n) = false
+between_tokens Quotes = false
+between_tokens (Braces q) = false
+between_tokens Arithmetic = false
+between_tokens Parenthesis = false
+
+abbrev pub begins_word : Ahead → Bool
+begins_word (Next (Plain b)) = not (is_end b) && not (nat_eq b 35)
+begins_word (Next (Quoted b)) = true
+begins_word (Next (Raw b)) = false
+begins_word InputEnd = false
+begins_word Unknown = false
+
+abbrev pub ends_word : Ahead → Bool
+ends_word (Next (Plain b)) = is_end b
+ends_word (Next (Quoted b)) = false
+ends_word (Next (Raw b)) = false
+ends_word InputEnd = true
+ends_word Unknown = false
+
+-- a comment goes up to a newline or the end of the input
+abbrev pub ends_comment : Ahead → Bool
+ends_comment (Next (Plain b)) = nat_eq b 10
+ends_comment (Next (Quoted b)) = false
+ends_comment (Next (Raw b)) = false
+ends_comment InputEnd = true
+ends_comment Unknown = false
+
+-- an operator ends where its text with the next byte is no operator's (2.3 rules 2 and 3)
+abbrev pub is_some : Option Operator → Bool
+is_some None = false
+is_some (Some o) = true
+
+abbrev pub ends_operator : Operator → Ahead → Bool
+ends_operator o (Next (Plain b)) = not (is_some (grown o b))
+ends_operator o (Next (Quoted b)) = true
+ends_operator o (Next (Raw b)) = true
+ends_operator o InputEnd = true
+ends_operator o Unknown = not (may_grow o)
+
+-- between backquotes a backslash goes with the byte behind it
+abbrev pub is_backquoted : List ℕ → Bool
+is_backquoted [] = true
+is_backquoted (b ∷ []) = not (nat_eq b 96) && not (nat_eq b 92)
+is_backquoted (b ∷ c ∷ bs) = if nat_eq b 92 then is_backquoted bs else not (nat_eq b 96) && is_backquoted (c ∷ bs)
+
+abbrev pub is_head : Option Head → Ahead → Bool
+is_head None next = false
+is_head (Some h) next = not (next_is (grows_head h) next)
+
+abbrev pub is_word : Context → Bool
+is_word Top = false
+is_word (Commands ts) = false
+is_word (Word n) = true
+is_word Quotes = false
+is_word (Braces q) = false
+is_word Arithmetic = false
+is_word Parenthesis = false
+
+abbrev pub is_quotes : Context → Bool
+is_quotes Top = false
+is_quotes (Commands ts) = false
+is_quotes (Word n) = false
+is_quotes Quotes = true
+is_quotes (Braces q) = false
+is_quotes Arithmetic = false
+is_quotes Parenthesis = false
+
+abbrev pub is_braces : Context → Bool
+is_braces Top = false
+is_braces (Commands ts) = false
+is_braces (Word n) = false
+is_braces Quotes = false
+is_braces (Braces q) = true
+is_braces Arithmetic = false
+is_braces Parenthesis = false
+
+-- arithmetic, no inner parenthesis being open
+abbrev pub is_arithmetic : Context → Bool
+is_arithmetic Top = false
+is_arithmetic (Commands ts) = false
+is_arithmetic (Word n) = false
+is_arithmetic Quotes = false
+is_arithmetic (Braces q) = false
+is_arithmetic Arithmetic = true
+is_arithmetic Parenthesis = false
+
+abbrev pub is_right_parenthesis : Operator → Bool
+is_right_parenthesis o = bytes_eq (operator_text o) (41 ∷ [])
+
+abbrev pub same_as : Bool → Bool → Bool
+same_as true b = b
+same_as false b = not b
+
+-- the piece may stand in this context where `next` comes behind it
+abbrev pub fits : Context → Mark → Ahead → Bool
+fits x (Byte b) next = stands x b next
+fits x (Escaped b) next = quotes x b
+fits x (Backslash b) next = in_word x && not (quotes x b)
+fits x (SingleQuoted bs) next = has_single_quotes x && list_all is_no_quote bs
+fits x DoubleQuotesOpen next = has_double_quotes x
+fits x DoubleQuotesClose next = is_quotes x
+fits x Dollar next = in_word x && not (next_is is_form next)
+fits x (Variable bs) next = in_word x && (is_name bs && not (next_is is_name_byte next))
+fits x (Parameter b) next = in_word x && is_short_parameter b
+fits x (BraceOpen bs) next = in_word x && is_head (head_of bs) next
+fits x BraceClose next = is_braces x
+fits x ArithmeticOpen next = in_word x
+fits x ArithmeticClose next = is_arithmetic x
+-- `$((` always begins arithmetic
+fits x CommandsOpen next = in_word x && not (next_is (λ b. nat_eq b 40) next)
+-- a substitution ends at the first `)` token before which its tokens are a compound list, or newlines alone
+fits x CommandsClose next = may_close x
+fits x (Backquoted bs) next = in_word x && is_backquoted bs
+fits x WordOpen next = between_tokens x && begins_word next
+fits x (WordClose r) next = is_word x && (ends_word next && same_as r (next_is is_redirection next))
+fits x (Blank b) next = between_tokens x && is_blank b
+fits x (Comment bs) next = between_tokens x && (list_all is_no_newline bs && ends_comment next)
+fits x (Mark.Operator o) next = between_tokens x && (ends_operator o next && not (is_right_parenthesis o && may_close x))
+
+-- what a word's pieces are to the grammar: the bytes at its beginning that stand for themselves, and whether these are all
+abbrev pub literal_front : List Mark → List ℕ
+literal_front [] = []
+literal_front (Byte b ∷ ms) = b ∷ literal_front ms
+literal_front (m ∷ ms) = []
+
+abbrev pub is_byte : Mark → Bool
+is_byte (Byte b) = true
+is_byte m = false
+
+abbrev pub is_name_before : List ℕ → Option ℕ → Bool
+is_name_before bytes None = false
+is_name_before bytes (Some k) = is_name (take k bytes)
+
+abbrev pub equals_place : List ℕ → Option ℕ
+equals_place bytes = position (λ b. nat_eq b 61) bytes
+
+-- a name and `=` stand first (2.10.2 rule 7)
+abbrev pub assigns : List ℕ → Bool
+assigns bytes = is_name_before bytes (equals_place bytes)
+
+-- digits alone before < or > are a descriptor number (2.10.1)
+abbrev pub class_of_literal : Bool → List ℕ → TokenClass
+class_of_literal redirection bytes =
+    if redirection && list_all is_digit bytes then TokenClass.Number else if assigns bytes then TokenClass.Assignment else class_of_text bytes
+
+abbrev pub class_of_word : Bool → List Mark → TokenClass
+class_of_word redirection ms =
+    if list_all is_byte ms then class_of_literal redirection (literal_front ms)
+    else if assigns (literal_front ms) then TokenClass.Assignment else TokenClass.Other
+
+abbrev pub class_of_operator : Operator → TokenClass
+class_of_operator Operator.And = TokenClass.And
+class_of_operator Operator.Semicolon = TokenClass.Semicolon
+class_of_operator Operator.Pipe = TokenClass.Pipe
+class_of_operator Operator.Less = TokenClass.Redirection
+class_of_operator Operator.Great = TokenClass.Redirection
+class_of_operator Operator.LeftParenthesis = TokenClass.LeftParenthesis
+class_of_operator Operator.RightParenthesis = TokenClass.RightParenthesis
+class_of_operator Operator.Newline = TokenClass.Newline
+class_of_operator Operator.AndIf = TokenClass.AndIf
+class_of_operator Operator.OrIf = TokenClass.OrIf
+class_of_operator Operator.DoubleSemicolon = TokenClass.DoubleSemicolon
+class_of_operator Operator.DoubleLess = TokenClass.Redirection
+class_of_operator Operator.DoubleGreat = TokenClass.Redirection
+class_of_operator Operator.LessAnd = TokenClass.Redirection
+class_of_operator Operator.GreatAnd = TokenClass.Redirection
+class_of_operator Operator.LessGreat = TokenClass.Redirection
+class_of_operator Operator.DoubleLessDash = TokenClass.Redirection
+class_of_operator Operator.Clobber = TokenClass.Redirection
+
+-- a token of a substitution more
+abbrev pub with_class : TokenClass → Context → Context
+with_class c (Commands ts) = Commands (followed_by c ts)
+with_class c Top = Top
+with_class c (Word n) = Word n
+with_class c Quotes = Quotes
+with_class c (Braces q) = Braces q
+with_class c Arithmetic = Arithmetic
+with_class c Parenthesis = Parenthesis
+
+abbrev pub with_token : TokenClass → List Context → List Context
+with_token c [] = []
+with_token c (x ∷ xs) = with_class c x ∷ xs
+
+-- r: < or > follows the word
+abbrev pub class_behind : Bool → List Mark → Context → List Context → List Context
+class_behind r done (Word n) xs = with_token (class_of_word r (drop (suc n) done)) xs
+class_behind r done Top xs = xs
+class_behind r done (Commands ts) xs = xs
+class_behind r done Quotes xs = xs
+class_behind r done (Braces q) xs = xs
+class_behind r done Arithmetic xs = xs
+class_behind r done Parenthesis xs = xs
+
+abbrev pub word_over : Bool → List Mark → List Context → List Context
+word_over r done [] = []
+word_over r done (x ∷ xs) = class_behind r done x xs
+
+abbrev pub is_parenthesis : Context → Bool
+is_parenthesis Top = false
+is_parenthesis (Commands ts) = false
+is_parenthesis (Word n) = false
+is_parenthesis Quotes = false
+is_parenthesis (Braces q) = false
+is_parenthesis Arithmetic = false
+is_parenthesis Parenthesis = true
+
+-- inner parentheses of arithmetic open and close
+abbrev pub parenthesized : ℕ → Context → List Context → List Context
+parenthesized b x xs =
+    if nat_eq b 40 && (is_arithmetic x || is_parenthesis x) then Parenthesis ∷ x ∷ xs
+    else if nat_eq b 41 && is_parenthesis x then xs
+    else x ∷ xs
+
+abbrev pub braces_of : Bool → Option Head → Context
+braces_of q None = Braces q
+braces_of q (Some h) = Braces (q && not (reads_bare h))
+
+-- the contexts behind a piece, the innermost first; `done` is what came before it
+abbrev pub behind : List Mark → Context → List Context → Mark → List Context
+behind done x xs (Byte b) = parenthesized b x xs
+behind done x xs (Escaped b) = x ∷ xs
+behind done x xs (Backslash b) = x ∷ xs
+behind done x xs (SingleQuoted bs) = x ∷ xs
+behind done x xs DoubleQuotesOpen = Quotes ∷ x ∷ xs
+behind done x xs DoubleQuotesClose = xs
+behind done x xs Dollar = x ∷ xs
+behind done x xs (Variable bs) = x ∷ xs
+behind done x xs (Parameter b) = x ∷ xs
+behind done x xs (BraceOpen bs) = braces_of (is_quoted x) (head_of bs) ∷ x ∷ xs
+behind done x xs BraceClose = xs
+behind done x xs ArithmeticOpen = Arithmetic ∷ x ∷ xs
+behind done x xs ArithmeticClose = xs
+behind done x xs CommandsOpen = Commands [] ∷ x ∷ xs
+behind done x xs CommandsClose = xs
+behind done x xs (Backquoted bs) = x ∷ xs
+behind done x xs WordOpen = Word (length done) ∷ x ∷ xs
+behind done x xs (WordClose r) = word_over r done (x ∷ xs)
+behind done x xs (Blank b) = x ∷ xs
+behind done x xs (Comment bs) = x ∷ xs
+behind done x xs (Mark.Operator o) = with_token (class_of_operator o) (x ∷ xs)
+
+abbrev pub is_text : Context → Bool
+is_text Top = true
+is_text (Commands ts) = false
+is_text (Word n) = false
+is_text Quotes = false
+is_text (Braces q) = false
+is_text Arithmetic = false
+is_text Parenthesis = false
+
+-- `${`, `$((` and `$(` are levels
+abbrev pub counts : Context → Bool
+counts Top = false
+counts (Commands ts) = true
+counts (Word n) = false
+counts Quotes = false
+counts (Braces q) = true
+counts Arithmetic = true
+counts Parenthesis = false
+
+-- how many levels are open
+abbrev pub levels : List Context → ℕ
+levels [] = 0
+levels (x ∷ xs) = if counts x then suc (levels xs) else levels xs
+
+-- what opens a level; backquotes do so for as long as they last
+abbrev pub opens_level : Mark → Bool
+opens_level (BraceOpen bs) = true
+opens_level ArithmeticOpen = true
+opens_level CommandsOpen = true
+opens_level (Backquoted bs) = true
+opens_level m = false
+
+-- the pieces stand one behind another so, in these contexts, with `next` behind them; there are at most 500 levels
+abbrev pub AreMarks : List Mark → List Context → List Mark → Ahead → Type 0
+AreMarks done xs [] next = Unit {0}
+AreMarks done [] (m ∷ ms) next = ⊥
+AreMarks done (x ∷ xs) (m ∷ ms) next =
+    (fits x m (first_of (spell ms) next) ≡ true)
+    × ((opens_level m && not (nat_lt (levels (x ∷ xs)) 500)) ≡ false)
+    × AreMarks (done ++ m ∷ []) (behind done x xs m) ms next
+
+-- the contexts behind them
+abbrev pub contexts_behind : List Mark → List Context → List Mark → List Context
+contexts_behind done xs [] = xs
+contexts_behind done [] (m ∷ ms) = []
+contexts_behind done (x ∷ xs) (m ∷ ms) = contexts_behind (done ++ m ∷ []) (behind done x xs m) ms
+
+-- before a token: blanks, and comments
+abbrev pub is_gap : Mark → Bool
+is_gap (Blank b) = true
+is_gap (Comment bs) = true
+is_gap m = false

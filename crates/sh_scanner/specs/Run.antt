@@ -1,0 +1,146 @@
+-- How the machine goes through a text.
+use Rattle.std.specs.Prelude.{ℕ, Bool, true, false, ◌&&◌, nat_eq, List, [], ◌∷◌, Option, Some, None, if◌then◌else◌}
+use Rattle.sh_scanner.specs.declared.character.Character.TheVariants.{Plain, Quoted, Raw}
+use Rattle.sh_scanner.specs.declared.context.Context.TheVariants.{Top}
+use Rattle.sh_scanner.specs.declared.mark.Mark.TheVariants.{Variable, Dollar, Comment}
+use Rattle.sh_scanner.specs.declared.pending.Pending.{Pending}
+use Rattle.sh_scanner.specs.Marks.{is_text, is_word}
+use Rattle.sh_scanner.specs.Machine.{State, Stepped, On, Before, After, TooDeep, step, is_raw, is_top, top_of, same, word_out, operator_out}
+
+-- a scanner between two bytes; held: a backslash came, and not yet the byte behind it
+pub record Scan : Type 0 where
+  pub state : State
+  pub held : Bool
+
+pub data Fed : Type 0 where
+  -- the byte waits for the next one, or was a joined line
+  Waits : (held : Bool) → (state : State) → Fed
+  Takes : (stepped : Stepped) → Fed
+
+unfoldable pub fed : Scan → ℕ → Fed
+fed s b =
+    if s.held then (if nat_eq b 10 then Waits false s.state else Takes (step s.state (Quoted b)))
+    else if is_raw s.state.pending then Takes (step s.state (Raw b))
+    else if nat_eq b 92 then Waits true s.state
+    else Takes (step s.state (Plain b))
+
+-- how a text goes: a token of it, the text from its first byte on, and the text behind it; or the text from where level 501 opens
+pub data Scanned : Type 0 where
+  Ended : (state : State) → (front rest : List ℕ) → Scanned
+  Deep : (rest : List ℕ) → Scanned
+  Open : Scanned
+
+-- no token has begun
+abbrev pub is_gap_pending : Pending → Bool
+is_gap_pending Pending.Nothing = true
+is_gap_pending Pending.Comment = true
+is_gap_pending Pending.Dollar = false
+is_gap_pending Pending.DollarParenthesis = false
+is_gap_pending Pending.Name = false
+is_gap_pending (Pending.Head h) = false
+is_gap_pending Pending.Single = false
+is_gap_pending Pending.Backquotes = false
+is_gap_pending Pending.BackquotesEscape = false
+is_gap_pending Pending.Parenthesis = false
+is_gap_pending (Pending.Operator o) = false
+
+abbrev pub is_gap_state : State → Bool
+is_gap_state s = is_gap_pending s.pending && is_text (top_of s.contexts)
+
+-- where level 501 opens: at the `$` before the character, or at the character
+abbrev pub deep_at : Pending → List ℕ → List ℕ → List ℕ
+deep_at Pending.Dollar previous begin = previous
+deep_at Pending.Nothing previous begin = begin
+deep_at Pending.Comment previous begin = begin
+deep_at Pending.DollarParenthesis previous begin = begin
+deep_at Pending.Name previous begin = begin
+deep_at (Pending.Head h) previous begin = begin
+deep_at Pending.Single previous begin = begin
+deep_at Pending.Backquotes previous begin = begin
+deep_at Pending.BackquotesEscape previous begin = begin
+deep_at Pending.Parenthesis previous begin = begin
+deep_at (Pending.Operator o) previous begin = begin
+
+-- the text's parts that are kept: from the token's first byte on, from the first byte of the last character on, behind that
+-- character, and from the next character's first byte on
+pub record Places : Type 0 where
+  pub front : List ℕ
+  pub previous : List ℕ
+  pub behind : List ℕ
+  pub next : List ℕ
+
+-- a word of the text itself ends at the end of the input
+abbrev pub word_ended : State → Option State
+word_ended s = if is_word (top_of s.contexts) && is_top (word_out false s).contexts then Some (word_out false s) else None
+
+abbrev pub gap_ended : State → Option State
+gap_ended s = if is_top s.contexts then Some s else word_ended s
+
+-- the token that the end of the input ends
+abbrev pub ended_in : Pending → State → Option State
+ended_in Pending.Nothing s = gap_ended s
+ended_in Pending.Comment s = Some (same (Comment s.bytes) s)
+ended_in Pending.Dollar s = word_ended (same Dollar s)
+ended_in Pending.Name s = word_ended (same (Variable s.bytes) s)
+ended_in (Pending.Operator o) s = if is_top s.contexts then Some (operator_out o s) else None
+ended_in Pending.DollarParenthesis s = None
+ended_in (Pending.Head h) s = None
+ended_in Pending.Single s = None
+ended_in Pending.Backquotes s = None
+ended_in Pending.BackquotesEscape s = None
+ended_in Pending.Parenthesis s = None
+
+abbrev pub last_token : Option State → List ℕ → List ℕ → Scanned
+last_token None front rest = Open
+last_token (Some s) front rest = Ended s front rest
+
+-- the end of the input, where a backslash that waits stands for itself
+abbrev pub last_step : Stepped → Places → Scanned
+last_step (On s) p = last_token (ended_in s.pending s) p.front []
+last_step (Before s) p = Ended s p.front p.behind
+last_step (After s) p = Ended s p.front []
+last_step (TooDeep s) p = Open
+
+abbrev pub fronted : Bool → Places → Places
+fronted true p = record { front = p.next; previous = p.previous; behind = p.behind; next = p.next }
+fronted false p = p
+
+abbrev pub with_front : State → Places → Places
+with_front s p = fronted (is_gap_state s) p
+
+abbrev pub last : Bool → State → Places → Scanned
+last false s p = last_token (ended_in s.pending s) p.front p.behind
+last true s p = last_step (step s (Plain 92)) p
+
+-- behind a character that was taken, where the text is this
+abbrev pub moved : List ℕ → Places → Places
+moved after p = record { front = p.front; previous = p.next; behind = after; next = after }
+
+-- behind a byte that waits, or a joined line
+abbrev pub waited : Bool → List ℕ → Places → Places
+waited true after p = p
+waited false after p = record { front = p.front; previous = p.previous; behind = p.behind; next = after }
+
+abbrev pub on : Fed → (Bool → State → Scanned) → (State → Scanned) → (State → Scanned) → (State → Scanned) → Scanned → Scanned
+on (Waits h s) w t b a d = w h s
+on (Takes (On s)) w t b a d = t s
+on (Takes (Before s)) w t b a d = b s
+on (Takes (After s)) w t b a d = a s
+on (Takes (TooDeep s)) w t b a d = d
+
+abbrev pub run : Bool → Bool → State → Places → List ℕ → Scanned
+run e h s p [] = if e then last h s (with_front s p) else Open
+run e h s p (b ∷ bs) =
+    let q = with_front s p in
+    on (fed (record { state = s; held = h }) b)
+    (λ held t. run e held t (waited held bs q) bs)
+    (λ t. run e false t (moved bs q) bs)
+    (λ t. Ended t q.front q.behind)
+    (λ t. Ended t q.front bs)
+    (Deep (deep_at s.pending q.previous q.next))
+
+abbrev pub start : State
+start = record { contexts = Top ∷ []; done = []; pending = Pending.Nothing; bytes = []; levels = 0 }
+
+abbrev pub scanned : Bool → List ℕ → Scanned
+scanned e bytes = run e false start (record { front = bytes; previous = bytes; behind = bytes; next = bytes }) bytes

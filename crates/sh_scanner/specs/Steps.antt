@@ -1,0 +1,30 @@
+-- What the scanner's calls answer, against the machine.
+use Rattle.std.specs.Prelude.{Bool, true, false, Option, Some, None}
+use Rattle.sh_scanner.specs.declared.step.Step.{Step}
+use Rattle.sh_scanner.specs.declared.scanner.Event.{Event}
+use Rattle.sh_scanner.specs.declared.scanner.Outcome.{Outcome}
+use Rattle.sh_scanner.specs.declared.scanner.Marked.{Marked}
+use Rattle.sh_scanner.specs.Machine.{State, Stepped, On, Before, After, TooDeep}
+use Rattle.sh_scanner.specs.Run.{Fed, Waits, Takes, Scanned, Ended, Deep, Open, Places}
+
+abbrev pub stepped : Step → State → Stepped
+stepped Step.On s = On s
+stepped Step.Before s = Before s
+stepped Step.After s = After s
+stepped Step.TooDeep s = TooDeep s
+
+abbrev pub event : Event → State → Fed
+event (Event.Waits h) s = Waits h s
+event (Event.Takes step) s = Takes (stepped step s)
+
+abbrev pub outcome : Outcome → Scanned
+outcome (Outcome.Ended state front rest) = Ended state front.now rest.now
+outcome (Outcome.Deep rest) = Deep rest.now
+outcome Outcome.Open = Open
+
+abbrev pub places : Marked → Places
+places m = record { front = m.front.now; previous = m.previous.now; behind = m.behind.now; next = m.next.now }
+
+abbrev pub option_when : Bool → State → Option State
+option_when true s = Some s
+option_when false s = None

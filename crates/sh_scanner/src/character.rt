@@ -1,0 +1,12 @@
+//! Characters of a text.
+
+/// What a text has once its joined lines are gone.
+#[derive(Clone, Copy)]
+pub(crate) enum Character {
+    /// A byte.
+    Plain(u8),
+    /// A byte behind a backslash.
+    Quoted(u8),
+    /// A byte between single quotes or in a comment, where a backslash is a byte like any other.
+    Raw(u8),
+}

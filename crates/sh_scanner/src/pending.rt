@@ -1,0 +1,55 @@
+//! What a scanner has begun and can't tell yet.
+ghost use Rattle.std.specs.Prelude.{◌≡◌};
+ghost use Rattle.sh_scanner.specs.Machine.{is_raw};
+ghost use Rattle.sh_scanner.specs.Run.{is_gap_pending};
+
+use crate::head::Head;
+use crate::operator::Operator;
+
+/// A piece that has begun; its further bytes are kept beside it.
+#[derive(Clone, Copy, Debug, PartialEq, Eq)]
+pub(crate) enum Pending {
+    Nothing,
+    /// Behind a `$`.
+    Dollar,
+    /// Behind `$(`.
+    DollarParenthesis,
+    /// In the name behind a `$`.
+    Name,
+    /// Behind `${`.
+    Head(Head),
+    /// Between single quotes.
+    Single,
+    /// Between backquotes, and there behind a backslash.
+    Backquotes,
+    BackquotesEscape,
+    /// Behind a `)` that may end arithmetic.
+    Parenthesis,
+    /// In an operator that may grow.
+    Operator(Operator),
+    /// Behind `#`.
+    Comment,
+}
+
+impl Pending {
+    /// Whether a backslash is a byte like any other here.
+    pub(crate) fn is_raw(self) -> bool
+        ensures { result ≡ is_raw self }
+    {
+        match self {
+            Pending::Single | Pending::Backquotes | Pending::BackquotesEscape | Pending::Comment =>
+                true,
+            _ => false,
+        }
+    }
+
+    /// Whether it may stand before a token.
+    pub(crate) fn is_gap(self) -> bool
+        ensures { result ≡ is_gap_pending self }
+    {
+        match self {
+            Pending::Nothing | Pending::Comment => true,
+            _ => false,
+        }
+    }
+}

@@ -1,0 +1,260 @@
+//! A scanner for one token, which is fed byte by byte.
+ghost use Rattle.std.specs.Prelude.{◌≡◌, IfOk, Option, Some, None, length};
+ghost use Rattle.sh_scanner.specs.Machine.{step, is_raw, top_of, same, word_out, operator_out};
+ghost use Rattle.sh_scanner.specs.Run.{Places, Scanned, Ended, Deep, Open, fed, is_gap_pending, is_gap_state, deep_at, word_ended, gap_ended, ended_in, last_token, last_step, fronted, with_front, last, moved, waited, run, start, scanned};
+ghost use Rattle.sh_scanner.specs.Steps.{stepped, event, outcome, places, option_when};
+
+use crate::character::Character;
+use crate::contexts::Contexts;
+use crate::mark::Mark;
+use crate::pending::Pending;
+use crate::state::State;
+use crate::step::{Step, take};
+use std::alloc::{AllocError, Global};
+
+/// What a byte has done.
+#[derive(Clone, Copy)]
+pub(crate) enum Event {
+    /// It waits for the next one if true; else it was the end of a joined line.
+    Waits(bool),
+    Takes(Step),
+}
+
+/// How a text goes.
+#[derive(Drop)]
+pub(crate) enum Outcome<'a> {
+    /// A token, with the text from its first byte on and the text behind it.
+    Ended(State, &'a [u8], &'a [u8]),
+    /// The text from where level 501 opens.
+    Deep(&'a [u8]),
+    Open,
+}
+
+/// The text's parts that are kept: from the token's first byte on, from the first byte of the last character
+/// on, behind that character, and from the next character's first byte on.
+#[derive(Clone, Copy)]
+pub(crate) struct Marked<'a> {
+    front: &'a [u8],
+    previous: &'a [u8],
+    behind: &'a [u8],
+    next: &'a [u8],
+}
+
+/// One byte; `held`: a backslash came before it.
+#[tactic(auto, unfolding(crate::specs::Run::fed))]
+fn feed(state: &mut State, held: bool, b: u8) -> Result<Event, AllocError>
+    ensures { IfOk result (λ w. fed (record { state = state.old; held = held }) b ≡ event w state.new) }
+{
+    if held {
+        if b == b'\n' {
+            return Ok(Event::Waits(false));
+        }
+        let step = take(state, Character::Quoted(b))?;
+        return Ok(Event::Takes(step));
+    }
+    if state.pending().is_raw() {
+        let step = take(state, Character::Raw(b))?;
+        return Ok(Event::Takes(step));
+    }
+    if b == b'\\' {
+        return Ok(Event::Waits(true));
+    }
+    let step = take(state, Character::Plain(b))?;
+    Ok(Event::Takes(step))
+}
+
+/// Whether no token has begun.
+fn is_in_gap(state: &State) -> bool
+    ensures { result ≡ is_gap_state state.now }
+{
+    state.pending().is_gap() && state.contexts().is_text()
+}
+
+/// A word of the text itself ends at the end of the input, or none does.
+fn end_word(state: &mut State) -> Result<bool, AllocError>
+    ensures { IfOk result (λ ended. word_ended state.old ≡ option_when ended state.new) }
+{
+    if !state.contexts().is_word() {
+        return Ok(false);
+    }
+    state.close_word(false)?;
+    Ok(state.contexts().is_text())
+}
+
+/// The token that the end of the input ends, where nothing has begun.
+fn end_gap(state: &mut State) -> Result<bool, AllocError>
+    ensures { IfOk result (λ ended. gap_ended state.old ≡ option_when ended state.new) }
+{
+    if state.contexts().is_text() {
+        return Ok(true);
+    }
+    let ended = end_word(state)?;
+    Ok(ended)
+}
+
+/// The token that the end of the input ends, if there is one.
+fn end(state: &mut State) -> Result<bool, AllocError>
+    ensures { IfOk result (λ ended. ended_in state.old.pending state.old ≡ option_when ended state.new) }
+{
+    match state.pending() {
+        Pending::Nothing => {
+            let ended = end_gap(state)?;
+            Ok(ended)
+        },
+        Pending::Comment => {
+            let bytes = state.take_bytes();
+            state.same(Mark::Comment(bytes))?;
+            Ok(true)
+        },
+        Pending::Dollar => {
+            state.same(Mark::Dollar)?;
+            let ended = end_word(state)?;
+            Ok(ended)
+        },
+        Pending::Name => {
+            state.close_name()?;
+            let ended = end_word(state)?;
+            Ok(ended)
+        },
+        Pending::Operator(operator) => {
+            if !state.contexts().is_text() {
+                return Ok(false);
+            }
+            state.operator_out(operator)?;
+            Ok(true)
+        },
+        Pending::DollarParenthesis => Ok(false),
+        Pending::Head(_) => Ok(false),
+        Pending::Single => Ok(false),
+        Pending::Backquotes => Ok(false),
+        Pending::BackquotesEscape => Ok(false),
+        Pending::Parenthesis => Ok(false),
+    }
+}
+
+fn ended_outcome<'a>(ended: bool, state: State, front: &'a [u8], rest: &'a [u8]) -> Outcome<'a>
+    ensures { last_token (option_when ended state) front.now rest.now ≡ outcome result }
+{
+    if ended {
+        Outcome::Ended(state, front, rest)
+    } else {
+        Outcome::Open
+    }
+}
+
+/// The end of the input; `held`: a backslash waits, which then stands for itself.
+fn finish<'a>(held: bool, mut state: State, at: Marked<'a>) -> Result<Outcome<'a>, AllocError>
+    ensures { IfOk result (λ r. last held state (places at.entry) ≡ outcome r) }
+{
+    if !held {
+        let ended = end(&mut state)?;
+        return Ok(ended_outcome(ended, state, at.front, at.behind));
+    }
+    match take(&mut state, Character::Plain(b'\\'))? {
+        Step::On => {
+            let ended = end(&mut state)?;
+            Ok(ended_outcome(ended, state, at.front, &[]))
+        },
+        Step::Before => Ok(Outcome::Ended(state, at.front, at.behind)),
+        Step::After => Ok(Outcome::Ended(state, at.front, &[])),
+        Step::TooDeep => Ok(Outcome::Open),
+    }
+}
+
+/// Where level 501 opens: at the `$` before the character, or at the character.
+fn deep<'a>(pending: Pending, at: Marked<'a>) -> &'a [u8]
+    ensures { result.now ≡ deep_at pending (places at.entry).previous (places at.entry).next }
+{
+    match pending {
+        Pending::Dollar => at.previous,
+        _ => at.next,
+    }
+}
+
+impl<'a> Marked<'a> {
+    /// Where no token has begun, it begins with the next character.
+    fn with_front(self, in_gap: bool) -> Self
+        ensures { places result ≡ fronted in_gap (places self.entry) }
+    {
+        if in_gap {
+            Marked {
+                front: self.next,
+                ..self
+            }
+        } else {
+            self
+        }
+    }
+
+    /// Behind a byte that waits, or a joined line.
+    fn waited(self, held: bool, after: &'a [u8]) -> Self
+        ensures { places result ≡ waited held after.now (places self.entry) }
+    {
+        if held {
+            self
+        } else {
+            Marked {
+                next: after,
+                ..self
+            }
+        }
+    }
+
+    /// Behind a character that was taken.
+    fn moved(self, after: &'a [u8]) -> Self
+        ensures { places result ≡ moved after.now (places self.entry) }
+    {
+        Marked {
+            front: self.front,
+            previous: self.next,
+            behind: after,
+            next: after,
+        }
+    }
+}
+
+/// Feeds a scanner with a text up to the end of its first token.
+pub(crate) fn scan<'a>(
+    alloc: Global,
+    text: &'a [u8],
+    at_end: bool,
+) -> Result<Outcome<'a>, AllocError>
+    ensures { IfOk result (λ r. scanned at_end text.now ≡ outcome r) }
+{
+    let mut state = State::new(alloc)?;
+    let mut held = false;
+    let mut at = Marked {
+        front: text,
+        previous: text,
+        behind: text,
+        next: text,
+    };
+    let mut left = text;
+    while let Some((b, after)) = left.split_first() {
+        let here = at.with_front(is_in_gap(&state));
+        let pending = state.pending();
+        match feed(&mut state, held, *b)? {
+            Event::Waits(waits) => {
+                held = waits;
+                at = here.waited(waits, after);
+                left = after;
+                continue;
+            },
+            Event::Takes(Step::On) => {
+                held = false;
+                at = here.moved(after);
+                left = after;
+                continue;
+            },
+            Event::Takes(Step::Before) => return Ok(Outcome::Ended(state, here.front, here.behind)),
+            Event::Takes(Step::After) => return Ok(Outcome::Ended(state, here.front, after)),
+            Event::Takes(Step::TooDeep) => return Ok(Outcome::Deep(deep(pending, here))),
+        }
+    }
+    if !at_end {
+        return Ok(Outcome::Open);
+    }
+    let here = at.with_front(is_in_gap(&state));
+    let outcome = finish(held, state, here)?;
+    Ok(outcome)
+}

@@ -1,0 +1,223 @@
+//! A scanner between two characters.
+ghost use Rattle.std.specs.Prelude.{◌≡◌, ◌++◌, ◌∷◌, [], OnOk, IfOk, length, drop, Some};
+ghost use Rattle.sh_scanner.specs.declared.context.Context.TheVariants.{Word, Commands};
+ghost use Rattle.sh_scanner.specs.declared.mark.Mark.TheVariants.{WordOpen, CommandsOpen, Variable, BraceOpen};
+ghost use Rattle.sh_scanner.specs.Marks.{between_tokens, is_word, is_quotes, is_braces, is_arithmetic, is_parenthesis, quotes, has_single_quotes, has_double_quotes, is_quoted, may_close, braces_of};
+ghost use Rattle.sh_scanner.specs.Steps.{stepped};
+ghost use Rattle.sh_scanner.specs.Run.{start};
+ghost use Rattle.sh_scanner.specs.Machine.{same, into, out, pend, keep, opens, out_level, level_over, top_of, word_out, operator_out};
+
+use crate::context::{Context, Tokens};
+use crate::contexts::Contexts;
+use crate::head::Head;
+use crate::mark::Mark;
+use crate::operator::Operator;
+use crate::pending::Pending;
+use crate::step::Step;
+use sh_syntax::sequence::{Sequence, Text};
+use std::alloc::{AllocError, Global};
+use std::marker::Model;
+use std::mem;
+
+/// How many levels may be open.
+const LEVELS: usize = 500;
+
+/// The open contexts, the pieces so far, a piece that has begun and its bytes.
+#[derive(Drop)]
+pub(crate) struct State {
+    alloc: Global,
+    contexts: Contexts,
+    done: Vec<Mark>,
+    pending: Pending,
+    bytes: Vec<u8>,
+    levels: usize,
+}
+
+impl Model for State {
+    ghost use Rattle.sh_scanner.specs.Machine.{State};
+
+    ghost Value = { State };
+
+    ghost view = { λ s. record { contexts = s.contexts; done = s.done.items; pending = s.pending; bytes = s.bytes.items; levels = s.levels } };
+}
+
+impl State {
+    /// At the beginning of a text.
+    pub(crate) fn new(alloc: Global) -> Result<Self, AllocError>
+        ensures { IfOk result (λ s. s ≡ start) }
+    {
+        let mut contexts = Contexts::new(alloc);
+        contexts.push(Context::Top)?;
+        Ok(State {
+            alloc,
+            contexts,
+            done: Vec::new(alloc),
+            pending: Pending::Nothing,
+            bytes: Vec::new(alloc),
+            levels: 0,
+        })
+    }
+
+    pub(crate) fn contexts(&self) -> &Contexts
+        ensures { result.now ≡ self.now.contexts }
+    {
+        &self.contexts
+    }
+
+    pub(crate) fn pending(&self) -> Pending
+        ensures { result ≡ self.now.pending }
+    {
+        self.pending
+    }
+
+    /// How many pieces there are.
+    pub(crate) fn len(&self) -> usize
+        ensures { result ≡ length self.now.done }
+    {
+        self.done.len()
+    }
+
+    /// The bytes of the piece that has begun; then there are none.
+    pub(crate) fn take_bytes(&mut self) -> Text
+        ensures taken { result ≡ self.old.bytes }
+        ensures left { self.new ≡ record self.old { bytes = [] } }
+    {
+        let empty = Vec::new(self.alloc);
+        Sequence::from_vec(mem::replace(&mut self.bytes, empty))
+    }
+
+    /// A piece is over, the contexts being what they then are.
+    fn push(&mut self, mark: Mark) -> Result<(), AllocError>
+        ensures { OnOk result (self.new ≡ same mark self.old) }
+    {
+        self.done.push(mark)?;
+        self.pending = Pending::Nothing;
+        self.bytes.clear();
+        Ok(())
+    }
+
+    /// A piece that leaves the contexts as they are.
+    pub(crate) fn same(&mut self, mark: Mark) -> Result<(), AllocError>
+        ensures { OnOk result (self.new ≡ same mark self.old) }
+    {
+        self.push(mark)
+    }
+
+    /// A piece that goes into a context.
+    pub(crate) fn into(&mut self, context: Context, mark: Mark) -> Result<(), AllocError>
+        ensures { OnOk result (self.new ≡ into context mark self.old) }
+    {
+        self.contexts.push(context)?;
+        self.push(mark)
+    }
+
+    /// A piece that leaves a context.
+    pub(crate) fn out(&mut self, mark: Mark) -> Result<(), AllocError>
+        ensures { OnOk result (self.new ≡ out mark self.old) }
+    {
+        self.contexts.pop();
+        self.push(mark)
+    }
+
+    /// A piece that leaves a context which is a level.
+    pub(crate) fn out_level(&mut self, mark: Mark) -> Result<(), AllocError>
+        ensures { OnOk result (self.new ≡ out_level mark self.old) }
+    {
+        self.contexts.pop();
+        self.level_over(mark)
+    }
+
+    /// A piece that was a level.
+    pub(crate) fn level_over(&mut self, mark: Mark) -> Result<(), AllocError>
+        ensures { OnOk result (self.new ≡ level_over mark self.old) }
+    {
+        self.levels = self.levels.saturating_sub(1);
+        self.push(mark)
+    }
+
+    /// A piece begins.
+    pub(crate) fn pend(&mut self, pending: Pending)
+        ensures { self.new ≡ pend pending self.old }
+    {
+        self.pending = pending;
+        self.bytes.clear();
+    }
+
+    /// A byte more of the piece that has begun.
+    pub(crate) fn keep(&mut self, pending: Pending, b: u8) -> Result<(), AllocError>
+        ensures { OnOk result (self.new ≡ keep pending b self.old) }
+    {
+        self.bytes.push(b)?;
+        self.pending = pending;
+        Ok(())
+    }
+
+    /// A piece begins that opens a level, unless that is one too many.
+    pub(crate) fn open(&mut self, pending: Pending) -> Step
+        ensures { opens pending self.old ≡ stepped result self.new }
+    {
+        if self.levels >= LEVELS {
+            return Step::TooDeep;
+        }
+        self.levels += 1;
+        self.pend(pending);
+        Step::On
+    }
+
+    /// A word begins.
+    pub(crate) fn open_word(&mut self) -> Result<(), AllocError>
+        ensures { OnOk result (self.new ≡ into (Word (length self.old.done)) WordOpen self.old) }
+    {
+        let begin = self.done.len();
+        self.into(Context::Word(begin), Mark::WordOpen)
+    }
+
+    /// A word is over; `redirection`: `<` or `>` follows it.
+    pub(crate) fn close_word(&mut self, redirection: bool) -> Result<(), AllocError>
+        ensures { OnOk result (self.new ≡ word_out redirection self.old) }
+    {
+        self.contexts.close_word(redirection, self.done.as_slice())?;
+        self.push(Mark::WordClose(redirection))
+    }
+
+    /// An operator is over.
+    pub(crate) fn operator_out(&mut self, operator: Operator) -> Result<(), AllocError>
+        ensures { OnOk result (self.new ≡ operator_out operator self.old) }
+    {
+        self.contexts.take(operator.class())?;
+        self.push(Mark::Operator(operator))
+    }
+
+    /// The tokens of a command substitution begin.
+    pub(crate) fn open_commands(&mut self) -> Result<(), AllocError>
+        ensures { OnOk result (self.new ≡ into (Commands []) CommandsOpen self.old) }
+    {
+        let tokens = Tokens::new(self.alloc)?;
+        self.into(Context::Commands(tokens), Mark::CommandsOpen)
+    }
+
+    /// The name behind a `$` is over.
+    pub(crate) fn close_name(&mut self) -> Result<(), AllocError>
+        ensures { OnOk result (self.new ≡ same (Variable self.old.bytes) self.old) }
+    {
+        let bytes = self.take_bytes();
+        self.same(Mark::Variable(bytes))
+    }
+
+    /// What stands between `${` and its word is over.
+    pub(crate) fn close_head(&mut self, head: Head) -> Result<(), AllocError>
+        ensures { OnOk result (self.new ≡ into (braces_of (is_quoted (top_of self.old.contexts)) (Some head)) (BraceOpen self.old.bytes) self.old) }
+    {
+        let quoted = self.contexts.is_quoted() && !head.reads_bare();
+        let bytes = self.take_bytes();
+        self.into(Context::Braces(quoted), Mark::BraceOpen(bytes))
+    }
+
+    /// The pieces.
+    pub(crate) fn into_pieces(self) -> Vec<Mark>
+        ensures { result.items ≡ self.done }
+    {
+        let State { done, .. } = self;
+        done
+    }
+}

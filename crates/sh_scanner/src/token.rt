@@ -1,0 +1,124 @@
+//! Tokens (XCU 2.3).
+ghost use Rattle.std.specs.Prelude.{◌≡◌, ◌≤◌, drop, take, length};
+ghost use Rattle.sh_scanner.specs.Run.{scanned};
+ghost use Rattle.sh_scanner.specs.Found.{answer, Gives, nul_in};
+
+use crate::kind::kind;
+use crate::mark::Mark;
+use crate::operator::Operator;
+use crate::scanner::{Outcome, scan};
+use sh_syntax::sequence::Sequence;
+use sh_syntax::word::Span;
+use std::alloc::{AllocError, Global};
+use thiserror::Error;
+
+/// What a token is.
+#[derive(Debug, Drop)]
+pub enum TokenKind {
+    Operator(Operator),
+    /// A descriptor's number: digits directly before `<` or `>`.
+    Number,
+    /// A word, by its pieces.
+    Word(Sequence<Mark>),
+    /// The end of the input.
+    End,
+}
+
+/// A token and where it stands in the text, from its first byte up to, not including, what is behind its last.
+#[derive(Debug, Drop)]
+pub struct Token {
+    pub kind: TokenKind,
+    pub span: Span,
+}
+
+/// Why there is no token.
+#[derive(Clone, Copy, Debug, PartialEq, Eq, Error)]
+pub enum TokenFault {
+    /// The text ends within the token, or the token might go on behind it.
+    #[error("unfinished token")]
+    Unfinished,
+    /// The token, or what lies before it, has a NUL; the first stands at `at` in the text.
+    #[error("NUL at byte {at}")]
+    NulByte { at: usize },
+    /// More than 500 levels: the piece at `at` opens one too many.
+    #[error("too deep at byte {at}")]
+    TooDeep { at: usize },
+    /// There was not enough memory.
+    #[error("out of memory")]
+    NoMemory,
+}
+
+impl From<AllocError> for TokenFault {
+    ghost use Rattle.std.specs.Prelude.{◌≡◌};
+    ghost use Rattle.sh_scanner.specs.declared.token.TokenFault.TheVariants.{NoMemory};
+
+    ghost from_gives = { λ _ e. e ≡ NoMemory };
+
+    fn from(_error: AllocError) -> Self {
+        TokenFault::NoMemory
+    }
+}
+
+/// The first token of the text from the byte at `at` on (XCU 2.3), and why there is none. `at_end`: the
+/// text's end is that of the input. Behind the text nothing stands, so that an `at` there gives `End`, or
+/// `Unfinished` where the input goes on. Here-documents inside a command substitution are not read as such yet:
+/// their bodies are taken as tokens.
+pub fn next_token(alloc: Global, text: &[u8], at: usize, at_end: bool) -> Result<Token, TokenFault>
+    // The answer is the machine's, or memory ran out.
+    ensures { Gives result (answer at (drop at text.now) (scanned at_end (drop at text.now))) }
+{
+    let bytes = bytes_from(text, at);
+    match scan(alloc, bytes, at_end)? {
+        Outcome::Ended(state, front, rest) => {
+            let start = bytes.len().saturating_sub(front.len());
+            let end = bytes.len().saturating_sub(rest.len());
+            if let Some(place) = first_nul(bytes_before(bytes, end)) {
+                return Err(TokenFault::NulByte { at: at + place });
+            }
+            let kind = kind(alloc, state.into_pieces())?;
+            let span = Span {
+                start: at + start,
+                end: at + end,
+            };
+            Ok(Token { kind, span })
+        },
+        Outcome::Deep(rest) => {
+            let end = bytes.len().saturating_sub(rest.len());
+            if let Some(place) = first_nul(bytes_before(bytes, end)) {
+                return Err(TokenFault::NulByte { at: at + place });
+            }
+            Err(TokenFault::TooDeep { at: at + end })
+        },
+        Outcome::Open => {
+            if let Some(place) = first_nul(bytes) {
+                return Err(TokenFault::NulByte { at: at + place });
+            }
+            Err(TokenFault::Unfinished)
+        },
+    }
+}
+
+/// The text from a place on, which is empty behind the text.
+fn bytes_from(text: &[u8], at: usize) -> &[u8]
+    ensures { result.now ≡ drop at text.now }
+{
+    if at <= text.len() { &text[at..] } else { &[] }
+}
+
+/// The text before a place.
+fn bytes_before(text: &[u8], end: usize) -> &[u8]
+    requires { end ≤ length text.now }
+    ensures { result.now ≡ take end text.now }
+{
+    &text[..end]
+}
+
+/// The place of the first NUL.
+fn first_nul(bytes: &[u8]) -> Option<usize>
+    ensures { result ≡ nul_in bytes.now }
+{
+    bytes.iter().position(|b| *b == 0)
+}
+
+#[cfg(test)]
+mod tests;
