@@ -2,11 +2,11 @@
 use Rattle.std.specs.Prelude.{◌≡◌, ℕ, suc, ◌+◌, ◌-◌, Bool, not, nat_eq, List, [], ◌∷◌, length, take, drop, reverse, position, Option, Some, None, Result, Ok, Err, if◌then◌else◌}
 use Rattle.sh_token_base.specs.declared.class.TokenClass.{TokenClass}
 use Rattle.sh_token_base.specs.Classes.{class_number}
-use Rattle.sh_scanner.specs.declared.mark.Mark.{Mark}
+use Rattle.sh_scanner_base.specs.declared.mark.Mark.{Mark}
 use Rattle.sh_scanner.specs.declared.token.TokenKind.{TokenKind}
 use Rattle.sh_scanner.specs.declared.token.Token.{Token}
 use Rattle.sh_scanner.specs.declared.token.TokenFault.{TokenFault}
-use Rattle.sh_scanner.specs.Marks.{is_gap, class_of_word}
+use Rattle.sh_scanner_base.specs.Marks.{is_gap, class_of_word}
 use Rattle.sh_scanner.specs.Run.{Scanned, Ended, Deep, Open}
 
 abbrev pub is_of_token : Mark → Bool

@@ -1,11 +1,4 @@
-pub mod Bytes
-pub mod Operators
-pub mod Growth
-pub mod Characters
-pub mod Heads
-pub mod Taken
-pub mod Marks
 pub mod Machine
-pub mod Steps
 pub mod Run
+pub mod Steps
 pub mod Found

@@ -1,18 +1,18 @@
 -- The scanner as a machine: the contexts, the pieces so far, a piece that has begun, and a backslash that waits for its byte.
-use Rattle.std.specs.Prelude.{ℕ, suc, Bool, true, false, ◌&&◌, ◌||◌, nat_eq, nat_lt, List, [], ◌∷◌, ◌++◌, length, ◌-◌, Option, Some, None, if◌then◌else◌}
-use Rattle.sh_scanner.specs.declared.character.Character.{Character}
-use Rattle.sh_scanner.specs.declared.character.Character.TheVariants.{Plain, Quoted, Raw}
-use Rattle.sh_scanner.specs.declared.operator.Operator.{Operator}
-use Rattle.sh_scanner.specs.declared.head.Head.{Head}
-use Rattle.sh_scanner.specs.declared.mark.Mark.{Mark}
-use Rattle.sh_scanner.specs.declared.mark.Mark.TheVariants.{Byte, Escaped, Backslash, SingleQuoted, DoubleQuotesOpen, DoubleQuotesClose, Dollar, Variable, Parameter, BraceOpen, BraceClose, ArithmeticOpen, ArithmeticClose, CommandsOpen, CommandsClose, Backquoted, WordOpen, WordClose, Blank, Comment}
-use Rattle.sh_scanner.specs.declared.pending.Pending.{Pending}
-use Rattle.sh_scanner.specs.Bytes.{is_blank, is_operator_byte, is_end, is_redirection, is_name_start, is_name_byte, is_short_parameter}
-use Rattle.sh_scanner.specs.Growth.{grown, may_grow}
-use Rattle.sh_scanner.specs.Heads.{grown_head}
-use Rattle.sh_scanner.specs.declared.context.Context.{Context}
-use Rattle.sh_scanner.specs.declared.context.Context.TheVariants.{Top, Commands, Word, Quotes, Arithmetic, Parenthesis}
-use Rattle.sh_scanner.specs.Marks.{is_text, between_tokens, has_single_quotes, has_double_quotes, is_quotes, is_braces, is_arithmetic, is_parenthesis, is_word, quotes, may_close, is_quoted, braces_of, with_token, class_of_operator, word_over}
+use Rattle.std.specs.Prelude.{ℕ, suc, Bool, ◌&&◌, ◌||◌, nat_eq, nat_lt, List, [], ◌∷◌, ◌++◌, length, ◌-◌, Option, Some, None, if◌then◌else◌}
+use Rattle.sh_scanner_base.specs.declared.character.Character.{Character}
+use Rattle.sh_scanner_base.specs.declared.character.Character.TheVariants.{Plain, Quoted, Raw}
+use Rattle.sh_scanner_base.specs.declared.operator.Operator.{Operator}
+use Rattle.sh_scanner_base.specs.declared.head.Head.{Head}
+use Rattle.sh_scanner_base.specs.declared.mark.Mark.{Mark}
+use Rattle.sh_scanner_base.specs.declared.mark.Mark.TheVariants.{Byte, Escaped, Backslash, SingleQuoted, DoubleQuotesOpen, DoubleQuotesClose, Dollar, Variable, Parameter, BraceOpen, BraceClose, ArithmeticOpen, ArithmeticClose, CommandsOpen, CommandsClose, Backquoted, WordOpen, WordClose, Blank, Comment}
+use Rattle.sh_scanner_base.specs.declared.pending.Pending.{Pending}
+use Rattle.sh_scanner_base.specs.Bytes.{is_blank, is_operator_byte, is_end, is_redirection, is_name_start, is_name_byte, is_short_parameter}
+use Rattle.sh_scanner_base.specs.Growth.{grown, may_grow, operator_of}
+use Rattle.sh_scanner_base.specs.Heads.{grown_head}
+use Rattle.sh_scanner_base.specs.declared.context.Context.{Context}
+use Rattle.sh_scanner_base.specs.declared.context.Context.TheVariants.{Commands, Word, Quotes, Arithmetic, Parenthesis}
+use Rattle.sh_scanner_base.specs.Marks.{is_text, top_of, between_tokens, has_single_quotes, has_double_quotes, is_quotes, is_braces, is_arithmetic, is_parenthesis, is_word, quotes, may_close, is_quoted, braces_of, with_token, class_of_operator, word_over}
 
 pub record State : Type 0 where
   pub contexts : List Context
@@ -60,10 +60,6 @@ abbrev pub operator_out : Operator → State → State
 operator_out o s =
     record { contexts = with_token (class_of_operator o) s.contexts; done = s.done ++ Mark.Operator o ∷ []; pending = Pending.Nothing; bytes = []; levels = s.levels }
 
-abbrev pub top_of : List Context → Context
-top_of [] = Top
-top_of (x ∷ xs) = x
-
 abbrev pub pend : Pending → State → State
 pend p s = record { contexts = s.contexts; done = s.done; pending = p; bytes = []; levels = s.levels }
 
@@ -97,17 +93,6 @@ word_byte x s b =
     else if nat_eq b 36 then On (pend Pending.Dollar s)
     else if nat_eq b 96 then opens Pending.Backquotes s
     else inner_byte x s b
-
-abbrev pub operator_of : ℕ → Operator
-operator_of b =
-    if nat_eq b 38 then Operator.And
-    else if nat_eq b 59 then Operator.Semicolon
-    else if nat_eq b 124 then Operator.Pipe
-    else if nat_eq b 60 then Operator.Less
-    else if nat_eq b 62 then Operator.Great
-    else if nat_eq b 40 then Operator.LeftParenthesis
-    else if nat_eq b 41 then Operator.RightParenthesis
-    else Operator.Newline
 
 -- a token of the text itself is over, or one of a substitution
 abbrev pub over : (State → Stepped) → State → Stepped
@@ -239,17 +224,3 @@ step_in Pending.Comment s c = in_comment s c
 
 abbrev pub step : State → Character → Stepped
 step s c = step_in s.pending s c
-
--- whether a backslash is a byte like any other there
-abbrev pub is_raw : Pending → Bool
-is_raw Pending.Nothing = false
-is_raw Pending.Dollar = false
-is_raw Pending.DollarParenthesis = false
-is_raw Pending.Name = false
-is_raw (Pending.Head h) = false
-is_raw Pending.Single = true
-is_raw Pending.Backquotes = true
-is_raw Pending.BackquotesEscape = true
-is_raw Pending.Parenthesis = false
-is_raw (Pending.Operator o) = false
-is_raw Pending.Comment = true

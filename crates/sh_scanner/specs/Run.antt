@@ -1,11 +1,12 @@
 -- How the machine goes through a text.
 use Rattle.std.specs.Prelude.{ℕ, Bool, true, false, ◌&&◌, nat_eq, List, [], ◌∷◌, Option, Some, None, if◌then◌else◌}
-use Rattle.sh_scanner.specs.declared.character.Character.TheVariants.{Plain, Quoted, Raw}
-use Rattle.sh_scanner.specs.declared.context.Context.TheVariants.{Top}
-use Rattle.sh_scanner.specs.declared.mark.Mark.TheVariants.{Variable, Dollar, Comment}
-use Rattle.sh_scanner.specs.declared.pending.Pending.{Pending}
-use Rattle.sh_scanner.specs.Marks.{is_text, is_word}
-use Rattle.sh_scanner.specs.Machine.{State, Stepped, On, Before, After, TooDeep, step, is_raw, is_top, top_of, same, word_out, operator_out}
+use Rattle.sh_scanner_base.specs.declared.character.Character.TheVariants.{Plain, Quoted, Raw}
+use Rattle.sh_scanner_base.specs.declared.context.Context.TheVariants.{Top}
+use Rattle.sh_scanner_base.specs.declared.mark.Mark.TheVariants.{Variable, Dollar, Comment}
+use Rattle.sh_scanner_base.specs.declared.pending.Pending.{Pending}
+use Rattle.sh_scanner_base.specs.Marks.{is_text, is_word, top_of}
+use Rattle.sh_scanner_base.specs.Pendings.{is_raw, is_gap_pending}
+use Rattle.sh_scanner.specs.Machine.{State, Stepped, On, Before, After, TooDeep, step, is_top, same, word_out, operator_out}
 
 -- a scanner between two bytes; held: a backslash came, and not yet the byte behind it
 pub record Scan : Type 0 where
@@ -29,20 +30,6 @@ pub data Scanned : Type 0 where
   Ended : (state : State) → (front rest : List ℕ) → Scanned
   Deep : (rest : List ℕ) → Scanned
   Open : Scanned
-
--- no token has begun
-abbrev pub is_gap_pending : Pending → Bool
-is_gap_pending Pending.Nothing = true
-is_gap_pending Pending.Comment = true
-is_gap_pending Pending.Dollar = false
-is_gap_pending Pending.DollarParenthesis = false
-is_gap_pending Pending.Name = false
-is_gap_pending (Pending.Head h) = false
-is_gap_pending Pending.Single = false
-is_gap_pending Pending.Backquotes = false
-is_gap_pending Pending.BackquotesEscape = false
-is_gap_pending Pending.Parenthesis = false
-is_gap_pending (Pending.Operator o) = false
 
 abbrev pub is_gap_state : State → Bool
 is_gap_state s = is_gap_pending s.pending && is_text (top_of s.contexts)

@@ -2,8 +2,8 @@
 ghost use Rattle.std.specs.Prelude.{◌≡◌, IfOk, drop, suc, length, reverse, position};
 ghost use Rattle.sh_scanner.specs.Found.{is_of_token, place_or, gap_length, is_number, word_kind, kind_by, kind_of};
 
-use crate::mark::{Mark, word_class};
 use crate::token::TokenKind;
+use sh_scanner_base::mark::{Mark, word_class};
 use sh_syntax::sequence::Sequence;
 use sh_token_base::class::TokenClass;
 use std::alloc::{AllocError, Global};

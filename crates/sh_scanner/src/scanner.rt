@@ -1,15 +1,16 @@
 //! A scanner for one token, which is fed byte by byte.
+ghost use Rattle.sh_scanner_base.specs.Marks.{top_of};
 ghost use Rattle.std.specs.Prelude.{◌≡◌, IfOk, Option, Some, None, length};
-ghost use Rattle.sh_scanner.specs.Machine.{step, is_raw, top_of, same, word_out, operator_out};
-ghost use Rattle.sh_scanner.specs.Run.{Places, Scanned, Ended, Deep, Open, fed, is_gap_pending, is_gap_state, deep_at, word_ended, gap_ended, ended_in, last_token, last_step, fronted, with_front, last, moved, waited, run, start, scanned};
+ghost use Rattle.sh_scanner.specs.Machine.{step, same, word_out, operator_out};
+ghost use Rattle.sh_scanner.specs.Run.{Places, Scanned, Ended, Deep, Open, fed, is_gap_state, deep_at, word_ended, gap_ended, ended_in, last_token, last_step, fronted, with_front, last, moved, waited, run, start, scanned};
 ghost use Rattle.sh_scanner.specs.Steps.{stepped, event, outcome, places, option_when};
 
-use crate::character::Character;
-use crate::contexts::Contexts;
-use crate::mark::Mark;
-use crate::pending::Pending;
 use crate::state::State;
 use crate::step::{Step, take};
+use sh_scanner_base::character::Character;
+use sh_scanner_base::contexts::Contexts;
+use sh_scanner_base::mark::Mark;
+use sh_scanner_base::pending::Pending;
 use std::alloc::{AllocError, Global};
 
 /// What a byte has done.

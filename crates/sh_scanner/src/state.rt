@@ -1,19 +1,20 @@
 //! A scanner between two characters.
+ghost use Rattle.sh_scanner_base.specs.Marks.{top_of};
 ghost use Rattle.std.specs.Prelude.{◌≡◌, ◌++◌, ◌∷◌, [], OnOk, IfOk, length, drop, Some};
-ghost use Rattle.sh_scanner.specs.declared.context.Context.TheVariants.{Word, Commands};
-ghost use Rattle.sh_scanner.specs.declared.mark.Mark.TheVariants.{WordOpen, CommandsOpen, Variable, BraceOpen};
-ghost use Rattle.sh_scanner.specs.Marks.{between_tokens, is_word, is_quotes, is_braces, is_arithmetic, is_parenthesis, quotes, has_single_quotes, has_double_quotes, is_quoted, may_close, braces_of};
+ghost use Rattle.sh_scanner_base.specs.declared.context.Context.TheVariants.{Word, Commands};
+ghost use Rattle.sh_scanner_base.specs.declared.mark.Mark.TheVariants.{WordOpen, CommandsOpen, Variable, BraceOpen};
+ghost use Rattle.sh_scanner_base.specs.Marks.{between_tokens, is_word, is_quotes, is_braces, is_arithmetic, is_parenthesis, quotes, has_single_quotes, has_double_quotes, is_quoted, may_close, braces_of};
 ghost use Rattle.sh_scanner.specs.Steps.{stepped};
 ghost use Rattle.sh_scanner.specs.Run.{start};
-ghost use Rattle.sh_scanner.specs.Machine.{same, into, out, pend, keep, opens, out_level, level_over, top_of, word_out, operator_out};
+ghost use Rattle.sh_scanner.specs.Machine.{same, into, out, pend, keep, opens, out_level, level_over, word_out, operator_out};
 
-use crate::context::{Context, Tokens};
-use crate::contexts::Contexts;
-use crate::head::Head;
-use crate::mark::Mark;
-use crate::operator::Operator;
-use crate::pending::Pending;
 use crate::step::Step;
+use sh_scanner_base::context::{Context, Tokens};
+use sh_scanner_base::contexts::Contexts;
+use sh_scanner_base::head::Head;
+use sh_scanner_base::mark::Mark;
+use sh_scanner_base::operator::Operator;
+use sh_scanner_base::pending::Pending;
 use sh_syntax::sequence::{Sequence, Text};
 use std::alloc::{AllocError, Global};
 use std::marker::Model;

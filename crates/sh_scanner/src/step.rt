@@ -1,18 +1,20 @@
 //! What a character makes of a scanner.
+ghost use Rattle.sh_scanner_base.specs.Marks.{top_of};
+ghost use Rattle.sh_scanner_base.specs.Growth.{operator_of, may_grow};
 ghost use Rattle.std.specs.Prelude.{◌≡◌, IfOk, Option, Some, None};
-ghost use Rattle.sh_scanner.specs.Growth.{grown, may_grow};
-ghost use Rattle.sh_scanner.specs.Heads.{grown_head};
-ghost use Rattle.sh_scanner.specs.Machine.{inner_byte, word_byte, operator_of, grow, between, after_word, plain_byte, escape, quoted_byte, act, form_byte, after_dollar, after_parenthesis, in_name, headed, in_head, in_single, in_backquotes, in_escape, at_parenthesis, then_act, grow_to, in_operator, in_comment, step_in, step, opens, over, top_of};
+ghost use Rattle.sh_scanner_base.specs.Growth.{grown};
+ghost use Rattle.sh_scanner_base.specs.Heads.{grown_head};
+ghost use Rattle.sh_scanner.specs.Machine.{inner_byte, word_byte, grow, between, after_word, plain_byte, escape, quoted_byte, act, form_byte, after_dollar, after_parenthesis, in_name, headed, in_head, in_single, in_backquotes, in_escape, at_parenthesis, then_act, grow_to, in_operator, in_comment, step_in, step, opens, over};
 ghost use Rattle.sh_scanner.specs.Steps.{stepped};
 
-use crate::byte;
-use crate::character::Character;
-use crate::context::Context;
-use crate::head::Head;
-use crate::mark::Mark;
-use crate::operator::Operator;
-use crate::pending::Pending;
 use crate::state::State;
+use sh_scanner_base::byte;
+use sh_scanner_base::character::Character;
+use sh_scanner_base::context::Context;
+use sh_scanner_base::head::Head;
+use sh_scanner_base::mark::Mark;
+use sh_scanner_base::operator::Operator;
+use sh_scanner_base::pending::Pending;
 use std::alloc::AllocError;
 
 /// What a character has done.
@@ -78,58 +80,6 @@ fn take_inner_byte(state: &mut State, b: u8) -> Result<Step, AllocError>
     }
     state.same(Mark::Byte(b))?;
     Ok(Step::On)
-}
-
-impl Operator {
-    /// The operator of one byte; the newline for each byte that is no operator.
-    fn of_byte(b: u8) -> Self
-        ensures { result ≡ operator_of b }
-    {
-        match b {
-            b'&' => Operator::And,
-            b';' => Operator::Semicolon,
-            b'|' => Operator::Pipe,
-            b'<' => Operator::Less,
-            b'>' => Operator::Great,
-            b'(' => Operator::LeftParenthesis,
-            b')' => Operator::RightParenthesis,
-            _ => Operator::Newline,
-        }
-    }
-
-    /// The operator with a byte more, where that is one.
-    fn grown(self, b: u8) -> Option<Self>
-        ensures { result ≡ grown self b }
-    {
-        match (self, b) {
-            (Operator::And, b'&') => Some(Operator::AndIf),
-            (Operator::Semicolon, b';') => Some(Operator::DoubleSemicolon),
-            (Operator::Pipe, b'|') => Some(Operator::OrIf),
-            (Operator::Less, b'<') => Some(Operator::DoubleLess),
-            (Operator::Less, b'&') => Some(Operator::LessAnd),
-            (Operator::Less, b'>') => Some(Operator::LessGreat),
-            (Operator::Great, b'>') => Some(Operator::DoubleGreat),
-            (Operator::Great, b'&') => Some(Operator::GreatAnd),
-            (Operator::Great, b'|') => Some(Operator::Clobber),
-            (Operator::DoubleLess, b'-') => Some(Operator::DoubleLessDash),
-            _ => None,
-        }
-    }
-
-    /// Whether some byte makes a longer operator of it.
-    fn may_grow(self) -> bool
-        ensures { result ≡ may_grow self }
-    {
-        match self {
-            Operator::And
-            | Operator::Semicolon
-            | Operator::Pipe
-            | Operator::Less
-            | Operator::Great
-            | Operator::DoubleLess => true,
-            _ => false,
-        }
-    }
 }
 
 /// An operator as far as it has come.

@@ -4,9 +4,9 @@ ghost use Rattle.sh_scanner.specs.Run.{scanned};
 ghost use Rattle.sh_scanner.specs.Found.{answer, Gives, nul_in};
 
 use crate::kind::kind;
-use crate::mark::Mark;
-use crate::operator::Operator;
 use crate::scanner::{Outcome, scan};
+use sh_scanner_base::mark::Mark;
+use sh_scanner_base::operator::Operator;
 use sh_syntax::sequence::Sequence;
 use sh_syntax::word::Span;
 use std::alloc::{AllocError, Global};

@@ -6,20 +6,20 @@ use Rattle.sh_grammar.specs.Computed.{is_whole}
 use Rattle.sh_token_base.specs.declared.class.TokenClass.{TokenClass}
 use Rattle.sh_token_base.specs.Classes.{class_of_text, is_name}
 use Rattle.sh_token_base.specs.Shell.{substitution}
-use Rattle.sh_scanner.specs.declared.character.Character.{Character}
-use Rattle.sh_scanner.specs.declared.character.Character.TheVariants.{Plain, Quoted, Raw}
-use Rattle.sh_scanner.specs.declared.operator.Operator.{Operator}
-use Rattle.sh_scanner.specs.declared.head.Head.{Head}
-use Rattle.sh_scanner.specs.declared.context.Context.{Context}
-use Rattle.sh_scanner.specs.declared.context.Context.TheVariants.{Top, Commands, Word, Quotes, Braces, Arithmetic, Parenthesis}
-use Rattle.sh_scanner.specs.declared.mark.Mark.{Mark}
-use Rattle.sh_scanner.specs.declared.mark.Mark.TheVariants.{Byte, Escaped, Backslash, SingleQuoted, DoubleQuotesOpen, DoubleQuotesClose, Dollar, Variable, Parameter, BraceOpen, BraceClose, ArithmeticOpen, ArithmeticClose, CommandsOpen, CommandsClose, Backquoted, WordOpen, WordClose, Blank, Comment}
-use Rattle.sh_scanner.specs.Taken.{followed_by}
-use Rattle.sh_scanner.specs.Bytes.{is_blank, is_end, is_digit, is_redirection, is_name_byte, is_short_parameter, is_form, is_quoted_escape, is_no_quote, is_no_newline}
-use Rattle.sh_scanner.specs.Operators.{operator_text}
-use Rattle.sh_scanner.specs.Growth.{grown, may_grow}
-use Rattle.sh_scanner.specs.Heads.{head_of, grows_head, reads_bare}
-use Rattle.sh_scanner.specs.Characters.{Ahead, Next, InputEnd, Unknown, first_of, next_is, plain, raw}
+use Rattle.sh_scanner_base.specs.declared.character.Character.{Character}
+use Rattle.sh_scanner_base.specs.declared.character.Character.TheVariants.{Plain, Quoted, Raw}
+use Rattle.sh_scanner_base.specs.declared.operator.Operator.{Operator}
+use Rattle.sh_scanner_base.specs.declared.head.Head.{Head}
+use Rattle.sh_scanner_base.specs.declared.context.Context.{Context}
+use Rattle.sh_scanner_base.specs.declared.context.Context.TheVariants.{Top, Commands, Word, Quotes, Braces, Arithmetic, Parenthesis}
+use Rattle.sh_scanner_base.specs.declared.mark.Mark.{Mark}
+use Rattle.sh_scanner_base.specs.declared.mark.Mark.TheVariants.{Byte, Escaped, Backslash, SingleQuoted, DoubleQuotesOpen, DoubleQuotesClose, Dollar, Variable, Parameter, BraceOpen, BraceClose, ArithmeticOpen, ArithmeticClose, CommandsOpen, CommandsClose, Backquoted, WordOpen, WordClose, Blank, Comment}
+use Rattle.sh_scanner_base.specs.Taken.{followed_by}
+use Rattle.sh_scanner_base.specs.Bytes.{is_blank, is_end, is_digit, is_redirection, is_name_byte, is_short_parameter, is_form, is_quoted_escape, is_no_quote, is_no_newline}
+use Rattle.sh_scanner_base.specs.Operators.{operator_text}
+use Rattle.sh_scanner_base.specs.Growth.{grown, may_grow}
+use Rattle.sh_scanner_base.specs.Heads.{head_of, grows_head, reads_bare}
+use Rattle.sh_scanner_base.specs.Characters.{Ahead, Next, InputEnd, Unknown, first_of, next_is, plain, raw}
 
 -- how each is written
 abbrev pub spell_mark : Mark → List Character
@@ -388,6 +388,11 @@ counts Parenthesis = false
 abbrev pub levels : List Context → ℕ
 levels [] = 0
 levels (x ∷ xs) = if counts x then suc (levels xs) else levels xs
+
+-- the innermost context
+abbrev pub top_of : List Context → Context
+top_of [] = Top
+top_of (x ∷ xs) = x
 
 -- what opens a level; backquotes do so for as long as they last
 abbrev pub opens_level : Mark → Bool

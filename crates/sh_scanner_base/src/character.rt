@@ -2,7 +2,7 @@
 
 /// What a text has once its joined lines are gone.
 #[derive(Clone, Copy)]
-pub(crate) enum Character {
+pub enum Character {
     /// A byte.
     Plain(u8),
     /// A byte behind a backslash.

@@ -1,7 +1,7 @@
 //! The open contexts of a text, one in the other.
+ghost use Rattle.sh_scanner_base.specs.Marks.{top_of};
 ghost use Rattle.std.specs.Prelude.{◌≡◌, ◌∷◌, [], OnOk, OnErr, IfOk, MatchOption};
-ghost use Rattle.sh_scanner.specs.Marks.{with_token, with_class, class_behind, word_over, class_of_word, is_text, between_tokens, is_word, is_quotes, is_braces, is_arithmetic, is_parenthesis, quotes, has_single_quotes, has_double_quotes, is_quoted, may_close};
-ghost use Rattle.sh_scanner.specs.Machine.{top_of, is_top, outer};
+ghost use Rattle.sh_scanner_base.specs.Marks.{with_token, with_class, class_behind, word_over, class_of_word, is_text, between_tokens, is_word, is_quotes, is_braces, is_arithmetic, is_parenthesis, quotes, has_single_quotes, has_double_quotes, is_quoted, may_close};
 
 use crate::context::Context;
 use crate::mark::{Mark, pieces_behind, word_class};
@@ -11,14 +11,14 @@ use std::marker::Model;
 
 /// Contexts, the last one innermost.
 #[derive(Drop)]
-pub(crate) struct Contexts {
+pub struct Contexts {
     alloc: Global,
     items: Vec<Context>,
 }
 
 impl Model for Contexts {
     ghost use Rattle.std.specs.Prelude.{List, reverse};
-    ghost use Rattle.sh_scanner.specs.declared.context.Context.{Context};
+    ghost use Rattle.sh_scanner_base.specs.declared.context.Context.{Context};
 
     ghost Value = { List Context };
 
@@ -27,7 +27,7 @@ impl Model for Contexts {
 
 impl Contexts {
     /// No context.
-    pub(crate) fn new(alloc: Global) -> Self
+    pub fn new(alloc: Global) -> Self
         ensures { result ≡ [] }
     {
         Contexts {
@@ -37,7 +37,7 @@ impl Contexts {
     }
 
     /// Goes into a context.
-    pub(crate) fn push(&mut self, context: Context) -> Result<(), AllocError>
+    pub fn push(&mut self, context: Context) -> Result<(), AllocError>
         ensures { OnOk result (self.new ≡ context ∷ self.old) }
     {
         self.items.push(context)?;
@@ -45,14 +45,14 @@ impl Contexts {
     }
 
     /// Leaves the innermost context.
-    pub(crate) fn pop(&mut self) -> Option<Context>
+    pub fn pop(&mut self) -> Option<Context>
         ensures { MatchOption result ((self.old ≡ []) × (self.new ≡ [])) (λ c. self.old ≡ c ∷ self.new) }
     {
         self.items.pop()
     }
 
     /// Between tokens.
-    pub(crate) fn is_between_tokens(&self) -> bool
+    pub fn is_between_tokens(&self) -> bool
         ensures { result ≡ between_tokens (top_of self.now) }
     {
         match self.items.last() {
@@ -62,7 +62,7 @@ impl Contexts {
     }
 
     /// In the text itself.
-    pub(crate) fn is_text(&self) -> bool
+    pub fn is_text(&self) -> bool
         ensures { result ≡ is_text (top_of self.now) }
     {
         match self.items.last() {
@@ -72,7 +72,7 @@ impl Contexts {
     }
 
     /// In a word of commands.
-    pub(crate) fn is_word(&self) -> bool
+    pub fn is_word(&self) -> bool
         ensures { result ≡ is_word (top_of self.now) }
     {
         match self.items.last() {
@@ -82,7 +82,7 @@ impl Contexts {
     }
 
     /// In double quotes.
-    pub(crate) fn is_quotes(&self) -> bool
+    pub fn is_quotes(&self) -> bool
         ensures { result ≡ is_quotes (top_of self.now) }
     {
         match self.items.last() {
@@ -92,7 +92,7 @@ impl Contexts {
     }
 
     /// In the word of a `${`.
-    pub(crate) fn is_braces(&self) -> bool
+    pub fn is_braces(&self) -> bool
         ensures { result ≡ is_braces (top_of self.now) }
     {
         match self.items.last() {
@@ -102,7 +102,7 @@ impl Contexts {
     }
 
     /// In arithmetic, no inner parenthesis being open.
-    pub(crate) fn is_arithmetic(&self) -> bool
+    pub fn is_arithmetic(&self) -> bool
         ensures { result ≡ is_arithmetic (top_of self.now) }
     {
         match self.items.last() {
@@ -112,7 +112,7 @@ impl Contexts {
     }
 
     /// In inner parentheses of arithmetic.
-    pub(crate) fn is_parenthesis(&self) -> bool
+    pub fn is_parenthesis(&self) -> bool
         ensures { result ≡ is_parenthesis (top_of self.now) }
     {
         match self.items.last() {
@@ -122,7 +122,7 @@ impl Contexts {
     }
 
     /// Whether `'` quotes here.
-    pub(crate) fn has_single_quotes(&self) -> bool
+    pub fn has_single_quotes(&self) -> bool
         ensures { result ≡ has_single_quotes (top_of self.now) }
     {
         match self.items.last() {
@@ -132,7 +132,7 @@ impl Contexts {
     }
 
     /// Whether `"` opens double quotes here.
-    pub(crate) fn has_double_quotes(&self) -> bool
+    pub fn has_double_quotes(&self) -> bool
         ensures { result ≡ has_double_quotes (top_of self.now) }
     {
         match self.items.last() {
@@ -142,7 +142,7 @@ impl Contexts {
     }
 
     /// Whether what a `${` has here is read as between double quotes.
-    pub(crate) fn is_quoted(&self) -> bool
+    pub fn is_quoted(&self) -> bool
         ensures { result ≡ is_quoted (top_of self.now) }
     {
         match self.items.last() {
@@ -152,7 +152,7 @@ impl Contexts {
     }
 
     /// Whether a command substitution may end here.
-    pub(crate) fn may_close(&self) -> bool
+    pub fn may_close(&self) -> bool
         ensures { result ≡ may_close (top_of self.now) }
     {
         match self.items.last() {
@@ -162,7 +162,7 @@ impl Contexts {
     }
 
     /// Whether a backslash quotes a byte here.
-    pub(crate) fn quotes(&self, b: u8) -> bool
+    pub fn quotes(&self, b: u8) -> bool
         ensures { result ≡ quotes (top_of self.now) b }
     {
         match self.items.last() {
@@ -172,7 +172,7 @@ impl Contexts {
     }
 
     /// A token more, where the innermost context has tokens.
-    pub(crate) fn take(&mut self, class: TokenClass) -> Result<(), AllocError>
+    pub fn take(&mut self, class: TokenClass) -> Result<(), AllocError>
         ensures { OnOk result (self.new ≡ with_token class self.old) }
     {
         let Some(mut context) = self.items.pop() else {
@@ -184,11 +184,7 @@ impl Contexts {
     }
 
     /// A word is over, in a text of these pieces; `redirection`: `<` or `>` follows it.
-    pub(crate) fn close_word(
-        &mut self,
-        redirection: bool,
-        pieces: &[Mark],
-    ) -> Result<(), AllocError>
+    pub fn close_word(&mut self, redirection: bool, pieces: &[Mark]) -> Result<(), AllocError>
         ensures { OnOk result (self.new ≡ word_over redirection pieces.now self.old) }
     {
         let Some(context) = self.pop() else {

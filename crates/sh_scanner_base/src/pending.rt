@@ -1,14 +1,13 @@
 //! What a scanner has begun and can't tell yet.
+ghost use Rattle.sh_scanner_base.specs.Pendings.{is_raw, is_gap_pending};
 ghost use Rattle.std.specs.Prelude.{◌≡◌};
-ghost use Rattle.sh_scanner.specs.Machine.{is_raw};
-ghost use Rattle.sh_scanner.specs.Run.{is_gap_pending};
 
 use crate::head::Head;
 use crate::operator::Operator;
 
 /// A piece that has begun; its further bytes are kept beside it.
 #[derive(Clone, Copy, Debug, PartialEq, Eq)]
-pub(crate) enum Pending {
+pub enum Pending {
     Nothing,
     /// Behind a `$`.
     Dollar,
@@ -33,7 +32,7 @@ pub(crate) enum Pending {
 
 impl Pending {
     /// Whether a backslash is a byte like any other here.
-    pub(crate) fn is_raw(self) -> bool
+    pub fn is_raw(self) -> bool
         ensures { result ≡ is_raw self }
     {
         match self {
@@ -44,7 +43,7 @@ impl Pending {
     }
 
     /// Whether it may stand before a token.
-    pub(crate) fn is_gap(self) -> bool
+    pub fn is_gap(self) -> bool
         ensures { result ≡ is_gap_pending self }
     {
         match self {

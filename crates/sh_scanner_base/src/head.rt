@@ -1,6 +1,6 @@
 //! What stands between `${` and the word of a parameter expansion (XCU 2.6.2).
 ghost use Rattle.std.specs.Prelude.{◌≡◌};
-ghost use Rattle.sh_scanner.specs.Heads.{grown_head, grown_start, grown_hash, behind_parameter, reads_bare};
+ghost use Rattle.sh_scanner_base.specs.Heads.{grown_head, grown_start, grown_hash, behind_parameter, reads_bare};
 
 use crate::byte;
 

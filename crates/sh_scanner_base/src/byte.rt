@@ -1,16 +1,16 @@
 //! What single bytes are (XCU 2.2, 2.3, 2.5, 2.6).
 ghost use Rattle.std.specs.Prelude.{◌≡◌, true};
-ghost use Rattle.sh_scanner.specs.Bytes.{is_blank, is_operator_byte, is_end, is_redirection, is_digit, is_name_start, is_name_byte, is_special, is_short_parameter, is_word_operator, is_quoted_escape};
+ghost use Rattle.sh_scanner_base.specs.Bytes.{is_blank, is_operator_byte, is_end, is_redirection, is_digit, is_name_start, is_name_byte, is_special, is_short_parameter, is_word_operator, is_quoted_escape};
 
 /// Space or tab.
-pub(crate) fn blank(b: u8) -> bool
+pub fn blank(b: u8) -> bool
     ensures { result ≡ is_blank b }
 {
     b == b' ' || b == b'\t'
 }
 
 /// The first byte of an operator.
-pub(crate) fn begins_operator(b: u8) -> bool
+pub fn begins_operator(b: u8) -> bool
     ensures { result ≡ is_operator_byte b }
 {
     b == b'&'
@@ -24,61 +24,61 @@ pub(crate) fn begins_operator(b: u8) -> bool
 }
 
 /// What ends a word where it isn't quoted.
-pub(crate) fn ends_word(b: u8) -> bool
+pub fn ends_word(b: u8) -> bool
     ensures { result ≡ is_end b }
 {
     blank(b) || begins_operator(b)
 }
 
 /// `<` or `>`.
-pub(crate) fn begins_redirection(b: u8) -> bool
+pub fn begins_redirection(b: u8) -> bool
     ensures { result ≡ is_redirection b }
 {
     b == b'<' || b == b'>'
 }
 
-pub(crate) fn is_digit(b: u8) -> bool
+pub fn is_digit(b: u8) -> bool
     ensures { result ≡ is_digit b }
 {
     b.is_ascii_digit()
 }
 
 /// A letter or an underscore.
-pub(crate) fn begins_name(b: u8) -> bool
+pub fn begins_name(b: u8) -> bool
     ensures { result ≡ is_name_start b }
 {
     b.is_ascii_lowercase() || b.is_ascii_uppercase() || b == b'_'
 }
 
-pub(crate) fn continues_name(b: u8) -> bool
+pub fn continues_name(b: u8) -> bool
     ensures { result ≡ is_name_byte b }
 {
     begins_name(b) || is_digit(b)
 }
 
 /// A special parameter but for `#`.
-pub(crate) fn is_special(b: u8) -> bool
+pub fn is_special(b: u8) -> bool
     ensures { result ≡ is_special b }
 {
     b == b'@' || b == b'*' || b == b'?' || b == b'-' || b == b'$' || b == b'!'
 }
 
 /// What a `$` names in one byte.
-pub(crate) fn is_short_parameter(b: u8) -> bool
+pub fn is_short_parameter(b: u8) -> bool
     ensures { result ≡ is_short_parameter b }
 {
     is_special(b) || b == b'#' || is_digit(b)
 }
 
 /// An operator of a parameter expansion that may stand behind a colon.
-pub(crate) fn is_word_operator(b: u8) -> bool
+pub fn is_word_operator(b: u8) -> bool
     ensures { result ≡ is_word_operator b }
 {
     b == b'-' || b == b'=' || b == b'?' || b == b'+'
 }
 
 /// What a backslash quotes in double quotes and in arithmetic.
-pub(crate) fn is_quoted_escape(b: u8) -> bool
+pub fn is_quoted_escape(b: u8) -> bool
     ensures { result ≡ is_quoted_escape b }
 {
     b == b'$' || b == b'`' || b == b'\\'

@@ -1,7 +1,7 @@
 -- The operators and their texts (XCU 2.10.2).
 use Rattle.std.specs.Prelude.{ℕ, List, [], ◌∷◌}
-use Rattle.sh_scanner.specs.declared.operator.Operator.{Operator}
-use Rattle.sh_scanner.specs.declared.operator.Operator.TheVariants.{And, Semicolon, Pipe, Less, Great, LeftParenthesis, RightParenthesis, Newline, AndIf, OrIf, DoubleSemicolon, DoubleLess, DoubleGreat, LessAnd, GreatAnd, LessGreat, DoubleLessDash, Clobber}
+use Rattle.sh_scanner_base.specs.declared.operator.Operator.{Operator}
+use Rattle.sh_scanner_base.specs.declared.operator.Operator.TheVariants.{And, Semicolon, Pipe, Less, Great, LeftParenthesis, RightParenthesis, Newline, AndIf, OrIf, DoubleSemicolon, DoubleLess, DoubleGreat, LessAnd, GreatAnd, LessGreat, DoubleLessDash, Clobber}
 
 -- what an operator is written as
 abbrev pub operator_text : Operator → List ℕ

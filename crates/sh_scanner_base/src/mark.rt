@@ -1,8 +1,8 @@
 //! What a text is made of, piece by piece.
 ghost use Rattle.std.specs.Prelude.{◌≡◌, IfOk, ℕ, drop, suc, ◌++◌, nat_eq, Option, IfSome, ◌<◌, length};
 ghost use Rattle.std.specs.List.{list_all};
-ghost use Rattle.sh_scanner.specs.Bytes.{is_digit};
-ghost use Rattle.sh_scanner.specs.Marks.{literal_front, is_byte, is_name_before, assigns, class_of_literal, class_of_word, class_of_operator, equals_place};
+ghost use Rattle.sh_scanner_base.specs.Bytes.{is_digit};
+ghost use Rattle.sh_scanner_base.specs.Marks.{literal_front, is_byte, is_name_before, assigns, class_of_literal, class_of_word, class_of_operator, equals_place};
 
 use crate::byte;
 use crate::operator::Operator;
@@ -54,7 +54,7 @@ pub enum Mark {
 }
 
 /// The pieces of a word that began behind so many.
-pub(crate) fn pieces_behind(pieces: &[Mark], begin: usize) -> &[Mark]
+pub fn pieces_behind(pieces: &[Mark], begin: usize) -> &[Mark]
     ensures { result.now ≡ drop (suc begin) pieces.now }
 {
     if begin < pieces.len() {
@@ -131,7 +131,7 @@ fn literal_class(redirection: bool, bytes: &[u8]) -> TokenClass
 }
 
 /// The class of a word by its pieces; `redirection`: `<` or `>` follows it.
-pub(crate) fn word_class(
+pub fn word_class(
     alloc: Global,
     redirection: bool,
     pieces: &[Mark],
@@ -150,7 +150,7 @@ pub(crate) fn word_class(
 
 impl Operator {
     /// The class of the operator.
-    pub(crate) fn class(self) -> TokenClass
+    pub fn class(self) -> TokenClass
         ensures { result ≡ class_of_operator self }
     {
         match self {

@@ -2,8 +2,8 @@
 ghost use Rattle.std.specs.Prelude.{◌≡◌, ◌++◌, ◌∷◌, [], IfOk, OnOk, OnErr, if◌then◌else◌};
 ghost use Rattle.sh_grammar.specs.Computed.{is_whole, is_front};
 ghost use Rattle.sh_token_base.specs.Shell.{substitution};
-ghost use Rattle.sh_scanner.specs.Taken.{followed_by, token_of};
-ghost use Rattle.sh_scanner.specs.Marks.{is_word, is_quotes, is_braces, is_arithmetic, quotes, has_single_quotes, has_double_quotes, is_quoted, may_close, between_tokens, is_parenthesis, is_text, counts, with_class};
+ghost use Rattle.sh_scanner_base.specs.Taken.{followed_by, token_of};
+ghost use Rattle.sh_scanner_base.specs.Marks.{is_word, is_quotes, is_braces, is_arithmetic, quotes, has_single_quotes, has_double_quotes, is_quoted, may_close, between_tokens, is_parenthesis, is_text, counts, with_class};
 
 use crate::byte;
 use sh_grammar::{Recognizer, Token};
@@ -14,7 +14,7 @@ use std::marker::Model;
 
 /// The tokens of a command substitution so far.
 #[derive(Drop)]
-pub(crate) struct Tokens {
+pub struct Tokens {
     recognizer: Recognizer<'static>,
     /// The first token that no compound list goes on with.
     refused: Option<Token>,
@@ -25,7 +25,7 @@ impl Model for Tokens {
     ghost use Rattle.sh_grammar.specs.declared.Token.{Token};
     ghost use Rattle.sh_grammar.specs.Computed.{is_front};
     ghost use Rattle.sh_token_base.specs.Shell.{substitution};
-    ghost use Rattle.sh_scanner.specs.Taken.{Refuses};
+    ghost use Rattle.sh_scanner_base.specs.Taken.{Refuses};
 
     ghost Value = { List Token };
 
@@ -36,7 +36,7 @@ impl Model for Tokens {
 
 impl Tokens {
     /// No tokens yet.
-    pub(crate) fn new(alloc: Global) -> Result<Self, AllocError>
+    pub fn new(alloc: Global) -> Result<Self, AllocError>
         ensures { IfOk result (λ t. t ≡ []) }
     {
         let recognizer = Recognizer::new(alloc, substituted())?;
@@ -47,7 +47,7 @@ impl Tokens {
     }
 
     /// A token more.
-    pub(crate) fn take(&mut self, class: TokenClass) -> Result<(), AllocError>
+    pub fn take(&mut self, class: TokenClass) -> Result<(), AllocError>
         ensures { OnOk result (self.new ≡ followed_by class self.old) }
     {
         if self.refused.is_some() {
@@ -64,7 +64,7 @@ impl Tokens {
     }
 
     /// Whether they are a compound list, or newlines alone.
-    pub(crate) fn may_end(&self) -> bool
+    pub fn may_end(&self) -> bool
         ensures { result ≡ is_whole substitution self.now }
     {
         if self.refused.is_some() {
@@ -96,7 +96,7 @@ fn accept(recognizer: &mut Recognizer<'static>, token: Token) -> Result<bool, Al
 
 /// What the next piece stands in.
 #[derive(Drop)]
-pub(crate) enum Context {
+pub enum Context {
     /// The text itself, between tokens.
     Top,
     /// A command substitution, between its tokens.
@@ -115,7 +115,7 @@ pub(crate) enum Context {
 
 impl Context {
     /// Between tokens.
-    pub(crate) fn is_between_tokens(&self) -> bool
+    pub fn is_between_tokens(&self) -> bool
         ensures { result ≡ between_tokens self.now }
     {
         match self {
@@ -124,7 +124,7 @@ impl Context {
         }
     }
 
-    pub(crate) fn is_word(&self) -> bool
+    pub fn is_word(&self) -> bool
         ensures { result ≡ is_word self.now }
     {
         match self {
@@ -133,7 +133,7 @@ impl Context {
         }
     }
 
-    pub(crate) fn is_quotes(&self) -> bool
+    pub fn is_quotes(&self) -> bool
         ensures { result ≡ is_quotes self.now }
     {
         match self {
@@ -142,7 +142,7 @@ impl Context {
         }
     }
 
-    pub(crate) fn is_braces(&self) -> bool
+    pub fn is_braces(&self) -> bool
         ensures { result ≡ is_braces self.now }
     {
         match self {
@@ -152,7 +152,7 @@ impl Context {
     }
 
     /// Arithmetic, no inner parenthesis being open.
-    pub(crate) fn is_arithmetic(&self) -> bool
+    pub fn is_arithmetic(&self) -> bool
         ensures { result ≡ is_arithmetic self.now }
     {
         match self {
@@ -162,7 +162,7 @@ impl Context {
     }
 
     /// Inner parentheses of arithmetic.
-    pub(crate) fn is_parenthesis(&self) -> bool
+    pub fn is_parenthesis(&self) -> bool
         ensures { result ≡ is_parenthesis self.now }
     {
         match self {
@@ -172,7 +172,7 @@ impl Context {
     }
 
     /// Whether `'` quotes here.
-    pub(crate) fn has_single_quotes(&self) -> bool
+    pub fn has_single_quotes(&self) -> bool
         ensures { result ≡ has_single_quotes self.now }
     {
         match self {
@@ -183,7 +183,7 @@ impl Context {
     }
 
     /// Whether `"` opens double quotes here.
-    pub(crate) fn has_double_quotes(&self) -> bool
+    pub fn has_double_quotes(&self) -> bool
         ensures { result ≡ has_double_quotes self.now }
     {
         match self {
@@ -193,7 +193,7 @@ impl Context {
     }
 
     /// Whether what a `${` has here is read as between double quotes.
-    pub(crate) fn is_quoted(&self) -> bool
+    pub fn is_quoted(&self) -> bool
         ensures { result ≡ is_quoted self.now }
     {
         match self {
@@ -204,7 +204,7 @@ impl Context {
     }
 
     /// Whether a backslash quotes a byte here.
-    pub(crate) fn quotes(&self, b: u8) -> bool
+    pub fn quotes(&self, b: u8) -> bool
         ensures { result ≡ quotes self.now b }
     {
         match self {
@@ -218,7 +218,7 @@ impl Context {
     }
 
     /// Whether a command substitution may end here.
-    pub(crate) fn may_close(&self) -> bool
+    pub fn may_close(&self) -> bool
         ensures { result ≡ may_close self.now }
     {
         match self {
@@ -228,7 +228,7 @@ impl Context {
     }
 
     /// The text itself.
-    pub(crate) fn is_text(&self) -> bool
+    pub fn is_text(&self) -> bool
         ensures { result ≡ is_text self.now }
     {
         match self {
@@ -238,7 +238,7 @@ impl Context {
     }
 
     /// Whether it is a level.
-    pub(crate) fn counts(&self) -> bool
+    pub fn counts(&self) -> bool
         ensures { result ≡ counts self.now }
     {
         match self {
@@ -248,7 +248,7 @@ impl Context {
     }
 
     /// A token more, where it has tokens.
-    pub(crate) fn take(&mut self, class: TokenClass) -> Result<(), AllocError>
+    pub fn take(&mut self, class: TokenClass) -> Result<(), AllocError>
         ensures { OnOk result (self.new ≡ with_class class self.old) }
     {
         match self {

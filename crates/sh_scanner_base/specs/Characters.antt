@@ -1,7 +1,7 @@
 -- Characters: what a text has once its joined lines are gone (XCU 2.2.1), and how they are written.
 use Rattle.std.specs.Prelude.{◌≡◌, ◌⊎◌, ℕ, zero, suc, Bool, true, false, nat_eq, List, [], ◌∷◌, ◌++◌, if◌then◌else◌}
-use Rattle.sh_scanner.specs.declared.character.Character.{Character}
-use Rattle.sh_scanner.specs.declared.character.Character.TheVariants.{Plain, Quoted, Raw}
+use Rattle.sh_scanner_base.specs.declared.character.Character.{Character}
+use Rattle.sh_scanner_base.specs.declared.character.Character.TheVariants.{Plain, Quoted, Raw}
 
 -- n joined lines: a backslash and a newline each
 abbrev pub joins : ℕ → List ℕ

@@ -1,7 +1,7 @@
 -- Operators byte by byte.
 use Rattle.std.specs.Prelude.{ℕ, Bool, true, false, nat_eq, Option, Some, None, if◌then◌else◌}
-use Rattle.sh_scanner.specs.declared.operator.Operator.{Operator}
-use Rattle.sh_scanner.specs.declared.operator.Operator.TheVariants.{And, Semicolon, Pipe, Less, Great, LeftParenthesis, RightParenthesis, Newline, AndIf, OrIf, DoubleSemicolon, DoubleLess, DoubleGreat, LessAnd, GreatAnd, LessGreat, DoubleLessDash, Clobber}
+use Rattle.sh_scanner_base.specs.declared.operator.Operator.{Operator}
+use Rattle.sh_scanner_base.specs.declared.operator.Operator.TheVariants.{And, Semicolon, Pipe, Less, Great, LeftParenthesis, RightParenthesis, Newline, AndIf, OrIf, DoubleSemicolon, DoubleLess, DoubleGreat, LessAnd, GreatAnd, LessGreat, DoubleLessDash, Clobber}
 
 abbrev pub grown_less : ℕ → Option Operator
 grown_less b =
@@ -58,3 +58,15 @@ may_grow GreatAnd = false
 may_grow LessGreat = false
 may_grow DoubleLessDash = false
 may_grow Clobber = false
+
+-- the operator of one byte; the newline for each byte that is none
+abbrev pub operator_of : ℕ → Operator
+operator_of b =
+    if nat_eq b 38 then Operator.And
+    else if nat_eq b 59 then Operator.Semicolon
+    else if nat_eq b 124 then Operator.Pipe
+    else if nat_eq b 60 then Operator.Less
+    else if nat_eq b 62 then Operator.Great
+    else if nat_eq b 40 then Operator.LeftParenthesis
+    else if nat_eq b 41 then Operator.RightParenthesis
+    else Operator.Newline

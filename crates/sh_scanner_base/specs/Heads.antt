@@ -1,8 +1,8 @@
 -- What stands between `${` and the word of a parameter expansion (XCU 2.6.2), byte by byte: `#`, the parameter, the operator.
 use Rattle.std.specs.Prelude.{ℕ, Bool, true, false, nat_eq, List, [], ◌∷◌, Option, Some, None, if◌then◌else◌}
-use Rattle.sh_scanner.specs.declared.head.Head.{Head}
-use Rattle.sh_scanner.specs.declared.head.Head.TheVariants.{Start, Hash, Name, Number, Special, LengthName, LengthNumber, Length, HashPound, Colon, Word, Percent, DoublePercent, Pound, DoublePound}
-use Rattle.sh_scanner.specs.Bytes.{is_digit, is_name_start, is_name_byte, is_special, is_word_operator}
+use Rattle.sh_scanner_base.specs.declared.head.Head.{Head}
+use Rattle.sh_scanner_base.specs.declared.head.Head.TheVariants.{Start, Hash, Name, Number, Special, LengthName, LengthNumber, Length, HashPound, Colon, Word, Percent, DoublePercent, Pound, DoublePound}
+use Rattle.sh_scanner_base.specs.Bytes.{is_digit, is_name_start, is_name_byte, is_special, is_word_operator}
 
 abbrev pub behind_parameter : ℕ → Option Head
 behind_parameter b =

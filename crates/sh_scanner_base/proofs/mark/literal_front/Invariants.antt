@@ -1,6 +1,6 @@
 use Rattle.std.proofs.Common.{◌≡◌, ◌++◌, length}
-use Rattle.sh_scanner.specs.Marks.{literal_front}
-use Rattle.sh_scanner.proofs.mark.literal_front.Given as goal
+use Rattle.sh_scanner_base.specs.Marks.{literal_front}
+use Rattle.sh_scanner_base.proofs.mark.literal_front.Given as goal
 
 abbrev pub invariant-loop-first : goal.invariant-loop-first
 invariant-loop-first l = l.bytes.items ++ literal_front l.rest ≡ literal_front l.pieces
