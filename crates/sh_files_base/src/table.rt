@@ -25,18 +25,21 @@ impl Model for Entry {
 }
 
 impl Entry {
+    /// An entry of this path, for the node of this number.
     pub fn new(path: Vec<u8>, node: usize) -> Entry
         ensures { result ≡ (path.items, node) }
     {
         Entry { path, node }
     }
 
+    /// Its path, which begins with a slash.
     pub fn path(&self) -> &[u8]
         ensures { result.now ≡ self.now.0 }
     {
         self.path.as_slice()
     }
 
+    /// The number of its node.
     pub fn node(&self) -> usize
         ensures { result ≡ self.now.1 }
     {

@@ -1,13 +1,11 @@
 -- What the scanner finds in a text: its first token, or why there is none.
-use Rattle.std.specs.Prelude.{◌≡◌, ℕ, suc, ◌+◌, ◌-◌, Bool, not, nat_eq, List, [], ◌∷◌, length, take, drop, reverse, position, Option, Some, None, Result, Ok, Err, if◌then◌else◌}
-use Rattle.sh_token_base.specs.declared.class.TokenClass.{TokenClass}
-use Rattle.sh_token_base.specs.Classes.{class_number}
+use Rattle.std.specs.Prelude.{ℕ, suc, ◌-◌, Bool, not, List, [], ◌∷◌, length, take, drop, reverse, position, Option, Some, None}
 use Rattle.sh_scanner_base.specs.declared.mark.Mark.{Mark}
 use Rattle.sh_scanner.specs.declared.token.TokenKind.{TokenKind}
-use Rattle.sh_scanner.specs.declared.token.Token.{Token}
-use Rattle.sh_scanner.specs.declared.token.TokenFault.{TokenFault}
-use Rattle.sh_scanner_base.specs.Marks.{is_gap, class_of_word}
-use Rattle.sh_scanner.specs.Run.{Scanned, Ended, Deep, Open}
+use Rattle.sh_scanner_base.specs.Marks.{is_gap}
+use Rattle.sh_scanner.specs.Tokens.{word_kind}
+use Rattle.sh_scanner.specs.FirstToken.{FirstToken, Found, Unfinished, NulAt, DeepAt, nul_in}
+use Rattle.sh_scanner.specs.Run.{Scanned, Ended, Deep, Open, scanned}
 
 abbrev pub is_of_token : Mark → Bool
 is_of_token m = not (is_gap m)
@@ -19,12 +17,6 @@ place_or n (Some place) = place
 -- how many pieces lie before the token
 abbrev pub gap_length : List Mark → ℕ
 gap_length ms = place_or (length ms) (position is_of_token ms)
-
-abbrev pub is_number : Bool → List Mark → Bool
-is_number r ms = nat_eq (class_number (class_of_word r ms)) (class_number TokenClass.Number)
-
-abbrev pub word_kind : Bool → List Mark → TokenKind
-word_kind r ms = if is_number r ms then TokenKind.Number else TokenKind.Word ms
 
 -- the kind of the token whose last piece is this, behind these
 abbrev pub kind_by : Mark → List Mark → TokenKind
@@ -58,27 +50,17 @@ kind_from (m ∷ before) = kind_by m (reverse before)
 abbrev pub kind_of : List Mark → TokenKind
 kind_of ms = kind_from (reverse ms)
 
--- the place of the first NUL
-abbrev pub nul_in : List ℕ → Option ℕ
-nul_in bytes = position (λ b. nat_eq b 0) bytes
+-- the answer in a text with these bytes
+abbrev pub unless_nul : Option ℕ → FirstToken → FirstToken
+unless_nul None answer = answer
+unless_nul (Some place) answer = NulAt place
 
-abbrev pub unless_nul : ℕ → Option ℕ → Result Token TokenFault → Result Token TokenFault
-unless_nul at None answer = answer
-unless_nul at (Some place) answer = Err (TokenFault.NulByte (at + place))
+abbrev pub without_nul : List ℕ → Scanned → FirstToken
+without_nul bytes (Ended s front rest) =
+    unless_nul (nul_in (take (length bytes - length rest) bytes)) (Found (kind_of s.done) (length bytes - length front) (length bytes - length rest))
+without_nul bytes (Deep rest) = unless_nul (nul_in (take (length bytes - length rest) bytes)) (DeepAt (length bytes - length rest))
+without_nul bytes Open = unless_nul (nul_in bytes) Unfinished
 
--- the answer in a text in which the bytes begin at `at`
-abbrev pub answer : ℕ → List ℕ → Scanned → Result Token TokenFault
-answer at bytes (Ended s front rest) =
-    unless_nul at (nul_in (take (length bytes - length rest) bytes))
-    (Ok (record { kind = kind_of s.done; span = record { start = at + (length bytes - length front); «end» = at + (length bytes - length rest) } }))
-answer at bytes (Deep rest) =
-    unless_nul at (nul_in (take (length bytes - length rest) bytes)) (Err (TokenFault.TooDeep (at + (length bytes - length rest))))
-answer at bytes Open = unless_nul at (nul_in bytes) (Err TokenFault.Unfinished)
-
--- the answer is given, unless memory ran out
-abbrev pub Gives : Result Token TokenFault → Result Token TokenFault → Type 0
-Gives (Ok token) found = Ok token ≡ found
-Gives (Err TokenFault.NoMemory) found = Unit {0}
-Gives (Err TokenFault.Unfinished) found = Err TokenFault.Unfinished ≡ found
-Gives (Err (TokenFault.NulByte at)) found = Err (TokenFault.NulByte at) ≡ found
-Gives (Err (TokenFault.TooDeep at)) found = Err (TokenFault.TooDeep at) ≡ found
+-- the first token of these bytes
+unfoldable pub first_token : Bool → List ℕ → FirstToken
+first_token e bytes = without_nul bytes (scanned e bytes)

@@ -1,4 +1,6 @@
+pub mod Tokens
+pub mod FirstToken
 pub mod Machine
 pub mod Run
-pub mod Steps
 pub mod Found
+pub mod Steps

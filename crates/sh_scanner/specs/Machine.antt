@@ -28,8 +28,9 @@ pub data Stepped : Type 0 where
   -- a token of the text itself ended before the character, or ends with it
   Before : (s : State) → Stepped
   After : (s : State) → Stepped
-  -- level 501 would open
+  -- level 501 would open with the character, or with the `$` before it
   TooDeep : (s : State) → Stepped
+  DollarTooDeep : (s : State) → Stepped
 
 -- a piece is over that leaves the contexts as they were, that goes into a context, or that leaves one
 abbrev pub same : Mark → State → State
@@ -72,6 +73,14 @@ opens p s =
     if nat_lt s.levels 500
     then On (record { contexts = s.contexts; done = s.done; pending = p; bytes = []; levels = suc s.levels })
     else TooDeep s
+
+-- where the piece began with a `$` that came before
+abbrev pub at_dollar : Stepped → Stepped
+at_dollar (On s) = On s
+at_dollar (Before s) = Before s
+at_dollar (After s) = After s
+at_dollar (TooDeep s) = DollarTooDeep s
+at_dollar (DollarTooDeep s) = DollarTooDeep s
 
 abbrev pub is_top : List Context → Bool
 is_top xs = is_text (top_of xs)
@@ -139,8 +148,8 @@ abbrev pub form_byte : State → ℕ → Stepped
 form_byte s b =
     if is_name_start b then On (keep Pending.Name b (pend Pending.Name s))
     else if is_short_parameter b then On (same (Parameter b) s)
-    else if nat_eq b 123 then opens (Pending.Head Head.Start) s
-    else if nat_eq b 40 then opens Pending.DollarParenthesis s
+    else if nat_eq b 123 then at_dollar (opens (Pending.Head Head.Start) s)
+    else if nat_eq b 40 then at_dollar (opens Pending.DollarParenthesis s)
     else plain_byte (same Dollar s) b
 
 unfoldable pub after_dollar : State → Character → Stepped

@@ -6,7 +6,7 @@ use Rattle.sh_scanner_base.specs.declared.mark.Mark.TheVariants.{Variable, Dolla
 use Rattle.sh_scanner_base.specs.declared.pending.Pending.{Pending}
 use Rattle.sh_scanner_base.specs.Marks.{is_text, is_word, top_of}
 use Rattle.sh_scanner_base.specs.Pendings.{is_raw, is_gap_pending}
-use Rattle.sh_scanner.specs.Machine.{State, Stepped, On, Before, After, TooDeep, step, is_top, same, word_out, operator_out}
+use Rattle.sh_scanner.specs.Machine.{State, Stepped, On, Before, After, TooDeep, DollarTooDeep, step, is_top, same, word_out, operator_out}
 
 -- a scanner between two bytes; held: a backslash came, and not yet the byte behind it
 pub record Scan : Type 0 where
@@ -34,20 +34,6 @@ pub data Scanned : Type 0 where
 abbrev pub is_gap_state : State → Bool
 is_gap_state s = is_gap_pending s.pending && is_text (top_of s.contexts)
 
--- where level 501 opens: at the `$` before the character, or at the character
-abbrev pub deep_at : Pending → List ℕ → List ℕ → List ℕ
-deep_at Pending.Dollar previous begin = previous
-deep_at Pending.Nothing previous begin = begin
-deep_at Pending.Comment previous begin = begin
-deep_at Pending.DollarParenthesis previous begin = begin
-deep_at Pending.Name previous begin = begin
-deep_at (Pending.Head h) previous begin = begin
-deep_at Pending.Single previous begin = begin
-deep_at Pending.Backquotes previous begin = begin
-deep_at Pending.BackquotesEscape previous begin = begin
-deep_at Pending.Parenthesis previous begin = begin
-deep_at (Pending.Operator o) previous begin = begin
-
 -- the text's parts that are kept: from the token's first byte on, from the first byte of the last character on, behind that
 -- character, and from the next character's first byte on
 pub record Places : Type 0 where
@@ -66,7 +52,7 @@ gap_ended s = if is_top s.contexts then Some s else word_ended s
 -- the token that the end of the input ends
 abbrev pub ended_in : Pending → State → Option State
 ended_in Pending.Nothing s = gap_ended s
-ended_in Pending.Comment s = Some (same (Comment s.bytes) s)
+ended_in Pending.Comment s = gap_ended (same (Comment s.bytes) s)
 ended_in Pending.Dollar s = word_ended (same Dollar s)
 ended_in Pending.Name s = word_ended (same (Variable s.bytes) s)
 ended_in (Pending.Operator o) s = if is_top s.contexts then Some (operator_out o s) else None
@@ -81,23 +67,13 @@ abbrev pub last_token : Option State → List ℕ → List ℕ → Scanned
 last_token None front rest = Open
 last_token (Some s) front rest = Ended s front rest
 
--- the end of the input, where a backslash that waits stands for itself
-abbrev pub last_step : Stepped → Places → Scanned
-last_step (On s) p = last_token (ended_in s.pending s) p.front []
-last_step (Before s) p = Ended s p.front p.behind
-last_step (After s) p = Ended s p.front []
-last_step (TooDeep s) p = Open
-
+-- where no token has begun, it begins with the next character
 abbrev pub fronted : Bool → Places → Places
-fronted true p = record { front = p.next; previous = p.previous; behind = p.behind; next = p.next }
+fronted true p = record { front = p.next; previous = p.previous; behind = p.next; next = p.next }
 fronted false p = p
 
 abbrev pub with_front : State → Places → Places
 with_front s p = fronted (is_gap_state s) p
-
-abbrev pub last : Bool → State → Places → Scanned
-last false s p = last_token (ended_in s.pending s) p.front p.behind
-last true s p = last_step (step s (Plain 92)) p
 
 -- behind a character that was taken, where the text is this
 abbrev pub moved : List ℕ → Places → Places
@@ -108,12 +84,28 @@ abbrev pub waited : Bool → List ℕ → Places → Places
 waited true after p = p
 waited false after p = record { front = p.front; previous = p.previous; behind = p.behind; next = after }
 
-abbrev pub on : Fed → (Bool → State → Scanned) → (State → Scanned) → (State → Scanned) → (State → Scanned) → Scanned → Scanned
-on (Waits h s) w t b a d = w h s
-on (Takes (On s)) w t b a d = t s
-on (Takes (Before s)) w t b a d = b s
-on (Takes (After s)) w t b a d = a s
-on (Takes (TooDeep s)) w t b a d = d
+abbrev pub last_places : State → Places → Scanned
+last_places s p = last_token (ended_in s.pending s) p.front p.behind
+
+-- the end of the input, where a backslash that waits stands for itself
+abbrev pub last_step : Stepped → Places → Scanned
+last_step (On s) p = last_places s (with_front s (moved [] p))
+last_step (Before s) p = Ended s p.front p.behind
+last_step (After s) p = Ended s p.front []
+last_step (TooDeep s) p = Deep p.next
+last_step (DollarTooDeep s) p = Deep p.previous
+
+abbrev pub last : Bool → State → Places → Scanned
+last false s p = last_places s p
+last true s p = last_step (step s (Plain 92)) p
+
+abbrev pub on : Fed → (Bool → State → Scanned) → (State → Scanned) → (State → Scanned) → (State → Scanned) → Scanned → Scanned → Scanned
+on (Waits h s) w t b a d g = w h s
+on (Takes (On s)) w t b a d g = t s
+on (Takes (Before s)) w t b a d g = b s
+on (Takes (After s)) w t b a d g = a s
+on (Takes (TooDeep s)) w t b a d g = d
+on (Takes (DollarTooDeep s)) w t b a d g = g
 
 abbrev pub run : Bool → Bool → State → Places → List ℕ → Scanned
 run e h s p [] = if e then last h s (with_front s p) else Open
@@ -124,7 +116,8 @@ run e h s p (b ∷ bs) =
     (λ t. run e false t (moved bs q) bs)
     (λ t. Ended t q.front q.behind)
     (λ t. Ended t q.front bs)
-    (Deep (deep_at s.pending q.previous q.next))
+    (Deep q.next)
+    (Deep q.previous)
 
 abbrev pub start : State
 start = record { contexts = Top ∷ []; done = []; pending = Pending.Nothing; bytes = []; levels = 0 }

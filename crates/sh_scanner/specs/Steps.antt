@@ -4,7 +4,7 @@ use Rattle.sh_scanner.specs.declared.step.Step.{Step}
 use Rattle.sh_scanner.specs.declared.scanner.Event.{Event}
 use Rattle.sh_scanner.specs.declared.scanner.Outcome.{Outcome}
 use Rattle.sh_scanner.specs.declared.scanner.Marked.{Marked}
-use Rattle.sh_scanner.specs.Machine.{State, Stepped, On, Before, After, TooDeep}
+use Rattle.sh_scanner.specs.Machine.{State, Stepped, On, Before, After, TooDeep, DollarTooDeep}
 use Rattle.sh_scanner.specs.Run.{Fed, Waits, Takes, Scanned, Ended, Deep, Open, Places}
 
 abbrev pub stepped : Step → State → Stepped
@@ -12,6 +12,7 @@ stepped Step.On s = On s
 stepped Step.Before s = Before s
 stepped Step.After s = After s
 stepped Step.TooDeep s = TooDeep s
+stepped Step.DollarTooDeep s = DollarTooDeep s
 
 abbrev pub event : Event → State → Fed
 event (Event.Waits h) s = Waits h s

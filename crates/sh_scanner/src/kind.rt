@@ -1,6 +1,7 @@
 //! The kind of a token by its pieces.
 ghost use Rattle.std.specs.Prelude.{◌≡◌, IfOk, drop, suc, length, reverse, position};
-ghost use Rattle.sh_scanner.specs.Found.{is_of_token, place_or, gap_length, is_number, word_kind, kind_by, kind_of};
+ghost use Rattle.sh_scanner.specs.Found.{is_of_token, place_or, gap_length, kind_by, kind_of};
+ghost use Rattle.sh_scanner.specs.Tokens.{is_number, word_kind};
 
 use crate::token::TokenKind;
 use sh_scanner_base::mark::{Mark, word_class};

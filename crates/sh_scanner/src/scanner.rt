@@ -2,7 +2,7 @@
 ghost use Rattle.sh_scanner_base.specs.Marks.{top_of};
 ghost use Rattle.std.specs.Prelude.{◌≡◌, IfOk, Option, Some, None, length};
 ghost use Rattle.sh_scanner.specs.Machine.{step, same, word_out, operator_out};
-ghost use Rattle.sh_scanner.specs.Run.{Places, Scanned, Ended, Deep, Open, fed, is_gap_state, deep_at, word_ended, gap_ended, ended_in, last_token, last_step, fronted, with_front, last, moved, waited, run, start, scanned};
+ghost use Rattle.sh_scanner.specs.Run.{Places, Scanned, Ended, Deep, Open, fed, is_gap_state, word_ended, gap_ended, ended_in, last_token, last_places, last_step, fronted, with_front, last, moved, waited, run, start, scanned};
 ghost use Rattle.sh_scanner.specs.Steps.{stepped, event, outcome, places, option_when};
 
 use crate::state::State;
@@ -105,7 +105,8 @@ fn end(state: &mut State) -> Result<bool, AllocError>
         Pending::Comment => {
             let bytes = state.take_bytes();
             state.same(Mark::Comment(bytes))?;
-            Ok(true)
+            let ended = end_gap(state)?;
+            Ok(ended)
         },
         Pending::Dollar => {
             state.same(Mark::Dollar)?;
@@ -143,6 +144,15 @@ fn ended_outcome<'a>(ended: bool, state: State, front: &'a [u8], rest: &'a [u8])
     }
 }
 
+/// The end of the input behind a character.
+fn finish_at<'a>(mut state: State, at: Marked<'a>) -> Result<Outcome<'a>, AllocError>
+    ensures { IfOk result (λ r. last_places state (with_front state (places at.entry)) ≡ outcome r) }
+{
+    let here = at.with_front(is_in_gap(&state));
+    let ended = end(&mut state)?;
+    Ok(ended_outcome(ended, state, here.front, here.behind))
+}
+
 /// The end of the input; `held`: a backslash waits, which then stands for itself.
 fn finish<'a>(held: bool, mut state: State, at: Marked<'a>) -> Result<Outcome<'a>, AllocError>
     ensures { IfOk result (λ r. last held state (places at.entry) ≡ outcome r) }
@@ -153,22 +163,13 @@ fn finish<'a>(held: bool, mut state: State, at: Marked<'a>) -> Result<Outcome<'a
     }
     match take(&mut state, Character::Plain(b'\\'))? {
         Step::On => {
-            let ended = end(&mut state)?;
-            Ok(ended_outcome(ended, state, at.front, &[]))
+            let outcome = finish_at(state, at.moved(&[]))?;
+            Ok(outcome)
         },
         Step::Before => Ok(Outcome::Ended(state, at.front, at.behind)),
         Step::After => Ok(Outcome::Ended(state, at.front, &[])),
-        Step::TooDeep => Ok(Outcome::Open),
-    }
-}
-
-/// Where level 501 opens: at the `$` before the character, or at the character.
-fn deep<'a>(pending: Pending, at: Marked<'a>) -> &'a [u8]
-    ensures { result.now ≡ deep_at pending (places at.entry).previous (places at.entry).next }
-{
-    match pending {
-        Pending::Dollar => at.previous,
-        _ => at.next,
+        Step::TooDeep => Ok(Outcome::Deep(at.next)),
+        Step::DollarTooDeep => Ok(Outcome::Deep(at.previous)),
     }
 }
 
@@ -180,6 +181,7 @@ impl<'a> Marked<'a> {
         if in_gap {
             Marked {
                 front: self.next,
+                behind: self.next,
                 ..self
             }
         } else {
@@ -233,7 +235,6 @@ pub(crate) fn scan<'a>(
     let mut left = text;
     while let Some((b, after)) = left.split_first() {
         let here = at.with_front(is_in_gap(&state));
-        let pending = state.pending();
         match feed(&mut state, held, *b)? {
             Event::Waits(waits) => {
                 held = waits;
@@ -249,7 +250,8 @@ pub(crate) fn scan<'a>(
             },
             Event::Takes(Step::Before) => return Ok(Outcome::Ended(state, here.front, here.behind)),
             Event::Takes(Step::After) => return Ok(Outcome::Ended(state, here.front, after)),
-            Event::Takes(Step::TooDeep) => return Ok(Outcome::Deep(deep(pending, here))),
+            Event::Takes(Step::TooDeep) => return Ok(Outcome::Deep(here.next)),
+            Event::Takes(Step::DollarTooDeep) => return Ok(Outcome::Deep(here.previous)),
         }
     }
     if !at_end {

@@ -47,8 +47,7 @@ impl State {
     pub(crate) fn new(alloc: Global) -> Result<Self, AllocError>
         ensures { IfOk result (λ s. s ≡ start) }
     {
-        let mut contexts = Contexts::new(alloc);
-        contexts.push(Context::Top)?;
+        let contexts = Contexts::new(alloc)?;
         Ok(State {
             alloc,
             contexts,

@@ -4,7 +4,7 @@ ghost use Rattle.sh_scanner_base.specs.Growth.{operator_of, may_grow};
 ghost use Rattle.std.specs.Prelude.{◌≡◌, IfOk, Option, Some, None};
 ghost use Rattle.sh_scanner_base.specs.Growth.{grown};
 ghost use Rattle.sh_scanner_base.specs.Heads.{grown_head};
-ghost use Rattle.sh_scanner.specs.Machine.{inner_byte, word_byte, grow, between, after_word, plain_byte, escape, quoted_byte, act, form_byte, after_dollar, after_parenthesis, in_name, headed, in_head, in_single, in_backquotes, in_escape, at_parenthesis, then_act, grow_to, in_operator, in_comment, step_in, step, opens, over};
+ghost use Rattle.sh_scanner.specs.Machine.{inner_byte, word_byte, grow, between, after_word, plain_byte, escape, quoted_byte, act, form_byte, after_dollar, after_parenthesis, in_name, headed, in_head, in_single, in_backquotes, in_escape, at_parenthesis, then_act, grow_to, in_operator, in_comment, step_in, step, opens, at_dollar, over};
 ghost use Rattle.sh_scanner.specs.Steps.{stepped};
 
 use crate::state::State;
@@ -25,8 +25,10 @@ pub(crate) enum Step {
     Before,
     /// It ends with the character.
     After,
-    /// Level 501 would open.
+    /// Level 501 would open with the character.
     TooDeep,
+    /// Level 501 would open with the `$` before it.
+    DollarTooDeep,
 }
 
 /// A byte of a word or of a part of one, but for one that ends the word.
@@ -193,6 +195,19 @@ fn act(state: &mut State, c: Character) -> Result<Step, AllocError>
     }
 }
 
+/// A piece begins that opens a level with the `$` before it.
+fn open_form(state: &mut State, pending: Pending) -> Step
+    ensures { at_dollar (opens pending state.old) ≡ stepped result state.new }
+{
+    match state.open(pending) {
+        Step::On => Step::On,
+        Step::Before => Step::Before,
+        Step::After => Step::After,
+        Step::TooDeep => Step::DollarTooDeep,
+        Step::DollarTooDeep => Step::DollarTooDeep,
+    }
+}
+
 /// A byte behind a `$`.
 fn take_form_byte(state: &mut State, b: u8) -> Result<Step, AllocError>
     ensures { IfOk result (λ w. form_byte state.old b ≡ stepped w state.new) }
@@ -207,10 +222,10 @@ fn take_form_byte(state: &mut State, b: u8) -> Result<Step, AllocError>
         return Ok(Step::On);
     }
     if b == b'{' {
-        return Ok(state.open(Pending::Head(Head::Start)));
+        return Ok(open_form(state, Pending::Head(Head::Start)));
     }
     if b == b'(' {
-        return Ok(state.open(Pending::DollarParenthesis));
+        return Ok(open_form(state, Pending::DollarParenthesis));
     }
     state.same(Mark::Dollar)?;
     let step = take_plain_byte(state, b)?;

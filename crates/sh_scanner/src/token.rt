@@ -1,7 +1,7 @@
 //! Tokens (XCU 2.3).
-ghost use Rattle.std.specs.Prelude.{◌≡◌, ◌≤◌, drop, take, length};
-ghost use Rattle.sh_scanner.specs.Run.{scanned};
-ghost use Rattle.sh_scanner.specs.Found.{answer, Gives, nul_in};
+ghost use Rattle.std.specs.Prelude.{◌≡◌, ◌↔◌, ◌≤◌, ℕ, Bool, List, drop, take, length};
+ghost use Rattle.sh_scanner.specs.Found.{first_token};
+ghost use Rattle.sh_scanner.specs.FirstToken.{FirstToken, IsFirst, answer_at, Gives, nul_in};
 
 use crate::kind::kind;
 use crate::scanner::{Outcome, scan};
@@ -63,9 +63,10 @@ impl From<AllocError> for TokenFault {
 /// text's end is that of the input. Behind the text nothing stands, so that an `at` there gives `End`, or
 /// `Unfinished` where the input goes on. Here-documents inside a command substitution are not read as such yet:
 /// their bodies are taken as tokens.
+#[tactic(auto, unfolding(crate::specs::Found::first_token))]
 pub fn next_token(alloc: Global, text: &[u8], at: usize, at_end: bool) -> Result<Token, TokenFault>
-    // The answer is the machine's, or memory ran out.
-    ensures { Gives result (answer at (drop at text.now) (scanned at_end (drop at text.now))) }
+    // The answer is the first token's, by `first_token`, or memory ran out.
+    ensures { Gives result (answer_at at (first_token at_end (drop at text.now))) }
 {
     let bytes = bytes_from(text, at);
     match scan(alloc, bytes, at_end)? {
@@ -119,6 +120,12 @@ fn first_nul(bytes: &[u8]) -> Option<usize>
 {
     bytes.iter().position(|b| *b == 0)
 }
+
+/// `first_token` gives an answer exactly when the text has it by the definition of tokens: each text has one token, or the end
+/// of the input, or one of the faults.
+pub fn first_token_is_the_defined_one()
+    ensures { (e : Bool) (bytes : List ℕ) (answer : FirstToken) → (first_token e bytes ≡ answer) ↔ IsFirst e bytes answer }
+{}
 
 #[cfg(test)]
 mod tests;

@@ -77,9 +77,9 @@ head_from h (b ∷ bs) = head_from (head_step h b) bs
 abbrev pub head_of : List ℕ → Option Head
 head_of bytes = head_from (Some Start) bytes
 
+abbrev pub is_some_head : Option Head → Bool
+is_some_head None = false
+is_some_head (Some g) = true
+
 abbrev pub grows_head : Head → ℕ → Bool
 grows_head h b = is_some_head (grown_head h b)
-  where
-    is_some_head : Option Head → Bool
-    is_some_head None = false
-    is_some_head (Some g) = true

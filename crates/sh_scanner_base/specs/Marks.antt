@@ -19,7 +19,7 @@ use Rattle.sh_scanner_base.specs.Bytes.{is_blank, is_end, is_digit, is_redirecti
 use Rattle.sh_scanner_base.specs.Operators.{operator_text}
 use Rattle.sh_scanner_base.specs.Growth.{grown, may_grow}
 use Rattle.sh_scanner_base.specs.Heads.{head_of, grows_head, reads_bare}
-use Rattle.sh_scanner_base.specs.Characters.{Ahead, Next, InputEnd, Unknown, first_of, next_is, plain, raw}
+use Rattle.sh_scanner_base.specs.Characters.{Written, Ahead, Next, InputEnd, Unknown, ahead, next_is, plain, raw}
 
 -- how each is written
 abbrev pub spell_mark : Mark → List Character
@@ -44,10 +44,6 @@ spell_mark (WordClose r) = []
 spell_mark (Blank b) = Plain b ∷ []
 spell_mark (Comment bs) = Plain 35 ∷ raw bs
 spell_mark (Mark.Operator o) = plain (operator_text o)
-
-abbrev pub spell : List Mark → List Character
-spell [] = []
-spell (m ∷ ms) = spell_mark m ++ spell ms
 
 -- a byte that stands for itself where `next` follows
 abbrev pub stands : Context → ℕ → Ahead → Bool
@@ -142,13 +138,10 @@ ends_word (Next (Raw b)) = false
 ends_word InputEnd = true
 ends_word Unknown = false
 
--- a comment goes up to a newline or the end of the input
-abbrev pub ends_comment : Ahead → Bool
-ends_comment (Next (Plain b)) = nat_eq b 10
-ends_comment (Next (Quoted b)) = false
-ends_comment (Next (Raw b)) = false
-ends_comment InputEnd = true
-ends_comment Unknown = false
+-- a comment goes up to a newline or the end of the input; a backslash before the newline belongs to it
+abbrev pub ends_comment : Bool → List ℕ → Bool
+ends_comment e [] = e
+ends_comment e (b ∷ bs) = nat_eq b 10
 
 -- an operator ends where its text with the next byte is no operator's (2.3 rules 2 and 3)
 abbrev pub is_some : Option Operator → Bool
@@ -216,31 +209,31 @@ abbrev pub same_as : Bool → Bool → Bool
 same_as true b = b
 same_as false b = not b
 
--- the piece may stand in this context where `next` comes behind it
-abbrev pub fits : Context → Mark → Ahead → Bool
-fits x (Byte b) next = stands x b next
-fits x (Escaped b) next = quotes x b
-fits x (Backslash b) next = in_word x && not (quotes x b)
-fits x (SingleQuoted bs) next = has_single_quotes x && list_all is_no_quote bs
-fits x DoubleQuotesOpen next = has_double_quotes x
-fits x DoubleQuotesClose next = is_quotes x
-fits x Dollar next = in_word x && not (next_is is_form next)
-fits x (Variable bs) next = in_word x && (is_name bs && not (next_is is_name_byte next))
-fits x (Parameter b) next = in_word x && is_short_parameter b
-fits x (BraceOpen bs) next = in_word x && is_head (head_of bs) next
-fits x BraceClose next = is_braces x
-fits x ArithmeticOpen next = in_word x
-fits x ArithmeticClose next = is_arithmetic x
+-- the piece may stand in this context before these bytes; e: they are the last of the input
+abbrev pub fits : Bool → Context → Mark → List ℕ → Bool
+fits e x (Byte b) after = stands x b (ahead e after)
+fits e x (Escaped b) after = quotes x b
+fits e x (Backslash b) after = in_word x && not (quotes x b)
+fits e x (SingleQuoted bs) after = has_single_quotes x && list_all is_no_quote bs
+fits e x DoubleQuotesOpen after = has_double_quotes x
+fits e x DoubleQuotesClose after = is_quotes x
+fits e x Dollar after = in_word x && not (next_is is_form (ahead e after))
+fits e x (Variable bs) after = in_word x && (is_name bs && not (next_is is_name_byte (ahead e after)))
+fits e x (Parameter b) after = in_word x && is_short_parameter b
+fits e x (BraceOpen bs) after = in_word x && is_head (head_of bs) (ahead e after)
+fits e x BraceClose after = is_braces x
+fits e x ArithmeticOpen after = in_word x
+fits e x ArithmeticClose after = is_arithmetic x
 -- `$((` always begins arithmetic
-fits x CommandsOpen next = in_word x && not (next_is (λ b. nat_eq b 40) next)
+fits e x CommandsOpen after = in_word x && not (next_is (λ b. nat_eq b 40) (ahead e after))
 -- a substitution ends at the first `)` token before which its tokens are a compound list, or newlines alone
-fits x CommandsClose next = may_close x
-fits x (Backquoted bs) next = in_word x && is_backquoted bs
-fits x WordOpen next = between_tokens x && begins_word next
-fits x (WordClose r) next = is_word x && (ends_word next && same_as r (next_is is_redirection next))
-fits x (Blank b) next = between_tokens x && is_blank b
-fits x (Comment bs) next = between_tokens x && (list_all is_no_newline bs && ends_comment next)
-fits x (Mark.Operator o) next = between_tokens x && (ends_operator o next && not (is_right_parenthesis o && may_close x))
+fits e x CommandsClose after = may_close x
+fits e x (Backquoted bs) after = in_word x && is_backquoted bs
+fits e x WordOpen after = between_tokens x && begins_word (ahead e after)
+fits e x (WordClose r) after = is_word x && (ends_word (ahead e after) && same_as r (next_is is_redirection (ahead e after)))
+fits e x (Blank b) after = between_tokens x && is_blank b
+fits e x (Comment bs) after = between_tokens x && (list_all is_no_newline bs && ends_comment e after)
+fits e x (Mark.Operator o) after = between_tokens x && (ends_operator o (ahead e after) && not (is_right_parenthesis o && may_close x))
 
 -- what a word's pieces are to the grammar: the bytes at its beginning that stand for themselves, and whether these are all
 abbrev pub literal_front : List Mark → List ℕ
@@ -402,20 +395,36 @@ opens_level CommandsOpen = true
 opens_level (Backquoted bs) = true
 opens_level m = false
 
--- the pieces stand one behind another so, in these contexts, with `next` behind them; there are at most 500 levels
-abbrev pub AreMarks : List Mark → List Context → List Mark → Ahead → Type 0
-AreMarks done xs [] next = Unit {0}
-AreMarks done [] (m ∷ ms) next = ⊥
-AreMarks done (x ∷ xs) (m ∷ ms) next =
-    (fits x m (first_of (spell ms) next) ≡ true)
-    × ((opens_level m && not (nat_lt (levels (x ∷ xs)) 500)) ≡ false)
-    × AreMarks (done ++ m ∷ []) (behind done x xs m) ms next
+-- the bytes begin with the piece, and may do so in these contexts, there being at most 500 levels
+pub record IsMark (e : Bool) (x : Context) (xs : List Context) (m : Mark) (bytes after : List ℕ) : Type 0 where
+  pub written : Written e (spell_mark m) bytes after
+  pub fits : fits e x m after ≡ true
+  pub level : (opens_level m && not (nat_lt (levels (x ∷ xs)) 500)) ≡ false
+
+-- the bytes are these pieces, one behind another, and then the rest; `done` and the contexts are what came before
+abbrev pub AreMarks : Bool → List Mark → List Context → List Mark → List ℕ → List ℕ → Type 0
+AreMarks e done xs [] bytes rest = bytes ≡ rest
+AreMarks e done [] (m ∷ ms) bytes rest = ⊥
+AreMarks e done (x ∷ xs) (m ∷ ms) bytes rest =
+    (after : List ℕ) × (IsMark e x xs m bytes after) × AreMarks e (done ++ m ∷ []) (behind done x xs m) ms after rest
 
 -- the contexts behind them
 abbrev pub contexts_behind : List Mark → List Context → List Mark → List Context
 contexts_behind done xs [] = xs
 contexts_behind done [] (m ∷ ms) = []
 contexts_behind done (x ∷ xs) (m ∷ ms) = contexts_behind (done ++ m ∷ []) (behind done x xs m) ms
+
+-- a word of the text itself, or an operator of it, is over with this piece, the contexts behind it being these
+abbrev pub ends_token : Mark → List Context → Bool
+ends_token (WordClose r) xs = is_text (top_of xs)
+ends_token (Mark.Operator o) xs = is_text (top_of xs)
+ends_token m xs = false
+
+-- none of the pieces ends a token of the text itself
+abbrev pub ends_none : List Mark → List Context → List Mark → Bool
+ends_none done xs [] = true
+ends_none done [] (m ∷ ms) = true
+ends_none done (x ∷ xs) (m ∷ ms) = not (ends_token m (behind done x xs m)) && ends_none (done ++ m ∷ []) (behind done x xs m) ms
 
 -- before a token: blanks, and comments
 abbrev pub is_gap : Mark → Bool

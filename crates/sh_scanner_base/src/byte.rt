@@ -37,7 +37,7 @@ pub fn begins_redirection(b: u8) -> bool
     b == b'<' || b == b'>'
 }
 
-pub fn is_digit(b: u8) -> bool
+pub(crate) fn is_digit(b: u8) -> bool
     ensures { result ≡ is_digit b }
 {
     b.is_ascii_digit()
@@ -57,7 +57,7 @@ pub fn continues_name(b: u8) -> bool
 }
 
 /// A special parameter but for `#`.
-pub fn is_special(b: u8) -> bool
+pub(crate) fn is_special(b: u8) -> bool
     ensures { result ≡ is_special b }
 {
     b == b'@' || b == b'*' || b == b'?' || b == b'-' || b == b'$' || b == b'!'
@@ -71,14 +71,14 @@ pub fn is_short_parameter(b: u8) -> bool
 }
 
 /// An operator of a parameter expansion that may stand behind a colon.
-pub fn is_word_operator(b: u8) -> bool
+pub(crate) fn is_word_operator(b: u8) -> bool
     ensures { result ≡ is_word_operator b }
 {
     b == b'-' || b == b'=' || b == b'?' || b == b'+'
 }
 
 /// What a backslash quotes in double quotes and in arithmetic.
-pub fn is_quoted_escape(b: u8) -> bool
+pub(crate) fn is_quoted_escape(b: u8) -> bool
     ensures { result ≡ is_quoted_escape b }
 {
     b == b'$' || b == b'`' || b == b'\\'

@@ -3,7 +3,7 @@ ghost use Rattle.std.specs.Prelude.{◌≡◌, ◌++◌, ◌∷◌, [], IfOk, On
 ghost use Rattle.sh_grammar.specs.Computed.{is_whole, is_front};
 ghost use Rattle.sh_token_base.specs.Shell.{substitution};
 ghost use Rattle.sh_scanner_base.specs.Taken.{followed_by, token_of};
-ghost use Rattle.sh_scanner_base.specs.Marks.{is_word, is_quotes, is_braces, is_arithmetic, quotes, has_single_quotes, has_double_quotes, is_quoted, may_close, between_tokens, is_parenthesis, is_text, counts, with_class};
+ghost use Rattle.sh_scanner_base.specs.Marks.{is_word, is_quotes, is_braces, is_arithmetic, quotes, has_single_quotes, has_double_quotes, is_quoted, may_close, between_tokens, is_parenthesis, is_text, with_class};
 
 use crate::byte;
 use sh_grammar::{Recognizer, Token};
@@ -47,7 +47,7 @@ impl Tokens {
     }
 
     /// A token more.
-    pub fn take(&mut self, class: TokenClass) -> Result<(), AllocError>
+    pub(crate) fn take(&mut self, class: TokenClass) -> Result<(), AllocError>
         ensures { OnOk result (self.new ≡ followed_by class self.old) }
     {
         if self.refused.is_some() {
@@ -64,7 +64,7 @@ impl Tokens {
     }
 
     /// Whether they are a compound list, or newlines alone.
-    pub fn may_end(&self) -> bool
+    pub(crate) fn may_end(&self) -> bool
         ensures { result ≡ is_whole substitution self.now }
     {
         if self.refused.is_some() {
@@ -115,7 +115,7 @@ pub enum Context {
 
 impl Context {
     /// Between tokens.
-    pub fn is_between_tokens(&self) -> bool
+    pub(crate) fn is_between_tokens(&self) -> bool
         ensures { result ≡ between_tokens self.now }
     {
         match self {
@@ -124,7 +124,7 @@ impl Context {
         }
     }
 
-    pub fn is_word(&self) -> bool
+    pub(crate) fn is_word(&self) -> bool
         ensures { result ≡ is_word self.now }
     {
         match self {
@@ -133,7 +133,7 @@ impl Context {
         }
     }
 
-    pub fn is_quotes(&self) -> bool
+    pub(crate) fn is_quotes(&self) -> bool
         ensures { result ≡ is_quotes self.now }
     {
         match self {
@@ -142,7 +142,7 @@ impl Context {
         }
     }
 
-    pub fn is_braces(&self) -> bool
+    pub(crate) fn is_braces(&self) -> bool
         ensures { result ≡ is_braces self.now }
     {
         match self {
@@ -152,7 +152,7 @@ impl Context {
     }
 
     /// Arithmetic, no inner parenthesis being open.
-    pub fn is_arithmetic(&self) -> bool
+    pub(crate) fn is_arithmetic(&self) -> bool
         ensures { result ≡ is_arithmetic self.now }
     {
         match self {
@@ -162,7 +162,7 @@ impl Context {
     }
 
     /// Inner parentheses of arithmetic.
-    pub fn is_parenthesis(&self) -> bool
+    pub(crate) fn is_parenthesis(&self) -> bool
         ensures { result ≡ is_parenthesis self.now }
     {
         match self {
@@ -172,7 +172,7 @@ impl Context {
     }
 
     /// Whether `'` quotes here.
-    pub fn has_single_quotes(&self) -> bool
+    pub(crate) fn has_single_quotes(&self) -> bool
         ensures { result ≡ has_single_quotes self.now }
     {
         match self {
@@ -183,7 +183,7 @@ impl Context {
     }
 
     /// Whether `"` opens double quotes here.
-    pub fn has_double_quotes(&self) -> bool
+    pub(crate) fn has_double_quotes(&self) -> bool
         ensures { result ≡ has_double_quotes self.now }
     {
         match self {
@@ -193,7 +193,7 @@ impl Context {
     }
 
     /// Whether what a `${` has here is read as between double quotes.
-    pub fn is_quoted(&self) -> bool
+    pub(crate) fn is_quoted(&self) -> bool
         ensures { result ≡ is_quoted self.now }
     {
         match self {
@@ -204,7 +204,7 @@ impl Context {
     }
 
     /// Whether a backslash quotes a byte here.
-    pub fn quotes(&self, b: u8) -> bool
+    pub(crate) fn quotes(&self, b: u8) -> bool
         ensures { result ≡ quotes self.now b }
     {
         match self {
@@ -218,7 +218,7 @@ impl Context {
     }
 
     /// Whether a command substitution may end here.
-    pub fn may_close(&self) -> bool
+    pub(crate) fn may_close(&self) -> bool
         ensures { result ≡ may_close self.now }
     {
         match self {
@@ -228,7 +228,7 @@ impl Context {
     }
 
     /// The text itself.
-    pub fn is_text(&self) -> bool
+    pub(crate) fn is_text(&self) -> bool
         ensures { result ≡ is_text self.now }
     {
         match self {
@@ -237,18 +237,8 @@ impl Context {
         }
     }
 
-    /// Whether it is a level.
-    pub fn counts(&self) -> bool
-        ensures { result ≡ counts self.now }
-    {
-        match self {
-            Context::Commands(_) | Context::Braces(_) | Context::Arithmetic => true,
-            _ => false,
-        }
-    }
-
     /// A token more, where it has tokens.
-    pub fn take(&mut self, class: TokenClass) -> Result<(), AllocError>
+    pub(crate) fn take(&mut self, class: TokenClass) -> Result<(), AllocError>
         ensures { OnOk result (self.new ≡ with_class class self.old) }
     {
         match self {

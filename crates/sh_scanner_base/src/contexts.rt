@@ -1,7 +1,7 @@
 //! The open contexts of a text, one in the other.
-ghost use Rattle.sh_scanner_base.specs.Marks.{top_of};
+ghost use Rattle.sh_scanner_base.specs.declared.context.Context.TheVariants.{Top};
 ghost use Rattle.std.specs.Prelude.{◌≡◌, ◌∷◌, [], OnOk, OnErr, IfOk, MatchOption};
-ghost use Rattle.sh_scanner_base.specs.Marks.{with_token, with_class, class_behind, word_over, class_of_word, is_text, between_tokens, is_word, is_quotes, is_braces, is_arithmetic, is_parenthesis, quotes, has_single_quotes, has_double_quotes, is_quoted, may_close};
+ghost use Rattle.sh_scanner_base.specs.Marks.{top_of, with_token, with_class, class_behind, word_over, class_of_word, is_text, between_tokens, is_word, is_quotes, is_braces, is_arithmetic, is_parenthesis, quotes, has_single_quotes, has_double_quotes, is_quoted, may_close};
 
 use crate::context::Context;
 use crate::mark::{Mark, pieces_behind, word_class};
@@ -26,14 +26,13 @@ impl Model for Contexts {
 }
 
 impl Contexts {
-    /// No context.
-    pub fn new(alloc: Global) -> Self
-        ensures { result ≡ [] }
+    /// The text itself, with nothing open in it. The one error is want of memory.
+    pub fn new(alloc: Global) -> Result<Self, AllocError>
+        ensures { IfOk result (λ c. c ≡ Top ∷ []) }
     {
-        Contexts {
-            alloc,
-            items: Vec::new(alloc),
-        }
+        let mut items = Vec::new(alloc);
+        items.push(Context::Top)?;
+        Ok(Contexts { alloc, items })
     }
 
     /// Goes into a context.

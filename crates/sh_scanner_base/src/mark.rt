@@ -54,7 +54,7 @@ pub enum Mark {
 }
 
 /// The pieces of a word that began behind so many.
-pub fn pieces_behind(pieces: &[Mark], begin: usize) -> &[Mark]
+pub(crate) fn pieces_behind(pieces: &[Mark], begin: usize) -> &[Mark]
     ensures { result.now ≡ drop (suc begin) pieces.now }
 {
     if begin < pieces.len() {

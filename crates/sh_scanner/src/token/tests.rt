@@ -1,6 +1,31 @@
-//! Spans of tokens.
-use super::{TokenFault, next_token};
+//! Tokens at the edges: spans, operators, levels, NUL bytes, fronts of texts.
+use super::{TokenFault, TokenKind, next_token};
 use std::test::Fail;
+
+/// What is found at the beginning of a text.
+#[derive(Clone, Copy, Debug, PartialEq, Eq)]
+enum Found {
+    /// A descriptor's number, or another token: from the first byte up to, not including, the second.
+    Number(usize, usize),
+    Token(usize, usize),
+    Unfinished,
+    Nul(usize),
+    Deep(usize),
+    Memory,
+}
+
+fn find(rt: HostRuntime, text: &[u8], at_end: bool) -> Found {
+    match next_token(rt.alloc(), text, 0, at_end) {
+        Ok(token) => match token.kind {
+            TokenKind::Number => Found::Number(token.span.start, token.span.end),
+            _ => Found::Token(token.span.start, token.span.end),
+        },
+        Err(TokenFault::Unfinished) => Found::Unfinished,
+        Err(TokenFault::NulByte { at }) => Found::Nul(at),
+        Err(TokenFault::TooDeep { at }) => Found::Deep(at),
+        Err(TokenFault::NoMemory) => Found::Memory,
+    }
+}
 
 #[test]
 fn lengths(rt: HostRuntime) -> Result<(), Fail> {
@@ -38,6 +63,164 @@ fn lengths(rt: HostRuntime) -> Result<(), Fail> {
         };
         assert_eq!(rt; (k, found), (k, expected));
         k = k.saturating_add(1);
+    }
+    Ok(())
+}
+
+#[test]
+fn operators(rt: HostRuntime) -> Result<(), Fail> {
+    for (text, at_end, expected) in [
+        (b"&a".as_slice(), false, Found::Token(0, 1)),
+        (b"&&a", false, Found::Token(0, 2)),
+        (b"&&", false, Found::Token(0, 2)),
+        (b"&", false, Found::Unfinished),
+        (b"&", true, Found::Token(0, 1)),
+        (b"&\\\n&", true, Found::Token(0, 4)),
+        (b"|&", false, Found::Token(0, 1)),
+        (b"||", false, Found::Token(0, 2)),
+        (b";;;", false, Found::Token(0, 2)),
+        (b"; ;", false, Found::Token(0, 1)),
+        (b"<<<", false, Found::Token(0, 2)),
+        (b"<<-a", false, Found::Token(0, 3)),
+        (b"<<", false, Found::Unfinished),
+        (b"<<", true, Found::Token(0, 2)),
+        (b"<>a", false, Found::Token(0, 2)),
+        (b"<&-", false, Found::Token(0, 2)),
+        (b">>>", false, Found::Token(0, 2)),
+        (b">&1", false, Found::Token(0, 2)),
+        (b">|a", false, Found::Token(0, 2)),
+        (b"((a", false, Found::Token(0, 1)),
+        (b"))", false, Found::Token(0, 1)),
+        (b"\n\n", false, Found::Token(0, 1)),
+        (b"2>a", false, Found::Number(0, 1)),
+        (b"12<a", false, Found::Number(0, 2)),
+        (b"a2>b", false, Found::Token(0, 2)),
+        (b"2 >a", false, Found::Token(0, 1)),
+        (b"'2'>a", false, Found::Token(0, 3)),
+        (b"2\\\n>a", false, Found::Number(0, 1)),
+    ] {
+        assert_eq!(rt; find(rt, text, at_end), expected);
+    }
+    Ok(())
+}
+
+#[test]
+fn gaps(rt: HostRuntime) -> Result<(), Fail> {
+    for (text, at_end, expected) in [
+        (b"".as_slice(), true, Found::Token(0, 0)),
+        (b"", false, Found::Unfinished),
+        (b" \t", true, Found::Token(2, 2)),
+        (b"\\\n", true, Found::Token(2, 2)),
+        (b"a\\\n", true, Found::Token(0, 1)),
+        (b" \\\n a ", false, Found::Token(4, 5)),
+        (b"#a\nb", false, Found::Token(2, 3)),
+        (b"#a\\\nb", false, Found::Token(3, 4)),
+        (b"#a", true, Found::Token(2, 2)),
+        (b"#a", false, Found::Unfinished),
+        (b"a#b ", false, Found::Token(0, 3)),
+        (b"'#' ", false, Found::Token(0, 3)),
+        (b"\\# ", false, Found::Token(0, 2)),
+        (b"$(a #c", true, Found::Unfinished),
+        (b"$(a #)\n)b ", false, Found::Token(0, 9)),
+    ] {
+        assert_eq!(rt; find(rt, text, at_end), expected);
+    }
+    Ok(())
+}
+
+/// The text that opens so many levels, and closes them.
+fn nested(
+    rt: HostRuntime,
+    open: &[u8],
+    inner: &[u8],
+    close: &[u8],
+    levels: usize,
+) -> Result<Vec<u8>, Fail> {
+    let mut text = Vec::new(rt.alloc());
+    for _ in 0..levels {
+        text.extend_from_slice(open)?;
+    }
+    text.extend_from_slice(inner)?;
+    for _ in 0..levels {
+        text.extend_from_slice(close)?;
+    }
+    text.push(b' ')?;
+    Ok(text)
+}
+
+#[test]
+fn levels(rt: HostRuntime) -> Result<(), Fail> {
+    for (open, inner, close, opener) in [
+        (
+            b"${a:-".as_slice(),
+            b"b".as_slice(),
+            b"}".as_slice(),
+            0usize,
+        ),
+        (b"$(", b"a", b")", 0),
+        (b"$((", b"1", b"))", 0),
+        (b"\"$(", b"a", b")\"", 1),
+    ] {
+        let served = nested(rt, open, inner, close, 500)?;
+        assert_eq!(rt;
+            find(rt, served.as_slice(), false),
+            Found::Token(0, served.len().saturating_sub(1))
+        );
+        let refused = nested(rt, open, inner, close, 501)?;
+        assert_eq!(rt;
+            find(rt, refused.as_slice(), false),
+            Found::Deep(500usize.saturating_mul(open.len()).saturating_add(opener))
+        );
+    }
+    let served = nested(rt, b"${a:-", b"`b`", b"}", 499)?;
+    assert_eq!(rt;
+        find(rt, served.as_slice(), false),
+        Found::Token(0, served.len().saturating_sub(1))
+    );
+    let refused = nested(rt, b"${a:-", b"x$`b`", b"}", 500)?;
+    assert_eq!(rt; find(rt, refused.as_slice(), false), Found::Deep(2502));
+    Ok(())
+}
+
+#[test]
+fn nul_bytes(rt: HostRuntime) -> Result<(), Fail> {
+    for (text, expected) in [
+        (b"\0".as_slice(), Found::Nul(0)),
+        (b"a\0b ", Found::Nul(1)),
+        (b"'\0' ", Found::Nul(1)),
+        (b"\"\0\" ", Found::Nul(1)),
+        (b"\\\0 ", Found::Nul(1)),
+        (b"`\0` ", Found::Nul(1)),
+        (b"${a\0} ", Found::Nul(3)),
+        (b"$((\0)) ", Found::Nul(3)),
+        (b"$(\0) ", Found::Nul(2)),
+        (b"#\0\na", Found::Nul(1)),
+        (b"a \0", Found::Token(0, 1)),
+        (b"&\0", Found::Token(0, 1)),
+    ] {
+        assert_eq!(rt; find(rt, text, false), expected);
+    }
+    Ok(())
+}
+
+/// No front of a word is a token where more may follow, and the whole word is one at the end of the input.
+#[test]
+fn fronts(rt: HostRuntime) -> Result<(), Fail> {
+    for text in [
+        b"$(case a in a) :;; esac)x".as_slice(),
+        b"${x:-'a'}'b'",
+        b"\"$(echo \")\" `a\\`b`)\"x",
+        b"$((1+(2*3)))$x$1",
+        b"x=$(a 2>b | { c; } &&\n(d))c",
+    ] {
+        let mut rest = text;
+        for _ in 0..text.len() {
+            assert_eq!(rt; find(rt, rest, false), Found::Unfinished);
+            if let Some((_, front)) = rest.split_last() {
+                rest = front;
+            }
+        }
+        assert_eq!(rt; find(rt, text, true), Found::Token(0, text.len()));
     }
     Ok(())
 }

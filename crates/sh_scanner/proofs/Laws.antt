@@ -1,0 +1,195 @@
+-- The first token is the one of the definition.
+use Rattle.std.proofs.Common.{◌≡◌, ◌↔◌, ℕ, ◌+◌, ◌-◌, ◌<◌, ◌≤◌, Bool, List, [], ◌∷◌, ◌++◌, length, take, Option, Some, None, refl, sym, ap, ◌∙◌, subst, arith, length-append}
+use Rattle.sh_scanner_base.specs.declared.character.Character.{Character}
+use Rattle.sh_scanner_base.specs.declared.character.Character.TheVariants.{Plain, Quoted, Raw}
+use Rattle.sh_scanner_base.specs.declared.context.Context.{Context}
+use Rattle.sh_scanner_base.specs.declared.context.Context.TheVariants.{Top}
+use Rattle.sh_scanner_base.specs.declared.mark.Mark.{Mark}
+use Rattle.sh_scanner_base.specs.declared.mark.Mark.TheVariants.{WordOpen}
+use Rattle.sh_scanner_base.specs.Characters.{joins, Reads, Written, plain}
+use Rattle.sh_scanner_base.specs.Operators.{operator_text}
+use Rattle.sh_scanner_base.specs.Marks.{spell_mark, AreMarks, behind}
+use Rattle.sh_scanner.specs.declared.token.TokenKind.{TokenKind}
+use Rattle.sh_scanner.specs.Tokens.{Joined, IsToken, ending, operator, word, HasToken, IsTooDeep}
+use Rattle.sh_scanner.specs.Machine.{State}
+use Rattle.sh_scanner.specs.Run.{Scanned, Ended, Deep, Open, scanned}
+use Rattle.sh_scanner.specs.FirstToken.{FirstToken, Found, Unfinished, NulAt, DeepAt, IsFirst, nul_in}
+use Rattle.sh_scanner.specs.Found.{kind_of, unless_nul, without_nul, first_token}
+use Rattle.sh_scanner.proofs.Complete.{complete}
+use Rattle.sh_scanner.proofs.Deep.{deep}
+use Rattle.sh_scanner.proofs.Texts.{Answered, sound}
+use Rattle.sh_scanner.proofs.Nul.{nul_of_front, nul_in_front}
+
+-- how many bytes pieces take
+reads_length : (e : Bool) (c : Character) (m middle : List ℕ) → Reads e c m middle → length middle < length m
+reads_length e (Plain b) m middle h = omega (arith, ap length h.1, length-append (joins h.0) (b ∷ middle))
+reads_length e (Quoted b) m middle h = omega (arith, ap length h.1, length-append (joins h.0) (92 ∷ b ∷ middle))
+reads_length e (Raw b) m middle h = omega (arith, ap length h)
+
+written_length : (e : Bool) (cs : List Character) (m rest : List ℕ) → Written e cs m rest → length rest ≤ length m
+written_length e [] m rest h = omega (arith, ap length h)
+written_length e (c ∷ cs) m rest h =
+    let a = reads_length e c m h.0 h.1 in
+    let b = written_length e cs h.0 rest h.2 in
+    omega arith
+
+marks_length : (e : Bool) (ms done : List Mark) (xs : List Context) (m rest : List ℕ) → AreMarks e done xs ms m rest → length rest ≤ length m
+marks_length e [] done xs m rest h = omega (arith, ap length h)
+marks_length e (k ∷ ms) done [] m rest h = absurd h
+marks_length e (k ∷ ms) done (x ∷ xs) m rest h =
+    let a = written_length e (spell_mark k) m h.0 h.1.written in
+    let b = marks_length e ms (done ++ k ∷ []) (behind done x xs k) h.0 rest h.2 in
+    omega arith
+
+joined_length : (m front : List ℕ) → Joined m front → length front ≤ length m
+joined_length m front h = omega (arith, ap length h.is, length-append (joins h.lines) front)
+
+token_length : (e : Bool) (gap : List Mark) (front rest : List ℕ) (k : TokenKind) → IsToken e gap front rest k → length rest ≤ length front
+token_length e gap front rest _ (ending t f r) = omega (arith, ap length f, ap length r)
+token_length e gap front rest _ (operator o i) = written_length e (plain (operator_text o)) front rest i.written
+token_length e gap front rest _ (word ms r x xs middle a n k i t) =
+    let b = marks_length e (WordOpen ∷ ms) gap (Top ∷ []) front middle a in
+    omega (arith, ap length i.written)
+
+pub record Ordered (bytes front rest : List ℕ) : Type 0 where
+  pub start : length front ≤ length bytes
+  pub stop : length rest ≤ length front
+
+pub token_ordered : (e : Bool) (bytes front rest : List ℕ) (k : TokenKind) → HasToken e bytes front rest k → Ordered bytes front rest
+token_ordered e bytes front rest k h =
+    let a = marks_length e h.gap [] (Top ∷ []) bytes h.middle h.between in
+    let b = joined_length h.middle front h.joined in
+    record { start = omega arith; stop = token_length e h.gap front rest k h.token }
+
+pub deep_ordered : (e : Bool) (bytes place : List ℕ) → IsTooDeep e bytes place → length place ≤ length bytes
+deep_ordered e bytes place h =
+    let a = marks_length e h.gap [] (Top ∷ []) bytes h.middle h.between in
+    let b = joined_length h.middle h.front h.joined in
+    let c = marks_length e (WordOpen ∷ h.marks) h.gap (Top ∷ []) h.front h.last h.before in
+    let d = joined_length h.last place h.placed in
+    omega arith
+
+-- what is scanned is one of three
+ended_front : (k j : State) (f g r s : List ℕ) → Ended k f r ≡ Ended j g s → f ≡ g
+ended_front k j f g r s h = cc
+
+ended_rest : (k j : State) (f g r s : List ℕ) → Ended k f r ≡ Ended j g s → r ≡ s
+ended_rest k j f g r s h = cc
+
+ended_state : (k j : State) (f g r s : List ℕ) → Ended k f r ≡ Ended j g s → k ≡ j
+ended_state k j f g r s h = cc
+
+deep_place : (r s : List ℕ) → Deep r ≡ Deep s → r ≡ s
+deep_place r s h = cc
+
+not_open : (k : State) (f r : List ℕ) → Ended k f r ≡ Open → ⊥
+not_open k f r h = cc
+
+not_deep : (k : State) (f r s : List ℕ) → Ended k f r ≡ Deep s → ⊥
+not_deep k f r s h = cc
+
+deep_not_open : (r : List ℕ) → Deep r ≡ Open → ⊥
+deep_not_open r h = cc
+
+nul_or : (x : Option ℕ) (G : Type 0) → (x ≡ None → G) → ((i : ℕ) → x ≡ Some i → G) → G
+nul_or None G n s = n refl
+nul_or (Some i) G n s = s i refl
+
+module _ (e : Bool) (bytes : List ℕ) where
+  found : (s : Scanned) → scanned e bytes ≡ s → Answered e bytes s
+  found s h = subst (Answered e bytes) h (sound e bytes)
+
+  ended_first : (k : State) (f r : List ℕ) → scanned e bytes ≡ Ended k f r → IsFirst e bytes (without_nul bytes (Ended k f r))
+  ended_first k f r h =
+      let t = found (Ended k f r) h in
+      let o = token_ordered e bytes f r (kind_of k.done) t in
+      let start = o.start in
+      let stop = o.stop in
+      let n = length bytes - length r in
+      nul_or (nul_in (take n bytes)) (IsFirst e bytes (without_nul bytes (Ended k f r)))
+      (λ z. subst (λ x. IsFirst e bytes (unless_nul x (Found (kind_of k.done) (length bytes - length f) n))) (sym z) ((f, (r, t, omega arith, omega arith)), z))
+      (λ i z. subst (λ x. IsFirst e bytes (unless_nul x (Found (kind_of k.done) (length bytes - length f) n))) (sym z)
+      (let p = nul_of_front n i bytes z in let q = p.1 in (
+        (λ front rest kind u. let c = complete e bytes front rest kind u in let w = ap length (ended_rest k c.state f front r rest (sym h ∙ c.is)) in omega arith),
+        (λ rest u. absurd (not_deep k f r rest (sym h ∙ deep e bytes rest u))),
+        p.0,
+      )))
+
+  deep_first : (r : List ℕ) → scanned e bytes ≡ Deep r → IsFirst e bytes (without_nul bytes (Deep r))
+  deep_first r h =
+      let t = found (Deep r) h in
+      let o = deep_ordered e bytes r t in
+      let n = length bytes - length r in
+      nul_or (nul_in (take n bytes)) (IsFirst e bytes (without_nul bytes (Deep r)))
+      (λ z. subst (λ x. IsFirst e bytes (unless_nul x (DeepAt n))) (sym z) ((r, t, omega arith), z))
+      (λ i z. subst (λ x. IsFirst e bytes (unless_nul x (DeepAt n))) (sym z)
+      (let p = nul_of_front n i bytes z in let q = p.1 in (
+        (λ front rest kind u. let c = complete e bytes front rest kind u in absurd (not_deep c.state front rest r (sym c.is ∙ h))),
+        (λ rest u. let w = ap length (deep_place r rest (sym h ∙ deep e bytes rest u)) in omega arith),
+        p.0,
+      )))
+
+  no_token : scanned e bytes ≡ Open → (front rest : List ℕ) (kind : TokenKind) → HasToken e bytes front rest kind → ⊥
+  no_token h front rest kind u = let c = complete e bytes front rest kind u in not_open c.state front rest (sym c.is ∙ h)
+
+  no_depth : scanned e bytes ≡ Open → (rest : List ℕ) → IsTooDeep e bytes rest → ⊥
+  no_depth h rest u = deep_not_open rest (sym (deep e bytes rest u) ∙ h)
+
+  open_first : scanned e bytes ≡ Open → IsFirst e bytes (without_nul bytes Open)
+  open_first h =
+      nul_or (nul_in bytes) (IsFirst e bytes (without_nul bytes Open))
+      (λ z. subst (λ x. IsFirst e bytes (unless_nul x Unfinished)) (sym z) (no_token h, no_depth h, z))
+      (λ i z. subst (λ x. IsFirst e bytes (unless_nul x Unfinished)) (sym z) ((λ front rest kind u. absurd (no_token h front rest kind u)), (λ rest u. absurd (no_depth h rest u)), z))
+
+  scanned_first : (s : Scanned) → scanned e bytes ≡ s → IsFirst e bytes (without_nul bytes s)
+  scanned_first (Ended k f r) h = ended_first k f r h
+  scanned_first (Deep r) h = deep_first r h
+  scanned_first Open h = open_first h
+
+  pub is_first : IsFirst e bytes (first_token e bytes)
+  unfolding first_token
+  is_first = scanned_first (scanned e bytes) refl
+
+  -- the first token is the answer
+  ended_only : (k : TokenKind) (start stop : ℕ) (front rest : List ℕ) (t : HasToken e bytes front rest k) → start + length front ≡ length bytes → stop + length rest ≡ length bytes → nul_in (take stop bytes) ≡ None
+      → first_token e bytes ≡ Found k start stop
+  unfolding first_token
+  ended_only k start stop front rest t s p n =
+      let c = complete e bytes front rest k t in
+      let x : length bytes - length rest ≡ stop = omega arith in
+      let y : length bytes - length front ≡ start = omega arith in
+      ap (without_nul bytes) c.is ∙ (ap (λ x. unless_nul (nul_in (take x bytes)) (Found (kind_of c.state.done) (length bytes - length front) x)) x
+      ∙ (ap (λ y. unless_nul (nul_in (take stop bytes)) (Found (kind_of c.state.done) y stop)) y
+      ∙ (ap (λ z. unless_nul (nul_in (take stop bytes)) (Found z start stop)) c.kind_is ∙ ap (λ x. unless_nul x (Found k start stop)) n)))
+
+  deep_only : (place : ℕ) (rest : List ℕ) → IsTooDeep e bytes rest → place + length rest ≡ length bytes → nul_in (take place bytes) ≡ None → first_token e bytes ≡ DeepAt place
+  unfolding first_token
+  deep_only place rest t p n =
+      let x : length bytes - length rest ≡ place = omega arith in
+      ap (without_nul bytes) (deep e bytes rest t) ∙ (ap (λ x. unless_nul (nul_in (take x bytes)) (DeepAt x)) x ∙ ap (λ x. unless_nul x (DeepAt place)) n)
+
+  open_only : (s : Scanned) → scanned e bytes ≡ s → ((front rest : List ℕ) (kind : TokenKind) → HasToken e bytes front rest kind → ⊥) → ((rest : List ℕ) → IsTooDeep e bytes rest → ⊥) → nul_in bytes ≡ None
+      → without_nul bytes s ≡ Unfinished
+  open_only (Ended k f r) h none level n = absurd (none f r (kind_of k.done) (found (Ended k f r) h))
+  open_only (Deep r) h none level n = absurd (level r (found (Deep r) h))
+  open_only Open h none level n = ap (λ x. unless_nul x Unfinished) n
+
+  nul_only : (s : Scanned) (i : ℕ) → scanned e bytes ≡ s → ((front rest : List ℕ) (kind : TokenKind) → HasToken e bytes front rest kind → i + length rest < length bytes)
+      → ((rest : List ℕ) → IsTooDeep e bytes rest → i + length rest < length bytes) → nul_in bytes ≡ Some i → without_nul bytes s ≡ NulAt i
+  nul_only (Ended k f r) i h behind level n =
+      let b = behind f r (kind_of k.done) (found (Ended k f r) h) in
+      ap (λ x. unless_nul x (Found (kind_of k.done) (length bytes - length f) (length bytes - length r))) (nul_in_front (length bytes - length r) i bytes n (omega arith))
+  nul_only (Deep r) i h behind level n =
+      let b = level r (found (Deep r) h) in
+      ap (λ x. unless_nul x (DeepAt (length bytes - length r))) (nul_in_front (length bytes - length r) i bytes n (omega arith))
+  nul_only Open i h behind level n = ap (λ x. unless_nul x Unfinished) n
+
+  pub first_only : (answer : FirstToken) → IsFirst e bytes answer → first_token e bytes ≡ answer
+  unfolding first_token
+  first_only (Found k start stop) h = ended_only k start stop h.0.0 h.0.1.0 h.0.1.1 h.0.1.2 h.0.1.3 h.1
+  first_only (DeepAt place) h = deep_only place h.0.0 h.0.1 h.0.2 h.1
+  first_only Unfinished h = open_only (scanned e bytes) refl h.0 h.1 h.2
+  first_only (NulAt i) h = nul_only (scanned e bytes) i refl h.0 h.1 h.2
+
+  pub first_law : (answer : FirstToken) → (first_token e bytes ≡ answer) ↔ IsFirst e bytes answer
+  first_law answer = ((λ h. subst (IsFirst e bytes) h is_first), λ h. first_only answer h)

@@ -1,0 +1,191 @@
+-- What has been read of a text, as pieces.
+use Rattle.std.proofs.Common.{◌≡◌, ℕ, suc, Bool, true, false, not, nat_eq, nat_lt, List, [], ◌∷◌, ◌++◌, Some, refl, sym, ap, ◌∙◌, subst, append_assoc, cond}
+use Rattle.std.specs.List.{list_all}
+use Rattle.std.proofs.lemmas.List.{append-nil}
+use Rattle.sh_token_base.specs.Classes.{is_name}
+use Rattle.sh_scanner_base.specs.declared.character.Character.TheVariants.{Plain}
+use Rattle.sh_scanner_base.specs.declared.context.Context.{Context}
+use Rattle.sh_scanner_base.specs.declared.context.Context.TheVariants.{Top}
+use Rattle.sh_scanner_base.specs.declared.mark.Mark.{Mark}
+use Rattle.sh_scanner_base.specs.declared.mark.Mark.TheVariants.{WordOpen, WordClose}
+use Rattle.sh_scanner_base.specs.declared.pending.Pending.{Pending}
+use Rattle.sh_scanner_base.specs.Bytes.{is_no_quote, is_no_newline}
+use Rattle.sh_scanner_base.specs.Characters.{Written, plain, raw}
+use Rattle.sh_scanner_base.specs.Operators.{operator_text}
+use Rattle.sh_scanner_base.specs.Growth.{may_grow}
+use Rattle.sh_scanner_base.specs.Heads.{head_of}
+use Rattle.sh_scanner_base.specs.Marks.{IsMark, AreMarks, behind, contexts_behind, ends_token, ends_none, in_word, is_text, top_of, between_tokens, is_arithmetic, has_single_quotes, is_backquoted, is_gap, levels}
+use Rattle.sh_scanner.specs.Tokens.{begins_join, Joined, IsToken, word, OpensLevel}
+use Rattle.sh_scanner.specs.Machine.{State, Stepped, On, Before, After, TooDeep, DollarTooDeep}
+use Rattle.sh_scanner.specs.Run.{Scanned, Ended, Deep, Open}
+use Rattle.sh_scanner.specs.Found.{kind_of}
+use Rattle.sh_scanner.proofs.Tests.{and_true, and_both, not_false}
+use Rattle.sh_scanner.proofs.Leads.{begun, settled}
+use Rattle.sh_scanner.proofs.Inner.{Inside, inside_behind}
+use Rattle.sh_scanner.proofs.Gaps.{word_kind_of}
+
+-- one piece more
+pub marks_snoc : (e : Bool) (ms done : List Mark) (xs : List Context) (x : Context) (ys : List Context) (m : Mark) (bytes mid after : List ℕ) → AreMarks e done xs ms bytes mid
+    → contexts_behind done xs ms ≡ x ∷ ys → IsMark e x ys m mid after → AreMarks e done xs (ms ++ m ∷ []) bytes after
+marks_snoc e [] done xs x ys m bytes mid after a k i =
+    subst (λ z. AreMarks e done z (m ∷ []) bytes after) (sym k) (subst (λ b. AreMarks e done (x ∷ ys) (m ∷ []) b after) (sym a) (after, i, refl))
+marks_snoc e (n ∷ ms) done [] x ys m bytes mid after a k i = absurd a
+marks_snoc e (n ∷ ms) done (z ∷ zs) x ys m bytes mid after a k i = (a.0, a.1, marks_snoc e ms (done ++ n ∷ []) (behind done z zs n) x ys m a.0 mid after a.2 k i)
+
+pub contexts_snoc : (ms done : List Mark) (xs : List Context) (x : Context) (ys : List Context) (m : Mark) → contexts_behind done xs ms ≡ x ∷ ys
+    → contexts_behind done xs (ms ++ m ∷ []) ≡ behind (done ++ ms) x ys m
+contexts_snoc [] done xs x ys m k =
+    subst (λ z. contexts_behind done z (m ∷ []) ≡ behind (done ++ []) x ys m) (sym k) (ap (λ d. behind d x ys m) (sym (append-nil done)))
+contexts_snoc (n ∷ ms) done [] x ys m k = absurd (cc)
+contexts_snoc (n ∷ ms) done (z ∷ zs) x ys m k = contexts_snoc ms (done ++ n ∷ []) (behind done z zs n) x ys m k ∙ ap (λ d. behind d x ys m) (append_assoc done (n ∷ []) ms)
+
+ends_snoc : (ms done : List Mark) (xs : List Context) (x : Context) (ys : List Context) (m : Mark) → ends_none done xs ms ≡ true → contexts_behind done xs ms ≡ x ∷ ys
+    → ends_token m (behind (done ++ ms) x ys m) ≡ false → ends_none done xs (ms ++ m ∷ []) ≡ true
+ends_snoc [] done xs x ys m h k t =
+    subst (λ z. ends_none done z (m ∷ []) ≡ true) (sym k)
+    (and_both (not (ends_token m (behind done x ys m))) true (not_false (ends_token m (behind done x ys m)) (ap (λ d. ends_token m (behind d x ys m)) (sym (append-nil done)) ∙ t)) refl)
+ends_snoc (n ∷ ms) done [] x ys m h k t = absurd (cc)
+ends_snoc (n ∷ ms) done (z ∷ zs) x ys m h k t =
+    let p = and_true (not (ends_token n (behind done z zs n))) (ends_none (done ++ n ∷ []) (behind done z zs n) ms) h in
+    and_both (not (ends_token n (behind done z zs n))) (ends_none (done ++ n ∷ []) (behind done z zs n) (ms ++ m ∷ [])) p.0
+    (ends_snoc ms (done ++ n ∷ []) (behind done z zs n) x ys m p.1 k (ap (λ d. ends_token m (behind d x ys m)) (append_assoc done (n ∷ []) ms) ∙ t))
+
+-- the levels that are open where a piece has begun
+abbrev pub pending_levels : Pending → ℕ → ℕ
+pending_levels Pending.Nothing n = n
+pending_levels Pending.Dollar n = n
+pending_levels Pending.DollarParenthesis n = suc n
+pending_levels Pending.Name n = n
+pending_levels (Pending.Head h) n = suc n
+pending_levels Pending.Single n = n
+pending_levels Pending.Backquotes n = suc n
+pending_levels Pending.BackquotesEscape n = suc n
+pending_levels Pending.Parenthesis n = n
+pending_levels (Pending.Operator o) n = n
+pending_levels Pending.Comment n = n
+
+-- what has been read of a piece that has begun, from `mid` up to `m`
+abbrev pub Held : Bool → Pending → List Context → List ℕ → List ℕ → List ℕ → Type 0
+Held e Pending.Nothing xs acc mid m = (acc ≡ []) × (mid ≡ m)
+Held e Pending.Dollar xs acc mid m = (acc ≡ []) × (in_word (top_of xs) ≡ true) × Written e (Plain 36 ∷ []) mid m
+Held e Pending.DollarParenthesis xs acc mid m = (acc ≡ []) × (in_word (top_of xs) ≡ true) × (nat_lt (levels xs) 500 ≡ true) × Written e (Plain 36 ∷ Plain 40 ∷ []) mid m
+Held e Pending.Name xs acc mid m = (is_name acc ≡ true) × (in_word (top_of xs) ≡ true) × Written e (Plain 36 ∷ plain acc) mid m
+Held e (Pending.Head h) xs acc mid m = (head_of acc ≡ Some h) × (in_word (top_of xs) ≡ true) × (nat_lt (levels xs) 500 ≡ true) × Written e (Plain 36 ∷ Plain 123 ∷ plain acc) mid m
+Held e Pending.Single xs acc mid m = (list_all is_no_quote acc ≡ true) × (has_single_quotes (top_of xs) ≡ true) × Written e (Plain 39 ∷ raw acc) mid m
+Held e Pending.Backquotes xs acc mid m =
+    ((bs : List ℕ) → is_backquoted (acc ++ bs) ≡ is_backquoted bs) × (in_word (top_of xs) ≡ true) × (nat_lt (levels xs) 500 ≡ true) × Written e (Plain 96 ∷ raw acc) mid m
+Held e Pending.BackquotesEscape xs acc mid m =
+    ((b : ℕ) (bs : List ℕ) → is_backquoted (acc ++ b ∷ bs) ≡ is_backquoted bs) × (in_word (top_of xs) ≡ true) × (nat_lt (levels xs) 500 ≡ true) × Written e (Plain 96 ∷ raw acc) mid m
+Held e Pending.Parenthesis xs acc mid m = (acc ≡ []) × (is_arithmetic (top_of xs) ≡ true) × Written e (Plain 41 ∷ []) mid m
+Held e (Pending.Operator o) xs acc mid m = (acc ≡ []) × (between_tokens (top_of xs) ≡ true) × (may_grow o ≡ true) × Written e (plain (operator_text o)) mid m
+Held e Pending.Comment xs acc mid m = (list_all is_no_newline acc ≡ true) × (between_tokens (top_of xs) ≡ true) × Written e (Plain 35 ∷ raw acc) mid m
+
+-- the `$` stands directly before
+abbrev pub Preceded : Pending → List ℕ → List ℕ → Type 0
+Preceded Pending.Dollar previous m = previous ≡ 36 ∷ m
+Preceded Pending.Nothing previous m = Unit {0}
+Preceded Pending.DollarParenthesis previous m = Unit {0}
+Preceded Pending.Name previous m = Unit {0}
+Preceded (Pending.Head h) previous m = Unit {0}
+Preceded Pending.Single previous m = Unit {0}
+Preceded Pending.Backquotes previous m = Unit {0}
+Preceded Pending.BackquotesEscape previous m = Unit {0}
+Preceded Pending.Parenthesis previous m = Unit {0}
+Preceded (Pending.Operator o) previous m = Unit {0}
+Preceded Pending.Comment previous m = Unit {0}
+
+pub no_join_at : (b : ℕ) (rest : List ℕ) → nat_eq b 92 ≡ false → begins_join (b ∷ rest) ≡ false
+no_join_at b [] h = refl
+no_join_at b (c ∷ cs) h = rw h refl
+
+module _ (e : Bool) (gap : List Mark) (front : List ℕ) where
+  -- the pieces of the first word so far
+  pub record Path (done : List Mark) (xs : List Context) (mid : List ℕ) : Type 0 where
+    pub inner : List Mark
+    pub is : gap ++ WordOpen ∷ inner ≡ done
+    pub walked : AreMarks e gap (Top ∷ []) (WordOpen ∷ inner) front mid
+    pub going : ends_none gap (Top ∷ []) (WordOpen ∷ inner) ≡ true
+    pub contexts : contexts_behind gap (Top ∷ []) (WordOpen ∷ inner) ≡ xs
+    pub inside : Inside xs
+
+  pub path_on : (done : List Mark) (x : Context) (xs : List Context) (m : Mark) (mid after : List ℕ) → Path done (x ∷ xs) mid → IsMark e x xs m mid after
+      → ends_token m (behind done x xs m) ≡ false → Path (done ++ m ∷ []) (behind done x xs m) after
+  path_on done x xs m mid after p i h =
+      record {
+        inner = p.inner ++ m ∷ [];
+        is = sym (append_assoc gap (WordOpen ∷ p.inner) (m ∷ [])) ∙ ap (λ d. d ++ m ∷ []) p.is;
+        walked = marks_snoc e (WordOpen ∷ p.inner) gap (Top ∷ []) x xs m front mid after p.walked p.contexts i;
+        going = ends_snoc (WordOpen ∷ p.inner) gap (Top ∷ []) x xs m p.going p.contexts (ap (λ d. ends_token m (behind d x xs m)) p.is ∙ h);
+        contexts = contexts_snoc (WordOpen ∷ p.inner) gap (Top ∷ []) x xs m p.contexts ∙ ap (λ d. behind d x xs m) p.is;
+        inside = inside_behind e done x xs m mid after p.inside i h;
+      }
+
+  -- a state within the first word, where the text is m
+  pub record At (t : State) (previous m : List ℕ) : Type 0 where
+    pub xs : List Context
+    pub done : List Mark
+    pub pending : Pending
+    pub acc : List ℕ
+    pub mid : List ℕ
+    pub is : t ≡ begun xs done (pending_levels pending (levels xs)) pending acc
+    pub path : Path done xs mid
+    pub held : Held e pending xs acc mid m
+    pub preceded : Preceded pending previous m
+
+  -- level 501 opens there
+  pub record DeepHere (place : List ℕ) : Type 0 where
+    pub marks : List Mark
+    pub last : List ℕ
+    pub before : AreMarks e gap (Top ∷ []) (WordOpen ∷ marks) front last
+    pub going : ends_none gap (Top ∷ []) (WordOpen ∷ marks) ≡ true
+    pub full : nat_lt (levels (contexts_behind gap (Top ∷ []) (WordOpen ∷ marks))) 500 ≡ false
+    pub within : in_word (top_of (contexts_behind gap (Top ∷ []) (WordOpen ∷ marks))) ≡ true
+    pub placed : Joined last place
+    pub opens : OpensLevel e place
+
+  pub deep_here : (done : List Mark) (xs : List Context) (mid place : List ℕ) → Path done xs mid → nat_lt (levels xs) 500 ≡ false → in_word (top_of xs) ≡ true → Joined mid place
+      → OpensLevel e place → DeepHere place
+  deep_here done xs mid place p f w j o =
+      record {
+        marks = p.inner;
+        last = mid;
+        before = p.walked;
+        going = p.going;
+        full = ap (λ ys. nat_lt (levels ys) 500) p.contexts ∙ f;
+        within = ap (λ ys. in_word (top_of ys)) p.contexts ∙ w;
+        placed = j;
+        opens = o;
+      }
+
+  pub final_word : (done : List Mark) (x : Context) (xs : List Context) (r : Bool) (mid rest : List ℕ) → list_all is_gap gap ≡ true → Path done (x ∷ xs) mid → IsMark e x xs (WordClose r) mid rest
+      → is_text (top_of xs) ≡ true → IsToken e gap front rest (kind_of (done ++ WordClose r ∷ []))
+  final_word done x xs r mid rest h p i t =
+      subst (λ k. IsToken e gap front rest k) (sym (ap (λ d. kind_of (d ++ WordClose r ∷ [])) (sym p.is ∙ sym (append_assoc gap (WordOpen ∷ []) p.inner)) ∙ word_kind_of gap p.inner r h))
+      (word p.inner r x xs mid p.walked p.going p.contexts i t)
+
+  -- what a character makes of it: `begin` is where it begins, `m` what it was read of
+  abbrev pub Onward : Stepped → List ℕ → List ℕ → List ℕ → List ℕ → Type 0
+  Onward (On t) previous begin m rest = At t begin rest
+  Onward (Before t) previous begin m rest = IsToken e gap front m (kind_of t.done)
+  Onward (After t) previous begin m rest = IsToken e gap front rest (kind_of t.done)
+  Onward (TooDeep t) previous begin m rest = DeepHere begin
+  Onward (DollarTooDeep t) previous begin m rest = DeepHere previous
+
+  pub record Going (x : Stepped) (previous begin m rest : List ℕ) : Type 0 where
+    pub it : Onward x previous begin m rest
+
+  pub either : (c : Bool) (x y : Stepped) (previous begin m rest : List ℕ) → (c ≡ true → Going x previous begin m rest) → (c ≡ false → Going y previous begin m rest)
+      → Going (cond c x y) previous begin m rest
+  either true x y previous begin m rest t u = t refl
+  either false x y previous begin m rest t u = u refl
+
+  -- a state with nothing begun
+  pub settled_at : (t : State) (done : List Mark) (xs : List Context) (previous begin m rest : List ℕ) → t ≡ settled done xs → Path done xs rest → Going (On t) previous begin m rest
+  settled_at t done xs previous begin m rest w p =
+      record { it = record { xs = xs; done = done; pending = Pending.Nothing; acc = []; mid = rest; is = w; path = p; held = (refl, refl); preceded = tt } }
+
+  -- where the whole run comes to
+  abbrev pub Shown : Scanned → Type 0
+  Shown (Ended k f r) = (f ≡ front) × IsToken e gap front r (kind_of k.done)
+  Shown (Deep r) = DeepHere r
+  Shown Open = Unit {0}

@@ -1,0 +1,269 @@
+-- Tests, and contexts one in another.
+use Rattle.std.proofs.Common.{◌≡◌, ℕ, suc, Bool, true, false, ◌||◌, ◌&&◌, not, nat_eq, List, [], ◌∷◌, length, drop, Option, Some, None, refl, ap, cond, eqb-true}
+use Rattle.sh_token_base.specs.declared.class.TokenClass.{TokenClass}
+use Rattle.sh_scanner_base.specs.declared.mark.Mark.{Mark}
+use Rattle.sh_scanner_base.specs.declared.mark.Mark.TheVariants.{Byte, Escaped, Backslash, SingleQuoted, DoubleQuotesOpen, DoubleQuotesClose, Dollar, Variable, Parameter, BraceOpen, BraceClose, ArithmeticOpen, ArithmeticClose, CommandsOpen, CommandsClose, Backquoted, WordOpen, WordClose, Blank, Comment}
+use Rattle.sh_scanner_base.specs.declared.context.Context.{Context}
+use Rattle.sh_scanner_base.specs.declared.context.Context.TheVariants.{Top, Commands, Word, Quotes, Braces, Arithmetic, Parenthesis}
+use Rattle.sh_scanner_base.specs.declared.head.Head.{Head}
+use Rattle.sh_scanner_base.specs.Bytes.{is_redirection}
+use Rattle.sh_scanner_base.specs.Characters.{Ahead, ahead, next_is}
+use Rattle.sh_scanner_base.specs.Heads.{head_of}
+use Rattle.sh_scanner_base.specs.Marks.{stands, ends_word, same_as, fits, behind, with_token, class_of_operator, class_of_word, word_over, parenthesized, braces_of, in_word, is_text, between_tokens, is_word, is_quotes, is_braces, is_arithmetic, is_parenthesis, has_single_quotes, has_double_quotes, is_quoted, may_close, top_of, levels}
+
+pub not_or : (c d : Bool) → not (c || d) ≡ true → (c ≡ false) × (d ≡ false)
+not_or true d h = absurd (cc)
+not_or false true h = absurd (cc)
+not_or false false h = (refl, refl)
+
+pub or_false : (c d : Bool) → (c || d) ≡ false → (c ≡ false) × (d ≡ false)
+or_false true d h = absurd (cc)
+or_false false d h = (refl, h)
+
+pub and_true : (c d : Bool) → (c && d) ≡ true → (c ≡ true) × (d ≡ true)
+and_true true d h = (refl, h)
+and_true false d h = absurd (cc)
+
+pub not_true : (c : Bool) → not c ≡ true → c ≡ false
+not_true true h = absurd (cc)
+not_true false h = refl
+
+pub not_false : (c : Bool) → c ≡ false → not c ≡ true
+not_false true h = absurd (cc)
+not_false false h = refl
+
+pub and_false : (c : Bool) → (c && false) ≡ false
+and_false true = refl
+and_false false = refl
+
+pub and_right : (c d : Bool) → d ≡ false → (c && d) ≡ false
+and_right true d h = h
+and_right false d h = refl
+
+pub and_left : (c d : Bool) → c ≡ false → (c && d) ≡ false
+and_left true d h = absurd (cc)
+and_left false d h = refl
+
+pub and_both : (c d : Bool) → c ≡ true → d ≡ true → (c && d) ≡ true
+and_both true d h g = g
+and_both false d h g = absurd (cc)
+
+-- a byte that passes a test is no byte that doesn't
+pub differs : (f : ℕ → Bool) (a b : ℕ) → f b ≡ true → f a ≡ false → nat_eq b a ≡ false
+differs f a b h g = go (nat_eq b a) refl
+  where
+    go : (c : Bool) → nat_eq b a ≡ c → c ≡ false
+    go false e = refl
+    go true e = let x = ap f (eqb-true b a e) in absurd (cc)
+
+-- the text itself is below all others, words stand in commands and everything else in a word
+abbrev pub nested : List Context → Bool
+nested [] = false
+nested (Top ∷ []) = true
+nested (Top ∷ x ∷ xs) = false
+nested (Commands ts ∷ xs) = in_word (top_of xs) && nested xs
+nested (Word n ∷ xs) = between_tokens (top_of xs) && nested xs
+nested (Quotes ∷ xs) = in_word (top_of xs) && nested xs
+nested (Braces q ∷ xs) = in_word (top_of xs) && nested xs
+nested (Arithmetic ∷ xs) = in_word (top_of xs) && nested xs
+nested (Parenthesis ∷ xs) = in_word (top_of xs) && nested xs
+
+-- what isn't the text itself stands on something
+pub below : (x : Context) (xs : List Context) → is_text x ≡ false → nested (x ∷ xs) ≡ true → nested xs ≡ true
+below Top xs t h = absurd (cc)
+below (Commands ts) xs t h = (and_true (in_word (top_of xs)) (nested xs) h).1
+below (Word n) xs t h = (and_true (between_tokens (top_of xs)) (nested xs) h).1
+below Quotes xs t h = (and_true (in_word (top_of xs)) (nested xs) h).1
+below (Braces q) xs t h = (and_true (in_word (top_of xs)) (nested xs) h).1
+below Arithmetic xs t h = (and_true (in_word (top_of xs)) (nested xs) h).1
+below Parenthesis xs t h = (and_true (in_word (top_of xs)) (nested xs) h).1
+
+pub below_word : (n : ℕ) (xs : List Context) → nested (Word n ∷ xs) ≡ true → between_tokens (top_of xs) ≡ true
+below_word n xs h = (and_true (between_tokens (top_of xs)) (nested xs) h).0
+
+pub word_no_text : (x : Context) → in_word x ≡ true → is_text x ≡ false
+word_no_text Top h = absurd (cc)
+word_no_text (Commands ts) h = absurd (cc)
+word_no_text (Word n) h = refl
+word_no_text Quotes h = refl
+word_no_text (Braces q) h = refl
+word_no_text Arithmetic h = refl
+word_no_text Parenthesis h = refl
+
+pub word_no_gap : (x : Context) → in_word x ≡ true → between_tokens x ≡ false
+word_no_gap Top h = absurd (cc)
+word_no_gap (Commands ts) h = absurd (cc)
+word_no_gap (Word n) h = refl
+word_no_gap Quotes h = refl
+word_no_gap (Braces q) h = refl
+word_no_gap Arithmetic h = refl
+word_no_gap Parenthesis h = refl
+
+pub double_in_word : (x : Context) → has_double_quotes x ≡ true → in_word x ≡ true
+double_in_word Top h = absurd (cc)
+double_in_word (Commands ts) h = absurd (cc)
+double_in_word (Word n) h = refl
+double_in_word Quotes h = absurd (cc)
+double_in_word (Braces q) h = refl
+double_in_word Arithmetic h = absurd (cc)
+double_in_word Parenthesis h = absurd (cc)
+
+pub single_in_word : (x : Context) → has_single_quotes x ≡ true → in_word x ≡ true
+single_in_word Top h = absurd (cc)
+single_in_word (Commands ts) h = absurd (cc)
+single_in_word (Word n) h = refl
+single_in_word Quotes h = absurd (cc)
+single_in_word (Braces q) h = refl
+single_in_word Arithmetic h = absurd (cc)
+single_in_word Parenthesis h = absurd (cc)
+
+-- one more token in the innermost
+pub nested_token : (c : TokenClass) (xs : List Context) → nested xs ≡ true → nested (with_token c xs) ≡ true
+nested_token c [] h = h
+nested_token c (Top ∷ xs) h = h
+nested_token c (Commands ts ∷ xs) h = h
+nested_token c (Word n ∷ xs) h = h
+nested_token c (Quotes ∷ xs) h = h
+nested_token c (Braces q ∷ xs) h = h
+nested_token c (Arithmetic ∷ xs) h = h
+nested_token c (Parenthesis ∷ xs) h = h
+
+pub levels_token : (c : TokenClass) (xs : List Context) → levels (with_token c xs) ≡ levels xs
+levels_token c [] = refl
+levels_token c (Top ∷ xs) = refl
+levels_token c (Commands ts ∷ xs) = refl
+levels_token c (Word n ∷ xs) = refl
+levels_token c (Quotes ∷ xs) = refl
+levels_token c (Braces q ∷ xs) = refl
+levels_token c (Arithmetic ∷ xs) = refl
+levels_token c (Parenthesis ∷ xs) = refl
+
+pub between_token : (c : TokenClass) (xs : List Context) → between_tokens (top_of (with_token c xs)) ≡ between_tokens (top_of xs)
+between_token c [] = refl
+between_token c (Top ∷ xs) = refl
+between_token c (Commands ts ∷ xs) = refl
+between_token c (Word n ∷ xs) = refl
+between_token c (Quotes ∷ xs) = refl
+between_token c (Braces q ∷ xs) = refl
+between_token c (Arithmetic ∷ xs) = refl
+between_token c (Parenthesis ∷ xs) = refl
+
+pub text_token : (c : TokenClass) (xs : List Context) → is_text (top_of (with_token c xs)) ≡ is_text (top_of xs)
+text_token c [] = refl
+text_token c (Top ∷ xs) = refl
+text_token c (Commands ts ∷ xs) = refl
+text_token c (Word n ∷ xs) = refl
+text_token c (Quotes ∷ xs) = refl
+text_token c (Braces q ∷ xs) = refl
+text_token c (Arithmetic ∷ xs) = refl
+text_token c (Parenthesis ∷ xs) = refl
+
+-- the text itself is alone
+pub text_alone : (xs : List Context) → nested xs ≡ true → is_text (top_of xs) ≡ true → xs ≡ Top ∷ []
+text_alone [] h t = absurd (cc)
+text_alone (Top ∷ []) h t = refl
+text_alone (Top ∷ x ∷ xs) h t = absurd (cc)
+text_alone (Commands ts ∷ xs) h t = absurd (cc)
+text_alone (Word n ∷ xs) h t = absurd (cc)
+text_alone (Quotes ∷ xs) h t = absurd (cc)
+text_alone (Braces q ∷ xs) h t = absurd (cc)
+text_alone (Arithmetic ∷ xs) h t = absurd (cc)
+text_alone (Parenthesis ∷ xs) h t = absurd (cc)
+
+-- what is left by a piece of its own is not the text itself
+pub quotes_left : (x : Context) → is_quotes x ≡ true → is_text x ≡ false
+quotes_left Top h = absurd (cc)
+quotes_left (Commands ts) h = refl
+quotes_left (Word n) h = refl
+quotes_left Quotes h = refl
+quotes_left (Braces q) h = refl
+quotes_left Arithmetic h = refl
+quotes_left Parenthesis h = refl
+
+pub braces_left : (x : Context) → is_braces x ≡ true → is_text x ≡ false
+braces_left Top h = absurd (cc)
+braces_left (Commands ts) h = refl
+braces_left (Word n) h = refl
+braces_left Quotes h = refl
+braces_left (Braces q) h = refl
+braces_left Arithmetic h = refl
+braces_left Parenthesis h = refl
+
+pub arithmetic_left : (x : Context) → is_arithmetic x ≡ true → is_text x ≡ false
+arithmetic_left Top h = absurd (cc)
+arithmetic_left (Commands ts) h = refl
+arithmetic_left (Word n) h = refl
+arithmetic_left Quotes h = refl
+arithmetic_left (Braces q) h = refl
+arithmetic_left Arithmetic h = refl
+arithmetic_left Parenthesis h = refl
+
+pub closing_left : (x : Context) → may_close x ≡ true → is_text x ≡ false
+closing_left Top h = absurd (cc)
+closing_left (Commands ts) h = refl
+closing_left (Word n) h = refl
+closing_left Quotes h = refl
+closing_left (Braces q) h = refl
+closing_left Arithmetic h = refl
+closing_left Parenthesis h = refl
+
+-- a word in what stands between tokens, and everything else in a word
+pub nested_word : (n : ℕ) (x : Context) (xs : List Context) → between_tokens x ≡ true → nested (x ∷ xs) ≡ true → nested (Word n ∷ x ∷ xs) ≡ true
+nested_word n x xs b h = rw (b, h) refl
+
+nested_in : (x : Context) (xs : List Context) → in_word x ≡ true → nested (x ∷ xs) ≡ true → (in_word x && nested (x ∷ xs)) ≡ true
+nested_in x xs b h = and_both (in_word x) (nested (x ∷ xs)) b h
+
+parenthesis_nested : (b : ℕ) (x : Context) (xs : List Context) → in_word x ≡ true → nested (x ∷ xs) ≡ true → nested (parenthesized b x xs) ≡ true
+parenthesis_nested b x xs w h = go (nat_eq b 40 && (is_arithmetic x || is_parenthesis x)) (nat_eq b 41 && is_parenthesis x)
+  where
+    go : (c d : Bool) → nested (cond c (Parenthesis ∷ x ∷ xs) (cond d xs (x ∷ xs))) ≡ true
+    go true d = nested_in x xs w h
+    go false true = below x xs (word_no_text x w) h
+    go false false = h
+
+pub stands_in_word : (x : Context) (b : ℕ) (next : Ahead) → stands x b next ≡ true → in_word x ≡ true
+stands_in_word Top b next h = absurd (cc)
+stands_in_word (Commands ts) b next h = absurd (cc)
+stands_in_word (Word n) b next h = refl
+stands_in_word Quotes b next h = refl
+stands_in_word (Braces q) b next h = refl
+stands_in_word Arithmetic b next h = refl
+stands_in_word Parenthesis b next h = refl
+
+close_nested : (r : Bool) (done : List Mark) (x : Context) (xs : List Context) → is_word x ≡ true → nested (x ∷ xs) ≡ true → nested (word_over r done (x ∷ xs)) ≡ true
+close_nested r done Top xs w h = absurd (cc)
+close_nested r done (Commands ts) xs w h = absurd (cc)
+close_nested r done (Word n) xs w h = nested_token (class_of_word r (drop (suc n) done)) xs (below (Word n) xs refl h)
+close_nested r done Quotes xs w h = absurd (cc)
+close_nested r done (Braces q) xs w h = absurd (cc)
+close_nested r done Arithmetic xs w h = absurd (cc)
+close_nested r done Parenthesis xs w h = absurd (cc)
+
+braces_nested : (h : Option Head) (q : Bool) (x : Context) (xs : List Context) → in_word x ≡ true → nested (x ∷ xs) ≡ true → nested (braces_of q h ∷ x ∷ xs) ≡ true
+braces_nested None q x xs w n = nested_in x xs w n
+braces_nested (Some h) q x xs w n = nested_in x xs w n
+
+-- each piece that fits keeps them nested
+pub nested_behind : (e : Bool) (done : List Mark) (x : Context) (xs : List Context) (m : Mark) (after : List ℕ) → nested (x ∷ xs) ≡ true → fits e x m after ≡ true → nested (behind done x xs m) ≡ true
+nested_behind e done x xs (Byte b) after n f = parenthesis_nested b x xs (stands_in_word x b _ f) n
+nested_behind e done x xs (Escaped b) after n f = n
+nested_behind e done x xs (Backslash b) after n f = n
+nested_behind e done x xs (SingleQuoted bs) after n f = n
+nested_behind e done x xs DoubleQuotesOpen after n f = nested_in x xs (double_in_word x f) n
+nested_behind e done x xs DoubleQuotesClose after n f = below x xs (quotes_left x f) n
+nested_behind e done x xs Dollar after n f = n
+nested_behind e done x xs (Variable bs) after n f = n
+nested_behind e done x xs (Parameter b) after n f = n
+nested_behind e done x xs (BraceOpen bs) after n f = braces_nested (head_of bs) (is_quoted x) x xs (and_true (in_word x) _ f).0 n
+nested_behind e done x xs BraceClose after n f = below x xs (braces_left x f) n
+nested_behind e done x xs ArithmeticOpen after n f = nested_in x xs f n
+nested_behind e done x xs ArithmeticClose after n f = below x xs (arithmetic_left x f) n
+nested_behind e done x xs CommandsOpen after n f = nested_in x xs (and_true (in_word x) _ f).0 n
+nested_behind e done x xs CommandsClose after n f = below x xs (closing_left x f) n
+nested_behind e done x xs (Backquoted bs) after n f = n
+nested_behind e done x xs WordOpen after n f = nested_word (length done) x xs (and_true (between_tokens x) _ f).0 n
+nested_behind e done x xs (WordClose r) after n f = close_nested r done x xs (and_true (is_word x) (ends_word (ahead e after) && same_as r (next_is is_redirection (ahead e after))) f).0 n
+nested_behind e done x xs (Blank b) after n f = n
+nested_behind e done x xs (Comment bs) after n f = n
+nested_behind e done x xs (Mark.Operator o) after n f = nested_token (class_of_operator o) (x ∷ xs) n

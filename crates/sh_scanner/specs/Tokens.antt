@@ -1,0 +1,73 @@
+-- The token at a place of a text (XCU 2.3), and a text in which too many levels open.
+use Rattle.std.specs.Prelude.{◌≡◌, ℕ, Bool, true, false, ◌&&◌, nat_eq, nat_lt, List, [], ◌∷◌, ◌++◌, if◌then◌else◌}
+use Rattle.std.specs.List.{list_all}
+use Rattle.sh_token_base.specs.declared.class.TokenClass.{TokenClass}
+use Rattle.sh_token_base.specs.Classes.{class_number}
+use Rattle.sh_scanner_base.specs.declared.character.Character.TheVariants.{Plain}
+use Rattle.sh_scanner_base.specs.declared.operator.Operator.{Operator}
+use Rattle.sh_scanner_base.specs.declared.context.Context.{Context}
+use Rattle.sh_scanner_base.specs.declared.context.Context.TheVariants.{Top}
+use Rattle.sh_scanner_base.specs.declared.mark.Mark.{Mark}
+use Rattle.sh_scanner_base.specs.declared.mark.Mark.TheVariants.{WordOpen, WordClose}
+use Rattle.sh_scanner_base.specs.Characters.{joins, Written}
+use Rattle.sh_scanner_base.specs.Marks.{in_word, top_of, levels, is_gap, is_text, IsMark, AreMarks, contexts_behind, ends_none, class_of_word}
+use Rattle.sh_scanner.specs.declared.token.TokenKind.{TokenKind}
+
+-- digits directly before < or > are a descriptor's number (XCU 2.10.1)
+abbrev pub is_number : Bool → List Mark → Bool
+is_number r ms = nat_eq (class_number (class_of_word r ms)) (class_number TokenClass.Number)
+
+abbrev pub word_kind : Bool → List Mark → TokenKind
+word_kind r ms = if is_number r ms then TokenKind.Number else TokenKind.Word ms
+
+abbrev pub begins_join : List ℕ → Bool
+begins_join [] = false
+begins_join (b ∷ []) = false
+begins_join (b ∷ c ∷ bs) = nat_eq b 92 && nat_eq c 10
+
+-- joined lines, and then the front
+pub record Joined (bytes front : List ℕ) : Type 0 where
+  pub lines : ℕ
+  pub is : bytes ≡ joins lines ++ front
+  pub over : begins_join front ≡ false
+
+-- the bytes begin with a token of this kind, and the rest is left; e: they are the last of the input; the gap is what lies before
+pub data IsToken (e : Bool) (gap : List Mark) (front rest : List ℕ) : TokenKind → Type 0 where
+  ending : e ≡ true → front ≡ [] → rest ≡ [] → IsToken e gap front rest TokenKind.End
+  operator : (o : Operator) → IsMark e Top [] (Mark.Operator o) front rest → IsToken e gap front rest (TokenKind.Operator o)
+  -- the word's pieces, none of which comes back to the text itself
+  word : (ms : List Mark) → (r : Bool) → (x : Context) → (xs : List Context) → (middle : List ℕ) → AreMarks e gap (Top ∷ []) (WordOpen ∷ ms) front middle
+      → ends_none gap (Top ∷ []) (WordOpen ∷ ms) ≡ true → contexts_behind gap (Top ∷ []) (WordOpen ∷ ms) ≡ x ∷ xs → IsMark e x xs (WordClose r) middle rest
+      → is_text (top_of xs) ≡ true → IsToken e gap front rest (word_kind r ms)
+
+-- the bytes have blanks, comments and joined lines, then from the front on a token of this kind, and then the rest
+pub record HasToken (e : Bool) (bytes front rest : List ℕ) (kind : TokenKind) : Type 0 where
+  pub gap : List Mark
+  pub middle : List ℕ
+  pub blank : list_all is_gap gap ≡ true
+  pub between : AreMarks e [] (Top ∷ []) gap bytes middle
+  pub joined : Joined middle front
+  pub token : IsToken e gap front rest kind
+
+-- `${`, `$(` or a backquote comes first
+pub data OpensLevel (e : Bool) (bytes : List ℕ) : Type 0 where
+  braces : (after : List ℕ) → Written e (Plain 36 ∷ Plain 123 ∷ []) bytes after → OpensLevel e bytes
+  parenthesis : (after : List ℕ) → Written e (Plain 36 ∷ Plain 40 ∷ []) bytes after → OpensLevel e bytes
+  backquote : (after : List ℕ) → Written e (Plain 96 ∷ []) bytes after → OpensLevel e bytes
+
+-- in its first token the text has 500 open levels, and from `place` on a piece that opens one more
+pub record IsTooDeep (e : Bool) (bytes place : List ℕ) : Type 0 where
+  pub gap : List Mark
+  pub middle : List ℕ
+  pub front : List ℕ
+  pub blank : list_all is_gap gap ≡ true
+  pub between : AreMarks e [] (Top ∷ []) gap bytes middle
+  pub joined : Joined middle front
+  pub marks : List Mark
+  pub last : List ℕ
+  pub before : AreMarks e gap (Top ∷ []) (WordOpen ∷ marks) front last
+  pub going : ends_none gap (Top ∷ []) (WordOpen ∷ marks) ≡ true
+  pub full : nat_lt (levels (contexts_behind gap (Top ∷ []) (WordOpen ∷ marks))) 500 ≡ false
+  pub within : in_word (top_of (contexts_behind gap (Top ∷ []) (WordOpen ∷ marks))) ≡ true
+  pub placed : Joined last place
+  pub opens : OpensLevel e place
