@@ -1,0 +1,4 @@
+pub mod Forms
+pub mod Spelling
+pub mod Text
+pub mod Tokens

@@ -1,0 +1,375 @@
+//! Syntax trees of the Shell Command Language (XCU 2.2, 2.5 to 2.7, 2.9 and 2.10). What a running shell
+//! goes on to hold, beside its tree, is shared by `Rc`. Nested syntax makes a tree deep, of 500 levels at
+//! most; a list of any length is a vector, never a chain of pairs.
+use sh_syntax::sequence::Text;
+pub use sh_syntax::word::Span;
+use std::rc::Rc;
+
+/// A word (XCU 2.3): its parts, and its bytes as they stand in the source.
+#[cycle(syntax)]
+#[derive(Drop)]
+pub struct Word {
+    pub parts: Rc<Parts>,
+    /// Each byte of the word, its quotes and joined lines included.
+    pub source: Text,
+    /// Where the word stands in the text that was read. A word of an alias's value stands where the
+    /// replaced word does.
+    pub span: Span,
+}
+
+/// Parts one after another: of a word, between double quotes, in `${..}`, in `$((..))` or of the body of a
+/// here-document.
+#[cycle(syntax)]
+#[derive(Drop)]
+pub struct Parts {
+    pub items: Vec<Part>,
+}
+
+/// A part of a word (XCU 2.2, 2.6).
+#[cycle(syntax)]
+#[derive(Drop)]
+pub enum Part {
+    /// Bytes that stand for themselves, as many as there are in a row.
+    Literal(Text),
+    /// A byte behind a backslash that quotes it (XCU 2.2.1).
+    Escaped(u8),
+    /// The bytes between single quotes (XCU 2.2.2).
+    SingleQuoted(Text),
+    /// What stands between double quotes (XCU 2.2.3).
+    DoubleQuoted(Rc<Parts>),
+    /// `$p` or `${p}` (XCU 2.6.2).
+    Parameter(Parameter),
+    /// `${#p}`: the length of a parameter's value.
+    Length(Parameter),
+    /// `${p-w}`, `${p=w}`, `${p?w}` or `${p+w}`, with a colon or without.
+    Conditional {
+        parameter: Parameter,
+        absence: Absence,
+        action: ConditionalAction,
+        word: Rc<Parts>,
+    },
+    /// `${p%w}`, `${p%%w}`, `${p#w}` or `${p##w}`: the value without what a pattern matches.
+    Removal {
+        parameter: Parameter,
+        affix: Affix,
+        extent: Extent,
+        pattern: Rc<Parts>,
+    },
+    /// `$(..)`: a command substitution (XCU 2.6.3). With no item where nothing stands in it.
+    Substitution(Rc<Complete>),
+    /// A command substitution in backquotes, as for `$(..)`.
+    Backquoted(Rc<Complete>),
+    /// `$((..))`: an arithmetic expansion (XCU 2.6.4).
+    Arithmetic(Rc<Parts>),
+}
+
+/// A parameter (XCU 2.5).
+#[derive(Debug, Drop)]
+pub enum Parameter {
+    /// `NAME`: a variable.
+    Variable(Text),
+    /// `1` and above: a positional parameter.
+    Positional(usize),
+    /// One of the special parameters.
+    Special(SpecialParameter),
+}
+
+/// A special parameter (XCU 2.5.2).
+#[derive(Clone, Copy, Debug, PartialEq, Eq)]
+pub enum SpecialParameter {
+    /// `@`: the positional parameters, each a field where quoted.
+    At,
+    /// `*`: the positional parameters, joined where quoted.
+    Asterisk,
+    /// `#`: how many positional parameters there are.
+    Count,
+    /// `?`: the status of the last pipeline.
+    Status,
+    /// `-`: the letters of the options.
+    Options,
+    /// `$`: the process id of the shell.
+    Process,
+    /// `!`: the process id of the last asynchronous list.
+    Background,
+    /// `0`: the name of the shell or of its script.
+    Zero,
+}
+
+/// When `${p-w}` and its like take the word, or for `+` don't (XCU 2.6.2).
+#[derive(Clone, Copy, Debug, PartialEq, Eq)]
+pub enum Absence {
+    /// Without a colon: the parameter is unset.
+    Unset,
+    /// With a colon: the parameter is unset or null.
+    UnsetOrNull,
+}
+
+/// What `${p-w}` and its like do with the word (XCU 2.6.2).
+#[derive(Clone, Copy, Debug, PartialEq, Eq)]
+pub enum ConditionalAction {
+    /// `-`: uses it in place of the value.
+    Default,
+    /// `=`: assigns it.
+    Assign,
+    /// `?`: ends with it as a message.
+    Error,
+    /// `+`: uses it where there is a value.
+    Alternative,
+}
+
+/// Which end of a value a pattern is taken off (XCU 2.6.2).
+#[derive(Clone, Copy, Debug, PartialEq, Eq)]
+pub enum Affix {
+    /// `#`: the front.
+    Prefix,
+    /// `%`: the back.
+    Suffix,
+}
+
+/// How much of a value a pattern is to match (XCU 2.6.2).
+#[derive(Clone, Copy, Debug, PartialEq, Eq)]
+pub enum Extent {
+    /// The sign once: as little as matches.
+    Smallest,
+    /// The sign twice: as much as matches.
+    Largest,
+}
+
+/// A name as it stands in the source (XBD 3.216).
+#[derive(Debug, Drop)]
+pub struct Name {
+    pub name: Text,
+    /// Each byte of the word that holds it, joined lines included.
+    pub source: Text,
+}
+
+/// A redirection (XCU 2.7).
+#[cycle(syntax)]
+#[derive(Drop)]
+pub struct Redirect {
+    /// The digits of the descriptor's number, where there is one.
+    pub number: Option<Text>,
+    pub target: Target,
+}
+
+/// What a redirection puts in the descriptor's place (XCU 2.7).
+#[cycle(syntax)]
+#[derive(Drop)]
+pub enum Target {
+    /// A file, or another descriptor, that a word names.
+    Named {
+        operator: RedirectOperator,
+        word: Word,
+    },
+    /// A here-document (XCU 2.7.4). The body of one whose delimiter is quoted is a single literal part.
+    Here {
+        operator: HereDocumentOperator,
+        delimiter: Word,
+        body: Rc<Parts>,
+    },
+}
+
+/// The operator of a redirection to what a word names (XCU 2.7).
+#[derive(Clone, Copy, Debug, PartialEq, Eq)]
+pub enum RedirectOperator {
+    /// `<`
+    Input,
+    /// `>`
+    Output,
+    /// `>|`
+    Clobber,
+    /// `>>`
+    Append,
+    /// `<&`
+    DuplicateInput,
+    /// `>&`
+    DuplicateOutput,
+    /// `<>`
+    ReadWrite,
+}
+
+/// The operator of a here-document (XCU 2.7.4).
+#[derive(Clone, Copy, Debug, PartialEq, Eq)]
+pub enum HereDocumentOperator {
+    /// `<<`
+    AsWritten,
+    /// `<<-`: leading tabs are stripped.
+    TabsStripped,
+}
+
+/// A command (XCU 2.9).
+#[cycle(syntax)]
+#[derive(Drop)]
+pub enum Command {
+    /// A simple command: at least one item, in the order of the source.
+    Simple(Vec<SimpleItem>),
+    Compound(Rc<Compound>),
+    /// A function definition (XCU 2.9.5).
+    Function { name: Name, body: Rc<Compound> },
+}
+
+/// What a simple command is made of (XCU 2.9.1).
+#[cycle(syntax)]
+#[derive(Drop)]
+pub enum SimpleItem {
+    /// `NAME=value`.
+    Assignment {
+        name: Text,
+        value: Rc<Parts>,
+        /// Each byte of the word, from the name on.
+        source: Text,
+    },
+    Word(Word),
+    Redirect(Redirect),
+}
+
+/// A compound command with its redirections (XCU 2.9.4).
+#[cycle(syntax)]
+#[derive(Drop)]
+pub struct Compound {
+    pub form: CompoundForm,
+    pub redirects: Vec<Redirect>,
+}
+
+/// The compound commands (XCU 2.9.4).
+#[cycle(syntax)]
+#[derive(Drop)]
+pub enum CompoundForm {
+    /// `{ list ; }`
+    Group(Rc<Complete>),
+    /// `( list )`
+    Subshell(Rc<Complete>),
+    /// `if list then list`, each further `elif list then list`, `else list`, `fi`.
+    If {
+        condition: Rc<Complete>,
+        body: Rc<Complete>,
+        else_ifs: Vec<ElseIf>,
+        else_body: Option<Rc<Complete>>,
+    },
+    /// `while list do list done`, or the same with `until`.
+    Loop {
+        kind: LoopKind,
+        condition: Rc<Complete>,
+        body: Rc<Complete>,
+    },
+    /// `for NAME in words ; do list done`
+    For {
+        name: Name,
+        words: Vec<Word>,
+        body: Rc<Complete>,
+    },
+    /// `for NAME do list done`, over the positional parameters.
+    ForParameters {
+        name: Name,
+        /// Whether a semicolon or newline stands before the `do`.
+        is_separated: bool,
+        body: Rc<Complete>,
+    },
+    /// `case word in items esac`
+    Case {
+        word: Word,
+        items: Vec<CaseItem>,
+    },
+}
+
+/// `elif list then list` (XCU 2.9.4.4).
+#[cycle(syntax)]
+#[derive(Drop)]
+pub struct ElseIf {
+    pub condition: Rc<Complete>,
+    pub body: Rc<Complete>,
+}
+
+/// How long a loop runs (XCU 2.9.4.5, 2.9.4.6).
+#[derive(Clone, Copy, Debug, PartialEq, Eq)]
+pub enum LoopKind {
+    /// While its condition succeeds.
+    While,
+    /// Until its condition succeeds.
+    Until,
+}
+
+/// An item of a case: patterns and a list (XCU 2.9.4.3).
+#[cycle(syntax)]
+#[derive(Drop)]
+pub struct CaseItem {
+    /// Whether the optional `(` stands before the patterns.
+    pub has_parenthesis: bool,
+    pub pattern: Word,
+    /// The patterns behind a `|`.
+    pub more_patterns: Vec<Word>,
+    /// Without an item where nothing stands behind the `)`.
+    pub body: Rc<Complete>,
+    pub end: CaseEnd,
+}
+
+/// What ends an item of a case (XCU 2.9.4.3).
+#[derive(Clone, Copy, Debug, PartialEq, Eq)]
+pub enum CaseEnd {
+    /// Nothing: it is the last item, and the `;;` is left out.
+    Omitted,
+    /// `;;`
+    Break,
+}
+
+/// A pipeline (XCU 2.9.2).
+#[cycle(syntax)]
+#[derive(Drop)]
+pub struct Pipeline {
+    /// Whether a `!` stands before it.
+    pub is_negated: bool,
+    pub first: Rc<Command>,
+    /// The commands behind a `|`.
+    pub rest: Vec<Rc<Command>>,
+}
+
+/// An AND-OR list (XCU 2.9.3).
+#[cycle(syntax)]
+#[derive(Drop)]
+pub struct AndOr {
+    pub first: Rc<Pipeline>,
+    /// The pipelines behind a `&&` or `||`.
+    pub rest: Vec<Connected>,
+}
+
+/// A further pipeline of an AND-OR list, and what joins it to the one before.
+#[cycle(syntax)]
+#[derive(Drop)]
+pub struct Connected {
+    pub connector: Connector,
+    pub pipeline: Rc<Pipeline>,
+}
+
+/// What joins two pipelines (XCU 2.9.3.2, 2.9.3.3).
+#[derive(Clone, Copy, Debug, PartialEq, Eq)]
+pub enum Connector {
+    /// `&&`: run if what stands before it succeeds.
+    And,
+    /// `||`: run if what stands before it fails.
+    Or,
+}
+
+/// AND-OR lists one after another: a complete command (XCU 2.10.2), the list inside a compound command, or
+/// the commands of a substitution.
+#[cycle(syntax)]
+#[derive(Drop)]
+pub struct Complete {
+    pub items: Vec<ListItem>,
+}
+
+/// An AND-OR list of a list, and how it is run (XCU 2.9.3).
+#[cycle(syntax)]
+#[derive(Drop)]
+pub struct ListItem {
+    pub list: Rc<AndOr>,
+    pub separator: Separator,
+}
+
+/// What stands behind an AND-OR list (XCU 2.9.3).
+#[derive(Clone, Copy, Debug, PartialEq, Eq)]
+pub enum Separator {
+    /// `;`, a newline or nothing: the shell waits for its end.
+    Sequential,
+    /// `&`: the shell goes on at once.
+    Asynchronous,
+}
