@@ -2,21 +2,10 @@
 # Counts the instructions of one evaluation of a short expression, and of one that is 16 times longer than another, and
 # prints the ratio of their costs per byte. It works on a copy of the crates in a folder of its own. Needs valgrind.
 set -eu
-top=$(cd "$(dirname "$0")/.." && pwd)
-work=${BENCH_FOLDER:-$(mktemp -d)}
-[ -n "${BENCH_FOLDER:-}" ] || trap 'rm -rf "$work"' EXIT
-cd "$work"
+. "$(dirname "$0")/bench_common.sh"
 if [ ! -x crates/bench/out/bench ]; then
-    git init -q .
-    mkdir -p crates/bench/src crates/bench/specs
-    for crate in sh_grammar sh_vars sh_arith_base sh_arith; do
-        mkdir -p crates/$crate
-        cp -r "$top"/crates/$crate/src "$top"/crates/$crate/specs "$top"/crates/$crate/proofs crates/$crate/
-    done
-    touch crates/bench/specs/Lib.antt
-    grep -E '^(sh_grammar|sh_vars|sh_arith_base|sh_arith):' "$top"/crates.txt > crates.txt
-    echo 'bench: sh_arith sh_vars' >> crates.txt
-    cat > crates/bench/src/main.rt <<'RT'
+    copy_crates sh_grammar sh_vars sh_arith_base sh_arith
+    build_bench sh_arith sh_vars <<'RT'
 //! Evaluates a text as often as the arguments say: a text, how often it stands before `n`, and a count.
 #![tactic(auto)]
 
@@ -53,12 +42,11 @@ fn main(rt: HostRuntime) -> io::Result<()> {
     Ok(())
 }
 RT
-    (cd crates/bench && rt run -- 'n+' 1 1) > build.log 2>&1
 fi
 count() { # instructions of one evaluation: the difference of 21 and one, over 20
     local many one
-    many=$(valgrind --tool=callgrind --callgrind-out-file=/dev/null crates/bench/out/bench "$1" "$2" 21 2>&1 | sed -n 's/.*Collected : //p')
-    one=$(valgrind --tool=callgrind --callgrind-out-file=/dev/null crates/bench/out/bench "$1" "$2" 1 2>&1 | sed -n 's/.*Collected : //p')
+    many=$(instructions "$1" "$2" 21)
+    one=$(instructions "$1" "$2" 1)
     echo $(((many - one) / 20))
 }
 unit='1+(n*2-3)%5+'

@@ -3,20 +3,9 @@
 # order, and prints their ratio per byte of the image. It works on copies of the crates in a folder of its own. Needs
 # valgrind.
 set -eu
-top=$(cd "$(dirname "$0")/.." && pwd)
-work=$(mktemp -d)
-trap 'rm -rf "$work"' EXIT
-cd "$work"
-git init -q .
-mkdir -p crates/bench/src crates/bench/specs
-for name in $(cd "$top/crates" && ls -d sh_files*); do
-    mkdir -p "crates/$name"
-    cp -r "$top/crates/$name/src" "$top/crates/$name/specs" "$top/crates/$name/proofs" "crates/$name/"
-done
-touch crates/bench/specs/Lib.antt
-grep '^sh_files' "$top/crates.txt" > crates.txt
-printf 'bench: sh_files\n' >> crates.txt
-cat > crates/bench/src/main.rt <<'RT'
+. "$(dirname "$0")/bench_common.sh"
+copy_crates sh_files_base sh_files
+build_bench sh_files <<'RT'
 //! Reads an image of so many files, in the order of their paths or in a mixed order, as often as the arguments say.
 #![tactic(auto)]
 
@@ -97,13 +86,9 @@ fn main(rt: HostRuntime) -> io::Result<()> {
     Ok(())
 }
 RT
-(cd crates/bench && rt run -- 10 0 1) > log 2>&1 || { tail -20 log; exit 1; }
-run() { # instructions of a number of readings
-    valgrind --tool=callgrind --callgrind-out-file=/dev/null crates/bench/out/bench "$@" 2>&1 | sed -n 's/.*Collected : //p'
-}
 for mixed in 0 1; do
-    small=$((($(run 100 $mixed 11) - $(run 100 $mixed 1)) / 10))
-    large=$(($(run 10000 $mixed 2) - $(run 10000 $mixed 1)))
+    small=$((($(instructions 100 $mixed 11) - $(instructions 100 $mixed 1)) / 10))
+    large=$(($(instructions 10000 $mixed 2) - $(instructions 10000 $mixed 1)))
     small_bytes=$(crates/bench/out/bench 100 $mixed 0 | sed 's/ .*//')
     large_bytes=$(crates/bench/out/bench 10000 $mixed 0 | sed 's/ .*//')
     order=$([ $mixed = 0 ] && echo 'in order' || echo 'mixed')

@@ -2,16 +2,9 @@
 # Counts the instructions of one match of `*a*a*a*a*a*b` against 1,000 and 10,000 bytes `a`, and prints their ratio.
 # It works on a copy of sh_pattern in a folder of its own. Needs valgrind.
 set -eu
-top=$(cd "$(dirname "$0")/.." && pwd)
-work=$(mktemp -d)
-trap 'rm -rf "$work"' EXIT
-cd "$work"
-git init -q .
-mkdir -p crates/sh_pattern crates/bench/src crates/bench/specs
-cp -r "$top"/crates/sh_pattern/src "$top"/crates/sh_pattern/specs "$top"/crates/sh_pattern/proofs crates/sh_pattern/
-touch crates/bench/specs/Lib.antt
-printf 'sh_pattern:\nbench: sh_pattern\n' > crates.txt
-cat > crates/bench/src/main.rt <<'RT'
+. "$(dirname "$0")/bench_common.sh"
+copy_crates sh_pattern
+build_bench sh_pattern <<'RT'
 //! Matches a pattern as often as the arguments say: a size and a count.
 #![tactic(auto)]
 
@@ -42,11 +35,10 @@ fn main(rt: HostRuntime) -> io::Result<()> {
     Ok(())
 }
 RT
-(cd crates/bench && rt run -- 1 1) >/dev/null 2>&1
 count() { # instructions of one match at a size: the difference of 21 matches and one, over 20
     local many one
-    many=$(valgrind --tool=callgrind --callgrind-out-file=/dev/null crates/bench/out/bench "$1" 21 2>&1 | sed -n 's/.*Collected : //p')
-    one=$(valgrind --tool=callgrind --callgrind-out-file=/dev/null crates/bench/out/bench "$1" 1 2>&1 | sed -n 's/.*Collected : //p')
+    many=$(instructions "$1" 21)
+    one=$(instructions "$1" 1)
     echo $(((many - one) / 20))
 }
 small=$(count 1000)

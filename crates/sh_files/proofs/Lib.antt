@@ -5,3 +5,4 @@ pub mod Restored
 pub mod Whole
 pub mod Kept
 pub mod Sizes
+mod Blocks

@@ -3,6 +3,7 @@ ghost use Rattle.std.specs.Prelude.{◌≡◌, ◌≢◌, ◌+◌, ◌≤◌, �
 ghost use Rattle.std.specs.Prelude.{List, ℕ, map as list_map};
 ghost use Rattle.std.specs.Borrow.{Bor};
 ghost use Rattle.std.specs.FinMap as map;
+ghost use Rattle.sh_files_base.specs.Blocks.{flat};
 ghost use Rattle.sh_files_base.specs.Listing.{front_of, names_in};
 ghost use Rattle.sh_files_base.specs.Paths.{fits, components};
 ghost use Rattle.std.specs.Result.{result_map_both};
@@ -12,7 +13,8 @@ ghost use Rattle.sh_files.specs.Nodes.{allows, node_opened, node_truncated, node
 use crate::fault::FileFault;
 use crate::opening::Opening;
 use sh_files_base::{
-    Entry, File, Flags, MAX_LENGTH, MAX_PATH, Node, Table, absolute, names_fit, split_slash, step,
+    Block, Entry, File, Flags, MAX_LENGTH, MAX_PATH, Node, Table, absolute, names_fit, split_slash,
+    step,
 };
 use std::alloc::{AllocError, Global};
 use std::marker::Model;
@@ -78,11 +80,11 @@ impl Files {
         }
     }
 
-    /// The number of the node at such a path.
-    pub(crate) fn number_at(&self, place: &[u8]) -> Option<usize>
-        ensures { result ≡ map.get self.now.paths place.now }
+    /// The numbers of the nodes at two such paths, which stand near each other.
+    pub(crate) fn numbers_at(&self, place: &[u8], near: &[u8]) -> (Option<usize>, Option<usize>)
+        ensures { result ≡ (map.get self.now.paths place.now, map.get self.now.paths near.now) }
     {
-        self.paths.find(place)
+        self.paths.find_both(place, near)
     }
 
     /// All nodes, each at its number.
@@ -93,10 +95,10 @@ impl Files {
     }
 
     /// The paths with the numbers of their nodes, in the order of their bytes.
-    pub(crate) fn entries(&self) -> &[Entry]
-        ensures { result.now ≡ map.entries self.now.paths }
+    pub(crate) fn blocks(&self) -> &[Block]
+        ensures { flat result.now ≡ map.entries self.now.paths }
     {
-        self.paths.entries()
+        self.paths.blocks()
     }
 
     /// The names in the directory at a place, in the order of their paths' bytes.

@@ -1,7 +1,7 @@
 // Reading an image.
 ghost use Rattle.std.specs.Prelude.{◌≡◌, ◌≢◌, ◌≤◌, IfOk, IfErr, OnOk, OnErr, Ok, Err, None, length, [], slice_get, Some};
+ghost use Rattle.std.specs.Option.{option_and_then};
 ghost use Rattle.sh_files_base.specs.Fields.{line_of};
-ghost use Rattle.sh_files.specs.Nodes.{node_at};
 ghost use Rattle.sh_files.specs.Image.{by_header, image_of, read_image, stands, content_fault, entries, entry, file_entry, is_directory, path_fault, placed};
 
 use crate::files::Files;
@@ -25,13 +25,13 @@ fn check_content(size: usize, after: &[u8]) -> Result<(), FaultKind>
 }
 
 impl Files {
-    /// Whether a directory is at a place.
-    fn is_directory(&self, place: &[u8]) -> bool
-        ensures { result ≡ is_directory (node_at self.now place.now) }
+    /// Whether a number is that of a directory.
+    fn is_directory(&self, number: Option<usize>) -> bool
+        ensures { result ≡ is_directory (option_and_then (λ n. slice_get self.now.nodes n) number) }
     {
-        match self.node_at(place) {
-            Some(Node::Directory) => true,
-            _ => false,
+        match number {
+            Some(number) => matches!(self.node(number), Some(Node::Directory)),
+            None => false,
         }
     }
 
@@ -43,10 +43,11 @@ impl Files {
         if !is_image_path(path) {
             return Err(FaultKind::BadPath);
         }
-        if !self.is_directory(parent(path)) {
+        let (number, above) = self.numbers_at(path, parent(path));
+        if !self.is_directory(above) {
             return Err(FaultKind::NoParent);
         }
-        if self.number_at(path).is_some() {
+        if number.is_some() {
             return Err(FaultKind::Duplicate);
         }
         Ok(())

@@ -1,10 +1,10 @@
 // Writing an image.
 ghost use Rattle.std.specs.Prelude.{◌≡◌, ◌++◌, IfOk, OnOk};
-ghost use Rattle.sh_files_base.specs.Places.{Entries};
+ghost use Rattle.sh_files_base.specs.Blocks.{flat};
 ghost use Rattle.sh_files.specs.Writing.{image_text, path_text, paths_text};
 
 use crate::files::Files;
-use sh_files_base::{Entry, Node, is_left_out, write_node};
+use sh_files_base::{Block, Entry, Node, is_left_out, write_node};
 use std::alloc::AllocError;
 
 /// Writes what the image has of one path.
@@ -32,6 +32,18 @@ fn write_paths(image: &mut Vec<u8>, nodes: &[Node], entries: &[Entry]) -> Result
     Ok(())
 }
 
+/// Writes what the image has of the paths in blocks.
+fn write_blocks(image: &mut Vec<u8>, nodes: &[Node], blocks: &[Block]) -> Result<(), AllocError>
+    ensures { OnOk result (image.new.items ≡ image.old.items ++ paths_text nodes.now (flat blocks.now)) }
+{
+    let mut rest = blocks;
+    'parts: while let Some((block, behind)) = rest.split_first() {
+        write_paths(image, nodes, block.entries())?;
+        rest = behind;
+    }
+    Ok(())
+}
+
 impl Files {
     /// The image of the files, as [`Files::from_image`] reads it, its lines sorted by the bytes of their paths. The root
     /// and the devices are in no image. One that is longer than [`MAX_IMAGE`](crate::MAX_IMAGE) isn't read again. The only
@@ -40,7 +52,7 @@ impl Files {
         ensures { IfOk result (λ image. image.items ≡ image_text self.now) }
     {
         let mut image = Vec::from_slice(self.alloc(), b"psh image 1\n")?;
-        write_paths(&mut image, self.nodes(), self.entries())?;
+        write_blocks(&mut image, self.nodes(), self.blocks())?;
         image.extend_from_slice(b"end\n")?;
         Ok(image)
     }

@@ -20,14 +20,14 @@ use Rattle.sh_files_base.proofs.Places.{Above, Below, Rises, Stands, below_at, l
 abbrev pub begins : List ℕ → List ℕ → Bool
 begins x front = starts_with nat_eq x front
 
-both : (a b : Bool) → (a && b) ≡ true → (a ≡ true) × (b ≡ true)
+pub both : (a b : Bool) → (a && b) ≡ true → (a ≡ true) × (b ≡ true)
 both true b h = (refl, h)
 both false b h = cc
 
-same : (x y : ℕ) → nat_eq x y ≡ true → x ≡ y
+pub same : (x y : ℕ) → nat_eq x y ≡ true → x ≡ y
 same x y h = grind (arith, nat_tests)
 
-itself : (n : ℕ) → nat_eq n n ≡ true
+pub itself : (n : ℕ) → nat_eq n n ≡ true
 itself n = grind (arith, nat_tests)
 
 -- what begins with a text doesn't come before it
@@ -69,7 +69,7 @@ still_after x y front a b =
       | Greater ↦ λ e. refl
     ] refl
 
-later : (x front : List ℕ) (es : Entries) → T (map.is_sorted order ((x, 0) ∷ es)) → is_lt (order x front) ≡ false → none_before front es ≡ true
+pub later : (x front : List ℕ) (es : Entries) → T (map.is_sorted order ((x, 0) ∷ es)) → is_lt (order x front) ≡ false → none_before front es ≡ true
 later x front [] h a = refl
 later x front (e ∷ es) h a =
     let l = left _ _ h in
@@ -80,7 +80,7 @@ later x front (e ∷ es) h a =
 pub all_after : (front : List ℕ) (e : List ℕ × ℕ) (es : Entries) → Rises (e ∷ es) → is_lt (order e.0 front) ≡ false → none_before front (e ∷ es) ≡ true
 all_after front e es h a = ap (λ b. not b && none_before front es) a ∙ later e.0 front es h a
 
-first_after : (front : List ℕ) (e : List ℕ × ℕ) (es : Entries) → none_before front (e ∷ es) ≡ true → (is_lt (order e.0 front) ≡ false) × (none_before front es ≡ true)
+pub first_after : (front : List ℕ) (e : List ℕ × ℕ) (es : Entries) → none_before front (e ∷ es) ≡ true → (is_lt (order e.0 front) ≡ false) × (none_before front es ≡ true)
 first_after front e es a =
     let p = both (not (is_lt (order e.0 front))) (none_before front es) a in
     (untrue (is_lt (order e.0 front)) p.0, p.1)
@@ -237,7 +237,7 @@ pub skip_after : (n : ℕ) (path sub : List ℕ) (e : List ℕ × ℕ) (behind e
 skip_after n path sub e behind es is named part h =
     ap (none_before sub) is ∙ all_after sub e behind (subst Rises is h) (begun_not_before e.0 sub (begun_by n e.0 path sub named part))
 
-past-le : (sub : List ℕ) (es : Entries) → length (past sub es) ≤ length es
+pub past-le : (sub : List ℕ) (es : Entries) → length (past sub es) ≤ length es
 past-le sub [] = omega arith
 past-le sub (e ∷ es) =
     let l = past-le sub es in

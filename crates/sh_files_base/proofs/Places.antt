@@ -1,5 +1,6 @@
 -- What is found and put at a place in a list of entries in the order of their paths.
-use Rattle.std.proofs.Common.{◌≡◌, ℕ, suc, zero, ◌<◌, ◌≤◌, List, [], ◌∷◌, ◌&&◌, T, Bool, true, false, cond, length, length-drop, drop, take, ◌+◌, ◌-◌, inl, inr, get_or, set, Some, None, Result, Ok, Err, refl, sym, ap, ◌∙◌, subst, arith}
+use Rattle.std.proofs.Common.{◌≡◌, ℕ, suc, zero, ◌<◌, ◌≤◌, List, [], ◌∷◌, ◌&&◌, T, Bool, true, false, cond, length, length-drop, drop, take, ◌-◌, get_or, set, Some, None, Result, Ok, Err, refl, sym, ap, ◌∙◌, arith}
+use Rattle.std.specs.Prelude.{if◌then◌else◌}
 use Rattle.std.specs.List.{HoldsAt, AllWithin, insert}
 use Rattle.std.specs.List.Sorted.{IsPartitionPoint, IsNonDecreasingBy, IsSearchInRange, IsBinarySearchResult}
 use Rattle.std.proofs.Math.Seq.{take-length}
@@ -13,7 +14,7 @@ use Rattle.std.specs.FinMap.Entries.{below_all, by_order, is_sorted-put}
 use Rattle.std.proofs.lemmas.Cmp.{nat_list_cmp_total}
 use Rattle.std.proofs.lemmas.Map.Lookups.{exact_bytes}
 use Rattle.sh_files_base.specs.Paths.{PathMap}
-use Rattle.sh_files_base.specs.Places.{Entries, IsPlace, MayStart}
+use Rattle.sh_files_base.specs.Places.{Entries, IsPlace}
 
 abbrev pub order : List ℕ → List ℕ → Ordering
 order = slice_cmp nat_cmp
@@ -43,7 +44,7 @@ below_at x (e ∷ es) (suc j) d h lt = below_at x es j d (right _ _ h) (omega ar
 pub laws : IsTotalOrder order
 laws = nat_list_cmp_total
 
-flipped : (x y : List ℕ) (r : Ordering) → order x y ≡ r → order y x ≡ ordering_reverse r
+pub flipped : (x y : List ℕ) (r : Ordering) → order x y ≡ r → order y x ≡ ordering_reverse r
 flipped x y r e = laws.antisymm y x ∙ ap ordering_reverse e
 
 -- a path before a path that comes before q comes before q, too
@@ -86,7 +87,7 @@ Below q e = order e.0 q ≡ Less
 abbrev pub Above : List ℕ → List ℕ × ℕ → Type 0
 Above q e = order e.0 q ≡ Greater
 
-skipped : (q : List ℕ) (e : List ℕ × ℕ) (es : Entries) → order q e.0 ≡ Greater → map.find order q (e ∷ es) ≡ map.find order q es
+pub skipped : (q : List ℕ) (e : List ℕ × ℕ) (es : Entries) → order q e.0 ≡ Greater → map.find order q (e ∷ es) ≡ map.find order q es
 skipped q e es g = ap (λ r. cond (is_eq r) (Some e.1) (map.find order q es)) g
 
 -- ---- where a path is missing
@@ -134,7 +135,7 @@ set_put q v (e ∷ es) (suc i) h lt at =
     ∙ ap (λ r. by_order r ((q, v) ∷ e ∷ es) ((e.0, v) ∷ es) (e ∷ map.put order q v es)) (sym (above_at q e es i h (omega arith) at))
 
 -- ---- a change of the map
-put_rises : (q : List ℕ) (v : ℕ) (es : Entries) → Rises es → Rises (map.put order q v es)
+pub put_rises : (q : List ℕ) (v : ℕ) (es : Entries) → Rises es → Rises (map.put order q v es)
 put_rises q v es h = is_sorted-put order laws q v es h
 
 pub put_map : (q : List ℕ) (v : ℕ) (es : Entries) → Rises es → map.from_sorted {R = order} (map.put order q v es) ≡ map.insert (map.from_sorted es) q v
@@ -142,24 +143,10 @@ put_map q v es h =
     map.same_entries_map _ _ (map.entries-from_sorted order (map.put order q v es) (put_rises q v es h)
     ∙ sym (map.entries-insert laws (map.from_sorted es) q v ∙ ap (map.put order q v) (map.entries-from_sorted order es h)))
 
+pub found_at : (q : List ℕ) (es : Entries) (i : ℕ) (e : List ℕ × ℕ) → Rises es → IsPlace es q (Ok i) → e ≡ get_or es i e → Some e.1 ≡ map.find order q es
+found_at q es i e h at is = ap (λ (x : List ℕ × ℕ). Some x.1) is ∙ sym (found q es i e h at.0 at.1)
+
 -- ---- in the words of the map
-pub found_in : (q : List ℕ) (es : Entries) (i : ℕ) (e : List ℕ × ℕ) → Rises es → IsPlace es q (Ok i) → e ≡ get_or es i e → Some e.1 ≡ map.get (map.from_sorted {R = order} es) q
-found_in q es i e h at is =
-    ap (λ (x : List ℕ × ℕ). Some x.1) is ∙ sym (map.get-from_sorted order es q h ∙ found q es i e h at.0 at.1)
-
-pub missing_in : (q : List ℕ) (es : Entries) (i : ℕ) → Rises es → IsPlace es q (Err i) → None ≡ map.get (map.from_sorted {R = order} es) q
-missing_in q es i h gap = sym (map.get-from_sorted order es q h ∙ missing q es i gap.1)
-
-pub no_entries : (es : Entries) → es ≡ [] → map.from_sorted {R = order} es ≡ map.empty
-no_entries es is =
-    map.same_entries_map _ _ (ap (λ (xs : Entries). map.entries (map.from_sorted {R = order} xs)) is
-    ∙ map.entries-from_sorted order [] tt
-    ∙ sym (no_entries_left (map.entries (map.empty {R = order})) (sym (map.len-entries map.empty) ∙ map.len-empty order ℕ)))
-  where
-    no_entries_left : (xs : Entries) → length xs ≡ 0 → xs ≡ []
-    no_entries_left [] e = refl
-    no_entries_left (x ∷ xs) e = absurd (omega arith)
-
 -- a list in order is the map of its entries
 pub in_any_order : (es : Entries) → Rises es → map.from_sorted {R = order} es ≡ map.from_entries es
 in_any_order es h =
@@ -176,55 +163,18 @@ put_found e es i h at = set_put e.0 e.1 es i h at.0 at.1
 pub put_new : (e : List ℕ × ℕ) (es new : Entries) (i : ℕ) → IsPlace es e.0 (Err i) → new ≡ insert es i e → new ≡ map.put order e.0 e.1 es
 put_new e es new i gap is = is ∙ insert_put e.0 e.1 es i gap.0 gap.1
 
-pub put_list_rises : (e : List ℕ × ℕ) (es new : Entries) → Rises es → new ≡ map.put order e.0 e.1 es → Rises new
-put_list_rises e es new h is = subst Rises (sym is) (put_rises e.0 e.1 es h)
-
-pub put_list_map : (e : List ℕ × ℕ) (es new : Entries) → Rises es → new ≡ map.put order e.0 e.1 es → (m : PathMap) → map.from_sorted es ≡ m → map.from_sorted {R = order} new ≡ map.insert m e.0 e.1
-put_list_map e es new h is m view =
+pub put_list_map : (r : Bool) (e : List ℕ × ℕ) (es new : Entries) → Rises es → new ≡ (if r then map.put order e.0 e.1 es else es) → (m : PathMap) → map.from_sorted es ≡ m → map.from_sorted {R = order} new ≡ (if r then map.insert m e.0 e.1 else m)
+put_list_map true e es new h is m view =
     ap (λ (xs : Entries). map.from_sorted {R = order} xs) is ∙ put_map e.0 e.1 es h ∙ ap (λ (n : PathMap). map.insert n e.0 e.1) view
+put_list_map false e es new h is m view = ap (λ (xs : Entries). map.from_sorted {R = order} xs) is ∙ view
 
--- ---- a search in the back of a list
-pub back_rises : (n : ℕ) (es : Entries) → Rises es → Rises (drop n es)
-back_rises zero es h = h
-back_rises (suc n) [] h = h
-back_rises (suc n) (e ∷ es) h = back_rises n es (right _ _ h)
-
-below_not_after : (x y q : List ℕ) → order x y ≡ Less → is_gt (order y q) ≡ false → order x q ≡ Less
+pub below_not_after : (x y q : List ℕ) → order x y ≡ Less → is_gt (order y q) ≡ false → order x q ≡ Less
 below_not_after x y q lt h =
     elim (order y q) as (λ r. order y q ≡ r → order x q ≡ Less) [
       | Less ↦ λ e. laws.trans x y q lt e
       | Equal ↦ λ e. ap (order x) (sym (same_path y q e)) ∙ lt
       | Greater ↦ λ e. let f : true ≡ false = sym (ap is_gt e) ∙ h in cc
     ] refl
-
-one_more : (q : List ℕ) (i : ℕ) (e : List ℕ × ℕ) (es : Entries) → order e.0 q ≡ Less → IsPlace es q (Err i) → IsPlace (e ∷ es) q (Err (suc i))
-one_more q i e es l h = (omega arith, (low, high))
-  where
-    low : AllWithin (Below q) (e ∷ es) 0 (suc i)
-    low zero d a b = l
-    low (suc k) d a b = h.1.0 k d (omega arith) (omega arith)
-
-    high : AllWithin (Above q) (e ∷ es) (suc i) (length (e ∷ es))
-    high zero d a b = absurd (omega arith)
-    high (suc k) d a b = h.1.1 k d (omega arith) (omega arith)
-
-widened_at : (q : List ℕ) (n i : ℕ) (es : Entries) → Rises es → n < length es → HoldsAt (λ e. is_gt (order e.0 q) ≡ false) es n → IsPlace (drop n es) q (Err i) → IsPlace es q (Err (n + i))
-widened_at q zero i es h lt at p = let z : i ≡ 0 + i = omega arith in subst (λ j. IsPlace es q (Err j)) z p
-widened_at q (suc n) i [] h lt at p = absurd (omega arith)
-widened_at q (suc n) i (e ∷ es) h lt at p =
-    let l : order e.0 q ≡ Less = below_not_after e.0 (get_or es n e).0 q (below_at e.0 es n e (left _ _ h) (omega arith)) (at e) in
-    let z : suc (n + i) ≡ suc n + i = omega arith in
-    subst (λ j. IsPlace (e ∷ es) q (Err j)) z (one_more q (n + i) e es l (widened_at q n i es (right _ _ h) (omega arith) at p))
-
--- what a search in the back of a list answers, for the whole list
-pub widened : (q : List ℕ) (n i : ℕ) (es : Entries) → Rises es → MayStart q es n → IsPlace (drop n es) q (Err i) → IsPlace es q (Err (n + i))
-widened q n i es h s p =
-    elim s as (λ _. IsPlace es q (Err (n + i))) [
-      | inl z ↦
-          let y : i ≡ n + i = omega arith in
-          subst (λ j. IsPlace es q (Err j)) y (subst (λ m. IsPlace (drop m es) q (Err i)) z p)
-      | inr t ↦ widened_at q n i es h t.0 t.1 p
-    ]
 
 -- what a slice to the end of a list is
 pub to_end : (i : ℕ) (es : Entries) → take (length es - i) (drop i es) ≡ drop i es

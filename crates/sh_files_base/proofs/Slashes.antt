@@ -171,3 +171,37 @@ slash_behind start i xs h =
 
 pub no_slash_behind : (xs : List ℕ) → None ≡ position slash xs → has_slash xs ≡ false
 no_slash_behind xs h = no_slash 0 xs (sym (position_from-zero slash xs) ∙ sym h)
+
+slash_at : (n i : ℕ) (xs : List ℕ) → position_from slash n xs ≡ Some i → take (suc i - n) xs ≡ take (i - n) xs ++ 47 ∷ []
+slash_at n i [] h = cc
+slash_at n i (x ∷ xs) h =
+    elim (slash x) as (λ b. slash x ≡ b → cond b (Some n) (position_from slash (n + 1) xs) ≡ Some i → take (suc i - n) (x ∷ xs) ≡ take (i - n) (x ∷ xs) ++ 47 ∷ []) [
+      | true ↦ λ e k.
+          let same : n ≡ i = cc in
+          let z : suc i - n ≡ suc 0 = omega arith in
+          let y : i - n ≡ 0 = omega arith in
+          rw (z, y) (ap (λ (b : ℕ). b ∷ []) (is_slash x e))
+      | false ↦ λ e k.
+          let l = low slash (n + 1) i xs k in
+          let z : suc i - n ≡ suc (suc i - (n + 1)) = omega arith in
+          let y : i - n ≡ suc (i - (n + 1)) = omega arith in
+          rw (z, y) (ap (λ (bs : List ℕ). x ∷ bs) (slash_at (n + 1) i xs k))
+    ] refl h
+  where
+    is_slash : (x : ℕ) → (x == 47) ≡ true → x ≡ 47
+    is_slash x e = grind (arith, nat_tests)
+
+slash_later : (start i : ℕ) (xs : List ℕ) → Some i ≡ position slash (drop start xs) → take (start + suc i) xs ≡ take (start + i) xs ++ 47 ∷ []
+slash_later zero i xs h =
+    let z : 0 + suc i ≡ suc i - 0 = omega arith in
+    let y : i - 0 ≡ 0 + i = omega arith in
+    ap (λ n. take n xs) z ∙ slash_at 0 i xs (sym (position_from-zero slash xs) ∙ sym h) ∙ ap (λ n. take n xs ++ 47 ∷ []) y
+slash_later (suc start) i [] h = cc
+slash_later (suc start) i (x ∷ xs) h =
+    let z : suc start + suc i ≡ suc (start + suc i) = omega arith in
+    let y : suc (start + i) ≡ suc start + i = omega arith in
+    ap (λ n. take n (x ∷ xs)) z ∙ ap (λ (bs : List ℕ). x ∷ bs) (slash_later start i xs h) ∙ ap (λ n. take n (x ∷ xs) ++ 47 ∷ []) y
+
+-- what stands before the slash, and the slash
+pub to_slash : (start i : ℕ) (xs : List ℕ) → Some i ≡ position slash (drop start xs) → take (start + i + 1) xs ≡ take (start + i) xs ++ 47 ∷ []
+to_slash start i xs h = let z : start + i + 1 ≡ start + suc i = omega arith in ap (λ n. take n xs) z ∙ slash_later start i xs h

@@ -6,3 +6,4 @@ pub mod Places
 pub mod Starting
 pub mod Texts
 pub mod Listing
+pub mod Blocks

@@ -1,8 +1,8 @@
 -- What a search for a path answers in a list of entries: where the path stands, or where it belongs.
-use Rattle.std.specs.Prelude.{◌≡◌, ◌⊎◌, false, ℕ, ◌<◌, ◌≤◌, List, length, MatchResult, Result}
+use Rattle.std.specs.Prelude.{◌≡◌, ℕ, ◌<◌, ◌≤◌, List, length, MatchResult, Result}
 use Rattle.std.specs.List.{HoldsAt}
 use Rattle.std.specs.List.Sorted.{IsPartitionPoint}
-use Rattle.std.specs.Ordering.{is_gt, nat_cmp}
+use Rattle.std.specs.Ordering.{nat_cmp}
 use Rattle.std.specs.declared.cmp.Ordering.TheVariants.{Less, Greater}
 use Rattle.std.specs.Cmp.Lexicographic.{slice_cmp}
 
@@ -15,7 +15,3 @@ IsPlace entries path place =
     MatchResult place
     (λ i. (i < length entries) × HoldsAt (λ e. e.0 ≡ path) entries i)
     (λ i. (i ≤ length entries) × IsPartitionPoint (λ e. slice_cmp nat_cmp e.0 path ≡ Less) (λ e. slice_cmp nat_cmp e.0 path ≡ Greater) entries i)
-
--- at the first entry, or at one that doesn't come after the path
-abbrev pub MayStart : List ℕ → Entries → ℕ → Type 0
-MayStart path entries start = (start ≡ 0) ⊎ ((start < length entries) × HoldsAt (λ e. is_gt (slice_cmp nat_cmp e.0 path) ≡ false) entries start)

@@ -2,6 +2,8 @@
 //! lines of an image.
 #![tactic(auto)]
 
+mod block;
+mod entry;
 mod fields;
 mod listing;
 mod names;
@@ -10,9 +12,11 @@ mod paths;
 mod table;
 mod texts;
 
+pub use block::Block;
+pub use entry::Entry;
 pub use fields::{MAX_IMAGE, behind, count_newlines, file_fields, first, skip, split_line};
 pub use names::is_image_path;
 pub use node::{File, Flags, MAX_LENGTH, Node};
 pub use paths::{MAX_NAME, MAX_PATH, absolute, names_fit, parent, split_slash, step};
-pub use table::{Entry, Table};
+pub use table::Table;
 pub use texts::{is_left_out, write_node};

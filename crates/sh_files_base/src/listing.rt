@@ -1,17 +1,14 @@
 // The names that a directory holds.
-ghost use Rattle.std.specs.Prelude.{◌≡◌, ◌≤◌, ◌+◌, T, IfOk, IfSome, IfNone, List, ℕ, map, true, false, take, drop, length, nat_eq};
+ghost use Rattle.std.specs.Prelude.{◌≡◌, ◌++◌, ◌∷◌, [], IfOk, IfSome, IfNone, OnOk, Some, List, ℕ, map, true, false, take, drop, nat_eq, option_to_list};
 ghost use Rattle.std.specs.Borrow.{Bor};
 ghost use Rattle.std.specs.List.{starts_with};
-ghost use Rattle.std.specs.List.Sorted.{IsPartitionPoint};
-ghost use Rattle.std.specs.Ordering.{nat_cmp};
-ghost use Rattle.std.specs.Cmp.Lexicographic.{slice_cmp};
 ghost use Rattle.std.specs.FinMap as paths;
 ghost use Rattle.sh_files_base.specs.Paths.{has_slash};
-ghost use Rattle.sh_files_base.specs.Listing.{from, front_of, names_in, none_before, past};
+ghost use Rattle.sh_files_base.specs.Listing.{front_of, name_if, names_in};
 
 use crate::fields::{first, skip};
 use crate::paths::first_slash;
-use crate::table::{Entry, Table, place};
+use crate::table::Table;
 use std::alloc::{AllocError, Global};
 
 /// What the paths below a directory begin with.
@@ -25,72 +22,58 @@ fn front_of(alloc: Global, place: &[u8]) -> Result<Vec<u8>, AllocError>
     Ok(front)
 }
 
-/// The entries from the first on that doesn't come before this text.
-fn entries_from<'a>(entries: &'a [Entry], front: &[u8]) -> &'a [Entry]
-    requires { T (paths.is_sorted (slice_cmp nat_cmp) entries.now) }
-    ensures { result.now ≡ from front.now entries.now }
-{
-    match place(entries, front) {
-        Ok(i) => &entries[i..],
-        Err(i) => &entries[i..],
-    }
-}
-
-/// How many entries begin with this text.
-fn count_begun(entries: &[Entry], front: &[u8]) -> usize
-    requires sorted { T (paths.is_sorted (slice_cmp nat_cmp) entries.now) }
-    requires after { none_before front.now entries.now ≡ true }
-    ensures bound { result ≤ length entries.now }
-    ensures parts { IsPartitionPoint (λ e. starts_with nat_eq e.0 front.now ≡ true) (λ e. starts_with nat_eq e.0 front.now ≡ false) entries.now result }
-{
-    entries.partition_point(|entry| entry.path().starts_with(front))
-}
-
-/// The entries behind those that begin with this text.
-fn entries_past<'a>(entries: &'a [Entry], front: &[u8]) -> &'a [Entry]
-    requires sorted { T (paths.is_sorted (slice_cmp nat_cmp) entries.now) }
-    requires after { none_before front.now entries.now ≡ true }
-    ensures { result.now ≡ past front.now entries.now }
-{
-    let count = count_begun(entries, front);
-    &entries[count..]
-}
-
-/// Where the first slash behind a place ends.
-fn slash_end(path: &[u8], start: usize) -> Option<usize>
-    ensures some { IfSome result (λ end. has_slash (drop start (take end path.now)) ≡ true) }
+/// The place of the first slash that isn't before a place.
+fn slash_behind(path: &[u8], start: usize) -> Option<usize>
+    ensures some { IfSome result (λ i. starts_with nat_eq path.now (take i path.now ++ 47 ∷ []) ≡ true) }
+    ensures slash { IfSome result (λ i. has_slash (drop start (take i path.now ++ 47 ∷ [])) ≡ true) }
     ensures none { IfNone result (has_slash (drop start path.now) ≡ false) }
 {
     match first_slash(skip(path, start)) {
-        Some(i) => Some(start + i + 1),
+        Some(i) => Some(start + i),
         None => None,
     }
 }
 
-/// The names that paths in order have in the directory whose paths begin so.
-fn names_of<'a>(
-    alloc: Global,
-    entries: &'a [Entry],
-    front: &[u8],
-) -> Result<Vec<&'a [u8]>, AllocError>
-    requires sorted { T (paths.is_sorted (slice_cmp nat_cmp) entries.now) }
-    requires after { none_before front.now entries.now ≡ true }
-    ensures { IfOk result (λ names. map (λ (name : Bor (List ℕ)). name.now) names.items ≡ names_in front.now entries.now) }
+/// A path with one byte more.
+fn longer(alloc: Global, path: &[u8], byte: u8) -> Result<Vec<u8>, AllocError>
+    ensures { IfOk result (λ text. text.items ≡ path.now ++ byte ∷ []) }
+{
+    let mut text = Vec::from_slice(alloc, path)?;
+    text.push(byte)?;
+    Ok(text)
+}
+
+/// Adds what follows a directory's path, if that is a name.
+fn add_name<'a>(names: &mut Vec<&'a [u8]>, name: &'a [u8]) -> Result<(), AllocError>
+    requires { has_slash name.now ≡ false }
+    ensures { OnOk result (map (λ (name : Bor (List ℕ)). name.now) names.new.items ≡ map (λ (name : Bor (List ℕ)). name.now) names.old.items ++ option_to_list (name_if (Some name.now))) }
+{
+    match name {
+        [] => Ok(()),
+        [_, ..] => {
+            names.push(name)?;
+            Ok(())
+        }
+    }
+}
+
+/// The names that a table has in the directory whose paths begin so.
+fn names_of<'a>(alloc: Global, table: &'a Table, front: &[u8]) -> Result<Vec<&'a [u8]>, AllocError>
+    ensures { IfOk result (λ names. map (λ (name : Bor (List ℕ)). name.now) names.items ≡ names_in front.now (paths.entries table.now)) }
 {
     let mut names = Vec::new(alloc);
-    let mut rest = entries;
-    'paths: while let Some((entry, behind)) = rest.split_first() {
+    let mut text = Vec::from_slice(alloc, front)?;
+    'paths: while let Some(entry) = table.first_from(&text) {
         let path = entry.path();
         if !path.starts_with(front) {
             return Ok(names);
         }
-        match slash_end(path, front.len()) {
-            Some(end) => rest = entries_past(rest, first(path, end)),
+        match slash_behind(path, front.len()) {
+            // The digit 0 is the byte behind the slash, so that nothing of that directory is left.
+            Some(i) => text = longer(alloc, first(path, i), b'0')?,
             None => {
-                if path.len() > front.len() {
-                    names.push(skip(path, front.len()))?;
-                }
-                rest = behind;
+                add_name(&mut names, skip(path, front.len()))?;
+                text = longer(alloc, path, 0)?;
             }
         }
     }
@@ -104,8 +87,7 @@ impl Table {
         ensures { IfOk result (λ names. map (λ (name : Bor (List ℕ)). name.now) names.items ≡ names_in (front_of place.now) (paths.entries self.now)) }
     {
         let front = front_of(alloc, place)?;
-        let entries = entries_from(self.entries(), &front);
-        let names = names_of(alloc, entries, &front)?;
+        let names = names_of(alloc, self, &front)?;
         Ok(names)
     }
 }

@@ -1,63 +1,31 @@
-// Node numbers in the order of their paths.
-ghost use Rattle.std.specs.Prelude.{◌≡◌, ◌++◌, ◌∷◌, [], IfOk, OnOk, T, if◌then◌else◌, is_ok};
-ghost use Rattle.std.specs.Ordering.{is_gt, nat_cmp};
+// Node numbers by path.
+ghost use Rattle.std.specs.Prelude.{◌≡◌, ◌<◌, ◌≤◌, ◌++◌, ◌∷◌, [], IfOk, OnOk, T, if◌then◌else◌, drop, is_ok, length, option_map, true, false};
+ghost use Rattle.std.specs.List.Sorted.{IsPartitionPoint};
+ghost use Rattle.std.specs.Ordering.{nat_cmp};
 ghost use Rattle.std.specs.Cmp.Lexicographic.{slice_cmp};
 ghost use Rattle.std.specs.FinMap as map;
-ghost use Rattle.sh_files_base.specs.Places.{IsPlace, MayStart};
+ghost use Rattle.sh_files_base.specs.Blocks.{AreBlocks, IsBlockOf, all_filled, flat, head, starts_by};
+ghost use Rattle.sh_files_base.specs.Listing.{from};
 ghost use Rattle.sh_files_base.specs.Starting.{starting_paths};
 
+use crate::block::Block;
+use crate::entry::Entry;
 use std::alloc::{AllocError, Global};
 use std::marker::Model;
 
-/// A path with the number of its node.
-#[derive(Drop)]
-pub struct Entry {
-    path: Vec<u8>,
-    node: usize,
-}
+/// A block of more entries is split.
+const MAX_BLOCK: usize = 64;
 
-impl Model for Entry {
-    ghost use Rattle.std.specs.Prelude.{List, ℕ};
-
-    ghost Value = { List ℕ × ℕ };
-
-    ghost view = { λ entry. (entry.path.items, entry.node) };
-}
-
-impl Entry {
-    /// An entry of this path, for the node of this number.
-    pub fn new(path: Vec<u8>, node: usize) -> Entry
-        ensures { result ≡ (path.items, node) }
-    {
-        Entry { path, node }
-    }
-
-    /// Its path, which begins with a slash.
-    pub fn path(&self) -> &[u8]
-        ensures { result.now ≡ self.now.0 }
-    {
-        self.path.as_slice()
-    }
-
-    /// The number of its node.
-    pub fn node(&self) -> usize
-        ensures { result ≡ self.now.1 }
-    {
-        self.node
-    }
-}
-
-/// Node numbers by path, each path once.
+/// Node numbers by path, each path once. A path is found in a number of steps that grows with the logarithm of their
+/// number. To put one in moves at most [`MAX_BLOCK`] entries, and one block in so many of their number.
 #[derive(Drop)]
 pub struct Table {
-    entries: Vec<Entry>,
+    blocks: Vec<Block>,
 }
 
 impl Model for Table {
-    ghost use Rattle.std.specs.Prelude.{T};
-    ghost use Rattle.std.specs.Ordering.{nat_cmp};
-    ghost use Rattle.std.specs.Cmp.Lexicographic.{slice_cmp};
     ghost use Rattle.std.specs.FinMap as map;
+    ghost use Rattle.sh_files_base.specs.Blocks.{AreBlocks, flat};
     ghost use Rattle.sh_files_base.specs.Paths.{PathMap};
     ghost use Rattle.sh_files_base.specs.Codes.{map_code};
 
@@ -65,9 +33,9 @@ impl Model for Table {
 
     ghost coded = { map_code };
 
-    ghost view = { λ table. map.from_sorted table.entries.items };
+    ghost view = { λ table. map.from_sorted (flat table.blocks.items) };
 
-    ghost invariant = { λ table. T (map.is_sorted (slice_cmp nat_cmp) table.entries.items) };
+    ghost invariant = { λ table. AreBlocks table.blocks.items };
 }
 
 impl Table {
@@ -81,40 +49,51 @@ impl Table {
         add(&mut entries, alloc, b"/dev", 1)?;
         add(&mut entries, alloc, b"/dev/null", 2)?;
         add(&mut entries, alloc, b"/dev/tty", 3)?;
-        Ok(Table { entries })
+        let mut blocks = Vec::with_capacity(alloc, 1)?;
+        blocks.push(Block::new(entries))?;
+        Ok(Table { blocks })
     }
 
     /// The number of the node at this path.
     pub fn find(&self, path: &[u8]) -> Option<usize>
         ensures { result ≡ map.get self.now path.now }
     {
-        match place(&self.entries, path) {
-            Ok(index) => Some(self.entries[index].node()),
-            Err(_) => None,
-        }
+        let index = block_of(&self.blocks, path);
+        self.blocks[index].find(path)
     }
 
-    /// Puts an entry in the place of the one of its path.
+    /// The numbers of the nodes at two paths. Where these stand near each other, that takes less than two look-ups.
+    pub fn find_both(&self, path: &[u8], near: &[u8]) -> (Option<usize>, Option<usize>)
+        ensures { result ≡ (map.get self.now path.now, map.get self.now near.now) }
+    {
+        let index = block_of(&self.blocks, path);
+        let number = self.blocks[index].find(path);
+        (number, find_near(&self.blocks, index, near))
+    }
+
+    /// Puts an entry in the place of the one of its path. The only error is want of memory, and then nothing has changed.
     pub fn put(&mut self, entry: Entry) -> Result<(), AllocError>
         ensures { self.new ≡ (if is_ok result then map.insert self.old entry.0 entry.1 else self.old) }
     {
-        match place(&self.entries, entry.path()) {
-            Ok(index) => {
-                self.entries[index] = entry;
-                Ok(())
-            }
-            Err(index) => {
-                self.entries.insert(index, entry)?;
-                Ok(())
-            }
-        }
+        put_entry(&mut self.blocks, entry)
     }
 
-    /// The entries in the order of their paths' bytes.
-    pub fn entries(&self) -> &[Entry]
-        ensures { result.now ≡ map.entries self.now }
+    /// The entries in the order of their paths' bytes, in blocks.
+    pub fn blocks(&self) -> &[Block]
+        ensures { flat result.now ≡ map.entries self.now }
     {
-        self.entries.as_slice()
+        self.blocks.as_slice()
+    }
+
+    /// The first entry that doesn't come before a text.
+    pub(crate) fn first_from(&self, text: &[u8]) -> Option<&Entry>
+        ensures { option_map (λ entry. entry.now) result ≡ head (from text.now (map.entries self.now)) }
+    {
+        let index = block_of(&self.blocks, text);
+        match self.blocks[index].rest_from(text) {
+            [first, ..] => Some(first),
+            [] => first_behind(&self.blocks, index + 1),
+        }
     }
 }
 
@@ -127,45 +106,89 @@ fn add(entries: &mut Vec<Entry>, alloc: Global, path: &[u8], node: usize) -> Res
     Ok(())
 }
 
-/// Where this path stands, or else where it belongs. A place that is near the end is found soon, so that paths come in
-/// cheaply in their order.
-pub(crate) fn place(entries: &[Entry], path: &[u8]) -> Result<usize, usize>
-    requires { T (map.is_sorted (slice_cmp nat_cmp) entries.now) }
-    ensures { IsPlace entries.now path.now result }
+/// How many blocks start at a path or before it.
+fn count_started(blocks: &[Block], path: &[u8]) -> usize
+    requires { AreBlocks blocks.now }
+    ensures bound { result ≤ length blocks.now }
+    ensures parts { IsPartitionPoint (λ b. starts_by path.now b ≡ true) (λ b. starts_by path.now b ≡ false) blocks.now result }
 {
-    let start = search_start(entries, path);
-    match place_within(&entries[start..], path) {
-        Ok(index) => Ok(start + index),
-        Err(index) => Err(start + index),
+    blocks.partition_point(|block| block.starts_by(path))
+}
+
+/// The block in which a path stands, or else belongs.
+fn block_of(blocks: &[Block], path: &[u8]) -> usize
+    requires { AreBlocks blocks.now }
+    ensures within { result < length blocks.now }
+    ensures place { IsBlockOf path.now blocks.now result }
+{
+    // In a list in order, each path belongs in the last block.
+    let last = blocks.len() - 1;
+    if blocks[last].starts_by(path) {
+        return last;
+    }
+    count_started(blocks, path).saturating_sub(1)
+}
+
+/// The number of the node at a path, which is looked for in this block first.
+fn find_near(blocks: &[Block], index: usize, path: &[u8]) -> Option<usize>
+    requires blocks { AreBlocks blocks.now }
+    requires within { index < length blocks.now }
+    ensures { result ≡ map.find (slice_cmp nat_cmp) path.now (flat blocks.now) }
+{
+    match blocks[index].find(path) {
+        Some(number) => Some(number),
+        None => blocks[block_of(blocks, path)].find(path),
     }
 }
 
-/// Where a search may start: at an entry that doesn't come after the path, or at the first.
-fn search_start(entries: &[Entry], path: &[u8]) -> usize
-    ensures { MayStart path.now entries.now result }
+/// The first entry of the blocks from this one on.
+fn first_behind(blocks: &[Block], index: usize) -> Option<&Entry>
+    requires { all_filled blocks.now ≡ true }
+    ensures { option_map (λ entry. entry.now) result ≡ head (flat (drop index blocks.now)) }
 {
-    let mut size = 1usize;
-    'sizes: while size < entries.len() {
-        let start = entries.len() - size;
-        if !is_after(&entries[start], path) {
-            return start;
-        }
-        size *= 2;
+    match blocks.get(index) {
+        Some(block) => block.first(),
+        None => None,
     }
-    0
 }
 
-/// Whether an entry comes after a path.
-fn is_after(entry: &Entry, path: &[u8]) -> bool
-    ensures { result ≡ is_gt (slice_cmp nat_cmp entry.now.0 path.now) }
+/// Puts an entry in the place of the one of its path.
+fn put_entry(blocks: &mut Vec<Block>, entry: Entry) -> Result<(), AllocError>
+    requires { AreBlocks blocks.old.items }
+    ensures blocks { AreBlocks blocks.new.items }
+    ensures entries { flat blocks.new.items ≡ (if is_ok result then map.put (slice_cmp nat_cmp) entry.0 entry.1 (flat blocks.old.items) else flat blocks.old.items) }
 {
-    entry.path().cmp(path).is_gt()
+    let index = block_of(blocks, entry.path());
+    put_within(blocks, index, entry)?;
+    // A block that can't be split for want of memory stays as long as it is.
+    let _ = split_long(blocks, index);
+    Ok(())
 }
 
-/// Where this path stands in these entries, or else where it belongs.
-fn place_within(entries: &[Entry], path: &[u8]) -> Result<usize, usize>
-    requires { T (map.is_sorted (slice_cmp nat_cmp) entries.now) }
-    ensures { IsPlace entries.now path.now result }
+/// Puts an entry in the block in which it belongs.
+fn put_within(blocks: &mut Vec<Block>, index: usize, entry: Entry) -> Result<(), AllocError>
+    requires blocks { AreBlocks blocks.old.items }
+    requires within { index < length blocks.old.items }
+    requires place { IsBlockOf entry.0 blocks.old.items index }
+    ensures blocks { AreBlocks blocks.new.items }
+    ensures count { length blocks.new.items ≡ length blocks.old.items }
+    ensures entries { flat blocks.new.items ≡ (if is_ok result then map.put (slice_cmp nat_cmp) entry.0 entry.1 (flat blocks.old.items) else flat blocks.old.items) }
 {
-    entries.binary_search_by(|entry| entry.path().cmp(path))
+    blocks[index].put(entry)
+}
+
+/// Splits a block that has become too long.
+fn split_long(blocks: &mut Vec<Block>, index: usize) -> Result<(), AllocError>
+    requires blocks { AreBlocks blocks.old.items }
+    requires within { index < length blocks.old.items }
+    ensures blocks { AreBlocks blocks.new.items }
+    ensures entries { flat blocks.new.items ≡ flat blocks.old.items }
+{
+    if blocks[index].entries().len() <= MAX_BLOCK {
+        return Ok(());
+    }
+    blocks.reserve(1)?;
+    let upper = blocks[index].split()?;
+    blocks.insert(index + 1, upper)?;
+    Ok(())
 }

@@ -1,17 +1,12 @@
-use Rattle.std.proofs.Common.{◌≡◌, ◌++◌, Bor, List, ℕ, T, length, map, true}
-use Rattle.std.specs.Ordering.{nat_cmp}
-use Rattle.std.specs.Cmp.Lexicographic.{slice_cmp}
+use Rattle.std.proofs.Common.{Bor, List, ℕ, length, map}
 use Rattle.std.specs.FinMap as paths
-use Rattle.sh_files_base.specs.Listing.{names_in, none_before}
+use Rattle.sh_files_base.specs.Listing.{from, names_in}
+use Rattle.sh_files_base.proofs.Turns.{IsAt}
 use Rattle.sh_files_base.proofs.listing.names_of.Given as goal
 
 abbrev pub invariant-paths : goal.invariant-paths
 invariant-paths l =
-    record {
-      sorted : T (paths.is_sorted (slice_cmp nat_cmp) l.rest);
-      after : none_before l.front l.rest ≡ true;
-      same : map (λ (name : Bor (List ℕ)). name.now) l.names.items ++ names_in l.front l.rest ≡ names_in l.front l.entries;
-    }
+    IsAt l.front (map (λ (name : Bor (List ℕ)). name.now) l.names.items) (names_in l.front (paths.entries l.table)) (from l.text.items (paths.entries l.table))
 
 abbrev pub decreases-paths : goal.decreases-paths
-decreases-paths l = length l.rest
+decreases-paths l = length (from l.text.items (paths.entries l.table))

@@ -1,17 +1,23 @@
-use Rattle.std.proofs.Common.{ℕ, Some, ap, ◌∙◌}
+use Rattle.std.proofs.Common.{◌∙◌, ap, subst, sym, List}
 use Rattle.std.specs.FinMap as map
+use Rattle.sh_files_base.specs.Blocks.{IsBlockOf, flat}
 use Rattle.sh_files_base.specs.Paths.{PathMap}
-use Rattle.sh_files_base.proofs.Places.{found_in, missing_in}
+use Rattle.sh_files_base.specs.Places.{Entries}
+use Rattle.sh_files_base.proofs.Places.{Rises, order}
+use Rattle.sh_files_base.proofs.Blocks.{block_rises, find_block}
 use Rattle.sh_files_base.proofs.table.Table.find.Goals as goal
 
-pub returns-in-Ok : goal.returns-in-Ok
-returns-in-Ok c =
-    let es = c.self.inside.entries.items in
-    ap (λ (n : ℕ). Some n) c.node.ensures
-    ∙ found_in c.args.path.now es c.in-Ok.index c.index.result.now c.self.invariant (rw c.deref.ensures.value at c.in-Ok.ensures) c.index.ensures
-    ∙ ap (λ (m : PathMap). map.get m c.args.path.now) c.self.view_is
+pub find-requires : goal.find-requires
+find-requires c =
+    subst Rises (sym c.index.ensures) (block_rises c.self.inside.blocks.items c.block_of-index.result c.index.result.now c.self.invariant.rise (rw c.deref.ensures.value at c.block_of-index.ensures.within))
 
-pub returns-in-Err : goal.returns-in-Err
-returns-in-Err c =
-    missing_in c.args.path.now c.self.inside.entries.items c.in-Err.field-0 c.self.invariant (rw c.deref.ensures.value at c.in-Err.ensures)
-    ∙ ap (λ (m : PathMap). map.get m c.args.path.now) c.self.view_is
+pub returns : goal.returns
+returns c =
+    let bs = c.self.inside.blocks.items in
+    let q = c.args.path.now in
+    c.find.ensures
+    ∙ ap (map.find order q) c.index.ensures
+    ∙ find_block q bs c.block_of-index.result c.index.result.now (rw c.deref.ensures.value at c.block_of-index.ensures.within)
+    (subst (λ (cs : List Entries). IsBlockOf q cs c.block_of-index.result) c.deref.ensures.value c.block_of-index.ensures.place)
+    ∙ sym (map.get-from_sorted order (flat bs) q c.self.invariant.rise)
+    ∙ ap (λ (m : PathMap). map.get m q) c.self.view_is
