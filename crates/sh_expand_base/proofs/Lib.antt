@@ -1,0 +1,10 @@
+pub mod Between
+pub mod Fronts
+pub mod Leading
+pub mod Names
+pub mod Ones
+pub mod Only
+pub mod Parts
+pub mod Reaching
+pub mod Scans
+pub mod Sorting

@@ -1,0 +1,7 @@
+pub mod Classes
+pub mod Ranges
+pub mod Scan
+pub mod Splitting
+pub mod Text
+pub mod Pathnames
+pub mod Walk

@@ -1,0 +1,13 @@
+//! What splitting means, in the words of the standard.
+ghost use Rattle.std.specs.Prelude.{◌≡◌, List};
+ghost use Rattle.sh_expand_base.specs.declared.class.Class.{Class};
+ghost use Rattle.sh_expand_base.specs.declared.item.Item.{Item};
+ghost use Rattle.sh_expand_base.specs.Ranges.{NoBetween, Splits};
+ghost use Rattle.sh_expand_base.specs.Splitting.{split_one};
+
+/// Law: the fields of one parameter are what stands between its delimiters, each of which is as long a range as can be
+/// (XCU 2.6.5); and nothing else is.
+pub fn fields_stand_between_delimiters()
+    ensures stand { (xs : List Class) → NoBetween xs → Splits xs (split_one xs) }
+    ensures only { (xs : List Class) (fs : List (List Item)) → NoBetween xs → Splits xs fs → fs ≡ split_one xs }
+{}

@@ -1,0 +1,20 @@
+//! Field splitting, quote removal and pathname expansion (XCU 2.6.5 to 2.6.7), on the items of an expanded word.
+#![tactic(auto)]
+
+mod class;
+mod component;
+mod item;
+mod laws;
+mod pathnames;
+mod separators;
+mod splitting;
+#[cfg(test)]
+mod tests;
+mod text;
+
+pub use item::Item;
+pub use laws::fields_stand_between_delimiters;
+pub use pathnames::expand_pathnames;
+pub use separators::Separators;
+pub use splitting::{Fields, split};
+pub use text::{pattern_of, remove_quotes};
