@@ -5,4 +5,5 @@ pub mod Restored
 pub mod Whole
 pub mod Kept
 pub mod Sizes
+pub mod Changed
 mod Blocks

@@ -18,10 +18,10 @@ use Rattle.sh_files.specs.Writing.{image_text, last_line, paths_text}
 use Rattle.sh_files.proofs.Lookups.{Numbered, is, is_same, not_first}
 use Rattle.sh_files.proofs.Restored.{Reading, restore}
 
-abbrev first_entries : Entries
+abbrev pub first_entries : Entries
 first_entries = (codes "/", 0) ∷ (codes "/dev", 1) ∷ (codes "/dev/null", 2) ∷ (codes "/dev/tty", 3) ∷ []
 
-started : (q : List ℕ) → map.get starting.paths q ≡ map.find order q first_entries
+pub started : (q : List ℕ) → map.get starting.paths q ≡ map.find order q first_entries
 unfolding starting starting_paths
 started q = map.get-from_entries laws first_entries q
 
