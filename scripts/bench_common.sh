@@ -23,10 +23,25 @@ copy_crates() {
     done
 }
 
-# Builds the program, whose line of crates.txt names these crates; its source is read from the input.
+# Builds the program, whose line of crates.txt names these crates; its source is read from the input. Beside it stands the
+# module `arguments`.
 build_bench() {
     echo "bench: $*" >> crates.txt
     cat > crates/bench/src/main.rt
+    cat > crates/bench/src/arguments.rt <<'RT'
+//! The program's arguments.
+use std::env;
+use std::io;
+
+/// The arguments as numbers, 0 for one that is none.
+pub fn numbers(rt: HostRuntime) -> io::Result<Vec<u32>> {
+    let mut numbers = Vec::new(rt.alloc());
+    for word in env::args(&rt)?.skip(1) {
+        numbers.push(word.as_str().parse::<u32>().unwrap_or(0))?;
+    }
+    Ok(numbers)
+}
+RT
     (cd crates/bench && rt run) > build.log 2>&1 || true
     [ -x crates/bench/out/bench ] || { tail -20 build.log; exit 1; }
 }

@@ -9,10 +9,11 @@ build_bench sh_expand_base sh_files <<'RT'
 //! Splits a value of so many bytes, or expands `*` beside so many files elsewhere, as often as the arguments say.
 #![tactic(auto)]
 
+mod arguments;
+
 use sh_expand_base::{Item, Separators, expand_pathnames, split};
 use sh_files::Files;
 use std::alloc::{AllocError, Global};
-use std::env;
 use std::io;
 
 /// Adds a number of six digits.
@@ -81,10 +82,7 @@ fn expand_often(alloc: Global, count: u32, times: u32) -> Result<usize, AllocErr
 }
 
 fn main(rt: HostRuntime) -> io::Result<()> {
-    let mut numbers = Vec::new(rt.alloc());
-    for word in env::args(&rt)?.skip(1) {
-        numbers.push(word.as_str().parse::<u32>().unwrap_or(0))?;
-    }
+    let numbers = arguments::numbers(rt)?;
     let splits = numbers.first().copied().unwrap_or(0) == 0;
     let count = numbers.get(1).copied().unwrap_or(0);
     let times = numbers.last().copied().unwrap_or(0);

@@ -9,9 +9,10 @@ build_bench sh_files <<'RT'
 //! Reads an image of so many files, in the order of their paths or in a mixed order, as often as the arguments say.
 #![tactic(auto)]
 
+mod arguments;
+
 use sh_files::Files;
 use std::alloc::{AllocError, Global};
-use std::env;
 use std::io;
 
 /// Adds a number of six digits.
@@ -65,10 +66,7 @@ fn image_mixed(alloc: Global, count: u32) -> Result<Vec<u8>, AllocError> {
 }
 
 fn main(rt: HostRuntime) -> io::Result<()> {
-    let mut numbers = Vec::new(rt.alloc());
-    for word in env::args(&rt)?.skip(1) {
-        numbers.push(word.as_str().parse::<u32>().unwrap_or(0))?;
-    }
+    let numbers = arguments::numbers(rt)?;
     let count = numbers.first().copied().unwrap_or(0);
     let mixed = numbers.get(1).copied().unwrap_or(0) != 0;
     let times = numbers.last().copied().unwrap_or(0);

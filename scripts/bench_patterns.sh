@@ -8,15 +8,13 @@ build_bench sh_pattern <<'RT'
 //! Matches a pattern as often as the arguments say: a size and a count.
 #![tactic(auto)]
 
+mod arguments;
+
 use sh_pattern::{Mark, matches};
-use std::env;
 use std::io;
 
 fn main(rt: HostRuntime) -> io::Result<()> {
-    let mut numbers = Vec::new(rt.alloc());
-    for word in env::args(&rt)?.skip(1) {
-        numbers.push(word.as_str().parse::<u32>().unwrap_or(0))?;
-    }
+    let numbers = arguments::numbers(rt)?;
     let size = numbers.first().copied().unwrap_or(0);
     let times = numbers.last().copied().unwrap_or(0);
     let mut pattern = Vec::new(rt.alloc());

@@ -8,9 +8,10 @@ build_bench sh_scanner sh_scanner_base sh_syntax <<'RT'
 //! Scans a script of so many bytes as often as the arguments say, and prints how many tokens it has.
 #![tactic(auto)]
 
+mod arguments;
+
 use sh_scanner::token::next_token;
 use std::alloc::{AllocError, Global};
-use std::env;
 use std::io;
 
 /// A part of a script of some 512 bytes, which is repeated.
@@ -25,10 +26,7 @@ fn script(alloc: Global, size: usize) -> Result<Vec<u8>, AllocError> {
 }
 
 fn main(rt: HostRuntime) -> io::Result<()> {
-    let mut numbers = Vec::new(rt.alloc());
-    for word in env::args(&rt)?.skip(1) {
-        numbers.push(word.as_str().parse::<u32>().unwrap_or(0))?;
-    }
+    let numbers = arguments::numbers(rt)?;
     let size = numbers.first().copied().unwrap_or(0);
     let times = numbers.last().copied().unwrap_or(0);
     let text = script(rt.alloc(), size as usize)?;
