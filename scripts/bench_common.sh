@@ -42,6 +42,7 @@ pub fn numbers(rt: HostRuntime) -> io::Result<Vec<u32>> {
     Ok(numbers)
 }
 RT
+    rm -f crates/bench/out/bench
     (cd crates/bench && rt run) > build.log 2>&1 || true
     [ -x crates/bench/out/bench ] || { tail -20 build.log; exit 1; }
 }
