@@ -3,6 +3,8 @@ use Rattle.std.proofs.Common.{◌≡◌, inl, ℕ, suc, Bool, true, false, ◌&&
 use Rattle.std.specs.List.{list_all}
 use Rattle.std.proofs.lemmas.List.{append-nil}
 use Rattle.sh_token_base.specs.Classes.{is_name, begins_name}
+use Rattle.sh_scanner.proofs.Bodies.{Stands, Further, on, over, further, some_dropped}
+use Rattle.sh_scanner_base.specs.Here.{lines, are_bodies}
 use Rattle.sh_scanner_base.specs.declared.character.Character.{Character}
 use Rattle.sh_scanner_base.specs.declared.character.Character.TheVariants.{Plain, Quoted, Raw}
 use Rattle.sh_scanner_base.specs.declared.head.Head.{Head}
@@ -10,7 +12,7 @@ use Rattle.sh_scanner_base.specs.declared.operator.Operator.{Operator}
 use Rattle.sh_scanner_base.specs.declared.context.Context.{Context}
 use Rattle.sh_scanner_base.specs.declared.context.Context.TheVariants.{Top, Commands, Word, Quotes, Braces, Arithmetic, Parenthesis}
 use Rattle.sh_scanner_base.specs.declared.mark.Mark.{Mark}
-use Rattle.sh_scanner_base.specs.declared.mark.Mark.TheVariants.{Byte, SingleQuoted, Dollar, Variable, Parameter, BraceOpen, ArithmeticOpen, ArithmeticClose, CommandsOpen, Backquoted, Comment}
+use Rattle.sh_scanner_base.specs.declared.mark.Mark.TheVariants.{Byte, SingleQuoted, Dollar, Variable, Parameter, BraceOpen, ArithmeticOpen, ArithmeticClose, CommandsOpen, Backquoted, Comment, Bodies}
 use Rattle.sh_scanner_base.specs.declared.pending.Pending.{Pending}
 use Rattle.sh_scanner_base.specs.Bytes.{is_name_start, is_name_byte, is_short_parameter, is_form, is_no_quote, is_no_newline}
 use Rattle.sh_scanner_base.specs.Characters.{joins, Reads, Written, plain, raw, Ahead, Next, ahead, next_is}
@@ -18,15 +20,17 @@ use Rattle.sh_scanner_base.specs.Operators.{operator_text}
 use Rattle.sh_scanner_base.specs.Growth.{grown, may_grow}
 use Rattle.sh_scanner_base.specs.Heads.{grown_head, head_step, head_of, grows_head}
 use Rattle.sh_scanner_base.specs.Pendings.{is_raw}
-use Rattle.sh_scanner_base.specs.Marks.{stands, IsMark, behind, ends_token, in_word, is_text, top_of, between_tokens, is_quoted, is_arithmetic, has_single_quotes, may_close, is_backquoted, is_head, braces_of, parenthesized, levels, is_some, ends_operator, ends_comment, is_right_parenthesis, is_gap, with_token, class_of_operator}
+use Rattle.sh_scanner_base.specs.Nested.{none_yet}
+use Rattle.sh_scanner_base.specs.Marks.{stands, IsMark, behind, ends_token, in_word, is_text, top_of, between_tokens, is_quoted, is_arithmetic, has_single_quotes, is_backquoted, is_head, braces_of, parenthesized, levels, is_some, ends_operator, ends_comment, is_gap, with_token, is_more, has_due, due_in}
+use Rattle.sh_scanner_base.specs.Told.{OfOperator, OfBodies}
 use Rattle.sh_scanner.specs.Tokens.{OpensLevel, braces, parenthesis}
-use Rattle.sh_scanner.specs.Machine.{State, Stepped, On, Before, TooDeep, opens, at_dollar, grow_to, then_act, act, plain_byte, quoted_byte, form_byte, after_dollar, after_parenthesis, in_name, headed, in_head, in_single, in_backquotes, in_escape, at_parenthesis, in_operator, in_comment, step, operator_out, same, into, out_level, level_over}
+use Rattle.sh_scanner.specs.Machine.{State, Stepped, On, Before, TooDeep, opens, at_dollar, grow_to, then_act, act, plain_byte, quoted_byte, form_byte, after_dollar, after_parenthesis, in_name, headed, in_head, in_single, in_backquotes, in_escape, at_parenthesis, in_operator, in_comment, step, operator_out, same, into, out_level, level_over, in_body, bodies_out}
 use Rattle.sh_scanner.proofs.Running.{begin_of, is_raw_character}
-use Rattle.sh_scanner.proofs.Tests.{and_both, not_false, and_left, text_token, levels_token}
+use Rattle.sh_scanner.proofs.Tests.{and_both, not_false, text_token, levels_token, more_none}
 use Rattle.sh_scanner.proofs.Leads.{begun, kept, settled}
 use Rattle.sh_scanner.proofs.Pieces.{before, arithmetic_level}
 use Rattle.sh_scanner.proofs.Paths.{Path, DeepHere, deep_here, Going, either, no_join_at, pending_levels, Held, Preceded}
-use Rattle.sh_scanner.proofs.Growing.{grown_text, growing_no_right, grown_no_right}
+use Rattle.sh_scanner.proofs.Growing.{grown_text, growing_no_right, grown_no_right, growing_no_newline, grown_no_newline}
 use Rattle.sh_scanner.proofs.Steps.{written_snoc, plain_snoc, raw_snoc, all_snoc, name_snoc, head_snoc, no_more, plain_sound, quoted_sound, then_sound}
 use Rattle.sh_scanner.proofs.Sound.{ahead_plain, ahead_quoted, plain_at, ends_piece, begins_piece, grow_sound}
 
@@ -140,10 +144,10 @@ module _ (e : Bool) (gap : List Mark) (front : List ℕ) (blank : list_all is_ga
       either e gap front (nat_eq b 40) _ _ previous (b ∷ rest) m rest
       (λ h. ended ArithmeticOpen (Plain b) rest (into Arithmetic ArithmeticOpen (begin_at Pending.DollarParenthesis []))
       (record { written = written_snoc e (Plain 36 ∷ Plain 40 ∷ []) (Plain 40) mid m rest v (plain_at e b 40 m rest h f); fits = w; level = opened_level l }) refl refl)
-      (λ h. over_before CommandsOpen (Plain b) rest (into (Commands []) CommandsOpen (begin_at Pending.DollarParenthesis []))
+      (λ h. over_before CommandsOpen (Plain b) rest (into (Commands none_yet) CommandsOpen (begin_at Pending.DollarParenthesis []))
       (commands_mark w l (not_next (λ z. nat_eq z 40) b (ahead e m) h (ahead_plain e b m rest f)) v) refl refl f refl)
   parenthesis_sound (Quoted b) rest k w l v f =
-      over_before CommandsOpen (Quoted b) rest (into (Commands []) CommandsOpen (begin_at Pending.DollarParenthesis []))
+      over_before CommandsOpen (Quoted b) rest (into (Commands none_yet) CommandsOpen (begin_at Pending.DollarParenthesis []))
       (commands_mark w l (not_quoted (λ z. nat_eq z 40) b (ahead e m) (ahead_quoted e b m rest f)) v) refl refl f refl
   parenthesis_sound (Raw b) rest k w l v f = absurd (cc)
 
@@ -267,19 +271,19 @@ module _ (e : Bool) (gap : List Mark) (front : List ℕ) (blank : list_all is_ga
   operator_mark o i g h v =
       record {
         written = v;
-        fits = and_both (between_tokens x) (ends_operator o (ahead e m) && not (is_right_parenthesis o && may_close x)) i
-            (and_both (ends_operator o (ahead e m)) (not (is_right_parenthesis o && may_close x)) h
-            (not_false (is_right_parenthesis o && may_close x) (and_left (is_right_parenthesis o) (may_close x) (growing_no_right o g))));
+        fits = and_both (between_tokens x) (ends_operator o (ahead e m) && not (is_more o x)) i
+            (and_both (ends_operator o (ahead e m)) (not (is_more o x)) h
+            (not_false (is_more o x) (more_none o x (growing_no_right o g) (growing_no_newline o g))));
         level = refl;
       }
 
   operator_before : (o : Operator) (c : Character) (rest : List ℕ) → is_raw_character c ≡ false → between_tokens x ≡ true → may_grow o ≡ true → ends_operator o (ahead e m) ≡ true
       → Written e (plain (operator_text o)) mid m → Reads e c m rest → Goes (then_act (operator_out o (begin_at (Pending.Operator o) [])) c) c rest
   operator_before o c rest k i g h v f =
-      let t : is_text (top_of (with_token (class_of_operator o) (x ∷ xs))) ≡ false = text_token (class_of_operator o) (x ∷ xs) ∙ p.inside.inner in
+      let t : is_text (top_of (with_token (OfOperator o) (x ∷ xs))) ≡ false = text_token (OfOperator o) (x ∷ xs) ∙ p.inside.inner in
       subst (λ z. Goes (cond z (Before (operator_out o (begin_at (Pending.Operator o) []))) (act (operator_out o (begin_at (Pending.Operator o) [])) c)) c rest) (sym t)
       (over_before (Mark.Operator o) c rest (operator_out o (begin_at (Pending.Operator o) [])) (operator_mark o i g h v) t k f
-      (ap (kept (with_token (class_of_operator o) (x ∷ xs)) (done ++ Mark.Operator o ∷ [])) (levels_token (class_of_operator o) (x ∷ xs))))
+      (ap (kept (with_token (OfOperator o) (x ∷ xs)) (done ++ Mark.Operator o ∷ [])) (levels_token (OfOperator o) (x ∷ xs))))
 
   operator_sound : (o : Operator) (c : Character) (rest : List ℕ) → is_raw_character c ≡ false → between_tokens x ≡ true → may_grow o ≡ true → Written e (plain (operator_text o)) mid m → Reads e c m rest
       → Goes (in_operator o (begin_at (Pending.Operator o) []) c) c rest
@@ -288,7 +292,7 @@ module _ (e : Bool) (gap : List Mark) (front : List ℕ) (blank : list_all is_ga
     where
       go : (y : Option Operator) → grown o b ≡ y → Goes (grow_to o y (begin_at (Pending.Operator o) []) b) (Plain b) rest
       go (Some longer) h =
-          grow_sound e gap front blank previous x xs done mid p longer rest (b ∷ rest) m p.inside.inner i (and_left (is_right_parenthesis longer) (may_close x) (grown_no_right o longer b g h))
+          grow_sound e gap front blank previous x xs done mid p longer rest (b ∷ rest) m p.inside.inner i (more_none longer x (grown_no_right o longer b g h) (grown_no_newline o longer b g h))
           (subst (λ z. Written e z mid rest) (plain_snoc (operator_text o) b ∙ ap plain (sym (grown_text o longer b h))) (written_snoc e (plain (operator_text o)) (Plain b) mid m rest v f))
       go None h = operator_before o (Plain b) rest refl i g (ap (ends_operator o) (ahead_plain e b m rest f) ∙ ap (λ z. not (is_some z)) h) v f
   operator_sound o (Quoted b) rest k i g v f = operator_before o (Quoted b) rest refl i g (ap (ends_operator o) (ahead_quoted e b m rest f)) v f
@@ -313,6 +317,27 @@ module _ (e : Bool) (gap : List Mark) (front : List ℕ) (blank : list_all is_ga
       (λ h. held_on Pending.Comment (acc ++ b ∷ []) (Raw b) rest
       (all_snoc is_no_newline acc b n (not_false (nat_eq b 10) h), i, subst (λ z. Written e (Plain 35 ∷ z) mid rest) (raw_snoc acc b) (written_snoc e (Plain 35 ∷ raw acc) (Raw b) mid m rest v f)) tt)
 
+  body_sound : (l n : ℕ) (j : Bool) (acc : List ℕ) (c : Character) (rest : List ℕ) → is_raw_character c ≡ true → Stands (due_in x) l n j acc → Written e (Plain 10 ∷ raw acc) mid m → Reads e c m rest
+      → Goes (in_body l n j (begin_at (Pending.Body l n j) acc) c) c rest
+  body_sound l n j acc (Plain b) rest k r v f = absurd (cc)
+  body_sound l n j acc (Quoted b) rest k r v f = absurd (cc)
+  body_sound l n j acc (Raw b) rest k r v f = go (further x xs done lv l n j acc r b)
+    where
+      more : Written e (Plain 10 ∷ raw (acc ++ b ∷ [])) mid rest
+      more = subst (λ z. Written e (Plain 10 ∷ z) mid rest) (raw_snoc acc b) (written_snoc e (Plain 10 ∷ raw acc) (Raw b) mid m rest v f)
+
+      go : Further x xs done lv l n j acc b → Goes (in_body l n j (begin_at (Pending.Body l n j) acc) (Raw b)) (Raw b) rest
+      go (on i o q s g) = subst (λ z. Goes z (Raw b) rest) (sym g) (held_on (Pending.Body i o q) (acc ++ b ∷ []) (Raw b) rest (s, more) tt)
+      go (over t q g) =
+          subst (λ z. Goes z (Raw b) rest) (sym g)
+          (ended (Bodies (acc ++ 10 ∷ [])) (Raw b) rest (bodies_out (begin_at (Pending.Body l n j) acc))
+          (record {
+            written = subst (λ z. Written e (Plain 10 ∷ raw (acc ++ z ∷ [])) mid rest) t more;
+            fits = and_both (has_due x) (are_bodies (due_in x) false (lines [] (acc ++ 10 ∷ []))) (some_dropped n (due_in x) r.awaits)
+                (subst (λ z. are_bodies (due_in x) false (lines [] (acc ++ z ∷ [])) ≡ true) t (q []));
+            level = refl;
+          }) refl (ap (kept (with_token OfBodies (x ∷ xs)) (done ++ Bodies (acc ++ 10 ∷ []) ∷ [])) (sym (levels_token OfBodies (x ∷ xs)))))
+
   nothing_sound : (c : Character) (rest : List ℕ) → is_raw_character c ≡ false → mid ≡ m → Reads e c m rest → Goes (act (settled done (x ∷ xs)) c) c rest
   nothing_sound (Plain b) rest k w f =
       subst (λ z. Going e gap front (plain_byte (settled done (x ∷ xs)) b) previous (b ∷ rest) z rest) w (plain_sound e gap front blank previous x xs done mid b rest p (subst (λ z. Reads e (Plain b) z rest) (sym w) f))
@@ -333,3 +358,4 @@ module _ (e : Bool) (gap : List Mark) (front : List ℕ) (blank : list_all is_ga
   step_sound Pending.Parenthesis acc c rest k h r f = subst (λ a. Goes (step (begin_at Pending.Parenthesis a) c) c rest) (sym h.0) (right_sound c rest (sym k) h.1 h.2 f)
   step_sound (Pending.Operator o) acc c rest k h r f = subst (λ a. Goes (step (begin_at (Pending.Operator o) a) c) c rest) (sym h.0) (operator_sound o c rest (sym k) h.1 h.2 h.3 f)
   step_sound Pending.Comment acc c rest k h r f = comment_sound acc c rest (sym k) h.0 h.1 h.2 f
+  step_sound (Pending.Body l n j) acc c rest k h r f = body_sound l n j acc c rest (sym k) h.0 h.1 f

@@ -1,21 +1,23 @@
 -- Each piece between tokens is run to its end.
 use Rattle.std.proofs.Common.{◌≡◌, ℕ, suc, Bool, true, false, ◌||◌, ◌&&◌, not, nat_eq, List, [], ◌∷◌, ◌++◌, ◌-◌, length, drop, Option, Some, None, refl, sym, ap, ◌∙◌, subst, eqb-true}
 use Rattle.std.specs.List.{list_all}
-use Rattle.sh_token_base.specs.declared.class.TokenClass.{TokenClass}
+use Rattle.sh_scanner.proofs.Bodies.{at_first, within, ended_at, bodies_keep}
+use Rattle.sh_scanner_base.specs.Here.{lines, are_bodies}
 use Rattle.sh_scanner_base.specs.declared.character.Character.TheVariants.{Plain, Quoted, Raw}
 use Rattle.sh_scanner_base.specs.declared.operator.Operator.{Operator}
 use Rattle.sh_scanner_base.specs.declared.operator.Operator.TheVariants.{And, Semicolon, Pipe, Less, Great, LeftParenthesis, RightParenthesis, Newline, AndIf, OrIf, DoubleSemicolon, DoubleLess, DoubleGreat, LessAnd, GreatAnd, LessGreat, DoubleLessDash, Clobber}
 use Rattle.sh_scanner_base.specs.declared.context.Context.{Context}
 use Rattle.sh_scanner_base.specs.declared.context.Context.TheVariants.{Top, Commands, Word, Quotes, Braces, Arithmetic, Parenthesis}
 use Rattle.sh_scanner_base.specs.declared.mark.Mark.{Mark}
-use Rattle.sh_scanner_base.specs.declared.mark.Mark.TheVariants.{CommandsClose, WordOpen, WordClose, Blank, Comment}
+use Rattle.sh_scanner_base.specs.declared.mark.Mark.TheVariants.{CommandsClose, WordOpen, WordClose, Blank, Comment, Bodies}
 use Rattle.sh_scanner_base.specs.declared.pending.Pending.{Pending}
 use Rattle.sh_scanner_base.specs.Bytes.{is_blank, is_operator_byte, is_redirection, is_end, is_no_newline}
 use Rattle.sh_scanner_base.specs.Characters.{Reads, Written, plain, raw, Ahead, Next, ahead, next_is}
 use Rattle.sh_scanner_base.specs.Pendings.{is_raw}
 use Rattle.sh_scanner_base.specs.Operators.{operator_text}
 use Rattle.sh_scanner_base.specs.Growth.{grown, may_grow, operator_of}
-use Rattle.sh_scanner_base.specs.Marks.{is_text, top_of, between_tokens, is_word, may_close, levels, ends_comment, begins_word, ends_word, same_as, is_some, ends_operator, is_right_parenthesis, with_token, class_of_operator, class_of_word}
+use Rattle.sh_scanner_base.specs.Marks.{is_text, top_of, between_tokens, is_word, may_close, levels, ends_comment, begins_word, ends_word, same_as, is_some, ends_operator, is_right_parenthesis, is_newline, is_more, has_due, due_in, with_token}
+use Rattle.sh_scanner_base.specs.Told.{Told, OfOperator, OfWord, OfBodies}
 use Rattle.sh_scanner.specs.Machine.{State, On, step, is_top, grow, grow_to, word_byte, between, after_word, plain_byte, quoted_byte, in_operator, in_comment, word_out, same, pend, into, out_level}
 use Rattle.sh_scanner.specs.Run.{is_gap_state, fed, run}
 use Rattle.sh_scanner.proofs.Running.{Alike}
@@ -68,30 +70,30 @@ pub record First (b : ℕ) (p : Operator) : Type 0 where
   pub hash : nat_eq b 35 ≡ false
 
 pub data Made (o : Operator) : Type 0 where
-  one_byte : (b : ℕ) → operator_text o ≡ b ∷ [] → First b o → nat_eq b 41 ≡ is_right_parenthesis o → Made o
-  two_bytes : (b c : ℕ) → (p : Operator) → operator_text o ≡ b ∷ c ∷ [] → First b p → nat_eq b 41 ≡ false → may_grow p ≡ true → grown p c ≡ Some o → Made o
-  three_bytes : (b c d : ℕ) → (p q : Operator) → operator_text o ≡ b ∷ c ∷ d ∷ [] → First b p → nat_eq b 41 ≡ false → may_grow p ≡ true → grown p c ≡ Some q → may_grow q ≡ true
+  one_byte : (b : ℕ) → operator_text o ≡ b ∷ [] → First b o → nat_eq b 41 ≡ is_right_parenthesis o → nat_eq b 10 ≡ is_newline o → Made o
+  two_bytes : (b c : ℕ) → (p : Operator) → operator_text o ≡ b ∷ c ∷ [] → First b p → nat_eq b 41 ≡ false → nat_eq b 10 ≡ false → may_grow p ≡ true → grown p c ≡ Some o → Made o
+  three_bytes : (b c d : ℕ) → (p q : Operator) → operator_text o ≡ b ∷ c ∷ d ∷ [] → First b p → nat_eq b 41 ≡ false → nat_eq b 10 ≡ false → may_grow p ≡ true → grown p c ≡ Some q → may_grow q ≡ true
       → grown q d ≡ Some o → Made o
 
 pub made : (o : Operator) → Made o
-made And = one_byte 38 refl (record { is = refl; byte = refl; blank = refl; hash = refl }) refl
-made Semicolon = one_byte 59 refl (record { is = refl; byte = refl; blank = refl; hash = refl }) refl
-made Pipe = one_byte 124 refl (record { is = refl; byte = refl; blank = refl; hash = refl }) refl
-made Less = one_byte 60 refl (record { is = refl; byte = refl; blank = refl; hash = refl }) refl
-made Great = one_byte 62 refl (record { is = refl; byte = refl; blank = refl; hash = refl }) refl
-made LeftParenthesis = one_byte 40 refl (record { is = refl; byte = refl; blank = refl; hash = refl }) refl
-made RightParenthesis = one_byte 41 refl (record { is = refl; byte = refl; blank = refl; hash = refl }) refl
-made Newline = one_byte 10 refl (record { is = refl; byte = refl; blank = refl; hash = refl }) refl
-made AndIf = two_bytes 38 38 And refl (record { is = refl; byte = refl; blank = refl; hash = refl }) refl refl refl
-made OrIf = two_bytes 124 124 Pipe refl (record { is = refl; byte = refl; blank = refl; hash = refl }) refl refl refl
-made DoubleSemicolon = two_bytes 59 59 Semicolon refl (record { is = refl; byte = refl; blank = refl; hash = refl }) refl refl refl
-made DoubleLess = two_bytes 60 60 Less refl (record { is = refl; byte = refl; blank = refl; hash = refl }) refl refl refl
-made DoubleGreat = two_bytes 62 62 Great refl (record { is = refl; byte = refl; blank = refl; hash = refl }) refl refl refl
-made LessAnd = two_bytes 60 38 Less refl (record { is = refl; byte = refl; blank = refl; hash = refl }) refl refl refl
-made GreatAnd = two_bytes 62 38 Great refl (record { is = refl; byte = refl; blank = refl; hash = refl }) refl refl refl
-made LessGreat = two_bytes 60 62 Less refl (record { is = refl; byte = refl; blank = refl; hash = refl }) refl refl refl
-made DoubleLessDash = three_bytes 60 60 45 Less DoubleLess refl (record { is = refl; byte = refl; blank = refl; hash = refl }) refl refl refl refl refl
-made Clobber = two_bytes 62 124 Great refl (record { is = refl; byte = refl; blank = refl; hash = refl }) refl refl refl
+made And = one_byte 38 refl (record { is = refl; byte = refl; blank = refl; hash = refl }) refl refl
+made Semicolon = one_byte 59 refl (record { is = refl; byte = refl; blank = refl; hash = refl }) refl refl
+made Pipe = one_byte 124 refl (record { is = refl; byte = refl; blank = refl; hash = refl }) refl refl
+made Less = one_byte 60 refl (record { is = refl; byte = refl; blank = refl; hash = refl }) refl refl
+made Great = one_byte 62 refl (record { is = refl; byte = refl; blank = refl; hash = refl }) refl refl
+made LeftParenthesis = one_byte 40 refl (record { is = refl; byte = refl; blank = refl; hash = refl }) refl refl
+made RightParenthesis = one_byte 41 refl (record { is = refl; byte = refl; blank = refl; hash = refl }) refl refl
+made Newline = one_byte 10 refl (record { is = refl; byte = refl; blank = refl; hash = refl }) refl refl
+made AndIf = two_bytes 38 38 And refl (record { is = refl; byte = refl; blank = refl; hash = refl }) refl refl refl refl
+made OrIf = two_bytes 124 124 Pipe refl (record { is = refl; byte = refl; blank = refl; hash = refl }) refl refl refl refl
+made DoubleSemicolon = two_bytes 59 59 Semicolon refl (record { is = refl; byte = refl; blank = refl; hash = refl }) refl refl refl refl
+made DoubleLess = two_bytes 60 60 Less refl (record { is = refl; byte = refl; blank = refl; hash = refl }) refl refl refl refl
+made DoubleGreat = two_bytes 62 62 Great refl (record { is = refl; byte = refl; blank = refl; hash = refl }) refl refl refl refl
+made LessAnd = two_bytes 60 38 Less refl (record { is = refl; byte = refl; blank = refl; hash = refl }) refl refl refl refl
+made GreatAnd = two_bytes 62 38 Great refl (record { is = refl; byte = refl; blank = refl; hash = refl }) refl refl refl refl
+made LessGreat = two_bytes 60 62 Less refl (record { is = refl; byte = refl; blank = refl; hash = refl }) refl refl refl refl
+made DoubleLessDash = three_bytes 60 60 45 Less DoubleLess refl (record { is = refl; byte = refl; blank = refl; hash = refl }) refl refl refl refl refl refl
+made Clobber = two_bytes 62 124 Great refl (record { is = refl; byte = refl; blank = refl; hash = refl }) refl refl refl refl
 
 pub no_longer : (o : Operator) (c : ℕ) (next : Ahead) → ends_operator o next ≡ true → next ≡ Next (Plain c) → grown o c ≡ None
 no_longer o c next h w = go (grown o c) (not_true (is_some (grown o c)) (sym (ap (ends_operator o) w) ∙ h))
@@ -101,14 +103,15 @@ no_longer o c next h w = go (grown o c) (not_true (is_some (grown o c)) (sym (ap
     go (Some p) i = absurd (cc)
 
 -- a byte that begins a word ends none
-pub begins_parts : (b : ℕ) → begins_word (Next (Plain b)) ≡ true → (is_end b ≡ false) × (nat_eq b 35 ≡ false) × (is_blank b ≡ false) × (is_operator_byte b ≡ false) × (nat_eq b 41 ≡ false)
+pub begins_parts : (b : ℕ) → begins_word (Next (Plain b)) ≡ true → (is_end b ≡ false) × (nat_eq b 35 ≡ false) × (is_blank b ≡ false) × (is_operator_byte b ≡ false) × (nat_eq b 41 ≡ false) × (nat_eq b 10 ≡ false)
 begins_parts b h =
     let t = and_true (not (is_end b)) (not (nat_eq b 35)) h in
     let n = not_true (is_end b) t.0 in
     let p = or_false (is_blank b) (is_operator_byte b) n in
-    (n, not_true (nat_eq b 35) t.1, p.0, p.1, closes b p.1)
+    let c = closes b p.1 in
+    (n, not_true (nat_eq b 35) t.1, p.0, p.1, c.0, c.1)
   where
-    closes : (b : ℕ) → is_operator_byte b ≡ false → nat_eq b 41 ≡ false
+    closes : (b : ℕ) → is_operator_byte b ≡ false → (nat_eq b 41 ≡ false) × (nat_eq b 10 ≡ false)
     closes b h =
         let p = or_false (nat_eq b 38) (nat_eq b 59 || (nat_eq b 124 || (nat_eq b 60 || (nat_eq b 62 || (nat_eq b 40 || (nat_eq b 41 || nat_eq b 10)))))) h in
         let q = or_false (nat_eq b 59) (nat_eq b 124 || (nat_eq b 60 || (nat_eq b 62 || (nat_eq b 40 || (nat_eq b 41 || nat_eq b 10))))) p.1 in
@@ -116,7 +119,7 @@ begins_parts b h =
         let s = or_false (nat_eq b 60) (nat_eq b 62 || (nat_eq b 40 || (nat_eq b 41 || nat_eq b 10))) r.1 in
         let t = or_false (nat_eq b 62) (nat_eq b 40 || (nat_eq b 41 || nat_eq b 10)) s.1 in
         let u = or_false (nat_eq b 40) (nat_eq b 41 || nat_eq b 10) t.1 in
-        (or_false (nat_eq b 41) (nat_eq b 10) u.1).0
+        or_false (nat_eq b 41) (nat_eq b 10) u.1
 
 -- a byte between tokens
 pub plain_between : (s : State) (b : ℕ) → between_tokens (top_of s.contexts) ≡ true → plain_byte s b ≡ between s b
@@ -135,15 +138,15 @@ between_close : (s : State) → may_close (top_of s.contexts) ≡ true → betwe
 unfolding between
 between_close s h = rw h refl
 
-pub between_operator : (s : State) (b : ℕ) → is_blank b ≡ false → nat_eq b 35 ≡ false → (nat_eq b 41 && may_close (top_of s.contexts)) ≡ false → is_operator_byte b ≡ true
-    → between s b ≡ grow (operator_of b) s
+pub between_operator : (s : State) (b : ℕ) → is_blank b ≡ false → nat_eq b 35 ≡ false → (nat_eq b 41 && may_close (top_of s.contexts)) ≡ false
+    → (nat_eq b 10 && has_due (top_of s.contexts)) ≡ false → is_operator_byte b ≡ true → between s b ≡ grow (operator_of b) s
 unfolding between
-between_operator s b h i j k = rw (h, i, j, k) refl
+between_operator s b h i j l k = rw (h, i, j, l, k) refl
 
-pub between_word : (s : State) (b : ℕ) → is_blank b ≡ false → nat_eq b 35 ≡ false → is_operator_byte b ≡ false → nat_eq b 41 ≡ false
+pub between_word : (s : State) (b : ℕ) → is_blank b ≡ false → nat_eq b 35 ≡ false → is_operator_byte b ≡ false → nat_eq b 41 ≡ false → nat_eq b 10 ≡ false
     → between s b ≡ word_byte (Word (length s.done)) (into (Word (length s.done)) WordOpen s) b
 unfolding between
-between_word s b h i j k = rw (h, i, j, and_left (nat_eq b 41) (may_close (top_of s.contexts)) k) refl
+between_word s b h i j k l = rw (h, i, j, and_left (nat_eq b 41) (may_close (top_of s.contexts)) k, and_left (nat_eq b 10) (has_due (top_of s.contexts)) l) refl
 
 module _ (x : Context) (xs : List Context) (done : List Mark) where
   abbrev base : State
@@ -156,14 +159,14 @@ module _ (x : Context) (xs : List Context) (done : List Mark) where
   pub word_plain : (b : ℕ) → between_tokens x ≡ true → begins_word (Next (Plain b)) ≡ true → step base (Plain b) ≡ step opened (Plain b)
   word_plain b h i =
       let t = begins_parts b i in
-      plain_between base b h ∙ (between_word base b t.2 t.1 t.3 t.4 ∙ sym (byte_in (Word (length done)) (x ∷ xs) (done ++ WordOpen ∷ []) (levels (x ∷ xs)) b refl t.0))
+      plain_between base b h ∙ (between_word base b t.2 t.1 t.3 t.4 t.5 ∙ sym (byte_in (Word (length done)) (x ∷ xs) (done ++ WordOpen ∷ []) (levels (x ∷ xs)) b refl t.0))
 
   pub word_quoted : (b : ℕ) → between_tokens x ≡ true → step base (Quoted b) ≡ step opened (Quoted b)
   unfolding quoted_byte
   word_quoted b h = rw h refl
 
-  pub first_byte : (b : ℕ) (p : Operator) → between_tokens x ≡ true → First b p → (nat_eq b 41 && may_close x) ≡ false → step base (Plain b) ≡ grow p base
-  first_byte b p h f c = plain_between base b h ∙ (between_operator base b f.blank f.hash c f.byte ∙ ap (λ q. grow q base) f.is)
+  pub first_byte : (b : ℕ) (p : Operator) → between_tokens x ≡ true → First b p → (nat_eq b 41 && may_close x) ≡ false → (nat_eq b 10 && has_due x) ≡ false → step base (Plain b) ≡ grow p base
+  first_byte b p h f c d = plain_between base b h ∙ (between_operator base b f.blank f.hash c d f.byte ∙ ap (λ q. grow q base) f.is)
 
   pub next_byte : (p o : Operator) (c : ℕ) → grown p c ≡ Some o → step (begun (x ∷ xs) done (levels (x ∷ xs)) (Pending.Operator p) []) (Plain c) ≡ grow o base
   unfolding in_operator
@@ -228,13 +231,13 @@ module _ (k e : Bool) (x : Context) (xs : List Context) (done : List Mark) where
 
   -- an operator within a substitution
   abbrev over_with : Operator → State
-  over_with o = kept (with_token (class_of_operator o) (x ∷ xs)) (done ++ Mark.Operator o ∷ []) lv
+  over_with o = kept (with_token (OfOperator o) (x ∷ xs)) (done ++ Mark.Operator o ∷ []) lv
 
   operator_alike : (o : Operator) (m : List ℕ) → is_text x ≡ false → between_tokens x ≡ true → ends_operator o (ahead e m) ≡ true
       → Alike e false (begun (x ∷ xs) done lv (Pending.Operator o) []) (over_with o) m
   unfolding in_operator
   operator_alike o m t h i =
-      let c = class_of_operator o in
+      let c = OfOperator o in
       let u = text_token c (x ∷ xs) ∙ t in
       let v = between_no_word (top_of (with_token c (x ∷ xs))) (between_token c (x ∷ xs) ∙ h) in
       record {
@@ -251,15 +254,15 @@ module _ (k e : Bool) (x : Context) (xs : List Context) (done : List Mark) where
       go true j =
           joined k e s (begun (x ∷ xs) done lv (Pending.Operator o) []) (over_with o) m rest rest
           (one k e s (begun (x ∷ xs) done lv (Pending.Operator o) []) m rest (Plain b) (λ z. g) r w (f ∙ growing x xs done o j))
-          (same_ahead k e (begun (x ∷ xs) done lv (Pending.Operator o) []) (over_with o) rest (record { left = refl; right = refl; gap = sym (text_token (class_of_operator o) (x ∷ xs) ∙ t) }) (operator_alike o rest t h i))
-      go false j = one k e s (over_with o) m rest (Plain b) (λ z. g) r w (f ∙ rw (j, text_token (class_of_operator o) (x ∷ xs) ∙ t) refl)
+          (same_ahead k e (begun (x ∷ xs) done lv (Pending.Operator o) []) (over_with o) rest (record { left = refl; right = refl; gap = sym (text_token (OfOperator o) (x ∷ xs) ∙ t) }) (operator_alike o rest t h i))
+      go false j = one k e s (over_with o) m rest (Plain b) (λ z. g) r w (f ∙ rw (j, text_token (OfOperator o) (x ∷ xs) ∙ t) refl)
 
   -- the byte of an operator that may grow
-  to_operator : (b : ℕ) (p : Operator) (m rest : List ℕ) → is_text x ≡ false → between_tokens x ≡ true → First b p → nat_eq b 41 ≡ false → may_grow p ≡ true → Reads e (Plain b) m rest
+  to_operator : (b : ℕ) (p : Operator) (m rest : List ℕ) → is_text x ≡ false → between_tokens x ≡ true → First b p → nat_eq b 41 ≡ false → nat_eq b 10 ≡ false → may_grow p ≡ true → Reads e (Plain b) m rest
       → Leads k e at_start m (begun (x ∷ xs) done lv (Pending.Operator p) []) rest
-  to_operator b p m rest t h f c j r =
+  to_operator b p m rest t h f c d j r =
       goes k e at_start (begun (x ∷ xs) done lv (Pending.Operator p) []) m rest (Plain b) (λ z. t) refl r
-      (first_byte x xs done b p h f (and_left (nat_eq b 41) (may_close x) c) ∙ growing x xs done p j)
+      (first_byte x xs done b p h f (and_left (nat_eq b 41) (may_close x) c) (and_left (nat_eq b 10) (has_due x) d) ∙ growing x xs done p j)
 
   further : (p q : Operator) (c : ℕ) (m rest : List ℕ) → grown p c ≡ Some q → may_grow q ≡ true → Reads e (Plain c) m rest
       → Leads k e (begun (x ∷ xs) done lv (Pending.Operator p) []) m (begun (x ∷ xs) done lv (Pending.Operator q) []) rest
@@ -268,29 +271,55 @@ module _ (k e : Bool) (x : Context) (xs : List Context) (done : List Mark) where
       (next_byte x xs done p q c h ∙ growing x xs done q j)
 
   operator_made : (o : Operator) (m rest : List ℕ) → Made o → is_text x ≡ false → between_tokens x ≡ true → ends_operator o (ahead e rest) ≡ true
-      → (is_right_parenthesis o && may_close x) ≡ false → Written e (plain (operator_text o)) m rest → Leads k e at_start m (over_with o) rest
-  operator_made o m rest (one_byte b s f y) t h i c w =
+      → is_more o x ≡ false → Written e (plain (operator_text o)) m rest → Leads k e at_start m (over_with o) rest
+  operator_made o m rest (one_byte b s f y z) t h i c w =
+      let u = or_false (is_right_parenthesis o && may_close x) (is_newline o && has_due x) c in
       let v : Written e (Plain b ∷ []) m rest = subst (λ z. Written e (plain z) m rest) s w in
-      last_byte o at_start m rest b t h i t refl v (first_byte x xs done b o h f (ap (λ z. z && may_close x) y ∙ c))
-  operator_made o m rest (two_bytes b d p s f y j l) t h i c w =
+      last_byte o at_start m rest b t h i t refl v (first_byte x xs done b o h f (ap (λ v. v && may_close x) y ∙ u.0) (ap (λ v. v && has_due x) z ∙ u.1))
+  operator_made o m rest (two_bytes b d p s f y z j l) t h i c w =
       let v : Written e (Plain b ∷ Plain d ∷ []) m rest = subst (λ z. Written e (plain z) m rest) s w in
       joined k e at_start (begun (x ∷ xs) done lv (Pending.Operator p) []) (over_with o) m v.0 rest
-      (to_operator b p m v.0 t h f y j v.1)
+      (to_operator b p m v.0 t h f y z j v.1)
       (last_byte o (begun (x ∷ xs) done lv (Pending.Operator p) []) v.0 rest d t h i refl refl v.2 (next_byte x xs done p o d l))
-  operator_made o m rest (three_bytes b d a p q s f y j l n u) t h i c w =
+  operator_made o m rest (three_bytes b d a p q s f y z j l n u) t h i c w =
       let v : Written e (Plain b ∷ Plain d ∷ Plain a ∷ []) m rest = subst (λ z. Written e (plain z) m rest) s w in
       joined k e at_start (begun (x ∷ xs) done lv (Pending.Operator p) []) (over_with o) m v.0 rest
-      (to_operator b p m v.0 t h f y j v.1)
+      (to_operator b p m v.0 t h f y z j v.1)
       (joined k e (begun (x ∷ xs) done lv (Pending.Operator p) []) (begun (x ∷ xs) done lv (Pending.Operator q) []) (over_with o) v.0 v.2.0 rest
       (further p q d v.0 v.2.0 l n v.2.1)
       (last_byte o (begun (x ∷ xs) done lv (Pending.Operator q) []) v.2.0 rest a t h i refl refl v.2.2 (next_byte x xs done q o a u)))
 
   pub operator_leads : (o : Operator) (m rest : List ℕ) → is_text x ≡ false → between_tokens x ≡ true → ends_operator o (ahead e rest) ≡ true
-      → (is_right_parenthesis o && may_close x) ≡ false → Written e (plain (operator_text o)) m rest
-      → Leads k e at_start m (settled (done ++ Mark.Operator o ∷ []) (with_token (class_of_operator o) (x ∷ xs))) rest
+      → is_more o x ≡ false → Written e (plain (operator_text o)) m rest
+      → Leads k e at_start m (settled (done ++ Mark.Operator o ∷ []) (with_token (OfOperator o) (x ∷ xs))) rest
   operator_leads o m rest t h i c w =
-      subst (λ l. Leads k e at_start m (kept (with_token (class_of_operator o) (x ∷ xs)) (done ++ Mark.Operator o ∷ []) l) rest) (sym (levels_token (class_of_operator o) (x ∷ xs)))
+      subst (λ l. Leads k e at_start m (kept (with_token (OfOperator o) (x ∷ xs)) (done ++ Mark.Operator o ∷ []) l) rest) (sym (levels_token (OfOperator o) (x ∷ xs)))
       (operator_made o m rest (made o) t h i c w)
+
+-- a newline behind which bodies come
+due_between : (x : Context) → has_due x ≡ true → between_tokens x ≡ true
+due_between Top h = absurd (cc)
+due_between (Commands ts) h = refl
+due_between (Word n) h = absurd (cc)
+due_between Quotes h = absurd (cc)
+due_between (Braces q) h = absurd (cc)
+due_between Arithmetic h = absurd (cc)
+due_between Parenthesis h = absurd (cc)
+
+between_due : (s : State) → has_due (top_of s.contexts) ≡ true → between s 10 ≡ On (pend (Pending.Body 0 0 false) s)
+unfolding between
+between_due s h = rw h refl
+
+pub bodies_leads : (k e : Bool) (x : Context) (xs : List Context) (done : List Mark) (bs m rest : List ℕ) → is_text x ≡ false → has_due x ≡ true → are_bodies (due_in x) false (lines [] bs) ≡ true
+    → Written e (Plain 10 ∷ raw bs) m rest → Leads k e (settled done (x ∷ xs)) m (settled (done ++ Bodies bs ∷ []) (with_token OfBodies (x ∷ xs))) rest
+bodies_leads k e x xs done bs m rest t h a w =
+    let s = settled done (x ∷ xs) in
+    let lv = levels (x ∷ xs) in
+    let first = within x xs done lv 0 0 false [] in
+    subst (λ l. Leads k e s m (kept (with_token OfBodies (x ∷ xs)) (done ++ Bodies bs ∷ []) l) rest) (sym (levels_token OfBodies (x ∷ xs)))
+    (joined k e s first (ended_at x xs done lv bs) m w.0 rest
+    (goes k e s first m w.0 (Plain 10) (λ z. t) refl w.1 (plain_between s 10 (due_between x h) ∙ between_due s h))
+    (bodies_keep x xs done lv k e bs 0 0 false [] w.0 rest (at_first (due_in x) h) a w.2))
 
 -- the end of a word within a substitution
 pub closing_word : (n : ℕ) (xs : List Context) (done : List Mark) (b : ℕ) → is_end b ≡ true
@@ -307,8 +336,8 @@ same_is false true h = absurd (cc)
 same_is false false h = refl
 
 module _ (k e : Bool) (n : ℕ) (xs : List Context) (done : List Mark) (r : Bool) (m : List ℕ) where
-  abbrev class : TokenClass
-  class = class_of_word r (drop (suc n) done)
+  abbrev class : Told
+  class = OfWord r (drop (suc n) done)
 
   abbrev open_word : State
   open_word = settled done (Word n ∷ xs)
@@ -327,7 +356,7 @@ module _ (k e : Bool) (n : ℕ) (xs : List Context) (done : List Mark) (r : Bool
             ∙ (ap (λ z. after_word (word_out z open_word) b) (sym q)
             ∙ (closed_word closed b (text_token class xs ∙ t) ∙ sym (plain_between closed b (between_token class xs ∙ h))));
         quoteds = λ b j. let z = sym (ap ends_word j) ∙ i in absurd (cc);
-        ends = λ j. rw (text_token (class_of_word false (drop (suc n) done)) xs ∙ t, text_token class xs ∙ t, between_no_word (top_of (with_token class xs)) (between_token class xs ∙ h)) refl;
+        ends = λ j. rw (text_token (OfWord false (drop (suc n) done)) xs ∙ t, text_token class xs ∙ t, between_no_word (top_of (with_token class xs)) (between_token class xs ∙ h)) refl;
       }
 
   pub word_over_leads : between_tokens (top_of xs) ≡ true → is_text (top_of xs) ≡ false → ends_word (ahead e m) ≡ true → same_as r (next_is is_redirection (ahead e m)) ≡ true

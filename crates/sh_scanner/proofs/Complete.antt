@@ -1,5 +1,5 @@
 -- A token of the definition is run to its end, and so is a text in which too many levels open.
-use Rattle.std.proofs.Common.{◌≡◌, ℕ, zero, suc, Bool, true, false, ◌&&◌, not, nat_eq, List, [], ◌∷◌, ◌++◌, length, drop, Some, refl, sym, ap, ◌∙◌, subst, cond, eqb-true}
+use Rattle.std.proofs.Common.{◌≡◌, ℕ, zero, suc, Bool, true, false, not, nat_eq, List, [], ◌∷◌, ◌++◌, length, drop, Some, refl, sym, ap, ◌∙◌, subst, cond, eqb-true}
 use Rattle.std.specs.List.{list_all}
 use Rattle.sh_scanner_base.specs.declared.character.Character.TheVariants.{Plain}
 use Rattle.sh_scanner_base.specs.declared.operator.Operator.{Operator}
@@ -13,7 +13,8 @@ use Rattle.sh_scanner_base.specs.Characters.{joins, Reads, Written, plain, Next,
 use Rattle.sh_scanner_base.specs.Pendings.{is_raw}
 use Rattle.sh_scanner_base.specs.Operators.{operator_text}
 use Rattle.sh_scanner_base.specs.Growth.{may_grow}
-use Rattle.sh_scanner_base.specs.Marks.{is_gap, IsMark, AreMarks, contexts_behind, ends_none, is_text, top_of, is_word, begins_word, ends_word, same_as, ends_operator, is_right_parenthesis, class_of_word}
+use Rattle.sh_scanner_base.specs.Marks.{is_gap, IsMark, AreMarks, contexts_behind, ends_none, is_text, top_of, is_word, begins_word, ends_word, same_as, ends_operator, is_more}
+use Rattle.sh_scanner_base.specs.Told.{OfWord}
 use Rattle.sh_scanner.specs.declared.token.TokenKind.{TokenKind}
 use Rattle.sh_scanner.specs.Tokens.{begins_join, Joined, IsToken, ending, operator, word, HasToken}
 use Rattle.sh_scanner.specs.Machine.{State, On, Before, After, step, grow, grow_to, after_word, in_operator, operator_out, word_out}
@@ -95,27 +96,27 @@ module _ (e : Bool) (gap : List Mark) where
       go false j = ap (Ended (operator_out o base) Q.front) w.2
 
   -- the first byte of an operator that goes on
-  to_first : (b : ℕ) (p : Operator) (q : Places) (m rest : List ℕ) → First b p → nat_eq b 41 ≡ false → may_grow p ≡ true → Reads e (Plain b) m rest → q.next ≡ m
+  to_first : (b : ℕ) (p : Operator) (q : Places) (m rest : List ℕ) → First b p → nat_eq b 41 ≡ false → nat_eq b 10 ≡ false → may_grow p ≡ true → Reads e (Plain b) m rest → q.next ≡ m
       → run e false base q m ≡ run e false (begun (Top ∷ []) gap 0 (Pending.Operator p) []) (moved rest (fronted true (placed (b ∷ rest) q))) rest
-  to_first b p q m rest f c g r n =
+  to_first b p q m rest f c d g r n =
       character_run e base q (Plain b) m rest refl r n
-      ∙ ap (λ x. after e x (fronted true (placed (b ∷ rest) q)) rest) (first_byte Top [] gap b p refl f (and_left (nat_eq b 41) false c) ∙ growing Top [] gap p g)
+      ∙ ap (λ x. after e x (fronted true (placed (b ∷ rest) q)) rest) (first_byte Top [] gap b p refl f (and_left (nat_eq b 41) false c) (and_left (nat_eq b 10) false d) ∙ growing Top [] gap p g)
 
   operator_run : (o : Operator) (q : Places) (front rest : List ℕ) → Made o → begins_join front ≡ false → q.next ≡ front → ends_operator o (ahead e rest) ≡ true
       → Written e (plain (operator_text o)) front rest → run e false base q front ≡ Ended (operator_out o base) front rest
-  operator_run o q front rest (one_byte b s f y) j n h w =
+  operator_run o q front rest (one_byte b s f y x) j n h w =
       let v : Written e (Plain b ∷ []) front rest = subst (λ z. Written e (plain z) front rest) s w in
-      top_last o base q front rest b (first_byte Top [] gap b o refl f (and_false (nat_eq b 41))) refl v n h
+      top_last o base q front rest b (first_byte Top [] gap b o refl f (and_false (nat_eq b 41)) (and_false (nat_eq b 10))) refl v n h
       ∙ ap (λ z. Ended (operator_out o base) z rest) (sym (no_joins v.1.0 front (b ∷ v.0) j v.1.1))
-  operator_run o q front rest (two_bytes b d p s f y g l) j n h w =
+  operator_run o q front rest (two_bytes b d p s f y x g l) j n h w =
       let v : Written e (Plain b ∷ Plain d ∷ []) front rest = subst (λ z. Written e (plain z) front rest) s w in
-      to_first b p q front v.0 f y g v.1 n
+      to_first b p q front v.0 f y x g v.1 n
       ∙ (top_last o (begun (Top ∷ []) gap 0 (Pending.Operator p) []) (moved v.0 (fronted true (placed (b ∷ v.0) q))) v.0 rest d (next_byte Top [] gap p o d l) refl v.2 refl h
       ∙ ap (λ z. Ended (operator_out o base) z rest) (sym (no_joins v.1.0 front (b ∷ v.0) j v.1.1)))
-  operator_run o q front rest (three_bytes b d a p u s f y g l i k) j n h w =
+  operator_run o q front rest (three_bytes b d a p u s f y x g l i k) j n h w =
       let v : Written e (Plain b ∷ Plain d ∷ Plain a ∷ []) front rest = subst (λ z. Written e (plain z) front rest) s w in
       let first = moved v.0 (fronted true (placed (b ∷ v.0) q)) in
-      to_first b p q front v.0 f y g v.1 n
+      to_first b p q front v.0 f y x g v.1 n
       ∙ (character_run e (begun (Top ∷ []) gap 0 (Pending.Operator p) []) first (Plain d) v.0 v.2.0 refl v.2.1 refl
       ∙ (ap (λ x. after e x (placed (d ∷ v.2.0) first) v.2.0) (next_byte Top [] gap p u d l ∙ growing Top [] gap u i)
       ∙ (top_last o (begun (Top ∷ []) gap 0 (Pending.Operator u) []) (moved v.2.0 (placed (d ∷ v.2.0) first)) v.2.0 rest a (next_byte Top [] gap u o a k) refl v.2.2 refl h
@@ -134,12 +135,12 @@ word_stops e done (Word n) xs r m rest i t =
           let q = same_is r (is_redirection b) (sym (ap (λ z. same_as r (next_is is_redirection z)) j) ∙ p.1) in
           closing_word n xs done b d ∙ (ap (λ z. after_word (word_out z (settled done (Word n ∷ xs))) b) (sym q) ∙ stopped b r);
       quoteds = λ b j. let z = sym (ap ends_word j) ∙ p.0 in absurd (cc);
-      ends = λ j. let q = same_is r false (sym (ap (λ z. same_as r (next_is is_redirection z)) j) ∙ p.1) in rw (text_token (class_of_word false (drop (suc n) done)) xs ∙ t) (ap (λ z. Some (word_out z (settled done (Word n ∷ xs)))) (sym q));
+      ends = λ j. let q = same_is r false (sym (ap (λ z. same_as r (next_is is_redirection z)) j) ∙ p.1) in rw (text_token (OfWord false (drop (suc n) done)) xs ∙ t) (ap (λ z. Some (word_out z (settled done (Word n ∷ xs)))) (sym q));
       known = λ j. let z = sym (ap ends_word j) ∙ p.0 in absurd (cc);
     }
   where
     stopped : (b : ℕ) (r : Bool) → after_word (word_out r (settled done (Word n ∷ xs))) b ≡ Before (word_out r (settled done (Word n ∷ xs)))
-    stopped b r = rw (text_token (class_of_word r (drop (suc n) done)) xs ∙ t) refl
+    stopped b r = rw (text_token (OfWord r (drop (suc n) done)) xs ∙ t) refl
 word_stops e done Quotes xs r m rest i t = let f = i.fits in absurd (cc)
 word_stops e done (Braces q) xs r m rest i t = let f = i.fits in absurd (cc)
 word_stops e done Arithmetic xs r m rest i t = let f = i.fits in absurd (cc)
@@ -219,7 +220,7 @@ complete_token e bytes front rest kind gap h r j (ending t f g) =
       kind_is = gap_kind gap h;
     }
 complete_token e bytes front rest kind gap h r j (operator o i) =
-    let p = and_true (ends_operator o (ahead e rest)) (not (is_right_parenthesis o && false)) i.fits in
+    let p = and_true (ends_operator o (ahead e rest)) (not (is_more o Top)) i.fits in
     record {
       state = operator_out o (settled gap (Top ∷ []));
       is = r.is ∙ operator_run e gap o r.places front rest (made o) j r.next p.0 i.written;

@@ -6,7 +6,7 @@ use Rattle.std.proofs.lemmas.List.Folds.{list_all-append}
 use Rattle.std.proofs.lemmas.Iterator.Adapters.{position_from-zero}
 use Rattle.sh_scanner_base.specs.declared.context.Context.TheVariants.{Top}
 use Rattle.sh_scanner_base.specs.declared.mark.Mark.{Mark}
-use Rattle.sh_scanner_base.specs.declared.mark.Mark.TheVariants.{Byte, Escaped, Backslash, SingleQuoted, DoubleQuotesOpen, DoubleQuotesClose, Dollar, Variable, Parameter, BraceOpen, BraceClose, ArithmeticOpen, ArithmeticClose, CommandsOpen, CommandsClose, Backquoted, WordOpen, WordClose, Blank, Comment}
+use Rattle.sh_scanner_base.specs.declared.mark.Mark.TheVariants.{Byte, Escaped, Backslash, SingleQuoted, DoubleQuotesOpen, DoubleQuotesClose, Dollar, Variable, Parameter, BraceOpen, BraceClose, ArithmeticOpen, ArithmeticClose, CommandsOpen, CommandsClose, Backquoted, WordOpen, WordClose, Blank, Comment, Bodies}
 use Rattle.sh_scanner_base.specs.Bytes.{is_no_newline}
 use Rattle.sh_scanner_base.specs.Marks.{IsMark, AreMarks, behind, is_gap, ends_comment}
 use Rattle.sh_scanner.specs.declared.token.TokenKind.{TokenKind}
@@ -40,6 +40,7 @@ gap_mark e done (Blank b) bytes after h i = (blank_leads false e Top [] done b b
 gap_mark e done (Comment bs) bytes after h i =
     let q = and_true (list_all is_no_newline bs) (ends_comment e after) i.fits in
     (comment_leads false e Top [] done bs bytes after (λ z. absurd (cc)) refl q.0 q.1 i.written, refl)
+gap_mark e done (Bodies bs) bytes after h i = absurd (cc)
 gap_mark e done (Mark.Operator o) bytes after h i = absurd (cc)
 
 pub gap_marks : (e : Bool) (ms done : List Mark) (bytes rest : List ℕ) → list_all is_gap ms ≡ true → AreMarks e done (Top ∷ []) ms bytes rest
@@ -101,6 +102,7 @@ gap_end WordOpen ms h = absurd (cc)
 gap_end (WordClose r) ms h = absurd (cc)
 gap_end (Blank b) ms h = refl
 gap_end (Comment bs) ms h = refl
+gap_end (Bodies bs) ms h = absurd (cc)
 gap_end (Mark.Operator o) ms h = absurd (cc)
 
 reversed_end : (ms : List Mark) → list_all is_gap ms ≡ true → kind_from ms ≡ TokenKind.End

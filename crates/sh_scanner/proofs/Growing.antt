@@ -1,11 +1,12 @@
 -- The byte-wise growth of an operator is that of its text.
 use Rattle.std.proofs.Common.{◌≡◌, ℕ, Bool, true, false, nat_eq, [], ◌∷◌, ◌++◌, Some, None, refl, sym, ap, ◌∙◌, cond, eqb-true}
 use Rattle.std.specs.Str.{bytes_eq}
+use Rattle.sh_scanner.proofs.Tests.{and_false}
 use Rattle.sh_scanner_base.specs.declared.operator.Operator.{Operator}
 use Rattle.sh_scanner_base.specs.declared.operator.Operator.TheVariants.{And, Semicolon, Pipe, Less, Great, LeftParenthesis, RightParenthesis, Newline, AndIf, OrIf, DoubleSemicolon, DoubleLess, DoubleGreat, LessAnd, GreatAnd, LessGreat, DoubleLessDash, Clobber}
 use Rattle.sh_scanner_base.specs.Operators.{operator_text}
 use Rattle.sh_scanner_base.specs.Growth.{grown, may_grow}
-use Rattle.sh_scanner_base.specs.Marks.{is_right_parenthesis}
+use Rattle.sh_scanner_base.specs.Marks.{is_right_parenthesis, is_newline}
 
 -- operators
 chosen : (b c : ℕ) (q p : Operator) (x : Bool) → nat_eq b c ≡ x → cond x (Some q) None ≡ Some p → (b ≡ c) × (q ≡ p)
@@ -70,25 +71,49 @@ growing_no_right LessGreat h = absurd (cc)
 growing_no_right DoubleLessDash h = absurd (cc)
 growing_no_right Clobber h = absurd (cc)
 
+pub growing_no_newline : (o : Operator) → may_grow o ≡ true → is_newline o ≡ false
+growing_no_newline And h = refl
+growing_no_newline Semicolon h = refl
+growing_no_newline Pipe h = refl
+growing_no_newline Less h = refl
+growing_no_newline Great h = refl
+growing_no_newline LeftParenthesis h = absurd (cc)
+growing_no_newline RightParenthesis h = absurd (cc)
+growing_no_newline Newline h = absurd (cc)
+growing_no_newline AndIf h = absurd (cc)
+growing_no_newline OrIf h = absurd (cc)
+growing_no_newline DoubleSemicolon h = absurd (cc)
+growing_no_newline DoubleLess h = refl
+growing_no_newline DoubleGreat h = absurd (cc)
+growing_no_newline LessAnd h = absurd (cc)
+growing_no_newline GreatAnd h = absurd (cc)
+growing_no_newline LessGreat h = absurd (cc)
+growing_no_newline DoubleLessDash h = absurd (cc)
+growing_no_newline Clobber h = absurd (cc)
+
+-- an operator with a byte more is none of one byte
+longer : (o : Operator) (b c : ℕ) → may_grow o ≡ true → bytes_eq (operator_text o ++ b ∷ []) (c ∷ []) ≡ false
+longer And b c h = and_false (nat_eq 38 c)
+longer Semicolon b c h = and_false (nat_eq 59 c)
+longer Pipe b c h = and_false (nat_eq 124 c)
+longer Less b c h = and_false (nat_eq 60 c)
+longer Great b c h = and_false (nat_eq 62 c)
+longer LeftParenthesis b c h = absurd (cc)
+longer RightParenthesis b c h = absurd (cc)
+longer Newline b c h = absurd (cc)
+longer AndIf b c h = absurd (cc)
+longer OrIf b c h = absurd (cc)
+longer DoubleSemicolon b c h = absurd (cc)
+longer DoubleLess b c h = and_false (nat_eq 60 c)
+longer DoubleGreat b c h = absurd (cc)
+longer LessAnd b c h = absurd (cc)
+longer GreatAnd b c h = absurd (cc)
+longer LessGreat b c h = absurd (cc)
+longer DoubleLessDash b c h = absurd (cc)
+longer Clobber b c h = absurd (cc)
+
 pub grown_no_right : (o p : Operator) (b : ℕ) → may_grow o ≡ true → grown o b ≡ Some p → is_right_parenthesis p ≡ false
-grown_no_right o p b g h = ap (λ t. bytes_eq t (41 ∷ [])) (grown_text o p b h) ∙ longer o g
-  where
-    longer : (o : Operator) → may_grow o ≡ true → bytes_eq (operator_text o ++ b ∷ []) (41 ∷ []) ≡ false
-    longer And h = refl
-    longer Semicolon h = refl
-    longer Pipe h = refl
-    longer Less h = refl
-    longer Great h = refl
-    longer LeftParenthesis h = absurd (cc)
-    longer RightParenthesis h = absurd (cc)
-    longer Newline h = absurd (cc)
-    longer AndIf h = absurd (cc)
-    longer OrIf h = absurd (cc)
-    longer DoubleSemicolon h = absurd (cc)
-    longer DoubleLess h = refl
-    longer DoubleGreat h = absurd (cc)
-    longer LessAnd h = absurd (cc)
-    longer GreatAnd h = absurd (cc)
-    longer LessGreat h = absurd (cc)
-    longer DoubleLessDash h = absurd (cc)
-    longer Clobber h = absurd (cc)
+grown_no_right o p b g h = ap (λ t. bytes_eq t (41 ∷ [])) (grown_text o p b h) ∙ longer o b 41 g
+
+pub grown_no_newline : (o p : Operator) (b : ℕ) → may_grow o ≡ true → grown o b ≡ Some p → is_newline p ≡ false
+grown_no_newline o p b g h = ap (λ t. bytes_eq t (10 ∷ [])) (grown_text o p b h) ∙ longer o b 10 g

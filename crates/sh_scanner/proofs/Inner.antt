@@ -3,19 +3,21 @@ use Rattle.std.proofs.Common.{◌≡◌, ℕ, suc, Bool, true, false, ◌||◌, 
 use Rattle.std.specs.List.{list_all}
 use Rattle.std.proofs.lemmas.List.{append-nil}
 use Rattle.sh_token_base.specs.Classes.{is_name}
+use Rattle.sh_scanner_base.specs.Here.{lines, are_bodies}
 use Rattle.sh_scanner_base.specs.declared.head.Head.{Head}
 use Rattle.sh_scanner_base.specs.declared.context.Context.{Context}
 use Rattle.sh_scanner_base.specs.declared.context.Context.TheVariants.{Top, Commands, Word, Quotes, Braces, Arithmetic, Parenthesis}
 use Rattle.sh_scanner_base.specs.declared.mark.Mark.{Mark}
-use Rattle.sh_scanner_base.specs.declared.mark.Mark.TheVariants.{Byte, Escaped, Backslash, SingleQuoted, DoubleQuotesOpen, DoubleQuotesClose, Dollar, Variable, Parameter, BraceOpen, BraceClose, ArithmeticOpen, ArithmeticClose, CommandsOpen, CommandsClose, Backquoted, WordOpen, WordClose, Blank, Comment}
+use Rattle.sh_scanner_base.specs.declared.mark.Mark.TheVariants.{Byte, Escaped, Backslash, SingleQuoted, DoubleQuotesOpen, DoubleQuotesClose, Dollar, Variable, Parameter, BraceOpen, BraceClose, ArithmeticOpen, ArithmeticClose, CommandsOpen, CommandsClose, Backquoted, WordOpen, WordClose, Blank, Comment, Bodies}
 use Rattle.sh_scanner_base.specs.Bytes.{is_blank, is_redirection, is_name_byte, is_short_parameter, is_form, is_no_quote, is_no_newline}
 use Rattle.sh_scanner_base.specs.Characters.{ahead, next_is}
 use Rattle.sh_scanner_base.specs.Heads.{head_of}
-use Rattle.sh_scanner_base.specs.Marks.{fits, quotes, IsMark, AreMarks, behind, contexts_behind, ends_token, ends_none, in_word, is_text, top_of, between_tokens, is_quotes, is_braces, is_arithmetic, is_parenthesis, has_single_quotes, is_quoted, may_close, is_backquoted, is_head, braces_of, levels, begins_word, ends_word, same_as, ends_comment, ends_operator, is_right_parenthesis, class_of_word, with_token}
+use Rattle.sh_scanner_base.specs.Marks.{fits, quotes, IsMark, AreMarks, behind, contexts_behind, ends_token, ends_none, in_word, is_text, top_of, between_tokens, is_quotes, is_braces, is_arithmetic, is_parenthesis, has_single_quotes, is_quoted, may_close, is_backquoted, is_head, braces_of, levels, begins_word, ends_word, same_as, ends_comment, ends_operator, with_token, is_more, has_due, due_in}
+use Rattle.sh_scanner_base.specs.Told.{OfWord, OfBodies}
 use Rattle.sh_scanner.proofs.Tests.{and_true, not_true, nested, nested_behind, below_word, word_no_text, text_token}
 use Rattle.sh_scanner.proofs.Leads.{settled, Leads, stay, joined}
 use Rattle.sh_scanner.proofs.Pieces.{level_open, byte_leads, escaped_leads, backslash_leads, single_leads, open_leads, close_leads, brace_leads, dollar_leads, variable_leads, parameter_leads, head_leads, arithmetic_leads, commands_leads, arithmetic_over, backquoted_leads}
-use Rattle.sh_scanner.proofs.Between.{blank_leads, comment_leads, commands_over, word_leads, operator_leads, word_over_leads}
+use Rattle.sh_scanner.proofs.Between.{blank_leads, comment_leads, commands_over, word_leads, operator_leads, word_over_leads, bodies_leads}
 
 -- what is left stands in a word
 quotes_popped : (x : Context) (xs : List Context) → nested (x ∷ xs) ≡ true → is_quotes x ≡ true → is_text (top_of xs) ≡ false
@@ -95,6 +97,7 @@ still_inside e done x xs WordOpen after n t f h = refl
 still_inside e done x xs (WordClose r) after n t f h = h
 still_inside e done x xs (Blank b) after n t f h = t
 still_inside e done x xs (Comment bs) after n t f h = t
+still_inside e done x xs (Bodies bs) after n t f h = text_token OfBodies (x ∷ xs) ∙ t
 still_inside e done x xs (Mark.Operator o) after n t f h = h
 
 close_mark : (e : Bool) (done : List Mark) (x : Context) (xs : List Context) (r : Bool) (bytes after : List ℕ) → nested (x ∷ xs) ≡ true → IsMark e x xs (WordClose r) bytes after
@@ -103,7 +106,7 @@ close_mark e done Top xs r bytes after n i h = let f = i.fits in absurd (cc)
 close_mark e done (Commands ts) xs r bytes after n i h = let f = i.fits in absurd (cc)
 close_mark e done (Word k) xs r bytes after n i h =
     let p = and_true (ends_word (ahead e after)) (same_as r (next_is is_redirection (ahead e after))) i.fits in
-    let c = class_of_word r (drop (suc k) done) in
+    let c = OfWord r (drop (suc k) done) in
     subst (λ z. Leads true e (settled done (Word k ∷ xs)) z (settled (done ++ WordClose r ∷ []) (with_token c xs)) after) (sym i.written)
     (word_over_leads true e k xs done r after (below_word k xs n) (sym (text_token c xs) ∙ h) p.0 p.1)
 close_mark e done Quotes xs r bytes after n i h = let f = i.fits in absurd (cc)
@@ -150,10 +153,12 @@ inner_mark e done x xs (Comment bs) bytes after n t i h =
     let p = and_true (between_tokens x) (list_all is_no_newline bs && ends_comment e after) i.fits in
     let q = and_true (list_all is_no_newline bs) (ends_comment e after) p.1 in
     comment_leads true e x xs done bs bytes after (λ z. t) p.0 q.0 q.1 i.written
+inner_mark e done x xs (Bodies bs) bytes after n t i h =
+    let p = and_true (has_due x) (are_bodies (due_in x) false (lines [] bs)) i.fits in bodies_leads true e x xs done bs bytes after t p.0 p.1 i.written
 inner_mark e done x xs (Mark.Operator o) bytes after n t i h =
-    let p = and_true (between_tokens x) (ends_operator o (ahead e after) && not (is_right_parenthesis o && may_close x)) i.fits in
-    let q = and_true (ends_operator o (ahead e after)) (not (is_right_parenthesis o && may_close x)) p.1 in
-    operator_leads true e x xs done o bytes after t p.0 q.0 (not_true (is_right_parenthesis o && may_close x) q.1) i.written
+    let p = and_true (between_tokens x) (ends_operator o (ahead e after) && not (is_more o x)) i.fits in
+    let q = and_true (ends_operator o (ahead e after)) (not (is_more o x)) p.1 in
+    operator_leads true e x xs done o bytes after t p.0 q.0 (not_true (is_more o x) q.1) i.written
 
 -- where such pieces lead
 pub record Inside (xs : List Context) : Type 0 where

@@ -8,7 +8,8 @@ use Rattle.sh_scanner_base.specs.declared.mark.Mark.{Mark}
 use Rattle.sh_scanner_base.specs.declared.mark.Mark.TheVariants.{WordOpen}
 use Rattle.sh_scanner_base.specs.Characters.{joins, Reads, Written, plain}
 use Rattle.sh_scanner_base.specs.Operators.{operator_text}
-use Rattle.sh_scanner_base.specs.Marks.{spell_mark, AreMarks, behind}
+use Rattle.sh_scanner_base.specs.Marks.{AreMarks, behind}
+use Rattle.sh_scanner_base.specs.Spelling.{spell_mark}
 use Rattle.sh_scanner.specs.declared.token.TokenKind.{TokenKind}
 use Rattle.sh_scanner.specs.Tokens.{Joined, IsToken, ending, operator, word, HasToken, IsTooDeep}
 use Rattle.sh_scanner.specs.Machine.{State}
@@ -21,12 +22,12 @@ use Rattle.sh_scanner.proofs.Texts.{Answered, sound}
 use Rattle.sh_scanner.proofs.Nul.{nul_of_front, nul_in_front}
 
 -- how many bytes pieces take
-reads_length : (e : Bool) (c : Character) (m middle : List ℕ) → Reads e c m middle → length middle < length m
+pub reads_length : (e : Bool) (c : Character) (m middle : List ℕ) → Reads e c m middle → length middle < length m
 reads_length e (Plain b) m middle h = omega (arith, ap length h.1, length-append (joins h.0) (b ∷ middle))
 reads_length e (Quoted b) m middle h = omega (arith, ap length h.1, length-append (joins h.0) (92 ∷ b ∷ middle))
 reads_length e (Raw b) m middle h = omega (arith, ap length h)
 
-written_length : (e : Bool) (cs : List Character) (m rest : List ℕ) → Written e cs m rest → length rest ≤ length m
+pub written_length : (e : Bool) (cs : List Character) (m rest : List ℕ) → Written e cs m rest → length rest ≤ length m
 written_length e [] m rest h = omega (arith, ap length h)
 written_length e (c ∷ cs) m rest h =
     let a = reads_length e c m h.0 h.1 in

@@ -1,6 +1,7 @@
 pub mod Running
 pub mod Tests
 pub mod Leads
+pub mod Bodies
 pub mod Bytes
 pub mod Pieces
 pub mod Between
@@ -17,3 +18,4 @@ pub mod Whole
 pub mod Texts
 pub mod Nul
 pub mod Laws
+pub mod Places

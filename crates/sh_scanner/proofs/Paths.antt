@@ -14,11 +14,12 @@ use Rattle.sh_scanner_base.specs.Characters.{Written, plain, raw}
 use Rattle.sh_scanner_base.specs.Operators.{operator_text}
 use Rattle.sh_scanner_base.specs.Growth.{may_grow}
 use Rattle.sh_scanner_base.specs.Heads.{head_of}
-use Rattle.sh_scanner_base.specs.Marks.{IsMark, AreMarks, behind, contexts_behind, ends_token, ends_none, in_word, is_text, top_of, between_tokens, is_arithmetic, has_single_quotes, is_backquoted, is_gap, levels}
+use Rattle.sh_scanner_base.specs.Marks.{IsMark, AreMarks, behind, contexts_behind, ends_token, ends_none, in_word, is_text, top_of, between_tokens, is_arithmetic, has_single_quotes, is_backquoted, is_gap, levels, due_in}
 use Rattle.sh_scanner.specs.Tokens.{begins_join, Joined, IsToken, word, OpensLevel}
 use Rattle.sh_scanner.specs.Machine.{State, Stepped, On, Before, After, TooDeep, DollarTooDeep}
 use Rattle.sh_scanner.specs.Run.{Scanned, Ended, Deep, Open}
 use Rattle.sh_scanner.specs.Found.{kind_of}
+use Rattle.sh_scanner.proofs.Bodies.{Stands}
 use Rattle.sh_scanner.proofs.Tests.{and_true, and_both, not_false}
 use Rattle.sh_scanner.proofs.Leads.{begun, settled}
 use Rattle.sh_scanner.proofs.Inner.{Inside, inside_behind}
@@ -63,6 +64,7 @@ pending_levels Pending.BackquotesEscape n = suc n
 pending_levels Pending.Parenthesis n = n
 pending_levels (Pending.Operator o) n = n
 pending_levels Pending.Comment n = n
+pending_levels (Pending.Body l b j) n = n
 
 -- what has been read of a piece that has begun, from `mid` up to `m`
 abbrev pub Held : Bool → Pending → List Context → List ℕ → List ℕ → List ℕ → Type 0
@@ -79,6 +81,7 @@ Held e Pending.BackquotesEscape xs acc mid m =
 Held e Pending.Parenthesis xs acc mid m = (acc ≡ []) × (is_arithmetic (top_of xs) ≡ true) × Written e (Plain 41 ∷ []) mid m
 Held e (Pending.Operator o) xs acc mid m = (acc ≡ []) × (between_tokens (top_of xs) ≡ true) × (may_grow o ≡ true) × Written e (plain (operator_text o)) mid m
 Held e Pending.Comment xs acc mid m = (list_all is_no_newline acc ≡ true) × (between_tokens (top_of xs) ≡ true) × Written e (Plain 35 ∷ raw acc) mid m
+Held e (Pending.Body l b j) xs acc mid m = Stands (due_in (top_of xs)) l b j acc × Written e (Plain 10 ∷ raw acc) mid m
 
 -- the `$` stands directly before
 abbrev pub Preceded : Pending → List ℕ → List ℕ → Type 0
@@ -93,6 +96,7 @@ Preceded Pending.BackquotesEscape previous m = Unit {0}
 Preceded Pending.Parenthesis previous m = Unit {0}
 Preceded (Pending.Operator o) previous m = Unit {0}
 Preceded Pending.Comment previous m = Unit {0}
+Preceded (Pending.Body l b j) previous m = Unit {0}
 
 pub no_join_at : (b : ℕ) (rest : List ℕ) → nat_eq b 92 ≡ false → begins_join (b ∷ rest) ≡ false
 no_join_at b [] h = refl

@@ -15,6 +15,7 @@ use Rattle.sh_scanner_base.specs.Bytes.{is_digit, is_special, is_name_start, is_
 use Rattle.sh_scanner_base.specs.Characters.{Reads, Written, plain, raw, Ahead, Next, ahead, next_is}
 use Rattle.sh_scanner_base.specs.Pendings.{is_raw}
 use Rattle.sh_scanner_base.specs.Heads.{head_of, grown_head, is_some_head, grows_head, reads_bare}
+use Rattle.sh_scanner_base.specs.Nested.{none_yet}
 use Rattle.sh_scanner_base.specs.Marks.{stands, quotes, in_word, is_text, is_word, is_quotes, is_braces, is_arithmetic, has_single_quotes, has_double_quotes, is_quoted, is_backquoted, is_head, braces_of, parenthesized, levels}
 use Rattle.sh_scanner.specs.Machine.{State, On, step, opens, inner_byte, word_byte, plain_byte, form_byte, after_dollar, after_parenthesis, in_name, headed, in_head, in_single, in_backquotes, at_parenthesis, same}
 use Rattle.sh_scanner.specs.Run.{is_gap_state}
@@ -434,14 +435,14 @@ module _ (k e : Bool) (x : Context) (xs : List Context) (done : List Mark) where
       takes = refl
 
   pub commands_leads : (m rest : List ℕ) → in_word x ≡ true → nat_lt lv 500 ≡ true → next_is (λ b. nat_eq b 40) (ahead e rest) ≡ false → Written e (Plain 36 ∷ Plain 40 ∷ []) m rest
-      → Leads k e at_start m (settled (done ++ CommandsOpen ∷ []) (Commands [] ∷ x ∷ xs)) rest
+      → Leads k e at_start m (settled (done ++ CommandsOpen ∷ []) (Commands none_yet ∷ x ∷ xs)) rest
   unfolding after_parenthesis
   commands_leads m rest h l f w =
-      joined k e at_start (begun (x ∷ xs) done (suc lv) Pending.DollarParenthesis []) (settled (done ++ CommandsOpen ∷ []) (Commands [] ∷ x ∷ xs)) m rest rest
+      joined k e at_start (begun (x ∷ xs) done (suc lv) Pending.DollarParenthesis []) (settled (done ++ CommandsOpen ∷ []) (Commands none_yet ∷ x ∷ xs)) m rest rest
       (to_parenthesis m rest h l w)
-      (same_ahead k e (begun (x ∷ xs) done (suc lv) Pending.DollarParenthesis []) (settled (done ++ CommandsOpen ∷ []) (Commands [] ∷ x ∷ xs)) rest (record { left = refl; right = refl; gap = refl }) alike_parenthesis)
+      (same_ahead k e (begun (x ∷ xs) done (suc lv) Pending.DollarParenthesis []) (settled (done ++ CommandsOpen ∷ []) (Commands none_yet ∷ x ∷ xs)) rest (record { left = refl; right = refl; gap = refl }) alike_parenthesis)
     where
-      alike_parenthesis : Alike e false (begun (x ∷ xs) done (suc lv) Pending.DollarParenthesis []) (settled (done ++ CommandsOpen ∷ []) (Commands [] ∷ x ∷ xs)) rest
+      alike_parenthesis : Alike e false (begun (x ∷ xs) done (suc lv) Pending.DollarParenthesis []) (settled (done ++ CommandsOpen ∷ []) (Commands none_yet ∷ x ∷ xs)) rest
       alike_parenthesis =
           record {
             plains = λ b j. let z = fails (λ b. nat_eq b 40) (ahead e rest) b f j in rw z refl;

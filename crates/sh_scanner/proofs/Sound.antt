@@ -15,7 +15,8 @@ use Rattle.sh_scanner_base.specs.Bytes.{is_operator_byte, is_end}
 use Rattle.sh_scanner_base.specs.Characters.{joins, Reads, Written, plain, Ahead, Next, InputEnd, Unknown, ahead}
 use Rattle.sh_scanner_base.specs.Operators.{operator_text}
 use Rattle.sh_scanner_base.specs.Growth.{grown, may_grow, operator_of}
-use Rattle.sh_scanner_base.specs.Marks.{stands, quotes, IsMark, behind, ends_token, in_word, is_text, between_tokens, is_word, is_quotes, is_braces, is_arithmetic, has_single_quotes, has_double_quotes, may_close, parenthesized, levels, is_some, ends_operator, is_right_parenthesis, is_gap, with_token, class_of_operator}
+use Rattle.sh_scanner_base.specs.Marks.{stands, quotes, IsMark, behind, ends_token, in_word, is_text, between_tokens, is_word, is_quotes, is_braces, is_arithmetic, has_single_quotes, has_double_quotes, parenthesized, levels, is_some, ends_operator, is_right_parenthesis, is_gap, with_token, is_newline, is_more}
+use Rattle.sh_scanner_base.specs.Told.{OfOperator}
 use Rattle.sh_scanner.specs.Tokens.{Joined, OpensLevel, backquote}
 use Rattle.sh_scanner.specs.Machine.{State, On, After, over, grow, opens, inner_byte, word_byte, escape, operator_out, same, into, out, out_level}
 use Rattle.sh_scanner.proofs.Tests.{and_true, and_both, not_false, text_token, levels_token}
@@ -83,6 +84,9 @@ of_text b false false false false false false false h1 h2 h3 h4 h5 h6 h7 h = byt
 pub operator_of_text : (b : ℕ) → is_operator_byte b ≡ true → operator_text (operator_of b) ≡ b ∷ []
 operator_of_text b h =
     of_text b (nat_eq b 38) (nat_eq b 59) (nat_eq b 124) (nat_eq b 60) (nat_eq b 62) (nat_eq b 40) (nat_eq b 41) refl refl refl refl refl refl refl h
+
+pub newline_byte : (b : ℕ) → is_operator_byte b ≡ true → nat_eq b 10 ≡ false → is_newline (operator_of b) ≡ false
+newline_byte b h g = ap (λ t. bytes_eq t (10 ∷ [])) (operator_of_text b h) ∙ rw g refl
 
 pub right_parenthesis_byte : (b : ℕ) → is_operator_byte b ≡ true → nat_eq b 41 ≡ false → is_right_parenthesis (operator_of b) ≡ false
 right_parenthesis_byte b h g = ap (λ t. bytes_eq t (41 ∷ [])) (operator_of_text b h) ∙ rw g refl
@@ -198,20 +202,20 @@ module _ (e : Bool) (gap : List Mark) (front : List ℕ) (blank : list_all is_ga
             (record { written = one_of e (Quoted b) mid rest r; fits = and_both (in_word x) (not (quotes x b)) w (not_false (quotes x b) h); level = refl }) refl refl
 
     -- an operator, in a substitution
-    pub operator_over : (o : Operator) (rest begin start : List ℕ) → is_text x ≡ false → between_tokens x ≡ true → may_grow o ≡ false → (is_right_parenthesis o && may_close x) ≡ false → Written e (plain (operator_text o)) mid rest
+    pub operator_over : (o : Operator) (rest begin start : List ℕ) → is_text x ≡ false → between_tokens x ≡ true → may_grow o ≡ false → is_more o x ≡ false → Written e (plain (operator_text o)) mid rest
         → Going e gap front (over After (operator_out o s)) previous begin start rest
     operator_over o rest begin start t b g c w =
-        subst (λ z. Going e gap front (cond z (After (operator_out o s)) (On (operator_out o s))) previous begin start rest) (sym (text_token (class_of_operator o) (x ∷ xs) ∙ t))
+        subst (λ z. Going e gap front (cond z (After (operator_out o s)) (On (operator_out o s))) previous begin start rest) (sym (text_token (OfOperator o) (x ∷ xs) ∙ t))
         (ends_piece x xs done (Mark.Operator o) mid rest begin start (operator_out o s) p
         (record {
           written = w;
-          fits = and_both (between_tokens x) (ends_operator o (ahead e rest) && not (is_right_parenthesis o && may_close x)) b
-              (and_both (ends_operator o (ahead e rest)) (not (is_right_parenthesis o && may_close x)) (whole_operator o (ahead e rest) g) (not_false (is_right_parenthesis o && may_close x) c));
+          fits = and_both (between_tokens x) (ends_operator o (ahead e rest) && not (is_more o x)) b
+              (and_both (ends_operator o (ahead e rest)) (not (is_more o x)) (whole_operator o (ahead e rest) g) (not_false (is_more o x) c));
           level = refl;
-        }) (text_token (class_of_operator o) (x ∷ xs) ∙ t)
-        (ap (kept (with_token (class_of_operator o) (x ∷ xs)) (done ++ Mark.Operator o ∷ [])) (sym (levels_token (class_of_operator o) (x ∷ xs)))))
+        }) (text_token (OfOperator o) (x ∷ xs) ∙ t)
+        (ap (kept (with_token (OfOperator o) (x ∷ xs)) (done ++ Mark.Operator o ∷ [])) (sym (levels_token (OfOperator o) (x ∷ xs)))))
 
-    pub grow_sound : (o : Operator) (rest begin start : List ℕ) → is_text x ≡ false → between_tokens x ≡ true → (is_right_parenthesis o && may_close x) ≡ false → Written e (plain (operator_text o)) mid rest
+    pub grow_sound : (o : Operator) (rest begin start : List ℕ) → is_text x ≡ false → between_tokens x ≡ true → is_more o x ≡ false → Written e (plain (operator_text o)) mid rest
         → Going e gap front (grow o s) previous begin start rest
     grow_sound o rest begin start t b c w =
         either e gap front (may_grow o) _ _ previous begin start rest

@@ -2,8 +2,8 @@
 use Rattle.std.proofs.Common.{◌≡◌, ℕ, suc, Bool, true, false, ◌&&◌, nat_eq, List, [], ◌∷◌, ◌++◌, length, drop, Option, None, refl, sym, ap, ◌∙◌, subst, eqb-true}
 use Rattle.std.specs.List.{list_all}
 use Rattle.std.proofs.lemmas.List.Folds.{list_all-append}
-use Rattle.sh_token_base.specs.declared.class.TokenClass.{TokenClass}
 use Rattle.sh_token_base.specs.Classes.{is_name, begins_name, continues_name}
+use Rattle.sh_scanner.proofs.Bodies.{at_first}
 use Rattle.sh_scanner_base.specs.declared.character.Character.{Character}
 use Rattle.sh_scanner_base.specs.declared.character.Character.TheVariants.{Plain, Quoted, Raw}
 use Rattle.sh_scanner_base.specs.declared.head.Head.{Head}
@@ -16,14 +16,15 @@ use Rattle.sh_scanner_base.specs.Bytes.{is_blank, is_operator_byte, is_end, is_r
 use Rattle.sh_scanner_base.specs.Characters.{Reads, Written, plain, raw, ahead, next_is}
 use Rattle.sh_scanner_base.specs.Growth.{operator_of}
 use Rattle.sh_scanner_base.specs.Heads.{grown_head, head_step, head_from, is_some_head, grows_head}
-use Rattle.sh_scanner_base.specs.Marks.{IsMark, behind, ends_token, in_word, is_text, top_of, between_tokens, is_word, may_close, levels, begins_word, ends_word, same_as, is_right_parenthesis, is_gap, with_class, with_token, class_of_word}
+use Rattle.sh_scanner_base.specs.Marks.{IsMark, behind, ends_token, in_word, is_text, top_of, between_tokens, is_word, may_close, levels, begins_word, ends_word, same_as, is_right_parenthesis, is_gap, with_class, with_token, is_newline, is_more, has_due, due_in}
+use Rattle.sh_scanner_base.specs.Told.{Told, OfWord}
 use Rattle.sh_scanner.specs.Machine.{State, is_top, act, between, after_word, plain_byte, quoted_byte, word_out, same, out_level}
 use Rattle.sh_scanner.proofs.Running.{begin_of, is_raw_character}
-use Rattle.sh_scanner.proofs.Tests.{and_true, and_both, and_left, below_word, text_token, between_token, levels_token}
+use Rattle.sh_scanner.proofs.Tests.{and_true, and_both, and_left, below_word, text_token, between_token, levels_token, or_none}
 use Rattle.sh_scanner.proofs.Leads.{kept, settled}
 use Rattle.sh_scanner.proofs.Between.{closes_level}
 use Rattle.sh_scanner.proofs.Paths.{Path, path_on, final_word, Going, either}
-use Rattle.sh_scanner.proofs.Sound.{ahead_plain, ahead_quoted, plain_at, one_of, operator_of_text, right_parenthesis_byte, ends_piece, begins_piece, word_byte_sound, escape_sound, grow_sound}
+use Rattle.sh_scanner.proofs.Sound.{ahead_plain, ahead_quoted, plain_at, one_of, operator_of_text, right_parenthesis_byte, ends_piece, begins_piece, word_byte_sound, escape_sound, grow_sound, newline_byte}
 
 -- written characters with one more
 pub written_snoc : (e : Bool) (cs : List Character) (c : Character) (m mid rest : List ℕ) → Written e cs m mid → Reads e c mid rest → Written e (cs ++ c ∷ []) m rest
@@ -70,9 +71,12 @@ module _ (e : Bool) (gap : List Mark) (front : List ℕ) (blank : list_all is_ga
       ends_piece e gap front blank previous x xs done CommandsClose mid rest (b ∷ rest) mid (out_level CommandsClose s) p
       (record { written = one_of e (Plain 41) mid rest (plain_at e b 41 mid rest u.0 r); fits = u.1; level = refl }) refl
       (ap (kept xs (done ++ CommandsClose ∷ [])) (closes_level x xs u.1)))
-      (λ h41. either e gap front (is_operator_byte b) _ _ previous (b ∷ rest) mid rest
-      (λ h. grow_sound e gap front blank previous x xs done mid p (operator_of b) rest (b ∷ rest) mid t i (closing h h41) (subst (λ z. Written e (plain z) mid rest) (sym (operator_of_text b h)) (one_of e (Plain b) mid rest r)))
-      (λ hop. word_byte_sound e gap front blank previous (Word (length done)) (x ∷ xs) (done ++ WordOpen ∷ []) mid (opened h32 h35 hop) b rest refl (rw (h32, hop) refl) r))))
+      (λ h41. either e gap front (nat_eq b 10 && has_due x) _ _ previous (b ∷ rest) mid rest
+      (λ h. let u = and_true (nat_eq b 10) (has_due x) h in
+      begins_piece e gap front blank previous (x ∷ xs) done (Pending.Body 0 0 false) [] mid (b ∷ rest) mid rest p (at_first (due_in x) u.1, one_of e (Plain 10) mid rest (plain_at e b 10 mid rest u.0 r)) tt)
+      (λ h10. either e gap front (is_operator_byte b) _ _ previous (b ∷ rest) mid rest
+      (λ h. grow_sound e gap front blank previous x xs done mid p (operator_of b) rest (b ∷ rest) mid t i (no_more_than h h41 h10) (subst (λ z. Written e (plain z) mid rest) (sym (operator_of_text b h)) (one_of e (Plain b) mid rest r)))
+      (λ hop. word_byte_sound e gap front blank previous (Word (length done)) (x ∷ xs) (done ++ WordOpen ∷ []) mid (opened h32 h35 hop) b rest refl (rw (h32, hop) refl) r)))))
     where
       s : State
       s = settled done (x ∷ xs)
@@ -83,6 +87,16 @@ module _ (e : Bool) (gap : List Mark) (front : List ℕ) (blank : list_all is_ga
           go : (c : Bool) → nat_eq b 41 ≡ c → (c && may_close x) ≡ false → (is_right_parenthesis (operator_of b) && may_close x) ≡ false
           go true j k = subst (λ z. (is_right_parenthesis (operator_of z) && may_close x) ≡ false) (sym (eqb-true b 41 j)) k
           go false j k = and_left (is_right_parenthesis (operator_of b)) (may_close x) (right_parenthesis_byte b h j)
+
+      starting : is_operator_byte b ≡ true → (nat_eq b 10 && has_due x) ≡ false → (is_newline (operator_of b) && has_due x) ≡ false
+      starting h g = go (nat_eq b 10) refl g
+        where
+          go : (c : Bool) → nat_eq b 10 ≡ c → (c && has_due x) ≡ false → (is_newline (operator_of b) && has_due x) ≡ false
+          go true j k = subst (λ z. (is_newline (operator_of z) && has_due x) ≡ false) (sym (eqb-true b 10 j)) k
+          go false j k = and_left (is_newline (operator_of b)) (has_due x) (newline_byte b h j)
+
+      no_more_than : is_operator_byte b ≡ true → (nat_eq b 41 && may_close x) ≡ false → (nat_eq b 10 && has_due x) ≡ false → is_more (operator_of b) x ≡ false
+      no_more_than h g k = or_none (is_right_parenthesis (operator_of b) && may_close x) (is_newline (operator_of b) && has_due x) (closing h g) (starting h k)
 
       opened : is_blank b ≡ false → nat_eq b 35 ≡ false → is_operator_byte b ≡ false → Path e gap front (done ++ WordOpen ∷ []) (Word (length done) ∷ x ∷ xs) mid
       opened h32 h35 hop =
@@ -95,8 +109,8 @@ module _ (e : Bool) (gap : List Mark) (front : List ℕ) (blank : list_all is_ga
 
   -- the end of a word
   module _ (n : ℕ) (xs : List Context) (done : List Mark) (mid : List ℕ) (p : Path e gap front done (Word n ∷ xs) mid) where
-    abbrev class : Bool → TokenClass
-    class r = class_of_word r (drop (suc n) done)
+    abbrev class : Bool → Told
+    class r = OfWord r (drop (suc n) done)
 
     close_mark : (b : ℕ) (rest : List ℕ) → is_end b ≡ true → Reads e (Plain b) mid rest → IsMark e (Word n) xs (WordClose (is_redirection b)) mid mid
     close_mark b rest h r =
@@ -110,7 +124,7 @@ module _ (e : Bool) (gap : List Mark) (front : List ℕ) (blank : list_all is_ga
         same_itself true = refl
         same_itself false = refl
 
-    closed_nonempty : (ys : List Context) (c : TokenClass) (b : ℕ) (rest : List ℕ) (d : List Mark) → Path e gap front d (with_token c ys) mid → between_tokens (top_of ys) ≡ true → is_text (top_of (with_token c ys)) ≡ false
+    closed_nonempty : (ys : List Context) (c : Told) (b : ℕ) (rest : List ℕ) (d : List Mark) → Path e gap front d (with_token c ys) mid → between_tokens (top_of ys) ≡ true → is_text (top_of (with_token c ys)) ≡ false
         → Reads e (Plain b) mid rest → Going e gap front (between (kept (with_token c ys) d (levels (with_token c ys))) b) previous (b ∷ rest) mid rest
     closed_nonempty [] c b rest d q i t r = absurd (cc)
     closed_nonempty (y ∷ ys) c b rest d q i t r = between_sound (with_class c y) ys d mid b rest q t (between_token c (y ∷ ys) ∙ i) r

@@ -1,15 +1,16 @@
 -- Tests, and contexts one in another.
 use Rattle.std.proofs.Common.{◌≡◌, ℕ, suc, Bool, true, false, ◌||◌, ◌&&◌, not, nat_eq, List, [], ◌∷◌, length, drop, Option, Some, None, refl, ap, cond, eqb-true}
-use Rattle.sh_token_base.specs.declared.class.TokenClass.{TokenClass}
+use Rattle.sh_scanner_base.specs.declared.operator.Operator.{Operator}
 use Rattle.sh_scanner_base.specs.declared.mark.Mark.{Mark}
-use Rattle.sh_scanner_base.specs.declared.mark.Mark.TheVariants.{Byte, Escaped, Backslash, SingleQuoted, DoubleQuotesOpen, DoubleQuotesClose, Dollar, Variable, Parameter, BraceOpen, BraceClose, ArithmeticOpen, ArithmeticClose, CommandsOpen, CommandsClose, Backquoted, WordOpen, WordClose, Blank, Comment}
+use Rattle.sh_scanner_base.specs.declared.mark.Mark.TheVariants.{Byte, Escaped, Backslash, SingleQuoted, DoubleQuotesOpen, DoubleQuotesClose, Dollar, Variable, Parameter, BraceOpen, BraceClose, ArithmeticOpen, ArithmeticClose, CommandsOpen, CommandsClose, Backquoted, WordOpen, WordClose, Blank, Comment, Bodies}
 use Rattle.sh_scanner_base.specs.declared.context.Context.{Context}
 use Rattle.sh_scanner_base.specs.declared.context.Context.TheVariants.{Top, Commands, Word, Quotes, Braces, Arithmetic, Parenthesis}
 use Rattle.sh_scanner_base.specs.declared.head.Head.{Head}
 use Rattle.sh_scanner_base.specs.Bytes.{is_redirection}
 use Rattle.sh_scanner_base.specs.Characters.{Ahead, ahead, next_is}
 use Rattle.sh_scanner_base.specs.Heads.{head_of}
-use Rattle.sh_scanner_base.specs.Marks.{stands, ends_word, same_as, fits, behind, with_token, class_of_operator, class_of_word, word_over, parenthesized, braces_of, in_word, is_text, between_tokens, is_word, is_quotes, is_braces, is_arithmetic, is_parenthesis, has_single_quotes, has_double_quotes, is_quoted, may_close, top_of, levels}
+use Rattle.sh_scanner_base.specs.Marks.{stands, ends_word, same_as, fits, behind, with_token, word_over, parenthesized, braces_of, in_word, is_text, between_tokens, is_word, is_quotes, is_braces, is_arithmetic, is_parenthesis, has_single_quotes, has_double_quotes, is_quoted, may_close, top_of, levels, is_right_parenthesis, is_newline, is_more}
+use Rattle.sh_scanner_base.specs.Told.{Told, OfOperator, OfWord, OfBodies}
 
 pub not_or : (c d : Bool) → not (c || d) ≡ true → (c ≡ false) × (d ≡ false)
 not_or true d h = absurd (cc)
@@ -118,7 +119,7 @@ single_in_word Arithmetic h = absurd (cc)
 single_in_word Parenthesis h = absurd (cc)
 
 -- one more token in the innermost
-pub nested_token : (c : TokenClass) (xs : List Context) → nested xs ≡ true → nested (with_token c xs) ≡ true
+pub nested_token : (c : Told) (xs : List Context) → nested xs ≡ true → nested (with_token c xs) ≡ true
 nested_token c [] h = h
 nested_token c (Top ∷ xs) h = h
 nested_token c (Commands ts ∷ xs) h = h
@@ -128,7 +129,7 @@ nested_token c (Braces q ∷ xs) h = h
 nested_token c (Arithmetic ∷ xs) h = h
 nested_token c (Parenthesis ∷ xs) h = h
 
-pub levels_token : (c : TokenClass) (xs : List Context) → levels (with_token c xs) ≡ levels xs
+pub levels_token : (c : Told) (xs : List Context) → levels (with_token c xs) ≡ levels xs
 levels_token c [] = refl
 levels_token c (Top ∷ xs) = refl
 levels_token c (Commands ts ∷ xs) = refl
@@ -138,7 +139,7 @@ levels_token c (Braces q ∷ xs) = refl
 levels_token c (Arithmetic ∷ xs) = refl
 levels_token c (Parenthesis ∷ xs) = refl
 
-pub between_token : (c : TokenClass) (xs : List Context) → between_tokens (top_of (with_token c xs)) ≡ between_tokens (top_of xs)
+pub between_token : (c : Told) (xs : List Context) → between_tokens (top_of (with_token c xs)) ≡ between_tokens (top_of xs)
 between_token c [] = refl
 between_token c (Top ∷ xs) = refl
 between_token c (Commands ts ∷ xs) = refl
@@ -148,7 +149,7 @@ between_token c (Braces q ∷ xs) = refl
 between_token c (Arithmetic ∷ xs) = refl
 between_token c (Parenthesis ∷ xs) = refl
 
-pub text_token : (c : TokenClass) (xs : List Context) → is_text (top_of (with_token c xs)) ≡ is_text (top_of xs)
+pub text_token : (c : Told) (xs : List Context) → is_text (top_of (with_token c xs)) ≡ is_text (top_of xs)
 text_token c [] = refl
 text_token c (Top ∷ xs) = refl
 text_token c (Commands ts ∷ xs) = refl
@@ -234,7 +235,7 @@ stands_in_word Parenthesis b next h = refl
 close_nested : (r : Bool) (done : List Mark) (x : Context) (xs : List Context) → is_word x ≡ true → nested (x ∷ xs) ≡ true → nested (word_over r done (x ∷ xs)) ≡ true
 close_nested r done Top xs w h = absurd (cc)
 close_nested r done (Commands ts) xs w h = absurd (cc)
-close_nested r done (Word n) xs w h = nested_token (class_of_word r (drop (suc n) done)) xs (below (Word n) xs refl h)
+close_nested r done (Word n) xs w h = nested_token (OfWord r (drop (suc n) done)) xs (below (Word n) xs refl h)
 close_nested r done Quotes xs w h = absurd (cc)
 close_nested r done (Braces q) xs w h = absurd (cc)
 close_nested r done Arithmetic xs w h = absurd (cc)
@@ -266,4 +267,12 @@ nested_behind e done x xs WordOpen after n f = nested_word (length done) x xs (a
 nested_behind e done x xs (WordClose r) after n f = close_nested r done x xs (and_true (is_word x) (ends_word (ahead e after) && same_as r (next_is is_redirection (ahead e after))) f).0 n
 nested_behind e done x xs (Blank b) after n f = n
 nested_behind e done x xs (Comment bs) after n f = n
-nested_behind e done x xs (Mark.Operator o) after n f = nested_token (class_of_operator o) (x ∷ xs) n
+nested_behind e done x xs (Bodies bs) after n f = nested_token OfBodies (x ∷ xs) n
+nested_behind e done x xs (Mark.Operator o) after n f = nested_token (OfOperator o) (x ∷ xs) n
+
+-- an operator that is neither a `)` nor a newline is nothing more
+pub more_none : (o : Operator) (x : Context) → is_right_parenthesis o ≡ false → is_newline o ≡ false → is_more o x ≡ false
+more_none o x h g = rw (h, g) refl
+
+pub or_none : (a b : Bool) → a ≡ false → b ≡ false → (a || b) ≡ false
+or_none a b h g = rw (h, g) refl

@@ -76,6 +76,7 @@ gap_behind WordOpen done h = absurd (cc)
 gap_behind (WordClose r) done h = absurd (cc)
 gap_behind (Blank b) done h = refl
 gap_behind (Comment bs) done h = refl
+gap_behind (Mark.Bodies bs) done h = absurd (cc)
 gap_behind (Mark.Operator o) done h = absurd (cc)
 
 gap_contexts : (ms done : List Mark) → list_all is_gap ms ≡ true → contexts_behind done (Top ∷ []) ms ≡ Top ∷ []
@@ -157,17 +158,24 @@ module _ (e : Bool) (bytes : List ℕ) where
           go false i = refl
           go true i = let z = ap is_operator_byte (eqb-true c 41 i) in absurd (cc)
 
+      no_line : is_operator_byte c ≡ false → nat_eq c 10 ≡ false
+      no_line h = go (nat_eq c 10) refl
+        where
+          go : (d : Bool) → nat_eq c 10 ≡ d → d ≡ false
+          go false i = refl
+          go true i = let z = ap is_operator_byte (eqb-true c 10 i) in absurd (cc)
+
       -- a byte before a token
       plain_gap : GapSound rest → Answered e bytes (after e (plain_byte s c) q rest)
       plain_gap ih = subst (λ y. Answered e bytes (after e y q rest)) (sym (plain_between s c refl)) (blank_case (is_blank c) refl)
         where
           operator_case : (d : Bool) → is_operator_byte c ≡ d → is_blank c ≡ false → nat_eq c 35 ≡ false → Answered e bytes (after e (between s c) q rest)
           operator_case true h i k =
-              subst (λ y. Answered e bytes (after e y q rest)) (sym (between_operator s c i k (and_false (nat_eq c 41)) h))
+              subst (λ y. Answered e bytes (after e y q rest)) (sym (between_operator s c i k (and_false (nat_eq c 41)) (and_false (nat_eq c 10)) h))
               (answered e bytes mid front done blank walked joined (after e (grow (operator_of c) s) q rest)
               (grown_shown e done front blank (operator_of c) q rest (top_operator e done front blank rest) (subst (λ z. Written e (plain z) front rest) (sym (operator_of_text c h)) (one_of e (Plain c) front rest here)) refl))
           operator_case false h i k =
-              subst (λ y. Answered e bytes (after e y q rest)) (sym (between_word s c i k h (no_close h))) (word_shown front rest (word_byte (Word (length done)) (settled (done ++ WordOpen ∷ []) (Word (length done) ∷ Top ∷ [])) c) q joined (plain_word i k h) refl refl)
+              subst (λ y. Answered e bytes (after e y q rest)) (sym (between_word s c i k h (no_close h) (no_line h))) (word_shown front rest (word_byte (Word (length done)) (settled (done ++ WordOpen ∷ []) (Word (length done) ∷ Top ∷ [])) c) q joined (plain_word i k h) refl refl)
 
           comment_case : (d : Bool) → nat_eq c 35 ≡ d → is_blank c ≡ false → Answered e bytes (after e (between s c) q rest)
           comment_case true h i =

@@ -15,7 +15,8 @@ use Rattle.sh_scanner_base.specs.Characters.{joins, Reads, Written, plain, Input
 use Rattle.sh_scanner_base.specs.Operators.{operator_text}
 use Rattle.sh_scanner_base.specs.Growth.{grown, may_grow}
 use Rattle.sh_scanner_base.specs.Pendings.{is_raw, is_gap_pending}
-use Rattle.sh_scanner_base.specs.Marks.{IsMark, is_text, is_gap, ends_operator, ends_word, same_as, is_some, is_right_parenthesis, levels, class_of_word, with_token, word_over}
+use Rattle.sh_scanner_base.specs.Marks.{IsMark, is_text, is_gap, ends_operator, ends_word, same_as, is_some, is_right_parenthesis, levels, with_token, word_over, is_more, is_newline}
+use Rattle.sh_scanner_base.specs.Told.{OfWord}
 use Rattle.sh_scanner.specs.Tokens.{IsToken, operator}
 use Rattle.sh_scanner.specs.Machine.{State, Stepped, On, Before, After, TooDeep, DollarTooDeep, step, is_top, grow, grow_to, in_operator, operator_out, word_out}
 use Rattle.sh_scanner.specs.Run.{Open, Places, fronted, with_front, moved, is_gap_state, last_token, last_places, word_ended, ended_in, run}
@@ -91,13 +92,13 @@ module _ (e : Bool) (gap : List Mark) (front : List ℕ) (blank : list_all is_ga
       → Shown e gap front (last_token (word_ended (settled done (x ∷ xs))) f b)
   word_ended_shown Top xs done mid f b p w v a = tt
   word_ended_shown (Commands ts) xs done mid f b p w v a = tt
-  word_ended_shown (Word n) xs done mid f b p w v a = go (is_top (with_token (class_of_word false (drop (suc n) done)) xs)) refl
+  word_ended_shown (Word n) xs done mid f b p w v a = go (is_top (with_token (OfWord false (drop (suc n) done)) xs)) refl
     where
       mark : IsMark e (Word n) xs (WordClose false) mid b
       mark = record { written = v; fits = subst (λ z. (ends_word z && same_as false (next_is is_redirection z)) ≡ true) (sym a) refl; level = refl }
 
-      go : (c : Bool) → is_top (with_token (class_of_word false (drop (suc n) done)) xs) ≡ c → Shown e gap front (last_token (cond c (Some (word_out false (settled done (Word n ∷ xs)))) None) f b)
-      go true t = (w, final_word e gap front done (Word n) xs false mid b blank p mark (sym (text_token (class_of_word false (drop (suc n) done)) xs) ∙ t))
+      go : (c : Bool) → is_top (with_token (OfWord false (drop (suc n) done)) xs) ≡ c → Shown e gap front (last_token (cond c (Some (word_out false (settled done (Word n ∷ xs)))) None) f b)
+      go true t = (w, final_word e gap front done (Word n) xs false mid b blank p mark (sym (text_token (OfWord false (drop (suc n) done)) xs) ∙ t))
       go false t = tt
   word_ended_shown Quotes xs done mid f b p w v a = tt
   word_ended_shown (Braces q) xs done mid f b p w v a = tt
@@ -123,6 +124,7 @@ module _ (e : Bool) (gap : List Mark) (front : List ℕ) (blank : list_all is_ga
     end_shown Pending.Backquotes acc f b h w a = tt
     end_shown Pending.BackquotesEscape acc f b h w a = tt
     end_shown Pending.Parenthesis acc f b h w a = tt
+    end_shown (Pending.Body l n j) acc f b h w a = tt
     end_shown (Pending.Operator o) acc f b h w a =
         subst (λ c. Shown e gap front (last_token (cond c (Some (operator_out o (begun (x ∷ xs) done (levels (x ∷ xs)) (Pending.Operator o) acc))) None) f b)) (sym p.inside.inner) tt
     end_shown Pending.Comment acc f b h w a =
@@ -194,12 +196,15 @@ module _ (e : Bool) (gap : List Mark) (front : List ℕ) (blank : list_all is_ga
   OperatorSound m = (o : Operator) (p : Places) → may_grow o ≡ true → Written e (plain (operator_text o)) front m → p.next ≡ m → p.behind ≡ m → p.front ≡ front
       → Shown e gap front (run e false (begun (Top ∷ []) gap 0 (Pending.Operator o) []) p m)
 
+  more_top : (o : Operator) → is_more o Top ≡ false
+  more_top o = rw (and_false (is_right_parenthesis o), and_false (is_newline o)) refl
+
   operator_token : (o : Operator) (rest : List ℕ) → ends_operator o (ahead e rest) ≡ true → Written e (plain (operator_text o)) front rest → IsToken e gap front rest (kind_of (gap ++ Mark.Operator o ∷ []))
   operator_token o rest h w =
       subst (IsToken e gap front rest) (sym (kind_last gap (Mark.Operator o)))
       (operator o (record {
         written = w;
-        fits = and_both (ends_operator o (ahead e rest)) (not (is_right_parenthesis o && false)) h (not_false (is_right_parenthesis o && false) (and_false (is_right_parenthesis o)));
+        fits = and_both (ends_operator o (ahead e rest)) (not (is_more o Top)) h (not_false (is_more o Top) (more_top o));
         level = refl;
       }))
 

@@ -41,6 +41,7 @@ kind_by (Mark.Backquoted bs) ms = TokenKind.End
 kind_by Mark.WordOpen ms = TokenKind.End
 kind_by (Mark.Blank b) ms = TokenKind.End
 kind_by (Mark.Comment bs) ms = TokenKind.End
+kind_by (Mark.Bodies bs) ms = TokenKind.End
 
 abbrev pub kind_from : List Mark → TokenKind
 kind_from [] = TokenKind.End

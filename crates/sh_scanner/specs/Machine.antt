@@ -1,18 +1,23 @@
 -- The scanner as a machine: the contexts, the pieces so far, a piece that has begun, and a backslash that waits for its byte.
-use Rattle.std.specs.Prelude.{ℕ, suc, Bool, ◌&&◌, ◌||◌, nat_eq, nat_lt, List, [], ◌∷◌, ◌++◌, length, ◌-◌, Option, Some, None, if◌then◌else◌}
+use Rattle.std.specs.Prelude.{ℕ, suc, Bool, false, ◌&&◌, ◌||◌, not, nat_eq, nat_lt, List, [], ◌∷◌, ◌++◌, length, drop, ◌-◌, Option, Some, None, if◌then◌else◌}
 use Rattle.sh_scanner_base.specs.declared.character.Character.{Character}
 use Rattle.sh_scanner_base.specs.declared.character.Character.TheVariants.{Plain, Quoted, Raw}
 use Rattle.sh_scanner_base.specs.declared.operator.Operator.{Operator}
 use Rattle.sh_scanner_base.specs.declared.head.Head.{Head}
 use Rattle.sh_scanner_base.specs.declared.mark.Mark.{Mark}
-use Rattle.sh_scanner_base.specs.declared.mark.Mark.TheVariants.{Byte, Escaped, Backslash, SingleQuoted, DoubleQuotesOpen, DoubleQuotesClose, Dollar, Variable, Parameter, BraceOpen, BraceClose, ArithmeticOpen, ArithmeticClose, CommandsOpen, CommandsClose, Backquoted, WordOpen, WordClose, Blank, Comment}
+use Rattle.sh_scanner_base.specs.declared.mark.Mark.TheVariants.{Byte, Escaped, Backslash, SingleQuoted, DoubleQuotesOpen, DoubleQuotesClose, Dollar, Variable, Parameter, BraceOpen, BraceClose, ArithmeticOpen, ArithmeticClose, CommandsOpen, CommandsClose, Backquoted, WordOpen, WordClose, Blank, Comment, Bodies}
 use Rattle.sh_scanner_base.specs.declared.pending.Pending.{Pending}
 use Rattle.sh_scanner_base.specs.Bytes.{is_blank, is_operator_byte, is_end, is_redirection, is_name_start, is_name_byte, is_short_parameter}
 use Rattle.sh_scanner_base.specs.Growth.{grown, may_grow, operator_of}
 use Rattle.sh_scanner_base.specs.Heads.{grown_head}
 use Rattle.sh_scanner_base.specs.declared.context.Context.{Context}
 use Rattle.sh_scanner_base.specs.declared.context.Context.TheVariants.{Commands, Word, Quotes, Arithmetic, Parenthesis}
-use Rattle.sh_scanner_base.specs.Marks.{is_text, top_of, between_tokens, has_single_quotes, has_double_quotes, is_quotes, is_braces, is_arithmetic, is_parenthesis, is_word, quotes, may_close, is_quoted, braces_of, with_token, class_of_operator, word_over}
+use Rattle.sh_scanner_base.specs.Marks.{is_text, top_of, between_tokens, has_single_quotes, has_double_quotes, is_quotes, is_braces, is_arithmetic, is_parenthesis, is_word, quotes, may_close, is_quoted, braces_of, with_token, word_over, due_in, has_due}
+use Rattle.sh_scanner_base.specs.Told.{OfOperator, OfBodies}
+use Rattle.sh_scanner_base.specs.Nested.{none_yet}
+use Rattle.sh_scanner_base.specs.declared.here.Delimiter.{Delimiter}
+use Rattle.sh_scanner.specs.declared.body.LineEnd.{LineEnd}
+use Rattle.sh_scanner_base.specs.Here.{is_end_line, joins_next}
 
 pub record State : Type 0 where
   pub contexts : List Context
@@ -59,7 +64,12 @@ word_out r s = record { contexts = word_over r s.done s.contexts; done = s.done 
 
 abbrev pub operator_out : Operator → State → State
 operator_out o s =
-    record { contexts = with_token (class_of_operator o) s.contexts; done = s.done ++ Mark.Operator o ∷ []; pending = Pending.Nothing; bytes = []; levels = s.levels }
+    record { contexts = with_token (OfOperator o) s.contexts; done = s.done ++ Mark.Operator o ∷ []; pending = Pending.Nothing; bytes = []; levels = s.levels }
+
+-- the bodies of the here-documents that were due are over
+abbrev pub bodies_out : State → State
+bodies_out s =
+    record { contexts = with_token OfBodies s.contexts; done = s.done ++ Bodies (s.bytes ++ 10 ∷ []) ∷ []; pending = Pending.Nothing; bytes = []; levels = s.levels }
 
 abbrev pub pend : Pending → State → State
 pend p s = record { contexts = s.contexts; done = s.done; pending = p; bytes = []; levels = s.levels }
@@ -117,6 +127,7 @@ between s b =
     if is_blank b then On (same (Blank b) s)
     else if nat_eq b 35 then On (pend Pending.Comment s)
     else if nat_eq b 41 && may_close (top_of s.contexts) then On (out_level CommandsClose s)
+    else if nat_eq b 10 && has_due (top_of s.contexts) then On (pend (Pending.Body 0 0 false) s)
     else if is_operator_byte b then grow (operator_of b) s
     else word_byte (Word (length s.done)) (into (Word (length s.done)) WordOpen s) b
 
@@ -159,8 +170,8 @@ after_dollar s (Raw b) = On s
 
 unfoldable pub after_parenthesis : State → Character → Stepped
 after_parenthesis s (Plain b) =
-    if nat_eq b 40 then On (into Arithmetic ArithmeticOpen s) else plain_byte (into (Commands []) CommandsOpen s) b
-after_parenthesis s (Quoted b) = quoted_byte (into (Commands []) CommandsOpen s) b
+    if nat_eq b 40 then On (into Arithmetic ArithmeticOpen s) else plain_byte (into (Commands none_yet) CommandsOpen s) b
+after_parenthesis s (Quoted b) = quoted_byte (into (Commands none_yet) CommandsOpen s) b
 after_parenthesis s (Raw b) = On s
 
 unfoldable pub in_name : State → Character → Stepped
@@ -218,6 +229,37 @@ in_comment s (Raw b) = if nat_eq b 10 then plain_byte (same (Comment s.bytes) s)
 in_comment s (Plain b) = On s
 in_comment s (Quoted b) = On s
 
+-- the line that began behind so many bytes of the bodies
+abbrev pub line_of : ℕ → State → List ℕ
+line_of line s = drop line s.bytes
+
+-- what a line of a body is, which is over, where these of all that are due are awaited from its body on; joined: the line before goes on
+-- with it
+abbrev pub body_end : ℕ → List Delimiter → LineEnd
+body_end all [] = LineEnd.LastBody
+body_end all (d ∷ ds) = LineEnd.Body (all - length (d ∷ ds))
+
+abbrev pub line_end : ℕ → List Delimiter → Bool → List ℕ → LineEnd
+line_end all [] joined line = LineEnd.Unawaited
+line_end all (d ∷ ds) joined line = if not joined && is_end_line d line then body_end all ds else LineEnd.Line (joins_next d line)
+
+-- behind so many bodies
+abbrev pub line_over : LineEnd → ℕ → State → Stepped
+line_over LineEnd.Unawaited bodies s = On s
+line_over LineEnd.LastBody bodies s = On (bodies_out s)
+line_over (LineEnd.Body n) bodies s = On (keep (Pending.Body (suc (length s.bytes)) n false) 10 s)
+line_over (LineEnd.Line joins) bodies s = On (keep (Pending.Body (suc (length s.bytes)) bodies joins) 10 s)
+
+-- the end of a line, behind so many bodies, where these are due in all
+abbrev pub line_at : List Delimiter → ℕ → Bool → List ℕ → LineEnd
+line_at due bodies joined line = line_end (length due) (drop bodies due) joined line
+
+unfoldable pub in_body : ℕ → ℕ → Bool → State → Character → Stepped
+in_body line bodies joined s (Raw b) =
+    if nat_eq b 10 then line_over (line_at (due_in (top_of s.contexts)) bodies joined (line_of line s)) bodies s else On (keep (Pending.Body line bodies joined) b s)
+in_body line bodies joined s (Plain b) = On s
+in_body line bodies joined s (Quoted b) = On s
+
 abbrev pub step_in : Pending → State → Character → Stepped
 step_in Pending.Nothing s c = act s c
 step_in Pending.Dollar s c = after_dollar s c
@@ -230,6 +272,7 @@ step_in Pending.BackquotesEscape s c = in_escape s c
 step_in Pending.Parenthesis s c = at_parenthesis s c
 step_in (Pending.Operator o) s c = in_operator o s c
 step_in Pending.Comment s c = in_comment s c
+step_in (Pending.Body l n j) s c = in_body l n j s c
 
 abbrev pub step : State → Character → Stepped
 step s c = step_in s.pending s c

@@ -62,6 +62,7 @@ ended_in Pending.Single s = None
 ended_in Pending.Backquotes s = None
 ended_in Pending.BackquotesEscape s = None
 ended_in Pending.Parenthesis s = None
+ended_in (Pending.Body l n j) s = None
 
 abbrev pub last_token : Option State → List ℕ → List ℕ → Scanned
 last_token None front rest = Open

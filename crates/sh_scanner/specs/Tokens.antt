@@ -10,7 +10,8 @@ use Rattle.sh_scanner_base.specs.declared.context.Context.TheVariants.{Top}
 use Rattle.sh_scanner_base.specs.declared.mark.Mark.{Mark}
 use Rattle.sh_scanner_base.specs.declared.mark.Mark.TheVariants.{WordOpen, WordClose}
 use Rattle.sh_scanner_base.specs.Characters.{joins, Written}
-use Rattle.sh_scanner_base.specs.Marks.{in_word, top_of, levels, is_gap, is_text, IsMark, AreMarks, contexts_behind, ends_none, class_of_word}
+use Rattle.sh_scanner_base.specs.Marks.{in_word, top_of, levels, is_gap, is_text, IsMark, AreMarks, contexts_behind, ends_none}
+use Rattle.sh_scanner_base.specs.Told.{class_of_word}
 use Rattle.sh_scanner.specs.declared.token.TokenKind.{TokenKind}
 
 -- digits directly before < or > are a descriptor's number (XCU 2.10.1)

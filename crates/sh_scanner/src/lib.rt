@@ -4,6 +4,7 @@
 //! of the crate below, `sh_scanner_base`; the machine that finds them is for the proof alone.
 #![tactic(auto)]
 
+mod body;
 mod kind;
 mod scanner;
 mod state;

@@ -131,6 +131,7 @@ fn end(state: &mut State) -> Result<bool, AllocError>
         Pending::Backquotes => Ok(false),
         Pending::BackquotesEscape => Ok(false),
         Pending::Parenthesis => Ok(false),
+        Pending::Body { .. } => Ok(false),
     }
 }
 

@@ -1,15 +1,17 @@
 //! A scanner between two characters.
 ghost use Rattle.sh_scanner_base.specs.Marks.{top_of};
-ghost use Rattle.std.specs.Prelude.{◌≡◌, ◌++◌, ◌∷◌, [], OnOk, IfOk, length, drop, Some};
+ghost use Rattle.std.specs.Prelude.{◌≡◌, ◌++◌, ◌∷◌, [], OnOk, IfOk, length, drop, suc, Some};
 ghost use Rattle.sh_scanner_base.specs.declared.context.Context.TheVariants.{Word, Commands};
+ghost use Rattle.sh_scanner_base.specs.declared.pending.Pending.{Pending};
 ghost use Rattle.sh_scanner_base.specs.declared.mark.Mark.TheVariants.{WordOpen, CommandsOpen, Variable, BraceOpen};
 ghost use Rattle.sh_scanner_base.specs.Marks.{between_tokens, is_word, is_quotes, is_braces, is_arithmetic, is_parenthesis, quotes, has_single_quotes, has_double_quotes, is_quoted, may_close, braces_of};
+ghost use Rattle.sh_scanner_base.specs.Nested.{none_yet};
 ghost use Rattle.sh_scanner.specs.Steps.{stepped};
 ghost use Rattle.sh_scanner.specs.Run.{start};
-ghost use Rattle.sh_scanner.specs.Machine.{same, into, out, pend, keep, opens, out_level, level_over, word_out, operator_out};
+ghost use Rattle.sh_scanner.specs.Machine.{same, into, out, pend, keep, opens, out_level, level_over, word_out, operator_out, bodies_out, line_of};
 
 use crate::step::Step;
-use sh_scanner_base::context::{Context, Tokens};
+use sh_scanner_base::context::{Context, Nested};
 use sh_scanner_base::contexts::Contexts;
 use sh_scanner_base::head::Head;
 use sh_scanner_base::mark::Mark;
@@ -152,6 +154,19 @@ impl State {
         Ok(())
     }
 
+    /// A newline of the bodies of here-documents, with which a line is over.
+    pub(crate) fn keep_line(&mut self, bodies: usize, joined: bool) -> Result<(), AllocError>
+        ensures { OnOk result (self.new ≡ keep (Pending.Body (suc (length self.old.bytes)) bodies joined) 10 self.old) }
+    {
+        self.bytes.push(b'\n')?;
+        self.pending = Pending::Body {
+            line: self.bytes.len(),
+            bodies,
+            joined,
+        };
+        Ok(())
+    }
+
     /// A piece begins that opens a level, unless that is one too many.
     pub(crate) fn open(&mut self, pending: Pending) -> Step
         ensures { opens pending self.old ≡ stepped result self.new }
@@ -184,16 +199,37 @@ impl State {
     pub(crate) fn operator_out(&mut self, operator: Operator) -> Result<(), AllocError>
         ensures { OnOk result (self.new ≡ operator_out operator self.old) }
     {
-        self.contexts.take(operator.class())?;
+        self.contexts.take_operator(operator)?;
         self.push(Mark::Operator(operator))
+    }
+
+    /// The bodies of the here-documents that were due are over with a newline.
+    pub(crate) fn bodies_out(&mut self) -> Result<(), AllocError>
+        ensures { OnOk result (self.new ≡ bodies_out self.old) }
+    {
+        self.contexts.take_bodies()?;
+        self.bytes.push(b'\n')?;
+        let bytes = self.take_bytes();
+        self.push(Mark::Bodies(bytes))
+    }
+
+    /// The line that began behind so many bytes of the bodies.
+    pub(crate) fn line(&self, line: usize) -> &[u8]
+        ensures { result.now ≡ line_of line self.now }
+    {
+        if line < self.bytes.len() {
+            &self.bytes[line..]
+        } else {
+            &[]
+        }
     }
 
     /// The tokens of a command substitution begin.
     pub(crate) fn open_commands(&mut self) -> Result<(), AllocError>
-        ensures { OnOk result (self.new ≡ into (Commands []) CommandsOpen self.old) }
+        ensures { OnOk result (self.new ≡ into (Commands none_yet) CommandsOpen self.old) }
     {
-        let tokens = Tokens::new(self.alloc)?;
-        self.into(Context::Commands(tokens), Mark::CommandsOpen)
+        let nested = Nested::new(self.alloc)?;
+        self.into(Context::Commands(nested), Mark::CommandsOpen)
     }
 
     /// The name behind a `$` is over.

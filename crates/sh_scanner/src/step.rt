@@ -7,6 +7,7 @@ ghost use Rattle.sh_scanner_base.specs.Heads.{grown_head};
 ghost use Rattle.sh_scanner.specs.Machine.{inner_byte, word_byte, grow, between, after_word, plain_byte, escape, quoted_byte, act, form_byte, after_dollar, after_parenthesis, in_name, headed, in_head, in_single, in_backquotes, in_escape, at_parenthesis, then_act, grow_to, in_operator, in_comment, step_in, step, opens, at_dollar, over};
 ghost use Rattle.sh_scanner.specs.Steps.{stepped};
 
+use crate::body::take_in_body;
 use crate::state::State;
 use sh_scanner_base::byte;
 use sh_scanner_base::character::Character;
@@ -114,6 +115,14 @@ fn take_between(state: &mut State, b: u8) -> Result<Step, AllocError>
     }
     if b == b')' && state.contexts().may_close() {
         state.out_level(Mark::CommandsClose)?;
+        return Ok(Step::On);
+    }
+    if b == b'\n' && !state.contexts().due().is_empty() {
+        state.pend(Pending::Body {
+            line: 0,
+            bodies: 0,
+            joined: false,
+        });
         return Ok(Step::On);
     }
     if byte::begins_operator(b) {
@@ -500,5 +509,10 @@ fn take_in(pending: Pending, state: &mut State, c: Character) -> Result<Step, Al
         Pending::Parenthesis => take_at_parenthesis(state, c),
         Pending::Operator(operator) => take_in_operator(operator, state, c),
         Pending::Comment => take_in_comment(state, c),
+        Pending::Body {
+            line,
+            bodies,
+            joined,
+        } => take_in_body(line, bodies, joined, state, c),
     }
 }

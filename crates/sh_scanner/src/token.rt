@@ -1,7 +1,8 @@
 //! Tokens (XCU 2.3).
-ghost use Rattle.std.specs.Prelude.{◌≡◌, ◌↔◌, ◌≤◌, ℕ, Bool, List, drop, take, length};
+ghost use Rattle.std.specs.Prelude.{◌≡◌, ◌↔◌, ◌≤◌, ℕ, Bool, List, IfOk, drop, take, length};
 ghost use Rattle.sh_scanner.specs.Found.{first_token};
 ghost use Rattle.sh_scanner.specs.FirstToken.{FirstToken, IsFirst, answer_at, Gives, nul_in};
+ghost use Rattle.sh_scanner.specs.Placed.{IsPlaced};
 
 use crate::kind::kind;
 use crate::scanner::{Outcome, scan};
@@ -61,12 +62,14 @@ impl From<AllocError> for TokenFault {
 
 /// The first token of the text from the byte at `at` on (XCU 2.3), and why there is none. `at_end`: the
 /// text's end is that of the input. Behind the text nothing stands, so that an `at` there gives `End`, or
-/// `Unfinished` where the input goes on. Here-documents inside a command substitution are not read as such yet:
-/// their bodies are taken as tokens.
+/// `Unfinished` where the input goes on. The bodies of here-documents inside a command substitution belong to the
+/// word (XCU 2.7.4); one that is due where the substitution ends is empty. Bodies of here-documents of the text itself
+/// are for the caller to take.
 #[tactic(auto, unfolding(crate::specs::Found::first_token))]
 pub fn next_token(alloc: Global, text: &[u8], at: usize, at_end: bool) -> Result<Token, TokenFault>
     // The answer is the first token's, by `first_token`, or memory ran out.
-    ensures { Gives result (answer_at at (first_token at_end (drop at text.now))) }
+    ensures answers { Gives result (answer_at at (first_token at_end (drop at text.now))) }
+    ensures placed { IfOk result (λ token. IsPlaced at (length text.now) token) }
 {
     let bytes = bytes_from(text, at);
     match scan(alloc, bytes, at_end)? {

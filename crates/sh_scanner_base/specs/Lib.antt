@@ -5,4 +5,8 @@ pub mod Characters
 pub mod Heads
 pub mod Pendings
 pub mod Taken
+pub mod Spelling
+pub mod Here
+pub mod Nested
+pub mod Told
 pub mod Marks

@@ -1,49 +1,27 @@
 -- What a text is made of (XCU 2.2, 2.3, 2.6): pieces, how each is written, and where each may stand.
-use Rattle.std.specs.Prelude.{◌≡◌, ℕ, suc, Bool, true, false, ◌||◌, ◌&&◌, not, nat_eq, nat_lt, List, [], ◌∷◌, ◌++◌, length, drop, take, position, Option, Some, None, if◌then◌else◌}
+use Rattle.std.specs.Prelude.{◌≡◌, ℕ, suc, Bool, true, false, ◌||◌, ◌&&◌, not, nat_eq, nat_lt, List, [], ◌∷◌, ◌++◌, length, drop, Option, Some, None, if◌then◌else◌}
 use Rattle.std.specs.List.{list_all}
 use Rattle.std.specs.Str.{bytes_eq}
 use Rattle.sh_grammar.specs.Computed.{is_whole}
-use Rattle.sh_token_base.specs.declared.class.TokenClass.{TokenClass}
-use Rattle.sh_token_base.specs.Classes.{class_of_text, is_name}
+use Rattle.sh_token_base.specs.Classes.{is_name}
 use Rattle.sh_token_base.specs.Shell.{substitution}
-use Rattle.sh_scanner_base.specs.declared.character.Character.{Character}
 use Rattle.sh_scanner_base.specs.declared.character.Character.TheVariants.{Plain, Quoted, Raw}
 use Rattle.sh_scanner_base.specs.declared.operator.Operator.{Operator}
 use Rattle.sh_scanner_base.specs.declared.head.Head.{Head}
 use Rattle.sh_scanner_base.specs.declared.context.Context.{Context}
 use Rattle.sh_scanner_base.specs.declared.context.Context.TheVariants.{Top, Commands, Word, Quotes, Braces, Arithmetic, Parenthesis}
 use Rattle.sh_scanner_base.specs.declared.mark.Mark.{Mark}
-use Rattle.sh_scanner_base.specs.declared.mark.Mark.TheVariants.{Byte, Escaped, Backslash, SingleQuoted, DoubleQuotesOpen, DoubleQuotesClose, Dollar, Variable, Parameter, BraceOpen, BraceClose, ArithmeticOpen, ArithmeticClose, CommandsOpen, CommandsClose, Backquoted, WordOpen, WordClose, Blank, Comment}
-use Rattle.sh_scanner_base.specs.Taken.{followed_by}
-use Rattle.sh_scanner_base.specs.Bytes.{is_blank, is_end, is_digit, is_redirection, is_name_byte, is_short_parameter, is_form, is_quoted_escape, is_no_quote, is_no_newline}
+use Rattle.sh_scanner_base.specs.declared.mark.Mark.TheVariants.{Byte, Escaped, Backslash, SingleQuoted, DoubleQuotesOpen, DoubleQuotesClose, Dollar, Variable, Parameter, BraceOpen, BraceClose, ArithmeticOpen, ArithmeticClose, CommandsOpen, CommandsClose, Backquoted, WordOpen, WordClose, Blank, Comment, Bodies}
+use Rattle.sh_scanner_base.specs.Spelling.{spell_mark}
+use Rattle.sh_scanner_base.specs.declared.here.Delimiter.{Delimiter}
+use Rattle.sh_scanner_base.specs.Here.{lines, are_bodies}
+use Rattle.sh_scanner_base.specs.Nested.{none_yet}
+use Rattle.sh_scanner_base.specs.Told.{Told, OfOperator, OfWord, OfBodies, with_told}
+use Rattle.sh_scanner_base.specs.Bytes.{is_blank, is_end, is_redirection, is_name_byte, is_short_parameter, is_form, is_quoted_escape, is_no_quote, is_no_newline}
 use Rattle.sh_scanner_base.specs.Operators.{operator_text}
 use Rattle.sh_scanner_base.specs.Growth.{grown, may_grow}
 use Rattle.sh_scanner_base.specs.Heads.{head_of, grows_head, reads_bare}
-use Rattle.sh_scanner_base.specs.Characters.{Written, Ahead, Next, InputEnd, Unknown, ahead, next_is, plain, raw}
-
--- how each is written
-abbrev pub spell_mark : Mark → List Character
-spell_mark (Byte b) = Plain b ∷ []
-spell_mark (Escaped b) = Quoted b ∷ []
-spell_mark (Backslash b) = Quoted b ∷ []
-spell_mark (SingleQuoted bs) = Plain 39 ∷ (raw bs ++ Raw 39 ∷ [])
-spell_mark DoubleQuotesOpen = Plain 34 ∷ []
-spell_mark DoubleQuotesClose = Plain 34 ∷ []
-spell_mark Dollar = Plain 36 ∷ []
-spell_mark (Variable bs) = Plain 36 ∷ plain bs
-spell_mark (Parameter b) = Plain 36 ∷ Plain b ∷ []
-spell_mark (BraceOpen bs) = Plain 36 ∷ Plain 123 ∷ plain bs
-spell_mark BraceClose = Plain 125 ∷ []
-spell_mark ArithmeticOpen = Plain 36 ∷ Plain 40 ∷ Plain 40 ∷ []
-spell_mark ArithmeticClose = Plain 41 ∷ Plain 41 ∷ []
-spell_mark CommandsOpen = Plain 36 ∷ Plain 40 ∷ []
-spell_mark CommandsClose = Plain 41 ∷ []
-spell_mark (Backquoted bs) = Plain 96 ∷ (raw bs ++ Raw 96 ∷ [])
-spell_mark WordOpen = []
-spell_mark (WordClose r) = []
-spell_mark (Blank b) = Plain b ∷ []
-spell_mark (Comment bs) = Plain 35 ∷ raw bs
-spell_mark (Mark.Operator o) = plain (operator_text o)
+use Rattle.sh_scanner_base.specs.Characters.{Written, Ahead, Next, InputEnd, Unknown, ahead, next_is}
 
 -- a byte that stands for itself where `next` follows
 abbrev pub stands : Context → ℕ → Ahead → Bool
@@ -108,12 +86,29 @@ is_quoted Parenthesis = true
 -- the tokens so far are a compound list or newlines
 abbrev pub may_close : Context → Bool
 may_close Top = false
-may_close (Commands ts) = is_whole substitution ts
+may_close (Commands ts) = is_whole substitution ts.tokens
 may_close (Word n) = false
 may_close Quotes = false
 may_close (Braces q) = false
 may_close Arithmetic = false
 may_close Parenthesis = false
+
+-- the here-documents whose bodies come behind the next newline
+abbrev pub due_in : Context → List Delimiter
+due_in Top = []
+due_in (Commands ts) = ts.due
+due_in (Word n) = []
+due_in Quotes = []
+due_in (Braces q) = []
+due_in Arithmetic = []
+due_in Parenthesis = []
+
+abbrev pub are_some : List Delimiter → Bool
+are_some [] = false
+are_some (d ∷ ds) = true
+
+abbrev pub has_due : Context → Bool
+has_due x = are_some (due_in x)
 
 abbrev pub between_tokens : Context → Bool
 between_tokens Top = true
@@ -205,6 +200,13 @@ is_arithmetic Parenthesis = false
 abbrev pub is_right_parenthesis : Operator → Bool
 is_right_parenthesis o = bytes_eq (operator_text o) (41 ∷ [])
 
+abbrev pub is_newline : Operator → Bool
+is_newline o = bytes_eq (operator_text o) (10 ∷ [])
+
+-- the operator is more there than an operator: the `)` of a substitution, or a newline behind which bodies come
+abbrev pub is_more : Operator → Context → Bool
+is_more o x = is_right_parenthesis o && may_close x || is_newline o && has_due x
+
 abbrev pub same_as : Bool → Bool → Bool
 same_as true b = b
 same_as false b = not b
@@ -233,62 +235,13 @@ fits e x WordOpen after = between_tokens x && begins_word (ahead e after)
 fits e x (WordClose r) after = is_word x && (ends_word (ahead e after) && same_as r (next_is is_redirection (ahead e after)))
 fits e x (Blank b) after = between_tokens x && is_blank b
 fits e x (Comment bs) after = between_tokens x && (list_all is_no_newline bs && ends_comment e after)
-fits e x (Mark.Operator o) after = between_tokens x && (ends_operator o (ahead e after) && not (is_right_parenthesis o && may_close x))
-
--- what a word's pieces are to the grammar: the bytes at its beginning that stand for themselves, and whether these are all
-abbrev pub literal_front : List Mark → List ℕ
-literal_front [] = []
-literal_front (Byte b ∷ ms) = b ∷ literal_front ms
-literal_front (m ∷ ms) = []
-
-abbrev pub is_byte : Mark → Bool
-is_byte (Byte b) = true
-is_byte m = false
-
-abbrev pub is_name_before : List ℕ → Option ℕ → Bool
-is_name_before bytes None = false
-is_name_before bytes (Some k) = is_name (take k bytes)
-
-abbrev pub equals_place : List ℕ → Option ℕ
-equals_place bytes = position (λ b. nat_eq b 61) bytes
-
--- a name and `=` stand first (2.10.2 rule 7)
-abbrev pub assigns : List ℕ → Bool
-assigns bytes = is_name_before bytes (equals_place bytes)
-
--- digits alone before < or > are a descriptor number (2.10.1)
-abbrev pub class_of_literal : Bool → List ℕ → TokenClass
-class_of_literal redirection bytes =
-    if redirection && list_all is_digit bytes then TokenClass.Number else if assigns bytes then TokenClass.Assignment else class_of_text bytes
-
-abbrev pub class_of_word : Bool → List Mark → TokenClass
-class_of_word redirection ms =
-    if list_all is_byte ms then class_of_literal redirection (literal_front ms)
-    else if assigns (literal_front ms) then TokenClass.Assignment else TokenClass.Other
-
-abbrev pub class_of_operator : Operator → TokenClass
-class_of_operator Operator.And = TokenClass.And
-class_of_operator Operator.Semicolon = TokenClass.Semicolon
-class_of_operator Operator.Pipe = TokenClass.Pipe
-class_of_operator Operator.Less = TokenClass.Redirection
-class_of_operator Operator.Great = TokenClass.Redirection
-class_of_operator Operator.LeftParenthesis = TokenClass.LeftParenthesis
-class_of_operator Operator.RightParenthesis = TokenClass.RightParenthesis
-class_of_operator Operator.Newline = TokenClass.Newline
-class_of_operator Operator.AndIf = TokenClass.AndIf
-class_of_operator Operator.OrIf = TokenClass.OrIf
-class_of_operator Operator.DoubleSemicolon = TokenClass.DoubleSemicolon
-class_of_operator Operator.DoubleLess = TokenClass.Redirection
-class_of_operator Operator.DoubleGreat = TokenClass.Redirection
-class_of_operator Operator.LessAnd = TokenClass.Redirection
-class_of_operator Operator.GreatAnd = TokenClass.Redirection
-class_of_operator Operator.LessGreat = TokenClass.Redirection
-class_of_operator Operator.DoubleLessDash = TokenClass.Redirection
-class_of_operator Operator.Clobber = TokenClass.Redirection
+-- the bodies of all here-documents that are due follow the newline (2.7.4)
+fits e x (Bodies bs) after = has_due x && are_bodies (due_in x) false (lines [] bs)
+fits e x (Mark.Operator o) after = between_tokens x && (ends_operator o (ahead e after) && not (is_more o x))
 
 -- a token of a substitution more
-abbrev pub with_class : TokenClass → Context → Context
-with_class c (Commands ts) = Commands (followed_by c ts)
+abbrev pub with_class : Told → Context → Context
+with_class c (Commands ts) = Commands (with_told c ts)
 with_class c Top = Top
 with_class c (Word n) = Word n
 with_class c Quotes = Quotes
@@ -296,13 +249,13 @@ with_class c (Braces q) = Braces q
 with_class c Arithmetic = Arithmetic
 with_class c Parenthesis = Parenthesis
 
-abbrev pub with_token : TokenClass → List Context → List Context
+abbrev pub with_token : Told → List Context → List Context
 with_token c [] = []
 with_token c (x ∷ xs) = with_class c x ∷ xs
 
 -- r: < or > follows the word
 abbrev pub class_behind : Bool → List Mark → Context → List Context → List Context
-class_behind r done (Word n) xs = with_token (class_of_word r (drop (suc n) done)) xs
+class_behind r done (Word n) xs = with_token (OfWord r (drop (suc n) done)) xs
 class_behind r done Top xs = xs
 class_behind r done (Commands ts) xs = xs
 class_behind r done Quotes xs = xs
@@ -349,14 +302,15 @@ behind done x xs (BraceOpen bs) = braces_of (is_quoted x) (head_of bs) ∷ x ∷
 behind done x xs BraceClose = xs
 behind done x xs ArithmeticOpen = Arithmetic ∷ x ∷ xs
 behind done x xs ArithmeticClose = xs
-behind done x xs CommandsOpen = Commands [] ∷ x ∷ xs
+behind done x xs CommandsOpen = Commands none_yet ∷ x ∷ xs
 behind done x xs CommandsClose = xs
 behind done x xs (Backquoted bs) = x ∷ xs
 behind done x xs WordOpen = Word (length done) ∷ x ∷ xs
 behind done x xs (WordClose r) = word_over r done (x ∷ xs)
 behind done x xs (Blank b) = x ∷ xs
 behind done x xs (Comment bs) = x ∷ xs
-behind done x xs (Mark.Operator o) = with_token (class_of_operator o) (x ∷ xs)
+behind done x xs (Bodies bs) = with_token OfBodies (x ∷ xs)
+behind done x xs (Mark.Operator o) = with_token (OfOperator o) (x ∷ xs)
 
 abbrev pub is_text : Context → Bool
 is_text Top = true

@@ -15,6 +15,7 @@ is_raw Pending.BackquotesEscape = true
 is_raw Pending.Parenthesis = false
 is_raw (Pending.Operator o) = false
 is_raw Pending.Comment = true
+is_raw (Pending.Body l n j) = true
 
 -- no token has begun
 abbrev pub is_gap_pending : Pending → Bool
@@ -29,3 +30,4 @@ is_gap_pending Pending.Backquotes = false
 is_gap_pending Pending.BackquotesEscape = false
 is_gap_pending Pending.Parenthesis = false
 is_gap_pending (Pending.Operator o) = false
+is_gap_pending (Pending.Body l n j) = false

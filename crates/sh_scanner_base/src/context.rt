@@ -3,9 +3,14 @@ ghost use Rattle.std.specs.Prelude.{◌≡◌, ◌++◌, ◌∷◌, [], IfOk, On
 ghost use Rattle.sh_grammar.specs.Computed.{is_whole, is_front};
 ghost use Rattle.sh_token_base.specs.Shell.{substitution};
 ghost use Rattle.sh_scanner_base.specs.Taken.{followed_by, token_of};
-ghost use Rattle.sh_scanner_base.specs.Marks.{is_word, is_quotes, is_braces, is_arithmetic, quotes, has_single_quotes, has_double_quotes, is_quoted, may_close, between_tokens, is_parenthesis, is_text, with_class};
+ghost use Rattle.sh_scanner_base.specs.Nested.{none_yet};
+ghost use Rattle.sh_scanner_base.specs.Told.{OfOperator, OfWord, OfBodies, with_told, with_delimiter, class_of};
+ghost use Rattle.sh_scanner_base.specs.Marks.{is_word, is_quotes, is_braces, is_arithmetic, quotes, has_single_quotes, has_double_quotes, is_quoted, may_close, between_tokens, is_parenthesis, is_text, with_class, due_in, has_due};
 
 use crate::byte;
+use crate::here::{Delimiter, Tabs};
+use crate::mark::{Mark, word_class};
+use crate::operator::Operator;
 use sh_grammar::{Recognizer, Token};
 use sh_token_base::class::TokenClass;
 use sh_token_base::grammar::substituted;
@@ -94,13 +99,99 @@ fn accept(recognizer: &mut Recognizer<'static>, token: Token) -> Result<bool, Al
     Ok(taken)
 }
 
+/// A command substitution behind some of its tokens.
+#[derive(Drop)]
+pub struct Nested {
+    alloc: Global,
+    tokens: Tokens,
+    expected: Option<Tabs>,
+    due: Vec<Delimiter>,
+}
+
+impl Model for Nested {
+    ghost use Rattle.sh_scanner_base.specs.Nested.{Nested};
+
+    ghost Value = { Nested };
+
+    ghost view = { λ n. record { tokens = n.tokens; expected = n.expected; due = n.due.items } };
+}
+
+impl Nested {
+    /// Before its first token. The one error is want of memory.
+    pub fn new(alloc: Global) -> Result<Self, AllocError>
+        ensures { IfOk result (λ n. n ≡ none_yet) }
+    {
+        let tokens = Tokens::new(alloc)?;
+        Ok(Nested {
+            alloc,
+            tokens,
+            expected: None,
+            due: Vec::new(alloc),
+        })
+    }
+
+    /// The here-documents that are due.
+    fn due(&self) -> &[Delimiter]
+        ensures { result.now ≡ self.now.due }
+    {
+        self.due.as_slice()
+    }
+
+    /// An operator more.
+    fn take_operator(&mut self, operator: Operator) -> Result<(), AllocError>
+        ensures { OnOk result (self.new ≡ with_told (OfOperator operator) self.old) }
+    {
+        self.tokens.take(operator.class())?;
+        self.expected = Tabs::of_operator(operator);
+        Ok(())
+    }
+
+    /// A word more.
+    fn take_word(&mut self, redirection: bool, pieces: &[Mark]) -> Result<(), AllocError>
+        ensures { OnOk result (self.new ≡ with_told (OfWord redirection pieces.now) self.old) }
+    {
+        let class = word_class(self.alloc, redirection, pieces)?;
+        add_delimiter(self.alloc, &mut self.due, self.expected, pieces)?;
+        self.tokens.take(class)?;
+        self.expected = None;
+        Ok(())
+    }
+
+    /// A newline more, with the bodies of the here-documents that were due.
+    fn take_bodies(&mut self) -> Result<(), AllocError>
+        ensures { OnOk result (self.new ≡ with_told OfBodies self.old) }
+    {
+        self.tokens.take(TokenClass::Newline)?;
+        self.expected = None;
+        self.due.clear();
+        Ok(())
+    }
+}
+
+/// A word is the delimiter of a here-document that is due, if one is expected.
+fn add_delimiter(
+    alloc: Global,
+    due: &mut Vec<Delimiter>,
+    expected: Option<Tabs>,
+    pieces: &[Mark],
+) -> Result<(), AllocError>
+    ensures { OnOk result (due.new.items ≡ with_delimiter expected pieces.now due.old.items) }
+{
+    let Some(tabs) = expected else {
+        return Ok(());
+    };
+    let delimiter = Delimiter::new(alloc, tabs, pieces)?;
+    due.push(delimiter)?;
+    Ok(())
+}
+
 /// What the next piece stands in.
 #[derive(Drop)]
 pub enum Context {
     /// The text itself, between tokens.
     Top,
     /// A command substitution, between its tokens.
-    Commands(Tokens),
+    Commands(Nested),
     /// A word of commands, which began behind so many pieces.
     Word(usize),
     /// Double quotes.
@@ -114,95 +205,6 @@ pub enum Context {
 }
 
 impl Context {
-    /// Between tokens.
-    pub(crate) fn is_between_tokens(&self) -> bool
-        ensures { result ≡ between_tokens self.now }
-    {
-        match self {
-            Context::Top | Context::Commands(_) => true,
-            _ => false,
-        }
-    }
-
-    pub(crate) fn is_word(&self) -> bool
-        ensures { result ≡ is_word self.now }
-    {
-        match self {
-            Context::Word(_) => true,
-            _ => false,
-        }
-    }
-
-    pub(crate) fn is_quotes(&self) -> bool
-        ensures { result ≡ is_quotes self.now }
-    {
-        match self {
-            Context::Quotes => true,
-            _ => false,
-        }
-    }
-
-    pub(crate) fn is_braces(&self) -> bool
-        ensures { result ≡ is_braces self.now }
-    {
-        match self {
-            Context::Braces(_) => true,
-            _ => false,
-        }
-    }
-
-    /// Arithmetic, no inner parenthesis being open.
-    pub(crate) fn is_arithmetic(&self) -> bool
-        ensures { result ≡ is_arithmetic self.now }
-    {
-        match self {
-            Context::Arithmetic => true,
-            _ => false,
-        }
-    }
-
-    /// Inner parentheses of arithmetic.
-    pub(crate) fn is_parenthesis(&self) -> bool
-        ensures { result ≡ is_parenthesis self.now }
-    {
-        match self {
-            Context::Parenthesis => true,
-            _ => false,
-        }
-    }
-
-    /// Whether `'` quotes here.
-    pub(crate) fn has_single_quotes(&self) -> bool
-        ensures { result ≡ has_single_quotes self.now }
-    {
-        match self {
-            Context::Word(_) => true,
-            Context::Braces(quoted) => !*quoted,
-            _ => false,
-        }
-    }
-
-    /// Whether `"` opens double quotes here.
-    pub(crate) fn has_double_quotes(&self) -> bool
-        ensures { result ≡ has_double_quotes self.now }
-    {
-        match self {
-            Context::Word(_) | Context::Braces(_) => true,
-            _ => false,
-        }
-    }
-
-    /// Whether what a `${` has here is read as between double quotes.
-    pub(crate) fn is_quoted(&self) -> bool
-        ensures { result ≡ is_quoted self.now }
-    {
-        match self {
-            Context::Quotes | Context::Arithmetic | Context::Parenthesis => true,
-            Context::Braces(quoted) => *quoted,
-            _ => false,
-        }
-    }
-
     /// Whether a backslash quotes a byte here.
     pub(crate) fn quotes(&self, b: u8) -> bool
         ensures { result ≡ quotes self.now b }
@@ -222,27 +224,47 @@ impl Context {
         ensures { result ≡ may_close self.now }
     {
         match self {
-            Context::Commands(tokens) => tokens.may_end(),
+            Context::Commands(nested) => nested.tokens.may_end(),
             _ => false,
         }
     }
 
-    /// The text itself.
-    pub(crate) fn is_text(&self) -> bool
-        ensures { result ≡ is_text self.now }
+    /// The here-documents whose bodies come behind the next newline.
+    pub(crate) fn due(&self) -> &[Delimiter]
+        ensures { result.now ≡ due_in self.now }
     {
         match self {
-            Context::Top => true,
-            _ => false,
+            Context::Commands(nested) => nested.due(),
+            _ => &[],
         }
     }
 
-    /// A token more, where it has tokens.
-    pub(crate) fn take(&mut self, class: TokenClass) -> Result<(), AllocError>
-        ensures { OnOk result (self.new ≡ with_class class self.old) }
+    /// An operator more, where it has tokens.
+    pub(crate) fn take_operator(&mut self, operator: Operator) -> Result<(), AllocError>
+        ensures { OnOk result (self.new ≡ with_class (OfOperator operator) self.old) }
     {
         match self {
-            Context::Commands(tokens) => tokens.take(class),
+            Context::Commands(nested) => nested.take_operator(operator),
+            _ => Ok(()),
+        }
+    }
+
+    /// A word more, where it has tokens.
+    pub(crate) fn take_word(&mut self, redirection: bool, pieces: &[Mark]) -> Result<(), AllocError>
+        ensures { OnOk result (self.new ≡ with_class (OfWord redirection pieces.now) self.old) }
+    {
+        match self {
+            Context::Commands(nested) => nested.take_word(redirection, pieces),
+            _ => Ok(()),
+        }
+    }
+
+    /// A newline with bodies more, where it has tokens.
+    pub(crate) fn take_bodies(&mut self) -> Result<(), AllocError>
+        ensures { OnOk result (self.new ≡ with_class OfBodies self.old) }
+    {
+        match self {
+            Context::Commands(nested) => nested.take_bodies(),
             _ => Ok(()),
         }
     }

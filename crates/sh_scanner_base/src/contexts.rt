@@ -1,11 +1,13 @@
 //! The open contexts of a text, one in the other.
 ghost use Rattle.sh_scanner_base.specs.declared.context.Context.TheVariants.{Top};
 ghost use Rattle.std.specs.Prelude.{◌≡◌, ◌∷◌, [], OnOk, OnErr, IfOk, MatchOption};
-ghost use Rattle.sh_scanner_base.specs.Marks.{top_of, with_token, with_class, class_behind, word_over, class_of_word, is_text, between_tokens, is_word, is_quotes, is_braces, is_arithmetic, is_parenthesis, quotes, has_single_quotes, has_double_quotes, is_quoted, may_close};
+ghost use Rattle.sh_scanner_base.specs.Marks.{top_of, with_token, with_class, class_behind, word_over, is_text, between_tokens, is_word, is_quotes, is_braces, is_arithmetic, is_parenthesis, quotes, has_single_quotes, has_double_quotes, is_quoted, may_close, due_in};
+ghost use Rattle.sh_scanner_base.specs.Told.{OfOperator, OfWord, OfBodies};
 
 use crate::context::Context;
-use crate::mark::{Mark, pieces_behind, word_class};
-use sh_token_base::class::TokenClass;
+use crate::here::Delimiter;
+use crate::mark::{Mark, pieces_behind};
+use crate::operator::Operator;
 use std::alloc::{AllocError, Global};
 use std::marker::Model;
 
@@ -55,8 +57,10 @@ impl Contexts {
         ensures { result ≡ between_tokens (top_of self.now) }
     {
         match self.items.last() {
-            Some(context) => context.is_between_tokens(),
+            Some(Context::Top) => true,
+            Some(Context::Commands(_)) => true,
             None => true,
+            _ => false,
         }
     }
 
@@ -64,60 +68,42 @@ impl Contexts {
     pub fn is_text(&self) -> bool
         ensures { result ≡ is_text (top_of self.now) }
     {
-        match self.items.last() {
-            Some(context) => context.is_text(),
-            None => true,
-        }
+        matches!(self.items.last(), Some(Context::Top) | None)
     }
 
     /// In a word of commands.
     pub fn is_word(&self) -> bool
         ensures { result ≡ is_word (top_of self.now) }
     {
-        match self.items.last() {
-            Some(context) => context.is_word(),
-            None => false,
-        }
+        matches!(self.items.last(), Some(Context::Word(_)))
     }
 
     /// In double quotes.
     pub fn is_quotes(&self) -> bool
         ensures { result ≡ is_quotes (top_of self.now) }
     {
-        match self.items.last() {
-            Some(context) => context.is_quotes(),
-            None => false,
-        }
+        matches!(self.items.last(), Some(Context::Quotes))
     }
 
     /// In the word of a `${`.
     pub fn is_braces(&self) -> bool
         ensures { result ≡ is_braces (top_of self.now) }
     {
-        match self.items.last() {
-            Some(context) => context.is_braces(),
-            None => false,
-        }
+        matches!(self.items.last(), Some(Context::Braces(_)))
     }
 
     /// In arithmetic, no inner parenthesis being open.
     pub fn is_arithmetic(&self) -> bool
         ensures { result ≡ is_arithmetic (top_of self.now) }
     {
-        match self.items.last() {
-            Some(context) => context.is_arithmetic(),
-            None => false,
-        }
+        matches!(self.items.last(), Some(Context::Arithmetic))
     }
 
     /// In inner parentheses of arithmetic.
     pub fn is_parenthesis(&self) -> bool
         ensures { result ≡ is_parenthesis (top_of self.now) }
     {
-        match self.items.last() {
-            Some(context) => context.is_parenthesis(),
-            None => false,
-        }
+        matches!(self.items.last(), Some(Context::Parenthesis))
     }
 
     /// Whether `'` quotes here.
@@ -125,8 +111,9 @@ impl Contexts {
         ensures { result ≡ has_single_quotes (top_of self.now) }
     {
         match self.items.last() {
-            Some(context) => context.has_single_quotes(),
-            None => false,
+            Some(Context::Word(_)) => true,
+            Some(Context::Braces(quoted)) => !*quoted,
+            _ => false,
         }
     }
 
@@ -135,8 +122,9 @@ impl Contexts {
         ensures { result ≡ has_double_quotes (top_of self.now) }
     {
         match self.items.last() {
-            Some(context) => context.has_double_quotes(),
-            None => false,
+            Some(Context::Word(_)) => true,
+            Some(Context::Braces(_)) => true,
+            _ => false,
         }
     }
 
@@ -145,8 +133,11 @@ impl Contexts {
         ensures { result ≡ is_quoted (top_of self.now) }
     {
         match self.items.last() {
-            Some(context) => context.is_quoted(),
-            None => false,
+            Some(Context::Quotes) => true,
+            Some(Context::Arithmetic) => true,
+            Some(Context::Parenthesis) => true,
+            Some(Context::Braces(quoted)) => *quoted,
+            _ => false,
         }
     }
 
@@ -170,14 +161,48 @@ impl Contexts {
         }
     }
 
-    /// A token more, where the innermost context has tokens.
-    pub fn take(&mut self, class: TokenClass) -> Result<(), AllocError>
-        ensures { OnOk result (self.new ≡ with_token class self.old) }
+    /// The here-documents whose bodies come behind the next newline.
+    pub fn due(&self) -> &[Delimiter]
+        ensures { result.now ≡ due_in (top_of self.now) }
+    {
+        match self.items.last() {
+            Some(context) => context.due(),
+            None => &[],
+        }
+    }
+
+    /// An operator more, where the innermost context has tokens.
+    pub fn take_operator(&mut self, operator: Operator) -> Result<(), AllocError>
+        ensures { OnOk result (self.new ≡ with_token (OfOperator operator) self.old) }
     {
         let Some(mut context) = self.items.pop() else {
             return Ok(());
         };
-        context.take(class)?;
+        context.take_operator(operator)?;
+        self.items.push(context)?;
+        Ok(())
+    }
+
+    /// A newline more, with the bodies of the here-documents that were due.
+    pub fn take_bodies(&mut self) -> Result<(), AllocError>
+        ensures { OnOk result (self.new ≡ with_token OfBodies self.old) }
+    {
+        let Some(mut context) = self.items.pop() else {
+            return Ok(());
+        };
+        context.take_bodies()?;
+        self.items.push(context)?;
+        Ok(())
+    }
+
+    /// A word more.
+    fn take_word(&mut self, redirection: bool, pieces: &[Mark]) -> Result<(), AllocError>
+        ensures { OnOk result (self.new ≡ with_token (OfWord redirection pieces.now) self.old) }
+    {
+        let Some(mut context) = self.items.pop() else {
+            return Ok(());
+        };
+        context.take_word(redirection, pieces)?;
         self.items.push(context)?;
         Ok(())
     }
@@ -205,8 +230,6 @@ impl Contexts {
         let Context::Word(begin) = context else {
             return Ok(());
         };
-        let class = word_class(self.alloc, redirection, pieces_behind(pieces, *begin))?;
-        self.take(class)?;
-        Ok(())
+        self.take_word(redirection, pieces_behind(pieces, *begin))
     }
 }

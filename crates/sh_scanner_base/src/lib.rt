@@ -8,6 +8,7 @@ pub mod character;
 pub mod context;
 pub mod contexts;
 pub mod head;
+pub mod here;
 pub mod mark;
 pub mod operator;
 pub mod pending;

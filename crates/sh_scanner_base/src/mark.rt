@@ -2,7 +2,7 @@
 ghost use Rattle.std.specs.Prelude.{◌≡◌, IfOk, ℕ, drop, suc, ◌++◌, nat_eq, Option, IfSome, ◌<◌, length};
 ghost use Rattle.std.specs.List.{list_all};
 ghost use Rattle.sh_scanner_base.specs.Bytes.{is_digit};
-ghost use Rattle.sh_scanner_base.specs.Marks.{literal_front, is_byte, is_name_before, assigns, class_of_literal, class_of_word, class_of_operator, equals_place};
+ghost use Rattle.sh_scanner_base.specs.Told.{literal_front, is_byte, is_name_before, assigns, class_of_literal, class_of_word, class_of_operator, equals_place};
 
 use crate::byte;
 use crate::operator::Operator;
@@ -49,6 +49,8 @@ pub enum Mark {
     Blank(u8),
     /// `#` and the bytes of a comment.
     Comment(Text),
+    /// A newline, and the bytes of the bodies of all here-documents that are due (XCU 2.7.4), with their end lines.
+    Bodies(Text),
     /// An operator.
     Operator(Operator),
 }

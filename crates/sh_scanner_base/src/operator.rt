@@ -1,6 +1,7 @@
 //! Operators (XCU 2.10.2).
 ghost use Rattle.std.specs.Prelude.{◌≡◌, Option, Some, None};
 ghost use Rattle.sh_scanner_base.specs.Growth.{grown, may_grow, operator_of};
+ghost use Rattle.sh_scanner_base.specs.Operators.{operator_text};
 
 /// An operator, by the standard's name where it has one.
 #[derive(Clone, Copy, Debug, PartialEq, Eq)]
@@ -57,6 +58,32 @@ impl Operator {
             b'(' => Operator::LeftParenthesis,
             b')' => Operator::RightParenthesis,
             _ => Operator::Newline,
+        }
+    }
+
+    /// What it is written as.
+    pub fn text(self) -> &'static [u8]
+        ensures { result.now ≡ operator_text self }
+    {
+        match self {
+            Operator::And => b"&",
+            Operator::Semicolon => b";",
+            Operator::Pipe => b"|",
+            Operator::Less => b"<",
+            Operator::Great => b">",
+            Operator::LeftParenthesis => b"(",
+            Operator::RightParenthesis => b")",
+            Operator::Newline => b"\n",
+            Operator::AndIf => b"&&",
+            Operator::OrIf => b"||",
+            Operator::DoubleSemicolon => b";;",
+            Operator::DoubleLess => b"<<",
+            Operator::DoubleGreat => b">>",
+            Operator::LessAnd => b"<&",
+            Operator::GreatAnd => b">&",
+            Operator::LessGreat => b"<>",
+            Operator::DoubleLessDash => b"<<-",
+            Operator::Clobber => b">|",
         }
     }
 

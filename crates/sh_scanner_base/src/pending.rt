@@ -28,6 +28,13 @@ pub enum Pending {
     Operator(Operator),
     /// Behind `#`.
     Comment,
+    /// In the bodies of here-documents: the line began behind so many bytes of them and so many bodies; it goes on with
+    /// the one before if `joined`.
+    Body {
+        line: usize,
+        bodies: usize,
+        joined: bool,
+    },
 }
 
 impl Pending {
@@ -36,8 +43,11 @@ impl Pending {
         ensures { result ≡ is_raw self }
     {
         match self {
-            Pending::Single | Pending::Backquotes | Pending::BackquotesEscape | Pending::Comment =>
-                true,
+            Pending::Single => true,
+            Pending::Backquotes => true,
+            Pending::BackquotesEscape => true,
+            Pending::Comment => true,
+            Pending::Body { .. } => true,
             _ => false,
         }
     }

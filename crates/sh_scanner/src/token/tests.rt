@@ -128,6 +128,37 @@ fn gaps(rt: HostRuntime) -> Result<(), Fail> {
     Ok(())
 }
 
+#[test]
+fn here_documents(rt: HostRuntime) -> Result<(), Fail> {
+    for (text, expected) in [
+        (b"$(a <<E\n)\nE\n)b ".as_slice(), Found::Token(0, 14)),
+        (b"$(a <<E; b\n)\nE\n)c ", Found::Token(0, 17)),
+        (b"$(a <<E)b ", Found::Token(0, 9)),
+        (b"$(a <<E\n)\nE)b ", Found::Unfinished),
+        (b"$(a <<E\n)\n E\nE\n)b ", Found::Token(0, 17)),
+        (b"$(a <<-E\n)\n\t\tE\n)b ", Found::Token(0, 17)),
+        (b"$(a <<E\n)\n\tE\nE\n)b ", Found::Token(0, 17)),
+        (b"$(a <<A <<B\n)\nA\n'\nB\n)b ", Found::Token(0, 22)),
+        (b"$(a <<B <<A\n)\nA\nB\n'\nA\n)b ", Found::Token(0, 24)),
+        (b"$(a <<E\nx\\\nE\n)\nE\n)b ", Found::Token(0, 19)),
+        (b"$(a <<E\nx\\\\\nE\n)b ", Found::Token(0, 16)),
+        (b"$(a <<'E'\nx\\\nE\n)b ", Found::Token(0, 17)),
+        (b"$(a <<E\\\n\nE\\\n\nE\n)b ", Found::Token(0, 18)),
+        (b"$(a <<-E\nx\\\n\tE\n)\n\tE\n)b ", Found::Token(0, 22)),
+        (b"$(a <<\"$(b)\"\n)\n$(b)\n)c ", Found::Token(0, 22)),
+        (b"$(a <<''\n)\n\n)b ", Found::Token(0, 14)),
+        (b"$(a <<E\n$(b\nE\n)c ", Found::Token(0, 16)),
+        (b"$(a $(b <<E\n)\nE\n) <<F\n)\nF\n)c ", Found::Token(0, 28)),
+        (b"\"$(a <<E\n\"\nE\n)\"b ", Found::Token(0, 16)),
+        (b"$(a <<E #)\n)\nE\n)b ", Found::Token(0, 17)),
+        (b"$(a <<E\n\0\nE\n)b ", Found::Nul(8)),
+        (b"$(a <<E\nx", Found::Unfinished),
+    ] {
+        assert_eq!(rt; find(rt, text, true), expected);
+    }
+    Ok(())
+}
+
 /// The text that opens so many levels, and closes them.
 fn nested(
     rt: HostRuntime,

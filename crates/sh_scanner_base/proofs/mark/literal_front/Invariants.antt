@@ -1,5 +1,5 @@
 use Rattle.std.proofs.Common.{◌≡◌, ◌++◌, length}
-use Rattle.sh_scanner_base.specs.Marks.{literal_front}
+use Rattle.sh_scanner_base.specs.Told.{literal_front}
 use Rattle.sh_scanner_base.proofs.mark.literal_front.Given as goal
 
 abbrev pub invariant-loop-first : goal.invariant-loop-first
