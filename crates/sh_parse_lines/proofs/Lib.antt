@@ -1,0 +1,5 @@
+pub mod Defined
+pub mod Sizes
+pub mod Refusals
+pub mod Decisions
+pub mod Turning

@@ -1,0 +1,9 @@
+pub mod Bodies
+pub mod Waiting
+pub mod Items
+pub mod Places
+pub mod Stream
+pub mod Fronts
+pub mod Reading
+pub mod Defined
+pub mod Turns
