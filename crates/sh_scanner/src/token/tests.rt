@@ -37,6 +37,10 @@ fn lengths(rt: HostRuntime) -> Result<(), Fail> {
         (b"$((1+(2*3)))x;".as_slice(), Some(13)),
         (b"${x:-'a}'}b ".as_slice(), Some(11)),
         (b"`a\\`b`c ".as_slice(), Some(7)),
+        (b"`a\\\\`b ".as_slice(), Some(6)),
+        (b"`\\$x`y ".as_slice(), Some(6)),
+        (b"`a\\b`c ".as_slice(), Some(6)),
+        (b"\"`a\\\"b`\"c ".as_slice(), Some(9)),
         (b"\"$(echo \")\")\"x ".as_slice(), Some(14)),
         (b"${x%\"}\"}y ".as_slice(), Some(9)),
         (b"$(a ".as_slice(), None),
@@ -235,23 +239,34 @@ fn nul_bytes(rt: HostRuntime) -> Result<(), Fail> {
 }
 
 /// No front of a word is a token where more may follow, and the whole word is one at the end of the input.
+/// Fronts that are a whole token at the end of the input, by their lengths; the others are unfinished, and each front is
+/// where the input goes on.
 #[test]
 fn fronts(rt: HostRuntime) -> Result<(), Fail> {
-    for text in [
-        b"$(case a in a) :;; esac)x".as_slice(),
-        b"${x:-'a'}'b'",
-        b"\"$(echo \")\" `a\\`b`)\"x",
-        b"$((1+(2*3)))$x$1",
-        b"x=$(a 2>b | { c; } &&\n(d))c",
+    for (text, whole) in [
+        (
+            b"$(case a in a) :;; esac)x".as_slice(),
+            [1usize, 24, 25].as_slice(),
+        ),
+        (b"${x:-'a'}'b'", &[1, 9, 12]),
+        (b"\"$(echo \")\" `a\\`b`)\"x", &[20, 21]),
+        (b"$((1+(2*3)))$x$1", &[1, 12, 13, 14, 15, 16]),
+        (b"x=$(a 2>b | { c; } &&\n(d))c", &[1, 2, 3, 26, 27]),
+        (b"$(a <<E\n)\nE\n)b", &[1, 13, 14]),
     ] {
         let mut rest = text;
         for _ in 0..text.len() {
+            let size = rest.len();
+            let mut expected = Found::Unfinished;
+            if whole.iter().any(|length| *length == size) {
+                expected = Found::Token(0, size);
+            }
             assert_eq!(rt; find(rt, rest, false), Found::Unfinished);
+            assert_eq!(rt; find(rt, rest, true), expected);
             if let Some((_, front)) = rest.split_last() {
                 rest = front;
             }
         }
-        assert_eq!(rt; find(rt, text, true), Found::Token(0, text.len()));
     }
     Ok(())
 }

@@ -1,0 +1,3 @@
+pub mod Expanding
+pub mod Fields
+pub mod Stand

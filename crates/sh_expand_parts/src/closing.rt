@@ -1,0 +1,273 @@
+//! What a word comes to once it is expanded.
+ghost use Rattle.std.specs.Prelude.{◌≡◌, ◌≢◌, IfOk, IfErr, OnOk, MatchResult};
+ghost use Rattle.std.specs.Fmt.{signed_decimal};
+ghost use Rattle.sh_vars.specs.Environment.{is_read_only};
+ghost use Rattle.sh_vars.specs.Names.{is_name};
+ghost use Rattle.sh_arith_base.specs.Lexical.{word_at};
+ghost use Rattle.sh_expand_base.specs.Text.{marks_of, text_of};
+ghost use Rattle.sh_expand_parts.specs.Calculations.{Agrees, Calculations, without_match};
+ghost use Rattle.sh_expand_parts.specs.Closings.{Closing, assigned, behind, closed, closing, computed, fault_of, removed};
+ghost use Rattle.sh_expand_parts.specs.Drafts.{joined, plain, text_items};
+
+use crate::context::Context;
+use crate::draft::{Draft, joiner, shown, text_draft};
+use crate::fault::{ArithmeticError, Fault};
+use crate::removal::removed;
+use crate::value::{Value, signed_decimal, text_from};
+use sh_arith::{ArithFault, evaluate};
+use sh_arith_base::first_word;
+use sh_expand_base::{Item, pattern_of, remove_quotes};
+use sh_syntax::sequence::{Sequence, Text};
+use sh_tree::tree::{Affix, Extent};
+use sh_vars::{Vars, VarsFault};
+use std::alloc::{AllocError, Global};
+
+/// What a word, or a word inside another one, is wanted for.
+#[derive(Debug, Drop)]
+pub enum Purpose {
+    /// It is a word of its own, expanded for this.
+    Word {
+        context: Context,
+    },
+    /// It stands for its form: in `${p-w}` and `${p+w}`.
+    Default,
+    /// It stands between double quotes.
+    Quotes,
+    /// `${x=w}`: it is assigned.
+    Assign {
+        name: Text,
+        context: Context,
+    },
+    /// `${p?w}`: it is a fault's message.
+    Report {
+        name: Text,
+    },
+    /// `${p%w}` and its like: it is a pattern.
+    Remove {
+        value: Value,
+        affix: Affix,
+        extent: Extent,
+        context: Context,
+    },
+    /// `$((w))`: it is an arithmetic expression.
+    Compute {
+        context: Context,
+    },
+}
+
+/// A word that is expanded up to its items: what is left is field splitting, pathname expansion and quote removal.
+#[derive(Debug, Drop)]
+pub struct ExpandedWord {
+    /// What it was expanded for.
+    pub context: Context,
+    pub items: Sequence<Item>,
+}
+
+/// What a word comes to once it is expanded.
+#[derive(Debug, Drop)]
+pub enum Closed {
+    /// The word around it, as far as it goes then.
+    Goes(Draft),
+    /// A whole word.
+    Ends(ExpandedWord),
+    /// A fault.
+    Fails(Fault),
+}
+
+/// A value behind what stood before.
+fn behind(
+    alloc: Global,
+    vars: &Vars,
+    context: Context,
+    mut saved: Draft,
+    value: &Value,
+) -> Result<Closed, AllocError>
+    ensures { IfOk result (λ c. closing c vars.now ≡ behind saved context vars.now value.now) }
+{
+    let items = shown(alloc, context, joiner(vars), value)?;
+    saved.append(&items)?;
+    Ok(Closed::Goes(saved))
+}
+
+/// `${x=w}`.
+fn assign(
+    alloc: Global,
+    vars: &mut Vars,
+    name: Text,
+    context: Context,
+    saved: Draft,
+    text: Text,
+) -> Result<Closed, AllocError>
+    ensures { IfOk result (λ c. closing c vars.new ≡ assigned (is_name name) (is_read_only vars.old name) name context saved text vars.old) }
+{
+    match vars.set(name.as_slice(), text.as_slice()) {
+        Ok(()) => {
+            let closed = behind(alloc, vars, context, saved, &Value::Scalar(text))?;
+            Ok(closed)
+        }
+        Err(VarsFault::ReadOnly) => Ok(Closed::Fails(Fault::ReadOnly { name })),
+        Err(VarsFault::BadName) => Ok(Closed::Fails(Fault::BadSubstitution)),
+        Err(VarsFault::NoMemory) => Err(AllocError),
+    }
+}
+
+/// The word that stands at a place.
+fn word_at(text: &[u8], place: usize) -> &[u8]
+    ensures { result.now ≡ word_at text.now place }
+{
+    match text.get(place..) {
+        Some(rest) => first_word(rest),
+        None => &[],
+    }
+}
+
+/// The fault of an expression.
+fn fault_of(alloc: Global, text: &[u8], fault: ArithFault) -> Result<Fault, AllocError>
+    ensures ok { IfOk result (λ f. f ≡ fault_of text.now fault) }
+    ensures memory { OnOk result (fault ≢ ArithFault.NoMemory) }
+{
+    match fault {
+        ArithFault::Syntax { at: _ } => Ok(Fault::Arithmetic(ArithmeticError::Syntax)),
+        ArithFault::DivideByZero => Ok(Fault::Arithmetic(ArithmeticError::DivisionByZero)),
+        ArithFault::NotANumber => Ok(Fault::Arithmetic(ArithmeticError::NotANumber)),
+        ArithFault::ReadOnly { at } => Ok(Fault::ReadOnly {
+            name: text_from(alloc, word_at(text, at))?,
+        }),
+        ArithFault::TooDeep => Ok(Fault::Arithmetic(ArithmeticError::TooDeep)),
+        ArithFault::NoMemory => Err(AllocError),
+        ArithFault::Unset { at } => Ok(Fault::Unset {
+            name: text_from(alloc, word_at(text, at))?,
+            message: None,
+        }),
+    }
+}
+
+/// A number behind what stood before.
+fn number_behind(
+    alloc: Global,
+    context: Context,
+    mut saved: Draft,
+    number: i64,
+) -> Result<Closed, AllocError>
+    ensures { IfOk result (λ c. c ≡ Closed.Goes (joined saved (plain (text_items context (signed_decimal number))))) }
+{
+    let digits = signed_decimal(alloc, number)?;
+    let items = text_draft(alloc, context, digits.as_slice())?;
+    saved.append(&items)?;
+    Ok(Closed::Goes(saved))
+}
+
+/// `$((w))`.
+fn compute(
+    alloc: Global,
+    vars: &mut Vars,
+    context: Context,
+    saved: Draft,
+    text: &[u8],
+) -> Result<Closed, AllocError>
+    ensures { IfOk result (λ r. (c : Calculations) → Agrees c → closing r vars.new ≡ computed context saved text.now (c.arithmetic text.now vars.old)) }
+{
+    match evaluate(alloc, text, vars) {
+        Ok(number) => {
+            let closed = number_behind(alloc, context, saved, number)?;
+            Ok(closed)
+        }
+        Err(fault) => {
+            let fault = fault_of(alloc, text, fault)?;
+            Ok(Closed::Fails(fault))
+        }
+    }
+}
+
+/// The text of a word.
+fn text_of(alloc: Global, items: &Sequence<Item>) -> Result<Text, AllocError>
+    ensures { IfOk result (λ text. text ≡ text_of items.now) }
+{
+    let bytes = remove_quotes(alloc, items.as_slice())?;
+    Ok(Text::from_vec(bytes))
+}
+
+/// `${p%w}` and its like.
+fn remove(
+    alloc: Global,
+    vars: &Vars,
+    value: &Value,
+    affix: Affix,
+    extent: Extent,
+    context: Context,
+    saved: Draft,
+    pattern: &Sequence<Item>,
+) -> Result<Closed, AllocError>
+    ensures { IfOk result (λ r. (c : Calculations) → Agrees c → closing r vars.now ≡ behind saved context vars.now (removed (without_match c affix extent (marks_of pattern.now)) value.now)) }
+{
+    let marks = pattern_of(alloc, pattern.as_slice())?;
+    let rest = removed(alloc, affix, extent, marks.as_slice(), value)?;
+    let closed = behind(alloc, vars, context, saved, &rest)?;
+    Ok(closed)
+}
+
+/// What a word comes to once it is expanded, behind what stood before it.
+///
+/// `${x=w}` sets the variable; it fails where that is read-only. `$((w))` evaluates, with its assignments, which stay
+/// where it fails. `${p?w}` fails always. The only error is want of memory; what the variables are then is left open.
+pub fn close(
+    alloc: Global,
+    vars: &mut Vars,
+    purpose: Purpose,
+    saved: Draft,
+    inner: Draft,
+) -> Result<Closed, AllocError>
+    ensures { IfOk result (λ r. (c : Calculations) → Agrees c → closing r vars.new ≡ closed c purpose saved inner vars.old) }
+{
+    match purpose {
+        Purpose::Word { context } => Ok(Closed::Ends(ExpandedWord {
+            context,
+            items: inner.items,
+        })),
+        Purpose::Default => {
+            let mut all = saved;
+            all.append(&inner)?;
+            Ok(Closed::Goes(all))
+        }
+        Purpose::Quotes => {
+            let mut all = saved;
+            all.append(&inner.quoted(alloc)?)?;
+            Ok(Closed::Goes(all))
+        }
+        Purpose::Assign { name, context } => {
+            let text = text_of(alloc, &inner.items)?;
+            let closed = assign(alloc, vars, name, context, saved, text)?;
+            Ok(closed)
+        }
+        Purpose::Report { name } => {
+            let text = text_of(alloc, &inner.items)?;
+            Ok(Closed::Fails(Fault::Unset {
+                name,
+                message: Some(text),
+            }))
+        }
+        Purpose::Remove {
+            value,
+            affix,
+            extent,
+            context,
+        } => {
+            let closed = remove(
+                alloc,
+                vars,
+                &value,
+                affix,
+                extent,
+                context,
+                saved,
+                &inner.items,
+            )?;
+            Ok(closed)
+        }
+        Purpose::Compute { context } => {
+            let text = text_of(alloc, &inner.items)?;
+            let closed = compute(alloc, vars, context, saved, text.as_slice())?;
+            Ok(closed)
+        }
+    }
+}

@@ -1,0 +1,98 @@
+//! Values without what a pattern matches (XCU 2.6.2).
+ghost use Rattle.std.specs.Prelude.{◌≡◌, ◌-◌, ◌≤◌, List, ℕ, IfOk, MatchOption, drop, length, map, take, option_map, Some, None};
+ghost use Rattle.sh_expand_parts.specs.Calculations.{Agrees, Calculations, without_length, without_match};
+ghost use Rattle.sh_expand_parts.specs.Closings.{removed};
+
+use crate::value::{Value, text_from};
+use sh_pattern::{Mark, longest_back, longest_front, shortest_back, shortest_front};
+use sh_syntax::sequence::{Sequence, Text};
+use sh_tree::tree::{Affix, Extent};
+use std::alloc::{AllocError, Global};
+
+/// How much of a text a pattern matches.
+fn matched(affix: Affix, extent: Extent, pattern: &[Mark], text: &[u8]) -> Option<usize>
+    ensures agrees { (c : Calculations) → Agrees c → c.matched affix extent pattern.now text.now ≡ result }
+    ensures within { MatchOption result (Unit {0}) (λ n. n ≤ length text.now) }
+{
+    match affix {
+        Affix::Prefix => match extent {
+            Extent::Smallest => shortest_front(pattern, text),
+            Extent::Largest => longest_front(pattern, text),
+        },
+        Affix::Suffix => match extent {
+            Extent::Smallest => shortest_back(pattern, text),
+            Extent::Largest => longest_back(pattern, text),
+        },
+    }
+}
+
+/// A text without its front or back of a length.
+fn without_length(affix: Affix, text: &[u8], count: Option<usize>) -> &[u8]
+    requires { MatchOption count (Unit {0}) (λ n. n ≤ length text.now) }
+    ensures { result.now ≡ without_length affix text.now count }
+{
+    let Some(count) = count else { return text };
+    match affix {
+        Affix::Prefix => &text[count..],
+        Affix::Suffix => &text[..text.len() - count],
+    }
+}
+
+/// A text without what a pattern matches.
+fn without_match(
+    alloc: Global,
+    affix: Affix,
+    extent: Extent,
+    pattern: &[Mark],
+    text: &[u8],
+) -> Result<Text, AllocError>
+    ensures { IfOk result (λ t. (c : Calculations) → Agrees c → t ≡ without_match c affix extent pattern.now text.now) }
+{
+    let count = matched(affix, extent, pattern, text);
+    let rest = text_from(alloc, without_length(affix, text, count))?;
+    Ok(rest)
+}
+
+/// Each of the texts without what a pattern matches.
+fn all_without_match(
+    alloc: Global,
+    affix: Affix,
+    extent: Extent,
+    pattern: &[Mark],
+    texts: &[Text],
+) -> Result<Sequence<Text>, AllocError>
+    ensures { IfOk result (λ all. (c : Calculations) → Agrees c → all ≡ map (without_match c affix extent pattern.now) texts.now) }
+{
+    let mut all = Sequence::new(alloc);
+    for text in texts {
+        all.push(without_match(alloc, affix, extent, pattern, text.as_slice())?)?;
+    }
+    Ok(all)
+}
+
+/// A value without what a pattern matches, each of several parameters by itself.
+pub(crate) fn removed(
+    alloc: Global,
+    affix: Affix,
+    extent: Extent,
+    pattern: &[Mark],
+    value: &Value,
+) -> Result<Value, AllocError>
+    ensures { IfOk result (λ v. (c : Calculations) → Agrees c → v ≡ removed (without_match c affix extent pattern.now) value.now) }
+{
+    match value {
+        Value::Unset => Ok(Value::Unset),
+        Value::Scalar(text) => {
+            let rest = without_match(alloc, affix, extent, pattern, text.as_slice())?;
+            Ok(Value::Scalar(rest))
+        }
+        Value::Each(texts) => {
+            let rests = all_without_match(alloc, affix, extent, pattern, texts.as_slice())?;
+            Ok(Value::Each(rests))
+        }
+        Value::Joined(texts) => {
+            let rests = all_without_match(alloc, affix, extent, pattern, texts.as_slice())?;
+            Ok(Value::Joined(rests))
+        }
+    }
+}

@@ -1,0 +1,4 @@
+pub mod Begins
+pub mod Forms
+pub mod Steps
+pub mod Turns

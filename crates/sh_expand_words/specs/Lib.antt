@@ -1,0 +1,5 @@
+pub mod Expansion
+pub mod Laws
+pub mod Parts
+pub mod Stand
+pub mod Weights
