@@ -1,0 +1,9 @@
+pub mod FileWaits
+pub mod Lists
+pub mod Cases
+pub mod Requesting
+pub mod Growing
+pub mod Frames
+pub mod Owning
+pub mod Screens
+pub mod Reached

@@ -1,0 +1,229 @@
+-- A request doesn't let its process reach more, and lists of requests change what one does.
+use Rattle.std.proofs.Common.{◌≡◌, ℕ, zero, suc, ◌+◌, ◌<◌, ◌≤◌, List, [], ◌∷◌, ◌++◌, length, map, filter, Bool, true, false, cond, ◌&&◌, ◌||◌, ◌==◌, Option, Some, None, position, slice_get, slice_set, refl, sym, ap, ◌∙◌, arith, nat_lt, option_map, Result}
+use Rattle.std.specs.Option.{option_map_or}
+use Rattle.std.proofs.lemmas.Bool.{eqb-true}
+use borrow.Author.Tests.{ltb-true, ltb-false}
+use Rattle.sh_files.specs.Nodes.{FileMap}
+use Rattle.sh_files.specs.declared.fault.FileFault.{FileFault}
+use Rattle.sh_files.specs.declared.opening.Opening.{Opening}
+use Rattle.sh_files_base.specs.declared.node.Node.{Node}
+use Rattle.sh_files_base.specs.declared.node.Node.TheVariants as node
+use Rattle.sh_kernel_base.specs.Closings.{left}
+use Rattle.sh_kernel_base.specs.Descriptors.{is_named, reads_from, writes_to}
+use Rattle.sh_kernel_base.specs.Machine.{MachineState}
+use Rattle.sh_kernel_base.specs.Naming.{end_of, renamed, renamed_at, renumbered, with_number, with_pipe}
+use Rattle.sh_kernel_base.specs.Opening.{description_of, target_of}
+use Rattle.sh_kernel_base.specs.Processes.{copies, is_copied, next_pid, of_process}
+use Rattle.sh_kernel_base.specs.Reading.{moved}
+use Rattle.sh_kernel_base.specs.declared.descriptor.Closing.TheVariants.{Named, All}
+use Rattle.sh_kernel_base.specs.declared.descriptor.Descriptor.{Descriptor}
+use Rattle.sh_kernel_base.specs.declared.descriptor.Name.{Name}
+use Rattle.sh_kernel_base.specs.declared.descriptor.Name.TheVariants.{Number, Aside}
+use Rattle.sh_kernel_base.specs.declared.description.Description.{Description}
+use Rattle.sh_kernel_base.specs.declared.description.Target.{Target}
+use Rattle.sh_kernel_base.specs.declared.description.Target.TheVariants.{ReadEnd, WriteEnd}
+use Rattle.sh_kernel.specs.State.{KernelState}
+use Rattle.sh_kernel.specs.Laws.{ChangesOnlyReached, ListsChangeOnlyReached, ListsLeaveOwned, ListsOnlyGrow, OnlyGrows, ReachesNoMore, RequestsReachNoMore, is_opened, opens, opens_any, target_at}
+use Rattle.sh_kernel.specs.Reaching.{is_end, is_file, is_node, reaches}
+use Rattle.sh_kernel.specs.Requests.{Request, after_request, after_requests}
+use Rattle.sh_kernel.proofs.Frames.{keeps_same, more_fails, new_ends, opened_end, reaches_left, reaches_no_more, reaches_one_more, requests_change}
+use Rattle.sh_kernel.proofs.Growing.{grows_same, grows_then, moved_length, requests_grow}
+use Rattle.sh_kernel.proofs.Lists.{false_of, or_left, or_right}
+use Rattle.sh_kernel.proofs.Owning.{owned_stays}
+use Rattle.sh_kernel.proofs.Requesting.{by_cases}
+
+-- ---- descriptors
+-- what fails at new numbers, and wherever the process reaches, still does
+record Unreached (pid : ℕ) (old new : MachineState) : Type 0 where
+  fails : (test : ℕ → Bool) → reaches old.descriptors pid test ≡ false → ((k : ℕ) → length old.descriptions ≤ k → test k ≡ false) → reaches new.descriptors pid test ≡ false
+
+reaches_append : (xs ys : List Descriptor) (pid : ℕ) (test : ℕ → Bool) → reaches xs pid test ≡ false → reaches ys pid test ≡ false → reaches (xs ++ ys) pid test ≡ false
+reaches_append [] ys pid test h k = k
+reaches_append (d ∷ xs) ys pid test h k =
+    ap (λ (c : Bool). c || reaches (xs ++ ys) pid test) (or_left ((d.pid == pid) && test d.description) (reaches xs pid test) h)
+    ∙ reaches_append xs ys pid test (or_right ((d.pid == pid) && test d.description) (reaches xs pid test) h) k
+
+reaches_copies : (ds : List Descriptor) (pid child : ℕ) (test : ℕ → Bool) → reaches ds pid test ≡ false → reaches (copies ds pid child) pid test ≡ false
+reaches_copies [] pid child test h = refl
+reaches_copies (d ∷ ds) pid child test h =
+    of_test (is_copied pid d) refl (reaches_copies ds pid child test (or_right ((d.pid == pid) && test d.description) (reaches ds pid test) h)) (or_left ((d.pid == pid) && test d.description) (reaches ds pid test) h)
+  where
+    fails_own : (a b c : Bool) → (a && b) ≡ true → (a && c) ≡ false → c ≡ false
+    fails_own true b c e h = h
+    fails_own false b c e h = absurd (cc)
+
+    and_false : (b c : Bool) → c ≡ false → (b && c) ≡ false
+    and_false true c h = h
+    and_false false c h = refl
+
+    of_test : (b : Bool) → is_copied pid d ≡ b → reaches (copies ds pid child) pid test ≡ false → ((d.pid == pid) && test d.description) ≡ false → reaches (map (of_process child) (cond b (d ∷ filter (is_copied pid) ds) (filter (is_copied pid) ds))) pid test ≡ false
+    of_test false e rest h = rest
+    of_test true e rest h =
+        ap (λ (c : Bool). c || reaches (copies ds pid child) pid test) (and_false (child == pid) (test d.description) (fails_own (d.pid == pid) _ (test d.description) e h)) ∙ rest
+
+reaches_set : (ds : List Descriptor) (i : ℕ) (d : Descriptor) (number : Option ℕ) (pid : ℕ) (test : ℕ → Bool) → slice_get ds i ≡ Some d → reaches (slice_set ds i (record d { number = number })) pid test ≡ reaches ds pid test
+reaches_set [] i d number pid test h = refl
+reaches_set (y ∷ ds) zero d number pid test h =
+    let same : y ≡ d = cc in
+    ap (λ (z : Descriptor). ((z.pid == pid) && test z.description) || reaches ds pid test) (sym same)
+reaches_set (y ∷ ds) (suc i) d number pid test h = ap (λ (c : Bool). ((y.pid == pid) && test y.description) || c) (reaches_set ds i d number pid test h)
+
+reaches_renamed : (ds : List Descriptor) (q : ℕ) (name : Name) (number : Option ℕ) (pid : ℕ) (test : ℕ → Bool) → reaches ds pid test ≡ false → reaches (renamed ds q name number) pid test ≡ false
+reaches_renamed ds q name number pid test h = of_place (position (is_named q name) ds)
+  where
+    of_entry : (i : ℕ) (o : Option Descriptor) → slice_get ds i ≡ o → reaches (renumbered ds number i o) pid test ≡ false
+    of_entry i None is = h
+    of_entry i (Some d) is = reaches_set ds i d number pid test is ∙ h
+
+    of_place : (o : Option ℕ) → reaches (renamed_at ds number o) pid test ≡ false
+    of_place None = h
+    of_place (Some i) = of_entry i (slice_get ds i) refl
+
+unreached : (s : KernelState) (pid : ℕ) (r : Request) → Unreached pid s.machine (after_request s pid r).machine
+unreached s pid r =
+    let m = s.machine in
+    let ds = m.descriptors in
+    by_cases s pid r (λ m'. Unreached pid m m') (record {
+      same = record { fails = λ test h new. h };
+      goes_on = λ k offset held. record { fails = λ test h new. h };
+      pipe = λ k pipe slot held end. record { fails = λ test h new. h };
+      file = λ k node start end bytes files held file written. record { fails = λ test h new. h };
+      closes = λ closing. record { fails = λ test h new. reaches_left pid closing ds test h };
+      ends = λ status. record { fails = λ test h new. reaches_left pid All ds test h };
+      numbers = λ number k held. record { fails = λ test h new. reaches_one_more (left pid (Named (Number number)) ds) _ pid test (reaches_left pid (Named (Number number)) ds test h) (held.fails test h) };
+      renames = λ name number. record { fails = λ test h new. reaches_renamed ds pid name number pid test h };
+      back = λ k number. record { fails = λ test h new. reaches_renamed (left pid (Named (Number number)) ds) pid (Aside k) (Some number) pid test (reaches_left pid (Named (Number number)) ds test h) };
+      forks = record { fails = λ test h new. reaches_append ds _ pid test h (reaches_copies ds pid (next_pid m.processes) test h) };
+      makes_pipe = λ from to. record {
+        fails = λ test h new.
+            let first = with_number (with_pipe m) pid from (length m.descriptions) in
+            let at_first : reaches first.descriptors pid test ≡ false = reaches_one_more (left pid (Named (Number from)) ds) _ pid test (reaches_left pid (Named (Number from)) ds test h) (new (length m.descriptions) (omega arith)) in
+            reaches_one_more (left pid (Named (Number to)) first.descriptors) _ pid test (reaches_left pid (Named (Number to)) first.descriptors test at_first) (new (length m.descriptions + 1) (omega arith));
+      };
+      opens = λ directory path how append number o is at. record { fails = λ test h new. reaches_one_more (left pid (Named (Number number)) ds) _ pid test (reaches_left pid (Named (Number number)) ds test h) (new (length m.descriptions) (omega arith)) };
+    })
+
+-- ---- descriptions
+-- a new description is no end of a pipe that was there, and of no file but one that was opened
+record NewFails (opens : ℕ → Bool) (old new : MachineState) : Type 0 where
+  ends : (q k : ℕ) → q < length old.pipes → length old.descriptions ≤ k → is_end new.descriptions q k ≡ false
+  files : (n k : ℕ) → opens n ≡ false → length old.descriptions ≤ k → is_file new.descriptions n k ≡ false
+
+past_all : (es : List Description) (f : Description → Bool) (k : ℕ) → length es ≤ k → option_map_or f (slice_get es k) false ≡ false
+past_all [] f k h = refl
+past_all (e ∷ es) f zero h = absurd (omega arith)
+past_all (e ∷ es) f (suc k) h = past_all es f k (omega arith)
+
+abbrev ends_of : ℕ → Description → Bool
+ends_of q e = reads_from q e.target || writes_to q e.target
+
+abbrev files_of : ℕ → Description → Bool
+files_of n e = is_node n e.target
+
+new_same : (op : ℕ → Bool) (m m' : MachineState) → length m'.descriptions ≡ length m.descriptions → NewFails op m m'
+new_same op m m' same = record {
+  ends = λ q k within h. past_all m'.descriptions (ends_of q) k (omega (arith, same, h));
+  files = λ n k unopened h. past_all m'.descriptions (files_of n) k (omega (arith, same, h));
+}
+
+-- the new ends of a pipe are of no file
+new_ends_no_file : (pipe n j : ℕ) → option_map_or (files_of n) (slice_get (end_of (ReadEnd pipe) true ∷ end_of (WriteEnd pipe) false ∷ []) j) false ≡ false
+new_ends_no_file pipe n zero = refl
+new_ends_no_file pipe n (suc zero) = refl
+new_ends_no_file pipe n (suc (suc j)) = refl
+
+-- what was opened is of the file of its number alone
+only_its_file : (a n : ℕ) (o : Option Node) → (a == n) ≡ false → is_node n (target_of a o) ≡ false
+only_its_file a n None h = h
+only_its_file a n (Some node.Directory) h = h
+only_its_file a n (Some (node.File file)) h = h
+only_its_file a n (Some node.Null) h = refl
+only_its_file a n (Some node.Terminal) h = refl
+
+opened_file : (a n : ℕ) (o : Option Node) (how : Opening) (append : Bool) (j : ℕ) → (a == n) ≡ false → option_map_or (files_of n) (slice_get (description_of (target_of a o) how append ∷ []) j) false ≡ false
+opened_file a n o how append zero h = only_its_file a n o h
+opened_file a n o how append (suc j) h = refl
+
+new_fails : (s : KernelState) (pid : ℕ) (r : Request) → NewFails (opens s.machine r) s.machine (after_request s pid r).machine
+new_fails s pid r =
+    let m = s.machine in
+    let op = opens m r in
+    by_cases s pid r (λ m'. NewFails op m m') (record {
+      same = new_same op m m refl;
+      goes_on = λ k offset held. new_same op m (record m { descriptions = moved m.descriptions k offset }) (moved_length m.descriptions k offset (slice_get m.descriptions k));
+      pipe = λ k pipe slot held end. new_same op m (record m { pipes = slice_set m.pipes pipe slot }) refl;
+      file = λ k node start end bytes files held file written. new_same op m (record m { files = files; descriptions = moved m.descriptions k end }) (moved_length m.descriptions k end (slice_get m.descriptions k));
+      closes = λ closing. record { ends = (new_same op m m refl).ends; files = (new_same op m m refl).files };
+      ends = λ status. record { ends = (new_same op m m refl).ends; files = (new_same op m m refl).files };
+      numbers = λ number k held. record { ends = (new_same op m m refl).ends; files = (new_same op m m refl).files };
+      renames = λ name number. record { ends = (new_same op m m refl).ends; files = (new_same op m m refl).files };
+      back = λ k number. record { ends = (new_same op m m refl).ends; files = (new_same op m m refl).files };
+      forks = record { ends = (new_same op m m refl).ends; files = (new_same op m m refl).files };
+      makes_pipe = λ from to. record {
+        ends = λ q k within h. more_fails m.descriptions _ (ends_of q) k (new_ends (length m.pipes) q within) (past_all m.descriptions (ends_of q) k h);
+        files = λ n k unopened h. more_fails m.descriptions _ (files_of n) k (new_ends_no_file (length m.pipes) n) (past_all m.descriptions (files_of n) k h);
+      };
+      opens = λ directory path how append number o is at. record {
+        ends = λ q k within h. more_fails m.descriptions _ (ends_of q) k (opened_end o.0 (slice_get o.1.nodes o.0) how append q) (past_all m.descriptions (ends_of q) k h);
+        files = λ n k unopened h.
+            let other : (o.0 == n) ≡ false = sym (ap (λ (x : Result (ℕ × FileMap) FileFault). is_opened n x) at) ∙ sym (ap (λ (x : Request). opens m x n) is) ∙ unopened in
+            more_fails m.descriptions _ (files_of n) k (λ j. opened_file o.0 n (slice_get o.1.nodes o.0) how append j other) (past_all m.descriptions (files_of n) k h);
+      };
+    })
+
+-- ---- both
+-- a test on targets
+by_target : (f : Target → Bool) (o : Option Description) → option_map_or (λ (e : Description). f e.target) o false ≡ option_map_or f (option_map (λ (e : Description). e.target) o) false
+by_target f None = refl
+by_target f (Some e) = refl
+
+still_fails : (f : Target → Bool) (es es' : List Description) (k : ℕ) → ((j : ℕ) → j < length es → target_at es' j ≡ target_at es j) → (length es ≤ k → option_map_or (λ (e : Description). f e.target) (slice_get es' k) false ≡ false) → option_map_or (λ (e : Description). f e.target) (slice_get es k) false ≡ false → option_map_or (λ (e : Description). f e.target) (slice_get es' k) false ≡ false
+still_fails f es es' k old new h = of_test (nat_lt k (length es)) refl
+  where
+    of_test : (b : Bool) → nat_lt k (length es) ≡ b → option_map_or (λ (e : Description). f e.target) (slice_get es' k) false ≡ false
+    of_test true t = by_target f (slice_get es' k) ∙ ap (λ (o : Option Target). option_map_or f o false) (old k (ltb-true k (length es) t)) ∙ sym (by_target f (slice_get es k)) ∙ h
+    of_test false t = new (ltb-false k (length es) t)
+
+pub reach_no_more : RequestsReachNoMore
+reach_no_more s pid r =
+    let m = s.machine in
+    let m' = (after_request s pid r).machine in
+    let u = unreached s pid r in
+    let f = new_fails s pid r in
+    let g = requests_grow s pid r in
+    record {
+      pipes = λ q within h.
+          u.fails (is_end m'.descriptions q) (reaches_no_more m.descriptors pid (is_end m.descriptions q) (is_end m'.descriptions q) (λ k e. still_fails (λ t. reads_from q t || writes_to q t) m.descriptions m'.descriptions k g.targets (λ past. f.ends q k within past) e) h) (λ k past. f.ends q k within past);
+      files = λ n h unopened.
+          u.fails (is_file m'.descriptions n) (reaches_no_more m.descriptors pid (is_file m.descriptions n) (is_file m'.descriptions n) (λ k e. still_fails (is_node n) m.descriptions m'.descriptions k g.targets (λ past. f.files n k unopened past) e) h) (λ k past. f.files n k unopened past);
+      descriptions = λ k within h. u.fails (λ j. j == k) h (λ j past. false_of (j == k) (λ t. let e : j ≡ k = eqb-true j k t in omega (arith, past, within, e)));
+    }
+
+-- ---- lists of requests
+changes_then : (pid : ℕ) (op op' : ℕ → Bool) (a b c : MachineState) → OnlyGrows a b → ReachesNoMore pid op a b → ChangesOnlyReached pid op a b → ChangesOnlyReached pid op' b c → ChangesOnlyReached pid (λ n. op n || op' n) a c
+changes_then pid op op' a b c grow less f g = record {
+  pipes = λ q within h. let within' : q < length b.pipes = omega (arith, grow.pipes) in g.pipes q within' (less.pipes q within h) ∙ f.pipes q within h;
+  files = λ n within h unopened.
+      let within' : n < length b.files.nodes = omega (arith, grow.files) in
+      let first : op n ≡ false = or_left (op n) (op' n) unopened in
+      g.files n within' (less.files n h first) (or_right (op n) (op' n) unopened) ∙ f.files n within h first;
+  descriptions = λ k within h. let within' : k < length b.descriptions = omega (arith, grow.descriptions) in g.descriptions k within' (less.descriptions k within h) ∙ f.descriptions k within h;
+  descriptors = λ q n born. let born' : q < next_pid b.processes = omega (arith, grow.processes) in g.descriptors q n born' ∙ f.descriptors q n born;
+  processes = λ q n born. let born' : q < next_pid b.processes = omega (arith, grow.processes) in g.processes q n born' ∙ f.processes q n born;
+}
+
+pub lists_change : ListsChangeOnlyReached
+lists_change s pid [] = keeps_same pid (λ n. false) s.machine
+lists_change s pid (r ∷ rs) =
+    changes_then pid (opens s.machine r) (opens_any (after_request s pid r) pid rs) s.machine (after_request s pid r).machine (after_requests (after_request s pid r) pid rs).machine (requests_grow s pid r) (reach_no_more s pid r) (requests_change s pid r) (lists_change (after_request s pid r) pid rs)
+
+pub lists_grow : ListsOnlyGrow
+lists_grow s pid [] = grows_same s.machine
+lists_grow s pid (r ∷ rs) =
+    grows_then s.machine (after_request s pid r).machine (after_requests (after_request s pid r) pid rs).machine (requests_grow s pid r) (lists_grow (after_request s pid r) pid rs)
+
+pub lists_leave_owned : ListsLeaveOwned
+lists_leave_owned s pid q [] test n within own = own
+lists_leave_owned s pid q (r ∷ rs) test n within own =
+    let grow = requests_grow s q r in
+    lists_leave_owned (after_request s q r) pid q rs test n (λ k t. let old : k < length s.machine.descriptions = within k t in omega (arith, old, grow.descriptions)) (owned_stays s pid q r test n within own).0

@@ -1,0 +1,5 @@
+use Rattle.sh_kernel.proofs.Screens.{terminal_stays}
+use Rattle.sh_kernel.proofs.laws.the_terminal_is_reached.Goals as goal
+
+pub returns : goal.returns
+returns c = terminal_stays

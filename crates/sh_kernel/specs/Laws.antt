@@ -1,0 +1,112 @@
+-- Laws of one request, whatever the state, the process and the request.
+use Rattle.std.specs.Prelude.{◌≡◌, ◌≢◌, ℕ, ◌<◌, ◌≤◌, ◌==◌, ◌++◌, ◌||◌, List, [], ◌∷◌, length, filter, Bool, true, false, Option, Some, slice_get, Result, Ok, Err}
+use Rattle.std.specs.FinMap.{get}
+use Rattle.sh_tty.specs.Happenings.{bytes_of}
+use Rattle.std.specs.Option.{option_map}
+use Rattle.sh_files.specs.Nodes.{FileMap, opened}
+use Rattle.sh_files.specs.declared.fault.FileFault.{FileFault}
+use Rattle.sh_kernel_base.specs.Machine.{MachineState}
+use Rattle.sh_kernel_base.specs.Processes.{next_pid, process_at}
+use Rattle.sh_kernel_base.specs.declared.descriptor.Descriptor.{Descriptor}
+use Rattle.sh_kernel_base.specs.declared.description.Description.{Description}
+use Rattle.sh_kernel_base.specs.declared.description.Target.{Target}
+use Rattle.sh_kernel.specs.State.{KernelState}
+use Rattle.sh_kernel.specs.Requests.{Request, Read, Write, Close, Duplicate, MakePipe, Open, SetAside, PutBack, Fork, StartProgram, End, after_request, after_requests}
+use Rattle.sh_kernel.specs.Reaching.{reaches, is_end, is_file, is_screen}
+
+-- ---- what a request opens
+abbrev pub is_opened : ℕ → Result (ℕ × FileMap) FileFault → Bool
+is_opened node (Ok o) = o.0 == node
+is_opened node (Err fault) = false
+
+-- the request opens the file of this node
+abbrev pub opens : MachineState → Request → ℕ → Bool
+opens m (Read name count) node = false
+opens m (Write number bytes) node = false
+opens m (Close name) node = false
+opens m (Duplicate name to) node = false
+opens m (MakePipe from to) node = false
+opens m (Open directory path how append number) node = is_opened node (opened m.files directory path how)
+opens m (SetAside number) node = false
+opens m (PutBack aside number) node = false
+opens m Fork node = false
+opens m StartProgram node = false
+opens m (End status) node = false
+
+-- ---- what a process can change
+-- a process changed no pipe, file or description but those that it reached, and the files that it opened; and no other
+-- process that was there
+pub record ChangesOnlyReached (pid : ℕ) (opens : ℕ → Bool) (old new : MachineState) : Type 0 where
+  pub pipes : (pipe : ℕ) → pipe < length old.pipes → reaches old.descriptors pid (is_end old.descriptions pipe) ≡ false → slice_get new.pipes pipe ≡ slice_get old.pipes pipe
+  pub files : (node : ℕ) → node < length old.files.nodes → reaches old.descriptors pid (is_file old.descriptions node) ≡ false → opens node ≡ false → slice_get new.files.nodes node ≡ slice_get old.files.nodes node
+  pub descriptions : (k : ℕ) → k < length old.descriptions → reaches old.descriptors pid (λ j. j == k) ≡ false → slice_get new.descriptions k ≡ slice_get old.descriptions k
+  pub descriptors : (q : ℕ) → q ≢ pid → q < next_pid old.processes → filter (λ d. d.pid == q) new.descriptors ≡ filter (λ d. d.pid == q) old.descriptors
+  pub processes : (q : ℕ) → q ≢ pid → q < next_pid old.processes → process_at new.processes q ≡ process_at old.processes q
+
+-- nor does it come to reach what it didn't reach, but for what is new and for the files that it opened
+pub record ReachesNoMore (pid : ℕ) (opens : ℕ → Bool) (old new : MachineState) : Type 0 where
+  pub pipes : (pipe : ℕ) → pipe < length old.pipes → reaches old.descriptors pid (is_end old.descriptions pipe) ≡ false → reaches new.descriptors pid (is_end new.descriptions pipe) ≡ false
+  pub files : (node : ℕ) → reaches old.descriptors pid (is_file old.descriptions node) ≡ false → opens node ≡ false → reaches new.descriptors pid (is_file new.descriptions node) ≡ false
+  pub descriptions : (k : ℕ) → k < length old.descriptions → reaches old.descriptors pid (λ j. j == k) ≡ false → reaches new.descriptors pid (λ j. j == k) ≡ false
+
+abbrev pub RequestsChangeOnlyReached : Type 0
+RequestsChangeOnlyReached =
+    (s : KernelState) (pid : ℕ) (r : Request) → ChangesOnlyReached pid (opens s.machine r) s.machine (after_request s pid r).machine
+
+abbrev pub RequestsReachNoMore : Type 0
+RequestsReachNoMore =
+    (s : KernelState) (pid : ℕ) (r : Request) → ReachesNoMore pid (opens s.machine r) s.machine (after_request s pid r).machine
+
+-- the terminal has part in a request only where the process reaches it
+abbrev pub TerminalIsReached : Type 0
+TerminalIsReached =
+    (s : KernelState) (pid : ℕ) (r : Request) → reaches s.machine.descriptors pid (is_screen s.machine.descriptions) ≡ false → (after_request s pid r).terminal ≡ s.terminal
+
+-- ---- what one process alone has
+-- each descriptor of a description that passes is of this process
+abbrev pub IsOwned : ℕ → (ℕ → Bool) → List Descriptor → Type 0
+IsOwned pid test [] = Unit {0}
+IsOwned pid test (d ∷ ds) = (test d.description ≡ true → d.pid ≡ pid) × IsOwned pid test ds
+
+-- what one process alone has, no request of another reaches, and no other comes to have
+abbrev pub OwnedStaysOwned : Type 0
+OwnedStaysOwned =
+    (s : KernelState) (pid q : ℕ) (r : Request) (test : ℕ → Bool) → q ≢ pid → ((k : ℕ) → test k ≡ true → k < length s.machine.descriptions) → IsOwned pid test s.machine.descriptors
+    → IsOwned pid test (after_request s q r).machine.descriptors × (reaches s.machine.descriptors q test ≡ false)
+
+-- ---- what stays and what grows
+abbrev pub target_at : List Description → ℕ → Option Target
+target_at es k = option_map (λ e. e.target) (slice_get es k)
+
+pub record OnlyGrows (old new : MachineState) : Type 0 where
+  pub targets : (k : ℕ) → k < length old.descriptions → target_at new.descriptions k ≡ target_at old.descriptions k
+  pub descriptions : length old.descriptions ≤ length new.descriptions
+  pub pipes : length old.pipes ≤ length new.pipes
+  pub processes : length old.processes ≤ length new.processes
+  pub files : length old.files.nodes ≤ length new.files.nodes
+  pub paths : (path : List ℕ) (node : ℕ) → get old.files.paths path ≡ Some node → get new.files.paths path ≡ Some node
+
+-- what a description is of never changes, a path goes on to name what it names, and numbers only grow
+abbrev pub RequestsOnlyGrow : Type 0
+RequestsOnlyGrow = (s : KernelState) (pid : ℕ) (r : Request) → OnlyGrows s.machine (after_request s pid r).machine
+
+-- what the terminal shows only grows
+abbrev pub TerminalOnlyGrows : Type 0
+TerminalOnlyGrows = (s : KernelState) (pid : ℕ) (r : Request) → (more : List ℕ) × (bytes_of (after_request s pid r).terminal ≡ bytes_of s.terminal ++ more)
+
+-- ---- the requests that a process makes one after another, as in one turn
+abbrev pub opens_any : KernelState → ℕ → List Request → ℕ → Bool
+opens_any s pid [] node = false
+opens_any s pid (r ∷ rs) node = opens s.machine r node || opens_any (after_request s pid r) pid rs node
+
+abbrev pub ListsChangeOnlyReached : Type 0
+ListsChangeOnlyReached =
+    (s : KernelState) (pid : ℕ) (rs : List Request) → ChangesOnlyReached pid (opens_any s pid rs) s.machine (after_requests s pid rs).machine
+
+abbrev pub ListsOnlyGrow : Type 0
+ListsOnlyGrow = (s : KernelState) (pid : ℕ) (rs : List Request) → OnlyGrows s.machine (after_requests s pid rs).machine
+
+abbrev pub ListsLeaveOwned : Type 0
+ListsLeaveOwned =
+    (s : KernelState) (pid q : ℕ) (rs : List Request) (test : ℕ → Bool) → q ≢ pid → ((k : ℕ) → test k ≡ true → k < length s.machine.descriptions) → IsOwned pid test s.machine.descriptors
+    → IsOwned pid test (after_requests s q rs).machine.descriptors

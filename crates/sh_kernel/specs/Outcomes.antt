@@ -1,0 +1,20 @@
+-- What a contract says of a call of a kernel.
+use Rattle.std.specs.Prelude.{◌≡◌, ◌≢◌, ℕ, List, take, drop, Result, Ok, Err}
+use Rattle.sh_kernel_base.specs.Outcomes.{Done}
+use Rattle.sh_kernel_base.specs.declared.fault.KernelFault.{KernelFault}
+use Rattle.sh_kernel_base.specs.declared.fault.KernelFault.TheVariants.{NoMemory}
+use Rattle.sh_kernel.specs.State.{KernelKept, KernelState, StandsAt}
+
+-- the answer is that of the call, and what is kept then is that of the state after it
+abbrev pub Gives : {A : Type 0} → Result A KernelFault → KernelKept → Done KernelState A → Type 0
+Gives result new d = (d.answer ≡ result) × StandsAt new d.after
+
+-- the same, unless no memory was found: then what is kept is still that of the state before
+abbrev pub GivesOrLacks : {A : Type 0} → Result A KernelFault → KernelKept → KernelState → Done KernelState A → Type 0
+GivesOrLacks (Ok a) new s d = Gives (Ok a) new d
+GivesOrLacks (Err fault) new s d = (fault ≢ NoMemory → Gives (Err fault) new d) × (fault ≡ NoMemory → StandsAt new s)
+
+-- the same of a read: its bytes stand at the front of the buffer, which is else as it was
+abbrev pub GivesRead : Result ℕ KernelFault → List ℕ → List ℕ → KernelKept → Done KernelState (List ℕ) → Type 0
+GivesRead (Ok n) buf buf' new d = (d.answer ≡ Ok (take n buf')) × (drop n buf' ≡ drop n buf) × StandsAt new d.after
+GivesRead (Err fault) buf buf' new d = (d.answer ≡ Err fault) × (buf' ≡ buf) × StandsAt new d.after

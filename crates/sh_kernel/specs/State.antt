@@ -1,0 +1,28 @@
+-- A kernel: its processes with what they have open, its files, and its terminal.
+use Rattle.std.specs.Prelude.{◌≡◌, ℕ, List, []}
+use Rattle.sh_files.specs.Nodes.{FileMap}
+use Rattle.sh_kernel_base.specs.Machine.{MachineState}
+use Rattle.sh_kernel_base.specs.Starting as machine
+use Rattle.sh_tty.specs.Happenings.{Happening}
+use Rattle.sh_tty.specs.Kept as tty
+
+-- the terminal is the list of all that happened to it, the newest first; its foreground process group has a number
+pub record KernelState : Type 0 where
+  pub machine : MachineState
+  pub terminal : List Happening
+  pub foreground : ℕ
+
+-- what a kernel keeps of it
+pub record KernelKept : Type 0 where
+  pub machine : MachineState
+  pub terminal : tty.TtyKept
+
+-- what is kept is that of this state
+pub record StandsAt (kept : KernelKept) (s : KernelState) : Type 0 where
+  pub machine : kept.machine ≡ s.machine
+  pub terminal : tty.StandsAt kept.terminal s.terminal
+  pub foreground : kept.terminal.foreground ≡ s.foreground
+
+-- the first process alone, whose group is the foreground group
+abbrev pub starting : FileMap → KernelState
+starting files = record { machine = machine.starting files; terminal = []; foreground = 100 }

@@ -1,0 +1,287 @@
+//! The kernel.
+ghost use Rattle.std.specs.Prelude.{◌≡◌, ℕ, List, IfOk, length};
+
+use crate::machine::Machine;
+use crate::next::Next;
+use sh_files::{Files, Opening};
+use sh_kernel_base::{FIRST_PID, KernelFault, Name, Status};
+use sh_tty::{Tty, TtyFault};
+use std::alloc::{AllocError, Global};
+use std::marker::Model;
+
+/// Processes, what they have open, files and one terminal.
+///
+/// Processes, open file descriptions and pipes have numbers that go up by creation, processes from
+/// [`FIRST_PID`](crate::FIRST_PID); none is used again. A process calls a descriptor by its number, or, where it set it
+/// aside, by that of its description ([`Name`]).
+///
+/// A kernel stands at a state, and each call is one change of that state by the process that makes it. After each
+/// refusal it stands where it stood before, but for [`KernelFault::BrokenPipe`], after which the process has ended.
+#[derive(Drop)]
+pub struct Kernel {
+    machine: Machine,
+    terminal: Tty,
+}
+
+impl Model for Kernel {
+    ghost use Rattle.sh_kernel.specs.State.{KernelKept};
+    ghost use Rattle.sh_files_base.specs.Codes.{map_code};
+    ghost use Rattle.std.specs.Coded.{codes};
+
+    ghost Value = { KernelKept };
+
+    ghost coded = { Prim.hlevel (codes, map_code) };
+
+    ghost view = { λ k. record { machine = k.machine; terminal = k.terminal } };
+}
+
+impl Kernel {
+    ghost use Rattle.sh_kernel_base.specs.Machine.{wait_answer};
+    ghost use Rattle.sh_kernel_base.specs.Processes.{parent_at, status_at};
+    ghost use Rattle.sh_kernel_base.specs.Terminals.{is_terminal};
+    ghost use Rattle.sh_kernel_base.specs.Waiting.{waits};
+    ghost use Rattle.sh_kernel.specs.Turns.{is_runnable, next_waits};
+    ghost use Rattle.sh_tty.specs.Happenings.{bytes_of};
+    ghost use Rattle.sh_kernel.specs.State.{KernelState, StandsAt, starting};
+    ghost use Rattle.sh_kernel.specs.Outcomes.{Gives, GivesOrLacks, GivesRead};
+    ghost use Rattle.sh_kernel.specs.Calls.{close_call, dup_call, end_call, fork_call, open_call, pipe_call, put_back_call, read_call, set_aside_call, start_call, write_call};
+
+    /// The first process, whose descriptors 0, 1 and 2 refer to one description of the terminal, over these files. Its
+    /// process group is the foreground group. The only error is want of memory.
+    pub fn new(alloc: Global, files: Files) -> Result<Self, AllocError>
+        ensures { IfOk result (λ kernel. StandsAt kernel (starting files)) }
+    {
+        let machine = Machine::new(alloc, files)?;
+        Ok(Kernel {
+            machine,
+            terminal: Tty::new(alloc, FIRST_PID),
+        })
+    }
+
+    /// Closes a descriptor (XSH close); a pipe goes with the last descriptor of its ends. `BadDescriptor` where the
+    /// process has none of this name. Takes no memory.
+    pub fn close(&mut self, pid: u32, name: Name) -> Result<(), KernelFault>
+        ensures { (s : KernelState) → StandsAt self.old s → Gives result self.new (close_call s pid name) }
+    {
+        self.machine.close(pid, name)
+    }
+
+    /// Makes a number refer to the description to which a descriptor refers (XSH dup2); what it referred to is closed
+    /// first. A number that refers to it already stays as it is.
+    ///
+    /// `BadDescriptor` where the process has no descriptor of this name; `TooManyDescriptors` where the number is not
+    /// below [`MAX_DESCRIPTORS`](crate::MAX_DESCRIPTORS); else `NoMemory`.
+    pub fn dup(&mut self, pid: u32, name: Name, to: u8) -> Result<(), KernelFault>
+        ensures { (s : KernelState) → StandsAt self.old s → GivesOrLacks result self.new s (dup_call s pid name to) }
+    {
+        self.machine.dup(pid, name, to)
+    }
+
+    /// Makes a pipe (XSH pipe) with room for [`CAPACITY`](crate::CAPACITY) bytes. One number then refers to the end from
+    /// which it is read, and the other to that to which it is written; what they referred to is closed.
+    ///
+    /// `NoProcess` where no such process lives; `TooManyDescriptors` where a number is too high; else `NoMemory`.
+    pub fn pipe(&mut self, pid: u32, from: u8, to: u8) -> Result<(), KernelFault>
+        ensures { (s : KernelState) → StandsAt self.old s → GivesOrLacks result self.new s (pipe_call s pid from to) }
+    {
+        self.machine.pipe(pid, from, to)
+    }
+
+    /// Opens what a path names, in a working directory where the path doesn't begin with a slash, and makes a number
+    /// refer to it (XSH open); what the number referred to is closed. With `append` each write goes to the file's end
+    /// (`O_APPEND`).
+    ///
+    /// `NoProcess` where no such process lives; `TooManyDescriptors` where the number is too high; then what
+    /// [`Files::open`] refuses, in its order, as `File`; `NoMemory` may come at any point.
+    pub fn open(
+        &mut self,
+        pid: u32,
+        directory: &[u8],
+        path: &[u8],
+        how: Opening,
+        append: bool,
+        number: u8,
+    ) -> Result<(), KernelFault>
+        ensures { (s : KernelState) → StandsAt self.old s → GivesOrLacks result self.new s (open_call s pid directory.now path.now how append number) }
+    {
+        self.machine.open(pid, directory, path, how, append, number)
+    }
+
+    /// Sets a descriptor aside: it loses its number, and is called by that of its description, which this answers. A
+    /// fork doesn't copy it, and a program that the process starts doesn't have it.
+    ///
+    /// `BadDescriptor` where the number refers to nothing. Takes no memory.
+    pub fn set_aside(&mut self, pid: u32, number: u8) -> Result<usize, KernelFault>
+        ensures { (s : KernelState) → StandsAt self.old s → Gives result self.new (set_aside_call s pid number) }
+    {
+        self.machine.set_aside(pid, number)
+    }
+
+    /// Gives a descriptor that was set aside a number again; what that referred to is closed.
+    ///
+    /// `BadDescriptor` where the process has set aside no descriptor of this description; `TooManyDescriptors` where the
+    /// number is too high. Takes no memory.
+    pub fn put_back(&mut self, pid: u32, aside: usize, number: u8) -> Result<(), KernelFault>
+        ensures { (s : KernelState) → StandsAt self.old s → Gives result self.new (put_back_call s pid aside number) }
+    {
+        self.machine.put_back(pid, aside, number)
+    }
+
+    /// Makes a process (XSH fork), whose number this answers. It has this process's descriptors, but for those that are
+    /// set aside; both refer to the same descriptions, and so share their offsets.
+    ///
+    /// `NoProcess` where no such process lives; `TooManyProcesses` where [`MAX_LIVE`](crate::MAX_LIVE) live already, or
+    /// the number would be above [`MAX_PID`](crate::MAX_PID); else `NoMemory`.
+    pub fn fork(&mut self, pid: u32) -> Result<u32, KernelFault>
+        ensures { (s : KernelState) → StandsAt self.old s → GivesOrLacks result self.new s (fork_call s pid) }
+    {
+        self.machine.fork(pid)
+    }
+
+    /// Ends a process by itself with a status (XSH _exit): all its descriptors are closed, and 1 is the parent of its
+    /// children. `NoProcess` where no such process lives. Takes no memory.
+    pub fn end(&mut self, pid: u32, status: u8) -> Result<(), KernelFault>
+        ensures { (s : KernelState) → StandsAt self.old s → Gives result self.new (end_call s pid status) }
+    {
+        self.machine.end(pid, status)
+    }
+
+    /// A process starts a program: what it has set aside is closed (XSH exec, `FD_CLOEXEC`). `NoProcess` where no such
+    /// process lives. Takes no memory.
+    pub fn start_program(&mut self, pid: u32) -> Result<(), KernelFault>
+        ensures { (s : KernelState) → StandsAt self.old s → Gives result self.new (start_call s pid) }
+    {
+        self.machine.start_program(pid)
+    }
+
+    /// Reads up to the buffer's length into its front, and says how many bytes these are; 0 is the end of the file, or
+    /// an end of file that was typed (XSH read). A file's description goes on by as many bytes. From the terminal one
+    /// line is read at most.
+    ///
+    /// `BadDescriptor` where the process has no such descriptor, or it isn't open for reading; `WouldWait` at an empty
+    /// pipe that has a writer, and at a terminal that handed nothing over. Takes no memory.
+    pub fn read(&mut self, pid: u32, name: Name, buf: &mut [u8]) -> Result<usize, KernelFault>
+        ensures { (s : KernelState) → StandsAt self.old s → GivesRead result buf.old buf.new self.new (read_call s pid name (length buf.old)) }
+    {
+        if self.machine.reads_terminal(pid, name) {
+            return match self.terminal.read(buf) {
+                Ok(count) => Ok(count),
+                Err(TtyFault::WouldWait) => Err(KernelFault::WouldWait),
+                Err(TtyFault::NoMemory) => Err(KernelFault::NoMemory),
+            };
+        }
+        self.machine.read(pid, name, buf)
+    }
+
+    /// Writes what goes at once, and says how much that is: all to a file, the null device or the terminal, and to a pipe
+    /// what its rule says (XSH write): at most `PIPE_BUF` bytes go whole or wait, of more as many go as there is room
+    /// for, at least one. No bytes have no result.
+    ///
+    /// `BadDescriptor` where the process has no such descriptor, or it isn't open for writing; `WouldWait` at a pipe
+    /// without room; `BrokenPipe` at one without a reader: the process was sent SIGPIPE, which ended it; `File` with
+    /// `TooLarge` where a file would be too long; else `NoMemory`.
+    pub fn write(&mut self, pid: u32, number: u8, bytes: &[u8]) -> Result<usize, KernelFault>
+        ensures { (s : KernelState) → StandsAt self.old s → GivesOrLacks result self.new s (write_call s pid number bytes.now) }
+    {
+        if self.machine.writes_terminal(pid, Name::Number(number)) {
+            return match self.terminal.write(bytes) {
+                Ok(()) => Ok(bytes.len()),
+                Err(_) => Err(KernelFault::NoMemory),
+            };
+        }
+        self.machine.write(pid, number, bytes)
+    }
+
+    /// Waits until all these children of a process have ended (XSH waitpid); how each ended, [`Kernel::status`] says.
+    /// `NoProcess` where one of them is no child of it; `WouldWait` where one lives. Takes no memory.
+    pub fn wait(&self, pid: u32, awaited: &[u32]) -> Result<(), KernelFault>
+        ensures { (s : KernelState) → StandsAt self.now s → result ≡ wait_answer s.machine.processes pid awaited.now }
+    {
+        self.machine.wait(pid, awaited)
+    }
+
+    /// Where a process stands, of each that ever was. Takes no memory.
+    pub fn status(&self, pid: u32) -> Option<Status>
+        ensures { (s : KernelState) → StandsAt self.now s → result ≡ status_at s.machine.processes pid }
+    {
+        self.machine.status(pid)
+    }
+
+    /// The number of a process's parent, of each that ever was (XSH getppid): 1 where that has ended. Takes no memory.
+    pub fn parent(&self, pid: u32) -> Option<u32>
+        ensures { (s : KernelState) → StandsAt self.now s → result ≡ parent_at s.machine.processes pid }
+    {
+        self.machine.parent(pid)
+    }
+
+    /// Whether the descriptor of a number refers to the terminal (XSH isatty); not where there is none. Takes no memory.
+    pub fn is_terminal(&self, pid: u32, number: u8) -> bool
+        ensures { (s : KernelState) → StandsAt self.now s → result ≡ is_terminal s.machine pid (Name.Number number) }
+    {
+        self.machine.is_terminal(pid, Name::Number(number))
+    }
+
+    /// The terminal's bytes: what was written to it, and the echo of the keys. Takes no memory.
+    pub fn terminal(&self) -> &[u8]
+        ensures { (s : KernelState) → StandsAt self.now s → result.now ≡ bytes_of s.terminal }
+    {
+        self.terminal.terminal()
+    }
+
+    /// The files. Takes no memory.
+    pub fn files(&self) -> &Files
+        ensures { (s : KernelState) → StandsAt self.now s → result.now ≡ s.machine.files }
+    {
+        self.machine.files()
+    }
+
+    /// Whether a read would wait.
+    fn read_waits(&self, pid: u32, name: Name) -> bool
+        ensures { (s : KernelState) → StandsAt self.now s → (n : ℕ) → result ≡ waits (read_call s pid name n).answer }
+    {
+        if self.machine.reads_terminal(pid, name) {
+            return !self.terminal.is_readable();
+        }
+        self.machine.read_waits(pid, name)
+    }
+
+    /// Whether a write of so many bytes would wait.
+    fn write_waits(&self, pid: u32, number: u8, count: usize) -> bool
+        ensures { (s : KernelState) → StandsAt self.now s → (bytes : List ℕ) → length bytes ≡ count → result ≡ waits (write_call s pid number bytes).answer }
+    {
+        if self.machine.writes_terminal(pid, Name::Number(number)) {
+            return false;
+        }
+        self.machine.write_waits(pid, number, count)
+    }
+
+    /// Whether what a process is about to do would wait.
+    fn next_waits(&self, pid: u32, next: Next<'_>) -> bool
+        ensures { (s : KernelState) → StandsAt self.now s → result ≡ next_waits s pid next.entry }
+    {
+        match next {
+            Next::Read(name) => self.read_waits(pid, name),
+            Next::Write(number, count) => self.write_waits(pid, number, count),
+            Next::Wait(awaited) => self.wait_waits(pid, awaited),
+            Next::Other => false,
+        }
+    }
+
+    /// Whether a wait would wait.
+    fn wait_waits(&self, pid: u32, awaited: &[u32]) -> bool
+        ensures { (s : KernelState) → StandsAt self.now s → result ≡ waits (wait_answer s.machine.processes pid awaited.now) }
+    {
+        match self.wait(pid, awaited) {
+            Ok(()) => false,
+            Err(fault) => fault.is_wait(),
+        }
+    }
+
+    /// Whether a process can take a turn: it is neither stopped nor ended, and what it is about to do would not answer
+    /// `WouldWait`. Takes no memory.
+    pub fn runnable(&self, pid: u32, next: Next<'_>) -> bool
+        ensures { (s : KernelState) → StandsAt self.now s → result ≡ is_runnable s pid next.entry }
+    {
+        self.machine.is_running(pid) && !self.next_waits(pid, next)
+    }
+}

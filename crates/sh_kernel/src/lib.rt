@@ -1,0 +1,19 @@
+//! A kernel: processes, descriptors, open file descriptions, pipes, files and one terminal.
+#![tactic(auto)]
+
+mod kernel;
+mod laws;
+mod machine;
+mod next;
+#[cfg(test)]
+mod tests;
+
+pub use kernel::Kernel;
+pub use laws::{
+    numbers_only_grow, owned_stays_owned, requests_change_what_is_reached, requests_reach_no_more,
+    the_terminal_is_reached, the_terminal_only_grows,
+};
+pub use next::Next;
+pub use sh_kernel_base::{
+    CAPACITY, FIRST_PID, KernelFault, MAX_DESCRIPTORS, MAX_LIVE, MAX_PID, Name, Status,
+};

@@ -1,0 +1,12 @@
+pub mod Outcomes
+pub mod Waiting
+pub mod Descriptors
+pub mod Closings
+pub mod Processes
+pub mod Machine
+pub mod Reading
+pub mod Writing
+pub mod Naming
+pub mod Opening
+pub mod Starting
+pub mod Terminals

@@ -1,0 +1,33 @@
+//! The descriptors of all processes.
+
+/// An entry of a process's table of descriptors (XBD 3.141).
+#[derive(Clone, Copy, Debug, PartialEq, Eq)]
+pub struct Descriptor {
+    /// The number of the process.
+    pub pid: u32,
+    /// The number of the descriptor; none while it is set aside.
+    pub number: Option<u8>,
+    /// The number of the open file description that it refers to.
+    pub description: usize,
+}
+
+/// What a process calls a descriptor.
+#[derive(Clone, Copy, Debug, PartialEq, Eq)]
+pub enum Name {
+    /// Its number.
+    Number(u8),
+    /// The number of the description of one that is set aside. Where a process set aside several of one description, to
+    /// close that name closes them all, and to put it back gives one of them a number.
+    Aside(usize),
+}
+
+/// Which descriptors of a process are closed.
+#[derive(Clone, Copy, Debug, PartialEq, Eq)]
+pub enum Closing {
+    /// That of this name.
+    Named(Name),
+    /// Those that are set aside.
+    Asides,
+    /// All.
+    All,
+}
