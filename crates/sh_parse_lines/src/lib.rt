@@ -91,3 +91,5 @@ pub fn read_tokens(alloc: Global, text: &[u8], at_end: bool) -> Result<Reading, 
 
 #[cfg(test)]
 mod tests;
+#[cfg(test)]
+mod token_tests;

@@ -129,6 +129,3 @@ fn first_nul(bytes: &[u8]) -> Option<usize>
 pub fn first_token_is_the_defined_one()
     ensures { (e : Bool) (bytes : List ℕ) (answer : FirstToken) → (first_token e bytes ≡ answer) ↔ IsFirst e bytes answer }
 {}
-
-#[cfg(test)]
-mod tests;

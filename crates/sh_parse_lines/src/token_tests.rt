@@ -1,5 +1,5 @@
-//! Tokens at the edges: spans, operators, levels, NUL bytes, fronts of texts.
-use super::{TokenFault, TokenKind, next_token};
+// Tokens of the crate below at the edges: spans, operators, levels, NUL bytes, fronts of texts.
+use sh_scanner::token::{TokenFault, TokenKind, next_token};
 use std::test::Fail;
 
 /// What is found at the beginning of a text.
