@@ -1,0 +1,4 @@
+pub mod Counts
+pub mod Derived
+pub mod Laws
+pub mod Trees

@@ -1,0 +1,18 @@
+//! Syntax trees of the shell from derivations by its grammar (XCU 2.10.2): the recognizer gives a derivation as a list of actions, and
+//! each token comes with its leaf, what the tree has of it.
+#![tactic(auto)]
+
+mod backward;
+mod kind;
+pub mod leaf;
+mod make;
+mod productions;
+mod refusal;
+mod stack;
+mod syntax;
+mod value;
+
+pub use syntax::syntax_tree;
+
+#[cfg(test)]
+mod tests;
