@@ -1,4 +1,5 @@
 pub mod Answering
+pub mod Computing
 pub mod Running
 pub mod Starting
 pub mod Telling

@@ -1,3 +1,4 @@
+pub mod Evaluated
 pub mod Evaluation
 pub mod Expression
 pub mod Outcome

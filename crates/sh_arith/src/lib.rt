@@ -5,10 +5,13 @@
 //! `--`, `sizeof` and the comma, with C's precedences, in at most 500 levels.
 #![tactic(auto)]
 
-ghost use Rattle.std.specs.Prelude.{◌≡◌, ◌≢◌, ℕ, List, IfOk, IfErr};
+ghost use Rattle.std.specs.Prelude.{◌≡◌, ◌≢◌, ◌↔◌, ℕ, ℤ, List, IfOk, IfErr};
+ghost use Rattle.sh_arith.specs.declared.faults.ArithFault.{ArithFault};
+ghost use Rattle.sh_vars.specs.Environment.{Environment};
+ghost use Rattle.sh_arith.specs.Evaluated.{evaluated};
 ghost use Rattle.sh_arith.specs.Evaluation.{HasFault, Says};
 ghost use Rattle.sh_arith.specs.Expression.{Expression};
-ghost use Rattle.sh_arith.specs.Outcome.{Gives};
+ghost use Rattle.sh_arith.specs.Outcome.{Gives, Stops};
 ghost use Rattle.sh_arith.specs.Value.{value};
 
 #[cfg(test)]
@@ -30,6 +33,13 @@ pub fn says_one_expression()
 {
     sh_grammar::one_tree();
 }
+
+/// Law: the function `evaluated` gives the value of what a text says, and the fault of a text that has none, and nothing
+/// else.
+pub fn evaluation_is_computed()
+    ensures value { (text : List ℕ) (v : ℤ) (before after : Environment) → ((e : Expression) × Says text e × (value text e before ≡ Gives v after)) ↔ (evaluated text before ≡ Gives v after) }
+    ensures fault { (text : List ℕ) (f : ArithFault) (before after : Environment) → HasFault text before f after ↔ (evaluated text before ≡ Stops f after) }
+{}
 
 /// The value of an arithmetic expression (XCU 2.6.4). A blank text is 0.
 ///

@@ -3,12 +3,11 @@ use Rattle.std.specs.Prelude.{ℕ, List}
 use Rattle.sh_vars.specs.Environment.{Environment}
 use Rattle.sh_files.specs.Nodes.{FileMap}
 use Rattle.sh_tree.specs.declared.tree.Complete.{Complete}
-use Rattle.sh_expand_parts.specs.Calculations.{Calculations}
 use Rattle.sh_expand_parts.specs.declared.fault.Fault.{Fault}
 use Rattle.sh_expand_words.specs.Expansion as words
-use Rattle.sh_expand_words.specs.Parts.{Subject}
 use Rattle.sh_expand_words.specs.Parts as words_in
-use Rattle.sh_expand.specs.Fields.{Pathnames, all_fields}
+use Rattle.sh_expand_words.specs.declared.wanted.Wanted.{Wanted}
+use Rattle.sh_expand.specs.Fields.{all_fields}
 
 -- a program's answer is needed; these fields; or a fault: and the shell's variables then
 pub data Result : Type 0 where
@@ -17,10 +16,10 @@ pub data Result : Type 0 where
   Stops : (fault : Fault) → (env : Environment) → Result
 
 -- all words are expanded before the first one is split, and before a file is looked at
-abbrev pub finished : Pathnames → FileMap → words.Outcome → Result
-finished p files (words.Need program env) = Need program env
-finished p files (words.Done s) = Fields (all_fields p files s.env s.words) s.env
-finished p files (words.Stops fault env) = Stops fault env
+abbrev pub finished : FileMap → words.Outcome → Result
+finished files (words.Need program env) = Need program env
+finished files (words.Done s) = Fields (all_fields files s.env s.words) s.env
+finished files (words.Stops fault env) = Stops fault env
 
-abbrev pub expand : Calculations → Pathnames → FileMap → List Subject → Environment → (answers : List (List ℕ)) → Result
-expand c p files subjects env answers = finished p files (words_in.expand c subjects env answers)
+abbrev pub expand : FileMap → List Wanted → Environment → (answers : List (List ℕ)) → Result
+expand files wanted env answers = finished files (words_in.expand wanted env answers)

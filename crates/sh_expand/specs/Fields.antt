@@ -1,24 +1,16 @@
 -- The fields of expanded words: field splitting (XCU 2.6.5), pathname expansion (2.6.6) and quote removal (2.6.7).
-use Rattle.std.specs.Prelude.{◌≡◌, ℕ, List, [], ◌∷◌, map, Option, Some, None, if◌then◌else◌}
+use Rattle.std.specs.Prelude.{ℕ, List, [], ◌∷◌, map, Option, Some, None, codes, if◌then◌else◌}
 use Rattle.std.specs.List.{flat_map}
 use Rattle.sh_vars.specs.Environment.{Environment, value_of}
-use Rattle.std.specs.Prelude.{codes}
 use Rattle.sh_files.specs.Nodes.{FileMap}
 use Rattle.sh_expand_base.specs.declared.item.Item.{Item}
 use Rattle.sh_expand_base.specs.Classes.{class_of}
-use Rattle.sh_expand_base.specs.Pathnames.{IsExpanded}
+use Rattle.sh_expand_base.specs.Found.{expanded}
 use Rattle.sh_expand_base.specs.Splitting.{split}
 use Rattle.sh_expand_base.specs.Text.{text_of}
 use Rattle.sh_expand_parts.specs.declared.context.Context.{Context}
 use Rattle.sh_expand_parts.specs.declared.context.Context.TheVariants as context
 use Rattle.sh_expand_parts.specs.declared.closing.ExpandedWord.{ExpandedWord}
-
--- the paths that a field stands for, as a function: one that agrees with the definition, which only one list fits
-pub record Pathnames : Type 0 where
-  pub paths : FileMap → (directory : List ℕ) → List Item → List (List ℕ)
-
-pub record AgreesOnPaths (p : Pathnames) : Type 0 where
-  pub expanded : (files : FileMap) (directory : List ℕ) (field : List Item) (found : List (List ℕ)) → IsExpanded files directory field found → p.paths files directory field ≡ found
 
 -- the bytes of IFS; where it is unset, a space, a tab and a newline
 abbrev pub ifs_if : Option (List ℕ) → List ℕ
@@ -29,24 +21,24 @@ abbrev pub ifs_of : Environment → List ℕ
 ifs_of env = ifs_if (value_of env (codes "IFS"))
 
 -- what a field gives: under `set -f` itself, without its quotes
-abbrev pub field_paths : Pathnames → FileMap → Environment → List Item → List (List ℕ)
-field_paths p files env field = if env.options.no_glob then text_of field ∷ [] else p.paths files env.directory field
+abbrev pub field_paths : FileMap → Environment → List Item → List (List ℕ)
+field_paths files env field = if env.options.no_glob then text_of field ∷ [] else expanded files env.directory field
 
 abbrev pub split_fields : Environment → List Item → List (List Item)
 split_fields env items = split (map (class_of (ifs_of env)) items)
 
 -- only a command's words are split, and stand for paths
-abbrev pub fields_as : Pathnames → FileMap → Environment → Context → List Item → List (List ℕ)
-fields_as p files env context.Fields items = flat_map (field_paths p files env) (split_fields env items)
-fields_as p files env context.Inner items = text_of items ∷ []
-fields_as p files env context.Quoted items = text_of items ∷ []
-fields_as p files env context.Single items = text_of items ∷ []
-fields_as p files env context.Assignment items = text_of items ∷ []
-fields_as p files env context.Operand items = text_of items ∷ []
-fields_as p files env context.QuotedSingle items = text_of items ∷ []
+abbrev pub fields_as : FileMap → Environment → Context → List Item → List (List ℕ)
+fields_as files env context.Fields items = flat_map (field_paths files env) (split_fields env items)
+fields_as files env context.Inner items = text_of items ∷ []
+fields_as files env context.Quoted items = text_of items ∷ []
+fields_as files env context.Single items = text_of items ∷ []
+fields_as files env context.Assignment items = text_of items ∷ []
+fields_as files env context.Operand items = text_of items ∷ []
+fields_as files env context.QuotedSingle items = text_of items ∷ []
 
-abbrev pub word_fields : Pathnames → FileMap → Environment → ExpandedWord → List (List ℕ)
-word_fields p files env word = fields_as p files env word.context word.items
+abbrev pub word_fields : FileMap → Environment → ExpandedWord → List (List ℕ)
+word_fields files env word = fields_as files env word.context word.items
 
-abbrev pub all_fields : Pathnames → FileMap → Environment → List ExpandedWord → List (List ℕ)
-all_fields p files env words = flat_map (word_fields p files env) words
+abbrev pub all_fields : FileMap → Environment → List ExpandedWord → List (List ℕ)
+all_fields files env words = flat_map (word_fields files env) words

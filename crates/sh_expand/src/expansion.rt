@@ -1,12 +1,9 @@
 //! Expansion to fields, which stops where an answer is needed and goes on from there.
 ghost use Rattle.std.specs.Prelude.{◌≡◌, ◌++◌, ◌∷◌, [], ℕ, List, IfOk};
 ghost use Rattle.sh_vars.specs.Environment.{Environment};
-ghost use Rattle.sh_expand_parts.specs.Calculations.{Agrees, Calculations};
-ghost use Rattle.sh_expand_words.specs.Parts.{Subject};
-ghost use Rattle.sh_expand_words.specs.Stand.{subjects_of};
+ghost use Rattle.sh_expand_words.specs.declared.wanted.Wanted.{Wanted};
 ghost use Rattle.sh_expand_words.specs.Stand as words_stand;
 ghost use Rattle.sh_expand.specs.Stand.{IsStep};
-ghost use Rattle.sh_expand.specs.Fields.{AgreesOnPaths, Pathnames};
 
 use crate::fields::all_fields;
 use sh_expand_base::pattern_of;
@@ -14,18 +11,19 @@ use sh_expand_parts::Fault;
 use sh_expand_words::{Wanted, WordExpansion};
 use sh_files::Files;
 use sh_pattern::Mark;
+use sh_syntax::sequence::{Sequence, Text};
+use sh_syntax::shared::Shared;
 use sh_tree::tree::Complete;
 use sh_vars::Vars;
 use std::alloc::{AllocError, Global};
-use std::rc::Rc;
 
 /// What an expansion comes to.
 #[derive(Drop)]
 pub enum Step {
     /// What this program writes is needed (XCU 2.6.3), and then [`Expansion::resume`].
-    Need(Rc<Complete>),
+    Need(Shared<Complete>),
     /// The fields of the words, in their order. A word that isn't a command's gives one.
-    Fields(Vec<Vec<u8>>),
+    Fields(Sequence<Text>),
     /// The words can't be expanded. What was assigned before stays.
     Fault(Fault),
 }
@@ -44,7 +42,7 @@ fn finish(
     vars: &Vars,
     files: &Files,
 ) -> Result<Step, AllocError>
-    ensures { IfOk result (λ s. (c : Calculations) (p : Pathnames) → AgreesOnPaths p → (subjects : List Subject) (before : Environment) (given : List (List ℕ)) → words_stand.IsStep c step words.now vars.now subjects before given → IsStep c p files.now s (record { words = words.now }) vars.now subjects before given) }
+    ensures { IfOk result (λ s. (wanted : List Wanted) (before : Environment) (given : List (List ℕ)) → words_stand.IsStep step words.now vars.now wanted before given → IsStep files.now s (record { words = words.now }) vars.now wanted before given) }
 {
     match step {
         sh_expand_words::Step::Need(program) => Ok(Step::Need(program)),
@@ -65,11 +63,11 @@ impl Expansion {
     /// The only error is want of memory; what the variables are then is left open.
     pub fn start(
         alloc: Global,
-        words: Vec<Wanted>,
+        words: Sequence<Wanted>,
         vars: &mut Vars,
         files: &Files,
     ) -> Result<(Expansion, Step), AllocError>
-        ensures { IfOk result (λ r. (c : Calculations) (p : Pathnames) → Agrees c → AgreesOnPaths p → IsStep c p files.now r.1 r.0 vars.new (subjects_of words.items) vars.old []) }
+        ensures { IfOk result (λ r. IsStep files.now r.1 r.0 vars.new words vars.old []) }
     {
         let (words, step) = WordExpansion::start(alloc, words, vars)?;
         let step = finish(alloc, step, &words, vars, files)?;
@@ -87,7 +85,7 @@ impl Expansion {
         vars: &mut Vars,
         files: &Files,
     ) -> Result<Step, AllocError>
-        ensures { (c : Calculations) (p : Pathnames) → Agrees c → AgreesOnPaths p → (subjects : List Subject) (before : Environment) (given : List (List ℕ)) → Waits c self.old vars.old subjects before given → IfOk result (λ s. IsStep c p files.now s self.new vars.new subjects before (given ++ answer.now ∷ [])) }
+        ensures { (wanted : List Wanted) (before : Environment) (given : List (List ℕ)) → Waits self.old vars.old wanted before given → IfOk result (λ s. IsStep files.now s self.new vars.new wanted before (given ++ answer.now ∷ [])) }
     {
         let step = self.words.resume(alloc, answer, vars)?;
         let step = finish(alloc, step, &self.words, vars, files)?;

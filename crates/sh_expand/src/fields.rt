@@ -2,14 +2,25 @@
 ghost use Rattle.std.specs.Prelude.{◌≡◌, ◌++◌, ◌∷◌, [], OnOk, IfOk, map};
 ghost use Rattle.std.specs.List.{flat_map};
 ghost use Rattle.sh_expand_base.specs.Text.{text_of};
-ghost use Rattle.sh_expand.specs.Fields.{AgreesOnPaths, Pathnames, all_fields, field_paths, fields_as, split_fields, word_fields};
+ghost use Rattle.sh_expand.specs.Fields.{all_fields, field_paths, fields_as, split_fields, word_fields};
 ghost use Rattle.sh_expand.specs.Stand.{texts_of};
 
 use sh_expand_base::{Fields, Item, Separators, expand_pathnames, remove_quotes, split};
 use sh_expand_parts::{Context, ExpandedWord};
 use sh_files::Files;
+use sh_syntax::sequence::{Sequence, Text};
 use sh_vars::Vars;
 use std::alloc::{AllocError, Global};
+
+/// Puts texts.
+fn push_texts(texts: Vec<Vec<u8>>, fields: &mut Sequence<Text>) -> Result<(), AllocError>
+    ensures { OnOk result (fields.new ≡ fields.old ++ texts_of texts.items) }
+{
+    for text in texts {
+        fields.push(Text::from_vec(text))?;
+    }
+    Ok(())
+}
 
 /// Puts what a field gives.
 fn push_paths(
@@ -17,17 +28,17 @@ fn push_paths(
     vars: &Vars,
     files: &Files,
     field: &[Item],
-    fields: &mut Vec<Vec<u8>>,
+    fields: &mut Sequence<Text>,
 ) -> Result<(), AllocError>
-    ensures { OnOk result ((p : Pathnames) → AgreesOnPaths p → texts_of fields.new.items ≡ texts_of fields.old.items ++ field_paths p files.now vars.now field.now) }
+    ensures { OnOk result (fields.new ≡ fields.old ++ field_paths files.now vars.now field.now) }
 {
     if vars.options().no_glob {
         let text = remove_quotes(alloc, field)?;
-        fields.push(text)?;
+        fields.push(Text::from_vec(text))?;
         return Ok(());
     }
-    let mut paths = expand_pathnames(alloc, files, vars.directory(), field)?;
-    fields.append(&mut paths)?;
+    let paths = expand_pathnames(alloc, files, vars.directory(), field)?;
+    push_texts(paths, fields)?;
     Ok(())
 }
 
@@ -47,9 +58,9 @@ fn push_all_paths(
     vars: &Vars,
     files: &Files,
     split: &[Vec<Item>],
-    fields: &mut Vec<Vec<u8>>,
+    fields: &mut Sequence<Text>,
 ) -> Result<(), AllocError>
-    ensures { OnOk result ((p : Pathnames) → AgreesOnPaths p → texts_of fields.new.items ≡ texts_of fields.old.items ++ flat_map (field_paths p files.now vars.now) (map (λ field. field.items) split.now)) }
+    ensures { OnOk result (fields.new ≡ fields.old ++ flat_map (field_paths files.now vars.now) (map (λ field. field.items) split.now)) }
 {
     for field in split {
         push_paths(alloc, vars, files, field.as_slice(), fields)?;
@@ -63,9 +74,9 @@ fn push_fields(
     vars: &Vars,
     files: &Files,
     items: &[Item],
-    fields: &mut Vec<Vec<u8>>,
+    fields: &mut Sequence<Text>,
 ) -> Result<(), AllocError>
-    ensures { OnOk result ((p : Pathnames) → AgreesOnPaths p → texts_of fields.new.items ≡ texts_of fields.old.items ++ flat_map (field_paths p files.now vars.now) (split_fields vars.now items.now)) }
+    ensures { OnOk result (fields.new ≡ fields.old ++ flat_map (field_paths files.now vars.now) (split_fields vars.now items.now)) }
 {
     let split = split_fields(alloc, vars, items)?;
     push_all_paths(alloc, vars, files, split.as_slice(), fields)?;
@@ -73,11 +84,11 @@ fn push_fields(
 }
 
 /// Puts a word's text.
-fn push_text(alloc: Global, items: &[Item], fields: &mut Vec<Vec<u8>>) -> Result<(), AllocError>
-    ensures { OnOk result (texts_of fields.new.items ≡ texts_of fields.old.items ++ text_of items.now ∷ []) }
+fn push_text(alloc: Global, items: &[Item], fields: &mut Sequence<Text>) -> Result<(), AllocError>
+    ensures { OnOk result (fields.new ≡ fields.old ++ text_of items.now ∷ []) }
 {
     let text = remove_quotes(alloc, items)?;
-    fields.push(text)?;
+    fields.push(Text::from_vec(text))?;
     Ok(())
 }
 
@@ -87,9 +98,9 @@ fn push_word(
     vars: &Vars,
     files: &Files,
     word: &ExpandedWord,
-    fields: &mut Vec<Vec<u8>>,
+    fields: &mut Sequence<Text>,
 ) -> Result<(), AllocError>
-    ensures { OnOk result ((p : Pathnames) → AgreesOnPaths p → texts_of fields.new.items ≡ texts_of fields.old.items ++ word_fields p files.now vars.now word.now) }
+    ensures { OnOk result (fields.new ≡ fields.old ++ word_fields files.now vars.now word.now) }
 {
     let items = word.items.as_slice();
     match word.context {
@@ -112,10 +123,10 @@ pub(crate) fn all_fields(
     vars: &Vars,
     files: &Files,
     words: &[ExpandedWord],
-) -> Result<Vec<Vec<u8>>, AllocError>
-    ensures { IfOk result (λ fields. (p : Pathnames) → AgreesOnPaths p → texts_of fields.items ≡ all_fields p files.now vars.now words.now) }
+) -> Result<Sequence<Text>, AllocError>
+    ensures { IfOk result (λ fields. fields ≡ all_fields files.now vars.now words.now) }
 {
-    let mut fields = Vec::new(alloc);
+    let mut fields = Sequence::new(alloc);
     for word in words {
         push_word(alloc, vars, files, word, &mut fields)?;
     }

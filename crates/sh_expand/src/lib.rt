@@ -6,6 +6,8 @@
 //! [`Step::Need`], and [`Expansion::resume`] goes on from there.
 #![tactic(auto)]
 
+#[cfg(test)]
+mod cases;
 mod expansion;
 mod fields;
 #[cfg(test)]

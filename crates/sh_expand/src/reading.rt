@@ -3,11 +3,11 @@
 use sh_expand_parts::Context;
 use sh_expand_words::Wanted;
 use sh_syntax::sequence::{Sequence, Text};
+use sh_syntax::shared::Shared;
 use sh_tree::tree::{
     Absence, Affix, Complete, ConditionalAction, Extent, Parameter, Part, Parts, SpecialParameter,
 };
 use std::alloc::{AllocError, Global};
-use std::rc::Rc;
 
 /// What the end of an inner word makes a part of.
 #[derive(Drop)]
@@ -47,7 +47,7 @@ struct Outer {
 pub(crate) struct Reader {
     alloc: Global,
     context: Context,
-    words: Vec<Wanted>,
+    words: Sequence<Wanted>,
     outer: Vec<Outer>,
     parts: Vec<Part>,
     text: Text,
@@ -104,7 +104,7 @@ impl Reader {
         Reader {
             alloc,
             context,
-            words: Vec::new(alloc),
+            words: Sequence::new(alloc),
             outer: Vec::new(alloc),
             parts: Vec::new(alloc),
             text: Text::new(alloc),
@@ -132,10 +132,10 @@ impl Reader {
         Ok(())
     }
 
-    fn take_word(&mut self) -> Result<Rc<Parts>, AllocError> {
+    fn take_word(&mut self) -> Result<Shared<Parts>, AllocError> {
         self.flush()?;
-        let items = std::mem::replace(&mut self.parts, Vec::new(self.alloc));
-        let word = Rc::new(self.alloc, Parts { items })?;
+        let items = Sequence::from_vec(std::mem::replace(&mut self.parts, Vec::new(self.alloc)));
+        let word = Shared::new(self.alloc, Parts { items })?;
         Ok(word)
     }
 
@@ -285,10 +285,10 @@ impl Reader {
 
     fn program(&mut self) -> Result<(), AllocError> {
         let program = Complete {
-            items: Vec::new(self.alloc),
+            items: Sequence::new(self.alloc),
         };
         self.parts
-            .push(Part::Substitution(Rc::new(self.alloc, program)?))?;
+            .push(Part::Substitution(Shared::new(self.alloc, program)?))?;
         Ok(())
     }
 
@@ -354,7 +354,7 @@ impl Reader {
         alloc: Global,
         context: Context,
         text: &[u8],
-    ) -> Result<Vec<Wanted>, AllocError> {
+    ) -> Result<Sequence<Wanted>, AllocError> {
         let mut reader = Reader::new(alloc, context);
         for byte in text {
             reader.take(*byte)?;

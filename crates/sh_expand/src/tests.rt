@@ -1,8 +1,9 @@
 //! Fields and faults worked out from the standard (XCU 2.6), each also asked of dash and yash.
 use crate::reading::Reader;
-use crate::{ArithmeticError, Context, Expansion, Fault, Step, Wanted};
+use crate::{ArithmeticError, Context, Expansion, Fault, Step, Wanted, cases};
 use sh_files::Files;
 use sh_pattern::Mark;
+use sh_syntax::sequence::Sequence;
 use sh_vars::{Text, Vars, VarsFault};
 use std::alloc::{AllocError, Global};
 use std::test::Fail;
@@ -60,7 +61,7 @@ fn put(text: &mut Vec<u8>, more: &[u8]) -> Result<(), AllocError> {
     text.extend_from_slice(more)
 }
 
-fn put_fields(text: &mut Vec<u8>, fields: &[Vec<u8>]) -> Result<(), AllocError> {
+fn put_fields(text: &mut Vec<u8>, fields: &[sh_syntax::sequence::Text]) -> Result<(), AllocError> {
     for field in fields {
         text.push(b'[')?;
         text.extend_from_slice(field.as_slice())?;
@@ -114,7 +115,7 @@ fn expanded(
     alloc: Global,
     vars: &mut Vars,
     files: &Files,
-    words: Vec<Wanted>,
+    words: Sequence<Wanted>,
     answer: &[u8],
 ) -> Result<Step, AllocError> {
     let (mut expansion, mut step) = Expansion::start(alloc, words, vars, files)?;
@@ -136,7 +137,7 @@ fn put_step(text: &mut Vec<u8>, step: &Step) -> Result<(), AllocError> {
 fn shown(
     alloc: Global,
     vars: &mut Vars,
-    words: Vec<Wanted>,
+    words: Sequence<Wanted>,
     answer: &[u8],
 ) -> Result<Vec<u8>, AllocError> {
     let Ok(files) = Files::from_image(alloc, IMAGE) else {
@@ -569,6 +570,48 @@ fn first_wrong_fields(alloc: Global, cases: &[Case]) -> Result<Option<usize>, Va
     Ok(None)
 }
 
+/// The separators of an entry of [`cases`].
+fn ifs_of(column: &[u8]) -> Option<&[u8]> {
+    match column {
+        b"none" => None,
+        b"default" => Some(b" \t\n"),
+        bytes => Some(bytes),
+    }
+}
+
+/// The positional parameters of an entry.
+fn operands_of(alloc: Global, column: &[u8]) -> Result<Vec<&[u8]>, AllocError> {
+    let mut operands = Vec::new(alloc);
+    if column.is_empty() {
+        return Ok(operands);
+    }
+    for operand in column.split(|byte| *byte == b'&') {
+        operands.push(operand)?;
+    }
+    Ok(operands)
+}
+
+/// Whether the words of an entry come to its fields.
+fn is_right(alloc: Global, entry: &[u8]) -> Result<bool, VarsFault> {
+    let mut columns = entry.split(|byte| *byte == b'\t');
+    let ifs = ifs_of(columns.next().unwrap_or(b""));
+    let operands = operands_of(alloc, columns.next().unwrap_or(b""))?;
+    let words = columns.next().unwrap_or(b"");
+    let expected = columns.next().unwrap_or(b"no fields");
+    let mut vars = shell(alloc, ifs, operands.as_slice())?;
+    let right = come_to(alloc, &mut vars, Context::Fields, words, b"", expected)?;
+    Ok(right)
+}
+
+fn first_wrong_entry(alloc: Global, entries: &[u8]) -> Result<Option<usize>, VarsFault> {
+    for (i, entry) in entries.split(|byte| *byte == b'\n').enumerate() {
+        if !is_right(alloc, entry)? {
+            return Ok(Some(i));
+        }
+    }
+    Ok(None)
+}
+
 fn first_wrong_text(rt: HostRuntime) -> Result<Option<usize>, VarsFault> {
     for (i, (context, word, expected)) in TEXTS.iter().enumerate() {
         if !gives_text(rt.alloc(), *context, word, expected)? {
@@ -617,6 +660,22 @@ fn conditional_forms(rt: HostRuntime) -> Result<(), Fail> {
 #[test]
 fn other_forms(rt: HostRuntime) -> Result<(), Fail> {
     assert_eq!(rt; first_wrong_fields(rt.alloc(), &OTHERS)?, None);
+    Ok(())
+}
+
+#[test]
+fn further_words(rt: HostRuntime) -> Result<(), Fail> {
+    assert_eq!(rt; first_wrong_entry(rt.alloc(), cases::SPLITTING)?, None);
+    assert_eq!(rt; first_wrong_entry(rt.alloc(), cases::PARAMETERS)?, None);
+    assert_eq!(rt; first_wrong_entry(rt.alloc(), cases::CONDITIONALS)?, None);
+    Ok(())
+}
+
+#[test]
+fn further_forms(rt: HostRuntime) -> Result<(), Fail> {
+    assert_eq!(rt; first_wrong_entry(rt.alloc(), cases::REMOVALS)?, None);
+    assert_eq!(rt; first_wrong_entry(rt.alloc(), cases::FILES)?, None);
+    assert_eq!(rt; first_wrong_entry(rt.alloc(), cases::SUMS)?, None);
     Ok(())
 }
 

@@ -1,9 +1,11 @@
 pub mod Between
+pub mod Finding
 pub mod Fronts
 pub mod Leading
 pub mod Names
 pub mod Ones
 pub mod Only
+pub mod Ordered
 pub mod Parts
 pub mod Reaching
 pub mod Scans

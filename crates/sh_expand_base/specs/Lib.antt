@@ -1,4 +1,5 @@
 pub mod Classes
+pub mod Found
 pub mod Ranges
 pub mod Scan
 pub mod Splitting

@@ -13,7 +13,7 @@ mod tests;
 mod text;
 
 pub use item::Item;
-pub use laws::fields_stand_between_delimiters;
+pub use laws::{fields_stand_between_delimiters, pathnames_are_computed};
 pub use pathnames::expand_pathnames;
 pub use separators::Separators;
 pub use splitting::{Fields, split};

@@ -5,11 +5,12 @@ use Rattle.sh_vars.specs.Environment.{Environment, is_read_only, with_value}
 use Rattle.sh_vars.specs.Names.{is_name}
 use Rattle.sh_arith.specs.declared.faults.ArithFault.{ArithFault}
 use Rattle.sh_arith.specs.declared.faults.ArithFault.TheVariants as arith_fault
+use Rattle.sh_arith.specs.Evaluated.{evaluated}
 use Rattle.sh_arith.specs.Outcome.{Outcome, Gives, Stops}
 use Rattle.sh_arith_base.specs.Lexical.{word_at}
 use Rattle.sh_expand_base.specs.Text.{marks_of, text_of}
-use Rattle.sh_expand_parts.specs.Calculations.{Calculations, without_match}
 use Rattle.sh_expand_parts.specs.Drafts.{joined, joiner, plain, quoted, shown, text_items}
+use Rattle.sh_expand_parts.specs.Removals.{without_match}
 use Rattle.sh_expand_parts.specs.declared.closing.Closed.{Closed}
 use Rattle.sh_expand_parts.specs.declared.closing.Closed.TheVariants.{Goes, Ends, Fails}
 use Rattle.sh_expand_parts.specs.declared.closing.Purpose.{Purpose}
@@ -63,14 +64,14 @@ removed shorter (value.Each texts) = value.Each (map shorter texts)
 removed shorter (value.Joined texts) = value.Joined (map shorter texts)
 
 -- what stood before the form, and the word inside as it is expanded
-abbrev pub closed : Calculations → Purpose → Draft → Draft → Environment → Closing
-closed c (Word context) saved inner env = closing (Ends (record { context = context; items = inner.items })) env
-closed c Default saved inner env = closing (Goes (joined saved inner)) env
-closed c Quotes saved inner env = closing (Goes (joined saved (quoted inner))) env
-closed c (Assign name context) saved inner env =
+abbrev pub closed : Purpose → Draft → Draft → Environment → Closing
+closed (Word context) saved inner env = closing (Ends (record { context = context; items = inner.items })) env
+closed Default saved inner env = closing (Goes (joined saved inner)) env
+closed Quotes saved inner env = closing (Goes (joined saved (quoted inner))) env
+closed (Assign name context) saved inner env =
     assigned (is_name name) (is_read_only env name) name context saved (text_of inner.items) env
-closed c (Report name) saved inner env = closing (Fails (fault.Unset name (Some (text_of inner.items)))) env
-closed c (Remove v affix extent context) saved inner env =
-    behind saved context env (removed (without_match c affix extent (marks_of inner.items)) v)
-closed c (Compute context) saved inner env =
-    computed context saved (text_of inner.items) (c.arithmetic (text_of inner.items) env)
+closed (Report name) saved inner env = closing (Fails (fault.Unset name (Some (text_of inner.items)))) env
+closed (Remove v affix extent context) saved inner env =
+    behind saved context env (removed (without_match affix extent (marks_of inner.items)) v)
+closed (Compute context) saved inner env =
+    computed context saved (text_of inner.items) (evaluated (text_of inner.items) env)

@@ -3,11 +3,13 @@ ghost use Rattle.std.specs.Prelude.{◌≡◌, ◌≢◌, IfOk, IfErr, OnOk, Mat
 ghost use Rattle.std.specs.Fmt.{signed_decimal};
 ghost use Rattle.sh_vars.specs.Environment.{is_read_only};
 ghost use Rattle.sh_vars.specs.Names.{is_name};
+ghost use Rattle.sh_arith.specs.Evaluated.{evaluated};
+ghost use Rattle.sh_arith.specs.Outcome.{Gives, Stops};
 ghost use Rattle.sh_arith_base.specs.Lexical.{word_at};
 ghost use Rattle.sh_expand_base.specs.Text.{marks_of, text_of};
-ghost use Rattle.sh_expand_parts.specs.Calculations.{Agrees, Calculations, without_match};
 ghost use Rattle.sh_expand_parts.specs.Closings.{Closing, assigned, behind, closed, closing, computed, fault_of, removed};
 ghost use Rattle.sh_expand_parts.specs.Drafts.{joined, plain, text_items};
+ghost use Rattle.sh_expand_parts.specs.Removals.{without_match};
 
 use crate::context::Context;
 use crate::draft::{Draft, joiner, shown, text_draft};
@@ -157,6 +159,14 @@ fn number_behind(
     Ok(Closed::Goes(saved))
 }
 
+/// The value of an expression.
+fn value_of(alloc: Global, text: &[u8], vars: &mut Vars) -> Result<i64, ArithFault>
+    ensures value { IfOk result (λ v. evaluated text.now vars.old ≡ Gives v vars.new) }
+    ensures fault { IfErr result (λ f. f ≢ ArithFault.NoMemory → evaluated text.now vars.old ≡ Stops f vars.new) }
+{
+    evaluate(alloc, text, vars)
+}
+
 /// `$((w))`.
 fn compute(
     alloc: Global,
@@ -165,9 +175,9 @@ fn compute(
     saved: Draft,
     text: &[u8],
 ) -> Result<Closed, AllocError>
-    ensures { IfOk result (λ r. (c : Calculations) → Agrees c → closing r vars.new ≡ computed context saved text.now (c.arithmetic text.now vars.old)) }
+    ensures { IfOk result (λ r. closing r vars.new ≡ computed context saved text.now (evaluated text.now vars.old)) }
 {
-    match evaluate(alloc, text, vars) {
+    match value_of(alloc, text, vars) {
         Ok(number) => {
             let closed = number_behind(alloc, context, saved, number)?;
             Ok(closed)
@@ -198,7 +208,7 @@ fn remove(
     saved: Draft,
     pattern: &Sequence<Item>,
 ) -> Result<Closed, AllocError>
-    ensures { IfOk result (λ r. (c : Calculations) → Agrees c → closing r vars.now ≡ behind saved context vars.now (removed (without_match c affix extent (marks_of pattern.now)) value.now)) }
+    ensures { IfOk result (λ r. closing r vars.now ≡ behind saved context vars.now (removed (without_match affix extent (marks_of pattern.now)) value.now)) }
 {
     let marks = pattern_of(alloc, pattern.as_slice())?;
     let rest = removed(alloc, affix, extent, marks.as_slice(), value)?;
@@ -217,7 +227,7 @@ pub fn close(
     saved: Draft,
     inner: Draft,
 ) -> Result<Closed, AllocError>
-    ensures { IfOk result (λ r. (c : Calculations) → Agrees c → closing r vars.new ≡ closed c purpose saved inner vars.old) }
+    ensures { IfOk result (λ r. closing r vars.new ≡ closed purpose saved inner vars.old) }
 {
     match purpose {
         Purpose::Word { context } => Ok(Closed::Ends(ExpandedWord {

@@ -1,7 +1,7 @@
 //! Values without what a pattern matches (XCU 2.6.2).
 ghost use Rattle.std.specs.Prelude.{◌≡◌, ◌-◌, ◌≤◌, List, ℕ, IfOk, MatchOption, drop, length, map, take, option_map, Some, None};
-ghost use Rattle.sh_expand_parts.specs.Calculations.{Agrees, Calculations, without_length, without_match};
 ghost use Rattle.sh_expand_parts.specs.Closings.{removed};
+ghost use Rattle.sh_expand_parts.specs.Removals.{matched, without_length, without_match};
 
 use crate::value::{Value, text_from};
 use sh_pattern::{Mark, longest_back, longest_front, shortest_back, shortest_front};
@@ -11,7 +11,7 @@ use std::alloc::{AllocError, Global};
 
 /// How much of a text a pattern matches.
 fn matched(affix: Affix, extent: Extent, pattern: &[Mark], text: &[u8]) -> Option<usize>
-    ensures agrees { (c : Calculations) → Agrees c → c.matched affix extent pattern.now text.now ≡ result }
+    ensures length { result ≡ matched affix extent pattern.now text.now }
     ensures within { MatchOption result (Unit {0}) (λ n. n ≤ length text.now) }
 {
     match affix {
@@ -39,6 +39,7 @@ fn without_length(affix: Affix, text: &[u8], count: Option<usize>) -> &[u8]
 }
 
 /// A text without what a pattern matches.
+#[tactic(auto, unfolding(crate::specs::Removals::without_match))]
 fn without_match(
     alloc: Global,
     affix: Affix,
@@ -46,7 +47,7 @@ fn without_match(
     pattern: &[Mark],
     text: &[u8],
 ) -> Result<Text, AllocError>
-    ensures { IfOk result (λ t. (c : Calculations) → Agrees c → t ≡ without_match c affix extent pattern.now text.now) }
+    ensures { IfOk result (λ t. t ≡ without_match affix extent pattern.now text.now) }
 {
     let count = matched(affix, extent, pattern, text);
     let rest = text_from(alloc, without_length(affix, text, count))?;
@@ -61,7 +62,7 @@ fn all_without_match(
     pattern: &[Mark],
     texts: &[Text],
 ) -> Result<Sequence<Text>, AllocError>
-    ensures { IfOk result (λ all. (c : Calculations) → Agrees c → all ≡ map (without_match c affix extent pattern.now) texts.now) }
+    ensures { IfOk result (λ all. all ≡ map (without_match affix extent pattern.now) texts.now) }
 {
     let mut all = Sequence::new(alloc);
     for text in texts {
@@ -78,7 +79,7 @@ pub(crate) fn removed(
     pattern: &[Mark],
     value: &Value,
 ) -> Result<Value, AllocError>
-    ensures { IfOk result (λ v. (c : Calculations) → Agrees c → v ≡ removed (without_match c affix extent pattern.now) value.now) }
+    ensures { IfOk result (λ v. v ≡ removed (without_match affix extent pattern.now) value.now) }
 {
     match value {
         Value::Unset => Ok(Value::Unset),

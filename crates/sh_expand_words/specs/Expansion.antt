@@ -3,7 +3,6 @@ use Rattle.std.specs.Prelude.{ℕ, List, [], ◌∷◌, ◌++◌, Bool, true, fa
 use Rattle.sh_vars.specs.Environment.{Environment}
 use Rattle.sh_tree.specs.declared.tree.Complete.{Complete}
 use Rattle.sh_expand_parts.specs.Answers.{answer_text}
-use Rattle.sh_expand_parts.specs.Calculations.{Calculations}
 use Rattle.sh_expand_parts.specs.Closings.{Closing, closed}
 use Rattle.sh_expand_parts.specs.Drafts.{joined, nothing, plain, text_items}
 use Rattle.sh_expand_parts.specs.declared.context.Context.{Context}
@@ -68,22 +67,22 @@ abbrev pub ended : Closing → Run
 ended c = ended_as c.closed c.env
 
 -- the end of a word inside, behind what stood before it
-abbrev pub closes : Calculations → Purpose → Draft → Run
-closes c purpose saved s = ended (closed c purpose saved s.draft s.env) s
+abbrev pub closes : Purpose → Draft → Run
+closes purpose saved s = ended (closed purpose saved s.draft s.env) s
 
 -- the word so far is set aside
 abbrev pub fresh : State → State
 fresh s = record s { draft = nothing }
 
 -- a word inside is expanded, and then what it was wanted for is done
-abbrev pub enters : Calculations → Purpose → Context → List Piece → Run
-enters c purpose context inner s = then (run_from context true inner (fresh s)) (closes c purpose s.draft)
+abbrev pub enters : Purpose → Context → List Piece → Run
+enters purpose context inner s = then (run_from context true inner (fresh s)) (closes purpose s.draft)
 
 -- a form that may have a word inside
-abbrev pub begins : Calculations → Begun → List Piece → Run
-begins c (Adds d) inner s = adds d s
-begins c (Enters purpose context) inner s = enters c purpose context inner s
-begins c (Fails f) inner s = Stops f s.env
+abbrev pub begins : Begun → List Piece → Run
+begins (Adds d) inner s = adds d s
+begins (Enters purpose context) inner s = enters purpose context inner s
+begins (Fails f) inner s = Stops f s.env
 
 -- a form that has none
 abbrev pub begins_alone : Begun → Run

@@ -17,17 +17,17 @@ abbrev pub weight_step : WeightLayer layer.Part-F → ℕ
 weight_step (layer.Literal text) = 2
 weight_step (layer.Escaped b) = 2
 weight_step (layer.SingleQuoted text) = 2
-weight_step (layer.DoubleQuoted w) = 2 + w.value
+weight_step (layer.DoubleQuoted w) = 2 + w
 weight_step (layer.Parameter p) = 2
 weight_step (layer.Length p) = 2
-weight_step (layer.Conditional p absence action w) = 2 + w.value
-weight_step (layer.Removal p affix extent w) = 2 + w.value
+weight_step (layer.Conditional p absence action w) = 2 + w
+weight_step (layer.Removal p affix extent w) = 2 + w
 weight_step (layer.Substitution program) = 2
 weight_step (layer.Backquoted program) = 2
-weight_step (layer.Arithmetic w) = 2 + w.value
+weight_step (layer.Arithmetic w) = 2 + w
 
 abbrev pub weights_step : WeightLayer layer.Parts-F → ℕ
-weights_step w = total w.items.items
+weights_step w = total w.items
 
 unfoldable pub part_weight : Part → ℕ
 part_weight = folds.fold-Part U U ℕ U U U U U U U U U ℕ U U U

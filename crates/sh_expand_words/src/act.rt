@@ -1,7 +1,6 @@
 //! What a part of a word comes to where it begins.
 ghost use Rattle.std.specs.Prelude.{◌≡◌, ◌<◌, ◌+◌, IfOk, OnOk};
 ghost use Rattle.sh_vars.specs.Environment.{Environment};
-ghost use Rattle.sh_expand_parts.specs.Calculations.{Calculations};
 ghost use Rattle.sh_expand_parts.specs.Drafts.{joined};
 ghost use Rattle.sh_expand_words.specs.Expansion.{State, begins, begins_alone, is_end};
 ghost use Rattle.sh_expand_words.specs.Parts.{parts_of, pieces, run_part};
@@ -13,10 +12,10 @@ use sh_expand_parts::{
     Begun, Context, Draft, Fault, Purpose, begin_conditional, begin_escaped, begin_length,
     begin_literal, begin_parameter, begin_quoted, begin_removal,
 };
+use sh_syntax::shared::Shared;
 use sh_tree::tree::{Complete, Part, Parts};
 use sh_vars::Vars;
 use std::alloc::{AllocError, Global};
-use std::rc::Rc;
 
 /// What a part that was begun comes to.
 #[derive(Drop)]
@@ -25,13 +24,13 @@ pub(crate) enum Act {
     Went,
     /// A word inside it comes first.
     Enter {
-        word: Rc<Parts>,
+        word: Shared<Parts>,
         purpose: Purpose,
         context: Context,
     },
     /// The answer of a program comes first.
     Ask {
-        program: Rc<Complete>,
+        program: Shared<Complete>,
         context: Context,
     },
     /// It can't be expanded.
@@ -49,7 +48,7 @@ fn add(draft: &mut Draft, more: &Draft) -> Result<Act, AllocError>
 
 /// A form that has no word inside.
 fn settle(draft: &mut Draft, begun: Begun) -> Result<Act, AllocError>
-    ensures run { IfOk result (λ a. (c : Calculations) (s : State) → s.draft ≡ draft.old → begins_alone begun s ≡ outcome_at c a (record s { draft = draft.new })) }
+    ensures run { IfOk result (λ a. (s : State) → s.draft ≡ draft.old → begins_alone begun s ≡ outcome_at a (record s { draft = draft.new })) }
     ensures weight { IfOk result (λ a. act_weight a ≡ 0) }
 {
     match begun {
@@ -63,9 +62,9 @@ fn settle(draft: &mut Draft, begun: Begun) -> Result<Act, AllocError>
 }
 
 /// A form that may have a word inside.
-fn enter(draft: &mut Draft, begun: Begun, word: &Rc<Parts>) -> Result<Act, AllocError>
-    ensures run { IfOk result (λ a. (c : Calculations) (s : State) → s.draft ≡ draft.old → begins c begun (pieces c (parts_of word.now.value)) s ≡ outcome_at c a (record s { draft = draft.new })) }
-    ensures weight { IfOk result (λ a. act_weight a < 2 + parts_weight (parts_of word.now.value)) }
+fn enter(draft: &mut Draft, begun: Begun, word: &Shared<Parts>) -> Result<Act, AllocError>
+    ensures run { IfOk result (λ a. (s : State) → s.draft ≡ draft.old → begins begun (pieces (parts_of word.now)) s ≡ outcome_at a (record s { draft = draft.new })) }
+    ensures weight { IfOk result (λ a. act_weight a < 2 + parts_weight (parts_of word.now)) }
 {
     match begun {
         Begun::Adds(more) => {
@@ -73,7 +72,7 @@ fn enter(draft: &mut Draft, begun: Begun, word: &Rc<Parts>) -> Result<Act, Alloc
             Ok(act)
         }
         Begun::Enters { purpose, context } => Ok(Act::Enter {
-            word: word.clone()?,
+            word: word.share()?,
             purpose,
             context,
         }),
@@ -83,7 +82,7 @@ fn enter(draft: &mut Draft, begun: Begun, word: &Rc<Parts>) -> Result<Act, Alloc
 
 /// Whether a word has no part.
 fn has_no_part(word: &Parts) -> bool
-    ensures { (c : Calculations) → result ≡ is_end (pieces c (parts_of word.now)) }
+    ensures { result ≡ is_end (pieces (parts_of word.now)) }
 {
     match word.items.as_slice() {
         [] => true,
@@ -99,7 +98,7 @@ pub(crate) fn begin(
     draft: &mut Draft,
     vars: &Vars,
 ) -> Result<Act, AllocError>
-    ensures run { IfOk result (λ a. (c : Calculations) (s : State) → s.env ≡ vars.now → s.draft ≡ draft.old → run_part c part.now place s ≡ outcome_at c a (record s { draft = draft.new })) }
+    ensures run { IfOk result (λ a. (s : State) → s.env ≡ vars.now → s.draft ≡ draft.old → run_part part.now place s ≡ outcome_at a (record s { draft = draft.new })) }
     ensures weight { IfOk result (λ a. act_weight a < part_weight part.now) }
 {
     match part {
@@ -126,7 +125,7 @@ pub(crate) fn begin(
             Ok(act)
         }
         Part::DoubleQuoted(word) => Ok(Act::Enter {
-            word: word.clone()?,
+            word: word.share()?,
             purpose: Purpose::Quotes,
             context: place.context.inside_quotes(),
         }),
@@ -146,7 +145,7 @@ pub(crate) fn begin(
             action,
             word,
         } => {
-            let no_word = has_no_part(word);
+            let no_word = has_no_part(word.get());
             let begun = begin_conditional(
                 alloc,
                 vars,
@@ -170,15 +169,15 @@ pub(crate) fn begin(
             Ok(act)
         }
         Part::Substitution(program) => Ok(Act::Ask {
-            program: program.clone()?,
+            program: program.share()?,
             context: place.context,
         }),
         Part::Backquoted(program) => Ok(Act::Ask {
-            program: program.clone()?,
+            program: program.share()?,
             context: place.context,
         }),
         Part::Arithmetic(word) => Ok(Act::Enter {
-            word: word.clone()?,
+            word: word.share()?,
             purpose: Purpose::Compute {
                 context: place.context,
             },

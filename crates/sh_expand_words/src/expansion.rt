@@ -1,33 +1,26 @@
 //! An expansion that stops where an answer is needed, and goes on from there.
 ghost use Rattle.std.specs.Prelude.{◌≡◌, ◌++◌, ◌∷◌, ◌+◌, ◌<◌, ◌≤◌, [], ℕ, List, length, IfOk, OnOk, None};
 ghost use Rattle.sh_vars.specs.Environment.{Environment};
-ghost use Rattle.sh_expand_parts.specs.Calculations.{Agrees, Calculations};
 ghost use Rattle.sh_expand_parts.specs.Drafts.{nothing};
 ghost use Rattle.sh_expand_words.specs.Expansion.{Done, closes};
-ghost use Rattle.sh_expand_words.specs.Parts.{Subject, parts_of};
+ghost use Rattle.sh_expand_words.specs.Parts.{parts_of};
+ghost use Rattle.sh_expand_words.specs.declared.wanted.Wanted.{Wanted};
 ghost use Rattle.sh_expand_words.specs.Weights.{parts_weight};
 
 use crate::act::{Act, begin};
 use crate::place::Place;
+use crate::wanted::Wanted;
 use sh_expand_parts::{Closed, Context, Draft, ExpandedWord, Fault, Purpose, answer_items, close};
 use sh_syntax::sequence::Sequence;
+use sh_syntax::shared::Shared;
 use sh_tree::tree::{Complete, Parts};
 use sh_vars::Vars;
 use std::alloc::{AllocError, Global};
-use std::rc::Rc;
-
-/// A word that is to be expanded.
-#[derive(Drop)]
-pub struct Wanted {
-    pub parts: Rc<Parts>,
-    /// What it is expanded for.
-    pub context: Context,
-}
 
 /// A word that is begun: from which part on it is left to do, and what its end does.
 #[derive(Drop)]
 pub struct Frame {
-    parts: Rc<Parts>,
+    parts: Shared<Parts>,
     at: usize,
     context: Context,
     purpose: Purpose,
@@ -37,9 +30,9 @@ pub struct Frame {
 /// Where an expansion of words stands.
 #[derive(Drop)]
 pub struct WordExpansion {
-    words: Vec<Wanted>,
+    words: Sequence<Wanted>,
     next: usize,
-    frames: Vec<Frame>,
+    frames: Sequence<Frame>,
     draft: Draft,
     done: Sequence<ExpandedWord>,
     asked: Context,
@@ -49,7 +42,7 @@ pub struct WordExpansion {
 #[derive(Drop)]
 pub enum Step {
     /// A program's answer is needed: what it writes.
-    Need(Rc<Complete>),
+    Need(Shared<Complete>),
     /// The words are expanded.
     Words,
     /// They can't be.
@@ -61,19 +54,20 @@ impl Frame {
 
     /// Where its next part stands.
     fn place(&self) -> Place
-        requires { self.now.at < length (parts_of self.now.parts.value) }
+        requires { self.now.at < length (parts_of self.now.parts) }
         ensures { result ≡ place_of self.now }
     {
+        let count = self.parts.get().items.len();
         Place {
             context: self.context,
             first: self.at == 0,
-            last: self.at + 1 == self.parts.items.len(),
+            last: self.at + 1 == count,
         }
     }
 }
 
 impl WordExpansion {
-    ghost use Rattle.sh_expand_words.specs.Stand.{IsStep, Waits, act_weight, entered_frame, left_of, outcome_after, outcome_at, outcome_closed, outcome_of, rest, run_frame, state_of, subjects_of, weight};
+    ghost use Rattle.sh_expand_words.specs.Stand.{IsStep, Waits, act_weight, entered_frame, left_of, outcome_after, outcome_at, outcome_closed, outcome_of, rest, run_frame, state_of, weight};
 
     /// The end of a word inside another one, or of a word of its own.
     fn end(
@@ -83,7 +77,7 @@ impl WordExpansion {
         purpose: Purpose,
         saved: Draft,
     ) -> Result<Option<Fault>, AllocError>
-        ensures outcome { IfOk result (λ f. (c : Calculations) → Agrees c → (bs : List (List ℕ)) → outcome_closed f self.new vars.new bs ≡ closes c purpose saved (state_of self.old vars.old bs)) }
+        ensures outcome { IfOk result (λ f. (bs : List (List ℕ)) → outcome_closed f self.new vars.new bs ≡ closes purpose saved (state_of self.old vars.old bs)) }
         ensures frames { self.new.frames ≡ self.old.frames }
         ensures words { self.new.words ≡ self.old.words }
         ensures next { self.new.next ≡ self.old.next }
@@ -106,11 +100,11 @@ impl WordExpansion {
     fn enter(
         &mut self,
         alloc: Global,
-        parts: Rc<Parts>,
+        parts: Shared<Parts>,
         purpose: Purpose,
         context: Context,
     ) -> Result<(), AllocError>
-        ensures frames { OnOk result (self.new.frames.items ≡ self.old.frames.items ++ entered_frame parts purpose context self.old.draft ∷ []) }
+        ensures frames { OnOk result (self.new.frames ≡ self.old.frames ++ entered_frame parts purpose context self.old.draft ∷ []) }
         ensures draft { OnOk result (self.new.draft ≡ nothing) }
         ensures words { self.new.words ≡ self.old.words }
         ensures next { self.new.next ≡ self.old.next }
@@ -129,14 +123,14 @@ impl WordExpansion {
 
     /// The next word.
     fn next_word(&mut self, alloc: Global) -> Result<Option<Step>, AllocError>
-        requires { self.old.frames.items ≡ [] }
-        ensures outcome { IfOk result (λ s. (c : Calculations) (env : Environment) (bs : List (List ℕ)) → outcome_after c s self.new env bs ≡ rest c self.old (Done (state_of self.old env bs))) }
+        requires { self.old.frames ≡ [] }
+        ensures outcome { IfOk result (λ s. (env : Environment) (bs : List (List ℕ)) → outcome_after s self.new env bs ≡ rest self.old (Done (state_of self.old env bs))) }
         ensures smaller { IfOk result (λ s. s ≡ None → weight self.new < weight self.old) }
     {
-        let Some(word) = self.words.get(self.next) else {
+        let Some(word) = self.words.as_slice().get(self.next) else {
             return Ok(Some(Step::Words));
         };
-        let parts = word.parts.clone()?;
+        let parts = word.parts.share()?;
         let context = word.context;
         self.next += 1;
         self.enter(alloc, parts, Purpose::Word { context }, context)?;
@@ -145,7 +139,7 @@ impl WordExpansion {
 
     /// A part was begun, and its frame stands behind it.
     fn advance(&mut self, alloc: Global, act: Act) -> Result<Option<Step>, AllocError>
-        ensures outcome { IfOk result (λ s. (c : Calculations) (env : Environment) (bs : List (List ℕ)) → outcome_after c s self.new env bs ≡ rest c self.old (outcome_at c act (state_of self.old env bs))) }
+        ensures outcome { IfOk result (λ s. (env : Environment) (bs : List (List ℕ)) → outcome_after s self.new env bs ≡ rest self.old (outcome_at act (state_of self.old env bs))) }
         ensures smaller { IfOk result (λ s. s ≡ None → weight self.new ≡ weight self.old + act_weight act) }
     {
         match act {
@@ -173,8 +167,8 @@ impl WordExpansion {
         vars: &mut Vars,
         frame: Frame,
     ) -> Result<Option<Step>, AllocError>
-        requires { length (parts_of frame.parts.value) ≤ frame.at }
-        ensures outcome { IfOk result (λ s. (c : Calculations) → Agrees c → (bs : List (List ℕ)) → outcome_after c s self.new vars.new bs ≡ rest c self.old (run_frame c frame (state_of self.old vars.old bs))) }
+        requires { length (parts_of frame.parts) ≤ frame.at }
+        ensures outcome { IfOk result (λ s. (bs : List (List ℕ)) → outcome_after s self.new vars.new bs ≡ rest self.old (run_frame frame (state_of self.old vars.old bs))) }
         ensures smaller { IfOk result (λ s. weight self.new ≡ weight self.old) }
     {
         let Some(fault) = self.end(alloc, vars, frame.purpose, frame.saved)? else {
@@ -190,14 +184,14 @@ impl WordExpansion {
         vars: &Vars,
         frame: Frame,
     ) -> Result<Option<Step>, AllocError>
-        requires { frame.at < length (parts_of frame.parts.value) }
-        ensures outcome { IfOk result (λ s. (c : Calculations) (bs : List (List ℕ)) → outcome_after c s self.new vars.now bs ≡ rest c self.old (run_frame c frame (state_of self.old vars.now bs))) }
+        requires { frame.at < length (parts_of frame.parts) }
+        ensures outcome { IfOk result (λ s. (bs : List (List ℕ)) → outcome_after s self.new vars.now bs ≡ rest self.old (run_frame frame (state_of self.old vars.now bs))) }
         ensures smaller { IfOk result (λ s. s ≡ None → weight self.new < weight self.old + (1 + parts_weight (left_of frame))) }
     {
         let place = frame.place();
         let act = begin(
             alloc,
-            &frame.parts.items[frame.at],
+            &frame.parts.get().items.as_slice()[frame.at],
             place,
             &mut self.draft,
             vars,
@@ -215,13 +209,13 @@ impl WordExpansion {
 
     /// One turn: the next part of the innermost word, or its end, or the next word.
     fn turn(&mut self, alloc: Global, vars: &mut Vars) -> Result<Option<Step>, AllocError>
-        ensures outcome { IfOk result (λ s. (c : Calculations) → Agrees c → (bs : List (List ℕ)) → outcome_after c s self.new vars.new bs ≡ rest c self.old (Done (state_of self.old vars.old bs))) }
+        ensures outcome { IfOk result (λ s. (bs : List (List ℕ)) → outcome_after s self.new vars.new bs ≡ rest self.old (Done (state_of self.old vars.old bs))) }
         ensures smaller { IfOk result (λ s. s ≡ None → weight self.new < weight self.old) }
     {
         let Some(frame) = self.frames.pop() else {
             return self.next_word(alloc);
         };
-        if frame.at < frame.parts.items.len() {
+        if frame.at < frame.parts.get().items.len() {
             let step = self.take_part(alloc, vars, frame)?;
             return Ok(step);
         }
@@ -231,7 +225,7 @@ impl WordExpansion {
 
     /// On to the next answer that is needed, or the end.
     fn go(&mut self, alloc: Global, vars: &mut Vars) -> Result<Step, AllocError>
-        ensures { IfOk result (λ s. (c : Calculations) → Agrees c → (bs : List (List ℕ)) → outcome_of c s self.new vars.new bs ≡ rest c self.old (Done (state_of self.old vars.old bs))) }
+        ensures { IfOk result (λ s. (bs : List (List ℕ)) → outcome_of s self.new vars.new bs ≡ rest self.old (Done (state_of self.old vars.old bs))) }
     {
         loop {
             if let Some(step) = self.turn(alloc, vars)? {
@@ -245,15 +239,15 @@ impl WordExpansion {
     /// The only error is want of memory; what the variables are then is left open.
     pub fn start(
         alloc: Global,
-        words: Vec<Wanted>,
+        words: Sequence<Wanted>,
         vars: &mut Vars,
     ) -> Result<(WordExpansion, Step), AllocError>
-        ensures { IfOk result (λ r. (c : Calculations) → Agrees c → IsStep c r.1 r.0 vars.new (subjects_of words.items) vars.old []) }
+        ensures { IfOk result (λ r. IsStep r.1 r.0 vars.new words vars.old []) }
     {
         let mut expansion = WordExpansion {
             words,
             next: 0,
-            frames: Vec::new(alloc),
+            frames: Sequence::new(alloc),
             draft: Draft::new(alloc),
             done: Sequence::new(alloc),
             asked: Context::Fields,
@@ -271,7 +265,7 @@ impl WordExpansion {
         answer: &[u8],
         vars: &mut Vars,
     ) -> Result<Step, AllocError>
-        ensures { (c : Calculations) → Agrees c → (subjects : List Subject) (before : Environment) (given : List (List ℕ)) → Waits c self.old vars.old subjects before given → IfOk result (λ s. IsStep c s self.new vars.new subjects before (given ++ answer.now ∷ [])) }
+        ensures { (words : List Wanted) (before : Environment) (given : List (List ℕ)) → Waits self.old vars.old words before given → IfOk result (λ s. IsStep s self.new vars.new words before (given ++ answer.now ∷ [])) }
     {
         let items = answer_items(alloc, self.asked, answer)?;
         self.draft.append(&items)?;

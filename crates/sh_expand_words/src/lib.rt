@@ -9,7 +9,9 @@ mod act;
 mod expansion;
 mod laws;
 mod place;
+mod wanted;
 
-pub use expansion::{Step, Wanted, WordExpansion};
+pub use expansion::{Step, WordExpansion};
 pub use laws::parts_do_what_their_forms_say;
 pub use place::Place;
+pub use wanted::Wanted;

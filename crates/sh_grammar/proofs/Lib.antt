@@ -5,6 +5,7 @@ pub mod Front
 pub mod SoFar
 pub mod Check
 pub mod Computing
+pub mod Deriving
 pub mod Stack
 pub mod Step
 pub mod Standing

@@ -6,5 +6,6 @@ pub mod Predictive
 pub mod Passes
 pub mod Text
 pub mod Computed
+pub mod Derived
 pub mod Reach
 pub mod Recognized

@@ -6,6 +6,7 @@ ghost use Rattle.sh_grammar.specs.Tabulation.{Tabulation};
 ghost use Rattle.sh_grammar.specs.Passes.{IsPredictive};
 ghost use Rattle.sh_grammar.specs.Text.{IsTreeOf, IsText, BeginsText};
 ghost use Rattle.sh_grammar.specs.Computed.{is_whole, is_front, front_length};
+ghost use Rattle.sh_grammar.specs.Derived.{tree_of};
 
 /// Law: no tokens have two trees.
 pub fn one_tree()
@@ -25,4 +26,9 @@ pub fn front_begins_text()
 /// Law: the first `k` tokens begin a text exactly where `k` is at most the computed `front_length`.
 pub fn front_length_is_longest()
     ensures { (d : Tabulation) → IsPredictive d → (tokens : List Token) (k : ℕ) → k ≤ length tokens → (k ≤ front_length d tokens) ↔ BeginsText d (take k tokens) }
+{}
+
+/// Law: the tree of tokens that derive from the start symbol is the computed `tree_of`.
+pub fn tree_is_computed()
+    ensures { (d : Tabulation) → IsPredictive d → (tokens : List Token) (tree : Tree) → IsTreeOf d tokens tree → tree_of d tokens ≡ tree }
 {}

@@ -11,7 +11,9 @@ mod lookup;
 mod recognize;
 
 pub use derivation::Actions;
-pub use laws::{front_begins_text, front_length_is_longest, one_tree, whole_is_text};
+pub use laws::{
+    front_begins_text, front_length_is_longest, one_tree, tree_is_computed, whole_is_text,
+};
 pub use lookup::Tables;
 pub use recognize::Recognizer;
 

@@ -62,7 +62,7 @@ impl Machine {
 
     /// The first process, whose descriptors 0, 1 and 2 refer to one description of the terminal, over these files. The
     /// only error is want of memory.
-    pub fn new(alloc: Global, files: Files) -> Result<Self, AllocError>
+    pub(crate) fn new(alloc: Global, files: Files) -> Result<Self, AllocError>
         ensures { IfOk result (λ machine. machine ≡ starting files) }
     {
         let mut processes = Vec::with_capacity(alloc, 1)?;
@@ -89,7 +89,12 @@ impl Machine {
     /// Reads up to the buffer's length into its front, and says how many bytes these are; 0 is the end (XSH read). A
     /// file's description goes on by as many. `BadDescriptor` where the process has no such descriptor, or it isn't
     /// open for reading or refers to the terminal; `WouldWait` at an empty pipe that has a writer. Takes no memory.
-    pub fn read(&mut self, pid: u32, name: Name, buf: &mut [u8]) -> Result<usize, KernelFault>
+    pub(crate) fn read(
+        &mut self,
+        pid: u32,
+        name: Name,
+        buf: &mut [u8],
+    ) -> Result<usize, KernelFault>
         ensures { GivesRead result buf.old buf.new self.new (read_call self.old pid name (length buf.old)) }
     {
         let Some(k) = find(&self.descriptors, pid, name) else {
@@ -173,7 +178,7 @@ impl Machine {
     /// `BadDescriptor` where the process has no such descriptor, or it isn't open for writing or refers to the terminal;
     /// `WouldWait` at a pipe without room; `BrokenPipe` at one without a reader, which ends the process with SIGPIPE;
     /// `File` with `TooLarge` where a file would be too long; else `NoMemory`.
-    pub fn write(&mut self, pid: u32, number: u8, bytes: &[u8]) -> Result<usize, KernelFault>
+    pub(crate) fn write(&mut self, pid: u32, number: u8, bytes: &[u8]) -> Result<usize, KernelFault>
         ensures { GivesOrLacks result self.old self.new (write_call self.old pid number bytes.now) }
     {
         let Some(k) = find(&self.descriptors, pid, Name::Number(number)) else {
@@ -202,7 +207,7 @@ impl Machine {
 
     /// Closes a descriptor (XSH close); a pipe goes with the last descriptor of its ends. `BadDescriptor` where the
     /// process has none of this name. Takes no memory.
-    pub fn close(&mut self, pid: u32, name: Name) -> Result<(), KernelFault>
+    pub(crate) fn close(&mut self, pid: u32, name: Name) -> Result<(), KernelFault>
         ensures { Gives result self.new (close_call self.old pid name) }
     {
         let Some(_) = find(&self.descriptors, pid, name) else {
@@ -222,7 +227,7 @@ impl Machine {
     /// first. A number that refers to it already stays as it is. `BadDescriptor` where the process has no descriptor of
     /// this name; `TooManyDescriptors` where the number is not below [`MAX_DESCRIPTORS`](crate::MAX_DESCRIPTORS); else
     /// `NoMemory`.
-    pub fn dup(&mut self, pid: u32, name: Name, to: u8) -> Result<(), KernelFault>
+    pub(crate) fn dup(&mut self, pid: u32, name: Name, to: u8) -> Result<(), KernelFault>
         ensures { GivesOrLacks result self.old self.new (dup_call self.old pid name to) }
     {
         let Some(k) = find(&self.descriptors, pid, name) else {
@@ -251,7 +256,7 @@ impl Machine {
     /// Makes a pipe (XSH pipe) with room for [`CAPACITY`](crate::CAPACITY) bytes. One number then refers to the end from
     /// which it is read, and another to that to which it is written; what they referred to is closed. `NoProcess` where
     /// no such process lives; `TooManyDescriptors` where a number is too high; else `NoMemory`.
-    pub fn pipe(&mut self, pid: u32, from: u8, to: u8) -> Result<(), KernelFault>
+    pub(crate) fn pipe(&mut self, pid: u32, from: u8, to: u8) -> Result<(), KernelFault>
         ensures { GivesOrLacks result self.old self.new (pipe_call self.old pid from to) }
     {
         if !lives(&self.processes, pid) {
@@ -300,7 +305,7 @@ impl Machine {
     ///
     /// `NoProcess` where no such process lives; `TooManyDescriptors` where the number is too high; then what
     /// [`Files::open`] refuses, in its order; `NoMemory` may come at any point.
-    pub fn open(
+    pub(crate) fn open(
         &mut self,
         pid: u32,
         directory: &[u8],
@@ -342,7 +347,7 @@ impl Machine {
     /// Sets a descriptor aside: it loses its number, and is called by that of its description, which this answers. A
     /// fork doesn't copy it, and a program that the process starts doesn't have it. `BadDescriptor` where the number
     /// refers to nothing. Takes no memory.
-    pub fn set_aside(&mut self, pid: u32, number: u8) -> Result<usize, KernelFault>
+    pub(crate) fn set_aside(&mut self, pid: u32, number: u8) -> Result<usize, KernelFault>
         ensures { Gives result self.new (set_aside_call self.old pid number) }
     {
         let Some(k) = find(&self.descriptors, pid, Name::Number(number)) else {
@@ -355,7 +360,7 @@ impl Machine {
     /// Gives a descriptor that was set aside a number again; what that referred to is closed. `BadDescriptor` where the
     /// process has set aside no descriptor of this description; `TooManyDescriptors` where the number is too high. Takes
     /// no memory.
-    pub fn put_back(&mut self, pid: u32, aside: usize, number: u8) -> Result<(), KernelFault>
+    pub(crate) fn put_back(&mut self, pid: u32, aside: usize, number: u8) -> Result<(), KernelFault>
         ensures { Gives result self.new (put_back_call self.old pid aside number) }
     {
         let Some(_) = find(&self.descriptors, pid, Name::Aside(aside)) else {
@@ -379,7 +384,7 @@ impl Machine {
     /// set aside; both refer to the same descriptions, and so share offsets. `NoProcess` where no such process lives;
     /// `TooManyProcesses` where [`MAX_LIVE`](crate::MAX_LIVE) live already, or the number would be above
     /// [`MAX_PID`](crate::MAX_PID); else `NoMemory`.
-    pub fn fork(&mut self, pid: u32) -> Result<u32, KernelFault>
+    pub(crate) fn fork(&mut self, pid: u32) -> Result<u32, KernelFault>
         ensures { GivesOrLacks result self.old self.new (fork_call self.old pid) }
     {
         if !lives(&self.processes, pid) {
@@ -404,7 +409,7 @@ impl Machine {
 
     /// Ends a process by itself with a status (XSH _exit): all its descriptors are closed. `NoProcess` where no such
     /// process lives. Takes no memory.
-    pub fn end(&mut self, pid: u32, status: u8) -> Result<(), KernelFault>
+    pub(crate) fn end(&mut self, pid: u32, status: u8) -> Result<(), KernelFault>
         ensures { Gives result self.new (end_call self.old pid status) }
     {
         if !lives(&self.processes, pid) {
@@ -423,7 +428,7 @@ impl Machine {
 
     /// A process starts a program: what it has set aside is closed (XSH exec, FD_CLOEXEC). `NoProcess` where no such
     /// process lives. Takes no memory.
-    pub fn start_program(&mut self, pid: u32) -> Result<(), KernelFault>
+    pub(crate) fn start_program(&mut self, pid: u32) -> Result<(), KernelFault>
         ensures { Gives result self.new (start_call self.old pid) }
     {
         if !lives(&self.processes, pid) {
@@ -441,7 +446,7 @@ impl Machine {
 
     /// Waits until all these children of a process have ended (XSH waitpid). `NoProcess` where one of them is no child
     /// of it; `WouldWait` where one lives. Takes no memory.
-    pub fn wait(&self, pid: u32, awaited: &[u32]) -> Result<(), KernelFault>
+    pub(crate) fn wait(&self, pid: u32, awaited: &[u32]) -> Result<(), KernelFault>
         ensures { result ≡ wait_answer self.now.processes pid awaited.now }
     {
         if !all_children(&self.processes, pid, awaited) {
@@ -454,21 +459,21 @@ impl Machine {
     }
 
     /// Where a process stands, of each that ever was. Takes no memory.
-    pub fn status(&self, pid: u32) -> Option<Status>
+    pub(crate) fn status(&self, pid: u32) -> Option<Status>
         ensures { result ≡ status_at self.now.processes pid }
     {
         status_at(&self.processes, pid)
     }
 
     /// The number of a process's parent, of each that ever was (XSH getppid): 1 where that has ended. Takes no memory.
-    pub fn parent(&self, pid: u32) -> Option<u32>
+    pub(crate) fn parent(&self, pid: u32) -> Option<u32>
         ensures { result ≡ parent_at self.now.processes pid }
     {
         parent_at(&self.processes, pid)
     }
 
     /// The files. Takes no memory.
-    pub fn files(&self) -> &Files
+    pub(crate) fn files(&self) -> &Files
         ensures { result.now ≡ self.now.files }
     {
         &self.files
@@ -485,7 +490,7 @@ impl Machine {
     }
 
     /// Whether a descriptor refers to the terminal (XSH isatty); not where there is none of this name. Takes no memory.
-    pub fn is_terminal(&self, pid: u32, name: Name) -> bool
+    pub(crate) fn is_terminal(&self, pid: u32, name: Name) -> bool
         ensures { result ≡ is_terminal self.now pid name }
     {
         match self.described(pid, name) {
@@ -495,7 +500,7 @@ impl Machine {
     }
 
     /// Whether a descriptor refers to the terminal and is open for reading. Takes no memory.
-    pub fn reads_terminal(&self, pid: u32, name: Name) -> bool
+    pub(crate) fn reads_terminal(&self, pid: u32, name: Name) -> bool
         ensures { result ≡ reads_terminal self.now pid name }
     {
         match self.described(pid, name) {
@@ -505,7 +510,7 @@ impl Machine {
     }
 
     /// Whether a descriptor refers to the terminal and is open for writing. Takes no memory.
-    pub fn writes_terminal(&self, pid: u32, name: Name) -> bool
+    pub(crate) fn writes_terminal(&self, pid: u32, name: Name) -> bool
         ensures { result ≡ writes_terminal self.now pid name }
     {
         match self.described(pid, name) {
@@ -532,7 +537,7 @@ impl Machine {
     }
 
     /// Whether [`Machine::read`] would answer `WouldWait`. Takes no memory.
-    pub fn read_waits(&self, pid: u32, name: Name) -> bool
+    pub(crate) fn read_waits(&self, pid: u32, name: Name) -> bool
         ensures { (n : ℕ) → result ≡ waits (read_call self.now pid name n).answer }
     {
         let Some(k) = find(&self.descriptors, pid, name) else {
@@ -567,7 +572,7 @@ impl Machine {
     }
 
     /// Whether [`Machine::write`] of so many bytes would answer `WouldWait`. Takes no memory.
-    pub fn write_waits(&self, pid: u32, number: u8, count: usize) -> bool
+    pub(crate) fn write_waits(&self, pid: u32, number: u8, count: usize) -> bool
         ensures { (bytes : List ℕ) → length bytes ≡ count → result ≡ waits (write_call self.now pid number bytes).answer }
     {
         let Some(k) = find(&self.descriptors, pid, Name::Number(number)) else {
@@ -583,7 +588,7 @@ impl Machine {
     }
 
     /// Whether a process is neither stopped nor ended. Takes no memory.
-    pub fn is_running(&self, pid: u32) -> bool
+    pub(crate) fn is_running(&self, pid: u32) -> bool
         ensures { result ≡ is_running (status_at self.now.processes pid) }
     {
         is_running(status_at(&self.processes, pid))

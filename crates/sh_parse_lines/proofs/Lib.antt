@@ -3,3 +3,4 @@ pub mod Sizes
 pub mod Refusals
 pub mod Decisions
 pub mod Turning
+pub mod Scanning

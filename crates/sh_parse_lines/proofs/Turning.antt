@@ -30,7 +30,7 @@ no_item at (NulAt place) t h = cc
 no_item at (DeepAt place) t h = cc
 no_item at (Found kind start stop) t h = cc
 
-first_found : (others : Waiting → ℕ → Items) (w : Waiting) (at : ℕ) (first : FirstItem) (t : Item) → Ok t ≡ item_at at first → (t.token.kind ≡ TokenKind.End → ⊥)
+pub first_found : (others : Waiting → ℕ → Items) (w : Waiting) (at : ℕ) (first : FirstItem) (t : Item) → Ok t ≡ item_at at first → (t.token.kind ≡ TokenKind.End → ⊥)
     → with_first others w at first ≡ before_others t (others (behind_token t.token.kind w) t.«end»)
 first_found others w at (NoItem fault) t e h = absurd (no_item at fault t e)
 first_found others w at (FoundItem kind start stop after) t e h =

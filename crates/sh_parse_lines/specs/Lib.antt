@@ -7,3 +7,4 @@ pub mod Fronts
 pub mod Reading
 pub mod Defined
 pub mod Turns
+pub mod Scanned

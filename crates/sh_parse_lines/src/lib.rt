@@ -10,6 +10,7 @@ ghost use Rattle.sh_parse_lines.specs.Reading.{Answers, reading};
 pub mod bodies;
 pub mod front;
 pub mod item;
+pub mod items;
 mod laws;
 mod turn;
 pub mod waiting;
@@ -89,6 +90,8 @@ pub fn read_tokens(alloc: Global, text: &[u8], at_end: bool) -> Result<Reading, 
     }
 }
 
+#[cfg(test)]
+mod body_tests;
 #[cfg(test)]
 mod tests;
 #[cfg(test)]

@@ -1,2 +1,3 @@
 pub mod Backtrack
+pub mod Decisions
 pub mod ItemLemmas

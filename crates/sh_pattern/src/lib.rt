@@ -5,10 +5,12 @@
 mod class;
 mod element;
 mod item;
+mod laws;
 mod mark;
 mod part;
 mod search;
 
+pub use laws::{matching_is_decided, parts_are_decided};
 pub use mark::Mark;
 pub use part::{longest_back, longest_front, shortest_back, shortest_front};
 pub use search::matches;

@@ -10,7 +10,7 @@ use Rattle.sh_scanner_base.specs.declared.character.Character.TheVariants.{Plain
 use Rattle.sh_scanner_base.specs.declared.head.Head.{Head}
 use Rattle.sh_scanner_base.specs.declared.operator.Operator.{Operator}
 use Rattle.sh_scanner_base.specs.declared.context.Context.{Context}
-use Rattle.sh_scanner_base.specs.declared.context.Context.TheVariants.{Top, Commands, Word, Quotes, Braces, Arithmetic, Parenthesis}
+use Rattle.sh_scanner_base.specs.declared.context.Context.TheVariants.{Top, Commands, Word, Quotes, Braces, Arithmetic, Parenthesis, Body}
 use Rattle.sh_scanner_base.specs.declared.mark.Mark.{Mark}
 use Rattle.sh_scanner_base.specs.declared.mark.Mark.TheVariants.{Byte, SingleQuoted, Dollar, Variable, Parameter, BraceOpen, ArithmeticOpen, ArithmeticClose, CommandsOpen, Backquoted, Comment, Bodies}
 use Rattle.sh_scanner_base.specs.declared.pending.Pending.{Pending}
@@ -21,7 +21,7 @@ use Rattle.sh_scanner_base.specs.Growth.{grown, may_grow}
 use Rattle.sh_scanner_base.specs.Heads.{grown_head, head_step, head_of, grows_head}
 use Rattle.sh_scanner_base.specs.Pendings.{is_raw}
 use Rattle.sh_scanner_base.specs.Nested.{none_yet}
-use Rattle.sh_scanner_base.specs.Marks.{stands, IsMark, behind, ends_token, in_word, is_text, top_of, between_tokens, is_quoted, is_arithmetic, has_single_quotes, is_backquoted, is_head, braces_of, parenthesized, levels, is_some, ends_operator, ends_comment, is_gap, with_token, is_more, has_due, due_in}
+use Rattle.sh_scanner_base.specs.Marks.{stands, IsMark, behind, ends_token, in_word, is_text, top_of, between_tokens, is_quoted, is_arithmetic, has_single_quotes, is_backquoted, is_head, braces_of, parenthesized, levels, is_some, ends_operator, ends_comment, with_token, is_more, has_due, due_in}
 use Rattle.sh_scanner_base.specs.Told.{OfOperator, OfBodies}
 use Rattle.sh_scanner.specs.Tokens.{OpensLevel, braces, parenthesis}
 use Rattle.sh_scanner.specs.Machine.{State, Stepped, On, Before, TooDeep, opens, at_dollar, grow_to, then_act, act, plain_byte, quoted_byte, form_byte, after_dollar, after_parenthesis, in_name, headed, in_head, in_single, in_backquotes, in_escape, at_parenthesis, in_operator, in_comment, step, operator_out, same, into, out_level, level_over, in_body, bodies_out}
@@ -29,7 +29,7 @@ use Rattle.sh_scanner.proofs.Running.{begin_of, is_raw_character}
 use Rattle.sh_scanner.proofs.Tests.{and_both, not_false, text_token, levels_token, more_none}
 use Rattle.sh_scanner.proofs.Leads.{begun, kept, settled}
 use Rattle.sh_scanner.proofs.Pieces.{before, arithmetic_level}
-use Rattle.sh_scanner.proofs.Paths.{Path, DeepHere, deep_here, Going, either, no_join_at, pending_levels, Held, Preceded}
+use Rattle.sh_scanner.proofs.Paths.{Subject, IsBlank, Path, DeepHere, deep_here, Going, either, no_join_at, pending_levels, Held, Preceded, preceded_more}
 use Rattle.sh_scanner.proofs.Growing.{grown_text, growing_no_right, grown_no_right, growing_no_newline, grown_no_newline}
 use Rattle.sh_scanner.proofs.Steps.{written_snoc, plain_snoc, raw_snoc, all_snoc, name_snoc, head_snoc, no_more, plain_sound, quoted_sound, then_sound}
 use Rattle.sh_scanner.proofs.Sound.{ahead_plain, ahead_quoted, plain_at, ends_piece, begins_piece, grow_sound}
@@ -52,6 +52,7 @@ single_right Quotes next a h = absurd (cc)
 single_right (Braces q) next a h = absurd (cc)
 single_right Arithmetic next a h = h
 single_right Parenthesis next a h = absurd (cc)
+single_right Body next a h = absurd (cc)
 
 right_stays : (x : Context) (xs : List Context) → is_arithmetic x ≡ true → parenthesized 41 x xs ≡ x ∷ xs
 right_stays Top xs a = refl
@@ -61,12 +62,13 @@ right_stays Quotes xs a = refl
 right_stays (Braces q) xs a = refl
 right_stays Arithmetic xs a = refl
 right_stays Parenthesis xs a = absurd (cc)
+right_stays Body xs a = absurd (cc)
 
 no_form : (b : ℕ) → is_name_start b ≡ false → is_short_parameter b ≡ false → nat_eq b 123 ≡ false → nat_eq b 40 ≡ false → is_form b ≡ false
 no_form b h i j k = rw (h, i, j, k) refl
 
-module _ (e : Bool) (gap : List Mark) (front : List ℕ) (blank : list_all is_gap gap ≡ true) (previous : List ℕ) (x : Context) (xs : List Context) (done : List Mark) (mid m : List ℕ)
-    (p : Path e gap front done (x ∷ xs) mid) where
+module _ (e : Bool) (subject : Subject) (front : List ℕ) (blank : IsBlank subject) (previous : List ℕ) (x : Context) (xs : List Context) (done : List Mark) (mid m : List ℕ)
+    (p : Path e subject front done (x ∷ xs) mid) where
   abbrev lv : ℕ
   lv = levels (x ∷ xs)
 
@@ -74,20 +76,20 @@ module _ (e : Bool) (gap : List Mark) (front : List ℕ) (blank : list_all is_ga
   begin_at q acc = begun (x ∷ xs) done (pending_levels q lv) q acc
 
   abbrev Goes : Stepped → Character → List ℕ → Type 0
-  Goes y c rest = Going e gap front y previous (begin_of c rest) m rest
+  Goes y c rest = Going e subject front y previous (begin_of c rest) m rest
 
   -- a piece goes on
-  held_on : (q : Pending) (acc : List ℕ) (c : Character) (rest : List ℕ) → Held e q (x ∷ xs) acc mid rest → Preceded q (begin_of c rest) rest → Goes (On (begin_at q acc)) c rest
-  held_on q acc c rest h r = begins_piece e gap front blank previous (x ∷ xs) done q acc mid (begin_of c rest) m rest p h r
+  held_on : (q : Pending) (acc : List ℕ) (c : Character) (rest : List ℕ) → Held e q (x ∷ xs) acc mid rest → Preceded q acc (begin_of c rest) rest → Goes (On (begin_at q acc)) c rest
+  held_on q acc c rest h r = begins_piece e subject front blank previous (x ∷ xs) done q acc mid (begin_of c rest) m rest p h r
 
   -- it is over with this character
   ended : (k : Mark) (c : Character) (rest : List ℕ) (t : State) → IsMark e x xs k mid rest → ends_token k (behind done x xs k) ≡ false → t ≡ settled (done ++ k ∷ []) (behind done x xs k) → Goes (On t) c rest
-  ended k c rest t i h w = ends_piece e gap front blank previous x xs done k mid rest (begin_of c rest) m t p i h w
+  ended k c rest t i h w = ends_piece e subject front blank previous x xs done k mid rest (begin_of c rest) m t p i h w
 
   -- it is over before this character
   over_before : (k : Mark) (c : Character) (rest : List ℕ) (t : State) → IsMark e x xs k mid m → ends_token k (behind done x xs k) ≡ false → is_raw_character c ≡ false → Reads e c m rest
       → settled (done ++ k ∷ []) (behind done x xs k) ≡ t → Goes (act t c) c rest
-  over_before k c rest t i h r f w = then_sound e gap front blank previous x xs done k mid m rest c t p i h r f w
+  over_before k c rest t i h r f w = then_sound e subject front blank previous x xs done k mid m rest c t p i h r f w
 
   -- behind a dollar
   level_deep : (q : Pending) (c : ℕ) (rest : List ℕ) → in_word x ≡ true → (nat_lt lv 500 ≡ true → Goes (On (begun (x ∷ xs) done (suc lv) q [])) (Plain c) rest) → Written e (Plain 36 ∷ []) mid m → previous ≡ 36 ∷ m
@@ -95,12 +97,12 @@ module _ (e : Bool) (gap : List Mark) (front : List ℕ) (blank : list_all is_ga
   level_deep q c rest w f v r o = go (nat_lt lv 500) refl
     where
       go : (d : Bool) → nat_lt lv 500 ≡ d
-          → Going e gap front (at_dollar (cond d (On (begun (x ∷ xs) done (suc lv) q [])) (TooDeep (begin_at Pending.Dollar [])))) previous (c ∷ rest) m rest
+          → Going e subject front (at_dollar (cond d (On (begun (x ∷ xs) done (suc lv) q [])) (TooDeep (begin_at Pending.Dollar [])))) previous (c ∷ rest) m rest
       go true h = f h
       go false h =
           record {
-            it = subst (λ z. DeepHere e gap front z) (sym r)
-                (deep_here e gap front done (x ∷ xs) mid (36 ∷ m) p h w (record { lines = v.1.0; is = v.1.1 ∙ ap (λ z. joins v.1.0 ++ 36 ∷ z) v.2; over = no_join_at 36 m refl }) o);
+            it = subst (λ z. DeepHere e subject front z) (sym r)
+                (deep_here e subject front done (x ∷ xs) mid (36 ∷ m) p h w (record { lines = v.1.0; is = v.1.1 ∙ ap (λ z. joins v.1.0 ++ 36 ∷ z) v.2; over = no_join_at 36 m refl }) o);
           }
 
   pub dollar_mark : in_word x ≡ true → not (next_is is_form (ahead e m)) ≡ true → Written e (Plain 36 ∷ []) mid m → IsMark e x xs Dollar mid m
@@ -108,16 +110,16 @@ module _ (e : Bool) (gap : List Mark) (front : List ℕ) (blank : list_all is_ga
 
   dollar_plain : (b : ℕ) (rest : List ℕ) → in_word x ≡ true → Written e (Plain 36 ∷ []) mid m → previous ≡ 36 ∷ m → Reads e (Plain b) m rest → Goes (form_byte (begin_at Pending.Dollar []) b) (Plain b) rest
   dollar_plain b rest w v r f =
-      either e gap front (is_name_start b) _ _ previous (b ∷ rest) m rest
+      either e subject front (is_name_start b) _ _ previous (b ∷ rest) m rest
       (λ h. held_on Pending.Name (b ∷ []) (Plain b) rest (and_both (begins_name b) true h refl, w, written_snoc e (Plain 36 ∷ []) (Plain b) mid m rest v f) tt)
-      (λ hn. either e gap front (is_short_parameter b) _ _ previous (b ∷ rest) m rest
+      (λ hn. either e subject front (is_short_parameter b) _ _ previous (b ∷ rest) m rest
       (λ h. ended (Parameter b) (Plain b) rest (same (Parameter b) (begin_at Pending.Dollar []))
       (record { written = written_snoc e (Plain 36 ∷ []) (Plain b) mid m rest v f; fits = and_both (in_word x) (is_short_parameter b) w h; level = refl }) refl refl)
-      (λ hs. either e gap front (nat_eq b 123) _ _ previous (b ∷ rest) m rest
+      (λ hs. either e subject front (nat_eq b 123) _ _ previous (b ∷ rest) m rest
       (λ h. let g = plain_at e b 123 m rest h f in
       level_deep (Pending.Head Head.Start) b rest w
       (λ l. held_on (Pending.Head Head.Start) [] (Plain b) rest (refl, w, l, written_snoc e (Plain 36 ∷ []) (Plain 123) mid m rest v g) tt) v r (braces rest (m, (0, refl, inl refl), (rest, g, refl))))
-      (λ hb. either e gap front (nat_eq b 40) _ _ previous (b ∷ rest) m rest
+      (λ hb. either e subject front (nat_eq b 40) _ _ previous (b ∷ rest) m rest
       (λ h. let g = plain_at e b 40 m rest h f in
       level_deep Pending.DollarParenthesis b rest w
       (λ l. held_on Pending.DollarParenthesis [] (Plain b) rest (refl, w, l, written_snoc e (Plain 36 ∷ []) (Plain 40) mid m rest v g) tt) v r (parenthesis rest (m, (0, refl, inl refl), (rest, g, refl))))
@@ -141,7 +143,7 @@ module _ (e : Bool) (gap : List Mark) (front : List ℕ) (blank : list_all is_ga
       → Goes (after_parenthesis (begin_at Pending.DollarParenthesis []) c) c rest
   unfolding after_parenthesis
   parenthesis_sound (Plain b) rest k w l v f =
-      either e gap front (nat_eq b 40) _ _ previous (b ∷ rest) m rest
+      either e subject front (nat_eq b 40) _ _ previous (b ∷ rest) m rest
       (λ h. ended ArithmeticOpen (Plain b) rest (into Arithmetic ArithmeticOpen (begin_at Pending.DollarParenthesis []))
       (record { written = written_snoc e (Plain 36 ∷ Plain 40 ∷ []) (Plain 40) mid m rest v (plain_at e b 40 m rest h f); fits = w; level = opened_level l }) refl refl)
       (λ h. over_before CommandsOpen (Plain b) rest (into (Commands none_yet) CommandsOpen (begin_at Pending.DollarParenthesis []))
@@ -159,7 +161,7 @@ module _ (e : Bool) (gap : List Mark) (front : List ℕ) (blank : list_all is_ga
       → Goes (in_name (begin_at Pending.Name acc) c) c rest
   unfolding in_name
   name_sound acc (Plain b) rest k n w v f =
-      either e gap front (is_name_byte b) _ _ previous (b ∷ rest) m rest
+      either e subject front (is_name_byte b) _ _ previous (b ∷ rest) m rest
       (λ h. held_on Pending.Name (acc ++ b ∷ []) (Plain b) rest
       (name_snoc acc b n h, w, subst (λ z. Written e (Plain 36 ∷ z) mid rest) (plain_snoc acc b) (written_snoc e (Plain 36 ∷ plain acc) (Plain b) mid m rest v f)) tt)
       (λ h. over_before (Variable acc) (Plain b) rest (same (Variable acc) (begin_at Pending.Name acc)) (name_mark acc n w (not_next is_name_byte b (ahead e m) h (ahead_plain e b m rest f)) v) refl refl f refl)
@@ -202,7 +204,7 @@ module _ (e : Bool) (gap : List Mark) (front : List ℕ) (blank : list_all is_ga
   single_sound acc (Plain b) rest k n w v f = absurd (cc)
   single_sound acc (Quoted b) rest k n w v f = absurd (cc)
   single_sound acc (Raw b) rest k n w v f =
-      either e gap front (nat_eq b 39) _ _ previous (b ∷ rest) m rest
+      either e subject front (nat_eq b 39) _ _ previous (b ∷ rest) m rest
       (λ h. ended (SingleQuoted acc) (Raw b) rest (same (SingleQuoted acc) (begin_at Pending.Single acc))
       (record {
         written = subst (λ z. Written e (Plain 39 ∷ (raw acc ++ Raw z ∷ [])) mid rest) (eqb-true b 39 h) (written_snoc e (Plain 39 ∷ raw acc) (Raw b) mid m rest v f);
@@ -229,25 +231,25 @@ module _ (e : Bool) (gap : List Mark) (front : List ℕ) (blank : list_all is_ga
   back_sound acc (Plain b) rest k n w l v f = absurd (cc)
   back_sound acc (Quoted b) rest k n w l v f = absurd (cc)
   back_sound acc (Raw b) rest k n w l v f =
-      either e gap front (nat_eq b 96) _ _ previous (b ∷ rest) m rest
+      either e subject front (nat_eq b 96) _ _ previous (b ∷ rest) m rest
       (λ h. ended (Backquoted acc) (Raw b) rest (level_over (Backquoted acc) (begin_at Pending.Backquotes acc))
       (record {
         written = subst (λ z. Written e (Plain 96 ∷ (raw acc ++ Raw z ∷ [])) mid rest) (eqb-true b 96 h) (written_snoc e (Plain 96 ∷ raw acc) (Raw b) mid m rest v f);
         fits = and_both (in_word x) (is_backquoted acc) w (ap is_backquoted (sym (append-nil acc)) ∙ n []);
         level = opened_level l;
       }) refl (ap (kept (x ∷ xs) (done ++ Backquoted acc ∷ [])) (before lv)))
-      (λ h96. either e gap front (nat_eq b 92) _ _ previous (b ∷ rest) m rest
+      (λ h96. either e subject front (nat_eq b 92) _ _ previous (b ∷ rest) m rest
       (λ h. held_on Pending.BackquotesEscape (acc ++ b ∷ []) (Raw b) rest
       ((λ c bs. ap is_backquoted (append_assoc acc (b ∷ []) (c ∷ bs)) ∙ (n (b ∷ c ∷ bs) ∙ back_pair b c bs h)), w, l, more_raw acc b rest v f) tt)
       (λ h92. held_on Pending.Backquotes (acc ++ b ∷ []) (Raw b) rest
-      ((λ bs. ap is_backquoted (append_assoc acc (b ∷ []) bs) ∙ (n (b ∷ bs) ∙ back_more b bs h96 h92)), w, l, more_raw acc b rest v f) tt))
+      ((λ bs. ap is_backquoted (append_assoc acc (b ∷ []) bs) ∙ (n (b ∷ bs) ∙ back_more b bs h96 h92)), w, l, more_raw acc b rest v f) (preceded_more acc b (b ∷ rest) rest)))
 
   pair_sound : (acc : List ℕ) (c : Character) (rest : List ℕ) → is_raw_character c ≡ true → ((b : ℕ) (bs : List ℕ) → is_backquoted (acc ++ b ∷ bs) ≡ is_backquoted bs) → in_word x ≡ true → nat_lt lv 500 ≡ true
       → Written e (Plain 96 ∷ raw acc) mid m → Reads e c m rest → Goes (in_escape (begin_at Pending.BackquotesEscape acc) c) c rest
   pair_sound acc (Plain b) rest k n w l v f = absurd (cc)
   pair_sound acc (Quoted b) rest k n w l v f = absurd (cc)
   pair_sound acc (Raw b) rest k n w l v f =
-      held_on Pending.Backquotes (acc ++ b ∷ []) (Raw b) rest ((λ bs. ap is_backquoted (append_assoc acc (b ∷ []) bs) ∙ n b bs), w, l, more_raw acc b rest v f) tt
+      held_on Pending.Backquotes (acc ++ b ∷ []) (Raw b) rest ((λ bs. ap is_backquoted (append_assoc acc (b ∷ []) bs) ∙ n b bs), w, l, more_raw acc b rest v f) (preceded_more acc b (b ∷ rest) rest)
 
   right_mark : is_arithmetic x ≡ true → not (next_is (λ z. nat_eq z 41) (ahead e m)) ≡ true → Written e (Plain 41 ∷ []) mid m → IsMark e x xs (Byte 41) mid m
   right_mark a h v = record { written = v; fits = single_right x (ahead e m) a h; level = refl }
@@ -256,7 +258,7 @@ module _ (e : Bool) (gap : List Mark) (front : List ℕ) (blank : list_all is_ga
       → Goes (at_parenthesis (begin_at Pending.Parenthesis []) c) c rest
   unfolding at_parenthesis
   right_sound (Plain b) rest k a v f =
-      either e gap front (nat_eq b 41) _ _ previous (b ∷ rest) m rest
+      either e subject front (nat_eq b 41) _ _ previous (b ∷ rest) m rest
       (λ h. ended ArithmeticClose (Plain b) rest (out_level ArithmeticClose (begin_at Pending.Parenthesis []))
       (record { written = written_snoc e (Plain 41 ∷ []) (Plain 41) mid m rest v (plain_at e b 41 m rest h f); fits = a; level = refl }) refl
       (ap (kept xs (done ++ ArithmeticClose ∷ [])) (arithmetic_level x xs a)))
@@ -292,7 +294,7 @@ module _ (e : Bool) (gap : List Mark) (front : List ℕ) (blank : list_all is_ga
     where
       go : (y : Option Operator) → grown o b ≡ y → Goes (grow_to o y (begin_at (Pending.Operator o) []) b) (Plain b) rest
       go (Some longer) h =
-          grow_sound e gap front blank previous x xs done mid p longer rest (b ∷ rest) m p.inside.inner i (more_none longer x (grown_no_right o longer b g h) (grown_no_newline o longer b g h))
+          grow_sound e subject front blank previous x xs done mid p longer rest (b ∷ rest) m p.inside.inner i (more_none longer x (grown_no_right o longer b g h) (grown_no_newline o longer b g h))
           (subst (λ z. Written e z mid rest) (plain_snoc (operator_text o) b ∙ ap plain (sym (grown_text o longer b h))) (written_snoc e (plain (operator_text o)) (Plain b) mid m rest v f))
       go None h = operator_before o (Plain b) rest refl i g (ap (ends_operator o) (ahead_plain e b m rest f) ∙ ap (λ z. not (is_some z)) h) v f
   operator_sound o (Quoted b) rest k i g v f = operator_before o (Quoted b) rest refl i g (ap (ends_operator o) (ahead_quoted e b m rest f)) v f
@@ -304,7 +306,7 @@ module _ (e : Bool) (gap : List Mark) (front : List ℕ) (blank : list_all is_ga
   comment_sound acc (Plain b) rest k n i v f = absurd (cc)
   comment_sound acc (Quoted b) rest k n i v f = absurd (cc)
   comment_sound acc (Raw b) rest k n i v f =
-      either e gap front (nat_eq b 10) _ _ previous (b ∷ rest) m rest
+      either e subject front (nat_eq b 10) _ _ previous (b ∷ rest) m rest
       (λ h. let z = eqb-true b 10 h in
       let g : m ≡ 10 ∷ rest = f ∙ ap (λ y. y ∷ rest) z in
       subst (λ y. Goes (plain_byte (same (Comment acc) (begin_at Pending.Comment acc)) y) (Raw y) rest) (sym z)
@@ -340,13 +342,13 @@ module _ (e : Bool) (gap : List Mark) (front : List ℕ) (blank : list_all is_ga
 
   nothing_sound : (c : Character) (rest : List ℕ) → is_raw_character c ≡ false → mid ≡ m → Reads e c m rest → Goes (act (settled done (x ∷ xs)) c) c rest
   nothing_sound (Plain b) rest k w f =
-      subst (λ z. Going e gap front (plain_byte (settled done (x ∷ xs)) b) previous (b ∷ rest) z rest) w (plain_sound e gap front blank previous x xs done mid b rest p (subst (λ z. Reads e (Plain b) z rest) (sym w) f))
+      subst (λ z. Going e subject front (plain_byte (settled done (x ∷ xs)) b) previous (b ∷ rest) z rest) w (plain_sound e subject front blank previous x xs done mid b rest p (subst (λ z. Reads e (Plain b) z rest) (sym w) f))
   nothing_sound (Quoted b) rest k w f =
-      subst (λ z. Going e gap front (quoted_byte (settled done (x ∷ xs)) b) previous (92 ∷ b ∷ rest) z rest) w (quoted_sound e gap front blank previous x xs done mid b rest p (subst (λ z. Reads e (Quoted b) z rest) (sym w) f))
+      subst (λ z. Going e subject front (quoted_byte (settled done (x ∷ xs)) b) previous (92 ∷ b ∷ rest) z rest) w (quoted_sound e subject front blank previous x xs done mid b rest p (subst (λ z. Reads e (Quoted b) z rest) (sym w) f))
   nothing_sound (Raw b) rest k w f = absurd (cc)
 
   -- what each character makes of it
-  pub step_sound : (q : Pending) (acc : List ℕ) (c : Character) (rest : List ℕ) → is_raw q ≡ is_raw_character c → Held e q (x ∷ xs) acc mid m → Preceded q previous m → Reads e c m rest → Goes (step (begin_at q acc) c) c rest
+  pub step_sound : (q : Pending) (acc : List ℕ) (c : Character) (rest : List ℕ) → is_raw q ≡ is_raw_character c → Held e q (x ∷ xs) acc mid m → Preceded q acc previous m → Reads e c m rest → Goes (step (begin_at q acc) c) c rest
   step_sound Pending.Nothing acc c rest k h r f = subst (λ a. Goes (step (begin_at Pending.Nothing a) c) c rest) (sym h.0) (nothing_sound c rest (sym k) h.1 f)
   step_sound Pending.Dollar acc c rest k h r f = subst (λ a. Goes (step (begin_at Pending.Dollar a) c) c rest) (sym h.0) (dollar_sound c rest (sym k) h.1 h.2 r f)
   step_sound Pending.DollarParenthesis acc c rest k h r f = subst (λ a. Goes (step (begin_at Pending.DollarParenthesis a) c) c rest) (sym h.0) (parenthesis_sound c rest (sym k) h.1 h.2 h.3 f)

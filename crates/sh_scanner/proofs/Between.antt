@@ -7,7 +7,7 @@ use Rattle.sh_scanner_base.specs.declared.character.Character.TheVariants.{Plain
 use Rattle.sh_scanner_base.specs.declared.operator.Operator.{Operator}
 use Rattle.sh_scanner_base.specs.declared.operator.Operator.TheVariants.{And, Semicolon, Pipe, Less, Great, LeftParenthesis, RightParenthesis, Newline, AndIf, OrIf, DoubleSemicolon, DoubleLess, DoubleGreat, LessAnd, GreatAnd, LessGreat, DoubleLessDash, Clobber}
 use Rattle.sh_scanner_base.specs.declared.context.Context.{Context}
-use Rattle.sh_scanner_base.specs.declared.context.Context.TheVariants.{Top, Commands, Word, Quotes, Braces, Arithmetic, Parenthesis}
+use Rattle.sh_scanner_base.specs.declared.context.Context.TheVariants.{Top, Commands, Word, Quotes, Braces, Arithmetic, Parenthesis, Body}
 use Rattle.sh_scanner_base.specs.declared.mark.Mark.{Mark}
 use Rattle.sh_scanner_base.specs.declared.mark.Mark.TheVariants.{CommandsClose, WordOpen, WordClose, Blank, Comment, Bodies}
 use Rattle.sh_scanner_base.specs.declared.pending.Pending.{Pending}
@@ -16,7 +16,7 @@ use Rattle.sh_scanner_base.specs.Characters.{Reads, Written, plain, raw, Ahead, 
 use Rattle.sh_scanner_base.specs.Pendings.{is_raw}
 use Rattle.sh_scanner_base.specs.Operators.{operator_text}
 use Rattle.sh_scanner_base.specs.Growth.{grown, may_grow, operator_of}
-use Rattle.sh_scanner_base.specs.Marks.{is_text, top_of, between_tokens, is_word, may_close, levels, ends_comment, begins_word, ends_word, same_as, is_some, ends_operator, is_right_parenthesis, is_newline, is_more, has_due, due_in, with_token}
+use Rattle.sh_scanner_base.specs.Marks.{is_text, is_body, top_of, between_tokens, is_word, may_close, levels, ends_comment, begins_word, ends_word, same_as, is_some, ends_operator, is_right_parenthesis, is_newline, is_more, has_due, due_in, with_token}
 use Rattle.sh_scanner_base.specs.Told.{Told, OfOperator, OfWord, OfBodies}
 use Rattle.sh_scanner.specs.Machine.{State, On, step, is_top, grow, grow_to, word_byte, between, after_word, plain_byte, quoted_byte, in_operator, in_comment, word_out, same, pend, into, out_level}
 use Rattle.sh_scanner.specs.Run.{is_gap_state, fed, run}
@@ -34,6 +34,7 @@ closes_between Quotes h = absurd (cc)
 closes_between (Braces q) h = absurd (cc)
 closes_between Arithmetic h = absurd (cc)
 closes_between Parenthesis h = absurd (cc)
+closes_between Body h = absurd (cc)
 
 pub closes_level : (x : Context) (xs : List Context) → may_close x ≡ true → levels (x ∷ xs) - 1 ≡ levels xs
 closes_level Top xs h = absurd (cc)
@@ -43,6 +44,7 @@ closes_level Quotes xs h = absurd (cc)
 closes_level (Braces q) xs h = absurd (cc)
 closes_level Arithmetic xs h = absurd (cc)
 closes_level Parenthesis xs h = absurd (cc)
+closes_level Body xs h = absurd (cc)
 
 closes_no_text : (x : Context) → may_close x ≡ true → is_text x ≡ false
 closes_no_text Top h = absurd (cc)
@@ -52,6 +54,7 @@ closes_no_text Quotes h = refl
 closes_no_text (Braces q) h = refl
 closes_no_text Arithmetic h = refl
 closes_no_text Parenthesis h = refl
+closes_no_text Body h = refl
 
 pub between_no_word : (x : Context) → between_tokens x ≡ true → is_word x ≡ false
 between_no_word Top h = refl
@@ -61,6 +64,17 @@ between_no_word Quotes h = absurd (cc)
 between_no_word (Braces q) h = absurd (cc)
 between_no_word Arithmetic h = absurd (cc)
 between_no_word Parenthesis h = absurd (cc)
+between_no_word Body h = absurd (cc)
+
+pub between_no_body : (x : Context) → between_tokens x ≡ true → is_body x ≡ false
+between_no_body Top h = refl
+between_no_body (Commands ts) h = refl
+between_no_body (Word n) h = absurd (cc)
+between_no_body Quotes h = absurd (cc)
+between_no_body (Braces q) h = absurd (cc)
+between_no_body Arithmetic h = absurd (cc)
+between_no_body Parenthesis h = absurd (cc)
+between_no_body Body h = absurd (cc)
 
 -- how operators are made byte by byte
 pub record First (b : ℕ) (p : Operator) : Type 0 where
@@ -240,10 +254,11 @@ module _ (k e : Bool) (x : Context) (xs : List Context) (done : List Mark) where
       let c = OfOperator o in
       let u = text_token c (x ∷ xs) ∙ t in
       let v = between_no_word (top_of (with_token c (x ∷ xs))) (between_token c (x ∷ xs) ∙ h) in
+      let y = between_no_body (top_of (with_token c (x ∷ xs))) (between_token c (x ∷ xs) ∙ h) in
       record {
         plains = λ b j. ap (λ y. grow_to o y (begun (x ∷ xs) done lv (Pending.Operator o) []) b) (no_longer o b (ahead e m) i j) ∙ (rw u refl);
         quoteds = λ b j. rw u refl;
-        ends = λ j. rw (t, u, v) refl;
+        ends = λ j. rw (t, u, y, v) refl;
       }
 
   last_byte : (o : Operator) (s : State) (m rest : List ℕ) (b : ℕ) → is_text x ≡ false → between_tokens x ≡ true → ends_operator o (ahead e rest) ≡ true
@@ -305,6 +320,7 @@ due_between Quotes h = absurd (cc)
 due_between (Braces q) h = absurd (cc)
 due_between Arithmetic h = absurd (cc)
 due_between Parenthesis h = absurd (cc)
+due_between Body h = absurd (cc)
 
 between_due : (s : State) → has_due (top_of s.contexts) ≡ true → between s 10 ≡ On (pend (Pending.Body 0 0 false) s)
 unfolding between
@@ -356,7 +372,7 @@ module _ (k e : Bool) (n : ℕ) (xs : List Context) (done : List Mark) (r : Bool
             ∙ (ap (λ z. after_word (word_out z open_word) b) (sym q)
             ∙ (closed_word closed b (text_token class xs ∙ t) ∙ sym (plain_between closed b (between_token class xs ∙ h))));
         quoteds = λ b j. let z = sym (ap ends_word j) ∙ i in absurd (cc);
-        ends = λ j. rw (text_token (OfWord false (drop (suc n) done)) xs ∙ t, text_token class xs ∙ t, between_no_word (top_of (with_token class xs)) (between_token class xs ∙ h)) refl;
+        ends = λ j. rw (text_token (OfWord false (drop (suc n) done)) xs ∙ t, text_token class xs ∙ t, between_no_body (top_of (with_token class xs)) (between_token class xs ∙ h), between_no_word (top_of (with_token class xs)) (between_token class xs ∙ h)) refl;
       }
 
   pub word_over_leads : between_tokens (top_of xs) ≡ true → is_text (top_of xs) ≡ false → ends_word (ahead e m) ≡ true → same_as r (next_is is_redirection (ahead e m)) ≡ true

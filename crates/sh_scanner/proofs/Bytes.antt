@@ -1,7 +1,7 @@
 -- What the machine does with single bytes.
 use Rattle.std.proofs.Common.{◌≡◌, ℕ, Bool, true, false, ◌||◌, ◌&&◌, not, nat_eq, List, [], ◌∷◌, ◌++◌, refl, subst, cond, eqb-true}
 use Rattle.sh_scanner_base.specs.declared.context.Context.{Context}
-use Rattle.sh_scanner_base.specs.declared.context.Context.TheVariants.{Top, Commands, Word, Quotes, Braces, Arithmetic, Parenthesis}
+use Rattle.sh_scanner_base.specs.declared.context.Context.TheVariants.{Top, Commands, Word, Quotes, Braces, Arithmetic, Parenthesis, Body}
 use Rattle.sh_scanner_base.specs.declared.mark.Mark.{Mark}
 use Rattle.sh_scanner_base.specs.declared.mark.Mark.TheVariants.{Byte, Escaped, Backslash, DoubleQuotesOpen, DoubleQuotesClose, BraceClose}
 use Rattle.sh_scanner_base.specs.declared.pending.Pending.{Pending}
@@ -108,6 +108,18 @@ stood Parenthesis b next h =
       within = refl;
       going = refl;
     }
+stood Body b next h =
+    let r = not_or (nat_eq b 36) (nat_eq b 96) h in
+    record {
+      single = and_false (nat_eq b 39);
+      double = and_false (nat_eq b 34);
+      quote = and_false (nat_eq b 34);
+      brace = and_false (nat_eq b 125);
+      dollar = r.0;
+      backquote = r.1;
+      within = refl;
+      going = refl;
+    }
 
 module _ (x : Context) (xs : List Context) (done : List Mark) (lv : ℕ) where
   abbrev pub here : State
@@ -154,6 +166,7 @@ module _ (x : Context) (xs : List Context) (done : List Mark) (lv : ℕ) where
       none (Braces q) h = absurd (cc)
       none Arithmetic h = absurd (cc)
       none Parenthesis h = refl
+      none Body h = absurd (cc)
 
       go : (d c : Bool) → (nat_eq b 41 && is_parenthesis x) ≡ c → levels (cond d (Parenthesis ∷ x ∷ xs) (cond c xs (x ∷ xs))) ≡ levels (x ∷ xs)
       go true c i = refl
@@ -173,6 +186,7 @@ module _ (x : Context) (xs : List Context) (done : List Mark) (lv : ℕ) where
       within (Braces q) h = refl
       within Arithmetic h = refl
       within Parenthesis h = refl
+      within Body h = refl
 
   pub backslash_in : (b : ℕ) → in_word x ≡ true → quotes x b ≡ false → quoted_byte here b ≡ On (kept (x ∷ xs) (done ++ Backslash b ∷ []) lv)
   unfolding quoted_byte
@@ -189,6 +203,7 @@ single_opens (Braces true) xs done lv h = absurd (cc)
 single_opens (Braces false) xs done lv h = refl
 single_opens Arithmetic xs done lv h = absurd (cc)
 single_opens Parenthesis xs done lv h = absurd (cc)
+single_opens Body xs done lv h = absurd (cc)
 
 pub double_opens : (x : Context) (xs : List Context) (done : List Mark) (lv : ℕ) → has_double_quotes x ≡ true
     → plain_byte (kept (x ∷ xs) done lv) 34 ≡ On (kept (Quotes ∷ x ∷ xs) (done ++ DoubleQuotesOpen ∷ []) lv)
@@ -200,6 +215,7 @@ double_opens Quotes xs done lv h = absurd (cc)
 double_opens (Braces q) xs done lv h = refl
 double_opens Arithmetic xs done lv h = absurd (cc)
 double_opens Parenthesis xs done lv h = absurd (cc)
+double_opens Body xs done lv h = absurd (cc)
 
 pub double_closes : (x : Context) (xs : List Context) (done : List Mark) (lv : ℕ) → is_quotes x ≡ true
     → plain_byte (kept (x ∷ xs) done lv) 34 ≡ On (kept xs (done ++ DoubleQuotesClose ∷ []) lv)
@@ -211,6 +227,7 @@ double_closes Quotes xs done lv h = refl
 double_closes (Braces q) xs done lv h = absurd (cc)
 double_closes Arithmetic xs done lv h = absurd (cc)
 double_closes Parenthesis xs done lv h = absurd (cc)
+double_closes Body xs done lv h = absurd (cc)
 
 pub brace_closes : (x : Context) (xs : List Context) (done : List Mark) (lv : ℕ) → is_braces x ≡ true
     → plain_byte (kept (x ∷ xs) done lv) 125 ≡ On (out_level BraceClose (kept (x ∷ xs) done lv))
@@ -222,6 +239,7 @@ brace_closes Quotes xs done lv h = absurd (cc)
 brace_closes (Braces q) xs done lv h = refl
 brace_closes Arithmetic xs done lv h = absurd (cc)
 brace_closes Parenthesis xs done lv h = absurd (cc)
+brace_closes Body xs done lv h = absurd (cc)
 
 pub dollar_in : (x : Context) (xs : List Context) (done : List Mark) (lv : ℕ) → in_word x ≡ true → plain_byte (kept (x ∷ xs) done lv) 36 ≡ On (begun (x ∷ xs) done lv Pending.Dollar [])
 unfolding plain_byte word_byte
@@ -232,3 +250,4 @@ dollar_in Quotes xs done lv h = refl
 dollar_in (Braces q) xs done lv h = refl
 dollar_in Arithmetic xs done lv h = refl
 dollar_in Parenthesis xs done lv h = refl
+dollar_in Body xs done lv h = refl

@@ -4,7 +4,7 @@ use Rattle.std.specs.List.{list_all}
 use Rattle.sh_scanner_base.specs.declared.character.Character.TheVariants.{Plain}
 use Rattle.sh_scanner_base.specs.declared.operator.Operator.{Operator}
 use Rattle.sh_scanner_base.specs.declared.context.Context.{Context}
-use Rattle.sh_scanner_base.specs.declared.context.Context.TheVariants.{Top, Commands, Word, Quotes, Braces, Arithmetic, Parenthesis}
+use Rattle.sh_scanner_base.specs.declared.context.Context.TheVariants.{Top, Commands, Word, Quotes, Braces, Arithmetic, Parenthesis, Body}
 use Rattle.sh_scanner_base.specs.declared.mark.Mark.{Mark}
 use Rattle.sh_scanner_base.specs.declared.mark.Mark.TheVariants.{WordOpen, WordClose}
 use Rattle.sh_scanner_base.specs.declared.pending.Pending.{Pending}
@@ -91,13 +91,13 @@ module _ (e : Bool) (gap : List Mark) where
       go : (d : Bool) → may_grow o ≡ d → after e (cond d (On (begun (Top ∷ []) gap 0 (Pending.Operator o) [])) (After (operator_out o base))) Q w.0 ≡ Ended (operator_out o base) Q.front rest
       go true j =
           stops e false (begun (Top ∷ []) gap 0 (Pending.Operator o) []) (operator_out o base) Q.front w.0 w.0 (record { cooked = refl; inside = refl }) w.0
-          (operator_stops o w.0 (subst (λ z. ends_operator o (ahead e z) ≡ true) (sym w.2) h) j) Q.next
+          (operator_stops o w.0 (subst (λ z. ends_operator o (ahead e z) ≡ true) (sym w.2) h) j) Q.next Q.form
           ∙ ap (Ended (operator_out o base) Q.front) w.2
       go false j = ap (Ended (operator_out o base) Q.front) w.2
 
   -- the first byte of an operator that goes on
   to_first : (b : ℕ) (p : Operator) (q : Places) (m rest : List ℕ) → First b p → nat_eq b 41 ≡ false → nat_eq b 10 ≡ false → may_grow p ≡ true → Reads e (Plain b) m rest → q.next ≡ m
-      → run e false base q m ≡ run e false (begun (Top ∷ []) gap 0 (Pending.Operator p) []) (moved rest (fronted true (placed (b ∷ rest) q))) rest
+      → run e false base q m ≡ run e false (begun (Top ∷ []) gap 0 (Pending.Operator p) []) (moved false rest (fronted true (placed (b ∷ rest) q))) rest
   to_first b p q m rest f c d g r n =
       character_run e base q (Plain b) m rest refl r n
       ∙ ap (λ x. after e x (fronted true (placed (b ∷ rest) q)) rest) (first_byte Top [] gap b p refl f (and_left (nat_eq b 41) false c) (and_left (nat_eq b 10) false d) ∙ growing Top [] gap p g)
@@ -111,15 +111,15 @@ module _ (e : Bool) (gap : List Mark) where
   operator_run o q front rest (two_bytes b d p s f y x g l) j n h w =
       let v : Written e (Plain b ∷ Plain d ∷ []) front rest = subst (λ z. Written e (plain z) front rest) s w in
       to_first b p q front v.0 f y x g v.1 n
-      ∙ (top_last o (begun (Top ∷ []) gap 0 (Pending.Operator p) []) (moved v.0 (fronted true (placed (b ∷ v.0) q))) v.0 rest d (next_byte Top [] gap p o d l) refl v.2 refl h
+      ∙ (top_last o (begun (Top ∷ []) gap 0 (Pending.Operator p) []) (moved false v.0 (fronted true (placed (b ∷ v.0) q))) v.0 rest d (next_byte Top [] gap p o d l) refl v.2 refl h
       ∙ ap (λ z. Ended (operator_out o base) z rest) (sym (no_joins v.1.0 front (b ∷ v.0) j v.1.1)))
   operator_run o q front rest (three_bytes b d a p u s f y x g l i k) j n h w =
       let v : Written e (Plain b ∷ Plain d ∷ Plain a ∷ []) front rest = subst (λ z. Written e (plain z) front rest) s w in
-      let first = moved v.0 (fronted true (placed (b ∷ v.0) q)) in
+      let first = moved false v.0 (fronted true (placed (b ∷ v.0) q)) in
       to_first b p q front v.0 f y x g v.1 n
       ∙ (character_run e (begun (Top ∷ []) gap 0 (Pending.Operator p) []) first (Plain d) v.0 v.2.0 refl v.2.1 refl
       ∙ (ap (λ x. after e x (placed (d ∷ v.2.0) first) v.2.0) (next_byte Top [] gap p u d l ∙ growing Top [] gap u i)
-      ∙ (top_last o (begun (Top ∷ []) gap 0 (Pending.Operator u) []) (moved v.2.0 (placed (d ∷ v.2.0) first)) v.2.0 rest a (next_byte Top [] gap u o a k) refl v.2.2 refl h
+      ∙ (top_last o (begun (Top ∷ []) gap 0 (Pending.Operator u) []) (moved false v.2.0 (placed (d ∷ v.2.0) first)) v.2.0 rest a (next_byte Top [] gap u o a k) refl v.2.2 refl h
       ∙ ap (λ z. Ended (operator_out o base) z rest) (sym (no_joins v.1.0 front (b ∷ v.0) j v.1.1)))))
 
 -- the end of a word of the text itself
@@ -145,6 +145,7 @@ word_stops e done Quotes xs r m rest i t = let f = i.fits in absurd (cc)
 word_stops e done (Braces q) xs r m rest i t = let f = i.fits in absurd (cc)
 word_stops e done Arithmetic xs r m rest i t = let f = i.fits in absurd (cc)
 word_stops e done Parenthesis xs r m rest i t = let f = i.fits in absurd (cc)
+word_stops e done Body xs r m rest i t = let f = i.fits in absurd (cc)
 
 word_inside : (x : Context) → is_word x ≡ true → is_text x ≡ false
 word_inside Top h = absurd (cc)
@@ -154,6 +155,7 @@ word_inside Quotes h = refl
 word_inside (Braces q) h = refl
 word_inside Arithmetic h = refl
 word_inside Parenthesis h = refl
+word_inside Body h = refl
 
 pub record Runs (e : Bool) (bytes front rest : List ℕ) (kind : TokenKind) : Type 0 where
   pub state : State
@@ -161,7 +163,7 @@ pub record Runs (e : Bool) (bytes front rest : List ℕ) (kind : TokenKind) : Ty
   pub kind_is : kind_of state.done ≡ kind
 
 abbrev first_places : List ℕ → Places
-first_places bytes = record { front = bytes; previous = bytes; behind = bytes; next = bytes }
+first_places bytes = record { front = bytes; previous = bytes; behind = bytes; next = bytes; form = bytes }
 
 -- the run behind what lies before the token
 pub record Reached (e : Bool) (bytes : List ℕ) (gap : List Mark) (front : List ℕ) : Type 0 where
@@ -236,7 +238,7 @@ complete_token e bytes front rest kind gap h r j (word ms c x xs middle a n k i 
           ∙ (ap (λ ys. run e false (settled d ys) w.places middle) k
           ∙ (ap (λ z. run e false s w.places z) i.written
           ∙ (stops e false s (word_out c s) w.places.front w.places.behind w.places.next (record { cooked = refl; inside = word_inside x (and_true (is_word x) _ i.fits).0 }) rest
-          (word_stops e d x xs c middle rest i t) w.places.previous
+          (word_stops e d x xs c middle rest i t) w.places.previous w.places.form
           ∙ ended_at (word_out c s) w.places.front front w.places.behind rest w.front_is (w.behind ∙ i.written))));
       kind_is = word_kind_of gap ms c h;
     }

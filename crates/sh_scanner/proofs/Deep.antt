@@ -10,7 +10,7 @@ use Rattle.sh_scanner_base.specs.Characters.{joins, Reads}
 use Rattle.sh_scanner_base.specs.Marks.{in_word, top_of, levels, contexts_behind}
 use Rattle.sh_scanner.specs.Tokens.{Joined, OpensLevel, braces, parenthesis, backquote, IsTooDeep}
 use Rattle.sh_scanner.specs.Machine.{State, DollarTooDeep, TooDeep, step, opens, after_dollar}
-use Rattle.sh_scanner.specs.Run.{Deep, Places, fronted, with_front, moved, run, scanned}
+use Rattle.sh_scanner.specs.Run.{begins_form, Deep, Places, fronted, with_front, moved, run, scanned}
 use Rattle.sh_scanner.proofs.Running.{placed, after, character_run}
 use Rattle.sh_scanner.proofs.Tests.{word_no_text}
 use Rattle.sh_scanner.proofs.Leads.{begun, settled}
@@ -41,9 +41,9 @@ module _ (e : Bool) (x : Context) (xs : List Context) (done : List Mark) where
   dollar_deep c p last rest r w n s f g =
       character_run e here p (Plain 36) last rest refl f n
       ∙ (ap (λ z. after e z (with_front here (placed (36 ∷ rest) p)) rest) (dollar_in x xs done (levels (x ∷ xs)) w)
-      ∙ (ap (λ z. run e false dollar (moved rest (fronted z (placed (36 ∷ rest) p))) rest) (word_no_text x w)
-      ∙ (character_run e dollar (moved rest (placed (36 ∷ rest) p)) (Plain c) rest r refl g refl
-      ∙ ap (λ z. after e z (placed (c ∷ r) (moved rest (placed (36 ∷ rest) p))) r) s)))
+      ∙ (ap (λ z. run e false dollar (moved (begins_form dollar) rest (fronted z (placed (36 ∷ rest) p))) rest) (word_no_text x w)
+      ∙ (character_run e dollar (moved (begins_form dollar) rest (placed (36 ∷ rest) p)) (Plain c) rest r refl g refl
+      ∙ ap (λ z. after e z (placed (c ∷ r) (moved (begins_form dollar) rest (placed (36 ∷ rest) p))) r) s)))
 
   back_deep : (p : Places) (last rest : List ℕ) → in_word x ≡ true → p.next ≡ last → nat_lt (levels (x ∷ xs)) 500 ≡ false → Reads e (Plain 96) last rest → run e false here p last ≡ Deep (96 ∷ rest)
   back_deep p last rest w n h f =
@@ -65,7 +65,7 @@ module _ (e : Bool) (x : Context) (xs : List Context) (done : List Mark) where
   opens_deep p last place w n h j (backquote after r) =
       let b = behind_joins 96 last place r.0 j refl r.1 in back_deep p last r.0 w n h b.0 ∙ ap Deep b.1
 
-in_deep : (e : Bool) (ys : List Context) (done : List Mark) (p : Places) (last place : List ℕ) → in_word (top_of ys) ≡ true → p.next ≡ last → nat_lt (levels ys) 500 ≡ false → Joined last place
+pub in_deep : (e : Bool) (ys : List Context) (done : List Mark) (p : Places) (last place : List ℕ) → in_word (top_of ys) ≡ true → p.next ≡ last → nat_lt (levels ys) 500 ≡ false → Joined last place
     → OpensLevel e place → run e false (settled done ys) p last ≡ Deep place
 in_deep e [] done p last place w n h j o = absurd (cc)
 in_deep e (x ∷ xs) done p last place w n h j o = opens_deep e x xs done p last place w n h j o

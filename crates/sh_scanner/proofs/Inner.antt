@@ -6,7 +6,7 @@ use Rattle.sh_token_base.specs.Classes.{is_name}
 use Rattle.sh_scanner_base.specs.Here.{lines, are_bodies}
 use Rattle.sh_scanner_base.specs.declared.head.Head.{Head}
 use Rattle.sh_scanner_base.specs.declared.context.Context.{Context}
-use Rattle.sh_scanner_base.specs.declared.context.Context.TheVariants.{Top, Commands, Word, Quotes, Braces, Arithmetic, Parenthesis}
+use Rattle.sh_scanner_base.specs.declared.context.Context.TheVariants.{Top, Commands, Word, Quotes, Braces, Arithmetic, Parenthesis, Body}
 use Rattle.sh_scanner_base.specs.declared.mark.Mark.{Mark}
 use Rattle.sh_scanner_base.specs.declared.mark.Mark.TheVariants.{Byte, Escaped, Backslash, SingleQuoted, DoubleQuotesOpen, DoubleQuotesClose, Dollar, Variable, Parameter, BraceOpen, BraceClose, ArithmeticOpen, ArithmeticClose, CommandsOpen, CommandsClose, Backquoted, WordOpen, WordClose, Blank, Comment, Bodies}
 use Rattle.sh_scanner_base.specs.Bytes.{is_blank, is_redirection, is_name_byte, is_short_parameter, is_form, is_no_quote, is_no_newline}
@@ -28,6 +28,7 @@ quotes_popped Quotes xs n h = word_no_text (top_of xs) (and_true (in_word (top_o
 quotes_popped (Braces q) xs n h = absurd (cc)
 quotes_popped Arithmetic xs n h = absurd (cc)
 quotes_popped Parenthesis xs n h = absurd (cc)
+quotes_popped Body xs n h = absurd (cc)
 
 braces_popped : (x : Context) (xs : List Context) → nested (x ∷ xs) ≡ true → is_braces x ≡ true → is_text (top_of xs) ≡ false
 braces_popped Top xs n h = absurd (cc)
@@ -37,6 +38,7 @@ braces_popped Quotes xs n h = absurd (cc)
 braces_popped (Braces q) xs n h = word_no_text (top_of xs) (and_true (in_word (top_of xs)) (nested xs) n).0
 braces_popped Arithmetic xs n h = absurd (cc)
 braces_popped Parenthesis xs n h = absurd (cc)
+braces_popped Body xs n h = absurd (cc)
 
 arithmetic_popped : (x : Context) (xs : List Context) → nested (x ∷ xs) ≡ true → is_arithmetic x ≡ true → is_text (top_of xs) ≡ false
 arithmetic_popped Top xs n h = absurd (cc)
@@ -46,6 +48,7 @@ arithmetic_popped Quotes xs n h = absurd (cc)
 arithmetic_popped (Braces q) xs n h = absurd (cc)
 arithmetic_popped Arithmetic xs n h = word_no_text (top_of xs) (and_true (in_word (top_of xs)) (nested xs) n).0
 arithmetic_popped Parenthesis xs n h = absurd (cc)
+arithmetic_popped Body xs n h = absurd (cc)
 
 parenthesis_popped : (x : Context) (xs : List Context) → nested (x ∷ xs) ≡ true → is_parenthesis x ≡ true → is_text (top_of xs) ≡ false
 parenthesis_popped Top xs n h = absurd (cc)
@@ -55,6 +58,7 @@ parenthesis_popped Quotes xs n h = absurd (cc)
 parenthesis_popped (Braces q) xs n h = absurd (cc)
 parenthesis_popped Arithmetic xs n h = absurd (cc)
 parenthesis_popped Parenthesis xs n h = word_no_text (top_of xs) (and_true (in_word (top_of xs)) (nested xs) n).0
+parenthesis_popped Body xs n h = absurd (cc)
 
 commands_popped : (x : Context) (xs : List Context) → nested (x ∷ xs) ≡ true → may_close x ≡ true → is_text (top_of xs) ≡ false
 commands_popped Top xs n h = absurd (cc)
@@ -64,6 +68,7 @@ commands_popped Quotes xs n h = absurd (cc)
 commands_popped (Braces q) xs n h = absurd (cc)
 commands_popped Arithmetic xs n h = absurd (cc)
 commands_popped Parenthesis xs n h = absurd (cc)
+commands_popped Body xs n h = absurd (cc)
 
 -- a piece that ends no token of the text itself stays in it
 pub still_inside : (e : Bool) (done : List Mark) (x : Context) (xs : List Context) (m : Mark) (after : List ℕ) → nested (x ∷ xs) ≡ true → is_text x ≡ false → fits e x m after ≡ true
@@ -113,6 +118,7 @@ close_mark e done Quotes xs r bytes after n i h = let f = i.fits in absurd (cc)
 close_mark e done (Braces q) xs r bytes after n i h = let f = i.fits in absurd (cc)
 close_mark e done Arithmetic xs r bytes after n i h = let f = i.fits in absurd (cc)
 close_mark e done Parenthesis xs r bytes after n i h = let f = i.fits in absurd (cc)
+close_mark e done Body xs r bytes after n i h = let f = i.fits in absurd (cc)
 
 pub inner_mark : (e : Bool) (done : List Mark) (x : Context) (xs : List Context) (m : Mark) (bytes after : List ℕ) → nested (x ∷ xs) ≡ true → is_text x ≡ false → IsMark e x xs m bytes after
     → ends_token m (behind done x xs m) ≡ false → Leads true e (settled done (x ∷ xs)) bytes (settled (done ++ m ∷ []) (behind done x xs m)) after

@@ -34,7 +34,7 @@ written_length e (c ∷ cs) m rest h =
     let b = written_length e cs h.0 rest h.2 in
     omega arith
 
-marks_length : (e : Bool) (ms done : List Mark) (xs : List Context) (m rest : List ℕ) → AreMarks e done xs ms m rest → length rest ≤ length m
+pub marks_length : (e : Bool) (ms done : List Mark) (xs : List Context) (m rest : List ℕ) → AreMarks e done xs ms m rest → length rest ≤ length m
 marks_length e [] done xs m rest h = omega (arith, ap length h)
 marks_length e (k ∷ ms) done [] m rest h = absurd h
 marks_length e (k ∷ ms) done (x ∷ xs) m rest h =
@@ -42,7 +42,7 @@ marks_length e (k ∷ ms) done (x ∷ xs) m rest h =
     let b = marks_length e ms (done ++ k ∷ []) (behind done x xs k) h.0 rest h.2 in
     omega arith
 
-joined_length : (m front : List ℕ) → Joined m front → length front ≤ length m
+pub joined_length : (m front : List ℕ) → Joined m front → length front ≤ length m
 joined_length m front h = omega (arith, ap length h.is, length-append (joins h.lines) front)
 
 token_length : (e : Bool) (gap : List Mark) (front rest : List ℕ) (k : TokenKind) → IsToken e gap front rest k → length rest ≤ length front
@@ -83,14 +83,14 @@ ended_state k j f g r s h = cc
 deep_place : (r s : List ℕ) → Deep r ≡ Deep s → r ≡ s
 deep_place r s h = cc
 
-not_open : (k : State) (f r : List ℕ) → Ended k f r ≡ Open → ⊥
-not_open k f r h = cc
+not_open : (k : State) (f r o : List ℕ) → Ended k f r ≡ Open o → ⊥
+not_open k f r o h = cc
 
 not_deep : (k : State) (f r s : List ℕ) → Ended k f r ≡ Deep s → ⊥
 not_deep k f r s h = cc
 
-deep_not_open : (r : List ℕ) → Deep r ≡ Open → ⊥
-deep_not_open r h = cc
+deep_not_open : (r o : List ℕ) → Deep r ≡ Open o → ⊥
+deep_not_open r o h = cc
 
 nul_or : (x : Option ℕ) (G : Type 0) → (x ≡ None → G) → ((i : ℕ) → x ≡ Some i → G) → G
 nul_or None G n s = n refl
@@ -130,22 +130,22 @@ module _ (e : Bool) (bytes : List ℕ) where
         p.0,
       )))
 
-  no_token : scanned e bytes ≡ Open → (front rest : List ℕ) (kind : TokenKind) → HasToken e bytes front rest kind → ⊥
-  no_token h front rest kind u = let c = complete e bytes front rest kind u in not_open c.state front rest (sym c.is ∙ h)
+  no_token : (o : List ℕ) → scanned e bytes ≡ Open o → (front rest : List ℕ) (kind : TokenKind) → HasToken e bytes front rest kind → ⊥
+  no_token o h front rest kind u = let c = complete e bytes front rest kind u in not_open c.state front rest o (sym c.is ∙ h)
 
-  no_depth : scanned e bytes ≡ Open → (rest : List ℕ) → IsTooDeep e bytes rest → ⊥
-  no_depth h rest u = deep_not_open rest (sym (deep e bytes rest u) ∙ h)
+  no_depth : (o : List ℕ) → scanned e bytes ≡ Open o → (rest : List ℕ) → IsTooDeep e bytes rest → ⊥
+  no_depth o h rest u = deep_not_open rest o (sym (deep e bytes rest u) ∙ h)
 
-  open_first : scanned e bytes ≡ Open → IsFirst e bytes (without_nul bytes Open)
-  open_first h =
-      nul_or (nul_in bytes) (IsFirst e bytes (without_nul bytes Open))
-      (λ z. subst (λ x. IsFirst e bytes (unless_nul x Unfinished)) (sym z) (no_token h, no_depth h, z))
-      (λ i z. subst (λ x. IsFirst e bytes (unless_nul x Unfinished)) (sym z) ((λ front rest kind u. absurd (no_token h front rest kind u)), (λ rest u. absurd (no_depth h rest u)), z))
+  open_first : (o : List ℕ) → scanned e bytes ≡ Open o → IsFirst e bytes (without_nul bytes (Open o))
+  open_first o h =
+      nul_or (nul_in bytes) (IsFirst e bytes (without_nul bytes (Open o)))
+      (λ z. subst (λ x. IsFirst e bytes (unless_nul x Unfinished)) (sym z) (no_token o h, no_depth o h, z))
+      (λ i z. subst (λ x. IsFirst e bytes (unless_nul x Unfinished)) (sym z) ((λ front rest kind u. absurd (no_token o h front rest kind u)), (λ rest u. absurd (no_depth o h rest u)), z))
 
   scanned_first : (s : Scanned) → scanned e bytes ≡ s → IsFirst e bytes (without_nul bytes s)
   scanned_first (Ended k f r) h = ended_first k f r h
   scanned_first (Deep r) h = deep_first r h
-  scanned_first Open h = open_first h
+  scanned_first (Open o) h = open_first o h
 
   pub is_first : IsFirst e bytes (first_token e bytes)
   unfolding first_token
@@ -173,7 +173,7 @@ module _ (e : Bool) (bytes : List ℕ) where
       → without_nul bytes s ≡ Unfinished
   open_only (Ended k f r) h none level n = absurd (none f r (kind_of k.done) (found (Ended k f r) h))
   open_only (Deep r) h none level n = absurd (level r (found (Deep r) h))
-  open_only Open h none level n = ap (λ x. unless_nul x Unfinished) n
+  open_only (Open o) h none level n = ap (λ x. unless_nul x Unfinished) n
 
   nul_only : (s : Scanned) (i : ℕ) → scanned e bytes ≡ s → ((front rest : List ℕ) (kind : TokenKind) → HasToken e bytes front rest kind → i + length rest < length bytes)
       → ((rest : List ℕ) → IsTooDeep e bytes rest → i + length rest < length bytes) → nul_in bytes ≡ Some i → without_nul bytes s ≡ NulAt i
@@ -183,7 +183,7 @@ module _ (e : Bool) (bytes : List ℕ) where
   nul_only (Deep r) i h behind level n =
       let b = level r (found (Deep r) h) in
       ap (λ x. unless_nul x (DeepAt (length bytes - length r))) (nul_in_front (length bytes - length r) i bytes n (omega arith))
-  nul_only Open i h behind level n = ap (λ x. unless_nul x Unfinished) n
+  nul_only (Open o) i h behind level n = ap (λ x. unless_nul x Unfinished) n
 
   pub first_only : (answer : FirstToken) → IsFirst e bytes answer → first_token e bytes ≡ answer
   unfolding first_token

@@ -1,5 +1,6 @@
 pub mod Running
 pub mod Tests
+pub mod Grounds
 pub mod Leads
 pub mod Bodies
 pub mod Bytes
@@ -19,3 +20,7 @@ pub mod Texts
 pub mod Nul
 pub mod Laws
 pub mod Places
+pub mod Loose
+pub mod BodyComplete
+pub mod BodySound
+pub mod BodyLaws

@@ -1,26 +1,27 @@
 -- What has been read of a text, as pieces.
-use Rattle.std.proofs.Common.{◌≡◌, ℕ, suc, Bool, true, false, not, nat_eq, nat_lt, List, [], ◌∷◌, ◌++◌, Some, refl, sym, ap, ◌∙◌, subst, append_assoc, cond}
+use Rattle.std.proofs.Common.{◌≡◌, ℕ, suc, Bool, true, false, ◌&&◌, not, nat_eq, nat_lt, List, [], ◌∷◌, ◌++◌, Some, refl, sym, ap, ◌∙◌, subst, append_assoc, cond}
 use Rattle.std.specs.List.{list_all}
 use Rattle.std.proofs.lemmas.List.{append-nil}
 use Rattle.sh_token_base.specs.Classes.{is_name}
 use Rattle.sh_scanner_base.specs.declared.character.Character.TheVariants.{Plain}
 use Rattle.sh_scanner_base.specs.declared.context.Context.{Context}
-use Rattle.sh_scanner_base.specs.declared.context.Context.TheVariants.{Top}
+use Rattle.sh_scanner_base.specs.declared.context.Context.TheVariants.{Top, Body}
 use Rattle.sh_scanner_base.specs.declared.mark.Mark.{Mark}
 use Rattle.sh_scanner_base.specs.declared.mark.Mark.TheVariants.{WordOpen, WordClose}
 use Rattle.sh_scanner_base.specs.declared.pending.Pending.{Pending}
-use Rattle.sh_scanner_base.specs.Bytes.{is_no_quote, is_no_newline}
-use Rattle.sh_scanner_base.specs.Characters.{Written, plain, raw}
+use Rattle.sh_scanner_base.specs.Bytes.{is_no_quote, is_no_newline, is_redirection}
+use Rattle.sh_scanner_base.specs.Characters.{Written, plain, raw, ahead, next_is}
 use Rattle.sh_scanner_base.specs.Operators.{operator_text}
 use Rattle.sh_scanner_base.specs.Growth.{may_grow}
 use Rattle.sh_scanner_base.specs.Heads.{head_of}
-use Rattle.sh_scanner_base.specs.Marks.{IsMark, AreMarks, behind, contexts_behind, ends_token, ends_none, in_word, is_text, top_of, between_tokens, is_arithmetic, has_single_quotes, is_backquoted, is_gap, levels, due_in}
+use Rattle.sh_scanner_base.specs.Marks.{IsMark, AreMarks, behind, contexts_behind, ends_token, ends_none, ends_word, same_as, in_word, is_text, is_body, is_word, top_of, between_tokens, is_arithmetic, has_single_quotes, is_backquoted, is_gap, levels, due_in}
 use Rattle.sh_scanner.specs.Tokens.{begins_join, Joined, IsToken, word, OpensLevel}
 use Rattle.sh_scanner.specs.Machine.{State, Stepped, On, Before, After, TooDeep, DollarTooDeep}
 use Rattle.sh_scanner.specs.Run.{Scanned, Ended, Deep, Open}
 use Rattle.sh_scanner.specs.Found.{kind_of}
 use Rattle.sh_scanner.proofs.Bodies.{Stands}
 use Rattle.sh_scanner.proofs.Tests.{and_true, and_both, not_false}
+use Rattle.sh_scanner.proofs.Grounds.{free, free_contexts, never_text, never_body, no_token_over}
 use Rattle.sh_scanner.proofs.Leads.{begun, settled}
 use Rattle.sh_scanner.proofs.Inner.{Inside, inside_behind}
 use Rattle.sh_scanner.proofs.Gaps.{word_kind_of}
@@ -83,48 +84,88 @@ Held e (Pending.Operator o) xs acc mid m = (acc ≡ []) × (between_tokens (top_
 Held e Pending.Comment xs acc mid m = (list_all is_no_newline acc ≡ true) × (between_tokens (top_of xs) ≡ true) × Written e (Plain 35 ∷ raw acc) mid m
 Held e (Pending.Body l b j) xs acc mid m = Stands (due_in (top_of xs)) l b j acc × Written e (Plain 10 ∷ raw acc) mid m
 
--- the `$` stands directly before
-abbrev pub Preceded : Pending → List ℕ → List ℕ → Type 0
-Preceded Pending.Dollar previous m = previous ≡ 36 ∷ m
-Preceded Pending.Nothing previous m = Unit {0}
-Preceded Pending.DollarParenthesis previous m = Unit {0}
-Preceded Pending.Name previous m = Unit {0}
-Preceded (Pending.Head h) previous m = Unit {0}
-Preceded Pending.Single previous m = Unit {0}
-Preceded Pending.Backquotes previous m = Unit {0}
-Preceded Pending.BackquotesEscape previous m = Unit {0}
-Preceded Pending.Parenthesis previous m = Unit {0}
-Preceded (Pending.Operator o) previous m = Unit {0}
-Preceded Pending.Comment previous m = Unit {0}
-Preceded (Pending.Body l b j) previous m = Unit {0}
+-- the `$`, or the backquote, stands directly before
+abbrev pub Preceded : Pending → List ℕ → List ℕ → List ℕ → Type 0
+Preceded Pending.Dollar acc previous m = previous ≡ 36 ∷ m
+Preceded Pending.Backquotes [] previous m = previous ≡ 96 ∷ m
+Preceded Pending.Backquotes (b ∷ bs) previous m = Unit {0}
+Preceded Pending.Nothing acc previous m = Unit {0}
+Preceded Pending.DollarParenthesis acc previous m = Unit {0}
+Preceded Pending.Name acc previous m = Unit {0}
+Preceded (Pending.Head h) acc previous m = Unit {0}
+Preceded Pending.Single acc previous m = Unit {0}
+Preceded Pending.BackquotesEscape acc previous m = Unit {0}
+Preceded Pending.Parenthesis acc previous m = Unit {0}
+Preceded (Pending.Operator o) acc previous m = Unit {0}
+Preceded Pending.Comment acc previous m = Unit {0}
+Preceded (Pending.Body l b j) acc previous m = Unit {0}
+
+pub preceded_more : (acc : List ℕ) (b : ℕ) (previous m : List ℕ) → Preceded Pending.Backquotes (acc ++ b ∷ []) previous m
+preceded_more [] b previous m = tt
+preceded_more (a ∷ acc) b previous m = tt
 
 pub no_join_at : (b : ℕ) (rest : List ℕ) → nat_eq b 92 ≡ false → begins_join (b ∷ rest) ≡ false
 no_join_at b [] h = refl
 no_join_at b (c ∷ cs) h = rw h refl
 
-module _ (e : Bool) (gap : List Mark) (front : List ℕ) where
-  -- the pieces of the first word so far
+-- what is read: the first word behind a gap, or a body
+pub data Subject : Type 0 where
+  WordBehind : (gap : List Mark) → Subject
+  WholeBody : Subject
+
+-- the pieces before it, the contexts that it begins in, its pieces by those behind its beginning
+abbrev pub gap_of : Subject → List Mark
+gap_of (WordBehind gap) = gap
+gap_of WholeBody = []
+
+abbrev pub ground_of : Subject → List Context
+ground_of (WordBehind gap) = Top ∷ []
+ground_of WholeBody = Body ∷ []
+
+abbrev pub pieces_of : Subject → List Mark → List Mark
+pieces_of (WordBehind gap) ms = WordOpen ∷ ms
+pieces_of WholeBody ms = ms
+
+abbrev pub IsBlank : Subject → Type 0
+IsBlank (WordBehind gap) = list_all is_gap gap ≡ true
+IsBlank WholeBody = Unit {0}
+
+-- it is over, these being the pieces; a body is so only at the end of the input
+abbrev pub IsOver : Bool → Subject → List ℕ → List ℕ → List Mark → Type 0
+IsOver e (WordBehind gap) front rest done = IsToken e gap front rest (kind_of done)
+IsOver e WholeBody front rest done = ⊥
+
+pieces_snoc : (g : Subject) (ms : List Mark) (m : Mark) → pieces_of g (ms ++ m ∷ []) ≡ pieces_of g ms ++ m ∷ []
+pieces_snoc (WordBehind gap) ms m = refl
+pieces_snoc WholeBody ms m = refl
+
+module _ (e : Bool) (subject : Subject) (front : List ℕ) where
+  -- the pieces so far
   pub record Path (done : List Mark) (xs : List Context) (mid : List ℕ) : Type 0 where
     pub inner : List Mark
-    pub is : gap ++ WordOpen ∷ inner ≡ done
-    pub walked : AreMarks e gap (Top ∷ []) (WordOpen ∷ inner) front mid
-    pub going : ends_none gap (Top ∷ []) (WordOpen ∷ inner) ≡ true
-    pub contexts : contexts_behind gap (Top ∷ []) (WordOpen ∷ inner) ≡ xs
+    pub is : gap_of subject ++ pieces_of subject inner ≡ done
+    pub walked : AreMarks e (gap_of subject) (ground_of subject) (pieces_of subject inner) front mid
+    pub going : ends_none (gap_of subject) (ground_of subject) (pieces_of subject inner) ≡ true
+    pub contexts : contexts_behind (gap_of subject) (ground_of subject) (pieces_of subject inner) ≡ xs
     pub inside : Inside xs
 
   pub path_on : (done : List Mark) (x : Context) (xs : List Context) (m : Mark) (mid after : List ℕ) → Path done (x ∷ xs) mid → IsMark e x xs m mid after
       → ends_token m (behind done x xs m) ≡ false → Path (done ++ m ∷ []) (behind done x xs m) after
   path_on done x xs m mid after p i h =
+      let gap = gap_of subject in
+      let ground = ground_of subject in
+      let ms = pieces_of subject p.inner in
+      let s = pieces_snoc subject p.inner m in
       record {
         inner = p.inner ++ m ∷ [];
-        is = sym (append_assoc gap (WordOpen ∷ p.inner) (m ∷ [])) ∙ ap (λ d. d ++ m ∷ []) p.is;
-        walked = marks_snoc e (WordOpen ∷ p.inner) gap (Top ∷ []) x xs m front mid after p.walked p.contexts i;
-        going = ends_snoc (WordOpen ∷ p.inner) gap (Top ∷ []) x xs m p.going p.contexts (ap (λ d. ends_token m (behind d x xs m)) p.is ∙ h);
-        contexts = contexts_snoc (WordOpen ∷ p.inner) gap (Top ∷ []) x xs m p.contexts ∙ ap (λ d. behind d x xs m) p.is;
+        is = ap (λ z. gap ++ z) s ∙ (sym (append_assoc gap ms (m ∷ [])) ∙ ap (λ d. d ++ m ∷ []) p.is);
+        walked = subst (λ z. AreMarks e gap ground z front after) (sym s) (marks_snoc e ms gap ground x xs m front mid after p.walked p.contexts i);
+        going = subst (λ z. ends_none gap ground z ≡ true) (sym s) (ends_snoc ms gap ground x xs m p.going p.contexts (ap (λ d. ends_token m (behind d x xs m)) p.is ∙ h));
+        contexts = ap (contexts_behind gap ground) s ∙ (contexts_snoc ms gap ground x xs m p.contexts ∙ ap (λ d. behind d x xs m) p.is);
         inside = inside_behind e done x xs m mid after p.inside i h;
       }
 
-  -- a state within the first word, where the text is m
+  -- a state within it, where the text is m
   pub record At (t : State) (previous m : List ℕ) : Type 0 where
     pub xs : List Context
     pub done : List Mark
@@ -134,16 +175,16 @@ module _ (e : Bool) (gap : List Mark) (front : List ℕ) where
     pub is : t ≡ begun xs done (pending_levels pending (levels xs)) pending acc
     pub path : Path done xs mid
     pub held : Held e pending xs acc mid m
-    pub preceded : Preceded pending previous m
+    pub preceded : Preceded pending acc previous m
 
   -- level 501 opens there
   pub record DeepHere (place : List ℕ) : Type 0 where
     pub marks : List Mark
     pub last : List ℕ
-    pub before : AreMarks e gap (Top ∷ []) (WordOpen ∷ marks) front last
-    pub going : ends_none gap (Top ∷ []) (WordOpen ∷ marks) ≡ true
-    pub full : nat_lt (levels (contexts_behind gap (Top ∷ []) (WordOpen ∷ marks))) 500 ≡ false
-    pub within : in_word (top_of (contexts_behind gap (Top ∷ []) (WordOpen ∷ marks))) ≡ true
+    pub before : AreMarks e (gap_of subject) (ground_of subject) (pieces_of subject marks) front last
+    pub going : ends_none (gap_of subject) (ground_of subject) (pieces_of subject marks) ≡ true
+    pub full : nat_lt (levels (contexts_behind (gap_of subject) (ground_of subject) (pieces_of subject marks))) 500 ≡ false
+    pub within : in_word (top_of (contexts_behind (gap_of subject) (ground_of subject) (pieces_of subject marks))) ≡ true
     pub placed : Joined last place
     pub opens : OpensLevel e place
 
@@ -161,17 +202,11 @@ module _ (e : Bool) (gap : List Mark) (front : List ℕ) where
         opens = o;
       }
 
-  pub final_word : (done : List Mark) (x : Context) (xs : List Context) (r : Bool) (mid rest : List ℕ) → list_all is_gap gap ≡ true → Path done (x ∷ xs) mid → IsMark e x xs (WordClose r) mid rest
-      → is_text (top_of xs) ≡ true → IsToken e gap front rest (kind_of (done ++ WordClose r ∷ []))
-  final_word done x xs r mid rest h p i t =
-      subst (λ k. IsToken e gap front rest k) (sym (ap (λ d. kind_of (d ++ WordClose r ∷ [])) (sym p.is ∙ sym (append_assoc gap (WordOpen ∷ []) p.inner)) ∙ word_kind_of gap p.inner r h))
-      (word p.inner r x xs mid p.walked p.going p.contexts i t)
-
   -- what a character makes of it: `begin` is where it begins, `m` what it was read of
   abbrev pub Onward : Stepped → List ℕ → List ℕ → List ℕ → List ℕ → Type 0
   Onward (On t) previous begin m rest = At t begin rest
-  Onward (Before t) previous begin m rest = IsToken e gap front m (kind_of t.done)
-  Onward (After t) previous begin m rest = IsToken e gap front rest (kind_of t.done)
+  Onward (Before t) previous begin m rest = IsOver e subject front m t.done
+  Onward (After t) previous begin m rest = IsOver e subject front rest t.done
   Onward (TooDeep t) previous begin m rest = DeepHere begin
   Onward (DollarTooDeep t) previous begin m rest = DeepHere previous
 
@@ -188,8 +223,24 @@ module _ (e : Bool) (gap : List Mark) (front : List ℕ) where
   settled_at t done xs previous begin m rest w p =
       record { it = record { xs = xs; done = done; pending = Pending.Nothing; acc = []; mid = rest; is = w; path = p; held = (refl, refl); preceded = tt } }
 
-  -- where the whole run comes to
-  abbrev pub Shown : Scanned → Type 0
-  Shown (Ended k f r) = (f ≡ front) × IsToken e gap front r (kind_of k.done)
-  Shown (Deep r) = DeepHere r
-  Shown Open = Unit {0}
+-- the end of a word of the text itself
+pub final_word : (e : Bool) (subject : Subject) (front : List ℕ) (done : List Mark) (x : Context) (xs : List Context) (r : Bool) (mid rest : List ℕ) → IsBlank subject → Path e subject front done (x ∷ xs) mid
+    → IsMark e x xs (WordClose r) mid rest → is_text (top_of xs) ≡ true → IsOver e subject front rest (done ++ WordClose r ∷ [])
+final_word e (WordBehind gap) front done x xs r mid rest h p i t =
+    subst (λ k. IsToken e gap front rest k) (sym (ap (λ d. kind_of (d ++ WordClose r ∷ [])) (sym p.is ∙ sym (append_assoc gap (WordOpen ∷ []) p.inner)) ∙ word_kind_of gap p.inner r h))
+    (word p.inner r x xs mid p.walked p.going p.contexts i t)
+final_word e WholeBody front done x xs r mid rest h p i t =
+    let f = subst (λ ys. free is_text ys ≡ true) p.contexts (free_contexts is_text never_text p.inner [] (Body ∷ []) refl) in
+    absurd (no_token_over x xs f p.inside.order (and_true (is_word x) (ends_word (ahead e rest) && same_as r (next_is is_redirection (ahead e rest))) i.fits).0 t)
+
+-- no body is below a word
+pub no_body : (e : Bool) (gap : List Mark) (front : List ℕ) (done : List Mark) (xs : List Context) (mid : List ℕ) → Path e (WordBehind gap) front done (Body ∷ xs) mid → ⊥
+no_body e gap front done xs mid p =
+    let f : free is_body (Body ∷ xs) ≡ true = subst (λ ys. free is_body ys ≡ true) p.contexts (free_contexts is_body never_body (WordOpen ∷ p.inner) gap (Top ∷ []) refl) in
+    absurd (cc)
+
+-- where the run of a first word comes to
+abbrev pub Shown : (e : Bool) (gap : List Mark) (front : List ℕ) → Scanned → Type 0
+Shown e gap front (Ended k f r) = (f ≡ front) × IsToken e gap front r (kind_of k.done)
+Shown e gap front (Deep r) = DeepHere e (WordBehind gap) front r
+Shown e gap front (Open f) = Unit {0}

@@ -7,7 +7,7 @@ use Rattle.sh_scanner_base.specs.declared.character.Character.{Character}
 use Rattle.sh_scanner_base.specs.declared.character.Character.TheVariants.{Plain, Quoted, Raw}
 use Rattle.sh_scanner_base.specs.declared.head.Head.{Head}
 use Rattle.sh_scanner_base.specs.declared.context.Context.{Context}
-use Rattle.sh_scanner_base.specs.declared.context.Context.TheVariants.{Top, Commands, Word, Quotes, Braces, Arithmetic, Parenthesis}
+use Rattle.sh_scanner_base.specs.declared.context.Context.TheVariants.{Top, Commands, Word, Quotes, Braces, Arithmetic, Parenthesis, Body}
 use Rattle.sh_scanner_base.specs.declared.mark.Mark.{Mark}
 use Rattle.sh_scanner_base.specs.declared.mark.Mark.TheVariants.{Byte, Escaped, Backslash, SingleQuoted, DoubleQuotesOpen, DoubleQuotesClose, Dollar, Variable, Parameter, BraceOpen, BraceClose, ArithmeticOpen, ArithmeticClose, CommandsOpen, Backquoted}
 use Rattle.sh_scanner_base.specs.declared.pending.Pending.{Pending}
@@ -16,7 +16,7 @@ use Rattle.sh_scanner_base.specs.Characters.{Reads, Written, plain, raw, Ahead, 
 use Rattle.sh_scanner_base.specs.Pendings.{is_raw}
 use Rattle.sh_scanner_base.specs.Heads.{head_of, grown_head, is_some_head, grows_head, reads_bare}
 use Rattle.sh_scanner_base.specs.Nested.{none_yet}
-use Rattle.sh_scanner_base.specs.Marks.{stands, quotes, in_word, is_text, is_word, is_quotes, is_braces, is_arithmetic, has_single_quotes, has_double_quotes, is_quoted, is_backquoted, is_head, braces_of, parenthesized, levels}
+use Rattle.sh_scanner_base.specs.Marks.{stands, quotes, in_word, is_text, is_body, is_word, is_quotes, is_braces, is_arithmetic, has_single_quotes, has_double_quotes, is_quoted, is_backquoted, is_head, braces_of, parenthesized, levels}
 use Rattle.sh_scanner.specs.Machine.{State, On, step, opens, inner_byte, word_byte, plain_byte, form_byte, after_dollar, after_parenthesis, in_name, headed, in_head, in_single, in_backquotes, at_parenthesis, same}
 use Rattle.sh_scanner.specs.Run.{is_gap_state}
 use Rattle.sh_scanner.proofs.Running.{is_raw_character, Alike}
@@ -57,6 +57,7 @@ brace_level Quotes xs h = absurd (cc)
 brace_level (Braces q) xs h = before (levels xs)
 brace_level Arithmetic xs h = absurd (cc)
 brace_level Parenthesis xs h = absurd (cc)
+brace_level Body xs h = absurd (cc)
 
 pub quotes_level : (x : Context) (xs : List Context) → is_quotes x ≡ true → levels (x ∷ xs) ≡ levels xs
 quotes_level Top xs h = absurd (cc)
@@ -66,6 +67,7 @@ quotes_level Quotes xs h = refl
 quotes_level (Braces q) xs h = absurd (cc)
 quotes_level Arithmetic xs h = absurd (cc)
 quotes_level Parenthesis xs h = absurd (cc)
+quotes_level Body xs h = absurd (cc)
 
 arithmetic_closes : (x : Context) (xs : List Context) (done : List Mark) (lv : ℕ) → is_arithmetic x ≡ true
     → plain_byte (kept (x ∷ xs) done lv) 41 ≡ On (begun (x ∷ xs) done lv Pending.Parenthesis [])
@@ -77,6 +79,7 @@ arithmetic_closes Quotes xs done lv h = absurd (cc)
 arithmetic_closes (Braces q) xs done lv h = absurd (cc)
 arithmetic_closes Arithmetic xs done lv h = refl
 arithmetic_closes Parenthesis xs done lv h = absurd (cc)
+arithmetic_closes Body xs done lv h = absurd (cc)
 
 pub arithmetic_level : (x : Context) (xs : List Context) → is_arithmetic x ≡ true → levels (x ∷ xs) - 1 ≡ levels xs
 arithmetic_level Top xs h = absurd (cc)
@@ -86,6 +89,7 @@ arithmetic_level Quotes xs h = absurd (cc)
 arithmetic_level (Braces q) xs h = absurd (cc)
 arithmetic_level Arithmetic xs h = before (levels xs)
 arithmetic_level Parenthesis xs h = absurd (cc)
+arithmetic_level Body xs h = absurd (cc)
 
 pub backquote_in : (x : Context) (xs : List Context) (done : List Mark) (lv : ℕ) → in_word x ≡ true → plain_byte (kept (x ∷ xs) done lv) 96 ≡ opens Pending.Backquotes (kept (x ∷ xs) done lv)
 unfolding plain_byte word_byte
@@ -96,6 +100,7 @@ backquote_in Quotes xs done lv h = refl
 backquote_in (Braces q) xs done lv h = refl
 backquote_in Arithmetic xs done lv h = refl
 backquote_in Parenthesis xs done lv h = refl
+backquote_in Body xs done lv h = refl
 
 arithmetic_no_word : (x : Context) → is_arithmetic x ≡ true → is_word x ≡ false
 arithmetic_no_word Top h = refl
@@ -105,6 +110,17 @@ arithmetic_no_word Quotes h = refl
 arithmetic_no_word (Braces q) h = refl
 arithmetic_no_word Arithmetic h = refl
 arithmetic_no_word Parenthesis h = refl
+arithmetic_no_word Body h = refl
+
+arithmetic_no_body : (x : Context) → is_arithmetic x ≡ true → is_body x ≡ false
+arithmetic_no_body Top h = refl
+arithmetic_no_body (Commands ts) h = refl
+arithmetic_no_body (Word n) h = refl
+arithmetic_no_body Quotes h = refl
+arithmetic_no_body (Braces q) h = refl
+arithmetic_no_body Arithmetic h = refl
+arithmetic_no_body Parenthesis h = refl
+arithmetic_no_body Body h = absurd (cc)
 
 -- a `)` that stands for itself in arithmetic has no other behind it
 no_close : (x : Context) (b : ℕ) (next : Ahead) → is_arithmetic x ≡ true → nat_eq b 41 ≡ true → stands x b next ≡ true → next_is (λ c. nat_eq c 41) next ≡ false
@@ -122,6 +138,7 @@ no_close Arithmetic b next a i h =
     go true d i q = q
     go false d i q = absurd (cc)
 no_close Parenthesis b next a i h = absurd (cc)
+no_close Body b next a i h = absurd (cc)
 
 -- what comes next passes no test that it is known to fail
 pub fails : (f : ℕ → Bool) (next : Ahead) (b : ℕ) → next_is f next ≡ false → next ≡ Next (Plain b) → f b ≡ false
@@ -238,7 +255,7 @@ module _ (k e : Bool) (x : Context) (xs : List Context) (done : List Mark) where
           record {
             plains = λ c j. let z = fails (λ c. nat_eq c 41) (ahead e rest) c (no_close x b (ahead e rest) a i h) j in rw z refl;
             quoteds = λ c j. refl;
-            ends = λ j. rw (word_no_text x word, arithmetic_no_word x a) refl;
+            ends = λ j. rw (word_no_text x word, arithmetic_no_body x a, arithmetic_no_word x a) refl;
           }
 
       go : (c : Bool) → (nat_eq b 41 && is_arithmetic x) ≡ c → Leads k e at_start m (settled (done ++ Byte b ∷ []) (parenthesized b x xs)) rest
@@ -264,6 +281,7 @@ module _ (k e : Bool) (x : Context) (xs : List Context) (done : List Mark) where
           no_parenthesis (Braces q) a = refl
           no_parenthesis Arithmetic a = refl
           no_parenthesis Parenthesis a = absurd (cc)
+          no_parenthesis Body a = absurd (cc)
 
   pub escaped_leads : (b : ℕ) (m rest : List ℕ) → quotes x b ≡ true → Written e (Quoted b ∷ []) m rest → Leads k e at_start m (settled (done ++ Escaped b ∷ []) (x ∷ xs)) rest
   escaped_leads b m rest h w = one k e at_start (settled (done ++ Escaped b ∷ []) (x ∷ xs)) m rest (Quoted b) (λ t. quoting_no_text x b h) refl w (escaped_in x xs done lv b h)
@@ -276,6 +294,7 @@ module _ (k e : Bool) (x : Context) (xs : List Context) (done : List Mark) where
       quoting_no_text (Braces q) b h = refl
       quoting_no_text Arithmetic b h = refl
       quoting_no_text Parenthesis b h = refl
+      quoting_no_text Body b h = refl
 
   pub backslash_leads : (b : ℕ) (m rest : List ℕ) → in_word x ≡ true → quotes x b ≡ false → Written e (Quoted b ∷ []) m rest
       → Leads k e at_start m (settled (done ++ Backslash b ∷ []) (x ∷ xs)) rest

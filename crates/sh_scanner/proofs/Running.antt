@@ -1,18 +1,18 @@
 -- How the machine runs over characters.
-use Rattle.std.proofs.Common.{◌≡◌, ◌⊎◌, inl, inr, ℕ, suc, zero, Bool, true, false, nat_eq, List, [], ◌∷◌, ◌++◌, Some, refl, sym, ap, ◌∙◌, subst, eqb-true, if◌then◌else◌}
+use Rattle.std.proofs.Common.{◌≡◌, ◌⊎◌, inl, inr, ℕ, suc, zero, Bool, true, false, nat_eq, List, [], ◌∷◌, ◌++◌, Some, refl, sym, ap, ◌∙◌, subst, eqb-true}
 use Rattle.sh_scanner_base.specs.declared.character.Character.{Character}
 use Rattle.sh_scanner_base.specs.declared.character.Character.TheVariants.{Plain, Quoted, Raw}
 use Rattle.sh_scanner_base.specs.Characters.{joins, Reads, Next, InputEnd, Unknown, ahead_behind}
 use Rattle.sh_scanner_base.specs.Pendings.{is_raw}
 use Rattle.sh_scanner.specs.Machine.{State, Stepped, On, Before, After, TooDeep, DollarTooDeep, step}
-use Rattle.sh_scanner.specs.Run.{Fed, Waits, Takes, fed, Scanned, Ended, Deep, Open, is_gap_state, ended_in, last_token, Places, fronted, with_front, moved, waited, last_places, last_step, last, on, run}
+use Rattle.sh_scanner.specs.Run.{Fed, Waits, Takes, fed, Scanned, Ended, Deep, Open, is_gap_state, begins_form, ended_in, last_token, Places, fronted, with_front, moved, waited, last_places, last_step, last, on, run}
 
 abbrev pub placed : List ℕ → Places → Places
-placed z p = record { front = p.front; previous = p.previous; behind = p.behind; next = z }
+placed z p = record { front = p.front; previous = p.previous; behind = p.behind; next = z; form = p.form }
 
 -- the run goes on after a character
 abbrev pub after : Bool → Stepped → Places → List ℕ → Scanned
-after e (On t) q rest = run e false t (moved rest q) rest
+after e (On t) q rest = run e false t (moved (begins_form t) rest q) rest
 after e (Before t) q rest = Ended t q.front q.behind
 after e (After t) q rest = Ended t q.front rest
 after e (TooDeep t) q rest = Deep q.next
@@ -21,7 +21,7 @@ after e (DollarTooDeep t) q rest = Deep q.previous
 -- and after a byte
 abbrev pub follow : Bool → Fed → Places → List ℕ → Scanned
 follow e x q bs =
-    on x (λ held t. run e held t (waited held bs q) bs) (λ t. run e false t (moved bs q) bs) (λ t. Ended t q.front q.behind) (λ t. Ended t q.front bs) (Deep q.next) (Deep q.previous)
+    on x (λ held t. run e held t (waited held bs q) bs) (λ t. run e false t (moved (begins_form t) bs q) bs) (λ t. Ended t q.front q.behind) (λ t. Ended t q.front bs) (Deep q.next) (Deep q.previous)
 
 pub follow_taken : (e : Bool) (x : Stepped) (q : Places) (bs : List ℕ) → follow e (Takes x) q bs ≡ after e x q bs
 follow_taken e (On t) q bs = refl
@@ -39,8 +39,13 @@ fronted_twice : (c : Bool) (p : Places) → fronted c (fronted c p) ≡ fronted 
 fronted_twice true p = refl
 fronted_twice false p = refl
 
+same_form : (c : Bool) (p : Places) → (fronted c p).form ≡ p.form
+same_form true p = refl
+same_form false p = refl
+
 pub front_again : (e h : Bool) (s : State) (p : Places) (ys : List ℕ) → run e h s (with_front s p) ys ≡ run e h s p ys
-front_again e h s p [] = ap (λ q. if e then last h s q else Open) (fronted_twice (is_gap_state s) p)
+front_again true h s p [] = ap (λ q. last h s q) (fronted_twice (is_gap_state s) p)
+front_again false h s p [] = ap Open (same_form (is_gap_state s) p)
 front_again e h s p (b ∷ bs) = ap (λ q. follow e (fed (record { state = s; held = h }) b) q bs) (fronted_twice (is_gap_state s) p)
 
 -- places that are alike once the front is set run alike
@@ -176,7 +181,7 @@ alike_byte e t s p k b bs a ih false g =
 
 pub alike : (e h : Bool) (t s : State) (p : Places) → Cooked t s → (ys : List ℕ) → Alike e h t s ys → RunAlike e h t s p ys
 alike true false t s p k [] a =
-    ap (λ q. last_places t q) (front_alike t s p k) ∙ ap (λ x. last_token x (with_front s p).front (with_front s p).behind) (a.ends refl)
+    ap (λ q. last_places t q) (front_alike t s p k) ∙ ap (λ x. last_token x (with_front s p).front (with_front s p).behind (with_front s p).form) (a.ends refl)
 alike true true t s p k [] a = ap (λ q. last_step (step t (Plain 92)) q) (front_alike t s p k) ∙ ap (λ x. last_step x (with_front s p)) (a.plains 92 refl)
 alike false false t s p k [] a = refl
 alike false true t s p k [] a = refl
@@ -195,47 +200,47 @@ pub record InToken (t : State) : Type 0 where
   pub inside : is_gap_state t ≡ false
 
 abbrev StopsAt : (e h : Bool) (t k : State) (f m z ys : List ℕ) → Type 0
-StopsAt e h t k f m z ys = (pr : List ℕ) → run e h t (record { front = f; previous = pr; behind = m; next = z }) ys ≡ Ended k f m
+StopsAt e h t k f m z ys = (pr fo : List ℕ) → run e h t (record { front = f; previous = pr; behind = m; next = z; form = fo }) ys ≡ Ended k f m
 
 inside_front : (t : State) (p : Places) → InToken t → with_front t p ≡ p
 inside_front t p i = ap (λ c. fronted c p) i.inside
 
 stops_held : (e : Bool) (t k : State) (f m z : List ℕ) → InToken t → (b : ℕ) (bs : List ℕ) → Stops e true t k (b ∷ bs)
     → ((z : List ℕ) → Stops e false t k bs → StopsAt e false t k f m z bs) → (c : Bool) → nat_eq b 10 ≡ c → StopsAt e true t k f m z (b ∷ bs)
-stops_held e t k f m z i b bs a ih true g pr =
+stops_held e t k f m z i b bs a ih true g pr fo =
     let y = eqb-true b 10 g in
     let w = ap (λ b. ahead_behind e true (b ∷ bs)) y in
-    let p : Places = record { front = f; previous = pr; behind = m; next = z } in
-    let r = ih bs (record { plains = λ c k. a.plains c (w ∙ k); quoteds = λ c k. a.quoteds c (w ∙ k); ends = λ k. a.ends (w ∙ k); known = λ k. a.known (w ∙ k) }) pr in
+    let p : Places = record { front = f; previous = pr; behind = m; next = z; form = fo } in
+    let r = ih bs (record { plains = λ c k. a.plains c (w ∙ k); quoteds = λ c k. a.quoteds c (w ∙ k); ends = λ k. a.ends (w ∙ k); known = λ k. a.known (w ∙ k) }) pr fo in
     subst (λ b. run e true t p (b ∷ bs) ≡ Ended k f m) (sym y)
     (ap (λ x. follow e x (with_front t p) bs) (fed_join t) ∙ (ap (λ q. run e false t (waited false bs q) bs) (inside_front t p i) ∙ r))
-stops_held e t k f m z i b bs a ih false g pr =
-    let p : Places = record { front = f; previous = pr; behind = m; next = z } in
+stops_held e t k f m z i b bs a ih false g pr fo =
+    let p : Places = record { front = f; previous = pr; behind = m; next = z; form = fo } in
     ap (λ x. follow e x (with_front t p) bs) (fed_quoted t b g)
     ∙ (ap (λ q. follow e (Takes (step t (Quoted b))) q bs) (inside_front t p i) ∙ ap (λ x. follow e (Takes x) p bs) (a.quoteds b (rw g refl)))
 
 stops_byte : (e : Bool) (t k : State) (f m z : List ℕ) → InToken t → (b : ℕ) (bs : List ℕ) → Stops e false t k (b ∷ bs)
     → ((z : List ℕ) → Stops e true t k bs → StopsAt e true t k f m z bs) → (c : Bool) → nat_eq b 92 ≡ c → StopsAt e false t k f m z (b ∷ bs)
-stops_byte e t k f m z i b bs a ih true g pr =
+stops_byte e t k f m z i b bs a ih true g pr fo =
     let y = eqb-true b 92 g in
     let w = ap (λ b. ahead_behind e false (b ∷ bs)) y in
-    let p : Places = record { front = f; previous = pr; behind = m; next = z } in
-    let r = ih z (record { plains = λ c k. a.plains c (w ∙ k); quoteds = λ c k. a.quoteds c (w ∙ k); ends = λ k. a.ends (w ∙ k); known = λ k. a.known (w ∙ k) }) pr in
+    let p : Places = record { front = f; previous = pr; behind = m; next = z; form = fo } in
+    let r = ih z (record { plains = λ c k. a.plains c (w ∙ k); quoteds = λ c k. a.quoteds c (w ∙ k); ends = λ k. a.ends (w ∙ k); known = λ k. a.known (w ∙ k) }) pr fo in
     subst (λ b. run e false t p (b ∷ bs) ≡ Ended k f m) (sym y)
     (ap (λ x. follow e x (with_front t p) bs) (fed_backslash t i.cooked) ∙ (ap (λ q. run e true t q bs) (inside_front t p i) ∙ r))
-stops_byte e t k f m z i b bs a ih false g pr =
-    let p : Places = record { front = f; previous = pr; behind = m; next = z } in
+stops_byte e t k f m z i b bs a ih false g pr fo =
+    let p : Places = record { front = f; previous = pr; behind = m; next = z; form = fo } in
     ap (λ x. follow e x (with_front t p) bs) (fed_byte t b i.cooked g)
     ∙ (ap (λ q. follow e (Takes (step t (Plain b))) q bs) (inside_front t p i) ∙ ap (λ x. follow e (Takes x) p bs) (a.plains b (rw g refl)))
 
 pub stops : (e h : Bool) (t k : State) (f m z : List ℕ) → InToken t → (ys : List ℕ) → Stops e h t k ys → StopsAt e h t k f m z ys
-stops true false t k f m z i [] a pr =
-    let p : Places = record { front = f; previous = pr; behind = m; next = z } in
-    ap (λ q. last_places t q) (inside_front t p i) ∙ ap (λ x. last_token x f m) (a.ends refl)
-stops true true t k f m z i [] a pr =
-    let p : Places = record { front = f; previous = pr; behind = m; next = z } in
+stops true false t k f m z i [] a pr fo =
+    let p : Places = record { front = f; previous = pr; behind = m; next = z; form = fo } in
+    ap (λ q. last_places t q) (inside_front t p i) ∙ ap (λ x. last_token x f m fo) (a.ends refl)
+stops true true t k f m z i [] a pr fo =
+    let p : Places = record { front = f; previous = pr; behind = m; next = z; form = fo } in
     ap (λ q. last_step (step t (Plain 92)) q) (inside_front t p i) ∙ ap (λ x. last_step x p) (a.plains 92 refl)
-stops false false t k f m z i [] a pr = absurd (a.known refl)
-stops false true t k f m z i [] a pr = absurd (a.known refl)
-stops e false t k f m z i (b ∷ bs) a pr = stops_byte e t k f m z i b bs a (λ z r. stops e true t k f m z i bs r) (nat_eq b 92) refl pr
-stops e true t k f m z i (b ∷ bs) a pr = stops_held e t k f m z i b bs a (λ z r. stops e false t k f m z i bs r) (nat_eq b 10) refl pr
+stops false false t k f m z i [] a pr fo = absurd (a.known refl)
+stops false true t k f m z i [] a pr fo = absurd (a.known refl)
+stops e false t k f m z i (b ∷ bs) a pr fo = stops_byte e t k f m z i b bs a (λ z r. stops e true t k f m z i bs r) (nat_eq b 92) refl pr fo
+stops e true t k f m z i (b ∷ bs) a pr fo = stops_held e t k f m z i b bs a (λ z r. stops e false t k f m z i bs r) (nat_eq b 10) refl pr fo

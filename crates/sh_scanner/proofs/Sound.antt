@@ -1,13 +1,12 @@
 -- What a byte makes of a word is as the definition has it.
 use Rattle.std.proofs.Common.{◌≡◌, ◌⊎◌, inl, inr, ℕ, zero, suc, Bool, true, false, ◌||◌, ◌&&◌, not, nat_eq, nat_lt, List, [], ◌∷◌, ◌++◌, refl, sym, ap, ◌∙◌, subst, cond, eqb-true}
-use Rattle.std.specs.List.{list_all}
 use Rattle.std.specs.Str.{bytes_eq}
 use Rattle.sh_scanner_base.specs.declared.character.Character.{Character}
 use Rattle.sh_scanner_base.specs.declared.character.Character.TheVariants.{Plain, Quoted, Raw}
 use Rattle.sh_scanner_base.specs.declared.operator.Operator.{Operator}
 use Rattle.sh_scanner_base.specs.declared.operator.Operator.TheVariants.{And, Semicolon, Pipe, Less, Great, LeftParenthesis, RightParenthesis, Newline}
 use Rattle.sh_scanner_base.specs.declared.context.Context.{Context}
-use Rattle.sh_scanner_base.specs.declared.context.Context.TheVariants.{Top, Commands, Word, Quotes, Braces, Arithmetic, Parenthesis}
+use Rattle.sh_scanner_base.specs.declared.context.Context.TheVariants.{Top, Commands, Word, Quotes, Braces, Arithmetic, Parenthesis, Body}
 use Rattle.sh_scanner_base.specs.declared.mark.Mark.{Mark}
 use Rattle.sh_scanner_base.specs.declared.mark.Mark.TheVariants.{Byte, Escaped, Backslash, DoubleQuotesOpen, DoubleQuotesClose, BraceClose}
 use Rattle.sh_scanner_base.specs.declared.pending.Pending.{Pending}
@@ -15,7 +14,7 @@ use Rattle.sh_scanner_base.specs.Bytes.{is_operator_byte, is_end}
 use Rattle.sh_scanner_base.specs.Characters.{joins, Reads, Written, plain, Ahead, Next, InputEnd, Unknown, ahead}
 use Rattle.sh_scanner_base.specs.Operators.{operator_text}
 use Rattle.sh_scanner_base.specs.Growth.{grown, may_grow, operator_of}
-use Rattle.sh_scanner_base.specs.Marks.{stands, quotes, IsMark, behind, ends_token, in_word, is_text, between_tokens, is_word, is_quotes, is_braces, is_arithmetic, has_single_quotes, has_double_quotes, parenthesized, levels, is_some, ends_operator, is_right_parenthesis, is_gap, with_token, is_newline, is_more}
+use Rattle.sh_scanner_base.specs.Marks.{stands, quotes, IsMark, behind, ends_token, in_word, is_text, between_tokens, is_word, is_quotes, is_braces, is_arithmetic, has_single_quotes, has_double_quotes, parenthesized, levels, is_some, ends_operator, is_right_parenthesis, with_token, is_newline, is_more}
 use Rattle.sh_scanner_base.specs.Told.{OfOperator}
 use Rattle.sh_scanner.specs.Tokens.{Joined, OpensLevel, backquote}
 use Rattle.sh_scanner.specs.Machine.{State, On, After, over, grow, opens, inner_byte, word_byte, escape, operator_out, same, into, out, out_level}
@@ -23,7 +22,7 @@ use Rattle.sh_scanner.proofs.Tests.{and_true, and_both, not_false, text_token, l
 use Rattle.sh_scanner.proofs.Leads.{begun, kept, settled}
 use Rattle.sh_scanner.proofs.Bytes.{inner_on, inner_parenthesis, levels_parenthesized}
 use Rattle.sh_scanner.proofs.Pieces.{quotes_level, brace_level}
-use Rattle.sh_scanner.proofs.Paths.{Path, path_on, deep_here, Going, either, settled_at, no_join_at, pending_levels, Held, Preceded}
+use Rattle.sh_scanner.proofs.Paths.{Subject, IsBlank, Path, path_on, deep_here, Going, either, settled_at, no_join_at, pending_levels, Held, Preceded}
 
 -- what comes next
 pub ahead_joins : (e : Bool) (n : ℕ) (ys : List ℕ) → ahead e (joins n ++ ys) ≡ ahead e ys
@@ -64,6 +63,7 @@ stands_so (Braces false) b next w n s d q r i j k = rw (and_this (nat_eq b 34) d
 stands_so (Braces true) b next w n s d q r i j k = rw (and_this (nat_eq b 34) d, i, j, and_this (nat_eq b 125) r) refl
 stands_so Arithmetic b next w n s d q r i j k = rw (i, j, and_this (nat_eq b 41) k) refl
 stands_so Parenthesis b next w n s d q r i j k = rw (i, j) refl
+stands_so Body b next w n s d q r i j k = rw (i, j) refl
 
 -- operators of one byte
 byte_text : (b c : ℕ) → nat_eq b c ≡ true → c ∷ [] ≡ b ∷ []
@@ -119,82 +119,82 @@ whole_operator o (Next (Raw b)) h = refl
 whole_operator o InputEnd h = refl
 whole_operator o Unknown h = not_false (may_grow o) h
 
-module _ (e : Bool) (gap : List Mark) (front : List ℕ) (blank : list_all is_gap gap ≡ true) (previous : List ℕ) where
+module _ (e : Bool) (subject : Subject) (front : List ℕ) (blank : IsBlank subject) (previous : List ℕ) where
   -- a piece is over, with nothing begun behind it
-  pub ends_piece : (x : Context) (xs : List Context) (done : List Mark) (m : Mark) (mid rest begin start : List ℕ) (t : State) → Path e gap front done (x ∷ xs) mid → IsMark e x xs m mid rest
-      → ends_token m (behind done x xs m) ≡ false → t ≡ settled (done ++ m ∷ []) (behind done x xs m) → Going e gap front (On t) previous begin start rest
+  pub ends_piece : (x : Context) (xs : List Context) (done : List Mark) (m : Mark) (mid rest begin start : List ℕ) (t : State) → Path e subject front done (x ∷ xs) mid → IsMark e x xs m mid rest
+      → ends_token m (behind done x xs m) ≡ false → t ≡ settled (done ++ m ∷ []) (behind done x xs m) → Going e subject front (On t) previous begin start rest
   ends_piece x xs done m mid rest begin start t p i h w =
-      settled_at e gap front t (done ++ m ∷ []) (behind done x xs m) previous begin start rest w (path_on e gap front done x xs m mid rest p i h)
+      settled_at e subject front t (done ++ m ∷ []) (behind done x xs m) previous begin start rest w (path_on e subject front done x xs m mid rest p i h)
 
   -- a piece begins
-  pub begins_piece : (xs : List Context) (done : List Mark) (q : Pending) (acc mid begin start rest : List ℕ) → Path e gap front done xs mid → Held e q xs acc mid rest
-      → Preceded q begin rest → Going e gap front (On (begun xs done (pending_levels q (levels xs)) q acc)) previous begin start rest
+  pub begins_piece : (xs : List Context) (done : List Mark) (q : Pending) (acc mid begin start rest : List ℕ) → Path e subject front done xs mid → Held e q xs acc mid rest
+      → Preceded q acc begin rest → Going e subject front (On (begun xs done (pending_levels q (levels xs)) q acc)) previous begin start rest
   begins_piece xs done q acc mid begin start rest p h r = record { it = record { xs = xs; done = done; pending = q; acc = acc; mid = mid; is = refl; path = p; held = h; preceded = r } }
 
   -- what opens a level
-  pub opens_piece : (x : Context) (xs : List Context) (done : List Mark) (q : Pending) (acc mid start rest place : List ℕ) → Path e gap front done (x ∷ xs) mid → in_word x ≡ true
-      → (nat_lt (levels (x ∷ xs)) 500 ≡ true → Going e gap front (On (begun (x ∷ xs) done (suc (levels (x ∷ xs))) q [])) previous place start rest) → Joined mid place → OpensLevel e place
-      → Going e gap front (opens q (settled done (x ∷ xs))) previous place start rest
+  pub opens_piece : (x : Context) (xs : List Context) (done : List Mark) (q : Pending) (acc mid start rest place : List ℕ) → Path e subject front done (x ∷ xs) mid → in_word x ≡ true
+      → (nat_lt (levels (x ∷ xs)) 500 ≡ true → Going e subject front (On (begun (x ∷ xs) done (suc (levels (x ∷ xs))) q [])) previous place start rest) → Joined mid place → OpensLevel e place
+      → Going e subject front (opens q (settled done (x ∷ xs))) previous place start rest
   opens_piece x xs done q acc mid start rest place p w f j o =
-      either e gap front (nat_lt (levels (x ∷ xs)) 500) _ _ previous place start rest f (λ h. record { it = deep_here e gap front done (x ∷ xs) mid place p h w j o })
+      either e subject front (nat_lt (levels (x ∷ xs)) 500) _ _ previous place start rest f (λ h. record { it = deep_here e subject front done (x ∷ xs) mid place p h w j o })
 
-  module _ (x : Context) (xs : List Context) (done : List Mark) (mid : List ℕ) (p : Path e gap front done (x ∷ xs) mid) where
+  module _ (x : Context) (xs : List Context) (done : List Mark) (mid : List ℕ) (p : Path e subject front done (x ∷ xs) mid) where
     abbrev s : State
     s = settled done (x ∷ xs)
 
-    byte_sound : (b : ℕ) (rest : List ℕ) → Reads e (Plain b) mid rest → stands x b (ahead e rest) ≡ true → (nat_eq b 41 && is_arithmetic x) ≡ false → Going e gap front (inner_byte x s b) previous (b ∷ rest) mid rest
+    byte_sound : (b : ℕ) (rest : List ℕ) → Reads e (Plain b) mid rest → stands x b (ahead e rest) ≡ true → (nat_eq b 41 && is_arithmetic x) ≡ false → Going e subject front (inner_byte x s b) previous (b ∷ rest) mid rest
     byte_sound b rest r i h =
-        subst (λ z. Going e gap front z previous (b ∷ rest) mid rest) (sym (inner_on x xs done (levels (x ∷ xs)) b h))
+        subst (λ z. Going e subject front z previous (b ∷ rest) mid rest) (sym (inner_on x xs done (levels (x ∷ xs)) b h))
         (ends_piece x xs done (Byte b) mid rest (b ∷ rest) mid (kept (parenthesized b x xs) (done ++ Byte b ∷ []) (levels (x ∷ xs))) p
         (record { written = one_of e (Plain b) mid rest r; fits = i; level = refl }) refl
         (ap (kept (parenthesized b x xs) (done ++ Byte b ∷ [])) (sym (levels_parenthesized x xs done (levels (x ∷ xs)) b))))
 
-    inner_sound : (b : ℕ) (rest : List ℕ) → Reads e (Plain b) mid rest → ((nat_eq b 41 && is_arithmetic x) ≡ false → stands x b (ahead e rest) ≡ true) → Going e gap front (inner_byte x s b) previous (b ∷ rest) mid rest
+    inner_sound : (b : ℕ) (rest : List ℕ) → Reads e (Plain b) mid rest → ((nat_eq b 41 && is_arithmetic x) ≡ false → stands x b (ahead e rest) ≡ true) → Going e subject front (inner_byte x s b) previous (b ∷ rest) mid rest
     inner_sound b rest r i = go (nat_eq b 41 && is_arithmetic x) refl
       where
-        go : (c : Bool) → (nat_eq b 41 && is_arithmetic x) ≡ c → Going e gap front (inner_byte x s b) previous (b ∷ rest) mid rest
+        go : (c : Bool) → (nat_eq b 41 && is_arithmetic x) ≡ c → Going e subject front (inner_byte x s b) previous (b ∷ rest) mid rest
         go false h = byte_sound b rest r (i h) h
         go true h =
             let t = and_true (nat_eq b 41) (is_arithmetic x) h in
-            subst (λ z. Going e gap front z previous (b ∷ rest) mid rest) (sym (inner_parenthesis x xs done (levels (x ∷ xs)) b h))
+            subst (λ z. Going e subject front z previous (b ∷ rest) mid rest) (sym (inner_parenthesis x xs done (levels (x ∷ xs)) b h))
             (begins_piece (x ∷ xs) done Pending.Parenthesis [] mid (b ∷ rest) mid rest p (refl, t.1, one_of e (Plain 41) mid rest (plain_at e b 41 mid rest t.0 r)) tt)
 
-    pub word_byte_sound : (b : ℕ) (rest : List ℕ) → in_word x ≡ true → (is_word x && is_end b) ≡ false → Reads e (Plain b) mid rest → Going e gap front (word_byte x s b) previous (b ∷ rest) mid rest
+    pub word_byte_sound : (b : ℕ) (rest : List ℕ) → in_word x ≡ true → (is_word x && is_end b) ≡ false → Reads e (Plain b) mid rest → Going e subject front (word_byte x s b) previous (b ∷ rest) mid rest
     unfolding word_byte
     word_byte_sound b rest w n r =
-        either e gap front (nat_eq b 39 && has_single_quotes x) _ _ previous (b ∷ rest) mid rest
+        either e subject front (nat_eq b 39 && has_single_quotes x) _ _ previous (b ∷ rest) mid rest
         (λ h. let t = and_true (nat_eq b 39) (has_single_quotes x) h in
         begins_piece (x ∷ xs) done Pending.Single [] mid (b ∷ rest) mid rest p (refl, t.1, one_of e (Plain 39) mid rest (plain_at e b 39 mid rest t.0 r)) tt)
-        (λ h39. either e gap front (nat_eq b 34 && has_double_quotes x) _ _ previous (b ∷ rest) mid rest
+        (λ h39. either e subject front (nat_eq b 34 && has_double_quotes x) _ _ previous (b ∷ rest) mid rest
         (λ h. let t = and_true (nat_eq b 34) (has_double_quotes x) h in
         ends_piece x xs done DoubleQuotesOpen mid rest (b ∷ rest) mid (into Quotes DoubleQuotesOpen s) p
         (record { written = one_of e (Plain 34) mid rest (plain_at e b 34 mid rest t.0 r); fits = t.1; level = refl }) refl refl)
-        (λ h34. either e gap front (nat_eq b 34 && is_quotes x) _ _ previous (b ∷ rest) mid rest
+        (λ h34. either e subject front (nat_eq b 34 && is_quotes x) _ _ previous (b ∷ rest) mid rest
         (λ h. let t = and_true (nat_eq b 34) (is_quotes x) h in
         ends_piece x xs done DoubleQuotesClose mid rest (b ∷ rest) mid (out DoubleQuotesClose s) p
         (record { written = one_of e (Plain 34) mid rest (plain_at e b 34 mid rest t.0 r); fits = t.1; level = refl }) refl
         (ap (kept xs (done ++ DoubleQuotesClose ∷ [])) (quotes_level x xs t.1)))
-        (λ hq. either e gap front (nat_eq b 125 && is_braces x) _ _ previous (b ∷ rest) mid rest
+        (λ hq. either e subject front (nat_eq b 125 && is_braces x) _ _ previous (b ∷ rest) mid rest
         (λ h. let t = and_true (nat_eq b 125) (is_braces x) h in
         ends_piece x xs done BraceClose mid rest (b ∷ rest) mid (out_level BraceClose s) p
         (record { written = one_of e (Plain 125) mid rest (plain_at e b 125 mid rest t.0 r); fits = t.1; level = refl }) refl
         (ap (kept xs (done ++ BraceClose ∷ [])) (brace_level x xs t.1)))
-        (λ h125. either e gap front (nat_eq b 36) _ _ previous (b ∷ rest) mid rest
+        (λ h125. either e subject front (nat_eq b 36) _ _ previous (b ∷ rest) mid rest
         (λ h. begins_piece (x ∷ xs) done Pending.Dollar [] mid (b ∷ rest) mid rest p (refl, w, one_of e (Plain 36) mid rest (plain_at e b 36 mid rest h r)) (ap (λ z. z ∷ rest) (eqb-true b 36 h)))
-        (λ h36. either e gap front (nat_eq b 96) _ _ previous (b ∷ rest) mid rest
-        (λ h. subst (λ z. Going e gap front (opens Pending.Backquotes s) previous (z ∷ rest) mid rest) (sym (eqb-true b 96 h)) (back_sound rest w (plain_at e b 96 mid rest h r)))
+        (λ h36. either e subject front (nat_eq b 96) _ _ previous (b ∷ rest) mid rest
+        (λ h. subst (λ z. Going e subject front (opens Pending.Backquotes s) previous (z ∷ rest) mid rest) (sym (eqb-true b 96 h)) (back_sound rest w (plain_at e b 96 mid rest h r)))
         (λ h96. inner_sound b rest r (λ h41. stands_so x b (ahead e rest) w n h39 h34 hq h125 h36 h96 h41)))))))
       where
-        back_sound : (rest : List ℕ) → in_word x ≡ true → Reads e (Plain 96) mid rest → Going e gap front (opens Pending.Backquotes s) previous (96 ∷ rest) mid rest
+        back_sound : (rest : List ℕ) → in_word x ≡ true → Reads e (Plain 96) mid rest → Going e subject front (opens Pending.Backquotes s) previous (96 ∷ rest) mid rest
         back_sound rest w r =
             opens_piece x xs done Pending.Backquotes [] mid mid rest (96 ∷ rest) p w
-            (λ l. begins_piece (x ∷ xs) done Pending.Backquotes [] mid (96 ∷ rest) mid rest p ((λ bs. refl), w, l, one_of e (Plain 96) mid rest r) tt)
+            (λ l. begins_piece (x ∷ xs) done Pending.Backquotes [] mid (96 ∷ rest) mid rest p ((λ bs. refl), w, l, one_of e (Plain 96) mid rest r) refl)
             (record { lines = r.0; is = r.1; over = no_join_at 96 rest refl }) (backquote rest (rest, (0, refl, inl refl), refl))
 
-    pub escape_sound : (b : ℕ) (rest : List ℕ) → in_word x ≡ true → Reads e (Quoted b) mid rest → Going e gap front (escape x s b) previous (92 ∷ b ∷ rest) mid rest
+    pub escape_sound : (b : ℕ) (rest : List ℕ) → in_word x ≡ true → Reads e (Quoted b) mid rest → Going e subject front (escape x s b) previous (92 ∷ b ∷ rest) mid rest
     escape_sound b rest w r = go (quotes x b) refl
       where
-        go : (c : Bool) → quotes x b ≡ c → Going e gap front (On (same (cond c (Escaped b) (Backslash b)) s)) previous (92 ∷ b ∷ rest) mid rest
+        go : (c : Bool) → quotes x b ≡ c → Going e subject front (On (same (cond c (Escaped b) (Backslash b)) s)) previous (92 ∷ b ∷ rest) mid rest
         go true h =
             ends_piece x xs done (Escaped b) mid rest (92 ∷ b ∷ rest) mid (same (Escaped b) s) p (record { written = one_of e (Quoted b) mid rest r; fits = h; level = refl }) refl refl
         go false h =
@@ -203,9 +203,9 @@ module _ (e : Bool) (gap : List Mark) (front : List ℕ) (blank : list_all is_ga
 
     -- an operator, in a substitution
     pub operator_over : (o : Operator) (rest begin start : List ℕ) → is_text x ≡ false → between_tokens x ≡ true → may_grow o ≡ false → is_more o x ≡ false → Written e (plain (operator_text o)) mid rest
-        → Going e gap front (over After (operator_out o s)) previous begin start rest
+        → Going e subject front (over After (operator_out o s)) previous begin start rest
     operator_over o rest begin start t b g c w =
-        subst (λ z. Going e gap front (cond z (After (operator_out o s)) (On (operator_out o s))) previous begin start rest) (sym (text_token (OfOperator o) (x ∷ xs) ∙ t))
+        subst (λ z. Going e subject front (cond z (After (operator_out o s)) (On (operator_out o s))) previous begin start rest) (sym (text_token (OfOperator o) (x ∷ xs) ∙ t))
         (ends_piece x xs done (Mark.Operator o) mid rest begin start (operator_out o s) p
         (record {
           written = w;
@@ -216,8 +216,8 @@ module _ (e : Bool) (gap : List Mark) (front : List ℕ) (blank : list_all is_ga
         (ap (kept (with_token (OfOperator o) (x ∷ xs)) (done ++ Mark.Operator o ∷ [])) (sym (levels_token (OfOperator o) (x ∷ xs)))))
 
     pub grow_sound : (o : Operator) (rest begin start : List ℕ) → is_text x ≡ false → between_tokens x ≡ true → is_more o x ≡ false → Written e (plain (operator_text o)) mid rest
-        → Going e gap front (grow o s) previous begin start rest
+        → Going e subject front (grow o s) previous begin start rest
     grow_sound o rest begin start t b c w =
-        either e gap front (may_grow o) _ _ previous begin start rest
+        either e subject front (may_grow o) _ _ previous begin start rest
         (λ h. begins_piece (x ∷ xs) done (Pending.Operator o) [] mid begin start rest p (refl, b, h, w) tt)
         (λ h. operator_over o rest begin start t b h c w)

@@ -4,12 +4,12 @@ use Rattle.sh_scanner_base.specs.declared.operator.Operator.{Operator}
 use Rattle.sh_scanner_base.specs.declared.mark.Mark.{Mark}
 use Rattle.sh_scanner_base.specs.declared.mark.Mark.TheVariants.{Byte, Escaped, Backslash, SingleQuoted, DoubleQuotesOpen, DoubleQuotesClose, Dollar, Variable, Parameter, BraceOpen, BraceClose, ArithmeticOpen, ArithmeticClose, CommandsOpen, CommandsClose, Backquoted, WordOpen, WordClose, Blank, Comment, Bodies}
 use Rattle.sh_scanner_base.specs.declared.context.Context.{Context}
-use Rattle.sh_scanner_base.specs.declared.context.Context.TheVariants.{Top, Commands, Word, Quotes, Braces, Arithmetic, Parenthesis}
+use Rattle.sh_scanner_base.specs.declared.context.Context.TheVariants.{Top, Commands, Word, Quotes, Braces, Arithmetic, Parenthesis, Body}
 use Rattle.sh_scanner_base.specs.declared.head.Head.{Head}
 use Rattle.sh_scanner_base.specs.Bytes.{is_redirection}
 use Rattle.sh_scanner_base.specs.Characters.{Ahead, ahead, next_is}
 use Rattle.sh_scanner_base.specs.Heads.{head_of}
-use Rattle.sh_scanner_base.specs.Marks.{stands, ends_word, same_as, fits, behind, with_token, word_over, parenthesized, braces_of, in_word, is_text, between_tokens, is_word, is_quotes, is_braces, is_arithmetic, is_parenthesis, has_single_quotes, has_double_quotes, is_quoted, may_close, top_of, levels, is_right_parenthesis, is_newline, is_more}
+use Rattle.sh_scanner_base.specs.Marks.{stands, ends_word, same_as, fits, behind, with_token, word_over, parenthesized, braces_of, in_word, is_text, is_body, between_tokens, is_word, is_quotes, is_braces, is_arithmetic, is_parenthesis, has_single_quotes, has_double_quotes, is_quoted, may_close, top_of, levels, is_right_parenthesis, is_newline, is_more}
 use Rattle.sh_scanner_base.specs.Told.{Told, OfOperator, OfWord, OfBodies}
 
 pub not_or : (c d : Bool) → not (c || d) ≡ true → (c ≡ false) × (d ≡ false)
@@ -57,7 +57,7 @@ differs f a b h g = go (nat_eq b a) refl
     go false e = refl
     go true e = let x = ap f (eqb-true b a e) in absurd (cc)
 
--- the text itself is below all others, words stand in commands and everything else in a word
+-- the text itself or a body is below all others, words stand in commands and everything else in a word
 abbrev pub nested : List Context → Bool
 nested [] = false
 nested (Top ∷ []) = true
@@ -68,9 +68,14 @@ nested (Quotes ∷ xs) = in_word (top_of xs) && nested xs
 nested (Braces q ∷ xs) = in_word (top_of xs) && nested xs
 nested (Arithmetic ∷ xs) = in_word (top_of xs) && nested xs
 nested (Parenthesis ∷ xs) = in_word (top_of xs) && nested xs
+nested (Body ∷ []) = true
+nested (Body ∷ x ∷ xs) = false
 
--- what isn't the text itself stands on something
-pub below : (x : Context) (xs : List Context) → is_text x ≡ false → nested (x ∷ xs) ≡ true → nested xs ≡ true
+abbrev pub is_ground : Context → Bool
+is_ground x = is_text x || is_body x
+
+-- what isn't the ground stands on something
+pub below : (x : Context) (xs : List Context) → is_ground x ≡ false → nested (x ∷ xs) ≡ true → nested xs ≡ true
 below Top xs t h = absurd (cc)
 below (Commands ts) xs t h = (and_true (in_word (top_of xs)) (nested xs) h).1
 below (Word n) xs t h = (and_true (between_tokens (top_of xs)) (nested xs) h).1
@@ -78,6 +83,7 @@ below Quotes xs t h = (and_true (in_word (top_of xs)) (nested xs) h).1
 below (Braces q) xs t h = (and_true (in_word (top_of xs)) (nested xs) h).1
 below Arithmetic xs t h = (and_true (in_word (top_of xs)) (nested xs) h).1
 below Parenthesis xs t h = (and_true (in_word (top_of xs)) (nested xs) h).1
+below Body xs t h = absurd (cc)
 
 pub below_word : (n : ℕ) (xs : List Context) → nested (Word n ∷ xs) ≡ true → between_tokens (top_of xs) ≡ true
 below_word n xs h = (and_true (between_tokens (top_of xs)) (nested xs) h).0
@@ -90,6 +96,7 @@ word_no_text Quotes h = refl
 word_no_text (Braces q) h = refl
 word_no_text Arithmetic h = refl
 word_no_text Parenthesis h = refl
+word_no_text Body h = refl
 
 pub word_no_gap : (x : Context) → in_word x ≡ true → between_tokens x ≡ false
 word_no_gap Top h = absurd (cc)
@@ -99,6 +106,7 @@ word_no_gap Quotes h = refl
 word_no_gap (Braces q) h = refl
 word_no_gap Arithmetic h = refl
 word_no_gap Parenthesis h = refl
+word_no_gap Body h = refl
 
 pub double_in_word : (x : Context) → has_double_quotes x ≡ true → in_word x ≡ true
 double_in_word Top h = absurd (cc)
@@ -108,6 +116,7 @@ double_in_word Quotes h = absurd (cc)
 double_in_word (Braces q) h = refl
 double_in_word Arithmetic h = absurd (cc)
 double_in_word Parenthesis h = absurd (cc)
+double_in_word Body h = absurd (cc)
 
 pub single_in_word : (x : Context) → has_single_quotes x ≡ true → in_word x ≡ true
 single_in_word Top h = absurd (cc)
@@ -117,6 +126,7 @@ single_in_word Quotes h = absurd (cc)
 single_in_word (Braces q) h = refl
 single_in_word Arithmetic h = absurd (cc)
 single_in_word Parenthesis h = absurd (cc)
+single_in_word Body h = absurd (cc)
 
 -- one more token in the innermost
 pub nested_token : (c : Told) (xs : List Context) → nested xs ≡ true → nested (with_token c xs) ≡ true
@@ -128,6 +138,7 @@ nested_token c (Quotes ∷ xs) h = h
 nested_token c (Braces q ∷ xs) h = h
 nested_token c (Arithmetic ∷ xs) h = h
 nested_token c (Parenthesis ∷ xs) h = h
+nested_token c (Body ∷ xs) h = h
 
 pub levels_token : (c : Told) (xs : List Context) → levels (with_token c xs) ≡ levels xs
 levels_token c [] = refl
@@ -138,6 +149,7 @@ levels_token c (Quotes ∷ xs) = refl
 levels_token c (Braces q ∷ xs) = refl
 levels_token c (Arithmetic ∷ xs) = refl
 levels_token c (Parenthesis ∷ xs) = refl
+levels_token c (Body ∷ xs) = refl
 
 pub between_token : (c : Told) (xs : List Context) → between_tokens (top_of (with_token c xs)) ≡ between_tokens (top_of xs)
 between_token c [] = refl
@@ -148,6 +160,7 @@ between_token c (Quotes ∷ xs) = refl
 between_token c (Braces q ∷ xs) = refl
 between_token c (Arithmetic ∷ xs) = refl
 between_token c (Parenthesis ∷ xs) = refl
+between_token c (Body ∷ xs) = refl
 
 pub text_token : (c : Told) (xs : List Context) → is_text (top_of (with_token c xs)) ≡ is_text (top_of xs)
 text_token c [] = refl
@@ -158,18 +171,20 @@ text_token c (Quotes ∷ xs) = refl
 text_token c (Braces q ∷ xs) = refl
 text_token c (Arithmetic ∷ xs) = refl
 text_token c (Parenthesis ∷ xs) = refl
+text_token c (Body ∷ xs) = refl
 
--- the text itself is alone
-pub text_alone : (xs : List Context) → nested xs ≡ true → is_text (top_of xs) ≡ true → xs ≡ Top ∷ []
-text_alone [] h t = absurd (cc)
-text_alone (Top ∷ []) h t = refl
-text_alone (Top ∷ x ∷ xs) h t = absurd (cc)
-text_alone (Commands ts ∷ xs) h t = absurd (cc)
-text_alone (Word n ∷ xs) h t = absurd (cc)
-text_alone (Quotes ∷ xs) h t = absurd (cc)
-text_alone (Braces q ∷ xs) h t = absurd (cc)
-text_alone (Arithmetic ∷ xs) h t = absurd (cc)
-text_alone (Parenthesis ∷ xs) h t = absurd (cc)
+-- a body is alone below all others
+pub body_alone : (xs : List Context) → nested xs ≡ true → is_body (top_of xs) ≡ true → xs ≡ Body ∷ []
+body_alone [] h t = absurd (cc)
+body_alone (Top ∷ xs) h t = absurd (cc)
+body_alone (Commands ts ∷ xs) h t = absurd (cc)
+body_alone (Word n ∷ xs) h t = absurd (cc)
+body_alone (Quotes ∷ xs) h t = absurd (cc)
+body_alone (Braces q ∷ xs) h t = absurd (cc)
+body_alone (Arithmetic ∷ xs) h t = absurd (cc)
+body_alone (Parenthesis ∷ xs) h t = absurd (cc)
+body_alone (Body ∷ []) h t = refl
+body_alone (Body ∷ x ∷ xs) h t = absurd (cc)
 
 -- what is left by a piece of its own is not the text itself
 pub quotes_left : (x : Context) → is_quotes x ≡ true → is_text x ≡ false
@@ -180,6 +195,17 @@ quotes_left Quotes h = refl
 quotes_left (Braces q) h = refl
 quotes_left Arithmetic h = refl
 quotes_left Parenthesis h = refl
+quotes_left Body h = refl
+
+quotes_no_ground : (x : Context) → is_quotes x ≡ true → is_ground x ≡ false
+quotes_no_ground Top h = absurd (cc)
+quotes_no_ground (Commands ts) h = absurd (cc)
+quotes_no_ground (Word n) h = absurd (cc)
+quotes_no_ground Quotes h = refl
+quotes_no_ground (Braces q) h = absurd (cc)
+quotes_no_ground Arithmetic h = absurd (cc)
+quotes_no_ground Parenthesis h = absurd (cc)
+quotes_no_ground Body h = absurd (cc)
 
 pub braces_left : (x : Context) → is_braces x ≡ true → is_text x ≡ false
 braces_left Top h = absurd (cc)
@@ -189,6 +215,17 @@ braces_left Quotes h = refl
 braces_left (Braces q) h = refl
 braces_left Arithmetic h = refl
 braces_left Parenthesis h = refl
+braces_left Body h = refl
+
+braces_no_ground : (x : Context) → is_braces x ≡ true → is_ground x ≡ false
+braces_no_ground Top h = absurd (cc)
+braces_no_ground (Commands ts) h = absurd (cc)
+braces_no_ground (Word n) h = absurd (cc)
+braces_no_ground Quotes h = absurd (cc)
+braces_no_ground (Braces q) h = refl
+braces_no_ground Arithmetic h = absurd (cc)
+braces_no_ground Parenthesis h = absurd (cc)
+braces_no_ground Body h = absurd (cc)
 
 pub arithmetic_left : (x : Context) → is_arithmetic x ≡ true → is_text x ≡ false
 arithmetic_left Top h = absurd (cc)
@@ -198,6 +235,27 @@ arithmetic_left Quotes h = refl
 arithmetic_left (Braces q) h = refl
 arithmetic_left Arithmetic h = refl
 arithmetic_left Parenthesis h = refl
+arithmetic_left Body h = refl
+
+arithmetic_no_ground : (x : Context) → is_arithmetic x ≡ true → is_ground x ≡ false
+arithmetic_no_ground Top h = absurd (cc)
+arithmetic_no_ground (Commands ts) h = absurd (cc)
+arithmetic_no_ground (Word n) h = absurd (cc)
+arithmetic_no_ground Quotes h = absurd (cc)
+arithmetic_no_ground (Braces q) h = absurd (cc)
+arithmetic_no_ground Arithmetic h = refl
+arithmetic_no_ground Parenthesis h = absurd (cc)
+arithmetic_no_ground Body h = absurd (cc)
+
+parenthesis_no_ground : (x : Context) → is_parenthesis x ≡ true → is_ground x ≡ false
+parenthesis_no_ground Top h = absurd (cc)
+parenthesis_no_ground (Commands ts) h = absurd (cc)
+parenthesis_no_ground (Word n) h = absurd (cc)
+parenthesis_no_ground Quotes h = absurd (cc)
+parenthesis_no_ground (Braces q) h = absurd (cc)
+parenthesis_no_ground Arithmetic h = absurd (cc)
+parenthesis_no_ground Parenthesis h = refl
+parenthesis_no_ground Body h = absurd (cc)
 
 pub closing_left : (x : Context) → may_close x ≡ true → is_text x ≡ false
 closing_left Top h = absurd (cc)
@@ -207,6 +265,17 @@ closing_left Quotes h = refl
 closing_left (Braces q) h = refl
 closing_left Arithmetic h = refl
 closing_left Parenthesis h = refl
+closing_left Body h = refl
+
+closing_no_ground : (x : Context) → may_close x ≡ true → is_ground x ≡ false
+closing_no_ground Top h = absurd (cc)
+closing_no_ground (Commands ts) h = refl
+closing_no_ground (Word n) h = absurd (cc)
+closing_no_ground Quotes h = absurd (cc)
+closing_no_ground (Braces q) h = absurd (cc)
+closing_no_ground Arithmetic h = absurd (cc)
+closing_no_ground Parenthesis h = absurd (cc)
+closing_no_ground Body h = absurd (cc)
 
 -- a word in what stands between tokens, and everything else in a word
 pub nested_word : (n : ℕ) (x : Context) (xs : List Context) → between_tokens x ≡ true → nested (x ∷ xs) ≡ true → nested (Word n ∷ x ∷ xs) ≡ true
@@ -216,12 +285,12 @@ nested_in : (x : Context) (xs : List Context) → in_word x ≡ true → nested 
 nested_in x xs b h = and_both (in_word x) (nested (x ∷ xs)) b h
 
 parenthesis_nested : (b : ℕ) (x : Context) (xs : List Context) → in_word x ≡ true → nested (x ∷ xs) ≡ true → nested (parenthesized b x xs) ≡ true
-parenthesis_nested b x xs w h = go (nat_eq b 40 && (is_arithmetic x || is_parenthesis x)) (nat_eq b 41 && is_parenthesis x)
+parenthesis_nested b x xs w h = go (nat_eq b 40 && (is_arithmetic x || is_parenthesis x)) (nat_eq b 41 && is_parenthesis x) refl
   where
-    go : (c d : Bool) → nested (cond c (Parenthesis ∷ x ∷ xs) (cond d xs (x ∷ xs))) ≡ true
-    go true d = nested_in x xs w h
-    go false true = below x xs (word_no_text x w) h
-    go false false = h
+    go : (c d : Bool) → (nat_eq b 41 && is_parenthesis x) ≡ d → nested (cond c (Parenthesis ∷ x ∷ xs) (cond d xs (x ∷ xs))) ≡ true
+    go true d i = nested_in x xs w h
+    go false true i = below x xs (parenthesis_no_ground x (and_true (nat_eq b 41) (is_parenthesis x) i).1) h
+    go false false i = h
 
 pub stands_in_word : (x : Context) (b : ℕ) (next : Ahead) → stands x b next ≡ true → in_word x ≡ true
 stands_in_word Top b next h = absurd (cc)
@@ -231,6 +300,7 @@ stands_in_word Quotes b next h = refl
 stands_in_word (Braces q) b next h = refl
 stands_in_word Arithmetic b next h = refl
 stands_in_word Parenthesis b next h = refl
+stands_in_word Body b next h = refl
 
 close_nested : (r : Bool) (done : List Mark) (x : Context) (xs : List Context) → is_word x ≡ true → nested (x ∷ xs) ≡ true → nested (word_over r done (x ∷ xs)) ≡ true
 close_nested r done Top xs w h = absurd (cc)
@@ -240,6 +310,7 @@ close_nested r done Quotes xs w h = absurd (cc)
 close_nested r done (Braces q) xs w h = absurd (cc)
 close_nested r done Arithmetic xs w h = absurd (cc)
 close_nested r done Parenthesis xs w h = absurd (cc)
+close_nested r done Body xs w h = absurd (cc)
 
 braces_nested : (h : Option Head) (q : Bool) (x : Context) (xs : List Context) → in_word x ≡ true → nested (x ∷ xs) ≡ true → nested (braces_of q h ∷ x ∷ xs) ≡ true
 braces_nested None q x xs w n = nested_in x xs w n
@@ -252,16 +323,16 @@ nested_behind e done x xs (Escaped b) after n f = n
 nested_behind e done x xs (Backslash b) after n f = n
 nested_behind e done x xs (SingleQuoted bs) after n f = n
 nested_behind e done x xs DoubleQuotesOpen after n f = nested_in x xs (double_in_word x f) n
-nested_behind e done x xs DoubleQuotesClose after n f = below x xs (quotes_left x f) n
+nested_behind e done x xs DoubleQuotesClose after n f = below x xs (quotes_no_ground x f) n
 nested_behind e done x xs Dollar after n f = n
 nested_behind e done x xs (Variable bs) after n f = n
 nested_behind e done x xs (Parameter b) after n f = n
 nested_behind e done x xs (BraceOpen bs) after n f = braces_nested (head_of bs) (is_quoted x) x xs (and_true (in_word x) _ f).0 n
-nested_behind e done x xs BraceClose after n f = below x xs (braces_left x f) n
+nested_behind e done x xs BraceClose after n f = below x xs (braces_no_ground x f) n
 nested_behind e done x xs ArithmeticOpen after n f = nested_in x xs f n
-nested_behind e done x xs ArithmeticClose after n f = below x xs (arithmetic_left x f) n
+nested_behind e done x xs ArithmeticClose after n f = below x xs (arithmetic_no_ground x f) n
 nested_behind e done x xs CommandsOpen after n f = nested_in x xs (and_true (in_word x) _ f).0 n
-nested_behind e done x xs CommandsClose after n f = below x xs (closing_left x f) n
+nested_behind e done x xs CommandsClose after n f = below x xs (closing_no_ground x f) n
 nested_behind e done x xs (Backquoted bs) after n f = n
 nested_behind e done x xs WordOpen after n f = nested_word (length done) x xs (and_true (between_tokens x) _ f).0 n
 nested_behind e done x xs (WordClose r) after n f = close_nested r done x xs (and_true (is_word x) (ends_word (ahead e after) && same_as r (next_is is_redirection (ahead e after))) f).0 n

@@ -21,7 +21,7 @@ use Rattle.sh_scanner.proofs.Tests.{and_true, and_both, and_false, not_false}
 use Rattle.sh_scanner.proofs.Leads.{begun, settled}
 use Rattle.sh_scanner.proofs.Between.{plain_between, between_blank, between_hash, between_operator, between_word}
 use Rattle.sh_scanner.proofs.Gaps.{gap_kind}
-use Rattle.sh_scanner.proofs.Paths.{Path, Going, Shown, marks_snoc, no_join_at}
+use Rattle.sh_scanner.proofs.Paths.{WordBehind, Path, Going, Shown, marks_snoc, no_join_at}
 use Rattle.sh_scanner.proofs.Sound.{ahead_plain, ahead_quoted, operator_of_text, plain_at, one_of, word_byte_sound, escape_sound}
 use Rattle.sh_scanner.proofs.Steps.{written_snoc, raw_snoc, all_snoc}
 use Rattle.sh_scanner.proofs.Whole.{NextCharacter, got, over, cut, next_cooked, next_character, over_run, cut_run, onward_shown, inner, grown_shown, top_operator}
@@ -30,7 +30,7 @@ use Rattle.sh_scanner.proofs.Whole.{NextCharacter, got, over, cut, next_cooked, 
 abbrev pub Answered : Bool → List ℕ → Scanned → Type 0
 Answered e bytes (Ended k f r) = HasToken e bytes f r (kind_of k.done)
 Answered e bytes (Deep r) = IsTooDeep e bytes r
-Answered e bytes Open = Unit {0}
+Answered e bytes (Open f) = Unit {0}
 
 answered : (e : Bool) (bytes middle front : List ℕ) (gap : List Mark) → list_all is_gap gap ≡ true → AreMarks e [] (Top ∷ []) gap bytes middle → Joined middle front → (s : Scanned) → Shown e gap front s → Answered e bytes s
 answered e bytes middle front gap b a j (Ended k f r) h =
@@ -52,7 +52,7 @@ answered e bytes middle front gap b a j (Deep r) h =
       placed = h.placed;
       opens = h.opens;
     }
-answered e bytes middle front gap b a j Open h = tt
+answered e bytes middle front gap b a j (Open f) h = tt
 
 -- a gap with one piece more
 gap_behind : (m : Mark) (done : List Mark) → is_gap m ≡ true → behind done Top [] m ≡ Top ∷ []
@@ -115,7 +115,7 @@ module _ (e : Bool) (bytes : List ℕ) where
         (record { gap = done; middle = mid; blank = blank; between = walked; joined = record { lines = n; is = w ∙ sym (append-nil (joins n)); over = refl }; token = ending v refl refl })
 
     -- a word begins with this character
-    first_path : (front : List ℕ) → begins_word (ahead e front) ≡ true → Path e done front (done ++ WordOpen ∷ []) (Word (length done) ∷ Top ∷ []) front
+    first_path : (front : List ℕ) → begins_word (ahead e front) ≡ true → Path e (WordBehind done) front (done ++ WordOpen ∷ []) (Word (length done) ∷ Top ∷ []) front
     first_path front h =
         record {
           inner = [];
@@ -126,7 +126,7 @@ module _ (e : Bool) (bytes : List ℕ) where
           inside = record { order = refl; inner = refl };
         }
 
-    word_shown : (front rest : List ℕ) (y : Stepped) (p : Places) → Joined mid front → Going e done front y p.previous front front rest → p.behind ≡ front → p.front ≡ front → Answered e bytes (after e y (placed front p) rest)
+    word_shown : (front rest : List ℕ) (y : Stepped) (p : Places) → Joined mid front → Going e (WordBehind done) front y p.previous front front rest → p.behind ≡ front → p.front ≡ front → Answered e bytes (after e y (placed front p) rest)
     word_shown front rest y p j g b f = answered e bytes mid front done blank walked j (after e y (placed front p) rest) (onward_shown e done front blank y p front front rest (inner e done front blank rest) g b f)
 
     module _ (c : ℕ) (rest : List ℕ) (p : Places) (r : Reads e (Plain c) mid rest) where
@@ -146,9 +146,9 @@ module _ (e : Bool) (bytes : List ℕ) where
       here : Reads e (Plain c) front rest
       here = (0, refl, r.2)
 
-      plain_word : is_blank c ≡ false → nat_eq c 35 ≡ false → is_operator_byte c ≡ false → Going e done front (word_byte (Word (length done)) (settled (done ++ WordOpen ∷ []) (Word (length done) ∷ Top ∷ [])) c) p.previous front front rest
+      plain_word : is_blank c ≡ false → nat_eq c 35 ≡ false → is_operator_byte c ≡ false → Going e (WordBehind done) front (word_byte (Word (length done)) (settled (done ++ WordOpen ∷ []) (Word (length done) ∷ Top ∷ [])) c) p.previous front front rest
       plain_word h i k =
-          word_byte_sound e done front blank p.previous (Word (length done)) (Top ∷ []) (done ++ WordOpen ∷ []) front
+          word_byte_sound e (WordBehind done) front blank p.previous (Word (length done)) (Top ∷ []) (done ++ WordOpen ∷ []) front
           (first_path front (ap begins_word (ahead_plain e c front rest here) ∙ rw (h, k, i) refl)) c rest refl (rw (h, k) refl) here
 
       no_close : is_operator_byte c ≡ false → nat_eq c 41 ≡ false
@@ -181,13 +181,13 @@ module _ (e : Bool) (bytes : List ℕ) where
           comment_case true h i =
               subst (λ z. Answered e bytes (after e (between s z) (fronted true (placed (z ∷ rest) p)) rest)) (sym (eqb-true c 35 h))
               (subst (λ y. Answered e bytes (after e y (fronted true (placed (35 ∷ rest) p)) rest)) (sym (between_hash s))
-              (ih done mid [] true (moved rest (fronted true (placed (35 ∷ rest) p))) blank walked (refl, one_of e (Plain 35) mid rest (plain_at e c 35 mid rest h r)) refl))
+              (ih done mid [] true (moved false rest (fronted true (placed (35 ∷ rest) p))) blank walked (refl, one_of e (Plain 35) mid rest (plain_at e c 35 mid rest h r)) refl))
           comment_case false h i = operator_case (is_operator_byte c) refl i h
 
           blank_case : (d : Bool) → is_blank c ≡ d → Answered e bytes (after e (between s c) q rest)
           blank_case true h =
               subst (λ y. Answered e bytes (after e y q rest)) (sym (between_blank s c h))
-              (ih (done ++ Blank c ∷ []) rest [] false (moved rest q) (all_gap_snoc done (Blank c) blank refl) (more_gap (Blank c) rest (record { written = one_of e (Plain c) mid rest r; fits = h; level = refl })) (refl, refl) refl)
+              (ih (done ++ Blank c ∷ []) rest [] false (moved false rest q) (all_gap_snoc done (Blank c) blank refl) (more_gap (Blank c) rest (record { written = one_of e (Plain c) mid rest r; fits = h; level = refl })) (refl, refl) refl)
           blank_case false h = comment_case (nat_eq c 35) refl h
 
     quoted_gap : (c : ℕ) (rest : List ℕ) (p : Places) → Reads e (Quoted c) mid rest → Answered e bytes (after e (quoted_byte s c) (fronted true (placed (92 ∷ c ∷ rest) p)) rest)
@@ -196,7 +196,7 @@ module _ (e : Bool) (bytes : List ℕ) where
         let front : List ℕ = 92 ∷ c ∷ rest in
         let here : Reads e (Quoted c) front rest = (0, refl, r.2) in
         word_shown front rest (escape (Word (length done)) (settled (done ++ WordOpen ∷ []) (Word (length done) ∷ Top ∷ [])) c) (fronted true (placed front p)) (record { lines = r.0; is = r.1; over = r.2 })
-        (escape_sound e done front blank p.previous (Word (length done)) (Top ∷ []) (done ++ WordOpen ∷ []) front (first_path front (ap begins_word (ahead_quoted e c front rest here))) c rest refl here) refl refl
+        (escape_sound e (WordBehind done) front blank p.previous (Word (length done)) (Top ∷ []) (done ++ WordOpen ∷ []) front (first_path front (ap begins_word (ahead_quoted e c front rest here))) c rest refl here) refl refl
 
   nothing_gap : (done : List Mark) (mid m : List ℕ) (p : Places) → list_all is_gap done ≡ true → AreMarks e [] (Top ∷ []) done bytes mid → mid ≡ m → p.next ≡ m → NextCharacter e false m
       → ((rest : List ℕ) → length rest < length m → GapSound rest) → Answered e bytes (run e false (settled done (Top ∷ [])) p m)
@@ -234,7 +234,7 @@ module _ (e : Bool) (bytes : List ℕ) where
           (plain_gap (done ++ Comment acc ∷ []) m (all_gap_snoc done (Comment acc) b refl)
           (more_gap done mid b a (Comment acc) m (record { written = w; fits = and_both (list_all is_no_newline acc) (ends_comment e m) h (ap (ends_comment e) g); level = refl })) 10 rest p (0, g, inl refl) (ih rest l))
       go false i =
-          ih rest l done mid (acc ++ c ∷ []) true (moved rest (fronted true (placed (c ∷ rest) p))) b a
+          ih rest l done mid (acc ++ c ∷ []) true (moved false rest (fronted true (placed (c ∷ rest) p))) b a
           (all_snoc is_no_newline acc c h (not_false (nat_eq c 10) i), subst (λ z. Written e (Plain 35 ∷ z) mid rest) (raw_snoc acc c) (written_snoc e (Plain 35 ∷ raw acc) (Raw c) mid m rest w r)) refl
   comment_gap done mid acc m p b a h w n (over i v z) ih =
       let y = z refl in
@@ -257,4 +257,4 @@ module _ (e : Bool) (bytes : List ℕ) where
 
 -- each scanned text is as the definition has it
 pub sound : (e : Bool) (bytes : List ℕ) → Answered e bytes (scanned e bytes)
-sound e bytes = gap_sound e bytes (suc (length bytes)) bytes (omega arith) [] bytes [] false (record { front = bytes; previous = bytes; behind = bytes; next = bytes }) refl refl (refl, refl) refl
+sound e bytes = gap_sound e bytes (suc (length bytes)) bytes (omega arith) [] bytes [] false (record { front = bytes; previous = bytes; behind = bytes; next = bytes; form = bytes }) refl refl (refl, refl) refl

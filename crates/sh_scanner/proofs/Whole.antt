@@ -6,7 +6,7 @@ use Rattle.sh_scanner_base.specs.declared.character.Character.{Character}
 use Rattle.sh_scanner_base.specs.declared.character.Character.TheVariants.{Plain, Quoted, Raw}
 use Rattle.sh_scanner_base.specs.declared.operator.Operator.{Operator}
 use Rattle.sh_scanner_base.specs.declared.context.Context.{Context}
-use Rattle.sh_scanner_base.specs.declared.context.Context.TheVariants.{Top, Commands, Word, Quotes, Braces, Arithmetic, Parenthesis}
+use Rattle.sh_scanner_base.specs.declared.context.Context.TheVariants.{Top, Commands, Word, Quotes, Braces, Arithmetic, Parenthesis, Body}
 use Rattle.sh_scanner_base.specs.declared.mark.Mark.{Mark}
 use Rattle.sh_scanner_base.specs.declared.mark.Mark.TheVariants.{Dollar, Variable, WordClose, Comment}
 use Rattle.sh_scanner_base.specs.declared.pending.Pending.{Pending}
@@ -15,19 +15,19 @@ use Rattle.sh_scanner_base.specs.Characters.{joins, Reads, Written, plain, Input
 use Rattle.sh_scanner_base.specs.Operators.{operator_text}
 use Rattle.sh_scanner_base.specs.Growth.{grown, may_grow}
 use Rattle.sh_scanner_base.specs.Pendings.{is_raw, is_gap_pending}
-use Rattle.sh_scanner_base.specs.Marks.{IsMark, is_text, is_gap, ends_operator, ends_word, same_as, is_some, is_right_parenthesis, levels, with_token, word_over, is_more, is_newline}
+use Rattle.sh_scanner_base.specs.Marks.{IsMark, is_text, is_word, is_gap, ends_operator, ends_word, same_as, is_some, is_right_parenthesis, levels, with_token, word_over, is_more, is_newline}
 use Rattle.sh_scanner_base.specs.Told.{OfWord}
 use Rattle.sh_scanner.specs.Tokens.{IsToken, operator}
 use Rattle.sh_scanner.specs.Machine.{State, Stepped, On, Before, After, TooDeep, DollarTooDeep, step, is_top, grow, grow_to, in_operator, operator_out, word_out}
-use Rattle.sh_scanner.specs.Run.{Open, Places, fronted, with_front, moved, is_gap_state, last_token, last_places, word_ended, ended_in, run}
+use Rattle.sh_scanner.specs.Run.{Open, Places, fronted, with_front, moved, begins_form, is_gap_state, last_token, last_places, word_ended, ended_in, run}
 use Rattle.sh_scanner.specs.Found.{kind_of}
 use Rattle.sh_scanner.proofs.Running.{placed, after, follow, fed_backslash, joins_run, begin_of, is_raw_character, character_run}
 use Rattle.sh_scanner.proofs.Tests.{and_both, and_false, and_right, not_false, text_token}
 use Rattle.sh_scanner.proofs.Leads.{begun, settled}
-use Rattle.sh_scanner.proofs.Between.{between_no_word}
+use Rattle.sh_scanner.proofs.Between.{between_no_word, between_no_body}
 use Rattle.sh_scanner.proofs.Gaps.{kind_last}
 use Rattle.sh_scanner.proofs.Growing.{grown_text}
-use Rattle.sh_scanner.proofs.Paths.{Path, At, Held, Preceded, pending_levels, final_word, Going, Shown, path_on}
+use Rattle.sh_scanner.proofs.Paths.{WordBehind, Path, At, Held, Preceded, pending_levels, final_word, no_body, Going, Shown, path_on}
 use Rattle.sh_scanner.proofs.Sound.{ahead_joins, ahead_plain, ahead_quoted, whole_operator}
 use Rattle.sh_scanner.proofs.Steps.{written_snoc, plain_snoc}
 use Rattle.sh_scanner.proofs.Begun.{step_sound, dollar_mark, name_mark}
@@ -77,74 +77,78 @@ over_run e s p n m r w x =
     let y : m ≡ joins n ++ [] = w ∙ sym (append-nil (joins n)) in
     ap (run e false s p) y ∙ joins_run e s p n [] r (x ∙ y)
 
-pub cut_run : (e : Bool) (s : State) (p : Places) (n : ℕ) (m : List ℕ) → is_raw s.pending ≡ false → m ≡ joins n ++ 92 ∷ [] → p.next ≡ m → e ≡ false → run e false s p m ≡ Open
+pub cut_run : (e : Bool) (s : State) (p : Places) (n : ℕ) (m : List ℕ) → is_raw s.pending ≡ false → m ≡ joins n ++ 92 ∷ [] → p.next ≡ m → e ≡ false → run e false s p m ≡ Open (with_front s (placed (92 ∷ []) p)).form
 cut_run e s p n m r w x d =
     ap (run e false s p) w ∙ (joins_run e s p n (92 ∷ []) r (x ∙ w)
     ∙ (ap (λ y. follow e y (with_front s (placed (92 ∷ []) p)) []) (fed_backslash s r)
-    ∙ subst (λ e. run e true s (with_front s (placed (92 ∷ []) p)) [] ≡ Open) (sym d) refl))
+    ∙ subst (λ e. run e true s (with_front s (placed (92 ∷ []) p)) [] ≡ Open (with_front s (placed (92 ∷ []) p)).form) (sym d) refl))
 
-end_ahead : (n : ℕ) (m : List ℕ) → m ≡ joins n → ahead true m ≡ InputEnd
+pub end_ahead : (n : ℕ) (m : List ℕ) → m ≡ joins n → ahead true m ≡ InputEnd
 end_ahead n m w = ap (ahead true) (w ∙ sym (append-nil (joins n))) ∙ ahead_joins true n []
 
 module _ (e : Bool) (gap : List Mark) (front : List ℕ) (blank : list_all is_gap gap ≡ true) where
   -- the end of the input behind a word
-  word_ended_shown : (x : Context) (xs : List Context) (done : List Mark) (mid f b : List ℕ) → Path e gap front done (x ∷ xs) mid → f ≡ front → mid ≡ b → ahead e b ≡ InputEnd
-      → Shown e gap front (last_token (word_ended (settled done (x ∷ xs))) f b)
-  word_ended_shown Top xs done mid f b p w v a = tt
-  word_ended_shown (Commands ts) xs done mid f b p w v a = tt
-  word_ended_shown (Word n) xs done mid f b p w v a = go (is_top (with_token (OfWord false (drop (suc n) done)) xs)) refl
+  word_ended_shown : (x : Context) (xs : List Context) (done : List Mark) (mid f b form : List ℕ) → Path e (WordBehind gap) front done (x ∷ xs) mid → f ≡ front → mid ≡ b → ahead e b ≡ InputEnd
+      → Shown e gap front (last_token (word_ended (settled done (x ∷ xs))) f b form)
+  word_ended_shown Top xs done mid f b form p w v a = tt
+  word_ended_shown (Commands ts) xs done mid f b form p w v a = tt
+  word_ended_shown (Word n) xs done mid f b form p w v a = go (is_top (with_token (OfWord false (drop (suc n) done)) xs)) refl
     where
       mark : IsMark e (Word n) xs (WordClose false) mid b
       mark = record { written = v; fits = subst (λ z. (ends_word z && same_as false (next_is is_redirection z)) ≡ true) (sym a) refl; level = refl }
 
-      go : (c : Bool) → is_top (with_token (OfWord false (drop (suc n) done)) xs) ≡ c → Shown e gap front (last_token (cond c (Some (word_out false (settled done (Word n ∷ xs)))) None) f b)
-      go true t = (w, final_word e gap front done (Word n) xs false mid b blank p mark (sym (text_token (OfWord false (drop (suc n) done)) xs) ∙ t))
+      go : (c : Bool) → is_top (with_token (OfWord false (drop (suc n) done)) xs) ≡ c → Shown e gap front (last_token (cond c (Some (word_out false (settled done (Word n ∷ xs)))) None) f b form)
+      go true t = (w, final_word e (WordBehind gap) front done (Word n) xs false mid b blank p mark (sym (text_token (OfWord false (drop (suc n) done)) xs) ∙ t))
       go false t = tt
-  word_ended_shown Quotes xs done mid f b p w v a = tt
-  word_ended_shown (Braces q) xs done mid f b p w v a = tt
-  word_ended_shown Arithmetic xs done mid f b p w v a = tt
-  word_ended_shown Parenthesis xs done mid f b p w v a = tt
+  word_ended_shown Quotes xs done mid f b form p w v a = tt
+  word_ended_shown (Braces q) xs done mid f b form p w v a = tt
+  word_ended_shown Arithmetic xs done mid f b form p w v a = tt
+  word_ended_shown Parenthesis xs done mid f b form p w v a = tt
+  word_ended_shown Body xs done mid f b form p w v a = absurd (no_body e gap front done xs mid p)
 
-  module _ (x : Context) (xs : List Context) (done : List Mark) (mid : List ℕ) (p : Path e gap front done (x ∷ xs) mid) where
+  module _ (x : Context) (xs : List Context) (done : List Mark) (mid : List ℕ) (p : Path e (WordBehind gap) front done (x ∷ xs) mid) where
     -- the end of the input
-    end_shown : (q : Pending) (acc f b : List ℕ) → Held e q (x ∷ xs) acc mid b → f ≡ front → ahead e b ≡ InputEnd
-        → Shown e gap front (last_token (ended_in q (begun (x ∷ xs) done (pending_levels q (levels (x ∷ xs))) q acc)) f b)
-    end_shown Pending.Nothing acc f b h w a =
-        subst (λ c. Shown e gap front (last_token (cond c (Some (begun (x ∷ xs) done (levels (x ∷ xs)) Pending.Nothing acc)) (word_ended (settled done (x ∷ xs)))) f b)) (sym p.inside.inner)
-        (word_ended_shown x xs done mid f b p w h.1 a)
-    end_shown Pending.Dollar acc f b h w a =
-        word_ended_shown x xs (done ++ Dollar ∷ []) b f b
-        (path_on e gap front done x xs Dollar mid b p (dollar_mark e gap front blank [] x xs done mid b p h.1 (not_false (next_is is_form (ahead e b)) (ap (next_is is_form) a)) h.2) refl) w refl a
-    end_shown Pending.DollarParenthesis acc f b h w a = tt
-    end_shown Pending.Name acc f b h w a =
-        word_ended_shown x xs (done ++ Variable acc ∷ []) b f b
-        (path_on e gap front done x xs (Variable acc) mid b p (name_mark e gap front blank [] x xs done mid b p acc h.0 h.1 (not_false (next_is is_name_byte (ahead e b)) (ap (next_is is_name_byte) a)) h.2) refl) w refl a
-    end_shown (Pending.Head g) acc f b h w a = tt
-    end_shown Pending.Single acc f b h w a = tt
-    end_shown Pending.Backquotes acc f b h w a = tt
-    end_shown Pending.BackquotesEscape acc f b h w a = tt
-    end_shown Pending.Parenthesis acc f b h w a = tt
-    end_shown (Pending.Body l n j) acc f b h w a = tt
-    end_shown (Pending.Operator o) acc f b h w a =
-        subst (λ c. Shown e gap front (last_token (cond c (Some (operator_out o (begun (x ∷ xs) done (levels (x ∷ xs)) (Pending.Operator o) acc))) None) f b)) (sym p.inside.inner) tt
-    end_shown Pending.Comment acc f b h w a =
-        subst (λ c. Shown e gap front (last_token (cond c (Some (settled (done ++ Comment acc ∷ []) (x ∷ xs))) (word_ended (settled (done ++ Comment acc ∷ []) (x ∷ xs)))) f b)) (sym p.inside.inner)
-        (subst (λ c. Shown e gap front (last_token (cond (c && is_top (word_over false (done ++ Comment acc ∷ []) (x ∷ xs))) (Some (word_out false (settled (done ++ Comment acc ∷ []) (x ∷ xs)))) None) f b))
-        (sym (between_no_word x h.1)) tt)
+    end_shown : (q : Pending) (acc f b form : List ℕ) → Held e q (x ∷ xs) acc mid b → f ≡ front → ahead e b ≡ InputEnd
+        → Shown e gap front (last_token (ended_in q (begun (x ∷ xs) done (pending_levels q (levels (x ∷ xs))) q acc)) f b form)
+    end_shown Pending.Nothing acc f b form h w a =
+        subst (λ z. Shown e gap front (last_token (ended_in Pending.Nothing (begun (x ∷ xs) done (levels (x ∷ xs)) Pending.Nothing z)) f b form)) (sym h.0)
+        (subst (λ c. Shown e gap front (last_token (cond c (Some (settled done (x ∷ xs))) (word_ended (settled done (x ∷ xs)))) f b form)) (sym p.inside.inner)
+        (word_ended_shown x xs done mid f b form p w h.1 a))
+    end_shown Pending.Dollar acc f b form h w a =
+        word_ended_shown x xs (done ++ Dollar ∷ []) b f b form
+        (path_on e (WordBehind gap) front done x xs Dollar mid b p (dollar_mark e (WordBehind gap) front blank [] x xs done mid b p h.1 (not_false (next_is is_form (ahead e b)) (ap (next_is is_form) a)) h.2) refl) w refl a
+    end_shown Pending.DollarParenthesis acc f b form h w a = tt
+    end_shown Pending.Name acc f b form h w a =
+        word_ended_shown x xs (done ++ Variable acc ∷ []) b f b form
+        (path_on e (WordBehind gap) front done x xs (Variable acc) mid b p (name_mark e (WordBehind gap) front blank [] x xs done mid b p acc h.0 h.1 (not_false (next_is is_name_byte (ahead e b)) (ap (next_is is_name_byte) a)) h.2) refl) w refl a
+    end_shown (Pending.Head g) acc f b form h w a = tt
+    end_shown Pending.Single acc f b form h w a = tt
+    end_shown Pending.Backquotes acc f b form h w a = tt
+    end_shown Pending.BackquotesEscape acc f b form h w a = tt
+    end_shown Pending.Parenthesis acc f b form h w a = tt
+    end_shown (Pending.Body l n j) acc f b form h w a = tt
+    end_shown (Pending.Operator o) acc f b form h w a =
+        subst (λ c. Shown e gap front (last_token (cond c (Some (operator_out o (begun (x ∷ xs) done (levels (x ∷ xs)) (Pending.Operator o) acc))) None) f b form)) (sym p.inside.inner) tt
+    end_shown Pending.Comment acc f b form h w a =
+        subst (λ c. Shown e gap front (last_token (cond c (Some (settled (done ++ Comment acc ∷ []) (x ∷ xs))) (word_ended (settled (done ++ Comment acc ∷ []) (x ∷ xs)))) f b form)) (sym p.inside.inner)
+        (subst (λ c. Shown e gap front (last_token (cond c (Some (settled (done ++ Comment acc ∷ []) (x ∷ xs)))
+        (cond (is_word x && is_top (word_over false (done ++ Comment acc ∷ []) (x ∷ xs))) (Some (word_out false (settled (done ++ Comment acc ∷ []) (x ∷ xs)))) None)) f b form)) (sym (between_no_body x h.1))
+        (subst (λ c. Shown e gap front (last_token (cond (c && is_top (word_over false (done ++ Comment acc ∷ []) (x ∷ xs))) (Some (word_out false (settled (done ++ Comment acc ∷ []) (x ∷ xs)))) None) f b form))
+        (sym (between_no_word x h.1)) tt))
 
   -- a run within the first word
   abbrev InnerSound : List ℕ → Type 0
-  InnerSound m = (t : State) (p : Places) → At e gap front t p.previous m → p.next ≡ m → p.behind ≡ m → p.front ≡ front → Shown e gap front (run e false t p m)
+  InnerSound m = (t : State) (p : Places) → At e (WordBehind gap) front t p.previous m → p.next ≡ m → p.behind ≡ m → p.front ≡ front → Shown e gap front (run e false t p m)
 
-  pub onward_shown : (y : Stepped) (p : Places) (begin m rest : List ℕ) → InnerSound rest → Going e gap front y p.previous begin m rest → p.behind ≡ m → p.front ≡ front → Shown e gap front (after e y (placed begin p) rest)
-  onward_shown (On t) p begin m rest ih g b f = ih t (moved rest (placed begin p)) g.it refl refl f
+  pub onward_shown : (y : Stepped) (p : Places) (begin m rest : List ℕ) → InnerSound rest → Going e (WordBehind gap) front y p.previous begin m rest → p.behind ≡ m → p.front ≡ front → Shown e gap front (after e y (placed begin p) rest)
+  onward_shown (On t) p begin m rest ih g b f = ih t (moved (begins_form t) rest (placed begin p)) g.it refl refl f
   onward_shown (Before t) p begin m rest ih g b f = (f, subst (λ z. IsToken e gap front z (kind_of t.done)) (sym b) g.it)
   onward_shown (After t) p begin m rest ih g b f = (f, g.it)
   onward_shown (TooDeep t) p begin m rest ih g b f = g.it
   onward_shown (DollarTooDeep t) p begin m rest ih g b f = g.it
 
-  module _ (x : Context) (xs : List Context) (done : List Mark) (mid : List ℕ) (path : Path e gap front done (x ∷ xs) mid) (q : Pending) (acc m : List ℕ) (p : Places) (held : Held e q (x ∷ xs) acc mid m)
-      (preceded : Preceded q p.previous m) (n : p.next ≡ m) (b : p.behind ≡ m) (f : p.front ≡ front) where
+  module _ (x : Context) (xs : List Context) (done : List Mark) (mid : List ℕ) (path : Path e (WordBehind gap) front done (x ∷ xs) mid) (q : Pending) (acc m : List ℕ) (p : Places) (held : Held e q (x ∷ xs) acc mid m)
+      (preceded : Preceded q acc p.previous m) (n : p.next ≡ m) (b : p.behind ≡ m) (f : p.front ≡ front) where
     abbrev s : State
     s = begun (x ∷ xs) done (pending_levels q (levels (x ∷ xs))) q acc
 
@@ -154,13 +158,13 @@ module _ (e : Bool) (gap : List Mark) (front : List ℕ) (blank : list_all is_ga
     got_shown : (c : Character) (rest : List ℕ) → is_raw q ≡ is_raw_character c → Reads e c m rest → InnerSound rest → Shown e gap front (run e false s p m)
     got_shown c rest k r ih =
         subst (Shown e gap front) (sym (character_run e s p c m rest k r n ∙ ap (λ z. after e (step s c) (fronted z (placed (begin_of c rest) p)) rest) no_gap))
-        (onward_shown (step s c) p (begin_of c rest) m rest ih (step_sound e gap front blank p.previous x xs done mid m path q acc c rest k held preceded r) b f)
+        (onward_shown (step s c) p (begin_of c rest) m rest ih (step_sound e (WordBehind gap) front blank p.previous x xs done mid m path q acc c rest k held preceded r) b f)
 
     end_places : ahead true m ≡ InputEnd → (d : Bool) → e ≡ d → Shown e gap front (run d false s (placed [] p) [])
     end_places a false w = tt
     end_places a true w =
         subst (λ z. Shown e gap front (last_places s (fronted z (placed [] p)))) (sym no_gap)
-        (end_shown x xs done mid path q acc p.front p.behind (subst (Held e q (x ∷ xs) acc mid) (sym b) held) f (ap (ahead e) b ∙ (ap (λ z. ahead z m) w ∙ a)))
+        (end_shown x xs done mid path q acc p.front p.behind p.form (subst (Held e q (x ∷ xs) acc mid) (sym b) held) f (ap (ahead e) b ∙ (ap (λ z. ahead z m) w ∙ a)))
 
     over_shown : (k : ℕ) → m ≡ joins k → (is_raw q ≡ true → m ≡ []) → (c : Bool) → is_raw q ≡ c → Shown e gap front (run e false s p m)
     over_shown k w z false r = subst (Shown e gap front) (sym (over_run e s p k m r w n)) (end_places (end_ahead k m w) e refl)
@@ -177,7 +181,7 @@ module _ (e : Bool) (gap : List Mark) (front : List ℕ) (blank : list_all is_ga
     inner_shown (over k w z) ih = over_shown k w z (is_raw q) refl
     inner_shown (cut k w d r) ih = subst (Shown e gap front) (sym (cut_run e s p k m r w n d)) tt
 
-  inner_cases : (xs : List Context) (done : List Mark) (q : Pending) (acc mid m : List ℕ) (p : Places) → Path e gap front done xs mid → Held e q xs acc mid m → Preceded q p.previous m → p.next ≡ m → p.behind ≡ m
+  inner_cases : (xs : List Context) (done : List Mark) (q : Pending) (acc mid m : List ℕ) (p : Places) → Path e (WordBehind gap) front done xs mid → Held e q xs acc mid m → Preceded q acc p.previous m → p.next ≡ m → p.behind ≡ m
       → p.front ≡ front → ((rest : List ℕ) → length rest < length m → InnerSound rest) → Shown e gap front (run e false (begun xs done (pending_levels q (levels xs)) q acc) p m)
   inner_cases [] done q acc mid m p path h r n b f ih = let z = path.inside.order in absurd (cc)
   inner_cases (x ∷ xs) done q acc mid m p path h r n b f ih = inner_shown x xs done mid path q acc m p h r n b f (next_character e (is_raw q) m) ih
@@ -213,7 +217,7 @@ module _ (e : Bool) (gap : List Mark) (front : List ℕ) (blank : list_all is_ga
   grown_shown o p rest ih w f = go (may_grow o) refl
     where
       go : (c : Bool) → may_grow o ≡ c → Shown e gap front (after e (cond c (On (begun (Top ∷ []) gap 0 (Pending.Operator o) [])) (After (operator_out o (settled gap (Top ∷ []))))) p rest)
-      go true g = ih o (moved rest p) g w refl refl f
+      go true g = ih o (moved false rest p) g w refl refl f
       go false g = (f, operator_token o rest (whole_operator o (ahead e rest) g) w)
 
   module _ (o : Operator) (p : Places) (m : List ℕ) (g : may_grow o ≡ true) (w : Written e (plain (operator_text o)) front m) (n : p.next ≡ m) (b : p.behind ≡ m) (f : p.front ≡ front) where

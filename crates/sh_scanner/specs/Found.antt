@@ -1,11 +1,13 @@
 -- What the scanner finds in a text: its first token, or why there is none.
-use Rattle.std.specs.Prelude.{ℕ, suc, ◌-◌, Bool, not, List, [], ◌∷◌, length, take, drop, reverse, position, Option, Some, None}
+use Rattle.std.specs.Prelude.{true, ℕ, suc, ◌-◌, Bool, not, List, [], ◌∷◌, length, take, drop, reverse, position, Option, Some, None}
 use Rattle.sh_scanner_base.specs.declared.mark.Mark.{Mark}
 use Rattle.sh_scanner.specs.declared.token.TokenKind.{TokenKind}
 use Rattle.sh_scanner_base.specs.Marks.{is_gap}
 use Rattle.sh_scanner.specs.Tokens.{word_kind}
 use Rattle.sh_scanner.specs.FirstToken.{FirstToken, Found, Unfinished, NulAt, DeepAt, nul_in}
-use Rattle.sh_scanner.specs.Run.{Scanned, Ended, Deep, Open, scanned}
+use Rattle.sh_scanner_base.specs.declared.context.Context.TheVariants.{Body}
+use Rattle.sh_scanner.specs.Body.{BodyPieces, AllOf, OpenAt, TooDeepAt}
+use Rattle.sh_scanner.specs.Run.{Scanned, Ended, Deep, Open, scanned, scanned_in}
 
 abbrev pub is_of_token : Mark → Bool
 is_of_token m = not (is_gap m)
@@ -60,8 +62,17 @@ abbrev pub without_nul : List ℕ → Scanned → FirstToken
 without_nul bytes (Ended s front rest) =
     unless_nul (nul_in (take (length bytes - length rest) bytes)) (Found (kind_of s.done) (length bytes - length front) (length bytes - length rest))
 without_nul bytes (Deep rest) = unless_nul (nul_in (take (length bytes - length rest) bytes)) (DeepAt (length bytes - length rest))
-without_nul bytes Open = unless_nul (nul_in bytes) Unfinished
+without_nul bytes (Open form) = unless_nul (nul_in bytes) Unfinished
 
 -- the first token of these bytes
 unfoldable pub first_token : Bool → List ℕ → FirstToken
 first_token e bytes = without_nul bytes (scanned e bytes)
+
+-- the pieces of a body with these bytes
+abbrev pub of_body : List ℕ → Scanned → BodyPieces
+of_body bytes (Ended s front rest) = AllOf s.done
+of_body bytes (Deep rest) = TooDeepAt (length bytes - length rest)
+of_body bytes (Open form) = OpenAt (length bytes - length form)
+
+unfoldable pub pieces_of_body : List ℕ → BodyPieces
+pieces_of_body bytes = of_body bytes (scanned_in Body true bytes)

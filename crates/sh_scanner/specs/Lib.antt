@@ -1,5 +1,6 @@
 pub mod Tokens
 pub mod FirstToken
+pub mod Body
 pub mod Placed
 pub mod Machine
 pub mod Run

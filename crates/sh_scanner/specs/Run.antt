@@ -1,10 +1,11 @@
 -- How the machine goes through a text.
 use Rattle.std.specs.Prelude.{ℕ, Bool, true, false, ◌&&◌, nat_eq, List, [], ◌∷◌, Option, Some, None, if◌then◌else◌}
 use Rattle.sh_scanner_base.specs.declared.character.Character.TheVariants.{Plain, Quoted, Raw}
+use Rattle.sh_scanner_base.specs.declared.context.Context.{Context}
 use Rattle.sh_scanner_base.specs.declared.context.Context.TheVariants.{Top}
 use Rattle.sh_scanner_base.specs.declared.mark.Mark.TheVariants.{Variable, Dollar, Comment}
 use Rattle.sh_scanner_base.specs.declared.pending.Pending.{Pending}
-use Rattle.sh_scanner_base.specs.Marks.{is_text, is_word, top_of}
+use Rattle.sh_scanner_base.specs.Marks.{is_text, is_body, is_word, top_of}
 use Rattle.sh_scanner_base.specs.Pendings.{is_raw, is_gap_pending}
 use Rattle.sh_scanner.specs.Machine.{State, Stepped, On, Before, After, TooDeep, DollarTooDeep, step, is_top, same, word_out, operator_out}
 
@@ -25,26 +26,50 @@ fed s b =
     else if nat_eq b 92 then Waits true s.state
     else Takes (step s.state (Plain b))
 
--- how a text goes: a token of it, the text from its first byte on, and the text behind it; or the text from where level 501 opens
+-- how a text goes: a token of it, the text from its first byte on, and the text behind it; or the text from where level 501 opens;
+-- or, where its end comes first, the text from where a form of a body began last
 pub data Scanned : Type 0 where
   Ended : (state : State) → (front rest : List ℕ) → Scanned
   Deep : (rest : List ℕ) → Scanned
-  Open : Scanned
+  Open : (form : List ℕ) → Scanned
 
 abbrev pub is_gap_state : State → Bool
 is_gap_state s = is_gap_pending s.pending && is_text (top_of s.contexts)
 
+-- a form of a body may have begun with the last character
+abbrev pub begins_in : Pending → List ℕ → Bool
+begins_in Pending.Dollar bs = true
+begins_in Pending.Backquotes [] = true
+begins_in Pending.Backquotes (b ∷ bs) = false
+begins_in Pending.Nothing bs = false
+begins_in Pending.DollarParenthesis bs = false
+begins_in Pending.Name bs = false
+begins_in (Pending.Head h) bs = false
+begins_in Pending.Single bs = false
+begins_in Pending.BackquotesEscape bs = false
+begins_in Pending.Parenthesis bs = false
+begins_in (Pending.Operator o) bs = false
+begins_in Pending.Comment bs = false
+begins_in (Pending.Body l n j) bs = false
+
+abbrev pub begins_form : State → Bool
+begins_form s = is_body (top_of s.contexts) && begins_in s.pending s.bytes
+
 -- the text's parts that are kept: from the token's first byte on, from the first byte of the last character on, behind that
--- character, and from the next character's first byte on
+-- character, from the next character's first byte on, and from the last byte on with which a form of a body may begin
 pub record Places : Type 0 where
   pub front : List ℕ
   pub previous : List ℕ
   pub behind : List ℕ
   pub next : List ℕ
+  pub form : List ℕ
 
--- a word of the text itself ends at the end of the input
+-- a body, or a word of the text itself, ends at the end of the input
 abbrev pub word_ended : State → Option State
-word_ended s = if is_word (top_of s.contexts) && is_top (word_out false s).contexts then Some (word_out false s) else None
+word_ended s =
+    if is_body (top_of s.contexts) then Some s
+    else if is_word (top_of s.contexts) && is_top (word_out false s).contexts then Some (word_out false s)
+    else None
 
 abbrev pub gap_ended : State → Option State
 gap_ended s = if is_top s.contexts then Some s else word_ended s
@@ -64,33 +89,33 @@ ended_in Pending.BackquotesEscape s = None
 ended_in Pending.Parenthesis s = None
 ended_in (Pending.Body l n j) s = None
 
-abbrev pub last_token : Option State → List ℕ → List ℕ → Scanned
-last_token None front rest = Open
-last_token (Some s) front rest = Ended s front rest
+abbrev pub last_token : Option State → List ℕ → List ℕ → List ℕ → Scanned
+last_token None front rest form = Open form
+last_token (Some s) front rest form = Ended s front rest
 
 -- where no token has begun, it begins with the next character
 abbrev pub fronted : Bool → Places → Places
-fronted true p = record { front = p.next; previous = p.previous; behind = p.next; next = p.next }
+fronted true p = record { front = p.next; previous = p.previous; behind = p.next; next = p.next; form = p.form }
 fronted false p = p
 
 abbrev pub with_front : State → Places → Places
 with_front s p = fronted (is_gap_state s) p
 
--- behind a character that was taken, where the text is this
-abbrev pub moved : List ℕ → Places → Places
-moved after p = record { front = p.front; previous = p.next; behind = after; next = after }
+-- behind a character that was taken, where the text is this; begins: a form of a body may begin with it
+abbrev pub moved : Bool → List ℕ → Places → Places
+moved begins after p = record { front = p.front; previous = p.next; behind = after; next = after; form = if begins then p.next else p.form }
 
 -- behind a byte that waits, or a joined line
 abbrev pub waited : Bool → List ℕ → Places → Places
 waited true after p = p
-waited false after p = record { front = p.front; previous = p.previous; behind = p.behind; next = after }
+waited false after p = record { front = p.front; previous = p.previous; behind = p.behind; next = after; form = p.form }
 
 abbrev pub last_places : State → Places → Scanned
-last_places s p = last_token (ended_in s.pending s) p.front p.behind
+last_places s p = last_token (ended_in s.pending s) p.front p.behind p.form
 
 -- the end of the input, where a backslash that waits stands for itself
 abbrev pub last_step : Stepped → Places → Scanned
-last_step (On s) p = last_places s (with_front s (moved [] p))
+last_step (On s) p = last_places s (with_front s (moved (begins_form s) [] p))
 last_step (Before s) p = Ended s p.front p.behind
 last_step (After s) p = Ended s p.front []
 last_step (TooDeep s) p = Deep p.next
@@ -109,19 +134,23 @@ on (Takes (TooDeep s)) w t b a d g = d
 on (Takes (DollarTooDeep s)) w t b a d g = g
 
 abbrev pub run : Bool → Bool → State → Places → List ℕ → Scanned
-run e h s p [] = if e then last h s (with_front s p) else Open
+run e h s p [] = if e then last h s (with_front s p) else Open p.form
 run e h s p (b ∷ bs) =
     let q = with_front s p in
     on (fed (record { state = s; held = h }) b)
     (λ held t. run e held t (waited held bs q) bs)
-    (λ t. run e false t (moved bs q) bs)
+    (λ t. run e false t (moved (begins_form t) bs q) bs)
     (λ t. Ended t q.front q.behind)
     (λ t. Ended t q.front bs)
     (Deep q.next)
     (Deep q.previous)
 
-abbrev pub start : State
-start = record { contexts = Top ∷ []; done = []; pending = Pending.Nothing; bytes = []; levels = 0 }
+abbrev pub start : Context → State
+start x = record { contexts = x ∷ []; done = []; pending = Pending.Nothing; bytes = []; levels = 0 }
+
+-- a text that begins in this context
+abbrev pub scanned_in : Context → Bool → List ℕ → Scanned
+scanned_in x e bytes = run e false (start x) (record { front = bytes; previous = bytes; behind = bytes; next = bytes; form = bytes }) bytes
 
 abbrev pub scanned : Bool → List ℕ → Scanned
-scanned e bytes = run e false start (record { front = bytes; previous = bytes; behind = bytes; next = bytes }) bytes
+scanned e bytes = scanned_in Top e bytes

@@ -21,10 +21,10 @@ event (Event.Takes step) s = Takes (stepped step s)
 abbrev pub outcome : Outcome → Scanned
 outcome (Outcome.Ended state front rest) = Ended state front.now rest.now
 outcome (Outcome.Deep rest) = Deep rest.now
-outcome Outcome.Open = Open
+outcome (Outcome.Open form) = Open form.now
 
 abbrev pub places : Marked → Places
-places m = record { front = m.front.now; previous = m.previous.now; behind = m.behind.now; next = m.next.now }
+places m = record { front = m.front.now; previous = m.previous.now; behind = m.behind.now; next = m.next.now; form = m.form.now }
 
 abbrev pub option_when : Bool → State → Option State
 option_when true s = Some s

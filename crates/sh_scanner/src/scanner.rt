@@ -2,12 +2,13 @@
 ghost use Rattle.sh_scanner_base.specs.Marks.{top_of};
 ghost use Rattle.std.specs.Prelude.{◌≡◌, IfOk, Option, Some, None, length};
 ghost use Rattle.sh_scanner.specs.Machine.{step, same, word_out, operator_out};
-ghost use Rattle.sh_scanner.specs.Run.{Places, Scanned, Ended, Deep, Open, fed, is_gap_state, word_ended, gap_ended, ended_in, last_token, last_places, last_step, fronted, with_front, last, moved, waited, run, start, scanned};
+ghost use Rattle.sh_scanner.specs.Run.{Places, Scanned, Ended, Deep, Open, fed, is_gap_state, begins_in, begins_form, word_ended, gap_ended, ended_in, last_token, last_places, last_step, fronted, with_front, last, moved, waited, run, start, scanned_in};
 ghost use Rattle.sh_scanner.specs.Steps.{stepped, event, outcome, places, option_when};
 
 use crate::state::State;
 use crate::step::{Step, take};
 use sh_scanner_base::character::Character;
+use sh_scanner_base::context::Context;
 use sh_scanner_base::contexts::Contexts;
 use sh_scanner_base::mark::Mark;
 use sh_scanner_base::pending::Pending;
@@ -28,17 +29,20 @@ pub(crate) enum Outcome<'a> {
     Ended(State, &'a [u8], &'a [u8]),
     /// The text from where level 501 opens.
     Deep(&'a [u8]),
-    Open,
+    /// The text from where a form of a body began last.
+    Open(&'a [u8]),
 }
 
 /// The text's parts that are kept: from the token's first byte on, from the first byte of the last character
-/// on, behind that character, and from the next character's first byte on.
+/// on, behind that character, from the next character's first byte on, and from the last byte on with which a form
+/// of a body may begin.
 #[derive(Clone, Copy)]
 pub(crate) struct Marked<'a> {
     front: &'a [u8],
     previous: &'a [u8],
     behind: &'a [u8],
     next: &'a [u8],
+    form: &'a [u8],
 }
 
 /// One byte; `held`: a backslash came before it.
@@ -71,10 +75,20 @@ fn is_in_gap(state: &State) -> bool
     state.pending().is_gap() && state.contexts().is_text()
 }
 
-/// A word of the text itself ends at the end of the input, or none does.
+/// Whether a form of a body may have begun with the last character.
+fn is_at_form(state: &State) -> bool
+    ensures { result ≡ begins_form state.now }
+{
+    state.contexts().is_body() && state.begins()
+}
+
+/// A body, or a word of the text itself, ends at the end of the input, or none does.
 fn end_word(state: &mut State) -> Result<bool, AllocError>
     ensures { IfOk result (λ ended. word_ended state.old ≡ option_when ended state.new) }
 {
+    if state.contexts().is_body() {
+        return Ok(true);
+    }
     if !state.contexts().is_word() {
         return Ok(false);
     }
@@ -135,13 +149,13 @@ fn end(state: &mut State) -> Result<bool, AllocError>
     }
 }
 
-fn ended_outcome<'a>(ended: bool, state: State, front: &'a [u8], rest: &'a [u8]) -> Outcome<'a>
-    ensures { last_token (option_when ended state) front.now rest.now ≡ outcome result }
+fn ended_outcome<'a>(ended: bool, state: State, at: Marked<'a>) -> Outcome<'a>
+    ensures { last_token (option_when ended state) at.entry.front.now at.entry.behind.now at.entry.form.now ≡ outcome result }
 {
     if ended {
-        Outcome::Ended(state, front, rest)
+        Outcome::Ended(state, at.front, at.behind)
     } else {
-        Outcome::Open
+        Outcome::Open(at.form)
     }
 }
 
@@ -151,7 +165,7 @@ fn finish_at<'a>(mut state: State, at: Marked<'a>) -> Result<Outcome<'a>, AllocE
 {
     let here = at.with_front(is_in_gap(&state));
     let ended = end(&mut state)?;
-    Ok(ended_outcome(ended, state, here.front, here.behind))
+    Ok(ended_outcome(ended, state, here))
 }
 
 /// The end of the input; `held`: a backslash waits, which then stands for itself.
@@ -160,11 +174,12 @@ fn finish<'a>(held: bool, mut state: State, at: Marked<'a>) -> Result<Outcome<'a
 {
     if !held {
         let ended = end(&mut state)?;
-        return Ok(ended_outcome(ended, state, at.front, at.behind));
+        return Ok(ended_outcome(ended, state, at));
     }
     match take(&mut state, Character::Plain(b'\\'))? {
         Step::On => {
-            let outcome = finish_at(state, at.moved(&[]))?;
+            let begins = is_at_form(&state);
+            let outcome = finish_at(state, at.moved(begins, &[]))?;
             Ok(outcome)
         },
         Step::Before => Ok(Outcome::Ended(state, at.front, at.behind)),
@@ -204,34 +219,37 @@ impl<'a> Marked<'a> {
         }
     }
 
-    /// Behind a character that was taken.
-    fn moved(self, after: &'a [u8]) -> Self
-        ensures { places result ≡ moved after.now (places self.entry) }
+    /// Behind a character that was taken, with which a form of a body may begin.
+    fn moved(self, begins: bool, after: &'a [u8]) -> Self
+        ensures { places result ≡ moved begins after.now (places self.entry) }
     {
         Marked {
             front: self.front,
             previous: self.next,
             behind: after,
             next: after,
+            form: if begins { self.next } else { self.form },
         }
     }
 }
 
-/// Feeds a scanner with a text up to the end of its first token.
+/// Feeds a scanner with a text that begins in this context, up to the end of its first token.
 pub(crate) fn scan<'a>(
     alloc: Global,
+    ground: Context,
     text: &'a [u8],
     at_end: bool,
 ) -> Result<Outcome<'a>, AllocError>
-    ensures { IfOk result (λ r. scanned at_end text.now ≡ outcome r) }
+    ensures { IfOk result (λ r. scanned_in ground at_end text.now ≡ outcome r) }
 {
-    let mut state = State::new(alloc)?;
+    let mut state = State::new(alloc, ground)?;
     let mut held = false;
     let mut at = Marked {
         front: text,
         previous: text,
         behind: text,
         next: text,
+        form: text,
     };
     let mut left = text;
     while let Some((b, after)) = left.split_first() {
@@ -245,7 +263,7 @@ pub(crate) fn scan<'a>(
             },
             Event::Takes(Step::On) => {
                 held = false;
-                at = here.moved(after);
+                at = here.moved(is_at_form(&state), after);
                 left = after;
                 continue;
             },
@@ -256,7 +274,7 @@ pub(crate) fn scan<'a>(
         }
     }
     if !at_end {
-        return Ok(Outcome::Open);
+        return Ok(Outcome::Open(at.form));
     }
     let here = at.with_front(is_in_gap(&state));
     let outcome = finish(held, state, here)?;

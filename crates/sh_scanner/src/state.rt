@@ -7,7 +7,7 @@ ghost use Rattle.sh_scanner_base.specs.declared.mark.Mark.TheVariants.{WordOpen,
 ghost use Rattle.sh_scanner_base.specs.Marks.{between_tokens, is_word, is_quotes, is_braces, is_arithmetic, is_parenthesis, quotes, has_single_quotes, has_double_quotes, is_quoted, may_close, braces_of};
 ghost use Rattle.sh_scanner_base.specs.Nested.{none_yet};
 ghost use Rattle.sh_scanner.specs.Steps.{stepped};
-ghost use Rattle.sh_scanner.specs.Run.{start};
+ghost use Rattle.sh_scanner.specs.Run.{start, begins_in};
 ghost use Rattle.sh_scanner.specs.Machine.{same, into, out, pend, keep, opens, out_level, level_over, word_out, operator_out, bodies_out, line_of};
 
 use crate::step::Step;
@@ -45,11 +45,11 @@ impl Model for State {
 }
 
 impl State {
-    /// At the beginning of a text.
-    pub(crate) fn new(alloc: Global) -> Result<Self, AllocError>
-        ensures { IfOk result (λ s. s ≡ start) }
+    /// At the beginning of a text, in this context.
+    pub(crate) fn new(alloc: Global, ground: Context) -> Result<Self, AllocError>
+        ensures { IfOk result (λ s. s ≡ start ground) }
     {
-        let contexts = Contexts::new(alloc)?;
+        let contexts = Contexts::new(alloc, ground)?;
         Ok(State {
             alloc,
             contexts,
@@ -72,11 +72,15 @@ impl State {
         self.pending
     }
 
-    /// How many pieces there are.
-    pub(crate) fn len(&self) -> usize
-        ensures { result ≡ length self.now.done }
+    /// Whether the piece that has begun did so with the last character, and may be a form of a body.
+    pub(crate) fn begins(&self) -> bool
+        ensures { result ≡ begins_in self.now.pending self.now.bytes }
     {
-        self.done.len()
+        match self.pending {
+            Pending::Dollar => true,
+            Pending::Backquotes => self.bytes.is_empty(),
+            _ => false,
+        }
     }
 
     /// The bytes of the piece that has begun; then there are none.

@@ -6,6 +6,7 @@ ghost use Rattle.sh_scanner.specs.Placed.{IsPlaced};
 
 use crate::kind::kind;
 use crate::scanner::{Outcome, scan};
+use sh_scanner_base::context::Context;
 use sh_scanner_base::mark::Mark;
 use sh_scanner_base::operator::Operator;
 use sh_syntax::sequence::Sequence;
@@ -72,7 +73,7 @@ pub fn next_token(alloc: Global, text: &[u8], at: usize, at_end: bool) -> Result
     ensures placed { IfOk result (λ token. IsPlaced at (length text.now) token) }
 {
     let bytes = bytes_from(text, at);
-    match scan(alloc, bytes, at_end)? {
+    match scan(alloc, Context::Top, bytes, at_end)? {
         Outcome::Ended(state, front, rest) => {
             let start = bytes.len().saturating_sub(front.len());
             let end = bytes.len().saturating_sub(rest.len());
@@ -93,7 +94,7 @@ pub fn next_token(alloc: Global, text: &[u8], at: usize, at_end: bool) -> Result
             }
             Err(TokenFault::TooDeep { at: at + end })
         },
-        Outcome::Open => {
+        Outcome::Open(_) => {
             if let Some(place) = first_nul(bytes) {
                 return Err(TokenFault::NulByte { at: at + place });
             }

@@ -9,7 +9,7 @@ use Rattle.sh_scanner_base.specs.declared.character.Character.TheVariants.{Plain
 use Rattle.sh_scanner_base.specs.declared.operator.Operator.{Operator}
 use Rattle.sh_scanner_base.specs.declared.head.Head.{Head}
 use Rattle.sh_scanner_base.specs.declared.context.Context.{Context}
-use Rattle.sh_scanner_base.specs.declared.context.Context.TheVariants.{Top, Commands, Word, Quotes, Braces, Arithmetic, Parenthesis}
+use Rattle.sh_scanner_base.specs.declared.context.Context.TheVariants.{Top, Commands, Word, Quotes, Braces, Arithmetic, Parenthesis, Body}
 use Rattle.sh_scanner_base.specs.declared.mark.Mark.{Mark}
 use Rattle.sh_scanner_base.specs.declared.mark.Mark.TheVariants.{Byte, Escaped, Backslash, SingleQuoted, DoubleQuotesOpen, DoubleQuotesClose, Dollar, Variable, Parameter, BraceOpen, BraceClose, ArithmeticOpen, ArithmeticClose, CommandsOpen, CommandsClose, Backquoted, WordOpen, WordClose, Blank, Comment, Bodies}
 use Rattle.sh_scanner_base.specs.Spelling.{spell_mark}
@@ -33,6 +33,7 @@ stands (Braces false) b next = not (nat_eq b 34 || (nat_eq b 36 || nat_eq b 96))
 stands (Braces true) b next = not (nat_eq b 34 || (nat_eq b 36 || nat_eq b 96)) && not (nat_eq b 125)
 stands Arithmetic b next = not (nat_eq b 36 || nat_eq b 96) && not (nat_eq b 41 && next_is (λ c. nat_eq c 41) next)
 stands Parenthesis b next = not (nat_eq b 36 || nat_eq b 96)
+stands Body b next = not (nat_eq b 36 || nat_eq b 96)
 
 -- whether a backslash quotes a byte there (XCU 2.2.1, 2.2.3)
 abbrev pub quotes : Context → ℕ → Bool
@@ -44,6 +45,7 @@ quotes (Braces false) b = true
 quotes (Braces true) b = is_quoted_escape b || (nat_eq b 34 || nat_eq b 125)
 quotes Arithmetic b = is_quoted_escape b
 quotes Parenthesis b = is_quoted_escape b
+quotes Body b = is_quoted_escape b
 
 -- a word or a part of one
 abbrev pub in_word : Context → Bool
@@ -54,6 +56,7 @@ in_word Quotes = true
 in_word (Braces q) = true
 in_word Arithmetic = true
 in_word Parenthesis = true
+in_word Body = true
 
 abbrev pub has_single_quotes : Context → Bool
 has_single_quotes Top = false
@@ -63,6 +66,7 @@ has_single_quotes Quotes = false
 has_single_quotes (Braces q) = not q
 has_single_quotes Arithmetic = false
 has_single_quotes Parenthesis = false
+has_single_quotes Body = false
 
 abbrev pub has_double_quotes : Context → Bool
 has_double_quotes Top = false
@@ -72,6 +76,7 @@ has_double_quotes Quotes = false
 has_double_quotes (Braces q) = true
 has_double_quotes Arithmetic = false
 has_double_quotes Parenthesis = false
+has_double_quotes Body = false
 
 -- whether what a `${` there has is read as between double quotes
 abbrev pub is_quoted : Context → Bool
@@ -82,6 +87,7 @@ is_quoted Quotes = true
 is_quoted (Braces q) = q
 is_quoted Arithmetic = true
 is_quoted Parenthesis = true
+is_quoted Body = true
 
 -- the tokens so far are a compound list or newlines
 abbrev pub may_close : Context → Bool
@@ -92,6 +98,7 @@ may_close Quotes = false
 may_close (Braces q) = false
 may_close Arithmetic = false
 may_close Parenthesis = false
+may_close Body = false
 
 -- the here-documents whose bodies come behind the next newline
 abbrev pub due_in : Context → List Delimiter
@@ -102,6 +109,7 @@ due_in Quotes = []
 due_in (Braces q) = []
 due_in Arithmetic = []
 due_in Parenthesis = []
+due_in Body = []
 
 abbrev pub are_some : List Delimiter → Bool
 are_some [] = false
@@ -118,6 +126,7 @@ between_tokens Quotes = false
 between_tokens (Braces q) = false
 between_tokens Arithmetic = false
 between_tokens Parenthesis = false
+between_tokens Body = false
 
 abbrev pub begins_word : Ahead → Bool
 begins_word (Next (Plain b)) = not (is_end b) && not (nat_eq b 35)
@@ -168,6 +177,7 @@ is_word Quotes = false
 is_word (Braces q) = false
 is_word Arithmetic = false
 is_word Parenthesis = false
+is_word Body = false
 
 abbrev pub is_quotes : Context → Bool
 is_quotes Top = false
@@ -177,6 +187,7 @@ is_quotes Quotes = true
 is_quotes (Braces q) = false
 is_quotes Arithmetic = false
 is_quotes Parenthesis = false
+is_quotes Body = false
 
 abbrev pub is_braces : Context → Bool
 is_braces Top = false
@@ -186,6 +197,7 @@ is_braces Quotes = false
 is_braces (Braces q) = true
 is_braces Arithmetic = false
 is_braces Parenthesis = false
+is_braces Body = false
 
 -- arithmetic, no inner parenthesis being open
 abbrev pub is_arithmetic : Context → Bool
@@ -196,6 +208,7 @@ is_arithmetic Quotes = false
 is_arithmetic (Braces q) = false
 is_arithmetic Arithmetic = true
 is_arithmetic Parenthesis = false
+is_arithmetic Body = false
 
 abbrev pub is_right_parenthesis : Operator → Bool
 is_right_parenthesis o = bytes_eq (operator_text o) (41 ∷ [])
@@ -248,6 +261,7 @@ with_class c Quotes = Quotes
 with_class c (Braces q) = Braces q
 with_class c Arithmetic = Arithmetic
 with_class c Parenthesis = Parenthesis
+with_class c Body = Body
 
 abbrev pub with_token : Told → List Context → List Context
 with_token c [] = []
@@ -262,6 +276,7 @@ class_behind r done Quotes xs = xs
 class_behind r done (Braces q) xs = xs
 class_behind r done Arithmetic xs = xs
 class_behind r done Parenthesis xs = xs
+class_behind r done Body xs = xs
 
 abbrev pub word_over : Bool → List Mark → List Context → List Context
 word_over r done [] = []
@@ -275,6 +290,7 @@ is_parenthesis Quotes = false
 is_parenthesis (Braces q) = false
 is_parenthesis Arithmetic = false
 is_parenthesis Parenthesis = true
+is_parenthesis Body = false
 
 -- inner parentheses of arithmetic open and close
 abbrev pub parenthesized : ℕ → Context → List Context → List Context
@@ -320,6 +336,18 @@ is_text Quotes = false
 is_text (Braces q) = false
 is_text Arithmetic = false
 is_text Parenthesis = false
+is_text Body = false
+
+-- the body of a here-document, no form being open in it
+abbrev pub is_body : Context → Bool
+is_body Top = false
+is_body (Commands ts) = false
+is_body (Word n) = false
+is_body Quotes = false
+is_body (Braces q) = false
+is_body Arithmetic = false
+is_body Parenthesis = false
+is_body Body = true
 
 -- `${`, `$((` and `$(` are levels
 abbrev pub counts : Context → Bool
@@ -330,6 +358,7 @@ counts Quotes = false
 counts (Braces q) = true
 counts Arithmetic = true
 counts Parenthesis = false
+counts Body = false
 
 -- how many levels are open
 abbrev pub levels : List Context → ℕ

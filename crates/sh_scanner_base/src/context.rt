@@ -202,6 +202,8 @@ pub enum Context {
     Arithmetic,
     /// Inner parentheses of arithmetic.
     Parenthesis,
+    /// The body of a here-document that is expanded (XCU 2.7.4).
+    Body,
 }
 
 impl Context {
@@ -215,7 +217,7 @@ impl Context {
             Context::Quotes => byte::is_quoted_escape(b) || b == b'"',
             Context::Braces(false) => true,
             Context::Braces(true) => byte::is_quoted_escape(b) || b == b'"' || b == b'}',
-            Context::Arithmetic | Context::Parenthesis => byte::is_quoted_escape(b),
+            Context::Arithmetic | Context::Parenthesis | Context::Body => byte::is_quoted_escape(b),
         }
     }
 

@@ -1,7 +1,6 @@
 //! The open contexts of a text, one in the other.
-ghost use Rattle.sh_scanner_base.specs.declared.context.Context.TheVariants.{Top};
 ghost use Rattle.std.specs.Prelude.{◌≡◌, ◌∷◌, [], OnOk, OnErr, IfOk, MatchOption};
-ghost use Rattle.sh_scanner_base.specs.Marks.{top_of, with_token, with_class, class_behind, word_over, is_text, between_tokens, is_word, is_quotes, is_braces, is_arithmetic, is_parenthesis, quotes, has_single_quotes, has_double_quotes, is_quoted, may_close, due_in};
+ghost use Rattle.sh_scanner_base.specs.Marks.{top_of, with_token, with_class, class_behind, word_over, is_text, is_body, between_tokens, is_word, is_quotes, is_braces, is_arithmetic, is_parenthesis, quotes, has_single_quotes, has_double_quotes, is_quoted, may_close, due_in};
 ghost use Rattle.sh_scanner_base.specs.Told.{OfOperator, OfWord, OfBodies};
 
 use crate::context::Context;
@@ -28,12 +27,12 @@ impl Model for Contexts {
 }
 
 impl Contexts {
-    /// The text itself, with nothing open in it. The one error is want of memory.
-    pub fn new(alloc: Global) -> Result<Self, AllocError>
-        ensures { IfOk result (λ c. c ≡ Top ∷ []) }
+    /// One context, with nothing open in it. The one error is want of memory.
+    pub fn new(alloc: Global, ground: Context) -> Result<Self, AllocError>
+        ensures { IfOk result (λ c. c ≡ ground ∷ []) }
     {
         let mut items = Vec::new(alloc);
-        items.push(Context::Top)?;
+        items.push(ground)?;
         Ok(Contexts { alloc, items })
     }
 
@@ -69,6 +68,13 @@ impl Contexts {
         ensures { result ≡ is_text (top_of self.now) }
     {
         matches!(self.items.last(), Some(Context::Top) | None)
+    }
+
+    /// In the body of a here-document, no form being open in it.
+    pub fn is_body(&self) -> bool
+        ensures { result ≡ is_body (top_of self.now) }
+    {
+        matches!(self.items.last(), Some(Context::Body))
     }
 
     /// In a word of commands.
@@ -136,6 +142,7 @@ impl Contexts {
             Some(Context::Quotes) => true,
             Some(Context::Arithmetic) => true,
             Some(Context::Parenthesis) => true,
+            Some(Context::Body) => true,
             Some(Context::Braces(quoted)) => *quoted,
             _ => false,
         }

@@ -4,4 +4,5 @@
 pub mod command;
 pub mod memory;
 pub mod sequence;
+pub mod shared;
 pub mod word;

@@ -3,8 +3,6 @@
 -- here-document is shown. A step gives the tokens of one form, in which the tokens of its parts stand already.
 use Rattle.std.specs.Prelude.{List, [], ◌∷◌, ◌++◌, Option, Some, None, codes}
 use Rattle.std.specs.List.{flat_map}
-use Rattle.std.specs.declared.rc.Rc.{Rc}
-use Rattle.std.specs.declared.alloc.Global.{Global}
 use Rattle.sh_tree.specs.Tokens.{Token, Spelled}
 use Rattle.sh_tree.specs.Spelling.{case_end_tokens, connector_spelling, here_spelling, loop_spelling, number_tokens, operator_spelling, optional, separator_spelling, sign}
 use Rattle.sh_tree.specs.declared.tree.Command.TheOpen as layer
@@ -22,29 +20,29 @@ abbrev pub all : List Tokens → Tokens
 all = flat_map (λ x. x)
 
 abbrev pub complete_step : Layer layer.Complete-F → Tokens
-complete_step list = all list.items.items
+complete_step list = all list.items
 
 abbrev pub list_item_step : Layer layer.ListItem-F → Tokens
-list_item_step list_item = list_item.list.value ++ sign (separator_spelling list_item.separator)
+list_item_step list_item = list_item.list ++ sign (separator_spelling list_item.separator)
 
 abbrev pub and_or_step : Layer layer.AndOr-F → Tokens
-and_or_step list = list.first.value ++ all list.rest.items
+and_or_step list = list.first ++ all list.rest
 
 abbrev pub connected_step : Layer layer.Connected-F → Tokens
-connected_step connected = sign (connector_spelling connected.connector) ++ connected.pipeline.value
+connected_step connected = sign (connector_spelling connected.connector) ++ connected.pipeline
 
 abbrev pub behind_bar : Tokens → Tokens
 behind_bar tokens = sign (codes "|") ++ tokens
 
 abbrev pub pipeline_step : Layer layer.Pipeline-F → Tokens
 pipeline_step pipeline =
-    optional pipeline.is_negated (codes "!") ++ pipeline.first.value
-    ++ flat_map (λ command. behind_bar command.value) pipeline.rest.items
+    optional pipeline.is_negated (codes "!") ++ pipeline.first
+    ++ flat_map behind_bar pipeline.rest
 
 abbrev pub command_step : Layer layer.Command-F → Tokens
-command_step (layer.Simple items) = all items.items
-command_step (layer.Compound compound) = compound.value
-command_step (layer.Function name body) = Spelled name.source ∷ (sign (codes "(") ++ sign (codes ")") ++ body.value)
+command_step (layer.Simple items) = all items
+command_step (layer.Compound compound) = compound
+command_step (layer.Function name body) = Spelled name.source ∷ (sign (codes "(") ++ sign (codes ")") ++ body)
 
 abbrev pub item_step : Layer layer.SimpleItem-F → Tokens
 item_step (layer.Assignment name value source) = Spelled source ∷ []
@@ -62,36 +60,36 @@ abbrev pub word_step : Layer layer.Word-F → Tokens
 word_step word = Spelled word.source ∷ []
 
 abbrev pub compound_step : Layer layer.Compound-F → Tokens
-compound_step compound = compound.form ++ all compound.redirects.items
+compound_step compound = compound.form ++ all compound.redirects
 
-abbrev pub else_tokens : Option (Rc Tokens Global) → Tokens
+abbrev pub else_tokens : Option Tokens → Tokens
 else_tokens None = []
-else_tokens (Some list) = sign (codes "else") ++ list.value
+else_tokens (Some list) = sign (codes "else") ++ list
 
 abbrev pub form_step : Layer layer.CompoundForm-F → Tokens
-form_step (layer.Group list) = sign (codes "{") ++ list.value ++ sign (codes "}")
-form_step (layer.Subshell list) = sign (codes "(") ++ list.value ++ sign (codes ")")
+form_step (layer.Group list) = sign (codes "{") ++ list ++ sign (codes "}")
+form_step (layer.Subshell list) = sign (codes "(") ++ list ++ sign (codes ")")
 form_step (layer.If condition body else_ifs else_body) =
-    sign (codes "if") ++ condition.value ++ sign (codes "then") ++ body.value ++ all else_ifs.items ++ else_tokens else_body
+    sign (codes "if") ++ condition ++ sign (codes "then") ++ body ++ all else_ifs ++ else_tokens else_body
     ++ sign (codes "fi")
 form_step (layer.Loop kind condition body) =
-    sign (loop_spelling kind) ++ condition.value ++ sign (codes "do") ++ body.value ++ sign (codes "done")
+    sign (loop_spelling kind) ++ condition ++ sign (codes "do") ++ body ++ sign (codes "done")
 form_step (layer.For name words body) =
-    sign (codes "for") ++ sign name.source ++ sign (codes "in") ++ all words.items ++ sign (codes ";")
-    ++ sign (codes "do") ++ body.value ++ sign (codes "done")
+    sign (codes "for") ++ sign name.source ++ sign (codes "in") ++ all words ++ sign (codes ";")
+    ++ sign (codes "do") ++ body ++ sign (codes "done")
 form_step (layer.ForParameters name is_separated body) =
     sign (codes "for") ++ sign name.source ++ optional is_separated (codes ";")
-    ++ sign (codes "do") ++ body.value ++ sign (codes "done")
+    ++ sign (codes "do") ++ body ++ sign (codes "done")
 form_step (layer.Case word items) =
-    sign (codes "case") ++ word ++ sign (codes "in") ++ all items.items ++ sign (codes "esac")
+    sign (codes "case") ++ word ++ sign (codes "in") ++ all items ++ sign (codes "esac")
 
 abbrev pub else_if_step : Layer layer.ElseIf-F → Tokens
-else_if_step else_if = sign (codes "elif") ++ else_if.condition.value ++ sign (codes "then") ++ else_if.body.value
+else_if_step else_if = sign (codes "elif") ++ else_if.condition ++ sign (codes "then") ++ else_if.body
 
 abbrev pub case_item_step : Layer layer.CaseItem-F → Tokens
 case_item_step item =
-    optional item.has_parenthesis (codes "(") ++ item.pattern ++ flat_map behind_bar item.more_patterns.items ++ sign (codes ")")
-    ++ item.body.value ++ case_end_tokens item.end
+    optional item.has_parenthesis (codes "(") ++ item.pattern ++ flat_map behind_bar item.more_patterns ++ sign (codes ")")
+    ++ item.body ++ case_end_tokens item.end
 
 -- the parts of a word aren't shown apart
 abbrev pub parts_step : Layer layer.Parts-F → Tokens

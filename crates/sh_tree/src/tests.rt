@@ -3,23 +3,23 @@ use crate::text::{command_text, pipeline_text};
 use crate::tree::{
     AndOr, CaseEnd, CaseItem, Command, Complete, Compound, CompoundForm, Connected, Connector,
     ElseIf, HereDocumentOperator, ListItem, LoopKind, Name, Part, Parts, Pipeline, Redirect,
-    RedirectOperator, Separator, SimpleItem, Span, Target, Word,
+    RedirectOperator, Separator, SimpleItem, Target, Word,
 };
 use sh_syntax::memory::NoMemory;
-use sh_syntax::sequence::Text;
+use sh_syntax::sequence::{Sequence, Text};
+use sh_syntax::shared::Shared;
 use std::alloc::Global;
-use std::rc::Rc;
 use std::test::Fail;
 
 fn bytes(alloc: Global, source: &[u8]) -> Result<Text, NoMemory> {
     Ok(Text::from_vec(source.to_vec(alloc)?))
 }
 
-fn parts(alloc: Global) -> Result<Rc<Parts>, NoMemory> {
-    Ok(Rc::new(
+fn parts(alloc: Global) -> Result<Shared<Parts>, NoMemory> {
+    Ok(Shared::new(
         alloc,
         Parts {
-            items: Vec::new(alloc),
+            items: Sequence::new(alloc),
         },
     )?)
 }
@@ -28,12 +28,11 @@ fn word(alloc: Global, source: &[u8]) -> Result<Word, NoMemory> {
     Ok(Word {
         parts: parts(alloc)?,
         source: bytes(alloc, source)?,
-        span: Span { start: 0, end: 0 },
     })
 }
 
-fn words(alloc: Global, sources: &[&[u8]]) -> Result<Vec<Word>, NoMemory> {
-    let mut words = Vec::new(alloc);
+fn words(alloc: Global, sources: &[&[u8]]) -> Result<Sequence<Word>, NoMemory> {
+    let mut words = Sequence::new(alloc);
     for source in sources {
         words.push(word(alloc, source)?)?;
     }
@@ -49,17 +48,17 @@ fn name(alloc: Global, source: &[u8]) -> Result<Name, NoMemory> {
 
 /// A simple command of one word.
 fn simple(alloc: Global, source: &[u8]) -> Result<Command, NoMemory> {
-    let mut items = Vec::new(alloc);
+    let mut items = Sequence::new(alloc);
     items.push(SimpleItem::Word(word(alloc, source)?))?;
     Ok(Command::Simple(items))
 }
 
 fn compound(alloc: Global, form: CompoundForm) -> Result<Command, NoMemory> {
-    Ok(Command::Compound(Rc::new(
+    Ok(Command::Compound(Shared::new(
         alloc,
         Compound {
             form,
-            redirects: Vec::new(alloc),
+            redirects: Sequence::new(alloc),
         },
     )?))
 }
@@ -67,42 +66,42 @@ fn compound(alloc: Global, form: CompoundForm) -> Result<Command, NoMemory> {
 fn pipeline(alloc: Global, command: Command) -> Result<Pipeline, NoMemory> {
     Ok(Pipeline {
         is_negated: false,
-        first: Rc::new(alloc, command)?,
-        rest: Vec::new(alloc),
+        first: Shared::new(alloc, command)?,
+        rest: Sequence::new(alloc),
     })
 }
 
 fn and_or(alloc: Global, command: Command) -> Result<AndOr, NoMemory> {
     Ok(AndOr {
-        first: Rc::new(alloc, pipeline(alloc, command)?)?,
-        rest: Vec::new(alloc),
+        first: Shared::new(alloc, pipeline(alloc, command)?)?,
+        rest: Sequence::new(alloc),
     })
 }
 
 fn list_item(alloc: Global, command: Command, separator: Separator) -> Result<ListItem, NoMemory> {
     Ok(ListItem {
-        list: Rc::new(alloc, and_or(alloc, command)?)?,
+        list: Shared::new(alloc, and_or(alloc, command)?)?,
         separator,
     })
 }
 
 /// A list of one command.
-fn list_of(alloc: Global, command: Command) -> Result<Rc<Complete>, NoMemory> {
-    let mut items = Vec::new(alloc);
+fn list_of(alloc: Global, command: Command) -> Result<Shared<Complete>, NoMemory> {
+    let mut items = Sequence::new(alloc);
     items.push(list_item(alloc, command, Separator::Sequential)?)?;
-    Ok(Rc::new(alloc, Complete { items })?)
+    Ok(Shared::new(alloc, Complete { items })?)
 }
 
 /// A list of one simple command of one word.
-fn list(alloc: Global, source: &[u8]) -> Result<Rc<Complete>, NoMemory> {
+fn list(alloc: Global, source: &[u8]) -> Result<Shared<Complete>, NoMemory> {
     list_of(alloc, simple(alloc, source)?)
 }
 
-fn no_list(alloc: Global) -> Result<Rc<Complete>, NoMemory> {
-    Ok(Rc::new(
+fn no_list(alloc: Global) -> Result<Shared<Complete>, NoMemory> {
+    Ok(Shared::new(
         alloc,
         Complete {
-            items: Vec::new(alloc),
+            items: Sequence::new(alloc),
         },
     )?)
 }
@@ -131,14 +130,14 @@ fn here_document(
     operator: HereDocumentOperator,
     delimiter: &[u8],
 ) -> Result<SimpleItem, NoMemory> {
-    let mut body = Vec::new(alloc);
+    let mut body = Sequence::new(alloc);
     body.push(Part::Literal(bytes(alloc, b"body\n")?))?;
     Ok(SimpleItem::Redirect(Redirect {
         number: None,
         target: Target::Here {
             operator,
             delimiter: word(alloc, delimiter)?,
-            body: Rc::new(alloc, Parts { items: body })?,
+            body: Shared::new(alloc, Parts { items: body })?,
         },
     }))
 }
@@ -151,7 +150,7 @@ fn shown(alloc: Global, command: Command) -> Result<Text, NoMemory> {
 #[test]
 fn words_are_as_in_the_source(rt: HostRuntime) -> Result<(), Fail> {
     let alloc = rt.alloc();
-    let mut items = Vec::new(alloc);
+    let mut items = Sequence::new(alloc);
     items.push(SimpleItem::Assignment {
         name: bytes(alloc, b"x")?,
         value: parts(alloc)?,
@@ -170,7 +169,7 @@ fn words_are_as_in_the_source(rt: HostRuntime) -> Result<(), Fail> {
 #[test]
 fn redirections_stand_where_they_do_in_the_source(rt: HostRuntime) -> Result<(), Fail> {
     let alloc = rt.alloc();
-    let mut items = Vec::new(alloc);
+    let mut items = Sequence::new(alloc);
     items.push(SimpleItem::Redirect(redirect(alloc, None, RedirectOperator::Input, b"f")?))?;
     items.push(SimpleItem::Word(word(alloc, b"a")?))?;
     items.push(SimpleItem::Redirect(redirect(
@@ -194,7 +193,7 @@ fn redirections_stand_where_they_do_in_the_source(rt: HostRuntime) -> Result<(),
 #[test]
 fn each_redirection_has_its_operator(rt: HostRuntime) -> Result<(), Fail> {
     let alloc = rt.alloc();
-    let mut items = Vec::new(alloc);
+    let mut items = Sequence::new(alloc);
     for operator in [
         RedirectOperator::Input,
         RedirectOperator::Output,
@@ -221,23 +220,23 @@ fn pipelines_and_and_or_lists(rt: HostRuntime) -> Result<(), Fail> {
     let alloc = rt.alloc();
     let mut first = pipeline(alloc, simple(alloc, b"a")?)?;
     first.is_negated = true;
-    first.rest.push(Rc::new(alloc, simple(alloc, b"b")?)?)?;
-    first.rest.push(Rc::new(alloc, simple(alloc, b"c")?)?)?;
+    first.rest.push(Shared::new(alloc, simple(alloc, b"b")?)?)?;
+    first.rest.push(Shared::new(alloc, simple(alloc, b"c")?)?)?;
     assert_eq!(rt;
         pipeline_text(alloc, &first)?.as_slice(),
         b"! a | b | c".as_slice()
     );
-    let mut rest = Vec::new(alloc);
+    let mut rest = Sequence::new(alloc);
     rest.push(Connected {
         connector: Connector::And,
-        pipeline: Rc::new(alloc, pipeline(alloc, simple(alloc, b"d")?)?)?,
+        pipeline: Shared::new(alloc, pipeline(alloc, simple(alloc, b"d")?)?)?,
     })?;
     rest.push(Connected {
         connector: Connector::Or,
-        pipeline: Rc::new(alloc, pipeline(alloc, simple(alloc, b"e")?)?)?,
+        pipeline: Shared::new(alloc, pipeline(alloc, simple(alloc, b"e")?)?)?,
     })?;
     let tree = AndOr {
-        first: Rc::new(alloc, first)?,
+        first: Shared::new(alloc, first)?,
         rest,
     };
     assert_eq!(rt;
@@ -250,10 +249,10 @@ fn pipelines_and_and_or_lists(rt: HostRuntime) -> Result<(), Fail> {
 #[test]
 fn groups_and_subshells(rt: HostRuntime) -> Result<(), Fail> {
     let alloc = rt.alloc();
-    let mut items = Vec::new(alloc);
+    let mut items = Sequence::new(alloc);
     items.push(list_item(alloc, simple(alloc, b"a")?, Separator::Asynchronous)?)?;
     items.push(list_item(alloc, simple(alloc, b"b")?, Separator::Sequential)?)?;
-    let group = CompoundForm::Group(Rc::new(alloc, Complete { items })?);
+    let group = CompoundForm::Group(Shared::new(alloc, Complete { items })?);
     let text = shown(alloc, compound(alloc, group)?)?;
     assert_eq!(rt; text.as_slice(), b"{ a & b ; }".as_slice());
     let text = shown(
@@ -270,12 +269,12 @@ fn conditions(rt: HostRuntime) -> Result<(), Fail> {
     let form = CompoundForm::If {
         condition: list(alloc, b"a")?,
         body: list(alloc, b"b")?,
-        else_ifs: Vec::new(alloc),
+        else_ifs: Sequence::new(alloc),
         else_body: None,
     };
     let text = shown(alloc, compound(alloc, form)?)?;
     assert_eq!(rt; text.as_slice(), b"if a ; then b ; fi".as_slice());
-    let mut else_ifs = Vec::new(alloc);
+    let mut else_ifs = Sequence::new(alloc);
     else_ifs.push(ElseIf {
         condition: list(alloc, b"c")?,
         body: list(alloc, b"d")?,
@@ -344,11 +343,11 @@ fn loops_over_words(rt: HostRuntime) -> Result<(), Fail> {
 #[test]
 fn cases(rt: HostRuntime) -> Result<(), Fail> {
     let alloc = rt.alloc();
-    let mut items = Vec::new(alloc);
+    let mut items = Sequence::new(alloc);
     items.push(CaseItem {
         has_parenthesis: false,
         pattern: word(alloc, b"a")?,
-        more_patterns: Vec::new(alloc),
+        more_patterns: Sequence::new(alloc),
         body: list(alloc, b"b")?,
         end: CaseEnd::Break,
     })?;
@@ -374,7 +373,7 @@ fn cases(rt: HostRuntime) -> Result<(), Fail> {
 #[test]
 fn functions(rt: HostRuntime) -> Result<(), Fail> {
     let alloc = rt.alloc();
-    let mut redirects = Vec::new(alloc);
+    let mut redirects = Sequence::new(alloc);
     redirects.push(redirect(alloc, None, RedirectOperator::Append, b"g")?)?;
     let body = Compound {
         form: CompoundForm::Group(list(alloc, b"a")?),
@@ -382,7 +381,7 @@ fn functions(rt: HostRuntime) -> Result<(), Fail> {
     };
     let command = Command::Function {
         name: name(alloc, b"f")?,
-        body: Rc::new(alloc, body)?,
+        body: Shared::new(alloc, body)?,
     };
     assert_eq!(rt;
         shown(alloc, command)?.as_slice(),
@@ -394,11 +393,11 @@ fn functions(rt: HostRuntime) -> Result<(), Fail> {
 #[test]
 fn a_list_of_many_commands(rt: HostRuntime) -> Result<(), Fail> {
     let alloc = rt.alloc();
-    let mut items = Vec::new(alloc);
+    let mut items = Sequence::new(alloc);
     for _ in 0..100_000 {
         items.push(list_item(alloc, simple(alloc, b"a")?, Separator::Sequential)?)?;
     }
-    let group = CompoundForm::Group(Rc::new(alloc, Complete { items })?);
+    let group = CompoundForm::Group(Shared::new(alloc, Complete { items })?);
     let text = shown(alloc, compound(alloc, group)?)?;
     // "{ ", then "a ; " for each command, then "}"
     assert_eq!(rt; text.len(), 400_003);
@@ -422,13 +421,12 @@ fn deep_words(rt: HostRuntime) -> Result<(), Fail> {
     let alloc = rt.alloc();
     let mut command = simple(alloc, b"a")?;
     for _ in 0..500 {
-        let mut inner = Vec::new(alloc);
+        let mut inner = Sequence::new(alloc);
         inner.push(Part::Substitution(list_of(alloc, command)?))?;
-        let mut items = Vec::new(alloc);
+        let mut items = Sequence::new(alloc);
         items.push(SimpleItem::Word(Word {
-            parts: Rc::new(alloc, Parts { items: inner })?,
+            parts: Shared::new(alloc, Parts { items: inner })?,
             source: bytes(alloc, b"$(..)")?,
-            span: Span { start: 0, end: 5 },
         }))?;
         command = Command::Simple(items);
     }

@@ -176,7 +176,7 @@ fn put_item(out: &mut Vec<u8>, item: &SimpleItem) -> Result<(), AllocError>
 fn put_complete(out: &mut Vec<u8>, list: &Complete) -> Result<(), AllocError>
     ensures { OnOk result (out.new.items ≡ out.old.items ++ spaced (complete_tokens list.now)) }
 {
-    for list_item in &list.items {
+    for list_item in list.items.as_slice() {
         put_list_item(out, list_item)?;
     }
     Ok(())
@@ -186,7 +186,7 @@ fn put_complete(out: &mut Vec<u8>, list: &Complete) -> Result<(), AllocError>
 fn put_list_item(out: &mut Vec<u8>, list_item: &ListItem) -> Result<(), AllocError>
     ensures { OnOk result (out.new.items ≡ out.old.items ++ spaced (list_item_tokens list_item.now)) }
 {
-    put_and_or(out, &list_item.list)?;
+    put_and_or(out, list_item.list.get())?;
     put_separator(out, list_item.separator)
 }
 
@@ -194,8 +194,8 @@ fn put_list_item(out: &mut Vec<u8>, list_item: &ListItem) -> Result<(), AllocErr
 fn put_and_or(out: &mut Vec<u8>, list: &AndOr) -> Result<(), AllocError>
     ensures { OnOk result (out.new.items ≡ out.old.items ++ spaced (and_or_tokens list.now)) }
 {
-    put_pipeline(out, &list.first)?;
-    for connected in &list.rest {
+    put_pipeline(out, list.first.get())?;
+    for connected in list.rest.as_slice() {
         put_connected(out, connected)?;
     }
     Ok(())
@@ -206,7 +206,7 @@ fn put_connected(out: &mut Vec<u8>, connected: &Connected) -> Result<(), AllocEr
     ensures { OnOk result (out.new.items ≡ out.old.items ++ spaced (connected_tokens connected.now)) }
 {
     put_connector(out, connected.connector)?;
-    put_pipeline(out, &connected.pipeline)
+    put_pipeline(out, connected.pipeline.get())
 }
 
 #[cycle(text)]
@@ -214,10 +214,10 @@ fn put_pipeline(out: &mut Vec<u8>, pipeline: &Pipeline) -> Result<(), AllocError
     ensures { OnOk result (out.new.items ≡ out.old.items ++ spaced (pipeline_tokens pipeline.now)) }
 {
     put_optional(out, pipeline.is_negated, b"!")?;
-    put_command(out, &pipeline.first)?;
-    for command in &pipeline.rest {
+    put_command(out, pipeline.first.get())?;
+    for command in pipeline.rest.as_slice() {
         put_token(out, b"|")?;
-        put_command(out, command)?;
+        put_command(out, command.get())?;
     }
     Ok(())
 }
@@ -228,17 +228,17 @@ fn put_command(out: &mut Vec<u8>, command: &Command) -> Result<(), AllocError>
 {
     match command {
         Command::Simple(items) => {
-            for item in items {
+            for item in items.as_slice() {
                 put_item(out, item)?;
             }
             Ok(())
         }
-        Command::Compound(compound) => put_compound(out, compound),
+        Command::Compound(compound) => put_compound(out, compound.get()),
         Command::Function { name, body } => {
             put_token(out, name.source.as_slice())?;
             put_token(out, b"(")?;
             put_token(out, b")")?;
-            put_compound(out, body)
+            put_compound(out, body.get())
         }
     }
 }
@@ -248,7 +248,7 @@ fn put_compound(out: &mut Vec<u8>, compound: &Compound) -> Result<(), AllocError
     ensures { OnOk result (out.new.items ≡ out.old.items ++ spaced (compound_tokens compound.now)) }
 {
     put_form(out, &compound.form)?;
-    for redirect in &compound.redirects {
+    for redirect in compound.redirects.as_slice() {
         put_redirect(out, redirect)?;
     }
     Ok(())
@@ -259,22 +259,22 @@ fn put_form(out: &mut Vec<u8>, form: &CompoundForm) -> Result<(), AllocError>
     ensures { OnOk result (out.new.items ≡ out.old.items ++ spaced (form_tokens form.now)) }
 {
     match form {
-        CompoundForm::Group(list) => put_between(out, b"{", list, b"}"),
-        CompoundForm::Subshell(list) => put_between(out, b"(", list, b")"),
+        CompoundForm::Group(list) => put_between(out, b"{", list.get(), b"}"),
+        CompoundForm::Subshell(list) => put_between(out, b"(", list.get(), b")"),
         CompoundForm::If {
             condition,
             body,
             else_ifs,
             else_body,
         } => {
-            put_between(out, b"if", condition, b"then")?;
-            put_complete(out, body)?;
-            for else_if in else_ifs {
+            put_between(out, b"if", condition.get(), b"then")?;
+            put_complete(out, body.get())?;
+            for else_if in else_ifs.as_slice() {
                 put_else_if(out, else_if)?;
             }
             match else_body {
                 None => put_token(out, b"fi"),
-                Some(list) => put_between(out, b"else", list, b"fi"),
+                Some(list) => put_between(out, b"else", list.get(), b"fi"),
             }
         }
         CompoundForm::Loop {
@@ -283,18 +283,18 @@ fn put_form(out: &mut Vec<u8>, form: &CompoundForm) -> Result<(), AllocError>
             body,
         } => {
             put_loop_kind(out, *kind)?;
-            put_complete(out, condition)?;
-            put_between(out, b"do", body, b"done")
+            put_complete(out, condition.get())?;
+            put_between(out, b"do", body.get(), b"done")
         }
         CompoundForm::For { name, words, body } => {
             put_token(out, b"for")?;
             put_token(out, name.source.as_slice())?;
             put_token(out, b"in")?;
-            for word in words {
+            for word in words.as_slice() {
                 put_word(out, word)?;
             }
             put_token(out, b";")?;
-            put_between(out, b"do", body, b"done")
+            put_between(out, b"do", body.get(), b"done")
         }
         CompoundForm::ForParameters {
             name,
@@ -304,13 +304,13 @@ fn put_form(out: &mut Vec<u8>, form: &CompoundForm) -> Result<(), AllocError>
             put_token(out, b"for")?;
             put_token(out, name.source.as_slice())?;
             put_optional(out, *is_separated, b";")?;
-            put_between(out, b"do", body, b"done")
+            put_between(out, b"do", body.get(), b"done")
         }
         CompoundForm::Case { word, items } => {
             put_token(out, b"case")?;
             put_word(out, word)?;
             put_token(out, b"in")?;
-            for item in items {
+            for item in items.as_slice() {
                 put_case_item(out, item)?;
             }
             put_token(out, b"esac")
@@ -337,8 +337,8 @@ fn put_between(
 fn put_else_if(out: &mut Vec<u8>, else_if: &ElseIf) -> Result<(), AllocError>
     ensures { OnOk result (out.new.items ≡ out.old.items ++ spaced (else_if_tokens else_if.now)) }
 {
-    put_between(out, b"elif", &else_if.condition, b"then")?;
-    put_complete(out, &else_if.body)
+    put_between(out, b"elif", else_if.condition.get(), b"then")?;
+    put_complete(out, else_if.body.get())
 }
 
 #[cycle(text)]
@@ -347,11 +347,11 @@ fn put_case_item(out: &mut Vec<u8>, item: &CaseItem) -> Result<(), AllocError>
 {
     put_optional(out, item.has_parenthesis, b"(")?;
     put_word(out, &item.pattern)?;
-    for pattern in &item.more_patterns {
+    for pattern in item.more_patterns.as_slice() {
         put_token(out, b"|")?;
         put_word(out, pattern)?;
     }
     put_token(out, b")")?;
-    put_complete(out, &item.body)?;
+    put_complete(out, item.body.get())?;
     put_case_end(out, item.end)
 }

@@ -1,20 +1,17 @@
 //! Syntax trees of the Shell Command Language (XCU 2.2, 2.5 to 2.7, 2.9 and 2.10). What a running shell
-//! goes on to hold, beside its tree, is shared by `Rc`. Nested syntax makes a tree deep, of 500 levels at
-//! most; a list of any length is a vector, never a chain of pairs.
-use sh_syntax::sequence::Text;
-pub use sh_syntax::word::Span;
-use std::rc::Rc;
+//! goes on to hold, beside its tree, is `Shared`. Nested syntax makes a tree deep, of 500 levels at
+//! most; a list of any length is a sequence, never a chain of pairs. Contracts see a
+//! tree as plain data, without pointers.
+use sh_syntax::sequence::{Sequence, Text};
+use sh_syntax::shared::Shared;
 
 /// A word (XCU 2.3): its parts, and its bytes as they stand in the source.
 #[cycle(syntax)]
 #[derive(Drop)]
 pub struct Word {
-    pub parts: Rc<Parts>,
+    pub parts: Shared<Parts>,
     /// Each byte of the word, its quotes and joined lines included.
     pub source: Text,
-    /// Where the word stands in the text that was read. A word of an alias's value stands where the
-    /// replaced word does.
-    pub span: Span,
 }
 
 /// Parts one after another: of a word, between double quotes, in `${..}`, in `$((..))` or of the body of a
@@ -22,7 +19,7 @@ pub struct Word {
 #[cycle(syntax)]
 #[derive(Drop)]
 pub struct Parts {
-    pub items: Vec<Part>,
+    pub items: Sequence<Part>,
 }
 
 /// A part of a word (XCU 2.2, 2.6).
@@ -36,7 +33,7 @@ pub enum Part {
     /// The bytes between single quotes (XCU 2.2.2).
     SingleQuoted(Text),
     /// What stands between double quotes (XCU 2.2.3).
-    DoubleQuoted(Rc<Parts>),
+    DoubleQuoted(Shared<Parts>),
     /// `$p` or `${p}` (XCU 2.6.2).
     Parameter(Parameter),
     /// `${#p}`: the length of a parameter's value.
@@ -46,21 +43,21 @@ pub enum Part {
         parameter: Parameter,
         absence: Absence,
         action: ConditionalAction,
-        word: Rc<Parts>,
+        word: Shared<Parts>,
     },
     /// `${p%w}`, `${p%%w}`, `${p#w}` or `${p##w}`: the value without what a pattern matches.
     Removal {
         parameter: Parameter,
         affix: Affix,
         extent: Extent,
-        pattern: Rc<Parts>,
+        pattern: Shared<Parts>,
     },
     /// `$(..)`: a command substitution (XCU 2.6.3). With no item where nothing stands in it.
-    Substitution(Rc<Complete>),
+    Substitution(Shared<Complete>),
     /// A command substitution in backquotes, as for `$(..)`.
-    Backquoted(Rc<Complete>),
+    Backquoted(Shared<Complete>),
     /// `$((..))`: an arithmetic expansion (XCU 2.6.4).
-    Arithmetic(Rc<Parts>),
+    Arithmetic(Shared<Parts>),
 }
 
 /// A parameter (XCU 2.5).
@@ -165,7 +162,7 @@ pub enum Target {
     Here {
         operator: HereDocumentOperator,
         delimiter: Word,
-        body: Rc<Parts>,
+        body: Shared<Parts>,
     },
 }
 
@@ -202,10 +199,10 @@ pub enum HereDocumentOperator {
 #[derive(Drop)]
 pub enum Command {
     /// A simple command: at least one item, in the order of the source.
-    Simple(Vec<SimpleItem>),
-    Compound(Rc<Compound>),
+    Simple(Sequence<SimpleItem>),
+    Compound(Shared<Compound>),
     /// A function definition (XCU 2.9.5).
-    Function { name: Name, body: Rc<Compound> },
+    Function { name: Name, body: Shared<Compound> },
 }
 
 /// What a simple command is made of (XCU 2.9.1).
@@ -215,7 +212,7 @@ pub enum SimpleItem {
     /// `NAME=value`.
     Assignment {
         name: Text,
-        value: Rc<Parts>,
+        value: Shared<Parts>,
         /// Each byte of the word, from the name on.
         source: Text,
     },
@@ -228,7 +225,7 @@ pub enum SimpleItem {
 #[derive(Drop)]
 pub struct Compound {
     pub form: CompoundForm,
-    pub redirects: Vec<Redirect>,
+    pub redirects: Sequence<Redirect>,
 }
 
 /// The compound commands (XCU 2.9.4).
@@ -236,39 +233,39 @@ pub struct Compound {
 #[derive(Drop)]
 pub enum CompoundForm {
     /// `{ list ; }`
-    Group(Rc<Complete>),
+    Group(Shared<Complete>),
     /// `( list )`
-    Subshell(Rc<Complete>),
+    Subshell(Shared<Complete>),
     /// `if list then list`, each further `elif list then list`, `else list`, `fi`.
     If {
-        condition: Rc<Complete>,
-        body: Rc<Complete>,
-        else_ifs: Vec<ElseIf>,
-        else_body: Option<Rc<Complete>>,
+        condition: Shared<Complete>,
+        body: Shared<Complete>,
+        else_ifs: Sequence<ElseIf>,
+        else_body: Option<Shared<Complete>>,
     },
     /// `while list do list done`, or the same with `until`.
     Loop {
         kind: LoopKind,
-        condition: Rc<Complete>,
-        body: Rc<Complete>,
+        condition: Shared<Complete>,
+        body: Shared<Complete>,
     },
     /// `for NAME in words ; do list done`
     For {
         name: Name,
-        words: Vec<Word>,
-        body: Rc<Complete>,
+        words: Sequence<Word>,
+        body: Shared<Complete>,
     },
     /// `for NAME do list done`, over the positional parameters.
     ForParameters {
         name: Name,
         /// Whether a semicolon or newline stands before the `do`.
         is_separated: bool,
-        body: Rc<Complete>,
+        body: Shared<Complete>,
     },
     /// `case word in items esac`
     Case {
         word: Word,
-        items: Vec<CaseItem>,
+        items: Sequence<CaseItem>,
     },
 }
 
@@ -276,8 +273,8 @@ pub enum CompoundForm {
 #[cycle(syntax)]
 #[derive(Drop)]
 pub struct ElseIf {
-    pub condition: Rc<Complete>,
-    pub body: Rc<Complete>,
+    pub condition: Shared<Complete>,
+    pub body: Shared<Complete>,
 }
 
 /// How long a loop runs (XCU 2.9.4.5, 2.9.4.6).
@@ -297,9 +294,9 @@ pub struct CaseItem {
     pub has_parenthesis: bool,
     pub pattern: Word,
     /// The patterns behind a `|`.
-    pub more_patterns: Vec<Word>,
+    pub more_patterns: Sequence<Word>,
     /// Without an item where nothing stands behind the `)`.
-    pub body: Rc<Complete>,
+    pub body: Shared<Complete>,
     pub end: CaseEnd,
 }
 
@@ -318,18 +315,18 @@ pub enum CaseEnd {
 pub struct Pipeline {
     /// Whether a `!` stands before it.
     pub is_negated: bool,
-    pub first: Rc<Command>,
+    pub first: Shared<Command>,
     /// The commands behind a `|`.
-    pub rest: Vec<Rc<Command>>,
+    pub rest: Sequence<Shared<Command>>,
 }
 
 /// An AND-OR list (XCU 2.9.3).
 #[cycle(syntax)]
 #[derive(Drop)]
 pub struct AndOr {
-    pub first: Rc<Pipeline>,
+    pub first: Shared<Pipeline>,
     /// The pipelines behind a `&&` or `||`.
-    pub rest: Vec<Connected>,
+    pub rest: Sequence<Connected>,
 }
 
 /// A further pipeline of an AND-OR list, and what joins it to the one before.
@@ -337,7 +334,7 @@ pub struct AndOr {
 #[derive(Drop)]
 pub struct Connected {
     pub connector: Connector,
-    pub pipeline: Rc<Pipeline>,
+    pub pipeline: Shared<Pipeline>,
 }
 
 /// What joins two pipelines (XCU 2.9.3.2, 2.9.3.3).
@@ -354,14 +351,14 @@ pub enum Connector {
 #[cycle(syntax)]
 #[derive(Drop)]
 pub struct Complete {
-    pub items: Vec<ListItem>,
+    pub items: Sequence<ListItem>,
 }
 
 /// An AND-OR list of a list, and how it is run (XCU 2.9.3).
 #[cycle(syntax)]
 #[derive(Drop)]
 pub struct ListItem {
-    pub list: Rc<AndOr>,
+    pub list: Shared<AndOr>,
     pub separator: Separator,
 }
 

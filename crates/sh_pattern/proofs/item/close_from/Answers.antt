@@ -1,4 +1,4 @@
-use Rattle.std.proofs.Common.{◌≡◌, ◌∙◌, ◌+◌, ◌-◌, ◌≤◌, sym, drop, length, length-take, arith}
+use Rattle.std.proofs.Common.{◌∙◌, ◌+◌, ◌-◌, sym, drop, length, length-take, arith}
 use Rattle.sh_pattern.proofs.ItemLemmas.{closing-skip, close_on, drop_at, behind_is}
 use Rattle.sh_pattern.proofs.item.close_from.Goals as goal
 

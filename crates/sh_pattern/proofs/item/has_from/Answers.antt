@@ -1,4 +1,4 @@
-use Rattle.std.proofs.Common.{◌≡◌, ◌∙◌, ◌+◌, ◌-◌, ◌≤◌, sym, ap, drop, length, length-take, arith}
+use Rattle.std.proofs.Common.{◌∙◌, ◌+◌, ◌-◌, sym, ap, drop, length, length-take, arith}
 use Rattle.sh_pattern.specs.Items.{item_has}
 use Rattle.sh_pattern.proofs.ItemLemmas.{some_has-skip, has_on, drop_at, behind_is}
 use Rattle.sh_pattern.proofs.item.has_from.Goals as goal

@@ -1,5 +1,4 @@
-use Rattle.std.proofs.Common.{◌≡◌, ◌+◌, ◌-◌, ◌≤◌, ◌<◌, ◌∷◌, ◌∙◌, sym, take, drop, length, length-take, arith}
-use Rattle.sh_pattern.specs.Place.{from}
+use Rattle.std.proofs.Common.{◌+◌, ◌-◌, ◌<◌, ◌∙◌, sym, drop, length, length-take, arith}
 use Rattle.sh_pattern.proofs.Backtrack.{next_is, behind_is, drop_at, star_on, one_on, both_end, ↔_trans}
 use Rattle.sh_pattern.proofs.search.matches.Goals as goal
 

@@ -1,6 +1,5 @@
-use Rattle.std.proofs.Common.{◌≡◌, ◌+◌, ◌-◌, ◌≤◌, ◌<◌, ◌∷◌, ◌∙◌, sym, take, drop, length, length-take, arith}
-use Rattle.sh_pattern.specs.Place.{from}
-use Rattle.sh_pattern.proofs.Backtrack.{next_is, behind_is, vanish_star, ↔_trans, element}
+use Rattle.std.proofs.Common.{◌+◌, ◌-◌, ◌∙◌, sym, drop, length, length-take, arith}
+use Rattle.sh_pattern.proofs.Backtrack.{next_is, behind_is, vanish_star, ↔_trans}
 use Rattle.sh_pattern.proofs.search.vanishes.Goals as goal
 
 pub loop-at-preserved : goal.loop-at-preserved

@@ -40,4 +40,4 @@ invariant-put_form-loop-item l =
 abbrev pub invariant-put_pipeline-loop-command : goal.invariant-put_pipeline-loop-command
 invariant-put_pipeline-loop-command l =
     l.out.items
-    ≡ l.initial.out.items ++ spaced (flat_map (λ c. behind_bar (command_tokens c.value)) (take l.command-index l.command-items))
+    ≡ l.initial.out.items ++ spaced (flat_map (λ c. behind_bar (command_tokens c)) (take l.command-index l.command-items))

@@ -1,11 +1,10 @@
 use Rattle.std.proofs.Common.{◌≡◌, List, ℕ}
-use Rattle.sh_expand_parts.specs.Calculations.{Agrees, Calculations}
 use Rattle.sh_expand_words.specs.Expansion.{Done}
 use Rattle.sh_expand_words.specs.Stand.{rest, state_of, weight}
 use Rattle.sh_expand_words.proofs.expansion.WordExpansion.go.Given as goal
 
 abbrev pub invariant-loop-step : goal.invariant-loop-step
-invariant-loop-step l = (c : Calculations) → Agrees c → (bs : List (List ℕ)) → rest c l.self (Done (state_of l.self l.vars bs)) ≡ rest c l.initial.self (Done (state_of l.initial.self l.initial.vars bs))
+invariant-loop-step l = (bs : List (List ℕ)) → rest l.self (Done (state_of l.self l.vars bs)) ≡ rest l.initial.self (Done (state_of l.initial.self l.initial.vars bs))
 
 abbrev pub decreases-loop-step : goal.decreases-loop-step
 decreases-loop-step l = weight l.self

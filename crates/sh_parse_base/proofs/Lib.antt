@@ -1,4 +1,0 @@
-pub mod Counts
-pub mod Derived
-pub mod Laws
-pub mod Trees

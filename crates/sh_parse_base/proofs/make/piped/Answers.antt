@@ -1,7 +1,0 @@
-use Rattle.std.proofs.Common.{ap}
-use Rattle.sh_parse_base.specs.declared.value.Value.TheVariants as value
-use Rattle.sh_parse_base.proofs.make.piped.Goals as goal
-
-pub returns : goal.returns
-returns c =
-    (c.in_ok-first.first, c.in_ok-others.others, c.in_ok-first.ensures, c.in_ok-others.ensures, ap value.Commands c.in_ok-push_front.ensures)

@@ -1,7 +1,0 @@
-use Rattle.std.proofs.Common.{refl}
-use Rattle.sh_parse_base.specs.Productions.{productions}
-use Rattle.sh_parse_base.proofs.productions.kind_table.Goals as goal
-
-pub returns : goal.returns
-unfolding productions
-returns c = refl

@@ -1,0 +1,10 @@
+pub mod Bools
+pub mod Counted
+pub mod Counts
+pub mod Derived
+pub mod Fitted
+pub mod Gather
+pub mod Run
+pub mod SortTables
+pub mod Sorts
+pub mod Whole

@@ -1,0 +1,4 @@
+pub mod Fitting
+pub mod Meaning
+pub mod Productions
+pub mod Stack

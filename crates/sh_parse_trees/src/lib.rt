@@ -1,0 +1,14 @@
+//! Syntax trees of the shell from derivations by its grammar (XCU 2.10.2): the recognizer gives a derivation as a list of actions, and
+//! each token comes with its leaf, what the tree has of it.
+#![tactic(auto)]
+
+mod laws;
+mod productions;
+mod stack;
+mod syntax;
+
+pub use laws::fitting_leaves_have_syntax;
+pub use syntax::syntax_tree;
+
+#[cfg(test)]
+mod tests;

@@ -1,0 +1,78 @@
+//! The syntax tree of a derivation.
+ghost use Rattle.std.specs.Prelude.{◌≡◌, IfOk};
+ghost use Rattle.sh_token_base.specs.Shell.{complete, substitution};
+ghost use Rattle.sh_parse_trees.specs.Meaning.{IsSyntaxWhere, whole_list, only};
+ghost use Rattle.sh_parse_trees.specs.Stack.{finished, made_all};
+
+use crate::stack::{Making, run};
+use sh_grammar::Action;
+use sh_parse_trees_base::backward::Backward;
+use sh_parse_trees_base::leaf::Leaf;
+use sh_parse_trees_base::value::Value;
+use sh_tree::tree::Complete;
+use std::alloc::{AllocError, Global};
+
+/// The list of commands of a derivation, which the recognizer gives as its actions: of a complete command (XCU 2.10.2), or of the
+/// text of a command substitution (XCU 2.6.3), which has no item where it is newlines alone. Each token has a leaf, in the same
+/// order, of its class: an operator or a newline has `Operator`, a redirection operator `Redirection` or `HereDocument`, a number
+/// `Number`, a word that is an assignment `Assignment`, a word that is a name, reserved or not, `Name`, and every other word `Word`.
+///
+/// `None` where the leaves are more or fewer than the tokens, or where one has not what the tree needs of its token. What is given for
+/// actions that are no derivation is left open. The only error is want of memory.
+pub fn syntax_tree(
+    alloc: Global,
+    actions: &[Action],
+    leaves: Vec<Leaf>,
+) -> Result<Option<Complete>, AllocError>
+    ensures command { IfOk result (λ found. IsSyntaxWhere complete actions.now leaves.items found) }
+    ensures substitution { IfOk result (λ found. IsSyntaxWhere substitution actions.now leaves.items found) }
+{
+    let found = make_all(alloc, actions, leaves)?;
+    Ok(found)
+}
+
+/// The list of commands that actions make with the leaves of their tokens.
+fn make_all(
+    alloc: Global,
+    actions: &[Action],
+    leaves: Vec<Leaf>,
+) -> Result<Option<Complete>, AllocError>
+    ensures { IfOk result (λ found. found ≡ made_all actions.now leaves.items) }
+{
+    let Some(making) = run(alloc, actions, leaves)? else {
+        return Ok(None);
+    };
+    Ok(finish(alloc, making))
+}
+
+/// The list of commands that is made, where no leaf is left.
+fn finish(alloc: Global, making: Making) -> Option<Complete>
+    ensures { result ≡ finished making }
+{
+    let Making { leaves, values } = making;
+    if leaves.split_first().is_some() {
+        return None;
+    }
+    let value = only_value(values)?;
+    complete_of(alloc, value)
+}
+
+/// The one value that there is.
+fn only_value(values: Backward<Value>) -> Option<Value>
+    ensures { result ≡ only values }
+{
+    let (value, others) = values.split_first()?;
+    if others.split_first().is_some() {
+        return None;
+    }
+    Some(value)
+}
+
+fn complete_of(alloc: Global, value: Value) -> Option<Complete>
+    ensures { result ≡ whole_list value }
+{
+    let items = value.into_list(alloc)?;
+    Some(Complete {
+        items: items.into_sequence(),
+    })
+}

@@ -1,0 +1,196 @@
+-- The parts of a word, piece by piece.
+use Rattle.std.specs.Prelude.{◌≡◌, ℕ, zero, suc, ◌-◌, Bool, true, false, nat_eq, List, [], ◌∷◌, ◌++◌, Option, Some, None, Result, Ok, Err, if◌then◌else◌}
+use Rattle.sh_scanner_base.specs.declared.mark.Mark.{Mark}
+use Rattle.sh_scanner_base.specs.declared.mark.Mark.TheVariants as mark
+use Rattle.sh_tree.specs.declared.tree.Part.{Part}
+use Rattle.sh_tree.specs.declared.tree.Parts.{Parts}
+use Rattle.sh_tree.specs.declared.tree.Part.TheVariants as part
+use Rattle.sh_tree.specs.declared.tree.Command.TheViews as view
+use Rattle.sh_tree.specs.declared.tree.Complete.{Complete}
+use Rattle.sh_tree.specs.declared.tree.Parameter.{Parameter}
+use Rattle.sh_tree.specs.declared.tree.Parameter.TheVariants.{Variable}
+use Rattle.sh_parse_words.specs.declared.parameter.Braces.{Braces}
+use Rattle.sh_parse_words.specs.declared.parameter.Braces.TheVariants as braces
+use Rattle.sh_parse_words.specs.declared.build.Form.{Form}
+use Rattle.sh_parse_words.specs.declared.build.Form.TheVariants as form
+use Rattle.sh_parse_words.specs.declared.build.Frame.{Frame}
+use Rattle.sh_parse_words.specs.declared.build.Skip.{Skip}
+use Rattle.sh_parse_words.specs.declared.build.Request.{Request}
+use Rattle.sh_parse_words.specs.declared.build.Substitution.{Substitution}
+use Rattle.sh_parse_words.specs.declared.build.Substitution.TheVariants as substitution
+use Rattle.sh_parse_words.specs.declared.fault.PartFault.{PartFault}
+use Rattle.sh_parse_words.specs.declared.fault.PartFault.TheVariants as fault
+use Rattle.sh_parse_words.specs.Parameters.{braces_of, short}
+
+-- parts that are being put together: the finished ones of the innermost open form, bytes that stand for themselves behind them,
+-- how many levels may still open, the forms that are open, the innermost last, and the command substitution within which the
+-- pieces are passed over
+pub record Building : Type 0 where
+  pub parts : List Part
+  pub literal : List ℕ
+  pub left : ℕ
+  pub frames : List Frame
+  pub skip : Option Skip
+
+-- what a piece comes to: the parts with it, and the commands that they wait for
+pub record Taken : Type 0 where
+  pub building : Building
+  pub request : Option Request
+
+abbrev pub Outcome : Type 0
+Outcome = Result Taken PartFault
+
+abbrev pub begun : ℕ → Building
+begun left = record { parts = []; literal = []; left = left; frames = []; skip = None }
+
+abbrev pub parts_of : List Part → Parts
+parts_of items = view.roll-Parts (record { items = items })
+
+abbrev pub ended : List Part → List ℕ → List Part
+ended parts [] = parts
+ended parts (b ∷ bs) = parts ++ part.Literal (b ∷ bs) ∷ []
+
+-- the bytes that stand for themselves are a part
+abbrev pub flushed : Building → Building
+flushed b = record b { parts = ended b.parts b.literal; literal = [] }
+
+unfoldable pub with_part : Building → Part → Building
+with_part b p = record b { parts = ended b.parts b.literal ++ p ∷ []; literal = [] }
+
+unfoldable pub with_bytes : Building → List ℕ → Building
+with_bytes b bytes = record b { literal = b.literal ++ bytes }
+
+abbrev pub braces_part : Braces → Parts → Part
+braces_part (braces.Value p) word = part.Parameter p
+braces_part (braces.Length p) word = part.Length p
+braces_part (braces.Conditional p absence action) word = part.Conditional p absence action word
+braces_part (braces.Removal p affix extent) word = part.Removal p affix extent word
+
+-- the part that a form is with what stands in it
+abbrev pub form_part : Form → Parts → Part
+form_part form.Quotes word = part.DoubleQuoted word
+form_part (form.Braces b) word = braces_part b word
+form_part form.Arithmetic word = part.Arithmetic word
+
+unfoldable pub opened : Building → Form → ℕ → Building
+opened b f left = record {
+  parts = [];
+  literal = [];
+  left = left;
+  frames = b.frames ++ record { form = f; before = ended b.parts b.literal; left = b.left } ∷ [];
+  skip = b.skip;
+}
+
+-- the last frame and those before it
+abbrev pub last_frame : List Frame → Option Frame
+last_frame [] = None
+last_frame (f ∷ []) = Some f
+last_frame (f ∷ g ∷ fs) = last_frame (g ∷ fs)
+
+abbrev pub other_frames : List Frame → List Frame
+other_frames [] = []
+other_frames (f ∷ []) = []
+other_frames (f ∷ g ∷ fs) = f ∷ other_frames (g ∷ fs)
+
+abbrev pub closed_by : Option Frame → Building → Building
+closed_by None b = record b { frames = other_frames b.frames }
+closed_by (Some f) b = record {
+  parts = f.before ++ form_part f.form (parts_of (ended b.parts b.literal)) ∷ [];
+  literal = [];
+  left = f.left;
+  frames = other_frames b.frames;
+  skip = b.skip;
+}
+
+unfoldable pub closed : Building → Building
+closed b = closed_by (last_frame b.frames) b
+
+abbrev pub on : Building → Outcome
+on b = Ok (record { building = b; request = None })
+
+-- within a command substitution the pieces are passed over, up to its end
+abbrev pub skipped : Building → Skip → ℕ → Outcome
+skipped b s here = Ok (record {
+  building = record b { skip = None };
+  request = Some (record { form = substitution.Commands; place = s.place; start = s.start; «end» = here; left = b.left - 1 });
+})
+
+abbrev pub skip_close : Building → Skip → ℕ → Outcome
+skip_close b s here = if nat_eq s.depth 0 then skipped b s here else on (record b { skip = Some (record s { depth = s.depth - 1 }) })
+
+abbrev pub skipping : Building → Skip → Mark → ℕ → Outcome
+skipping b s mark.CommandsOpen here = on (record b { skip = Some (record s { depth = suc s.depth }) })
+skipping b s mark.CommandsClose here = skip_close b s here
+skipping b s m here = on b
+
+abbrev pub parameter_part : ℕ → Option Parameter → Part
+parameter_part c None = part.Literal (36 ∷ c ∷ [])
+parameter_part c (Some p) = part.Parameter p
+
+abbrev pub open_braces : Building → ℕ → ℕ → Option Braces → Outcome
+open_braces b left place None = Err (fault.BadSubstitution place)
+open_braces b left place (Some f) = on (opened b (form.Braces f) left)
+
+-- `${`, `$((`, `$(` and a backquote open a level
+abbrev pub at_level : ℕ → ℕ → Outcome → Outcome
+at_level left place outcome = if nat_eq left 0 then Err (fault.TooDeep place) else outcome
+
+abbrev pub backquoted : Building → ℕ → ℕ → Request
+backquoted b place behind = record { form = substitution.Backquotes; place = place; start = place; «end» = behind; left = b.left - 1 }
+
+-- a piece that asks for nothing and opens no level
+unfoldable pub plainly : Building → Mark → Building
+plainly b (mark.Byte c) = with_bytes b (c ∷ [])
+plainly b (mark.Escaped c) = with_part b (part.Escaped c)
+plainly b (mark.Backslash c) = with_bytes b (92 ∷ c ∷ [])
+plainly b (mark.SingleQuoted bytes) = with_part b (part.SingleQuoted bytes)
+plainly b mark.DoubleQuotesOpen = opened b form.Quotes b.left
+plainly b mark.DoubleQuotesClose = closed b
+plainly b mark.Dollar = with_bytes b (36 ∷ [])
+plainly b (mark.Variable bytes) = with_part b (part.Parameter (Variable bytes))
+plainly b (mark.Parameter c) = with_part b (parameter_part c (short c))
+plainly b mark.BraceClose = closed b
+plainly b mark.ArithmeticClose = closed b
+plainly b m = b
+
+-- a piece of the word itself. `empty`: the next piece is a `}`; the piece stands at `place`, and the text behind it at `behind`
+abbrev pub taking : Building → Mark → Bool → ℕ → ℕ → Outcome
+taking b (mark.BraceOpen head) empty place behind = at_level b.left place (open_braces b (b.left - 1) place (braces_of head empty))
+taking b mark.ArithmeticOpen empty place behind = at_level b.left place (on (opened b form.Arithmetic (b.left - 1)))
+taking b mark.CommandsOpen empty place behind =
+    at_level b.left place (on (record b { skip = Some (record { depth = 0; place = place; start = behind }) }))
+taking b (mark.Backquoted bytes) empty place behind =
+    at_level b.left place (Ok (record { building = b; request = Some (backquoted b place behind) }))
+taking b m empty place behind = on (plainly b m)
+
+abbrev pub take_by : Option Skip → Building → Mark → Bool → ℕ → ℕ → Outcome
+take_by None b m empty place behind = taking b m empty place behind
+take_by (Some s) b m empty place behind = skipping b s m place
+
+unfoldable pub take_piece : Building → Mark → Bool → ℕ → ℕ → Outcome
+take_piece b m empty place behind = take_by b.skip b m empty place behind
+
+-- the commands that were waited for
+abbrev pub program_part : Substitution → Complete → Part
+program_part substitution.Commands c = part.Substitution c
+program_part substitution.Backquotes c = part.Backquoted c
+
+unfoldable pub with_program : Building → Substitution → Complete → Building
+with_program b s c = with_part b (program_part s c)
+
+-- the parts, where no form is open any more
+abbrev pub finished_by : List Frame → Option Skip → List Part → Option Parts
+finished_by [] None parts = Some (parts_of parts)
+finished_by [] (Some s) parts = None
+finished_by (f ∷ fs) s parts = None
+
+unfoldable pub finished : Building → Option Parts
+finished b = finished_by b.frames b.skip (ended b.parts b.literal)
+
+-- the answer and the value after it are these, or memory was wanting
+abbrev pub Takes : Result (Option Request) PartFault → Building → Outcome → Type 0
+Takes (Ok request) new outcome = outcome ≡ Ok (record { building = new; request = request })
+Takes (Err fault.NoMemory) new outcome = Unit {0}
+Takes (Err (fault.BadSubstitution place)) new outcome = outcome ≡ Err (fault.BadSubstitution place)
+Takes (Err (fault.TooDeep place)) new outcome = outcome ≡ Err (fault.TooDeep place)
+Takes (Err (fault.Refused place)) new outcome = outcome ≡ Err (fault.Refused place)

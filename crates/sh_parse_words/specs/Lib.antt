@@ -1,0 +1,4 @@
+pub mod Parameters
+pub mod Places
+pub mod Backquotes
+pub mod Building

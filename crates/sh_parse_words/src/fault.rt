@@ -1,0 +1,42 @@
+//! Why a word has no parts.
+use std::alloc::{AllocError, AllocFailed};
+use thiserror::Error;
+
+/// Why a word has no parts. A place is the number of bytes before it, in the text in which the word stands.
+#[derive(Clone, Copy, Debug, PartialEq, Eq, Error)]
+pub enum PartFault {
+    /// The `${` at `at` asks for nothing that there is (XCU 2.6.2).
+    #[error("bad substitution at byte {at}")]
+    BadSubstitution { at: usize },
+    /// The form at `at` opens one level more than there may be.
+    #[error("nested too deep at byte {at}")]
+    TooDeep { at: usize },
+    /// The text of the command substitution at `at` is no list of commands (XCU 2.6.3).
+    #[error("syntax error at byte {at}")]
+    Refused { at: usize },
+    /// There was not enough memory.
+    #[error("out of memory")]
+    NoMemory,
+}
+
+impl From<AllocError> for PartFault {
+    ghost use Rattle.std.specs.Prelude.{◌≡◌};
+    ghost use Rattle.sh_parse_words.specs.declared.fault.PartFault.TheVariants.{NoMemory};
+
+    ghost from_gives = { λ _ e. e ≡ NoMemory };
+
+    fn from(_error: AllocError) -> Self {
+        PartFault::NoMemory
+    }
+}
+
+impl<T: Drop> From<AllocFailed<T>> for PartFault {
+    ghost use Rattle.std.specs.Prelude.{◌≡◌};
+    ghost use Rattle.sh_parse_words.specs.declared.fault.PartFault.TheVariants.{NoMemory};
+
+    ghost from_gives = { λ _ e. e ≡ NoMemory };
+
+    fn from(_error: AllocFailed<T>) -> Self {
+        PartFault::NoMemory
+    }
+}

@@ -1,0 +1,56 @@
+-- The pieces of the body of a here-document that is expanded (XCU 2.7.4), or why it has none. The text ends with the body.
+use Rattle.std.specs.Prelude.{◌≡◌, ℕ, ◌+◌, ◌≤◌, true, false, nat_lt, List, [], ◌∷◌, length, Result, Ok, Err}
+use Rattle.sh_scanner_base.specs.declared.context.Context.TheVariants.{Body}
+use Rattle.sh_scanner_base.specs.declared.mark.Mark.{Mark}
+use Rattle.sh_scanner_base.specs.Marks.{in_word, top_of, levels, AreMarks, contexts_behind}
+use Rattle.sh_scanner.specs.declared.document.BodyFault.{BodyFault}
+use Rattle.sh_scanner.specs.Tokens.{Joined, OpensLevel}
+
+-- the body up to `place` is these pieces, with joined lines behind them, and no form is open there
+pub record IsFront (bytes : List ℕ) (marks : List Mark) (place : List ℕ) : Type 0 where
+  pub last : List ℕ
+  pub pieces : AreMarks true [] (Body ∷ []) marks bytes last
+  pub closed : contexts_behind [] (Body ∷ []) marks ≡ Body ∷ []
+  pub joined : Joined last place
+
+-- the body has 500 open levels, and from `place` on a piece that opens one more
+pub record IsBodyTooDeep (bytes place : List ℕ) : Type 0 where
+  pub marks : List Mark
+  pub last : List ℕ
+  pub before : AreMarks true [] (Body ∷ []) marks bytes last
+  pub full : nat_lt (levels (contexts_behind [] (Body ∷ []) marks)) 500 ≡ false
+  pub within : in_word (top_of (contexts_behind [] (Body ∷ []) marks)) ≡ true
+  pub placed : Joined last place
+  pub opens : OpensLevel true place
+
+-- a form begins at `place`, and is open at the end of the body: no front without open forms goes further
+pub record IsBodyOpen (bytes place : List ℕ) : Type 0 where
+  pub marks : List Mark
+  pub front : IsFront bytes marks place
+  pub begins : OpensLevel true place
+  pub furthest : (others : List Mark) (other : List ℕ) → IsFront bytes others other → length place ≤ length other
+  pub level : (deep : List ℕ) → IsBodyTooDeep bytes deep → ⊥
+
+-- a body's pieces; or where the form begins that it doesn't close, or the piece that opens level 501
+pub data BodyPieces : Type 0 where
+  AllOf : (marks : List Mark) → BodyPieces
+  OpenAt : (place : ℕ) → BodyPieces
+  TooDeepAt : (place : ℕ) → BodyPieces
+
+-- what the pieces of this body are
+abbrev pub IsBody : List ℕ → BodyPieces → Type 0
+IsBody bytes (AllOf marks) = IsFront bytes marks []
+IsBody bytes (OpenAt place) = (rest : List ℕ) × IsBodyOpen bytes rest × (place + length rest ≡ length bytes)
+IsBody bytes (TooDeepAt place) = (rest : List ℕ) × IsBodyTooDeep bytes rest × (place + length rest ≡ length bytes)
+
+abbrev pub body_answer : BodyPieces → Result (List Mark) BodyFault
+body_answer (AllOf marks) = Ok marks
+body_answer (OpenAt place) = Err (BodyFault.Open place)
+body_answer (TooDeepAt place) = Err (BodyFault.TooDeep place)
+
+-- the answer is given, unless memory ran out
+abbrev pub GivesPieces : Result (List Mark) BodyFault → Result (List Mark) BodyFault → Type 0
+GivesPieces (Ok marks) found = Ok marks ≡ found
+GivesPieces (Err BodyFault.NoMemory) found = Unit {0}
+GivesPieces (Err (BodyFault.Open at)) found = Err (BodyFault.Open at) ≡ found
+GivesPieces (Err (BodyFault.TooDeep at)) found = Err (BodyFault.TooDeep at) ≡ found

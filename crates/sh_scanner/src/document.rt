@@ -1,0 +1,62 @@
+//! The bodies of here-documents that are expanded (XCU 2.7.4).
+ghost use Rattle.std.specs.Prelude.{◌≡◌, ◌↔◌, ℕ, List, length};
+ghost use Rattle.sh_scanner_base.specs.declared.context.Context.TheVariants.{Body};
+ghost use Rattle.sh_scanner.specs.Body.{BodyPieces, IsBody, body_answer, GivesPieces};
+ghost use Rattle.sh_scanner.specs.Found.{pieces_of_body};
+
+use crate::scanner::{Outcome, scan};
+use sh_scanner_base::context::Context;
+use sh_scanner_base::mark::Mark;
+use sh_syntax::sequence::Sequence;
+use std::alloc::{AllocError, Global};
+use thiserror::Error;
+
+/// Why a body has no pieces.
+#[derive(Clone, Copy, Debug, PartialEq, Eq, Error)]
+pub enum BodyFault {
+    /// The form that begins with the `$` or the backquote at `at` is open at the end of the body, and lies in no other.
+    #[error("unfinished expansion at byte {at}")]
+    Open { at: usize },
+    /// More than 500 levels, counted from the body: the piece at `at` opens one too many.
+    #[error("too deep at byte {at}")]
+    TooDeep { at: usize },
+    /// There was not enough memory.
+    #[error("out of memory")]
+    NoMemory,
+}
+
+impl From<AllocError> for BodyFault {
+    ghost use Rattle.std.specs.Prelude.{◌≡◌};
+    ghost use Rattle.sh_scanner.specs.declared.document.BodyFault.TheVariants.{NoMemory};
+
+    ghost from_gives = { λ _ e. e ≡ NoMemory };
+
+    fn from(_error: AllocError) -> Self {
+        BodyFault::NoMemory
+    }
+}
+
+/// The pieces of a body, joined lines left out: parameter, command and arithmetic expansions, and what a backslash
+/// quotes, which is `$`, a backquote and a backslash (XCU 2.7.4). Quotes outside of the expansions are bytes like any
+/// others, and so are NULs. Where a place is given, it is in the body.
+#[tactic(auto, unfolding(crate::specs::Found::pieces_of_body))]
+pub fn body_pieces(alloc: Global, body: &[u8]) -> Result<Sequence<Mark>, BodyFault>
+    // The answer is the one of `pieces_of_body`, or memory ran out.
+    ensures { GivesPieces result (body_answer (pieces_of_body body.now)) }
+{
+    match scan(alloc, Context::Body, body, true)? {
+        Outcome::Ended(state, _, _) => Ok(Sequence::from_vec(state.into_pieces())),
+        Outcome::Deep(rest) => Err(BodyFault::TooDeep {
+            at: body.len().saturating_sub(rest.len()),
+        }),
+        Outcome::Open(form) => Err(BodyFault::Open {
+            at: body.len().saturating_sub(form.len()),
+        }),
+    }
+}
+
+/// `pieces_of_body` gives an answer exactly when the body has it by the definition: each body has its pieces, or a form that
+/// it doesn't close, or a level too many.
+pub fn body_is_the_defined_one()
+    ensures { (bytes : List ℕ) (answer : BodyPieces) → (pieces_of_body bytes ≡ answer) ↔ IsBody bytes answer }
+{}
