@@ -8,5 +8,6 @@ pub mod Computing
 pub mod Deriving
 pub mod Stack
 pub mod Step
+pub mod Kept
 pub mod Standing
 pub mod Bits

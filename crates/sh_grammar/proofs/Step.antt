@@ -1,5 +1,5 @@
 -- The steps of a parser whose stack has its last symbol on top.
-use Rattle.std.proofs.Common.{◌≡◌, ℕ, ◌<◌, true, List, [], ◌∷◌, ◌++◌, reverse, get_or, Some, refl, sym, ap, ◌∙◌, subst, eq-eqb}
+use Rattle.std.proofs.Common.{◌≡◌, ℕ, suc, ◌<◌, true, List, [], ◌∷◌, ◌++◌, reverse, get_or, Some, refl, sym, ap, ◌∙◌, subst, eq-eqb}
 use Rattle.sh_grammar.specs.declared.Symbol.{Symbol}
 use Rattle.sh_grammar.specs.declared.Symbol.TheVariants.{Terminal, Nonterminal}
 use Rattle.sh_grammar.specs.declared.Token.{Token}
@@ -11,6 +11,7 @@ use Rattle.sh_grammar.specs.Tabulation.{Tabulation, grammar_of, prediction}
 use Rattle.sh_grammar.specs.Table.{Table, first_of, nullable_of, cost_of, table_of}
 use Rattle.sh_grammar.specs.Predictive.{Evidence, Predicts}
 use Rattle.sh_grammar.specs.Passes.{evidence_of}
+use Rattle.sh_grammar.specs.Computed.{body_in, rule_body, lead}
 use Rattle.sh_grammar.specs.Reach.{Reaches, Begins, Ended, Any, Stands}
 use Rattle.sh_grammar.proofs.Trees.{shifted_append}
 use Rattle.sh_grammar.proofs.Reach.{reach_shift, reach_before, reach_ended}
@@ -31,6 +32,7 @@ module _ (g : Grammar) (t : Table) (evidence : Evidence) (ok : Predicts g t evid
     pub reaches : Reaches g t evidence (Begins u) after (reverse new)
     pub begins : first_of g t (reverse new) u.class ≡ true
     pub less : cost_of t (reverse new) < cost_of t (reverse old)
+    pub leads : (f : ℕ) → lead g t (suc f) (reverse old) u.class ≡ lead g t f (reverse new) u.class
 
   pub step_expand : (old stack new : List Symbol) (done after : List Action) (n p : ℕ) (body : List Symbol) (u : Token) → Reaches g t evidence (Begins u) done (reverse old) → first_of g t (reverse old) u.class ≡ true → old ≡ stack ++ Nonterminal n ∷ [] → t.predict n u.class ≡ Some p → ((other : List Symbol) → IsRule g p n other → body ≡ other) → reverse new ≡ body ++ reverse stack → after ≡ done ++ Expand p ∷ [] → Stepped old new after u
   step_expand old stack new done after n p body u r f e at same b d =
@@ -45,6 +47,7 @@ module _ (g : Grammar) (t : Table) (evidence : Evidence) (ok : Predicts g t evid
         reaches = subst (λ x. Reaches g t evidence (Begins u) x (reverse new)) (sym d) (subst (λ x. Reaches g t evidence (Begins u) (done ++ Expand p ∷ []) x) all r2);
         begins = subst (λ x. first_of g t x u.class ≡ true) all k.goes_on;
         less = subst (λ x. x < cost_of t (reverse old)) (ap (cost_of t) all) (subst (λ x. cost_of t (k.body ++ reverse stack) < cost_of t x) (sym top) (cost_falls g t evidence ok p n k.body (reverse stack) is));
+        leads = λ f. ap (λ x. lead g t (suc f) x u.class) top ∙ (ap (λ x. lead g t f (rule_body g x ++ reverse stack) u.class) at ∙ (ap (λ x. lead g t f (body_in x ++ reverse stack) u.class) is.there ∙ ap (λ x. lead g t f x u.class) all));
       }
 
 module _ (g : Grammar) (t : Table) (evidence : Evidence) (ok : Predicts g t evidence) where
@@ -93,11 +96,12 @@ pub record Expanded (d : Tabulation) (old new : List Symbol) (after : List Actio
   pub stands : Stands d (Begins u) after (reverse new)
   pub begins : first_of (grammar_of d) (table_of d) (reverse new) u.class ≡ true
   pub less : cost_of (table_of d) (reverse new) < cost_of (table_of d) (reverse old)
+  pub leads : (f : ℕ) → lead (grammar_of d) (table_of d) (suc f) (reverse old) u.class ≡ lead (grammar_of d) (table_of d) f (reverse new) u.class
 
 pub stands_expand : (d : Tabulation) (old stack new : List Symbol) (done after : List Action) (n p : ℕ) (u : Token) → Stands d (Begins u) done (reverse old) → first_of (grammar_of d) (table_of d) (reverse old) u.class ≡ true → old ≡ stack ++ Nonterminal n ∷ [] → p ≡ prediction d n u.class → reverse new ≡ get_or d.bodies p [] ++ reverse stack → after ≡ done ++ Expand p ∷ [] → Expanded d old new after u
 stands_expand d old stack new done after n p u s f e at b a =
     let x = step_expand (grammar_of d) (table_of d) (evidence_of d s.witness) (predicts d _ _ _ s) old stack new done after n p (get_or d.bodies p []) u s.reaches f e (ap Some (sym at)) (same_listed d p n) b a in
-    record { stands = record { witness = s.witness; passes = s.passes; reaches = x.reaches }; begins = x.begins; less = x.less }
+    record { stands = record { witness = s.witness; passes = s.passes; reaches = x.reaches }; begins = x.begins; less = x.less; leads = x.leads }
 
 pub record Concluded (d : Tabulation) (old new : List Symbol) (after : List Action) : Type 0 where
   pub stands : Stands d Ended after (reverse new)

@@ -6,6 +6,7 @@ pub mod Predictive
 pub mod Passes
 pub mod Text
 pub mod Computed
+pub mod Awaited
 pub mod Derived
 pub mod Reach
 pub mod Recognized

@@ -1,5 +1,5 @@
 -- Where a recognizer stands: what its actions so far and its stack have to do with derivations.
-use Rattle.std.specs.Prelude.{◌≡◌, ℕ, Bool, nat_eq, List, [], ◌∷◌, ◌++◌}
+use Rattle.std.specs.Prelude.{◌≡◌, ℕ, Bool, nat_eq, List, [], ◌∷◌, ◌++◌, Some}
 use Rattle.sh_grammar.specs.declared.Symbol.{Symbol}
 use Rattle.sh_grammar.specs.declared.Symbol.TheVariants.{Nonterminal}
 use Rattle.sh_grammar.specs.declared.Token.{Token}
@@ -10,6 +10,7 @@ use Rattle.sh_grammar.specs.Tabulation.{Tabulation, grammar_of}
 use Rattle.sh_grammar.specs.Table.{Table, table_of}
 use Rattle.sh_grammar.specs.Predictive.{Evidence, Fits, Ends}
 use Rattle.sh_grammar.specs.Passes.{Witness, evidence_of, Passes}
+use Rattle.sh_grammar.specs.Computed.{stack_after}
 
 -- what is known of the tokens to come: nothing, the next one, or that there is none
 abbrev pub Any : List Token → Type 0
@@ -47,3 +48,8 @@ pub record Stands (d : Tabulation) (ahead : List Token → Type 0) (done : List 
   pub witness : Witness
   pub passes : Passes d witness
   pub reaches : Reaches (grammar_of d) (table_of d) (evidence_of d witness) ahead done stack
+
+-- and the stack is the computed one
+pub record Keeps (d : Tabulation) (done : List Action) (stack : List Symbol) : Type 0 where
+  pub stands : Stands d Any done stack
+  pub computed : stack_after (grammar_of d) (table_of d) (Some (Nonterminal d.start ∷ [])) (shifted done) ≡ Some stack

@@ -1,7 +1,9 @@
 //! A grammar and its parsing table, and what is looked up there.
 ghost use Rattle.std.specs.Prelude.{◌≡◌, reverse, slice_index, slice_index_or, map, []};
 ghost use Rattle.sh_grammar.specs.Tabulation.{tabulation_of, grammar_of, in_set, has, prediction};
+ghost use Rattle.std.specs.List.{count_by};
 ghost use Rattle.sh_grammar.specs.Table.{table_of, first_of, nullable_of};
+ghost use Rattle.sh_grammar.specs.Awaited.{is_nonterminal};
 
 use crate::Symbol;
 use crate::Symbol::{Nonterminal, Terminal};
@@ -127,4 +129,23 @@ pub(crate) fn may_vanish(tables: &Tables<'_>, stack: &[Symbol]) -> bool
         rest = below;
     }
     true
+}
+
+fn is_of_name(symbol: Symbol, name: u8) -> bool
+    ensures { result ≡ is_nonterminal name symbol }
+{
+    match symbol {
+        Terminal(_) => false,
+        Nonterminal(found) => found == name,
+    }
+}
+
+/// How many symbols of a stack are the nonterminal of a number.
+pub(crate) fn count(stack: &[Symbol], name: u8) -> usize
+    ensures { result ≡ count_by (is_nonterminal name) stack.now }
+{
+    stack
+        .iter()
+        .filter(|symbol| is_of_name(**symbol, name))
+        .count()
 }

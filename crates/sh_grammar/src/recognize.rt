@@ -1,5 +1,5 @@
 //! The recognizer: a stack of the symbols that are still to come.
-ghost use Rattle.std.specs.Prelude.{◌≡◌, ◌↔◌, ◌++◌, ◌∷◌, [], List, reverse, if◌then◌else◌, true, IsTrue, IfOk, OnOk, OnErr, MatchOption, take};
+ghost use Rattle.std.specs.Prelude.{◌≡◌, ◌↔◌, ◌++◌, ◌∷◌, [], List, reverse, Some, if◌then◌else◌, true, IsTrue, IfOk, OnOk, OnErr, MatchOption, take};
 ghost use Rattle.sh_grammar.specs.declared.Symbol.{Symbol};
 ghost use Rattle.sh_grammar.specs.declared.Token.{Token};
 ghost use Rattle.sh_grammar.specs.Grammar.{Tree};
@@ -8,11 +8,13 @@ ghost use Rattle.sh_grammar.specs.Tabulation.{tabulation_of, grammar_of};
 ghost use Rattle.sh_grammar.specs.Table.{table_of, first_of, nullable_of};
 ghost use Rattle.sh_grammar.specs.Passes.{IsPredictive};
 ghost use Rattle.sh_grammar.specs.Text.{IsTreeOf, IsText, BeginsText};
-ghost use Rattle.sh_grammar.specs.Reach.{Stands, Begins, Ended, Any, Extends};
+ghost use Rattle.sh_grammar.specs.Computed.{taken};
+ghost use Rattle.sh_grammar.specs.Awaited.{awaited};
+ghost use Rattle.sh_grammar.specs.Reach.{Stands, Begins, Ended, Any, Extends, Keeps};
 ghost use Rattle.sh_grammar.specs.Recognized.{Recognized};
 
 use crate::Symbol::{Nonterminal, Terminal};
-use crate::lookup::{begins, body, may_vanish, predicted};
+use crate::lookup::{begins, body, count, may_vanish, predicted};
 use crate::{Action, Actions, Symbol, Tables, Token};
 use std::alloc::{AllocError, Global};
 use std::marker::Model;
@@ -57,6 +59,7 @@ fn lead(
     ensures stands { IfOk result (λ kept. Stands (tabulation_of tables.now) Any done.new.items (reverse (take kept stack.now ++ above.new.items))) }
     ensures taken { OnOk result (shifted done.new.items ≡ shifted done.old.items ++ token ∷ []) }
     ensures extended { Extends done.old.items done.new.items }
+    ensures computed { IfOk result (λ kept. taken (grammar_of (tabulation_of tables.now)) (table_of (tabulation_of tables.now)) (reverse stack.now) token.class ≡ Some (reverse (take kept stack.now ++ above.new.items))) }
 {
     above.clear();
     let mut kept = stack;
@@ -101,6 +104,7 @@ fn advance(
     ensures stands { OnOk result (Stands (tabulation_of tables.now) Any done.new.items (reverse stack.new.items)) }
     ensures taken { OnOk result (shifted done.new.items ≡ shifted done.old.items ++ token ∷ []) }
     ensures extended { Extends done.old.items done.new.items }
+    ensures computed { OnOk result (taken (grammar_of (tabulation_of tables.now)) (table_of (tabulation_of tables.now)) (reverse stack.old.items) token.class ≡ Some (reverse stack.new.items)) }
     ensures err { OnErr result (stack.new.items ≡ stack.old.items) }
 {
     let kept = lead(tables, stack, above, done, token)?;
@@ -148,7 +152,7 @@ impl<'t> Model for Recognizer<'t> {
 
     ghost view = { λ r. record { grammar = tabulation_of r.tables; tokens = shifted r.done.items } };
 
-    ghost invariant = { λ r. Stands (tabulation_of r.tables) Any r.done.items (reverse r.stack.items) };
+    ghost invariant = { λ r. Keeps (tabulation_of r.tables) r.done.items (reverse r.stack.items) };
 }
 
 impl<'t> Recognizer<'t> {
@@ -179,6 +183,15 @@ impl<'t> Recognizer<'t> {
         ensures { IsTrue result ↔ IsText self.now.grammar self.now.tokens }
     {
         may_vanish(&self.tables, &self.stack)
+    }
+
+    /// How many nonterminals of a number are still to come: the productions that hold them have begun, and they haven't.
+    /// One that stands at the end of a production so marks how often that production has begun and isn't over. The time
+    /// goes by the productions that have begun and aren't over. It takes no memory.
+    pub fn awaits(&self, nonterminal: u8) -> usize
+        ensures { result ≡ awaited self.now.grammar nonterminal self.now.tokens }
+    {
+        count(&self.stack, nonterminal)
     }
 
     /// Takes a token, or refuses it: exactly where the tokens with it no longer begin a text.

@@ -122,3 +122,23 @@ fn no_derivation_of_a_front(rt: HostRuntime) -> Result<(), AllocError> {
     assert!(rt; recognizer.finish()?.is_none());
     Ok(())
 }
+
+#[test]
+fn nonterminals_to_come(rt: HostRuntime) -> Result<(), AllocError> {
+    let mut recognizer = Recognizer::new(rt.alloc(), tables())?;
+    assert_eq!(rt; recognizer.awaits(0), 1);
+    assert_eq!(rt; recognizer.take(token(OPEN, 0)), Ok(true));
+    assert_eq!(rt; recognizer.take(token(WORD, 1)), Ok(true));
+    // the words and the items behind this one, and the items behind the parentheses
+    assert_eq!(rt; recognizer.awaits(0), 2);
+    assert_eq!(rt; recognizer.awaits(1), 0);
+    assert_eq!(rt; recognizer.awaits(2), 1);
+    assert_eq!(rt; recognizer.awaits(200), 0);
+    // a refused token changes nothing
+    assert_eq!(rt; recognizer.take(token(3, 2)), Ok(false));
+    assert_eq!(rt; recognizer.awaits(0), 2);
+    assert_eq!(rt; recognizer.take(token(CLOSE, 2)), Ok(true));
+    assert_eq!(rt; recognizer.awaits(0), 1);
+    assert_eq!(rt; recognizer.awaits(2), 0);
+    Ok(())
+}

@@ -4,6 +4,8 @@ use Rattle.sh_grammar.specs.Leftmost.{shifted}
 use Rattle.sh_grammar.specs.Tabulation.{tabulation_of, grammar_of}
 use Rattle.sh_grammar.specs.Table.{table_of, first_of, cost_of}
 use Rattle.sh_grammar.specs.Reach.{Stands, Begins, Extends}
+use Rattle.sh_grammar.specs.Computed.{taken}
+use Rattle.sh_grammar.proofs.Kept.{Leads}
 use Rattle.sh_grammar.proofs.recognize.lead.Given as goal
 
 abbrev pub invariant-loop-top : goal.invariant-loop-top
@@ -13,6 +15,7 @@ invariant-loop-top l =
       begins : first_of (grammar_of (tabulation_of l.tables)) (table_of (tabulation_of l.tables)) (reverse (l.kept ++ l.above.items)) l.token.class ≡ true;
       text : shifted l.done.items ≡ shifted l.fn.done.items;
       extended : Extends l.fn.done.items l.done.items;
+      leads : Leads (tabulation_of l.tables) (taken (grammar_of (tabulation_of l.tables)) (table_of (tabulation_of l.tables)) (reverse l.stack) l.token.class) l.token.class (reverse (l.kept ++ l.above.items));
       stays : (gone : List Symbol) × (l.stack ≡ l.kept ++ gone);
     }
 

@@ -1,14 +1,20 @@
 use Rattle.std.proofs.Common.{reverse, refl, sym, ap, ◌∙◌}
 use Rattle.sh_grammar.specs.Tabulation.{tabulation_of}
+use Rattle.sh_grammar.proofs.Kept.{keeps_taken}
 use Rattle.sh_grammar.proofs.Standing.{front_both}
 use Rattle.sh_grammar.proofs.recognize.Recognizer.take.Goals as goal
 
 pub returns-then-not-begins-clause-front : goal.returns-then-not-begins-clause-front
 returns-then-not-begins-clause-front c =
     front_both (tabulation_of c.self.inside.tables) c.self.inside.done.items (reverse c.self.inside.stack.items) (reverse c.deref.result.now) c.args.self.now c.args.token c.args.token.class _
-    c.self.invariant c.self.view_is (ap reverse c.deref.ensures.value) refl (sym c.if-not-begins.true ∙ c.begins.ensures)
+    c.self.invariant.stands c.self.view_is (ap reverse c.deref.ensures.value) refl (sym c.if-not-begins.true ∙ c.begins.ensures)
 
 pub returns-clause-front : goal.returns-clause-front
 returns-clause-front c =
     front_both (tabulation_of c.self.inside.tables) c.self.inside.done.items (reverse c.self.inside.stack.items) (reverse c.deref.result.now) c.args.self.now c.args.token c.args.token.class _
-    c.self.invariant c.self.view_is (ap reverse c.deref.ensures.value) refl (sym c.if-not-begins.false ∙ c.begins.ensures)
+    c.self.invariant.stands c.self.view_is (ap reverse c.deref.ensures.value) refl (sym c.if-not-begins.false ∙ c.begins.ensures)
+
+pub invariant_of-self-in_default : goal.invariant_of-self-in_default
+invariant_of-self-in_default c =
+    keeps_taken (tabulation_of c.self.inside.tables) c.self.inside.done.items c.advance-advanced.new.done.items (reverse c.self.inside.stack.items) (reverse c.advance-advanced.new.stack.items) c.args.token
+    c.self.invariant c.in_default.ensures.stands c.in_default.ensures.taken c.in_default.ensures.computed
