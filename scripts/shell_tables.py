@@ -74,12 +74,12 @@ more_and_ors -> And newlines last_and_ors
 more_and_ors -> Newline newlines last_and_ors
 last_and_ors ->
 last_and_ors -> and_or more_and_ors
-compound -> LeftBrace compound_list RightBrace
-compound -> LeftParenthesis compound_list RightParenthesis
-compound -> If compound_list Then compound_list else_part Fi
-compound -> loop compound_list Do compound_list Done
-compound -> For variable_name behind_variable
-compound -> Case any_word newlines In newlines items Esac
+compound -> LeftBrace compound_list RightBrace compound_end
+compound -> LeftParenthesis compound_list RightParenthesis compound_end
+compound -> If compound_list Then compound_list else_part Fi compound_end
+compound -> loop compound_list Do compound_list Done compound_end
+compound -> For variable_name behind_variable compound_end
+compound -> Case any_word newlines In newlines items Esac compound_end
 else_part ->
 else_part -> Elif compound_list Then compound_list else_part
 else_part -> Else compound_list
@@ -105,6 +105,7 @@ item_end -> DoubleSemicolon newlines items
 substituted -> newlines substituted_list
 substituted_list ->
 substituted_list -> and_or more_and_ors
+compound_end ->
 '''
 STARTS = ['complete_command', 'substituted']
 

@@ -6,8 +6,8 @@ use Rattle.sh_grammar.specs.Passes.{Witness}
 unfoldable pub witness : Witness
 witness =
     record {
-      follows = 2147483648 ∷ 2147483648 ∷ 2147483648 ∷ 2221384131 ∷ 2221384131 ∷ 2221384143 ∷ 2221384143 ∷ 2221384159 ∷ 2221384159 ∷ 2221384159 ∷ 2221384159 ∷ 2221384159 ∷ 4294967263 ∷ 4294967008 ∷ 6791232 ∷ 2221383872 ∷ 2221383872 ∷ 2221385695 ∷ 262144 ∷ 2221385695 ∷ 2221385695 ∷ 2221385695 ∷ 67108864 ∷ 64 ∷ 67108864 ∷ 67108864 ∷ 67108864 ∷ 2147483648 ∷ 2147483648 ∷ [];
-      empties = 0 ∷ 1 ∷ 4 ∷ 0 ∷ 7 ∷ 0 ∷ 12 ∷ 0 ∷ 20 ∷ 21 ∷ 25 ∷ 28 ∷ 0 ∷ 32 ∷ 0 ∷ 35 ∷ 39 ∷ 0 ∷ 47 ∷ 0 ∷ 0 ∷ 0 ∷ 59 ∷ 62 ∷ 64 ∷ 65 ∷ 67 ∷ 69 ∷ 70 ∷ [];
+      follows = 2147483648 ∷ 2147483648 ∷ 2147483648 ∷ 2221384131 ∷ 2221384131 ∷ 2221384143 ∷ 2221384143 ∷ 2221384159 ∷ 2221384159 ∷ 2221384159 ∷ 2221384159 ∷ 2221384159 ∷ 4294967263 ∷ 4294967008 ∷ 6791232 ∷ 2221383872 ∷ 2221383872 ∷ 2221385695 ∷ 262144 ∷ 2221385695 ∷ 2221385695 ∷ 2221385695 ∷ 67108864 ∷ 64 ∷ 67108864 ∷ 67108864 ∷ 67108864 ∷ 2147483648 ∷ 2147483648 ∷ 2221385695 ∷ [];
+      empties = 0 ∷ 1 ∷ 4 ∷ 0 ∷ 7 ∷ 0 ∷ 12 ∷ 0 ∷ 20 ∷ 21 ∷ 25 ∷ 28 ∷ 0 ∷ 32 ∷ 0 ∷ 35 ∷ 39 ∷ 0 ∷ 47 ∷ 0 ∷ 0 ∷ 0 ∷ 59 ∷ 62 ∷ 64 ∷ 65 ∷ 67 ∷ 69 ∷ 70 ∷ 72 ∷ [];
       samples =
           (Expand 0 ∷ Expand 6 ∷ Expand 11 ∷ Expand 16 ∷ Shift (record { class = 28; id = 0 }) ∷ Expand 25 ∷ Expand 12 ∷ Expand 7 ∷ Expand 1 ∷ []) ∷
           (Expand 1 ∷ []) ∷
@@ -26,7 +26,7 @@ witness =
           (Expand 34 ∷ Expand 32 ∷ Expand 6 ∷ Expand 11 ∷ Expand 16 ∷ Shift (record { class = 28; id = 0 }) ∷ Expand 25 ∷ Expand 12 ∷ Expand 7 ∷ Expand 36 ∷ Shift (record { class = 0; id = 0 }) ∷ Expand 32 ∷ Expand 39 ∷ []) ∷
           (Expand 36 ∷ Shift (record { class = 0; id = 0 }) ∷ Expand 32 ∷ Expand 39 ∷ []) ∷
           (Expand 39 ∷ []) ∷
-          (Expand 46 ∷ Shift (record { class = 25; id = 0 }) ∷ Shift (record { class = 11; id = 0 }) ∷ Expand 32 ∷ Shift (record { class = 24; id = 0 }) ∷ Expand 32 ∷ Expand 59 ∷ Shift (record { class = 26; id = 0 }) ∷ []) ∷
+          (Expand 46 ∷ Shift (record { class = 25; id = 0 }) ∷ Shift (record { class = 11; id = 0 }) ∷ Expand 32 ∷ Shift (record { class = 24; id = 0 }) ∷ Expand 32 ∷ Expand 59 ∷ Shift (record { class = 26; id = 0 }) ∷ Expand 72 ∷ []) ∷
           (Expand 47 ∷ []) ∷
           (Expand 50 ∷ Shift (record { class = 21; id = 0 }) ∷ Expand 34 ∷ Expand 32 ∷ Expand 6 ∷ Expand 11 ∷ Expand 16 ∷ Shift (record { class = 28; id = 0 }) ∷ Expand 25 ∷ Expand 12 ∷ Expand 7 ∷ Expand 36 ∷ Shift (record { class = 0; id = 0 }) ∷ Expand 32 ∷ Expand 39 ∷ Shift (record { class = 22; id = 0 }) ∷ []) ∷
           (Expand 54 ∷ Shift (record { class = 21; id = 0 }) ∷ Expand 34 ∷ Expand 32 ∷ Expand 6 ∷ Expand 11 ∷ Expand 16 ∷ Shift (record { class = 28; id = 0 }) ∷ Expand 25 ∷ Expand 12 ∷ Expand 7 ∷ Expand 36 ∷ Shift (record { class = 0; id = 0 }) ∷ Expand 32 ∷ Expand 39 ∷ Shift (record { class = 22; id = 0 }) ∷ []) ∷
@@ -38,7 +38,8 @@ witness =
           (Expand 67 ∷ []) ∷
           (Expand 69 ∷ Expand 32 ∷ Expand 71 ∷ Expand 6 ∷ Expand 11 ∷ Expand 16 ∷ Shift (record { class = 28; id = 0 }) ∷ Expand 25 ∷ Expand 12 ∷ Expand 7 ∷ Expand 36 ∷ Shift (record { class = 0; id = 0 }) ∷ Expand 32 ∷ Expand 39 ∷ []) ∷
           (Expand 71 ∷ Expand 6 ∷ Expand 11 ∷ Expand 16 ∷ Shift (record { class = 28; id = 0 }) ∷ Expand 25 ∷ Expand 12 ∷ Expand 7 ∷ Expand 36 ∷ Shift (record { class = 0; id = 0 }) ∷ Expand 32 ∷ Expand 39 ∷ []) ∷
+          (Expand 72 ∷ []) ∷
           [];
-      safes = 2147485695 ∷ 2147485695 ∷ 2147485695 ∷ 2147485695 ∷ 2147485695 ∷ 2147485695 ∷ 2147485695 ∷ 2147485695 ∷ 2147485695 ∷ 2147485695 ∷ 2147485695 ∷ 4294967295 ∷ 4294967295 ∷ 4294967295 ∷ 4294967295 ∷ 4294967295 ∷ 4294967295 ∷ 4294967295 ∷ 4294967295 ∷ 4294967295 ∷ 4294967295 ∷ 4294967295 ∷ 4294967295 ∷ 4294967295 ∷ 4294967295 ∷ 4294967295 ∷ 4294967295 ∷ 4294967295 ∷ 4294967295 ∷ [];
+      safes = 2147485695 ∷ 2147485695 ∷ 2147485695 ∷ 2147485695 ∷ 2147485695 ∷ 2147485695 ∷ 2147485695 ∷ 2147485695 ∷ 2147485695 ∷ 2147485695 ∷ 2147485695 ∷ 4294967295 ∷ 4294967295 ∷ 4294967295 ∷ 4294967295 ∷ 4294967295 ∷ 4294967295 ∷ 4294967295 ∷ 4294967295 ∷ 4294967295 ∷ 4294967295 ∷ 4294967295 ∷ 4294967295 ∷ 4294967295 ∷ 4294967295 ∷ 4294967295 ∷ 4294967295 ∷ 4294967295 ∷ 4294967295 ∷ 4294967295 ∷ [];
       kinds = 0 ∷ 1 ∷ 2 ∷ 3 ∷ 4 ∷ 5 ∷ 6 ∷ 7 ∷ 8 ∷ 9 ∷ 10 ∷ 11 ∷ 12 ∷ 13 ∷ 14 ∷ 15 ∷ 16 ∷ 17 ∷ 18 ∷ 19 ∷ 20 ∷ 21 ∷ 22 ∷ 23 ∷ 24 ∷ 25 ∷ 26 ∷ 11 ∷ 27 ∷ 27 ∷ 28 ∷ 11 ∷ 29 ∷ 11 ∷ 19 ∷ [];
     }

@@ -188,6 +188,10 @@ substituted = Nonterminal 27
 abbrev pub substituted_list : Symbol
 substituted_list = Nonterminal 28
 
+-- the end of a compound command, a mark that stands for nothing: as long as it is awaited the command is open
+abbrev pub compound_end : Symbol
+compound_end = Nonterminal 29
+
 abbrev pub number_of : Symbol → ℕ
 number_of (Terminal k) = k
 number_of (Nonterminal n) = n
@@ -253,12 +257,12 @@ productions =
     ∷ rule more_and_ors (token Newline ∷ newlines ∷ last_and_ors ∷ [])
     ∷ rule last_and_ors []
     ∷ rule last_and_ors (and_or ∷ more_and_ors ∷ [])
-    ∷ rule compound (token LeftBrace ∷ compound_list ∷ token RightBrace ∷ [])
-    ∷ rule compound (token LeftParenthesis ∷ compound_list ∷ token RightParenthesis ∷ [])
-    ∷ rule compound (token If ∷ compound_list ∷ token Then ∷ compound_list ∷ else_part ∷ token Fi ∷ [])
-    ∷ rule compound (loop ∷ compound_list ∷ token Do ∷ compound_list ∷ token Done ∷ [])
-    ∷ rule compound (token For ∷ variable_name ∷ behind_variable ∷ [])
-    ∷ rule compound (token Case ∷ any_word ∷ newlines ∷ token In ∷ newlines ∷ items ∷ token Esac ∷ [])
+    ∷ rule compound (token LeftBrace ∷ compound_list ∷ token RightBrace ∷ compound_end ∷ [])
+    ∷ rule compound (token LeftParenthesis ∷ compound_list ∷ token RightParenthesis ∷ compound_end ∷ [])
+    ∷ rule compound (token If ∷ compound_list ∷ token Then ∷ compound_list ∷ else_part ∷ token Fi ∷ compound_end ∷ [])
+    ∷ rule compound (loop ∷ compound_list ∷ token Do ∷ compound_list ∷ token Done ∷ compound_end ∷ [])
+    ∷ rule compound (token For ∷ variable_name ∷ behind_variable ∷ compound_end ∷ [])
+    ∷ rule compound (token Case ∷ any_word ∷ newlines ∷ token In ∷ newlines ∷ items ∷ token Esac ∷ compound_end ∷ [])
     ∷ rule else_part []
     ∷ rule else_part (token Elif ∷ compound_list ∷ token Then ∷ compound_list ∷ else_part ∷ [])
     ∷ rule else_part (token Else ∷ compound_list ∷ [])
@@ -284,6 +288,7 @@ productions =
     ∷ rule substituted (newlines ∷ substituted_list ∷ [])
     ∷ rule substituted_list []
     ∷ rule substituted_list (and_or ∷ more_and_ors ∷ [])
+    ∷ rule compound_end []
     ∷ []
 
 -- the grammar with this start symbol, and the parser's table for it, which says nothing of what derives

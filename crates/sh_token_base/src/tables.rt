@@ -3,14 +3,14 @@ use sh_grammar::Symbol;
 use sh_grammar::Symbol::{Nonterminal, Terminal};
 
 /// The head of each production.
-pub(crate) const HEADS: [u8; 72] = [
+pub(crate) const HEADS: [u8; 73] = [
     0, 1, 1, 1, 2, 2, 3, 4, 4, 4, 5, 5, 6, 6, 7, 7, 7, 7, 7, 8, 8, 9, 9, 9, 9, 10, 10, 10, 11, 11,
     12, 12, 13, 13, 14, 15, 15, 15, 15, 16, 16, 17, 17, 17, 17, 17, 17, 18, 18, 18, 19, 19, 19, 19,
-    20, 20, 21, 21, 21, 22, 22, 22, 23, 23, 24, 25, 25, 26, 26, 27, 28, 28,
+    20, 20, 21, 21, 21, 22, 22, 22, 23, 23, 24, 25, 25, 26, 26, 27, 28, 28, 29,
 ];
 
 /// What each production stands for.
-pub(crate) const BODIES: [&[Symbol]; 72] = [
+pub(crate) const BODIES: [&[Symbol]; 73] = [
     // complete_command -> and_or others
     &[Nonterminal(3), Nonterminal(1)],
     // others ->
@@ -99,11 +99,11 @@ pub(crate) const BODIES: [&[Symbol]; 72] = [
     &[],
     // last_and_ors -> and_or more_and_ors
     &[Nonterminal(3), Nonterminal(15)],
-    // compound -> LeftBrace compound_list RightBrace
-    &[Terminal(12), Nonterminal(14), Terminal(13)],
-    // compound -> LeftParenthesis compound_list RightParenthesis
-    &[Terminal(5), Nonterminal(14), Terminal(6)],
-    // compound -> If compound_list Then compound_list else_part Fi
+    // compound -> LeftBrace compound_list RightBrace compound_end
+    &[Terminal(12), Nonterminal(14), Terminal(13), Nonterminal(29)],
+    // compound -> LeftParenthesis compound_list RightParenthesis compound_end
+    &[Terminal(5), Nonterminal(14), Terminal(6), Nonterminal(29)],
+    // compound -> If compound_list Then compound_list else_part Fi compound_end
     &[
         Terminal(14),
         Nonterminal(14),
@@ -111,18 +111,20 @@ pub(crate) const BODIES: [&[Symbol]; 72] = [
         Nonterminal(14),
         Nonterminal(18),
         Terminal(18),
+        Nonterminal(29),
     ],
-    // compound -> loop compound_list Do compound_list Done
+    // compound -> loop compound_list Do compound_list Done compound_end
     &[
         Terminal(34),
         Nonterminal(14),
         Terminal(21),
         Nonterminal(14),
         Terminal(22),
+        Nonterminal(29),
     ],
-    // compound -> For variable_name behind_variable
-    &[Terminal(23), Terminal(29), Nonterminal(19)],
-    // compound -> Case any_word newlines In newlines items Esac
+    // compound -> For variable_name behind_variable compound_end
+    &[Terminal(23), Terminal(29), Nonterminal(19), Nonterminal(29)],
+    // compound -> Case any_word newlines In newlines items Esac compound_end
     &[
         Terminal(25),
         Terminal(27),
@@ -131,6 +133,7 @@ pub(crate) const BODIES: [&[Symbol]; 72] = [
         Nonterminal(13),
         Nonterminal(22),
         Terminal(26),
+        Nonterminal(29),
     ],
     // else_part ->
     &[],
@@ -212,10 +215,12 @@ pub(crate) const BODIES: [&[Symbol]; 72] = [
     &[],
     // substituted_list -> and_or more_and_ors
     &[Nonterminal(3), Nonterminal(15)],
+    // compound_end ->
+    &[],
 ];
 
 /// The classes that may come next where a production is used.
-pub(crate) const GUARDS: [u64; 72] = [
+pub(crate) const GUARDS: [u64; 73] = [
     0xffffffff, 0xffffffff, 0xffffffff, 0xffffffff, 0xffffffff, 0xffffffff, 0xffffffff, 0xffffffff,
     0xffffffff, 0xffffffff, 0xffffffff, 0xffffffff, 0xffffffff, 0xffffffff, 0xffffffff, 0xffffffff,
     0xffffffff, 0xffffffff, 0xffffffff, 0xffffffff, 0xffffffff, 0x800007ff, 0xffffffff, 0xffffffff,
@@ -225,6 +230,7 @@ pub(crate) const GUARDS: [u64; 72] = [
     0xffffffff, 0xffffffff, 0xffffffff, 0xffffffff, 0xffffffff, 0xffffffff, 0xffffffff, 0xffffffff,
     0xffffffff, 0xffffffff, 0xffffffff, 0xffffffff, 0xffffffff, 0xffffffff, 0xffffffff, 0xffffffff,
     0xffffffff, 0xffffffff, 0xffffffff, 0xffffffff, 0xffffffff, 0xffffffff, 0xffffffff, 0xffffffff,
+    0xffffffff,
 ];
 
 /// The classes of each terminal.
@@ -236,22 +242,23 @@ pub(crate) const TERMINALS: [u64; 35] = [
 ];
 
 /// The classes with which a nonterminal may begin.
-pub(crate) const FIRSTS: [u64; 29] = [
+pub(crate) const FIRSTS: [u64; 30] = [
     0x7a985e20, 0x3, 0x7a985e20, 0x7a985e20, 0xc, 0x7a985e20, 0x10, 0x7a985620, 0x7ffffe20,
     0x7ffffe00, 0x7ffffe00, 0x600, 0x600, 0x100, 0x7a985f20, 0x103, 0x7a985e20, 0x2985020, 0x30000,
     0x1200101, 0x1200000, 0x7ffff901, 0x7bfff820, 0x10, 0x7a985fa0, 0x7a985ea0, 0x80, 0x7a985f20,
-    0x7a985e20,
+    0x7a985e20, 0x0,
 ];
 
 /// The classes before which a nonterminal may stand for nothing.
-pub(crate) const NULLABLES: [u64; 29] = [
+pub(crate) const NULLABLES: [u64; 30] = [
     0x0, 0xffffffff, 0xffffffff, 0x0, 0xffffffff, 0x0, 0xffffffff, 0x0, 0x800007ff, 0x800007ff,
     0x800007ff, 0xffffffff, 0x0, 0xffffffff, 0x0, 0xffffffff, 0xffffffff, 0x0, 0xffffffff, 0x0,
     0x0, 0x0, 0xffffffff, 0xffffffff, 0xffffffff, 0xffffffff, 0xffffffff, 0xffffffff, 0xffffffff,
+    0xffffffff,
 ];
 
 /// The production to use, by nonterminal and class.
-pub(crate) const PREDICTS: [u8; 928] = [
+pub(crate) const PREDICTS: [u8; 960] = [
     0, 0, 0, 0, 0, 0, 0, 0, 0, 0, 0, 0, 0, 0, 0, 0, 0, 0, 0, 0, 0, 0, 0, 0, 0, 0, 0, 0, 0, 0, 0, 0,
     2, 3, 0, 0, 0, 0, 0, 0, 0, 0, 0, 0, 0, 0, 0, 0, 0, 0, 0, 0, 0, 0, 0, 0, 0, 0, 0, 0, 0, 0, 0, 1,
     0, 0, 0, 0, 0, 5, 0, 0, 0, 5, 5, 5, 5, 0, 5, 0, 0, 0, 0, 5, 5, 0, 0, 5, 0, 5, 0, 5, 5, 5, 5, 4,
@@ -285,7 +292,8 @@ pub(crate) const PREDICTS: [u8; 928] = [
     0, 0, 0, 0, 0, 0, 0, 0, 0, 0, 0, 0, 0, 0, 0, 0, 67, 0, 0, 0, 0, 0, 0, 0, 0, 0, 0, 69, 0, 0, 69,
     69, 69, 69, 69, 0, 69, 0, 0, 0, 0, 69, 69, 0, 0, 69, 0, 69, 0, 69, 69, 69, 69, 69, 0, 0, 0, 0,
     0, 71, 0, 0, 0, 71, 71, 71, 71, 0, 71, 0, 0, 0, 0, 71, 71, 0, 0, 71, 0, 71, 0, 71, 71, 71, 71,
-    70,
+    70, 72, 72, 72, 72, 72, 0, 72, 72, 72, 72, 72, 0, 0, 72, 0, 72, 72, 72, 72, 0, 0, 72, 72, 0, 0,
+    0, 72, 0, 0, 0, 0, 72,
 ];
 
 /// The start symbol `complete_command`.
