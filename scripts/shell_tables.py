@@ -318,6 +318,7 @@ def print_tables():
         print(array(doc, name, kind, items).replace('const', 'pub(crate) const', 1))
     for start in STARTS:
         print(f'/// The start symbol `{start}`.\npub(crate) const {start.upper()}: u8 = {name_number[start]};\n')
+    print(f'/// The end of a compound command.\npub(crate) const COMPOUND_END: u8 = {name_number["compound_end"]};\n')
     print(f'/// The class of the end.\npub(crate) const ENDING: u8 = {number[END]};')
 
 

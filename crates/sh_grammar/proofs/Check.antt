@@ -26,7 +26,7 @@ below_at f (suc m) c h l =
     let both = and_parts (f m) (all_below f m) h in
     ⊎_elim (λ (k : c < m). below_at f m c both.1 k) (λ (k : m ≤ c). let e : m ≡ c = omega arith in subst (λ x. f x ≡ true) e both.0) (cases_lt c m)
 
-rules_at : (f : ℕ → Rule → Bool) (k : ℕ) (rules : List Rule) (p : ℕ) (r : Rule) → all_rules f k rules ≡ true → slice_get rules p ≡ Some r → f (k + p) r ≡ true
+pub rules_at : (f : ℕ → Rule → Bool) (k : ℕ) (rules : List Rule) (p : ℕ) (r : Rule) → all_rules f k rules ≡ true → slice_get rules p ≡ Some r → f (k + p) r ≡ true
 rules_at f k [] p r h e = absurd (cc)
 rules_at f k (x ∷ rules) zero r h e =
     let xr : x ≡ r = cc in

@@ -26,7 +26,7 @@ pub record Leads (d : Tabulation) (aim : Option (List Symbol)) (c : ℕ) (stack 
   pub enough : cost_of (table_of d) stack < bound
   pub is : lead (grammar_of d) (table_of d) bound stack c ≡ aim
 
-taken_is : (g : Grammar) (t : Table) (stack : List Symbol) (c : ℕ) → first_of g t stack c ≡ true → lead g t (suc (cost_of t stack)) stack c ≡ taken g t stack c
+pub taken_is : (g : Grammar) (t : Table) (stack : List Symbol) (c : ℕ) → first_of g t stack c ≡ true → lead g t (suc (cost_of t stack)) stack c ≡ taken g t stack c
 taken_is g t stack c h = rw h refl
 
 pub leads_start : (d : Tabulation) (stack : List Symbol) (c : ℕ) → first_of (grammar_of d) (table_of d) stack c ≡ true → Leads d (taken (grammar_of d) (table_of d) stack c) c stack

@@ -9,5 +9,6 @@ pub mod Deriving
 pub mod Stack
 pub mod Step
 pub mod Kept
+pub mod Around
 pub mod Standing
 pub mod Bits

@@ -7,6 +7,7 @@ pub mod Passes
 pub mod Text
 pub mod Computed
 pub mod Awaited
+pub mod Around
 pub mod Derived
 pub mod Reach
 pub mod Recognized

@@ -1,12 +1,14 @@
 //! Laws on the grammars that pass the test.
-ghost use Rattle.std.specs.Prelude.{◌≡◌, ◌≤◌, ◌↔◌, ℕ, List, IsTrue, length, take};
+ghost use Rattle.std.specs.Prelude.{◌≡◌, ◌<◌, ◌≤◌, ◌↔◌, ℕ, suc, List, IsTrue, length, take};
 ghost use Rattle.sh_grammar.specs.declared.Token.{Token};
 ghost use Rattle.sh_grammar.specs.Grammar.{Tree};
-ghost use Rattle.sh_grammar.specs.Tabulation.{Tabulation};
+ghost use Rattle.sh_grammar.specs.Tabulation.{Tabulation, grammar_of};
 ghost use Rattle.sh_grammar.specs.Passes.{IsPredictive};
 ghost use Rattle.sh_grammar.specs.Text.{IsTreeOf, IsText, BeginsText};
 ghost use Rattle.sh_grammar.specs.Computed.{is_whole, is_front, front_length};
 ghost use Rattle.sh_grammar.specs.Derived.{tree_of};
+ghost use Rattle.sh_grammar.specs.Awaited.{awaited};
+ghost use Rattle.sh_grammar.specs.Around.{Marks, nodes_around};
 
 /// Law: no tokens have two trees.
 pub fn one_tree()
@@ -31,4 +33,10 @@ pub fn front_length_is_longest()
 /// Law: the tree of tokens that derive from the start symbol is the computed `tree_of`.
 pub fn tree_is_computed()
     ensures { (d : Tabulation) → IsPredictive d → (tokens : List Token) (tree : Tree) → IsTreeOf d tokens tree → tree_of d tokens ≡ tree }
+{}
+
+/// Law: where a nonterminal marks the end of each production of another one, it is awaited behind a token of a text as
+/// often as there are nodes of these productions around that token.
+pub fn awaited_marks_are_around()
+    ensures { (d : Tabulation) → IsPredictive d → (m n : ℕ) → Marks d m n → (tokens : List Token) (tree : Tree) → IsTreeOf d tokens tree → (i : ℕ) → i < length tokens → awaited d m (take (suc i) tokens) ≡ nodes_around (grammar_of d).rules n tree i }
 {}

@@ -12,7 +12,8 @@ mod recognize;
 
 pub use derivation::Actions;
 pub use laws::{
-    front_begins_text, front_length_is_longest, one_tree, tree_is_computed, whole_is_text,
+    awaited_marks_are_around, front_begins_text, front_length_is_longest, one_tree,
+    tree_is_computed, whole_is_text,
 };
 pub use lookup::Tables;
 pub use recognize::Recognizer;

@@ -1,3 +1,4 @@
 pub mod Classes
 pub mod Shell
 pub mod Evidence
+pub mod Levels

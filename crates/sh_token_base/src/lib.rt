@@ -3,6 +3,7 @@
 
 pub mod class;
 pub mod grammar;
+pub mod levels;
 mod tables;
 #[cfg(test)]
 mod tests;

@@ -302,5 +302,8 @@ pub(crate) const COMPLETE_COMMAND: u8 = 0;
 /// The start symbol `substituted`.
 pub(crate) const SUBSTITUTED: u8 = 27;
 
+/// The end of a compound command.
+pub(crate) const COMPOUND_END: u8 = 29;
+
 /// The class of the end.
 pub(crate) const ENDING: u8 = 31;

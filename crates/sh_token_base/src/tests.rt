@@ -1,6 +1,7 @@
 //! Texts of the grammar, their tokens apart by spaces; `\` is a newline.
 use crate::class::{TokenClass, is_name};
 use crate::grammar::{complete_command, substituted};
+use crate::levels::{end_of_compound, open_compounds};
 use sh_grammar::{Recognizer, Token};
 use std::alloc::{AllocError, Global};
 use std::test::Fail;
@@ -150,6 +151,24 @@ a ;
 case a in a ) : ;; esac
 ( a ) ; { b ; }";
 
+/// Texts, each behind how many compound commands are open behind each of its tokens.
+const LEVELS: &[u8] = b"123 { ( if
+123 while until for
+00 a ;
+11100 ( a ) ; b
+111100 { : ; } ; :
+12221 ( ( a ) )
+000111100 f ( ) { a ; } > g
+0001 f ( ) {
+111111222111111 case a in ( b ) ( c ) ;; d ) e ;; esac
+11111 case a in b |
+111122221111 if a ; then { b ; } else c ; fi
+1222111100 while ( a ) do b ; done | c
+11111122221 for i in a ; do { b ; } done
+11123 for i do { (
+0012 a && ( {
+000 echo { if";
+
 fn class_of(piece: &[u8]) -> TokenClass {
     match piece {
         b";" => TokenClass::Semicolon,
@@ -181,6 +200,30 @@ fn read(mut recognizer: Recognizer<'_>, text: &[u8]) -> Result<(bool, usize), Al
         }
     }
     Ok((recognizer.may_end(), count))
+}
+
+/// Whether behind each token of a text, which is taken, as many compound commands are open as a digit says. The digits
+/// stand before the tokens.
+fn has_levels(mut recognizer: Recognizer<'_>, line: &[u8]) -> Result<bool, AllocError> {
+    let mut pieces = line.split(|b| *b == b' ');
+    let Some(digits) = pieces.next() else {
+        return Ok(false);
+    };
+    let mut id = 0usize;
+    for piece in pieces {
+        let class = class_of(piece).number();
+        if !recognizer.take(Token { class, id })? {
+            return Ok(false);
+        }
+        let Some(digit) = digits.get(id) else {
+            return Ok(false);
+        };
+        if open_compounds(&recognizer) != usize::from(digit.saturating_sub(b'0')) {
+            return Ok(false);
+        }
+        id = id.saturating_add(1);
+    }
+    Ok(id == digits.len())
 }
 
 fn command(alloc: Global, text: &[u8]) -> Result<(bool, usize), AllocError> {
@@ -237,6 +280,35 @@ fn substituted_texts(rt: HostRuntime) -> Result<(), Fail> {
     assert_eq!(rt; found, (false, 1));
     let found = substitution(rt.alloc(), b"a ;; b")?;
     assert_eq!(rt; found, (false, 1));
+    Ok(())
+}
+
+#[test]
+fn open_levels(rt: HostRuntime) -> Result<(), Fail> {
+    for line in LEVELS.split(|b| *b == b'\n') {
+        let recognizer = Recognizer::new(rt.alloc(), complete_command())?;
+        assert!(rt; has_levels(recognizer, line)?);
+    }
+    let recognizer = Recognizer::new(rt.alloc(), substituted())?;
+    assert!(rt; has_levels(recognizer, b"0111011 \\ ( a ) \\ { b")?);
+    Ok(())
+}
+
+#[test]
+fn levels_behind_a_refused_token(rt: HostRuntime) -> Result<(), Fail> {
+    let mut recognizer = Recognizer::new(rt.alloc(), complete_command())?;
+    assert_eq!(rt; open_compounds(&recognizer), 0);
+    assert_eq!(rt; recognizer.awaits(end_of_compound()), 0);
+    let class = TokenClass::LeftBrace.number();
+    assert!(rt; recognizer.take(Token { class, id: 0 })?);
+    assert!(rt;
+        !recognizer.take(Token {
+            class: TokenClass::RightBrace.number(),
+            id: 1
+        })?
+    );
+    assert_eq!(rt; open_compounds(&recognizer), 1);
+    assert_eq!(rt; recognizer.awaits(end_of_compound()), 1);
     Ok(())
 }
 
