@@ -19,7 +19,7 @@ use Rattle.sh_parse_trees.proofs.Bools.{left_true, right_true}
 use Rattle.sh_parse_trees.proofs.Sorts.{Has, checked, tests}
 
 abbrev pub nonterminal_sorts : List ℕ
-nonterminal_sorts = 17 ∷ 16 ∷ 17 ∷ 15 ∷ 14 ∷ 13 ∷ 12 ∷ 11 ∷ 10 ∷ 9 ∷ 9 ∷ 8 ∷ 7 ∷ 0 ∷ 18 ∷ 16 ∷ 17 ∷ 19 ∷ 20 ∷ 22 ∷ 22 ∷ 21 ∷ 24 ∷ 23 ∷ 26 ∷ 26 ∷ 25 ∷ 17 ∷ 17 ∷ []
+nonterminal_sorts = 17 ∷ 16 ∷ 17 ∷ 15 ∷ 14 ∷ 13 ∷ 12 ∷ 11 ∷ 10 ∷ 9 ∷ 9 ∷ 8 ∷ 7 ∷ 0 ∷ 18 ∷ 16 ∷ 17 ∷ 19 ∷ 20 ∷ 22 ∷ 22 ∷ 21 ∷ 24 ∷ 23 ∷ 26 ∷ 26 ∷ 25 ∷ 17 ∷ 17 ∷ 0 ∷ []
 
 abbrev pub terminal_sorts : List ℕ
 terminal_sorts = 0 ∷ 0 ∷ 0 ∷ 0 ∷ 0 ∷ 0 ∷ 0 ∷ 0 ∷ 0 ∷ 4 ∷ 3 ∷ 0 ∷ 0 ∷ 0 ∷ 0 ∷ 0 ∷ 0 ∷ 0 ∷ 0 ∷ 0 ∷ 0 ∷ 0 ∷ 0 ∷ 0 ∷ 0 ∷ 0 ∷ 0 ∷ 1 ∷ 2 ∷ 2 ∷ 1 ∷ 1 ∷ 6 ∷ 1 ∷ 5 ∷ []

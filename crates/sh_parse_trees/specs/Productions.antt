@@ -1,5 +1,6 @@
 -- What each production of the grammar (XCU 2.10.2) is to the tree, in the order of the grammar: which symbols of its body matter, and its
--- kind. The others are tokens that the production names, as an operator or a reserved word, and newlines.
+-- kind. The others are tokens that the production names, as an operator or a reserved word, newlines, and the mark of the
+-- end of a compound command.
 use Rattle.std.specs.Prelude.{Bool, true, false, List, [], ◌∷◌, map}
 use Rattle.sh_tree.specs.declared.tree.Connector.TheVariants as connector
 use Rattle.sh_tree.specs.declared.tree.Separator.TheVariants as separator
@@ -107,18 +108,18 @@ productions =
     production [] Nothing ∷
     -- last_and_ors: and_or more_and_ors
     production (yes ∷ yes ∷ []) (Two two.List) ∷
-    -- compound: { compound_list }
-    production (no ∷ yes ∷ no ∷ []) (One one.Group) ∷
-    -- compound: ( compound_list )
-    production (no ∷ yes ∷ no ∷ []) (One one.Subshell) ∷
-    -- compound: if compound_list then compound_list else_part fi
-    production (no ∷ yes ∷ no ∷ yes ∷ yes ∷ no ∷ []) (Three three.If) ∷
-    -- compound: loop compound_list do compound_list done
-    production (yes ∷ yes ∷ no ∷ yes ∷ no ∷ []) (Three three.Loop) ∷
-    -- compound: for variable_name behind_variable
-    production (no ∷ yes ∷ yes ∷ []) (Two two.For) ∷
-    -- compound: case any_word newlines in newlines items esac
-    production (no ∷ yes ∷ no ∷ no ∷ no ∷ yes ∷ no ∷ []) (Two two.Case) ∷
+    -- compound: { compound_list } compound_end
+    production (no ∷ yes ∷ no ∷ no ∷ []) (One one.Group) ∷
+    -- compound: ( compound_list ) compound_end
+    production (no ∷ yes ∷ no ∷ no ∷ []) (One one.Subshell) ∷
+    -- compound: if compound_list then compound_list else_part fi compound_end
+    production (no ∷ yes ∷ no ∷ yes ∷ yes ∷ no ∷ no ∷ []) (Three three.If) ∷
+    -- compound: loop compound_list do compound_list done compound_end
+    production (yes ∷ yes ∷ no ∷ yes ∷ no ∷ no ∷ []) (Three three.Loop) ∷
+    -- compound: for variable_name behind_variable compound_end
+    production (no ∷ yes ∷ yes ∷ no ∷ []) (Two two.For) ∷
+    -- compound: case any_word newlines in newlines items esac compound_end
+    production (no ∷ yes ∷ no ∷ no ∷ no ∷ yes ∷ no ∷ no ∷ []) (Two two.Case) ∷
     -- else_part: nothing
     production [] Nothing ∷
     -- else_part: elif compound_list then compound_list else_part
@@ -169,6 +170,8 @@ productions =
     production [] Nothing ∷
     -- substituted_list: and_or more_and_ors
     production (yes ∷ yes ∷ []) (Two two.List) ∷
+    -- compound_end: nothing
+    production [] Nothing ∷
     []
 
 abbrev pub kept_symbols : List (List Bool)

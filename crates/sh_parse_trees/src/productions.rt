@@ -6,7 +6,7 @@ use sh_parse_trees_base::kind::{Binary, Item, Kind, Ternary, Unary};
 use sh_tree::tree::{Connector, Separator};
 
 /// What each production makes of the symbols that matter.
-const KINDS: [Kind; 72] = [
+const KINDS: [Kind; 73] = [
     Kind::Two(Binary::List),
     Kind::Nothing,
     Kind::One(Unary::Separated(Separator::Sequential)),
@@ -85,10 +85,12 @@ const KINDS: [Kind; 72] = [
     Kind::One(Unary::Same),
     Kind::Nothing,
     Kind::Two(Binary::List),
+    Kind::Nothing,
 ];
 
-/// Which symbols of each production's body matter: not a token that the production names, and not newlines.
-const KEPT: [&[bool]; 72] = [
+/// Which symbols of each production's body matter: not a token that the production names, not newlines,
+/// and not the mark of a compound command's end.
+const KEPT: [&[bool]; 73] = [
     &[true, true],
     &[],
     &[false, true],
@@ -130,12 +132,12 @@ const KEPT: [&[bool]; 72] = [
     &[false, false, true],
     &[],
     &[true, true],
-    &[false, true, false],
-    &[false, true, false],
-    &[false, true, false, true, true, false],
-    &[true, true, false, true, false],
-    &[false, true, true],
-    &[false, true, false, false, false, true, false],
+    &[false, true, false, false],
+    &[false, true, false, false],
+    &[false, true, false, true, true, false, false],
+    &[true, true, false, true, false, false],
+    &[false, true, true, false],
+    &[false, true, false, false, false, true, false, false],
     &[],
     &[false, true, false, true, true],
     &[false, true],
@@ -161,6 +163,7 @@ const KEPT: [&[bool]; 72] = [
     &[false, true],
     &[],
     &[true, true],
+    &[],
 ];
 
 fn kind_at(kinds: &[Kind], place: usize) -> Option<Kind>
