@@ -325,7 +325,7 @@ def print_tables():
 def print_witness():
     action = lambda a: f'Expand {a[1]}' if a[0] == 'expand' else f'Shift (record {{ class = {number[a[1]]}; id = 0 }})'
     print('-- What the test of the shell\'s table computes with, as scripts/shell_tables.py finds it; only proofs need it.')
-    print('use Rattle.std.specs.Prelude.{List, [], ◌∷◌}')
+    print('use Rattle.std.specs.Prelude.{[], ◌∷◌}')
     print('use Rattle.sh_grammar.specs.declared.Action.TheVariants.{Expand, Shift}')
     print('use Rattle.sh_grammar.specs.Passes.{Witness}\n')
     print('unfoldable pub witness : Witness\nwitness =\n    record {')

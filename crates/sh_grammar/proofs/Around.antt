@@ -1,7 +1,7 @@
 -- What a stack awaits of a mark is the number of nodes around the last token.
-use Rattle.std.proofs.Common.{◌≡◌, ⊎_elim, ℕ, zero, suc, ◌+◌, ◌-◌, ◌<◌, ◌≤◌, cond, Bool, true, false, List, [], ◌∷◌, ◌++◌, length, take, Option, Some, None, refl, sym, ap, ◌∙◌, subst, append_assoc, arith}
-use Rattle.std.specs.Prelude.{not, ◌&&◌, nat_eq, nat_lt, slice_get, if◌then◌else◌}
-use Rattle.std.specs.List.{count_by, sum_by}
+use Rattle.std.proofs.Common.{◌≡◌, ⊎_elim, ℕ, zero, suc, ◌+◌, ◌-◌, ◌<◌, ◌≤◌, cond, Bool, true, false, List, [], ◌∷◌, ◌++◌, length, take, Some, refl, sym, ap, ◌∙◌, subst, append_assoc, arith}
+use Rattle.std.specs.Prelude.{not, nat_eq, nat_lt, if◌then◌else◌}
+use Rattle.std.specs.List.{count_by}
 use Rattle.std.proofs.lemmas.Bool.{and_parts, cases_Bool, ltb-true, ltb-false, not-true}
 use Rattle.std.proofs.lemmas.List.{append-nil, length-append}
 use Rattle.std.proofs.lemmas.List.Sums.{sum_by-append, sum_by-cons}
@@ -12,13 +12,13 @@ use Rattle.sh_grammar.specs.declared.Action.{Action}
 use Rattle.sh_grammar.specs.declared.Action.TheVariants.{Expand, Shift}
 use Rattle.sh_grammar.specs.Around.{has_head, nodes_around, nodes_within, is_last_only, is_absent, is_empty, marks_rule, Marks}
 use Rattle.sh_grammar.specs.Awaited.{awaited, is_nonterminal, times_in}
-use Rattle.sh_grammar.specs.Computed.{body_in, rule_body, lead, taken, stack_after}
-use Rattle.sh_grammar.specs.Grammar.{AreTrees, Grammar, IsRule, IsTree, Rule, Tree, Forest, Leaf, Node, Empty, And, all_leaves, leaves, next_class}
+use Rattle.sh_grammar.specs.Computed.{body_in, rule_body, lead, stack_after}
+use Rattle.sh_grammar.specs.Grammar.{AreTrees, Grammar, IsRule, IsTree, Tree, Forest, Leaf, Node, Empty, And, all_leaves, leaves, next_class}
 use Rattle.sh_grammar.specs.Leftmost.{Leftmost, preorder, preorders, shifted}
 use Rattle.sh_grammar.specs.Passes.{IsPredictive, evidence_of, with_rule}
 use Rattle.sh_grammar.specs.Predictive.{Evidence, Fits, Predicts}
 use Rattle.sh_grammar.specs.Reach.{at_end}
-use Rattle.sh_grammar.specs.Table.{Table, cost_of, first_of, table_of}
+use Rattle.sh_grammar.specs.Table.{Table, cost_of, table_of}
 use Rattle.sh_grammar.specs.Tabulation.{Tabulation, grammar_of}
 use Rattle.sh_grammar.specs.Text.{IsTreeOf}
 use Rattle.sh_grammar.proofs.Check.{passes_predicts, rules_at}

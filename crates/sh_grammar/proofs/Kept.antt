@@ -1,7 +1,7 @@
 -- The stack of a recognizer is the computed one.
-use Rattle.std.proofs.Common.{◌≡◌, ℕ, zero, suc, ◌+◌, ◌<◌, cond, Bool, true, List, [], ◌∷◌, ◌++◌, Option, Some, None, reverse, refl, sym, ap, ◌∙◌, subst, arith}
+use Rattle.std.proofs.Common.{◌≡◌, ℕ, zero, suc, ◌+◌, ◌<◌, cond, true, List, [], ◌∷◌, ◌++◌, Option, Some, None, reverse, refl, sym, ap, ◌∙◌, subst, arith}
 use Rattle.std.specs.List.{count_by, sum_by}
-use Rattle.std.proofs.lemmas.List.{reverse-append, append-nil}
+use Rattle.std.proofs.lemmas.List.{reverse-append}
 use Rattle.std.proofs.lemmas.List.Sums.{sum_by_push, sum_by-cons}
 use Rattle.sh_grammar.specs.declared.Symbol.{Symbol}
 use Rattle.sh_grammar.specs.declared.Symbol.TheVariants.{Terminal, Nonterminal}
@@ -18,7 +18,6 @@ use Rattle.sh_grammar.specs.Table.{Table, first_of, cost_of, table_of}
 use Rattle.sh_grammar.specs.Tabulation.{Tabulation, grammar_of}
 use Rattle.sh_grammar.proofs.Stack.{reverse_last}
 use Rattle.sh_grammar.proofs.Standing.{stands_start}
-use Rattle.sh_grammar.proofs.Step.{Expanded}
 
 -- so many productions are enough to come from the stack to the aim
 pub record Leads (d : Tabulation) (aim : Option (List Symbol)) (c : ℕ) (stack : List Symbol) : Type 0 where

@@ -185,9 +185,9 @@ impl<'t> Recognizer<'t> {
         may_vanish(&self.tables, &self.stack)
     }
 
-    /// How many nonterminals of a number are still to come: the productions that hold them have begun, and they haven't.
-    /// One that stands at the end of a production so marks how often that production has begun and isn't over. The time
-    /// goes by the productions that have begun and aren't over. It takes no memory.
+    /// How many nonterminals of a number are still to come behind the tokens so far: the productions that hold them have
+    /// begun, and they haven't. Of one that ends a production this is how often that production has begun and isn't over.
+    /// It is 0 for a number that no nonterminal has. It takes no memory; the time goes by the symbols that are to come.
     pub fn awaits(&self, nonterminal: u8) -> usize
         ensures { result ≡ awaited self.now.grammar nonterminal self.now.tokens }
     {

@@ -1,5 +1,5 @@
 -- What the test of the shell's table computes with, as scripts/shell_tables.py finds it; only proofs need it.
-use Rattle.std.specs.Prelude.{List, [], ◌∷◌}
+use Rattle.std.specs.Prelude.{[], ◌∷◌}
 use Rattle.sh_grammar.specs.declared.Action.TheVariants.{Expand, Shift}
 use Rattle.sh_grammar.specs.Passes.{Witness}
 
