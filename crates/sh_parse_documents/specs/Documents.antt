@@ -71,5 +71,5 @@ abbrev pub between : ℕ → ℕ → List ℕ → List ℕ
 between start stop text = take (stop - start) (drop start text)
 
 -- the place in the text of the byte at an offset of a body; at the body's end, and behind it, the place at which it ends
-abbrev pub place_at : Document → ℕ → ℕ
+unfoldable pub place_at : Document → ℕ → ℕ
 place_at d offset = unwrap_or (slice_get d.places offset) d.«end»

@@ -23,6 +23,7 @@ pub struct Document {
 
 impl Document {
     /// The place in the text of the byte at an offset of the body; where it has no byte, the place at which it ends.
+    #[tactic(auto, unfolding(crate::specs::Documents::place_at))]
     pub fn place(&self, offset: usize) -> usize
         ensures { result ≡ place_at self.now offset }
     {
