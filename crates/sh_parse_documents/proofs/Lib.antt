@@ -1,0 +1,3 @@
+mod Places
+mod Lines
+mod Cutting
