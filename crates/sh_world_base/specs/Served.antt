@@ -15,7 +15,7 @@ use Rattle.sh_tree.specs.declared.tree.SimpleItem.{SimpleItem}
 use Rattle.sh_tree.specs.declared.tree.Command.TheOpen as layer
 use Rattle.sh_tree.specs.declared.tree.Command.TheViews as view
 use Rattle.sh_tree.specs.declared.tree.Command.TheFolds as folds
-use Rattle.sh_world_base.specs.Simple.{assignment_of, first_command, first_pipeline, simple_items, word_of}
+use Rattle.sh_world_base.specs.Simple.{assignment_of, first_pipeline, simple_items, word_of}
 
 -- ---- words: no part of them, however deep, is a command substitution (2.6.3)
 abbrev pub U : Type 0

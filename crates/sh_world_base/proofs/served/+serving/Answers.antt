@@ -1,7 +1,5 @@
 use Rattle.std.proofs.Common.{arith}
 use Rattle.std.proofs.lemmas.Grind.{common_steps}
-use Rattle.sh_tree.specs.declared.tree.Command.TheViews as view
-use Rattle.sh_world_base.specs.Served.{serves_part}
 use Rattle.sh_world_base.proofs.Substitutions.{all_until, arithmetic_is, backquoted_is, conditional_is, double_quoted_is, escaped_is, length_is, literal_is, parameter_is, removal_is, single_quoted_is, substitution_is, word_is}
 use Rattle.sh_world_base.proofs.served.+serving.Goals as goal
 
