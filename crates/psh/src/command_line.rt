@@ -4,6 +4,7 @@ use crate::usage::UsageFault;
 use clap::error::ErrorKind;
 use clap::{Arg, ArgAction, Command, Error};
 use sh_syntax::sequence::Sequence;
+use sh_vars::{Options, Text};
 use sh_world::{Settings, Source};
 use std::alloc::{AllocError, Global};
 
@@ -33,6 +34,13 @@ fn command<'a>(alloc: Global) -> Result<Command<'a>, AllocError> {
                 .help("The file with the events, a line each")
                 .required(true)
                 .action(ArgAction::Set),
+        )?
+        .arg(
+            Arg::new(alloc, "words")
+                .value_name("WORDS")
+                .help("$0, and the positional parameters")
+                .num_args(0..)
+                .action(ArgAction::Append),
         )
 }
 
@@ -48,6 +56,21 @@ fn fault_of(alloc: Global, error: &Error) -> UsageFault {
     }
 }
 
+/// How a shell is started that runs a text: the first word is `$0`, the others are `$1` and so on.
+fn settings(alloc: Global, text: &str, words: &[&str]) -> Result<Settings, AllocError> {
+    let mut args = Vec::new(alloc);
+    for word in words.iter().skip(1) {
+        args.push(Text::copy_of(alloc, word.as_bytes())?)?;
+    }
+    let zero = words.first().copied().unwrap_or("psh");
+    Ok(Settings {
+        source: Source::Text(Sequence::from_vec(text.as_bytes().to_vec(alloc)?)),
+        zero: Text::copy_of(alloc, zero.as_bytes())?,
+        args: Sequence::from_vec(args),
+        options: Options::default(),
+    })
+}
+
 /// What the words behind the program's name ask for.
 pub fn asked(alloc: Global, words: &[String]) -> Result<usage::Asked, UsageFault> {
     let mut all = Vec::new(alloc);
@@ -60,12 +83,11 @@ pub fn asked(alloc: Global, words: &[String]) -> Result<usage::Asked, UsageFault
         Err(error) => return Err(fault_of(alloc, &error)),
     };
     let text = matches.get_str("text").unwrap_or("");
+    let words = matches.get_strs("words").unwrap_or(&[]);
     let image = matches.get_str("image").unwrap_or("");
     let events = matches.get_str("events").unwrap_or("");
     Ok(usage::Asked {
-        settings: Settings {
-            source: Source::Text(Sequence::from_vec(text.as_bytes().to_vec(alloc)?)),
-        },
+        settings: settings(alloc, text, words)?,
         report: false,
         image: String::from_str(alloc, image)?,
         events: String::from_str(alloc, events)?,

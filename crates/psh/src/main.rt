@@ -6,6 +6,8 @@
 
 mod command_line;
 mod events;
+#[cfg(test)]
+mod expansion_tests;
 mod serving;
 #[cfg(test)]
 mod tests;

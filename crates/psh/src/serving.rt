@@ -1,7 +1,8 @@
 //! One run of the program, over what its files hold.
 use crate::events::{EventFault, Turns, read_events};
+use sh_files::{FaultKind, Files};
 use sh_syntax::memory::NoMemory;
-use sh_world::{Files, Settings, World};
+use sh_world::{Settings, World};
 use std::alloc::Global;
 use std::fmt::Display;
 
@@ -39,9 +40,13 @@ pub fn serve(
     out: &mut Vec<u8>,
     err: &mut Vec<u8>,
 ) -> u8 {
-    let files = match Files::from_image(image) {
+    let files = match Files::from_image(alloc, image) {
         Ok(files) => files,
         Err(fault) => {
+            if fault.kind == FaultKind::NoMemory {
+                complain(alloc, err, NoMemory);
+                return 3;
+            }
             complain(alloc, err, fault);
             return 1;
         },

@@ -2,25 +2,30 @@
 use crate::command_line::asked;
 use crate::serving::serve;
 use crate::usage::UsageFault;
+use sh_files::Files;
 use sh_syntax::memory::NoMemory;
 use sh_syntax::sequence::Sequence;
-use sh_world::{Event, Files, Settings, Source, Status, World};
+use sh_vars::{Options, Text};
+use sh_world::{Event, Settings, Source, Status, World};
 use std::alloc::Global;
 use std::test::Fail;
 
 const IMAGE: &[u8] = b"psh image 1\nend\n";
 
 /// A shell that is to run a text.
-fn settings(alloc: Global, text: &str) -> Result<Settings, NoMemory> {
+pub(crate) fn settings(alloc: Global, text: &str) -> Result<Settings, NoMemory> {
     let bytes = text.as_bytes().to_vec(alloc)?;
     Ok(Settings {
         source: Source::Text(Sequence::from_vec(bytes)),
+        zero: Text::copy_of(alloc, b"psh")?,
+        args: Sequence::new(alloc),
+        options: Options::default(),
     })
 }
 
-/// The world that runs a text.
+/// The world that runs a text, with no file but the devices.
 fn world(alloc: Global, text: &str) -> Result<World, NoMemory> {
-    World::new(alloc, Files {}, settings(alloc, text)?)
+    World::new(alloc, Files::new(alloc)?, settings(alloc, text)?)
 }
 
 /// The world that runs a text, after so many turns.
@@ -126,7 +131,7 @@ fn refused_commands(rt: HostRuntime) -> Result<(), Fail> {
     assert!(rt; ends_with(alloc, "echo ok; if", "psh: syntax error\n", 2)?);
     assert!(rt; ends_with(alloc, "echo 'a", "psh: syntax error\n", 2)?);
     assert!(rt; ends_with(alloc, "echo a\necho \"", "a\npsh: syntax error\n", 2)?);
-    assert!(rt; ends_with(alloc, "echo ${x}", "psh: syntax error\n", 2)?);
+    assert!(rt; ends_with(alloc, "echo ok\necho `a`", "ok\npsh: syntax error\n", 2)?);
     assert!(rt; ends_with(alloc, "x=1 echo a", "psh: syntax error\n", 2)?);
     Ok(())
 }
@@ -135,7 +140,7 @@ fn refused_commands(rt: HostRuntime) -> Result<(), Fail> {
 fn words(rt: HostRuntime) -> Result<(), Fail> {
     let alloc = rt.alloc();
     assert!(rt; ends_with(alloc, "echo a  \"b  c\" 'd'\\ e", "a b  c d e\n", 0)?);
-    assert!(rt; ends_with(alloc, "x='1  2'; echo $x\"$x\"", "1  21  2\n", 0)?);
+    assert!(rt; ends_with(alloc, "x='1  2'; echo $x\"$x\"", "1 21  2\n", 0)?);
     assert!(rt; ends_with(alloc, "echo $none a \"$none\" b ''", "a  b \n", 0)?);
     assert!(rt; ends_with(alloc, "echo $ \"$\" $+ a$", "$ $ $+ a$\n", 0)?);
     assert!(rt;
@@ -151,7 +156,7 @@ fn words(rt: HostRuntime) -> Result<(), Fail> {
     assert!(rt; ends_with(alloc, "echo if then fi", "if then fi\n", 0)?);
     assert!(rt; ends_with(alloc, "x=a y=$x$x; echo $y", "aa\n", 0)?);
     assert!(rt; ends_with(alloc, "x=a\"b\"'c'\\d$?; echo $x", "abcd0\n", 0)?);
-    assert!(rt; ends_with(alloc, "echo $HOME $PATH $PS4", "/ /bin + \n", 0)?);
+    assert!(rt; ends_with(alloc, "echo $HOME $PATH \"$PS4\"", "/ /bin + \n", 0)?);
     Ok(())
 }
 
@@ -207,7 +212,12 @@ fn places_and_ends(rt: HostRuntime) -> Result<(), Fail> {
 }
 
 /// What `serve` answers and writes, in one line.
-fn served(alloc: Global, text: &str, image: &[u8], events: &[u8]) -> Result<Vec<u8>, NoMemory> {
+pub(crate) fn served(
+    alloc: Global,
+    text: &str,
+    image: &[u8],
+    events: &[u8],
+) -> Result<Vec<u8>, NoMemory> {
     let mut out = Vec::new(alloc);
     let mut err = Vec::new(alloc);
     let status = serve(
@@ -263,7 +273,7 @@ fn images_and_events_are_checked(rt: HostRuntime) -> Result<(), Fail> {
         b"1||psh: BadHeader: line 1\n".as_slice()
     );
     assert_eq!(rt;
-        served(alloc, text, b"psh image 1\ndir /a\nend\n", b"")?.as_slice(),
+        served(alloc, text, b"psh image 1\nlink /a\nend\n", b"")?.as_slice(),
         b"1||psh: BadLine: line 2\n".as_slice()
     );
     Ok(())

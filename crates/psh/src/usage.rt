@@ -3,7 +3,7 @@ use sh_world::Settings;
 use std::alloc::{AllocError, AllocFailed};
 
 /// A command line that is in order.
-#[derive(Debug, Drop)]
+#[derive(Drop)]
 pub struct Asked {
     /// How the first shell is started.
     pub settings: Settings,

@@ -1,9 +1,2 @@
-pub mod Class
-pub mod Grammar
-pub mod Commands
-pub mod Tokens
+pub mod Aliases
 pub mod Reading
-pub mod Fronts
-pub mod Turns
-pub mod DefinedTokens
-pub mod Defined

@@ -1,7 +1,8 @@
 -- What is found in a text, by the answer of one reading.
 use Rattle.std.proofs.Common.{◌≡◌, ◌<◌, length, arith, ℕ, zero, suc, List, [], ◌∷◌, drop, true, false, ◌==◌, refl, sym, ap, ◌∙◌}
+use Rattle.sh_parse.specs.Aliases.{no_aliases}
 use Rattle.sh_parse.specs.Reading.{reading}
-use Rattle.sh_syntax.specs.declared.command.Complete.{Complete}
+use Rattle.sh_tree.specs.declared.tree.Complete.{Complete}
 use Rattle.sh_world.specs.declared.running.Found.TheVariants.{Nothing, Command, Fault}
 use Rattle.sh_world.specs.declared.running.Refusal.{Refusal}
 use Rattle.sh_world.specs.declared.running.Answer.{Answer}
@@ -20,22 +21,22 @@ pub record IsText (text : List ℕ) : Type 0 where
   pub others : List ℕ
   pub is : text ≡ first ∷ others
 
-pub by_command : (text : List ℕ) → IsText text → (tree : Complete) (used : ℕ) → answer.Command tree used ≡ answer_of (reading true text) → Command tree (drop used text) ≡ next_command text
+pub by_command : (text : List ℕ) → IsText text → (tree : Complete) (used : ℕ) → answer.Command tree used ≡ answer_of (reading no_aliases true text) → Command tree (drop used text) ≡ next_command text
 by_command text t tree used e =
-    rw t.is (ap (λ a. found_by a (t.first ∷ t.others) (found_behind t.others)) (e ∙ ap (λ x. answer_of (reading true x)) t.is))
+    rw t.is (ap (λ a. found_by a (t.first ∷ t.others) (found_behind t.others)) (e ∙ ap (λ x. answer_of (reading no_aliases true x)) t.is))
 
-pub by_fault : (text : List ℕ) → IsText text → (refusal : Refusal) → answer.Fault refusal ≡ answer_of (reading true text) → Fault refusal ≡ next_command text
+pub by_fault : (text : List ℕ) → IsText text → (refusal : Refusal) → answer.Fault refusal ≡ answer_of (reading no_aliases true text) → Fault refusal ≡ next_command text
 by_fault text t refusal e =
-    rw t.is (ap (λ a. found_by a (t.first ∷ t.others) (found_behind t.others)) (e ∙ ap (λ x. answer_of (reading true x)) t.is))
+    rw t.is (ap (λ a. found_by a (t.first ∷ t.others) (found_behind t.others)) (e ∙ ap (λ x. answer_of (reading no_aliases true x)) t.is))
 
-pub by_nothing : (text : List ℕ) → IsText text → answer.Blank 0 ≡ answer_of (reading true text) → Nothing ≡ next_command text
+pub by_nothing : (text : List ℕ) → IsText text → answer.Blank 0 ≡ answer_of (reading no_aliases true text) → Nothing ≡ next_command text
 by_nothing text t e =
-    rw t.is (ap (λ a. found_by a (t.first ∷ t.others) (found_behind t.others)) (e ∙ ap (λ x. answer_of (reading true x)) t.is))
+    rw t.is (ap (λ a. found_by a (t.first ∷ t.others) (found_behind t.others)) (e ∙ ap (λ x. answer_of (reading no_aliases true x)) t.is))
 
-pub by_blank : (text : List ℕ) → IsText text → (used : ℕ) → 0 < used → answer.Blank used ≡ answer_of (reading true text) → next_command text ≡ next_command (drop used text)
+pub by_blank : (text : List ℕ) → IsText text → (used : ℕ) → 0 < used → answer.Blank used ≡ answer_of (reading no_aliases true text) → next_command text ≡ next_command (drop used text)
 by_blank text t zero h e = absurd (omega arith)
 by_blank text t (suc count) h e =
-    rw t.is (sym (ap (λ a. found_by a (t.first ∷ t.others) (found_behind t.others)) (e ∙ ap (λ x. answer_of (reading true x)) t.is)) ∙ found_behind-drop t.others count)
+    rw t.is (sym (ap (λ a. found_by a (t.first ∷ t.others) (found_behind t.others)) (e ∙ ap (λ x. answer_of (reading no_aliases true x)) t.is)) ∙ found_behind-drop t.others count)
 
 pub some_text : (text : List ℕ) → 0 < length text → IsText text
 some_text [] h = absurd (omega arith)
@@ -50,5 +51,5 @@ pub not_empty : (text slice : List ℕ) → slice ≡ text → (length slice == 
 not_empty text [] e h = absurd (cc)
 not_empty text (byte ∷ bytes) e h = record { first = byte; others = bytes; is = sym e }
 
-pub told_of : (text slice : List ℕ) (a b : Answer) → slice ≡ text → a ≡ answer_of (reading true slice) → a ≡ b → b ≡ answer_of (reading true text)
-told_of text slice a b e told is = sym is ∙ told ∙ ap (λ x. answer_of (reading true x)) e
+pub told_of : (text slice : List ℕ) (a b : Answer) → slice ≡ text → a ≡ answer_of (reading no_aliases true slice) → a ≡ b → b ≡ answer_of (reading no_aliases true text)
+told_of text slice a b e told is = sym is ∙ told ∙ ap (λ x. answer_of (reading no_aliases true x)) e

@@ -1,58 +1,74 @@
--- Expansion of words (XCU 2.6): parameters and quote removal. Fields are not split, and no tilde or pathname is expanded yet.
-use Rattle.std.specs.Prelude.{ℕ, List, [], ◌∷◌, ◌++◌, Bool, true, false, ◌||◌, unwrap_or, decimal, length, nat_lt, if◌then◌else◌}
-use Rattle.std.specs.List.{list_any}
-use Rattle.sh_vars.specs.Environment.{Environment, value_of}
-use Rattle.sh_syntax.specs.declared.word.Parameter.{Parameter}
-use Rattle.sh_syntax.specs.declared.word.Parameter.TheVariants as parameter
-use Rattle.sh_syntax.specs.declared.word.QuotedPart.{QuotedPart}
-use Rattle.sh_syntax.specs.declared.word.QuotedPart.TheVariants as quoted
-use Rattle.sh_syntax.specs.declared.word.Part.{Part}
-use Rattle.sh_syntax.specs.declared.word.Part.TheVariants as part
-use Rattle.sh_syntax.specs.declared.word.Word.{Word}
+-- The expansion turns of a simple command (XCU 2.9.1): its words, and its assignments. An expansion goes from its first word, in
+-- the environment at its start, with the answers so far; there are none, since no served word asks for one.
+use Rattle.std.specs.Prelude.{ℕ, List, [], ◌∷◌, not, ◌&&◌, Option, Some, None, unwrap_or, slice_get, if◌then◌else◌}
+use Rattle.sh_expand.specs.Expanding as expanding
+use Rattle.sh_expand_parts.specs.declared.context.Context.TheVariants.{Fields, Assignment}
+use Rattle.sh_expand_words.specs.declared.wanted.Wanted.{Wanted}
+use Rattle.sh_files.specs.Nodes.{FileMap}
+use Rattle.sh_tree.specs.declared.tree.Parts.{Parts}
+use Rattle.sh_tree.specs.declared.tree.SimpleItem.{SimpleItem}
+use Rattle.sh_vars.specs.Environment.{Environment, with_value, is_read_only}
+use Rattle.sh_vars.specs.Names.{is_name}
+use Rattle.sh_world.specs.Messages.{fault_text, read_only, refusal_text}
+use Rattle.sh_world_base.specs.Simple.{assignment_of, word_of}
+use Rattle.sh_world.specs.declared.running.Outcome.{Outcome}
+use Rattle.sh_world.specs.declared.running.Outcome.TheVariants as outcome
+use Rattle.sh_world.specs.declared.running.Refusal.TheVariants as refusal
 
--- what a parameter expands to (2.6.2); an unset one to nothing
-abbrev pub parameter_value : Environment → Parameter → List ℕ
-parameter_value env (parameter.Variable name) = unwrap_or (value_of env name) []
-parameter_value env parameter.Status = decimal env.special.status
+-- the environment after an expansion, and what it comes to
+pub record Expanded : Type 0 where
+  pub environment : Environment
+  pub outcome : Outcome
 
--- what a part between double quotes expands to (2.2.3)
-abbrev pub quoted_text : Environment → QuotedPart → List ℕ
-quoted_text env (quoted.Literal bytes) = bytes
-quoted_text env (quoted.Escaped byte) = byte ∷ []
-quoted_text env (quoted.Parameter p) = parameter_value env p
-quoted_text env (quoted.Unserved byte) = byte ∷ []
+-- words that need a program are refused, as a command with them is when it is read
+abbrev pub outcome_of : expanding.Result → Expanded
+outcome_of (expanding.Need program env) = record { environment = env; outcome = outcome.Stop (refusal_text refusal.Syntax) }
+outcome_of (expanding.Fields fields env) = record { environment = env; outcome = outcome.Fields fields }
+outcome_of (expanding.Stops fault env) = record { environment = env; outcome = outcome.Stop (fault_text fault) }
 
-abbrev pub quoted_texts : Environment → List QuotedPart → List ℕ
-quoted_texts env [] = []
-quoted_texts env (p ∷ ps) = quoted_text env p ++ quoted_texts env ps
+abbrev pub expanded : FileMap → Environment → List Wanted → Expanded
+expanded files env words = outcome_of (expanding.expand files words env [])
 
--- what a part of a word expands to, its quotes removed (2.6.7)
-abbrev pub part_text : Environment → Part → List ℕ
-part_text env (part.Literal bytes) = bytes
-part_text env (part.Escaped byte) = byte ∷ []
-part_text env (part.SingleQuoted bytes) = bytes
-part_text env (part.DoubleQuoted parts) = quoted_texts env parts
-part_text env (part.Parameter p) = parameter_value env p
-part_text env (part.Unserved byte) = byte ∷ []
+-- ---- the words of a command (2.9.1.1, step 2)
+abbrev pub command_word : Parts → Wanted
+command_word parts = record { parts = parts; context = Fields }
 
--- what the parts of a word expand to, one after another
-abbrev pub expanded : Environment → List Part → List ℕ
-expanded env [] = []
-expanded env (p ∷ ps) = part_text env p ++ expanded env ps
+abbrev pub word_before : Option Parts → List Wanted → List Wanted
+word_before None words = words
+word_before (Some parts) words = command_word parts ∷ words
 
-abbrev pub is_quotation : Part → Bool
-is_quotation (part.Literal bytes) = false
-is_quotation (part.Escaped byte) = true
-is_quotation (part.SingleQuoted bytes) = true
-is_quotation (part.DoubleQuoted parts) = true
-is_quotation (part.Parameter p) = false
-is_quotation (part.Unserved byte) = false
+abbrev pub words_of : List SimpleItem → List Wanted
+words_of [] = []
+words_of (item ∷ items) = word_before (word_of item) (words_of items)
 
--- a word gives its text as one field, but none where that is empty and nothing in it is quoted
-abbrev pub field_before : List Part → List ℕ → List (List ℕ) → List (List ℕ)
-field_before parts text others = if nat_lt 0 (length text) || list_any is_quotation parts then text ∷ others else others
+-- ---- an assignment (2.9.1.1, step 4)
+abbrev pub value_word : Parts → Wanted
+value_word parts = record { parts = parts; context = Assignment }
 
--- the fields of a command's words
-abbrev pub fields_of : Environment → List Word → List (List ℕ)
-fields_of env [] = []
-fields_of env (word ∷ words) = field_before word.parts (expanded env word.parts) (fields_of env words)
+-- the environment after an assignment, and why it can't be done
+pub record Assigned : Type 0 where
+  pub environment : Environment
+  pub stop : Option (List ℕ)
+
+abbrev pub given : Environment → List ℕ → List ℕ → Assigned
+given env name value =
+    if is_name name && not (is_read_only env name)
+    then record { environment = with_value env name value; stop = None }
+    else record { environment = env; stop = Some (read_only name) }
+
+-- the one text that the value comes to
+abbrev pub text_of : List (List ℕ) → List ℕ
+text_of fields = unwrap_or (slice_get fields 0) []
+
+abbrev pub valued : List ℕ → Environment → Outcome → Assigned
+valued name env (outcome.Fields fields) = given env name (text_of fields)
+valued name env (outcome.Stop text) = record { environment = env; stop = Some text }
+
+abbrev pub assigned_by : FileMap → Environment → Option (List ℕ × Parts) → Assigned
+assigned_by files env None = record { environment = env; stop = None }
+assigned_by files env (Some assignment) =
+    let e = expanded files env (value_word assignment.1 ∷ []) in
+    valued assignment.0 e.environment e.outcome
+
+abbrev pub assigned : FileMap → Environment → SimpleItem → Assigned
+assigned files env item = assigned_by files env (assignment_of item)

@@ -1,13 +1,13 @@
 -- What a world keeps, and the state at which it stands.
 use Rattle.std.specs.Prelude.{◌≡◌, ℕ, List, length, ◌++◌, take, Bool, true, false, Option}
-use Rattle.sh_world.specs.declared.image.Files.{Files}
+use Rattle.sh_files.specs.Nodes.{FileMap}
 use Rattle.sh_world.specs.declared.jobs.Jobs.{Jobs}
 use Rattle.sh_world.specs.Requests.{Machine}
 use Rattle.sh_world.specs.Running.{Process}
 use Rattle.sh_world.specs.State.{State}
 
 pub record WorldKept : Type 0 where
-  pub files : Files
+  pub files : FileMap
   pub kernel : Machine
   pub task : Process
   pub jobs : Jobs

@@ -2,7 +2,6 @@ pub mod Builtins
 pub mod Choice
 pub mod Codes
 pub mod Expansion
-pub mod Image
 pub mod Kept
 pub mod Messages
 pub mod Reading

@@ -22,8 +22,8 @@ pub data Request : Type 0 where
 
 abbrev pub request_at : Active → Request
 request_at (Next (Reading rest)) = Nothing
-request_at (Next (Expanding words)) = Nothing
-request_at (Next (Assigning assignments)) = Nothing
+request_at (Next (Expanding command)) = Nothing
+request_at (Next (Assigning command)) = Nothing
 request_at (Next (Writing piece finish)) = Write piece.descriptor piece.bytes
 request_at (Next (Ending status)) = End status
 request_at (Next (Ended status)) = Nothing

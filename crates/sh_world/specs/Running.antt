@@ -1,7 +1,8 @@
 -- A process of the shell as a tree of running forms, with the one place at which it acts.
-use Rattle.std.specs.Prelude.{List, ℕ, [], ◌∷◌}
-use Rattle.sh_syntax.specs.declared.command.Command.{Command}
-use Rattle.sh_syntax.specs.declared.command.Command.TheVariants.{Assignments, Words}
+use Rattle.std.specs.Prelude.{List, ℕ, [], ◌∷◌, if◌then◌else◌}
+use Rattle.std.specs.List.{list_any}
+use Rattle.sh_tree.specs.declared.tree.Command.{Command}
+use Rattle.sh_tree.specs.declared.tree.ListItem.{ListItem}
 use Rattle.sh_vars.specs.Environment.{Environment}
 use Rattle.sh_world.specs.declared.running.Active.{Active}
 use Rattle.sh_world.specs.declared.running.Active.TheVariants.{Next, Done, Leaving}
@@ -9,6 +10,7 @@ use Rattle.sh_world.specs.declared.running.Place.{Place}
 use Rattle.sh_world.specs.declared.running.Place.TheVariants.{Reading, Expanding, Assigning}
 use Rattle.sh_world.specs.declared.running.Form.{Form}
 use Rattle.sh_world.specs.declared.running.Form.TheVariants.{Text, Commands}
+use Rattle.sh_world_base.specs.Simple.{first_command, is_word, items_of}
 
 -- at its place, or in a form round another tree
 pub data Run : Type 0 where
@@ -20,20 +22,19 @@ pub record Process : Type 0 where
   pub environment : Environment
   pub run : Run
 
--- the first place of a simple command (2.9.1)
+-- the first place of a simple command (2.9.1): the expansion of its words, where it has any, or its assignments
 abbrev pub place_of : Command → Place
-place_of (Assignments assignments) = Assigning assignments
-place_of (Words words) = Expanding words
+place_of command = if list_any is_word (items_of command) then Expanding command else Assigning command
 
--- commands one after another (2.9.3), entered behind one that had this status
-abbrev pub entered : List Command → ℕ → Run
+-- AND-OR lists one after another (2.9.3), entered behind one that had this status
+abbrev pub entered : List ListItem → ℕ → Run
 entered [] status = At (Done status)
-entered (command ∷ commands) status = In (Commands commands) (At (Next (place_of command)))
+entered (item ∷ items) status = In (Commands items) (At (Next (place_of (first_command item))))
 
 -- what a form becomes when what runs inside it is done with this status
 abbrev pub becomes : Form → ℕ → Run
 becomes (Text rest) status = At (Next (Reading rest))
-becomes (Commands commands) status = entered commands status
+becomes (Commands items) status = entered items status
 
 -- a form again round what a reduction inside it left: a status goes outward, and so does what leaves the shell
 abbrev pub after : Form → Run → Run

@@ -1,8 +1,9 @@
 -- The shell machine: its states, one event, a list of events, and what can be seen of a state.
 use Rattle.std.specs.Prelude.{ℕ, nat_eq, List, [], ◌∷◌, Option, Some, None, if◌then◌else◌}
+use Rattle.sh_files.specs.Nodes.{FileMap}
+use Rattle.sh_vars.specs.Environment.{Environment, with_options, with_positional, with_zero}
 use Rattle.sh_vars.specs.Starting.{starting}
 use Rattle.sh_world.specs.declared.event.Event.{Event}
-use Rattle.sh_world.specs.declared.image.Files.{Files}
 use Rattle.sh_world.specs.declared.jobs.Jobs.{Jobs}
 use Rattle.sh_world.specs.declared.settings.Settings.{Settings}
 use Rattle.sh_world.specs.declared.settings.Source.{Source}
@@ -18,7 +19,7 @@ use Rattle.sh_world.specs.Running.{At, Process}
 
 -- the files, the machine, the first shell (the only process yet), the jobs, and which process took a turn last
 pub record State : Type 0 where
-  pub files : Files
+  pub files : FileMap
   pub machine : Machine
   pub shell : Process
   pub jobs : Jobs
@@ -31,12 +32,16 @@ first_pid = 100
 abbrev pub text_of : Source → List ℕ
 text_of (Text bytes) = bytes
 
+-- the first shell's environment: its `$0`, positional parameters and options are the settings'
+abbrev pub environment_of : Settings → Environment
+environment_of settings = with_options (with_positional (with_zero starting settings.zero) settings.args) settings.options
+
 -- the first shell before its first action
-abbrev pub start : Files → Settings → State
+abbrev pub start : FileMap → Settings → State
 start image settings = record {
   files = image;
   machine = record { terminal = []; shell = Running };
-  shell = record { environment = starting; run = At (Next (Reading (text_of settings.source))) };
+  shell = record { environment = environment_of settings; run = At (Next (Reading (text_of settings.source))) };
   jobs = record {};
   last = None;
 }
@@ -52,7 +57,7 @@ runnable_of (Signaled signal) = []
 abbrev pub turned : State → ℕ → State
 turned s pid = record s {
   machine = perform s.machine (request_of s.shell.run);
-  shell = reduced s.shell;
+  shell = reduced s.files s.shell;
   last = Some pid;
 }
 

@@ -1,158 +1,140 @@
-//! Expansion of words.
-ghost use Rattle.std.specs.Prelude.{◌≡◌, ◌++◌, [], OnOk, IfOk};
-ghost use Rattle.sh_world.specs.Expansion.{expanded, field_before, fields_of, is_quotation, parameter_value, part_text, quoted_text, quoted_texts};
-ghost use Rattle.std.specs.List.{list_any};
+//! The expansion turns of a simple command.
+ghost use Rattle.std.specs.Prelude.{◌≡◌, ◌∷◌, [], ◌++◌, IfOk, OnOk};
+ghost use Rattle.sh_expand.specs.Expanding as expanding;
+ghost use Rattle.sh_world.specs.Expansion.{assigned, assigned_by, command_word, expanded, given, outcome_of, text_of, valued, value_word, word_before, words_of};
+ghost use Rattle.sh_world_base.specs.Simple.{word_of};
+ghost use Rattle.sh_world.specs.Messages.{read_only, refusal_text};
 
-use itoa::Buffer;
+use crate::message::{fault_text, joined};
+use crate::running::Outcome;
+use sh_expand::{Context, Expansion, Step, Wanted};
+use sh_files::Files;
 use sh_syntax::memory::NoMemory;
 use sh_syntax::sequence::{Sequence, Text};
-use sh_syntax::word::{Parameter, Part, QuotedPart, Word};
-use sh_vars::Vars;
+use sh_syntax::shared::Shared;
+use sh_tree::tree::{Parts, SimpleItem};
+use sh_vars::{Vars, VarsFault};
+use sh_world_base::{assignment_of, word_of};
 use std::alloc::Global;
 
-/// Puts a parameter's value behind a text.
-fn put_parameter(text: &mut Text, parameter: &Parameter, vars: &Vars) -> Result<(), NoMemory>
-    ensures { OnOk result (text.new ≡ text.old ++ parameter_value vars.now parameter.now) }
+/// What words come to, in the files of this turn.
+fn expand(
+    alloc: Global,
+    words: Sequence<Wanted>,
+    vars: &mut Vars,
+    files: &Files,
+) -> Result<Outcome, NoMemory>
+    ensures { IfOk result (λ outcome. record { environment = vars.new; outcome = outcome } ≡ expanded files.now vars.old words) }
 {
-    match parameter {
-        Parameter::Variable(name) => {
-            let Some(value) = vars.get(name.as_slice()) else {
-                return Ok(());
-            };
-            text.extend_from_slice(value)?;
-            Ok(())
+    let (_expansion, step) = Expansion::start(alloc, words, vars, files)?;
+    match step {
+        Step::Fields(fields) => Ok(Outcome::Fields(fields)),
+        Step::Fault(fault) => {
+            let text = fault_text(alloc, fault)?;
+            Ok(Outcome::Stop(text))
         },
-        Parameter::Status => {
-            let mut buffer = Buffer::new();
-            text.extend_from_slice(buffer.format(vars.status()).as_bytes())?;
-            Ok(())
+        Step::Need(_) => {
+            let text = joined(alloc, b"", b"syntax error")?;
+            Ok(Outcome::Stop(text))
         },
     }
 }
 
-/// Puts what a part between double quotes expands to behind a text.
-fn put_quoted(text: &mut Text, part: &QuotedPart, vars: &Vars) -> Result<(), NoMemory>
-    ensures { OnOk result (text.new ≡ text.old ++ quoted_text vars.now part.now) }
+/// Puts a word of a command behind others.
+fn put_word(words: &mut Sequence<Wanted>, item: &SimpleItem) -> Result<(), NoMemory>
+    ensures { OnOk result (words.new ≡ words.old ++ word_before (word_of item.now) []) }
 {
-    match part {
-        QuotedPart::Literal(bytes) => {
-            text.extend_from_slice(bytes.as_slice())?;
-            Ok(())
-        },
-        QuotedPart::Escaped(byte) => {
-            text.push(*byte)?;
-            Ok(())
-        },
-        QuotedPart::Parameter(parameter) => {
-            put_parameter(text, parameter, vars)?;
-            Ok(())
-        },
-        QuotedPart::Unserved(byte) => {
-            text.push(*byte)?;
-            Ok(())
-        },
-    }
-}
-
-/// Puts what stands between double quotes behind a text.
-fn put_all_quoted(text: &mut Text, parts: &[QuotedPart], vars: &Vars) -> Result<(), NoMemory>
-    ensures { OnOk result (text.new ≡ text.old ++ quoted_texts vars.now parts.now) }
-{
-    let mut rest = parts;
-    'parts: while let Some((part, others)) = rest.split_first() {
-        put_quoted(text, part, vars)?;
-        rest = others;
-    }
-    Ok(())
-}
-
-/// Puts what a part of a word expands to behind a text.
-fn put_part(text: &mut Text, part: &Part, vars: &Vars) -> Result<(), NoMemory>
-    ensures { OnOk result (text.new ≡ text.old ++ part_text vars.now part.now) }
-{
-    match part {
-        Part::Literal(bytes) => {
-            text.extend_from_slice(bytes.as_slice())?;
-            Ok(())
-        },
-        Part::Escaped(byte) => {
-            text.push(*byte)?;
-            Ok(())
-        },
-        Part::SingleQuoted(bytes) => {
-            text.extend_from_slice(bytes.as_slice())?;
-            Ok(())
-        },
-        Part::DoubleQuoted(parts) => {
-            put_all_quoted(text, parts.as_slice(), vars)?;
-            Ok(())
-        },
-        Part::Parameter(parameter) => {
-            put_parameter(text, parameter, vars)?;
-            Ok(())
-        },
-        Part::Unserved(byte) => {
-            text.push(*byte)?;
-            Ok(())
-        },
-    }
-}
-
-/// What the parts of a word expand to.
-pub(crate) fn expand(alloc: Global, parts: &[Part], vars: &Vars) -> Result<Text, NoMemory>
-    ensures { IfOk result (λ text. text ≡ expanded vars.now parts.now) }
-{
-    let mut text = Sequence::new(alloc);
-    let mut rest = parts;
-    'parts: while let Some((part, others)) = rest.split_first() {
-        put_part(&mut text, part, vars)?;
-        rest = others;
-    }
-    Ok(text)
-}
-
-/// Whether a part is quoted.
-fn is_quoted(part: &Part) -> bool
-    ensures { result ≡ is_quotation part.now }
-{
-    match part {
-        Part::Literal(_) => false,
-        Part::Escaped(_) => true,
-        Part::SingleQuoted(_) => true,
-        Part::DoubleQuoted(_) => true,
-        Part::Parameter(_) => false,
-        Part::Unserved(_) => false,
-    }
-}
-
-/// Whether something in a word is quoted.
-fn has_quotation(parts: &[Part]) -> bool
-    ensures { result ≡ list_any is_quotation parts.now }
-{
-    parts.iter().any(|part| is_quoted(part))
-}
-
-/// Puts the field that a word gives, if it gives one, behind others.
-fn put_field(fields: &mut Sequence<Text>, parts: &[Part], text: Text) -> Result<(), NoMemory>
-    ensures { OnOk result (fields.new ≡ fields.old ++ field_before parts.now text []) }
-{
-    if 0 < text.len() || has_quotation(parts) {
-        fields.push(text)?;
+    let Some(parts) = word_of(item) else {
         return Ok(());
-    }
+    };
+    words.push(Wanted {
+        parts: parts.share()?,
+        context: Context::Fields,
+    })?;
     Ok(())
 }
 
-/// The fields of a command's words.
-pub(crate) fn fields(alloc: Global, words: &[Word], vars: &Vars) -> Result<Sequence<Text>, NoMemory>
-    ensures { IfOk result (λ fields. fields ≡ fields_of vars.now words.now) }
+/// The words of a command, as they are to be expanded.
+fn words_of(alloc: Global, items: &[SimpleItem]) -> Result<Sequence<Wanted>, NoMemory>
+    ensures { IfOk result (λ words. words ≡ words_of items.now) }
 {
-    let mut fields = Sequence::new(alloc);
-    let mut rest = words;
-    'words: while let Some((word, others)) = rest.split_first() {
-        let text = expand(alloc, word.parts.as_slice(), vars)?;
-        put_field(&mut fields, word.parts.as_slice(), text)?;
+    let mut words = Sequence::new(alloc);
+    let mut rest = items;
+    'items: while let Some((item, others)) = rest.split_first() {
+        put_word(&mut words, item)?;
         rest = others;
     }
-    Ok(fields)
+    Ok(words)
+}
+
+/// What the words of a command come to.
+pub(crate) fn expand_words(
+    alloc: Global,
+    items: &[SimpleItem],
+    vars: &mut Vars,
+    files: &Files,
+) -> Result<Outcome, NoMemory>
+    ensures { IfOk result (λ outcome. record { environment = vars.new; outcome = outcome } ≡ expanded files.now vars.old (words_of items.now)) }
+{
+    let words = words_of(alloc, items)?;
+    let outcome = expand(alloc, words, vars, files)?;
+    Ok(outcome)
+}
+
+/// The value of an assignment, as it is to be expanded.
+fn value_words(alloc: Global, value: &Shared<Parts>) -> Result<Sequence<Wanted>, NoMemory>
+    ensures { IfOk result (λ words. words ≡ value_word value.now ∷ []) }
+{
+    let mut words = Sequence::new(alloc);
+    words.push(Wanted {
+        parts: value.share()?,
+        context: Context::Assignment,
+    })?;
+    Ok(words)
+}
+
+/// The one text that a value comes to.
+fn text_of(fields: &[Text]) -> &[u8]
+    ensures { result.now ≡ text_of fields.now }
+{
+    match fields.first() {
+        Some(text) => text.as_slice(),
+        None => &[],
+    }
+}
+
+/// Gives a variable a value, or says why it can't have one.
+fn give(alloc: Global, name: &[u8], value: &[u8], vars: &mut Vars) -> Result<Option<Text>, NoMemory>
+    ensures { IfOk result (λ stop. record { environment = vars.new; stop = stop } ≡ given vars.old name.now value.now) }
+{
+    match vars.set(name, value) {
+        Ok(()) => Ok(None),
+        Err(VarsFault::NoMemory) => Err(NoMemory),
+        Err(_) => {
+            let text = joined(alloc, name, b": read only")?;
+            Ok(Some(text))
+        },
+    }
+}
+
+/// Does an assignment, or says why it can't be done. An item that is none changes nothing.
+pub(crate) fn assign(
+    alloc: Global,
+    item: &SimpleItem,
+    vars: &mut Vars,
+    files: &Files,
+) -> Result<Option<Text>, NoMemory>
+    ensures { IfOk result (λ stop. record { environment = vars.new; stop = stop } ≡ assigned files.now vars.old item.now) }
+{
+    let Some((name, value)) = assignment_of(item) else {
+        return Ok(None);
+    };
+    let words = value_words(alloc, value)?;
+    match expand(alloc, words, vars, files)? {
+        Outcome::Fields(fields) => {
+            let stop = give(alloc, name.as_slice(), text_of(fields.as_slice()), vars)?;
+            Ok(stop)
+        },
+        Outcome::Stop(text) => Ok(Some(text)),
+    }
 }

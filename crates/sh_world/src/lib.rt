@@ -5,13 +5,10 @@
 mod builtin;
 mod event;
 mod expansion;
-mod image;
 mod jobs;
 mod kernel;
 mod message;
-mod queue;
 mod reading;
-mod rest;
 mod running;
 mod settings;
 mod status;
@@ -19,7 +16,6 @@ mod task;
 mod world;
 
 pub use event::Event;
-pub use image::{Files, ImageFault};
 pub use jobs::Jobs;
 pub use settings::{Settings, Source};
 pub use status::Status;

@@ -1,26 +1,32 @@
 //! Reading the next command of a text.
 ghost use Rattle.std.specs.Prelude.{◌≡◌, IfOk, true};
+ghost use Rattle.sh_parse.specs.Aliases.{no_aliases};
 ghost use Rattle.sh_parse.specs.Reading.{reading};
 ghost use Rattle.sh_world.specs.Reading.{answer_of, next_command};
 
-use crate::rest::Rest;
 use crate::running::{Answer, Found, Refusal};
 use sh_parse::{Aliases, ParseFault, Reading, read_command};
 use sh_syntax::memory::NoMemory;
+use sh_world_base::{Rest, is_served};
 use std::alloc::Global;
 
 /// One reading of a text that is there whole.
 fn read_once(alloc: Global, text: &[u8]) -> Result<Answer, NoMemory>
-    ensures { IfOk result (λ answer. answer ≡ answer_of (reading true text.now)) }
+    ensures { IfOk result (λ answer. answer ≡ answer_of (reading no_aliases true text.now)) }
 {
-    match read_command(alloc, text, true, &Aliases::new()) {
-        Ok(Reading::Complete { tree, used }) => Ok(Answer::Command(tree, used)),
+    match read_command(alloc, text, true, &Aliases::new(alloc)) {
+        Ok(Reading::Complete { tree, used }) => {
+            if is_served(&tree) {
+                return Ok(Answer::Command(tree, used));
+            }
+            Ok(Answer::Fault(Refusal::Syntax))
+        },
         Ok(Reading::Blank { used }) => Ok(Answer::Blank(used)),
         Ok(Reading::More) => Ok(Answer::Fault(Refusal::Syntax)),
         Err(ParseFault::Refused { .. }) => Ok(Answer::Fault(Refusal::Syntax)),
         Err(ParseFault::Unclosed { .. }) => Ok(Answer::Fault(Refusal::Syntax)),
         Err(ParseFault::BadSubstitution { .. }) => Ok(Answer::Fault(Refusal::BadSubstitution)),
-        Err(ParseFault::TooDeep) => Ok(Answer::Fault(Refusal::TooDeep)),
+        Err(ParseFault::TooDeep { .. }) => Ok(Answer::Fault(Refusal::TooDeep)),
         Err(ParseFault::NoMemory) => Err(NoMemory),
     }
 }

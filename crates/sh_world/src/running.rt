@@ -1,9 +1,8 @@
 //! The running forms of a process.
-use crate::queue::Queue;
-use crate::rest::Rest;
-use sh_syntax::command::{Assignment, Command, Complete};
 use sh_syntax::sequence::{Sequence, Text};
-use sh_syntax::word::Word;
+use sh_syntax::shared::Shared;
+use sh_tree::tree::{Command, Complete, ListItem};
+use sh_world_base::{Queue, Rest};
 
 /// Bytes that stand to be written to a descriptor.
 #[derive(Debug, Drop)]
@@ -20,14 +19,14 @@ pub enum Finish {
 }
 
 /// An action that a process is about to do.
-#[derive(Debug, Drop)]
+#[derive(Drop)]
 pub enum Place {
     /// Read the next complete command of the rest of a text (XCU 2.1).
     Reading(Rest),
     /// Expand the words of a simple command (2.9.1.1, step 2), and do what they say.
-    Expanding(Sequence<Word>),
+    Expanding(Shared<Command>),
     /// Do the assignments of a simple command (2.9.1.1, step 4).
-    Assigning(Sequence<Assignment>),
+    Assigning(Shared<Command>),
     /// Write, and then finish the command.
     Writing(Piece, Finish),
     /// End the process with a status.
@@ -37,7 +36,7 @@ pub enum Place {
 }
 
 /// The one place of a process where something happens.
-#[derive(Debug, Drop)]
+#[derive(Drop)]
 pub enum Active {
     /// An action comes next.
     Next(Place),
@@ -48,12 +47,12 @@ pub enum Active {
 }
 
 /// A running form round an active place.
-#[derive(Debug, Drop)]
+#[derive(Drop)]
 pub enum Form {
     /// A command of a text, with what comes behind it.
     Text(Rest),
-    /// One of some commands (2.9.3), with the commands behind it.
-    Commands(Queue<Command>),
+    /// One of some AND-OR lists (2.9.3), with those behind it.
+    Commands(Queue<ListItem>),
 }
 
 /// Why a command's text is refused.
@@ -65,7 +64,7 @@ pub enum Refusal {
 }
 
 /// What one reading of a text answers.
-#[derive(Debug, Drop)]
+#[derive(Drop)]
 pub enum Answer {
     /// A complete command, and how many bytes it takes.
     Command(Complete, usize),
@@ -76,7 +75,7 @@ pub enum Answer {
 }
 
 /// What a reading turn finds.
-#[derive(Debug, Drop)]
+#[derive(Drop)]
 pub enum Found {
     /// No command follows.
     Nothing,
@@ -84,4 +83,13 @@ pub enum Found {
     Command(Complete, Rest),
     /// The text of the next command is refused.
     Fault(Refusal),
+}
+
+/// What words come to.
+#[derive(Debug, Drop)]
+pub enum Outcome {
+    /// Their fields.
+    Fields(Sequence<Text>),
+    /// They can't be expanded, and this is what the shell says of it (XCU 2.8.1).
+    Stop(Text),
 }

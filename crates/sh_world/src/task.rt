@@ -1,29 +1,32 @@
 //! A process of the shell: one turn is one reduction of its tree.
 ghost use Rattle.std.specs.Prelude.{◌≡◌, ◌++◌, ◌∷◌, [], OnOk, IfOk, List};
 ghost use Rattle.sh_vars.specs.Environment.{with_status};
-ghost use Rattle.sh_vars.specs.Starting.{starting};
 ghost use Rattle.sh_world.specs.Builtins.{builtin_of};
 ghost use Rattle.sh_world.specs.Running.{Run, after, becomes, entered, place_of};
 ghost use Rattle.sh_world.specs.Reading.{next_command};
-ghost use Rattle.sh_world.specs.Reduction.{Acted, act_at, assign_turn, at_place, command_turn, done, fatal, read_turn, reduce, reduced, rooted, searched, write_turn};
-ghost use Rattle.sh_world.specs.Messages.{refusal_text, read_only};
+ghost use Rattle.sh_world.specs.Reduction.{Acted, act_at, assign_turn, assigned_turn, at_place, command_turn, done, expand_turn, fatal, read_turn, reduce, reduced, rooted, searched, words_turn, write_turn};
+ghost use Rattle.sh_world.specs.Messages.{refusal_text};
 ghost use Rattle.sh_world.specs.Requests.{perform, request_at, request_of};
-ghost use Rattle.sh_world.specs.Expansion.{fields_of};
+ghost use Rattle.sh_world.specs.Expansion.{assigned, expanded, words_of};
+ghost use Rattle.sh_world_base.specs.Simple.{first_command, items_of};
+ghost use Rattle.sh_world.specs.State.{environment_of, text_of};
 ghost use Rattle.sh_world.specs.Tree.{run_of};
 ghost use Rattle.sh_world.specs.Kept.{Extends};
 
 use crate::builtin::Builtin;
-use crate::expansion::{expand, fields};
+use crate::expansion::{assign, expand_words};
 use crate::kernel::Kernel;
 use crate::message::{about, of_refusal};
-use crate::queue::Queue;
 use crate::reading::find_command;
-use crate::rest::Rest;
-use crate::running::{Active, Finish, Form, Found, Place};
-use sh_syntax::command::{Assignment, Command};
+use crate::running::{Active, Finish, Form, Found, Outcome, Place};
+use crate::settings::{Settings, Source};
+use sh_files::Files;
 use sh_syntax::memory::NoMemory;
-use sh_syntax::sequence::{Sequence, Text};
-use sh_vars::{Vars, VarsFault};
+use sh_syntax::sequence::Text;
+use sh_syntax::shared::Shared;
+use sh_tree::tree::{Command, ListItem, SimpleItem};
+use sh_vars::Vars;
+use sh_world_base::{Queue, Rest, first_command, has_words, items_of};
 use std::alloc::Global;
 use std::marker::Model;
 use std::mem;
@@ -36,25 +39,26 @@ pub(crate) enum Tree {
 }
 
 /// The first place of a simple command.
-fn first_place(command: Command) -> Place
+fn first_place(command: Shared<Command>) -> Place
     ensures { result ≡ place_of command }
 {
-    match command {
-        Command::Assignments(assignments) => Place::Assigning(assignments),
-        Command::Words(words) => Place::Expanding(words),
+    if has_words(command.get()) {
+        return Place::Expanding(command);
     }
+    Place::Assigning(command)
 }
 
-/// Commands one after another, entered behind one that had a status.
-fn enter(alloc: Global, commands: Queue<Command>, status: u8) -> Result<Tree, NoMemory>
-    ensures { IfOk result (λ tree. run_of tree ≡ entered commands status) }
+/// AND-OR lists one after another, entered behind one that had a status.
+fn enter(alloc: Global, items: Queue<ListItem>, status: u8) -> Result<Tree, NoMemory>
+    ensures { IfOk result (λ tree. run_of tree ≡ entered items status) }
 {
-    let mut commands = commands;
-    let Some(command) = commands.take() else {
+    let mut items = items;
+    let Some(item) = items.take() else {
         return Ok(Tree::At(Active::Done(status)));
     };
+    let command = first_command(&item).share()?;
     let inner = Box::new(alloc, Tree::At(Active::Next(first_place(command))))?;
-    Ok(Tree::In(Form::Commands(commands), inner))
+    Ok(Tree::In(Form::Commands(items), inner))
 }
 
 /// What a form becomes when what runs inside it is done.
@@ -63,7 +67,7 @@ fn become_by(alloc: Global, form: Form, status: u8) -> Result<Tree, NoMemory>
 {
     match form {
         Form::Text(rest) => Ok(Tree::At(Active::Next(Place::Reading(rest)))),
-        Form::Commands(commands) => enter(alloc, commands, status),
+        Form::Commands(items) => enter(alloc, items, status),
     }
 }
 
@@ -96,10 +100,10 @@ fn finish_command(vars: &mut Vars, status: u8) -> Active
 }
 
 /// An error that ends the shell.
-fn fail(alloc: Global, name: &[u8], text: &[u8]) -> Result<Active, NoMemory>
-    ensures { IfOk result (λ active. active ≡ fatal (name.now ++ text.now)) }
+fn fail(alloc: Global, text: &[u8]) -> Result<Active, NoMemory>
+    ensures { IfOk result (λ active. active ≡ fatal text.now) }
 {
-    let piece = about(alloc, name, text)?;
+    let piece = about(alloc, b"", text)?;
     Ok(Active::Next(Place::Writing(piece, Finish::Leave(2))))
 }
 
@@ -110,8 +114,8 @@ fn read(alloc: Global, rest: Rest, vars: &Vars) -> Result<Tree, NoMemory>
     match find_command(alloc, rest)? {
         Found::Nothing => Ok(Tree::At(Active::Leaving(vars.status()))),
         Found::Command(tree, rest) => {
-            let commands = Queue::new(tree.commands);
-            let inner = enter(alloc, commands, vars.status())?;
+            let items = Queue::new(tree.items);
+            let inner = enter(alloc, items, vars.status())?;
             let inner = Box::new(alloc, inner)?;
             Ok(Tree::In(Form::Text(rest), inner))
         },
@@ -145,17 +149,41 @@ fn command(alloc: Global, fields: &[Text], vars: &mut Vars) -> Result<Active, No
     }
 }
 
-/// The assignments of a simple command.
-fn assign(alloc: Global, assignments: &[Assignment], vars: &mut Vars) -> Result<Active, NoMemory>
-    ensures { IfOk result (λ active. record { environment = vars.new; active = active } ≡ assign_turn vars.old assignments.now) }
+/// The expansion turn of a simple command's words.
+fn expand(
+    alloc: Global,
+    items: &[SimpleItem],
+    vars: &mut Vars,
+    files: &Files,
+) -> Result<Active, NoMemory>
+    ensures { IfOk result (λ active. record { environment = vars.new; active = active } ≡ expand_turn files.now vars.old items.now) }
 {
-    let mut rest = assignments;
-    'assignments: while let Some((assignment, others)) = rest.split_first() {
-        let value = expand(alloc, assignment.value.as_slice(), vars)?;
-        match vars.set(assignment.name.as_slice(), value.as_slice()) {
-            Ok(()) => {},
-            Err(VarsFault::NoMemory) => return Err(NoMemory),
-            Err(_) => return fail(alloc, assignment.name.as_slice(), b": read only"),
+    match expand_words(alloc, items, vars, files)? {
+        Outcome::Fields(fields) => {
+            let active = command(alloc, fields.as_slice(), vars)?;
+            Ok(active)
+        },
+        Outcome::Stop(text) => {
+            let active = fail(alloc, text.as_slice())?;
+            Ok(active)
+        },
+    }
+}
+
+/// The assignments of a simple command.
+fn assign_all(
+    alloc: Global,
+    items: &[SimpleItem],
+    vars: &mut Vars,
+    files: &Files,
+) -> Result<Active, NoMemory>
+    ensures { IfOk result (λ active. record { environment = vars.new; active = active } ≡ assign_turn files.now vars.old items.now) }
+{
+    let mut rest = items;
+    'items: while let Some((item, others)) = rest.split_first() {
+        if let Some(text) = assign(alloc, item, vars, files)? {
+            let active = fail(alloc, text.as_slice())?;
+            return Ok(active);
         }
         rest = others;
     }
@@ -177,9 +205,10 @@ fn act(
     alloc: Global,
     active: Active,
     vars: &mut Vars,
+    files: &Files,
     kernel: &mut Kernel,
 ) -> Result<Tree, NoMemory>
-    ensures acted { IfOk result (λ tree. record { environment = vars.new; run = run_of tree } ≡ act_at vars.old active) }
+    ensures acted { IfOk result (λ tree. record { environment = vars.new; run = run_of tree } ≡ act_at files.now vars.old active) }
     ensures performed { OnOk result (kernel.new ≡ perform kernel.old (request_at active)) }
     ensures extends { Extends kernel.old.terminal kernel.new.terminal }
 {
@@ -188,13 +217,12 @@ fn act(
     };
     match place {
         Place::Reading(rest) => read(alloc, rest, vars),
-        Place::Expanding(words) => {
-            let fields = fields(alloc, words.as_slice(), vars)?;
-            let active = command(alloc, fields.as_slice(), vars)?;
+        Place::Expanding(command) => {
+            let active = expand(alloc, items_of(command.get()), vars, files)?;
             Ok(Tree::At(active))
         },
-        Place::Assigning(assignments) => {
-            let active = assign(alloc, assignments.as_slice(), vars)?;
+        Place::Assigning(command) => {
+            let active = assign_all(alloc, items_of(command.get()), vars, files)?;
             Ok(Tree::At(active))
         },
         Place::Writing(piece, then) => {
@@ -214,16 +242,17 @@ fn reduce_tree(
     alloc: Global,
     tree: Tree,
     vars: &mut Vars,
+    files: &Files,
     kernel: &mut Kernel,
 ) -> Result<Tree, NoMemory>
-    ensures reduced { IfOk result (λ next. record { environment = vars.new; run = run_of next } ≡ reduce vars.old (run_of tree)) }
+    ensures reduced { IfOk result (λ next. record { environment = vars.new; run = run_of next } ≡ reduce files.now vars.old (run_of tree)) }
     ensures performed { OnOk result (kernel.new ≡ perform kernel.old (request_of (run_of tree))) }
     ensures extends { Extends kernel.old.terminal kernel.new.terminal }
 {
     match tree {
-        Tree::At(active) => act(alloc, active, vars, kernel),
+        Tree::At(active) => act(alloc, active, vars, files, kernel),
         Tree::In(form, inner) => {
-            let inner = reduce_tree(alloc, Box::into_inner(inner), vars, kernel)?;
+            let inner = reduce_tree(alloc, Box::into_inner(inner), vars, files, kernel)?;
             wrap(alloc, form, inner)
         },
     }
@@ -240,6 +269,15 @@ fn root(tree: Tree) -> Tree
             Active::Next(place) => Tree::At(Active::Next(place)),
         },
         Tree::In(form, inner) => Tree::In(form, inner),
+    }
+}
+
+/// The text that a source gives.
+fn text_of_source(source: Source) -> Text
+    ensures { result ≡ text_of source }
+{
+    match source {
+        Source::Text(text) => text,
     }
 }
 
@@ -267,27 +305,32 @@ impl Model for Task {
 }
 
 impl Task {
-    /// A shell that is about to read a text.
-    pub fn new(alloc: Global, text: Text) -> Result<Self, NoMemory>
-        ensures { IfOk result (λ task. task ≡ record { environment = starting; run = Run.At (Active.Next (Place.Reading text)) }) }
+    /// A shell that is about to read its text.
+    pub fn new(alloc: Global, settings: Settings) -> Result<Self, NoMemory>
+        ensures { IfOk result (λ task. task ≡ record { environment = environment_of settings; run = Run.At (Active.Next (Place.Reading (text_of settings.source))) }) }
     {
-        let vars = Vars::new(alloc)?;
+        let mut vars = Vars::new(alloc)?;
+        vars.set_zero(settings.zero);
+        vars.set_positional(settings.args.into_vec());
+        vars.set_options(settings.options);
         Ok(Task {
             alloc,
             vars,
-            tree: Tree::At(Active::Next(Place::Reading(Rest::new(text)))),
+            tree: Tree::At(Active::Next(Place::Reading(Rest::new(text_of_source(
+                settings.source,
+            ))))),
         })
     }
 
     /// One turn: the request of the active place is performed, and the process is reduced. After an `Err`
     /// the process is given up.
-    pub fn turn(&mut self, kernel: &mut Kernel) -> Result<(), NoMemory>
-        ensures reduced { OnOk result (self.new ≡ reduced self.old) }
+    pub fn turn(&mut self, files: &Files, kernel: &mut Kernel) -> Result<(), NoMemory>
+        ensures reduced { OnOk result (self.new ≡ reduced files.now self.old) }
         ensures performed { OnOk result (kernel.new ≡ perform kernel.old (request_of self.old.run)) }
         ensures extends { Extends kernel.old.terminal kernel.new.terminal }
     {
         let tree = mem::replace(&mut self.tree, Tree::At(Active::Done(0)));
-        let next = reduce_tree(self.alloc, tree, &mut self.vars, kernel)?;
+        let next = reduce_tree(self.alloc, tree, &mut self.vars, files, kernel)?;
         self.tree = root(next);
         Ok(())
     }

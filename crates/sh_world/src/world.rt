@@ -1,17 +1,16 @@
 //! A world: the first shell over its terminal, moved by events.
 ghost use Rattle.std.specs.Prelude.{◌≡◌, ℕ, ◌<◌, List, OnOk, OnErr, IsErr, IfOk, Some, None, length, take, option_copied};
 ghost use Rattle.sh_world.specs.Kept.{Extends, IsSpent, WorldKept, WorldStands, shown_of};
-ghost use Rattle.sh_world.specs.State.{State, ended_of, run, start, status_of, step, terminal_of, text_of, turn_of};
+ghost use Rattle.sh_world.specs.State.{State, ended_of, run, start, status_of, step, terminal_of, turn_of};
 
 use crate::event::{Event, choose};
-use crate::image::Files;
 use crate::jobs::Jobs;
 use crate::kernel::Kernel;
-use crate::settings::{Settings, Source};
+use crate::settings::Settings;
 use crate::status::Status;
 use crate::task::Task;
+use sh_files::Files;
 use sh_syntax::memory::NoMemory;
-use sh_syntax::sequence::Text;
 use std::alloc::Global;
 use std::marker::Model;
 
@@ -32,43 +31,36 @@ pub struct World {
 impl Model for World {
     ghost use Rattle.std.specs.Prelude.{◌≤◌, length};
     ghost use Rattle.std.specs.Coded.{codes};
-    ghost use Rattle.sh_vars.specs.Codes.{map_code};
+    ghost use Rattle.sh_files_base.specs.Codes as paths;
+    ghost use Rattle.sh_vars.specs.Codes as variables;
     ghost use Rattle.sh_world.specs.Codes.{run_code};
     ghost use Rattle.sh_world.specs.Kept.{WorldKept};
 
     ghost Value = { WorldKept };
 
-    ghost coded = { Prim.hlevel (codes, map_code, run_code) };
+    ghost coded = { Prim.hlevel (codes, paths.map_code, variables.map_code, run_code) };
 
     ghost view = { λ w. record { files = w.files; kernel = w.kernel; task = w.task; jobs = w.jobs; last = w.last; shown = w.shown; spent = w.spent } };
 
     ghost invariant = { λ w. w.shown ≤ length w.kernel.terminal };
 }
 
-/// The text that a source gives.
-fn text_of_source(source: Source) -> Text
-    ensures { result ≡ text_of source }
-{
-    match source {
-        Source::Text(text) => text,
-    }
-}
-
 /// One turn of a process.
 fn turn(
+    files: &Files,
     kernel: &mut Kernel,
     task: &mut Task,
     last: &mut Option<u32>,
     pid: Option<u32>,
 ) -> Result<(), NoMemory>
-    ensures turned { (s : State) → kernel.old ≡ s.machine → task.old ≡ s.shell → last.old ≡ s.last →
+    ensures turned { (s : State) → files.now ≡ s.files → kernel.old ≡ s.machine → task.old ≡ s.shell → last.old ≡ s.last →
         OnOk result ((kernel.new ≡ (turn_of s pid).machine) × (task.new ≡ (turn_of s pid).shell) × (last.new ≡ (turn_of s pid).last)) }
     ensures extends { Extends kernel.old.terminal kernel.new.terminal }
 {
     let Some(pid) = pid else {
         return Ok(());
     };
-    task.turn(kernel)?;
+    task.turn(files, kernel)?;
     *last = Some(pid);
     Ok(())
 }
@@ -78,7 +70,7 @@ impl World {
     pub fn new(alloc: Global, image: Files, settings: Settings) -> Result<Self, NoMemory>
         ensures { IfOk result (λ world. WorldStands world (start image settings)) }
     {
-        let task = Task::new(alloc, text_of_source(settings.source))?;
+        let task = Task::new(alloc, settings)?;
         Ok(World {
             files: image,
             kernel: Kernel::new(alloc),
@@ -102,7 +94,13 @@ impl World {
         }
         self.spent = true;
         let pid = choose(event, self.last, self.kernel.runnable());
-        turn(&mut self.kernel, &mut self.task, &mut self.last, pid)?;
+        turn(
+            &self.files,
+            &mut self.kernel,
+            &mut self.task,
+            &mut self.last,
+            pid,
+        )?;
         self.shown = self.kernel.terminal().len();
         self.spent = false;
         Ok(())
