@@ -1,2 +1,5 @@
 pub mod Aliases
 pub mod Reading
+pub mod Turns
+pub mod Defined
+pub mod Insides

@@ -1,12 +1,14 @@
-//! The aliases that are defined.
+//! Aliases (XCU 2.3.1).
 ghost use Rattle.std.specs.Prelude.{◌≡◌};
-ghost use Rattle.sh_parse.specs.Aliases.{no_aliases};
+ghost use Rattle.sh_parse.specs.Aliases.{aliased, no_aliases};
 
+use sh_parse_lines::item::Item;
+use sh_parse_programs::front::Front;
 use std::alloc::Global;
 use std::marker::Model;
 
 /// The aliases that are defined (XCU 2.3.1). There are none yet.
-#[derive(Drop)]
+#[derive(Debug, Drop)]
 pub struct Aliases {}
 
 impl Model for Aliases {
@@ -24,4 +26,11 @@ impl Aliases {
     {
         Aliases {}
     }
+}
+
+/// What is read in the place of a token behind those judged already.
+pub(crate) fn aliased<'i>(_aliases: &Aliases, _front: &Front, item: &'i Item) -> &'i Item
+    ensures { result.now ≡ aliased _aliases.now _front.now item.now }
+{
+    item
 }

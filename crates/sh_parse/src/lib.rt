@@ -1,23 +1,34 @@
-//! Reading a command: from a text to the syntax tree of its first complete command (XCU 2.3, 2.10).
+//! Reading the next command of a text (XCU 2.1, 2.3, 2.10): where it ends, its syntax tree with the bodies of its here-documents
+//! (XCU 2.7.4), or where it can't go on.
 //!
-//! This is the shape of the reader alone: every text is unclosed yet.
+//! The text is cut into tokens, each is judged as it comes (the grammar takes it, its levels are counted, its parts are put together with
+//! the commands of its substitutions), and at a newline or the end of the input the reading is decided.
 #![tactic(auto)]
 
 ghost use Rattle.sh_parse.specs.Reading.{Answers, reading};
 
 mod aliases;
+mod fault;
+mod laws;
+mod turn;
 
 pub use aliases::Aliases;
-use sh_tree::tree::Complete;
+pub use laws::{
+    items_are_inside, no_text_has_two_readings, reading_is_the_defined_one, readings_are_inside,
+};
+use sh_parse_lines::waiting::Waiting;
+use sh_parse_programs::front::Front;
+use sh_tree::tree;
 use std::alloc::{AllocError, Global};
 use thiserror::Error;
+use turn::{Turn, next_turn};
 
 /// What a text reads as.
 #[derive(Drop)]
 pub enum Reading {
-    /// A complete command (XCU 2.10.2), and how many bytes of the text are read with it: up to and with the newline
-    /// that ends it and the bodies behind that, or the whole text where the input ends.
-    Complete { tree: Complete, used: usize },
+    /// A complete command (XCU 2.10.2), and how many bytes of the text are read with it: up to and with the newline that ends it and
+    /// the bodies behind that, or the whole text where the input ends.
+    Complete { tree: tree::Complete, used: usize },
     /// No token up to a newline, or up to the end of the input, and how many bytes that is, with the newline.
     Blank { used: usize },
     /// The text decides nothing yet: more has to be read before the answer is known. Never at the end of the input.
@@ -27,17 +38,18 @@ pub enum Reading {
 /// Why a text is refused. A place is the number of bytes before it.
 #[derive(Clone, Copy, Debug, PartialEq, Eq, Error)]
 pub enum ParseFault {
-    /// The token at `at` can't stand there, whatever comes behind it (XCU 2.10); or the byte at `at` is a NUL, which
-    /// no text of a script has.
+    /// The token at `at` can't stand there, whatever comes behind it (XCU 2.10); or the byte at `at` is a NUL, which no text of a script
+    /// has; or the commands in the backquotes at `at` are none (XCU 2.6.3); or the body of a here-document doesn't close the form at
+    /// `at` (XCU 2.7.4).
     #[error("syntax error at byte {at}")]
     Refused { at: usize },
     /// The input ends within a token or a command. `at` is the length of the text.
     #[error("end of input at byte {at}, within a command")]
     Unclosed { at: usize },
-    /// The parameter expansion at `at` has no form of XCU 2.6.2.
+    /// The `${` at `at` asks for nothing that there is (XCU 2.6.2).
     #[error("bad substitution at byte {at}")]
     BadSubstitution { at: usize },
-    /// The piece at `at` opens level 501.
+    /// The token or part at `at` opens level 501: compound commands, `${`, `$(`, `$((` and backquotes are levels.
     #[error("nested too deep at byte {at}")]
     TooDeep { at: usize },
     /// There was not enough memory.
@@ -56,11 +68,18 @@ impl From<AllocError> for ParseFault {
     }
 }
 
-/// Reads the first complete command of a text (XCU 2.3, 2.10), or says why there is none. `at_end`: the text's end is
-/// that of the input. The aliases are those that are defined where the command begins.
-#[tactic(auto, unfolding(crate::specs::Reading::reading))]
+/// Reads the first complete command of a text (XCU 2.3, 2.10), or says why there is none. `at_end`: the text's end is that of the
+/// input, which cuts off the body of a here-document that isn't over. `aliases` are those that stand when the reading begins; none is
+/// replaced yet.
+///
+/// The reading is decided at the first newline token behind its bodies, or end of the input, at which the tokens before it are none, are
+/// a complete command, or have a fault, of which the one at the least place is told. After `Complete` or `Blank` the next reading begins
+/// `used` bytes further on. After `More` it begins at the same byte, in a longer text or at the end of the input. Where to go on after a
+/// fault is for the caller to say; want of memory leaves it open what the text reads as. The time is linear in the text for each level
+/// of its substitutions, and so is the memory.
+#[tactic(auto, using(crate::proofs::Turning::fails))]
 pub fn read_command(
-    _alloc: Global,
+    alloc: Global,
     text: &[u8],
     at_end: bool,
     aliases: &Aliases,
@@ -68,5 +87,18 @@ pub fn read_command(
     // The answer is that of `reading`, or memory ran out.
     ensures { Answers result (reading aliases.now at_end text.now) }
 {
-    Err(ParseFault::Unclosed { at: 0 })
+    let front = Front::of_command(alloc)?;
+    let mut judged = Ok(front);
+    let mut waiting = Waiting::new(alloc);
+    let mut at = 0;
+    loop {
+        match next_turn(alloc, text, at_end, aliases, judged, waiting, at)? {
+            Turn::On(next, left, place) => {
+                judged = next;
+                waiting = left;
+                at = place;
+            },
+            Turn::Read(reading) => return Ok(reading),
+        }
+    }
 }

@@ -1,6 +1,4 @@
 pub mod Defined
 pub mod Sizes
-pub mod Refusals
-pub mod Decisions
-pub mod Turning
+pub mod Firsts
 pub mod Scanning

@@ -10,7 +10,7 @@ use Rattle.sh_parse_lines.specs.Waiting.{Waiting, nothing, behind_token}
 use Rattle.sh_parse_lines.specs.Items.{FirstItem, FoundItem, NoItem, first_item, item_at, GivesItem}
 use Rattle.sh_parse_lines.specs.Stream.{Ending, AtEnd, Items, none, with_item, with_first, items_from, items_of}
 use Rattle.sh_parse_lines.specs.Scanned.{ending_of}
-use Rattle.sh_parse_lines.proofs.Turning.{first_found}
+use Rattle.sh_parse_lines.proofs.Firsts.{first_found}
 
 -- items behind others
 abbrev pub behind_all : List Item → Items → Items

@@ -3,8 +3,4 @@ pub mod Waiting
 pub mod Items
 pub mod Places
 pub mod Stream
-pub mod Fronts
-pub mod Reading
-pub mod Defined
-pub mod Turns
 pub mod Scanned

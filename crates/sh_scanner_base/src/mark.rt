@@ -75,14 +75,15 @@ fn is_byte(mark: &Mark) -> bool
     }
 }
 
-fn are_bytes(pieces: &[Mark]) -> bool
+/// Whether each piece is a byte that stands for itself: nothing in the word is quoted or expanded.
+pub fn are_bytes(pieces: &[Mark]) -> bool
     ensures { result ≡ list_all is_byte pieces.now }
 {
     pieces.iter().all(|mark| is_byte(mark))
 }
 
-/// The bytes at a word's beginning that stand for themselves.
-fn literal_front(alloc: Global, pieces: &[Mark]) -> Result<Vec<u8>, AllocError>
+/// The bytes at a word's beginning that stand for themselves. The only error is want of memory.
+pub fn literal_front(alloc: Global, pieces: &[Mark]) -> Result<Vec<u8>, AllocError>
     ensures { IfOk result (λ bytes. bytes.items ≡ literal_front pieces.now) }
 {
     let mut bytes = Vec::new(alloc);
@@ -97,7 +98,8 @@ fn literal_front(alloc: Global, pieces: &[Mark]) -> Result<Vec<u8>, AllocError>
     Ok(bytes)
 }
 
-fn begins_with_name(bytes: &[u8]) -> bool
+/// Whether a name and `=` stand first: a word that begins with these bytes is an assignment (XCU 2.10.2 rule 7).
+pub fn begins_with_name(bytes: &[u8]) -> bool
     ensures { result ≡ assigns bytes.now }
 {
     match equals_at(bytes) {
@@ -107,7 +109,7 @@ fn begins_with_name(bytes: &[u8]) -> bool
 }
 
 /// The place of the first `=`.
-fn equals_at(bytes: &[u8]) -> Option<usize>
+pub fn equals_at(bytes: &[u8]) -> Option<usize>
     ensures value { result ≡ equals_place bytes.now }
     ensures inside { IfSome result (λ place. place < length bytes.now) }
 {

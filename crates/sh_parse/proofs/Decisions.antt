@@ -1,0 +1,341 @@
+-- What is decided is what derivations say.
+use Rattle.std.proofs.Common.{◌≡◌, ◌⊎◌, inl, inr, ◌↔◌, ℕ, Bool, true, false, List, [], ◌∷◌, ◌++◌, length, Option, Some, None, Result, Ok, Err, refl, sym, ap, subst, ◌∙◌, append_assoc, if◌then◌else◌}
+use Rattle.std.specs.Option.{unwrap_or}
+use Rattle.std.proofs.lemmas.List.{append-nil}
+use Rattle.sh_grammar.specs.Computed.{is_whole}
+use Rattle.sh_token_base.specs.Shell.{complete}
+use Rattle.sh_tree.specs.declared.tree.Complete.{Complete as Tree}
+use Rattle.sh_tree.specs.declared.tree.Parts.{Parts}
+use Rattle.sh_scanner.specs.declared.token.TokenKind.{TokenKind}
+use Rattle.sh_parse_lines.specs.declared.item.Item.{Item}
+use Rattle.sh_parse_lines.specs.Waiting.{nothing, due_at}
+use Rattle.sh_parse_lines.specs.Stream.{Ending, AtEnd, Cut, Nul, Deep, items_of}
+use Rattle.sh_parse_words.specs.declared.fault.PartFault.{PartFault}
+use Rattle.sh_parse_programs.specs.Inputs.{inputs_of}
+use Rattle.sh_parse_programs.specs.Results.{and_then}
+use Rattle.sh_parse_programs.specs.Judging.{IsShell, Judged, with_item, are_no, tree_by}
+use Rattle.sh_parse_programs.specs.Programs.{read_text}
+use Rattle.sh_parse_programs.specs.Defined.{Judge, Derive, waiting_behind, AreFaultless, AreTree, AreTokens}
+use Rattle.sh_parse_programs.proofs.Taking.{behind, judged_next, Told, next_told, next_fault}
+use Rattle.sh_parse_programs.proofs.Faultless.{waiting_push, judged, JudgedSo, judged_told, judged_push, faultless_judged, fault_judged}
+use Rattle.sh_parse_programs.proofs.Texts.{derive_whole, whole_not_derive, derive_not_whole, whole_derive, tree_found, tree_gives, tree_whole, tree_alone, alone_gives, none_told, some_told, some_leaves, tokens_of}
+use Rattle.sh_parse.specs.Aliases.{AliasTable}
+use Rattle.sh_parse.specs.Reading.{Answer, fault_of, is_newline, taken, completed, refusal, said, at_last, decided, reading}
+use Rattle.sh_parse.specs.declared.Reading.TheVariants.{Complete, Blank, More}
+use Rattle.sh_parse.specs.declared.ParseFault.TheVariants.{Refused, Unclosed, TooDeep}
+use Rattle.sh_parse.specs.Defined.{outer, last_bodies, Says, blank_line, faulty_line, whole_line, faulty_bodies, faulty_newline, IsSilent, AreSilent, Ends, blank_text, faulty_text, whole_text, open_text, FaultOr, EndSays, NewlineDecides, EndDecides, IsReading}
+
+commands : IsShell complete
+commands = inl refl
+
+no_value : (r : Result Judged PartFault) (f : PartFault) (k : Judged) → r ≡ Err f → r ≡ Ok k → ⊥
+no_value (Ok j) f k e h = cc
+no_value (Err x) f k e h = cc
+
+-- a newline
+abbrev saying : ℕ → Judged → Bool → Bool → Result (List Parts) PartFault → Result Judged PartFault → Option Answer
+saying used j b c o r = if b then Some (Ok (Blank used)) else if c then Some (completed j used o) else refusal r
+
+says_blank : (used : ℕ) (j : Judged) (b c : Bool) (o : Result (List Parts) PartFault) (r : Result Judged PartFault) → b ≡ true → saying used j b c o r ≡ Some (Ok (Blank used))
+says_blank used j b c o r e = rw e refl
+
+says_whole : (used : ℕ) (j : Judged) (b c : Bool) (o p : Result (List Parts) PartFault) (r : Result Judged PartFault) → b ≡ false → c ≡ true → o ≡ p
+    → saying used j b c o r ≡ Some (completed j used p)
+says_whole used j b c o p r e d f = rw (e, d, f) refl
+
+says_refused : (used : ℕ) (j : Judged) (b c : Bool) (o : Result (List Parts) PartFault) (r q : Result Judged PartFault) → b ≡ false → c ≡ false → r ≡ q
+    → saying used j b c o r ≡ refusal q
+says_refused used j b c o r q e d f = rw (e, d, f) refl
+
+module _ (table : AliasTable) (text : List ℕ) (before : List Item) (newline : Item) where
+  abbrev g : Judge
+  g = outer text
+
+  abbrev by : Result Judged PartFault → Option Answer
+  by r = said table text (waiting_behind nothing before) newline r
+
+  abbrev pub says_at : Option Answer
+  says_at = by (judged g before)
+
+  abbrev Speaks : Option Answer → Type 0
+  Speaks None = IsSilent text before newline
+  Speaks (Some answer) = Says text before newline answer
+
+  abbrev whole : Bool
+  whole = is_whole complete (inputs_of before)
+
+  -- what it says is so
+  module _ (x : AreFaultless (outer text) before) where
+    abbrev here : Judged
+    here = behind (outer text) before x.leaves x.bodies
+
+    abbrev next : Result Judged PartFault
+    next = judged_next (outer text) before newline x.leaves x.bodies
+
+    going : (k : Judged) → next ≡ Ok k → AreFaultless (outer text) (before ++ newline ∷ [])
+    going k e =
+        let is : judged (outer text) (before ++ newline ∷ []) ≡ Ok k =
+        judged_push (outer text) before newline
+        ∙ (ap (λ o. and_then o (λ j. with_item read_text 500 text (due_at newline.token.kind (waiting_behind nothing before)) newline j)) (faultless_judged (outer text) commands before x) ∙ e) in
+        let so : JudgedSo (outer text) (before ++ newline ∷ []) (Ok k) = subst (λ r. JudgedSo (outer text) (before ++ newline ∷ []) r) is (judged_told (outer text) commands (before ++ newline ∷ [])) in
+        so.0
+
+    next_says : (before ≡ [] → ⊥) → (Derive (outer text) before → ⊥) → (r : Result Judged PartFault) → next ≡ r → Told (outer text) before newline x.leaves x.bodies r → Speaks (refusal r)
+    next_says n d (Ok k) e h = record { some = n; unfinished = d; faultless = going k e }
+    next_says n d (Err f) e h = faulty_newline n x d f h refl
+
+    bodies_say : (before ≡ [] → ⊥) → AreTokens before → whole ≡ true → (o : Result (List Parts) PartFault) → last_bodies text before newline ≡ o
+        → Says text before newline (completed here newline.«end» o)
+    bodies_say n a w (Ok others) e = whole_line n others e _ (tree_found (outer text) commands before x a w others) refl
+    bodies_say n a w (Err f) e = faulty_bodies n x (whole_derive (outer text) commands before w) f e refl
+
+    some_say : (before ≡ [] → ⊥) → AreTokens before → (c : Bool) → whole ≡ c
+        → Speaks (if c then Some (completed here newline.«end» (last_bodies text before newline)) else refusal next)
+    some_say n a true w = bodies_say n a w (last_bodies text before newline) refl
+    some_say n a false w =
+        next_says n (whole_not_derive (outer text) commands before w) next refl (next_told (outer text) before newline x.leaves x.bodies commands)
+
+    all_say : AreTokens before → (b : Bool) → are_no x.leaves ≡ b
+        → Speaks (saying newline.«end» here b whole (last_bodies text before newline) next)
+    all_say a true e = blank_line (none_told (outer text) before x e) refl
+    all_say a false e = some_say (some_told (outer text) before x e) a whole refl
+
+  speaks_by : AreTokens before → (r : Result Judged PartFault) → JudgedSo (outer text) before r → Speaks (by r)
+  speaks_by a (Ok k) (x, e) = subst (λ j. Speaks (by (Ok j))) (sym e) (all_say x a (are_no x.leaves) refl)
+  speaks_by a (Err f) h = faulty_line f h refl
+
+  pub speaks : AreTokens before → (d : Option Answer) → says_at ≡ d → Speaks d
+  speaks a d e = subst (λ x. Speaks x) e (speaks_by a (judged (outer text) before) (judged_told (outer text) commands before))
+
+  -- and what is so it says
+  of_faultless : (x : AreFaultless (outer text) before) → says_at ≡ by (Ok (behind (outer text) before x.leaves x.bodies))
+  of_faultless x = ap (λ r. by r) (faultless_judged (outer text) commands before x)
+
+  whole_is : (others : List Parts) (tree : Tree) → (before ≡ [] → ⊥) → last_bodies text before newline ≡ Ok others → (a : AreTree (outer text) before others tree)
+      → says_at ≡ Some (Ok (Complete tree newline.«end»))
+  whole_is others tree n b a =
+      of_faultless a.faultless
+      ∙ (says_whole newline.«end» (behind (outer text) before a.faultless.leaves a.faultless.bodies) (are_no a.faultless.leaves) whole (last_bodies text before newline) (Ok others)
+      (judged_next (outer text) before newline a.faultless.leaves a.faultless.bodies)
+      (some_leaves (outer text) before a.faultless n) (tree_whole (outer text) commands before others tree a) b
+      ∙ ap (λ c. Some (Ok (Complete c newline.«end»))) (tree_gives (outer text) commands before others tree a))
+
+  blank_is : before ≡ [] → says_at ≡ Some (Ok (Blank newline.«end»))
+  blank_is e = of_none before e
+    where
+      of_none : (xs : List Item) → xs ≡ [] → said table text (waiting_behind nothing xs) newline (judged (outer text) xs) ≡ Some (Ok (Blank newline.«end»))
+      of_none [] e = refl
+      of_none (t ∷ xs) e = absurd (cc)
+
+  pub says : (answer : Answer) → Says text before newline answer → says_at ≡ Some answer
+  says answer (blank_line e h) = blank_is e ∙ ap Some (sym h)
+  says answer (faulty_line f x h) = ap (λ r. by r) (fault_judged (outer text) commands before f x) ∙ ap Some (sym h)
+  says answer (whole_line n others b tree a h) = whole_is others tree n b a ∙ ap Some (sym h)
+  says answer (faulty_bodies n x d f b h) =
+      of_faultless x
+      ∙ (says_whole newline.«end» (behind (outer text) before x.leaves x.bodies) (are_no x.leaves) whole (last_bodies text before newline) (Err f)
+      (judged_next (outer text) before newline x.leaves x.bodies)
+      (some_leaves (outer text) before x n) (derive_whole (outer text) commands before d) b
+      ∙ ap Some (sym h))
+  says answer (faulty_newline n x d f w h) =
+      of_faultless x
+      ∙ (says_refused newline.«end» (behind (outer text) before x.leaves x.bodies) (are_no x.leaves) whole (last_bodies text before newline)
+      (judged_next (outer text) before newline x.leaves x.bodies) (Err f)
+      (some_leaves (outer text) before x n) (derive_not_whole (outer text) commands before d) (next_fault (outer text) before newline x.leaves x.bodies commands f w)
+      ∙ ap Some (sym h))
+
+  silent_by : (r : Result Judged PartFault) → JudgedSo (outer text) before r → (k : Judged) → (before ≡ [] → ⊥) → (Derive (outer text) before → ⊥)
+      → and_then r (λ j. with_item read_text 500 text (due_at newline.token.kind (waiting_behind nothing before)) newline j) ≡ Ok k → by r ≡ None
+  silent_by (Ok j) (x, e) k n d h =
+      says_refused newline.«end» j (are_no j.leaves) (is_whole j.grammar j.tokens) (last_bodies text before newline) (taken table text (waiting_behind nothing before) newline j) (Ok k)
+      (ap (λ (i : Judged). are_no i.leaves) e ∙ some_leaves (outer text) before x n)
+      (ap (λ (i : Judged). is_whole i.grammar i.tokens) e ∙ derive_not_whole (outer text) commands before d) h
+  silent_by (Err f) q k n d h = absurd (no_value (Err f) f k refl h)
+
+  pub silent : IsSilent text before newline → says_at ≡ None
+  silent q =
+      silent_by (judged (outer text) before) (judged_told (outer text) commands before) (behind (outer text) (before ++ newline ∷ []) q.faultless.leaves q.faultless.bodies) q.some q.unfinished
+      (sym (judged_push (outer text) before newline) ∙ faultless_judged (outer text) commands (before ++ newline ∷ []) q.faultless)
+
+-- the end of the text
+module _ (text : List ℕ) (tokens : List Item) where
+  ends_by : (x : AreFaultless (outer text) tokens) → AreTokens tokens → (b c : Bool) → are_no x.leaves ≡ b → is_whole complete (inputs_of tokens) ≡ c
+      → Ends text tokens (if b then Ok (Blank (length text)) else if c then Ok (Complete (tree_by (behind (outer text) tokens x.leaves x.bodies)) (length text)) else Err (Unclosed (length text)))
+  ends_by x a true c e d = blank_text (none_told (outer text) tokens x e) refl
+  ends_by x a false true e d = whole_text (some_told (outer text) tokens x e) _ (tree_alone (outer text) commands tokens x a d) refl
+  ends_by x a false false e d = open_text (some_told (outer text) tokens x e) x (whole_not_derive (outer text) commands tokens d) refl
+
+  ends_told : (e : Bool) → AreTokens tokens → (r : Result Judged PartFault) → JudgedSo (outer text) tokens r → Ends text tokens (at_last e (length text) r AtEnd)
+  ends_told e a (Ok k) (x, is) =
+      subst (λ j. Ends text tokens (at_last e (length text) (Ok j) AtEnd)) (sym is) (ends_by x a (are_no x.leaves) (is_whole complete (inputs_of tokens)) refl refl)
+  ends_told e a (Err f) h = faulty_text f h refl
+
+  abbrev or_fault : Answer → Result Judged PartFault → Answer
+  or_fault other (Ok k) = other
+  or_fault other (Err f) = Err (fault_of f)
+
+  fault_told : (other : Answer) (r : Result Judged PartFault) → JudgedSo (outer text) tokens r → FaultOr text tokens other (or_fault other r)
+  fault_told other (Ok k) (x, is) = inr (x, refl)
+  fault_told other (Err f) h = inl (f, h, refl)
+
+  cut_is : (r : Result Judged PartFault) → at_last true (length text) r Cut ≡ or_fault (Err (Unclosed (length text))) r
+  cut_is (Ok k) = refl
+  cut_is (Err f) = refl
+
+  nul_is : (place : ℕ) (r : Result Judged PartFault) → at_last true (length text) r (Nul place) ≡ or_fault (Err (Refused place)) r
+  nul_is place (Ok k) = refl
+  nul_is place (Err f) = refl
+
+  deep_is : (place : ℕ) (r : Result Judged PartFault) → at_last true (length text) r (Deep place) ≡ or_fault (Err (TooDeep place)) r
+  deep_is place (Ok k) = refl
+  deep_is place (Err f) = refl
+
+  more_is : (ending : Ending) → (ending ≡ AtEnd → ⊥) → (r : Result Judged PartFault) → at_last false (length text) r ending ≡ Ok More
+  more_is AtEnd n r = absurd (n refl)
+  more_is Cut n (Ok k) = refl
+  more_is Cut n (Err f) = refl
+  more_is (Nul place) n (Ok k) = refl
+  more_is (Nul place) n (Err f) = refl
+  more_is (Deep place) n (Ok k) = refl
+  more_is (Deep place) n (Err f) = refl
+
+  abbrev last : Bool → Ending → Answer
+  last e ending = at_last e (length text) (judged (outer text) tokens) ending
+
+  end_told : (e : Bool) → AreTokens tokens → (ending : Ending) → EndSays e text tokens ending (last e ending)
+  end_told true a AtEnd = ends_told true a (judged (outer text) tokens) (judged_told (outer text) commands tokens)
+  end_told false a AtEnd = ends_told false a (judged (outer text) tokens) (judged_told (outer text) commands tokens)
+  end_told true a Cut =
+      subst (λ x. FaultOr text tokens (Err (Unclosed (length text))) x) (sym (cut_is (judged (outer text) tokens)))
+      (fault_told (Err (Unclosed (length text))) (judged (outer text) tokens) (judged_told (outer text) commands tokens))
+  end_told true a (Nul place) =
+      subst (λ x. FaultOr text tokens (Err (Refused place)) x) (sym (nul_is place (judged (outer text) tokens)))
+      (fault_told (Err (Refused place)) (judged (outer text) tokens) (judged_told (outer text) commands tokens))
+  end_told true a (Deep place) =
+      subst (λ x. FaultOr text tokens (Err (TooDeep place)) x) (sym (deep_is place (judged (outer text) tokens)))
+      (fault_told (Err (TooDeep place)) (judged (outer text) tokens) (judged_told (outer text) commands tokens))
+  end_told false a Cut = more_is Cut (λ x. cc) (judged (outer text) tokens)
+  end_told false a (Nul place) = more_is (Nul place) (λ x. cc) (judged (outer text) tokens)
+  end_told false a (Deep place) = more_is (Deep place) (λ x. cc) (judged (outer text) tokens)
+
+  -- and back
+  last_whole : (e : Bool) (j : Judged) (tree : Tree) → are_no j.leaves ≡ false → is_whole j.grammar j.tokens ≡ true → tree_by j ≡ tree
+      → at_last e (length text) (Ok j) AtEnd ≡ Ok (Complete tree (length text))
+  last_whole e j tree n w t = rw (n, w, t) refl
+
+  last_open : (e : Bool) (j : Judged) → are_no j.leaves ≡ false → is_whole j.grammar j.tokens ≡ false → at_last e (length text) (Ok j) AtEnd ≡ Err (Unclosed (length text))
+  last_open e j n w = rw (n, w) refl
+
+  last_of : (e : Bool) (ending : Ending) (x : AreFaultless (outer text) tokens) → last e ending ≡ at_last e (length text) (Ok (behind (outer text) tokens x.leaves x.bodies)) ending
+  last_of e ending x = ap (λ r. at_last e (length text) r ending) (faultless_judged (outer text) commands tokens x)
+
+  ends_said : (e : Bool) (answer : Answer) → Ends text tokens answer → last e AtEnd ≡ answer
+  ends_said e answer (blank_text n h) = of_none tokens n ∙ sym h
+    where
+      of_none : (xs : List Item) → xs ≡ [] → at_last e (length text) (judged (outer text) xs) AtEnd ≡ Ok (Blank (length text))
+      of_none [] n = refl
+      of_none (t ∷ xs) n = absurd (cc)
+  ends_said e answer (faulty_text f x h) = ap (λ r. at_last e (length text) r AtEnd) (fault_judged (outer text) commands tokens f x) ∙ sym h
+  ends_said e answer (whole_text n tree a h) =
+      last_of e AtEnd a.faultless
+      ∙ (last_whole e (behind (outer text) tokens a.faultless.leaves a.faultless.bodies) tree (some_leaves (outer text) tokens a.faultless n)
+      (tree_whole (outer text) commands tokens [] tree a) (alone_gives (outer text) commands tokens tree a) ∙ sym h)
+  ends_said e answer (open_text n x d h) =
+      last_of e AtEnd x
+      ∙ (last_open e (behind (outer text) tokens x.leaves x.bodies) (some_leaves (outer text) tokens x n) (derive_not_whole (outer text) commands tokens d) ∙ sym h)
+
+  fault_said : (other answer : Answer) → FaultOr text tokens other answer → or_fault other (judged (outer text) tokens) ≡ answer
+  fault_said other answer (inl (f, x, h)) = ap (λ r. or_fault other r) (fault_judged (outer text) commands tokens f x) ∙ sym h
+  fault_said other answer (inr (x, h)) = ap (λ r. or_fault other r) (faultless_judged (outer text) commands tokens x) ∙ sym h
+
+  end_said : (e : Bool) (ending : Ending) (answer : Answer) → EndSays e text tokens ending answer → last e ending ≡ answer
+  end_said true AtEnd answer h = ends_said true answer h
+  end_said false AtEnd answer h = ends_said false answer h
+  end_said true Cut answer h = cut_is (judged (outer text) tokens) ∙ fault_said (Err (Unclosed (length text))) answer h
+  end_said true (Nul place) answer h = nul_is place (judged (outer text) tokens) ∙ fault_said (Err (Refused place)) answer h
+  end_said true (Deep place) answer h = deep_is place (judged (outer text) tokens) ∙ fault_said (Err (TooDeep place)) answer h
+  end_said false Cut answer h = more_is Cut (λ x. cc) (judged (outer text) tokens) ∙ sym h
+  end_said false (Nul place) answer h = more_is (Nul place) (λ x. cc) (judged (outer text) tokens) ∙ sym h
+  end_said false (Deep place) answer h = more_is (Deep place) (λ x. cc) (judged (outer text) tokens) ∙ sym h
+
+-- one token more
+silent_push : (text : List ℕ) (start before : List Item) (t : Item) → AreSilent text start before → (is_newline t.token.kind ≡ true → IsSilent text (start ++ before) t)
+    → AreSilent text start (before ++ t ∷ [])
+silent_push text start [] t s h = ((λ l. subst (λ x. IsSilent text x t) (append-nil start) (h l)), tt)
+silent_push text start (b ∷ before) t s h =
+    (s.0, silent_push text (start ++ b ∷ []) before t s.1 (λ l. subst (λ x. IsSilent text x t) (sym (append_assoc start (b ∷ []) before)) (h l)))
+
+tokens_push : (before : List Item) (t : Item) → AreTokens before → (t.token.kind ≡ TokenKind.End → ⊥) → AreTokens (before ++ t ∷ [])
+tokens_push [] t a n = (n, tt)
+tokens_push (b ∷ before) t a n = (a.0, tokens_push before t a.1 n)
+
+module _ (table : AliasTable) (e : Bool) (text : List ℕ) (ending : Ending) where
+  abbrev Decides : List Item → Answer → Type 0
+  Decides tokens answer = NewlineDecides text tokens answer ⊎ EndDecides e text tokens ending answer
+
+  -- what is decided behind tokens
+  abbrev from : List Item → List Item → Answer
+  from before tokens = decided table e text (waiting_behind nothing before) (judged (outer text) before) tokens ending
+
+  abbrev goes : Bool → Option Answer → Answer → Answer
+  goes b d later = unwrap_or (if b then d else None) later
+
+  from_next : (before : List Item) (t : Item) (tokens : List Item)
+      → from before (t ∷ tokens) ≡ goes (is_newline t.token.kind) (says_at table text before t) (from (before ++ t ∷ []) tokens)
+  from_next before t tokens =
+      ap (λ later. goes (is_newline t.token.kind) (says_at table text before t) later)
+      (ap (λ w. decided table e text w (and_then (judged (outer text) before) (taken table text (waiting_behind nothing before) t)) tokens ending) (sym (waiting_push nothing before t))
+      ∙ ap (λ r. decided table e text (waiting_behind nothing (before ++ t ∷ [])) r tokens ending) (sym (judged_push (outer text) before t)))
+
+  sound_step : (before : List Item) (t : Item) (tokens : List Item) (later : Answer) (b : Bool) (d : Option Answer) → AreTokens before → AreSilent text [] before
+      → is_newline t.token.kind ≡ b → says_at table text before t ≡ d → (AreSilent text [] (before ++ t ∷ []) → Decides (before ++ t ∷ tokens) later)
+      → Decides (before ++ t ∷ tokens) (goes b d later)
+  sound_step before t tokens later false d a s l h more = more (silent_push text [] before t s (λ x. let z : true ≡ false = sym x ∙ l in absurd (cc)))
+  sound_step before t tokens later true None a s l h more = more (silent_push text [] before t s (λ x. speaks table text before t a None h))
+  sound_step before t tokens later true (Some answer) a s l h more =
+      inl (record { before = before; newline = t; after = tokens; joined = refl; line = l; first = s; says = speaks table text before t a (Some answer) h })
+
+  sound : (tokens before : List Item) → AreTokens before → AreTokens tokens → AreSilent text [] before → Decides (before ++ tokens) (from before tokens)
+  sound [] before a n s =
+      subst (λ x. Decides x (at_last e (length text) (judged (outer text) before) ending)) (sym (append-nil before)) (inr (record { silent = s; says = end_told text before e a ending }))
+  sound (t ∷ tokens) before a n s =
+      subst (λ x. Decides (before ++ t ∷ tokens) x) (sym (from_next before t tokens))
+      (sound_step before t tokens (from (before ++ t ∷ []) tokens) (is_newline t.token.kind) (says_at table text before t) a s refl refl
+      (λ x. subst (λ y. Decides y (from (before ++ t ∷ []) tokens)) (append_assoc before (t ∷ []) tokens) (sound tokens (before ++ t ∷ []) (tokens_push before t a n.0) n.1 x)))
+
+  pass_step : (before : List Item) (t : Item) (later : Answer) (b : Bool) → is_newline t.token.kind ≡ b → (is_newline t.token.kind ≡ true → IsSilent text before t)
+      → goes b (says_at table text before t) later ≡ later
+  pass_step before t later false l h = refl
+  pass_step before t later true l h = ap (λ d. unwrap_or d later) (silent table text before t (h l))
+
+  walk : (middle before others : List Item) → AreSilent text before middle → from before (middle ++ others) ≡ from (before ++ middle) others
+  walk [] before others s = ap (λ x. from x others) (sym (append-nil before))
+  walk (t ∷ middle) before others s =
+      from_next before t (middle ++ others)
+      ∙ (pass_step before t (from (before ++ t ∷ []) (middle ++ others)) (is_newline t.token.kind) refl s.0
+      ∙ (walk middle (before ++ t ∷ []) others s.1 ∙ ap (λ x. from x others) (append_assoc before (t ∷ []) middle)))
+
+  at_line : (before : List Item) (t : Item) (later answer : Answer) → is_newline t.token.kind ≡ true → Says text before t answer
+      → goes (is_newline t.token.kind) (says_at table text before t) later ≡ answer
+  at_line before t later answer l h =
+      ap (λ b. goes b (says_at table text before t) later) l ∙ ap (λ d. unwrap_or d later) (says table text before t answer h)
+
+  by_newline : (tokens : List Item) (answer : Answer) → NewlineDecides text tokens answer → from [] tokens ≡ answer
+  by_newline tokens answer n =
+      ap (λ x. from [] x) n.joined
+      ∙ (walk n.before [] (n.newline ∷ n.after) n.first
+      ∙ (from_next n.before n.newline n.after ∙ at_line n.before n.newline (from (n.before ++ n.newline ∷ []) n.after) answer n.line n.says))
+
+  by_end : (tokens : List Item) (answer : Answer) → EndDecides e text tokens ending answer → from [] tokens ≡ answer
+  by_end tokens answer n = ap (λ x. from [] x) (sym (append-nil tokens)) ∙ (walk tokens [] [] n.silent ∙ end_said text tokens e ending answer n.says)
+
+  complete_for : (tokens : List Item) (answer : Answer) → Decides tokens answer → from [] tokens ≡ answer
+  complete_for tokens answer (inl n) = by_newline tokens answer n
+  complete_for tokens answer (inr n) = by_end tokens answer n
+
+pub reading_defined : (table : AliasTable) (e : Bool) (text : List ℕ) (answer : Answer) → (reading table e text ≡ answer) ↔ IsReading table e text answer
+unfolding reading
+reading_defined table e text answer = (
+  (λ h. subst (λ x. IsReading table e text x) h (sound table e text (items_of e text).ending (items_of e text).items [] tt (tokens_of e text) tt)),
+  (λ h. complete_for table e text (items_of e text).ending (items_of e text).items answer h),
+)

@@ -1,0 +1,199 @@
+-- The items of a text stand in it, and so what is read is of it.
+use Rattle.std.proofs.Common.{◌≡◌, ◌⊎◌, inl, inr, ℕ, zero, suc, ◌+◌, ◌-◌, ◌<◌, ◌≤◌, Bool, true, false, List, [], ◌∷◌, ◌++◌, length, take, drop, Option, Some, None, Ok, Err, refl, sym, ap, subst, ◌∙◌, arith}
+use Rattle.std.proofs.lemmas.List.{length-drop}
+use Rattle.sh_scanner_base.specs.declared.here.Delimiter.{Delimiter}
+use Rattle.sh_scanner.specs.declared.token.TokenKind.{TokenKind}
+use Rattle.sh_scanner.specs.FirstToken.{FirstToken, Found, Unfinished, NulAt, DeepAt, IsFirst, nul_in}
+use Rattle.sh_scanner.specs.Found.{first_token}
+use Rattle.sh_scanner.specs.Placed.{IsPlaced}
+use Rattle.sh_scanner.proofs.Complete.{complete}
+use Rattle.sh_scanner.proofs.Laws.{is_first}
+use Rattle.sh_scanner.proofs.Places.{placed_shown}
+use Rattle.sh_parse_lines.specs.declared.item.Item.{Item}
+use Rattle.sh_parse_lines.specs.Bodies.{AreBodies, bodies_size}
+use Rattle.sh_parse_lines.specs.Waiting.{Waiting, nothing, behind_token, due_at}
+use Rattle.sh_parse_lines.specs.Items.{FirstItem, FoundItem, NoItem, first_item, item_of, with_bodies, with_nul, no_end}
+use Rattle.sh_parse_lines.specs.Stream.{Ending, AtEnd, Cut, Nul, Deep, Items, with_item, with_first, items_from, items_of}
+use Rattle.sh_parse_lines.proofs.Defined.{bodies_defined}
+use Rattle.sh_parse_words.specs.declared.fault.PartFault.{PartFault}
+use Rattle.sh_parse_words.specs.declared.fault.PartFault.TheVariants as fault
+use Rattle.sh_parse.specs.Aliases.{AliasTable}
+use Rattle.sh_parse.specs.Reading.{Answer, fault_of, reading}
+use Rattle.sh_parse.specs.declared.Reading.TheVariants.{Complete, Blank, More}
+use Rattle.sh_parse.specs.declared.ParseFault.TheVariants.{Refused, Unclosed, TooDeep}
+use Rattle.sh_parse.specs.Defined.{Says, blank_line, faulty_line, whole_line, faulty_bodies, faulty_newline, Ends, blank_text, faulty_text, whole_text, open_text, FaultOr, EndSays, IsReading}
+use Rattle.sh_parse.specs.Insides.{IsInside, AreInside}
+use Rattle.sh_parse.proofs.Decisions.{reading_defined}
+
+-- the first token stands in its text
+first_placed : (e : Bool) (text : List ℕ) (at : ℕ) (kind : TokenKind) (start stop : ℕ) → first_token e (drop at text) ≡ Found kind start stop
+    → IsPlaced at (length text) (record { kind = kind; span = record { start = at + start; «end» = at + stop } })
+first_placed e text at kind start stop h =
+    let f : IsFirst e (drop at text) (Found kind start stop) = subst (λ x. IsFirst e (drop at text) x) h (is_first e (drop at text)) in
+    let front = f.0.0 in
+    let rest = f.0.1.0 in
+    let token = f.0.1.1 in
+    let from : start + length front ≡ length (drop at text) = f.0.1.2 in
+    let to : stop + length rest ≡ length (drop at text) = f.0.1.3 in
+    let c = complete e (drop at text) front rest kind token in
+    placed_shown e text at (drop at text) c.state front rest kind start stop refl c.is (sym c.kind_is) (omega (from, arith)) (omega (to, arith))
+
+-- and so does its item
+pub record ItemInside (at size start stop after : ℕ) : Type 0 where
+  pub ordered : start < stop
+  pub behind : stop ≤ after
+  pub inside : at + after ≤ size
+
+bodies_inside : (e : Bool) (due : List Delimiter) (bytes : List ℕ) (n : ℕ) → bodies_size e due bytes ≡ Some n → n ≤ length bytes
+bodies_inside e due bytes n h = go ((bodies_defined e due bytes n).0 h)
+  where
+    go : AreBodies e due bytes n → n ≤ length bytes
+    go (inl w) = w.1
+    go (inr w) = let x : n ≡ length bytes = w.1 in omega (x, arith)
+
+placed_inside : (at size start stop n : ℕ) (kind : TokenKind) → (kind ≡ TokenKind.End → ⊥) → IsPlaced at size (record { kind = kind; span = record { start = at + start; «end» = at + stop } })
+    → at ≤ size → n ≤ (size - at) - stop → ItemInside at size start stop (stop + n)
+placed_inside at size start stop n kind k p l b =
+    let further : at + start < at + stop = p.advances k in
+    let within : at + stop ≤ size = p.ends l in
+    record { ordered = omega (further, arith); behind = omega arith; inside = omega (within, b, l, arith) }
+
+drop_drop : (text : List ℕ) (at stop : ℕ) → length (drop stop (drop at text)) ≡ (length text - at) - stop
+drop_drop text at stop = length-drop stop (drop at text) ∙ ap (λ n. n - stop) (length-drop at text)
+
+by_nul : (at size start stop n k s after : ℕ) (kind kind' : TokenKind) (z : Option ℕ) → with_nul kind' k s n z ≡ FoundItem kind start stop after
+    → (kind' ≡ kind) × (k ≡ start) × (s ≡ stop) × (s + n ≡ after)
+by_nul at size start stop n k s after kind kind' None h = (cc, cc, cc, cc)
+by_nul at size start stop n k s after kind kind' (Some place) h = absurd (cc)
+
+no_found : (s : ℕ) (z : Option ℕ) (kind : TokenKind) (start stop after : ℕ) → no_end s z ≡ FoundItem kind start stop after → ⊥
+no_found s None kind start stop after h = cc
+no_found s (Some place) kind start stop after h = cc
+
+module _ (e : Bool) (text : List ℕ) (w : Waiting) (at : ℕ) (l : at ≤ length text) (kind : TokenKind) (start stop after : ℕ) (k : kind ≡ TokenKind.End → ⊥) where
+  by_bodies : (kind' : TokenKind) (a b : ℕ) (o : Option ℕ) → IsPlaced at (length text) (record { kind = kind'; span = record { start = at + a; «end» = at + b } })
+      → bodies_size e (due_at kind' w) (drop b (drop at text)) ≡ o → with_bodies kind' a b (drop b (drop at text)) o ≡ FoundItem kind start stop after
+      → ItemInside at (length text) start stop after
+  by_bodies kind' a b None p s h = absurd (no_found b (nul_in (drop b (drop at text))) kind start stop after h)
+  by_bodies kind' a b (Some n) p s h =
+      let q = by_nul at (length text) start stop n a b after kind kind' (nul_in (take n (drop b (drop at text)))) h in
+      let i = placed_inside at (length text) a b n kind' (λ x. k (sym q.0 ∙ x)) p l
+      (subst (λ m. n ≤ m) (drop_drop text at b) (bodies_inside e (due_at kind' w) (drop b (drop at text)) n s)) in
+      let same : b + n ≡ after = q.3 in
+      let first : a ≡ start = q.1 in
+      let last : b ≡ stop = q.2 in
+      let further : a < b = i.ordered in
+      let within : at + (b + n) ≤ length text = i.inside in
+      record { ordered = omega (further, first, last, arith); behind = omega (last, same, arith); inside = omega (within, same, arith) }
+
+  by_token : (first : FirstToken) → first_token e (drop at text) ≡ first → item_of e w (drop at text) first ≡ FoundItem kind start stop after → ItemInside at (length text) start stop after
+  by_token (Found kind' a b) f h = by_bodies kind' a b (bodies_size e (due_at kind' w) (drop b (drop at text))) (first_placed e text at kind' a b f) refl h
+  by_token Unfinished f h = absurd (cc)
+  by_token (NulAt place) f h = absurd (cc)
+  by_token (DeepAt place) f h = absurd (cc)
+
+  found_inside : first_item e w (drop at text) ≡ FoundItem kind start stop after → ItemInside at (length text) start stop after
+  unfolding first_item
+  found_inside h = by_token (first_token e (drop at text)) refl h
+
+-- all items
+abbrev Stands : ℕ → ℕ → ℕ → ℕ → ℕ → List Item → Type 0
+Stands at size start stop after items = (at ≤ start) × (start < stop) × (stop ≤ after) × (after ≤ size) × AreInside after size items
+
+item_inside : (at size : ℕ) (kind : TokenKind) (start stop after : ℕ) (others : Items) → ((kind ≡ TokenKind.End → ⊥) → Stands at size start stop after others.items)
+    → AreInside at size (with_item kind start stop after others).items
+item_inside at size TokenKind.End start stop after others h = tt
+item_inside at size (TokenKind.Operator o) start stop after others h = h (λ x. cc)
+item_inside at size TokenKind.Number start stop after others h = h (λ x. cc)
+item_inside at size (TokenKind.Word ms) start stop after others h = h (λ x. cc)
+
+stands : (at size start stop after : ℕ) (items : List Item) → ItemInside at size start stop after → AreInside (at + after) size items → Stands at size (at + start) (at + stop) (at + after) items
+stands at size start stop after items i h =
+    let further : start < stop = i.ordered in
+    let behind : stop ≤ after = i.behind in
+    (omega arith, omega (further, arith), omega (behind, arith), i.inside, h)
+
+first_inside : (e : Bool) (text : List ℕ) (w : Waiting) (at : ℕ) → at ≤ length text → (others : Waiting → ℕ → Items)
+    → ((v : Waiting) (place : ℕ) → place ≤ length text → AreInside place (length text) (others v place).items)
+    → (first : FirstItem) → first_item e w (drop at text) ≡ first → AreInside at (length text) (with_first others w at first).items
+first_inside e text w at l others more (NoItem wrong) h = tt
+first_inside e text w at l others more (FoundItem kind start stop after) h =
+    item_inside at (length text) kind (at + start) (at + stop) (at + after) (others (behind_token kind w) (at + after)) (λ k.
+    let i = found_inside e text w at l kind start stop after k h in
+    stands at (length text) start stop after (others (behind_token kind w) (at + after)).items i (more (behind_token kind w) (at + after) i.inside))
+
+inside_from : (n : ℕ) (e : Bool) (text : List ℕ) (w : Waiting) (at : ℕ) → at ≤ length text → AreInside at (length text) (items_from n e text w at).items
+inside_from zero e text w at l = tt
+inside_from (suc n) e text w at l =
+    first_inside e text w at l (λ v place. items_from n e text v place) (λ v place m. inside_from n e text v place m) (first_item e w (drop at text)) refl
+
+pub inside_of : (e : Bool) (text : List ℕ) → AreInside 0 (length text) (items_of e text).items
+inside_of e text = inside_from (suc (length text)) e text nothing 0 (omega arith)
+
+last_inside : (at size : ℕ) (t : Item) (items : List Item) → AreInside at size (t ∷ items) → (0 < t.«end») × (t.«end» ≤ size)
+last_inside at size t items h =
+    let first : t.token.span.start < t.token.span.«end» = h.1 in
+    let last : t.token.span.«end» ≤ t.«end» = h.2 in
+    (omega (first, last, arith), h.3)
+
+one_inside : (at size : ℕ) (before : List Item) (t : Item) (after : List Item) → AreInside at size (before ++ t ∷ after) → (0 < t.«end») × (t.«end» ≤ size)
+one_inside at size [] t after h = last_inside at size t after h
+one_inside at size (b ∷ before) t after h = one_inside b.«end» size before t after h.4
+
+some_inside : (at size : ℕ) (items : List Item) → AreInside at size items → (items ≡ [] → ⊥) → 0 < size
+some_inside at size [] h n = absurd (n refl)
+some_inside at size (t ∷ items) h n = let i = last_inside at size t items h in let a : 0 < t.«end» = i.0 in let b : t.«end» ≤ size = i.1 in omega (a, b, arith)
+
+-- the answers
+fault_inside : (e : Bool) (text : List ℕ) (f : PartFault) → IsInside e text (Err (fault_of f))
+fault_inside e text (fault.BadSubstitution at) = tt
+fault_inside e text (fault.TooDeep at) = tt
+fault_inside e text (fault.Refused at) = tt
+fault_inside e text fault.NoMemory = tt
+
+told : (e : Bool) (text : List ℕ) (answer known : Answer) → answer ≡ known → IsInside e text known → IsInside e text answer
+told e text answer known h i = subst (λ x. IsInside e text x) (sym h) i
+
+line_inside : (e : Bool) (text : List ℕ) (before : List Item) (newline : Item) (answer : Answer) → (0 < newline.«end») × (newline.«end» ≤ length text)
+    → Says text before newline answer → IsInside e text answer
+line_inside e text before newline answer i (blank_line n h) = told e text answer (Ok (Blank newline.«end»)) h (inl i.0, i.1)
+line_inside e text before newline answer i (faulty_line f x h) = told e text answer (Err (fault_of f)) h (fault_inside e text f)
+line_inside e text before newline answer i (whole_line n others b tree a h) = told e text answer (Ok (Complete tree newline.«end»)) h i
+line_inside e text before newline answer i (faulty_bodies n x d f b h) = told e text answer (Err (fault_of f)) h (fault_inside e text f)
+line_inside e text before newline answer i (faulty_newline n x d f w h) = told e text answer (Err (fault_of f)) h (fault_inside e text f)
+
+some_or_none : (text : List ℕ) → (0 < length text) ⊎ (text ≡ [])
+some_or_none [] = inr refl
+some_or_none (b ∷ bs) = inl (omega arith)
+
+text_inside : (e : Bool) (text : List ℕ) (tokens : List Item) (answer : Answer) → AreInside 0 (length text) tokens → Ends text tokens answer → IsInside e text answer
+text_inside e text tokens answer i (blank_text n h) = told e text answer (Ok (Blank (length text))) h (some_or_none text, omega arith)
+text_inside e text tokens answer i (faulty_text f x h) = told e text answer (Err (fault_of f)) h (fault_inside e text f)
+text_inside e text tokens answer i (whole_text n tree a h) = told e text answer (Ok (Complete tree (length text))) h (some_inside 0 (length text) tokens i n, omega arith)
+text_inside e text tokens answer i (open_text n x d h) = told e text answer (Err (Unclosed (length text))) h refl
+
+or_inside : (e : Bool) (text : List ℕ) (tokens : List Item) (other answer : Answer) → IsInside e text other → FaultOr text tokens other answer → IsInside e text answer
+or_inside e text tokens other answer i (inl (f, x, h)) = told e text answer (Err (fault_of f)) h (fault_inside e text f)
+or_inside e text tokens other answer i (inr (x, h)) = told e text answer other h i
+
+end_inside : (e : Bool) (text : List ℕ) (tokens : List Item) (ending : Ending) (answer : Answer) → AreInside 0 (length text) tokens → EndSays e text tokens ending answer → IsInside e text answer
+end_inside e text tokens AtEnd answer i h = text_inside e text tokens answer i h
+end_inside true text tokens Cut answer i h = or_inside true text tokens (Err (Unclosed (length text))) answer refl h
+end_inside true text tokens (Nul place) answer i h = or_inside true text tokens (Err (Refused place)) answer tt h
+end_inside true text tokens (Deep place) answer i h = or_inside true text tokens (Err (TooDeep place)) answer tt h
+end_inside false text tokens Cut answer i h = told false text answer (Ok More) h refl
+end_inside false text tokens (Nul place) answer i h = told false text answer (Ok More) h refl
+end_inside false text tokens (Deep place) answer i h = told false text answer (Ok More) h refl
+
+answer_inside : (table : AliasTable) (e : Bool) (text : List ℕ) (answer : Answer) → IsReading table e text answer → IsInside e text answer
+answer_inside table e text answer (inl n) =
+    line_inside e text n.before n.newline answer
+    (one_inside 0 (length text) n.before n.newline n.after (subst (λ xs. AreInside 0 (length text) xs) n.joined (inside_of e text))) n.says
+answer_inside table e text answer (inr n) = end_inside e text (items_of e text).items (items_of e text).ending answer (inside_of e text) n.says
+
+pub reading_inside : (table : AliasTable) (e : Bool) (text : List ℕ) → IsInside e text (reading table e text)
+reading_inside table e text = answer_inside table e text (reading table e text) ((reading_defined table e text (reading table e text)).0 refl)
+
+-- one reading alone
+pub one_reading : (table : AliasTable) (e : Bool) (text : List ℕ) (x y : Answer) → IsReading table e text x → IsReading table e text y → x ≡ y
+one_reading table e text x y a b = sym ((reading_defined table e text x).1 a) ∙ (reading_defined table e text y).1 b

@@ -1,0 +1,4 @@
+pub mod Turning
+pub mod Lines
+pub mod Decisions
+pub mod Insides

@@ -1,0 +1,5 @@
+use Rattle.sh_parse.proofs.Insides.{reading_inside}
+use Rattle.sh_parse.proofs.laws.readings_are_inside.Goals as goal
+
+pub returns : goal.returns
+returns c = reading_inside

@@ -1,0 +1,30 @@
+//! Laws on readings.
+ghost use Rattle.std.specs.Prelude.{◌≡◌, ◌↔◌, ℕ, Bool, List, length};
+ghost use Rattle.sh_parse_lines.specs.Stream.{items_of};
+ghost use Rattle.sh_parse.specs.Aliases.{AliasTable};
+ghost use Rattle.sh_parse.specs.Reading.{Answer, reading};
+ghost use Rattle.sh_parse.specs.Defined.{IsReading};
+ghost use Rattle.sh_parse.specs.Insides.{AreInside, IsInside};
+
+/// Law: `reading` gives an answer exactly when the text reads as it by derivations: a complete command derives, and its tree is the syntax
+/// of its derivation; what derives is given; a refused token is the first with which the tokens are no front; and where nothing is
+/// decided, the tokens up to each newline are a front of what may come.
+pub fn reading_is_the_defined_one()
+    ensures { (table : AliasTable) (at_end : Bool) (text : List ℕ) (answer : Answer) → (reading table at_end text ≡ answer) ↔ IsReading table at_end text answer }
+{}
+
+/// Law: no text reads as two answers, and so none has two trees.
+pub fn no_text_has_two_readings()
+    ensures { (table : AliasTable) (at_end : Bool) (text : List ℕ) (one other : Answer) → IsReading table at_end text one → IsReading table at_end text other → one ≡ other }
+{}
+
+/// Law: what is read is some bytes of the text, or none of an empty one; an unclosed command ends with the text; and more is asked for only
+/// before the end of the input.
+pub fn readings_are_inside()
+    ensures { (table : AliasTable) (at_end : Bool) (text : List ℕ) → IsInside at_end text (reading table at_end text) }
+{}
+
+/// Law: the items of a text stand in it, one behind another.
+pub fn items_are_inside()
+    ensures { (at_end : Bool) (text : List ℕ) → AreInside 0 (length text) (items_of at_end text).items }
+{}

@@ -1,9 +1,0 @@
-use Rattle.std.proofs.Common.{◌-◌, length}
-use Rattle.sh_parse_lines.proofs.Turning.{Stands}
-use Rattle.sh_parse_lines.proofs.read_tokens.Given as goal
-
-abbrev pub invariant-loop-next : goal.invariant-loop-next
-invariant-loop-next l = Stands l.at_end l.text l.front l.waiting l.at
-
-abbrev pub decreases-loop-next : goal.decreases-loop-next
-decreases-loop-next l = length l.text - l.at

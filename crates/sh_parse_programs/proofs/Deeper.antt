@@ -1,0 +1,312 @@
+-- Texts nest no deeper than their levels: a substitution in a text has less levels left than the text.
+use Rattle.std.proofs.Common.{◌≡◌, ◌↔◌, ℕ, zero, suc, ◌-◌, ◌<◌, ◌≤◌, nat_eq, nat_lt, Bool, true, false, List, [], ◌∷◌, ◌++◌, length, drop, take, Option, Some, None, Result, Ok, Err, refl, sym, ap, subst, ◌∙◌, arith, if◌then◌else◌}
+use Rattle.std.proofs.lemmas.Bool.{eqb-false}
+use Rattle.sh_scanner_base.specs.declared.here.Delimiter.{Delimiter}
+use Rattle.sh_scanner_base.specs.declared.mark.Mark.{Mark}
+use Rattle.sh_scanner_base.specs.declared.mark.Mark.TheVariants as mark
+use Rattle.sh_scanner_base.specs.Told.{literal_front}
+use Rattle.sh_scanner.specs.declared.token.TokenKind.{TokenKind}
+use Rattle.sh_scanner.specs.Body.{body_answer}
+use Rattle.sh_scanner.specs.Found.{pieces_of_body}
+use Rattle.sh_syntax.specs.declared.word.Span.{Span}
+use Rattle.sh_token_base.specs.Shell.{substitution}
+use Rattle.sh_tree.specs.declared.tree.Complete.{Complete}
+use Rattle.sh_tree.specs.declared.tree.Part.{Part}
+use Rattle.sh_tree.specs.declared.tree.Parts.{Parts}
+use Rattle.sh_parse_documents.specs.declared.document.Document.{Document}
+use Rattle.sh_parse_documents.specs.Documents.{between, documents, place_at}
+use Rattle.sh_parse_lines.specs.declared.item.Item.{Item}
+use Rattle.sh_parse_lines.specs.Waiting.{Waiting, nothing, behind_token, due_at}
+use Rattle.sh_parse_lines.specs.Stream.{items_of}
+use Rattle.sh_parse_words.specs.declared.parameter.Braces.{Braces}
+use Rattle.sh_parse_words.specs.declared.build.Form.{Form}
+use Rattle.sh_parse_words.specs.declared.build.Form.TheVariants as form
+use Rattle.sh_parse_words.specs.declared.build.Frame.{Frame}
+use Rattle.sh_parse_words.specs.declared.build.Skip.{Skip}
+use Rattle.sh_parse_words.specs.declared.build.Request.{Request}
+use Rattle.sh_parse_words.specs.declared.build.Substitution.{Substitution}
+use Rattle.sh_parse_words.specs.declared.fault.PartFault.{PartFault}
+use Rattle.sh_parse_words.specs.declared.fault.PartFault.TheVariants as fault
+use Rattle.sh_parse_words.specs.Building.{Building, Outcome, begun, ended, parts_of, with_part, with_bytes, opened, last_frame, other_frames, closed_by, closed, on, skip_close, skipping, open_braces, backquoted, plainly, taking, take_by, take_piece, with_program}
+use Rattle.sh_parse_words.specs.Parameters.{braces_of}
+use Rattle.sh_parse_words.specs.Places.{behind_piece}
+use Rattle.sh_parse_programs.specs.Results.{and_then, fault_moved}
+use Rattle.sh_parse_programs.specs.Sources.{text_between, behind_pieces}
+use Rattle.sh_parse_programs.specs.Words.{Reader, text_of, place_in, answer_of, answered, with_piece, begins_closed, with_pieces, whole, parts_in}
+use Rattle.sh_parse_programs.specs.Leaves.{name_size, assignment_leaf, plain_leaf, leaf_by, word_leaf, leaf_of}
+use Rattle.sh_parse_programs.specs.Documents.{pieces_by, expanded_body, document_parts, with_documents, bodies_of}
+use Rattle.sh_parse_programs.specs.Judging.{Judged, none_of, with_input, takes, open_in, with_leaf, with_item, with_items}
+use Rattle.sh_parse_programs.specs.Inputs.{input_of}
+use Rattle.sh_parse_programs.specs.Programs.{ended_by, program_in, programs, read_text}
+use Rattle.sh_parse_programs.specs.Defined.{IsProgram}
+use Rattle.sh_parse_programs.proofs.Texts.{program_defined}
+
+-- what is being put together has at most so many levels left, and one at least where a substitution is open
+abbrev AllLeft : ℕ → List Frame → Type 0
+AllLeft n [] = Unit {0}
+AllLeft n (f ∷ fs) = (f.left ≤ n) × AllLeft n fs
+
+abbrev SkipLeft : ℕ → Option Skip → Type 0
+SkipLeft n None = Unit {0}
+SkipLeft n (Some s) = 0 < n
+
+record IsWithin (n : ℕ) (b : Building) : Type 0 where
+  pub left : b.left ≤ n
+  pub frames : AllLeft n b.frames
+  pub skip : SkipLeft b.left b.skip
+
+abbrev Asks : ℕ → Option Request → Type 0
+Asks n None = Unit {0}
+Asks n (Some r) = r.left < n
+
+abbrev Gives : ℕ → Outcome → Type 0
+Gives n (Ok t) = IsWithin n t.building × Asks n t.request
+Gives n (Err f) = Unit {0}
+
+push_left : (n : ℕ) (fs : List Frame) (f : Frame) → AllLeft n fs → f.left ≤ n → AllLeft n (fs ++ f ∷ [])
+push_left n [] f h l = (l, tt)
+push_left n (g ∷ fs) f h l = (h.0, push_left n fs f h.1 l)
+
+others_left : (n : ℕ) (fs : List Frame) → AllLeft n fs → AllLeft n (other_frames fs)
+others_left n [] h = tt
+others_left n (f ∷ []) h = tt
+others_left n (f ∷ g ∷ fs) h = (h.0, others_left n (g ∷ fs) h.1)
+
+abbrev LastLeft : ℕ → Option Frame → Type 0
+LastLeft n None = Unit {0}
+LastLeft n (Some f) = f.left ≤ n
+
+last_left : (n : ℕ) (fs : List Frame) → AllLeft n fs → LastLeft n (last_frame fs)
+last_left n [] h = tt
+last_left n (f ∷ []) h = h.0
+last_left n (f ∷ g ∷ fs) h = last_left n (g ∷ fs) h.1
+
+no_skip : (left : ℕ) (s : Option Skip) → s ≡ None → SkipLeft left s
+no_skip left s e = subst (λ x. SkipLeft left x) (sym e) tt
+
+part_within : (n : ℕ) (b : Building) (p : Part) → IsWithin n b → IsWithin n (with_part b p)
+unfolding with_part
+part_within n b p h = record { left = h.left; frames = h.frames; skip = h.skip }
+
+bytes_within : (n : ℕ) (b : Building) (bytes : List ℕ) → IsWithin n b → IsWithin n (with_bytes b bytes)
+unfolding with_bytes
+bytes_within n b bytes h = record { left = h.left; frames = h.frames; skip = h.skip }
+
+opened_within : (n : ℕ) (b : Building) (f : Form) (left : ℕ) → IsWithin n b → b.skip ≡ None → left ≤ n → IsWithin n (opened b f left)
+unfolding opened
+opened_within n b f left h e l = record { left = l; frames = push_left n b.frames _ h.frames h.left; skip = no_skip left b.skip e }
+
+closed_within_by : (n : ℕ) (b : Building) (o : Option Frame) → IsWithin n b → b.skip ≡ None → LastLeft n o → IsWithin n (closed_by o b)
+closed_within_by n b None h e l = record { left = h.left; frames = others_left n b.frames h.frames; skip = h.skip }
+closed_within_by n b (Some f) h e l = record { left = l; frames = others_left n b.frames h.frames; skip = no_skip f.left b.skip e }
+
+closed_within : (n : ℕ) (b : Building) → IsWithin n b → b.skip ≡ None → IsWithin n (closed b)
+unfolding closed
+closed_within n b h e = closed_within_by n b (last_frame b.frames) h e (last_left n b.frames h.frames)
+
+plainly_within : (n : ℕ) (b : Building) (m : Mark) → IsWithin n b → b.skip ≡ None → IsWithin n (plainly b m)
+unfolding plainly
+plainly_within n b (mark.Byte c) h e = bytes_within n b _ h
+plainly_within n b (mark.Escaped c) h e = part_within n b _ h
+plainly_within n b (mark.Backslash c) h e = bytes_within n b _ h
+plainly_within n b (mark.SingleQuoted bytes) h e = part_within n b _ h
+plainly_within n b mark.DoubleQuotesOpen h e = opened_within n b form.Quotes b.left h e h.left
+plainly_within n b mark.DoubleQuotesClose h e = closed_within n b h e
+plainly_within n b mark.Dollar h e = bytes_within n b _ h
+plainly_within n b (mark.Variable bytes) h e = part_within n b _ h
+plainly_within n b (mark.Parameter c) h e = part_within n b _ h
+plainly_within n b mark.BraceClose h e = closed_within n b h e
+plainly_within n b mark.ArithmeticClose h e = closed_within n b h e
+plainly_within n b m h e = h
+
+level_gives : (n left place : ℕ) (o : Outcome) (z : Bool) → nat_eq left 0 ≡ z → (0 < left → Gives n o) → Gives n (if z then Err (fault.TooDeep place) else o)
+level_gives n left place o true e h = tt
+level_gives n left place o false e h = let x = eqb-false left 0 e in h (positive left x)
+  where
+    positive : (k : ℕ) → (k ≡ 0 → ⊥) → 0 < k
+    positive zero x = absurd (x refl)
+    positive (suc k) x = omega arith
+
+braces_give : (n : ℕ) (b : Building) (place : ℕ) (o : Option Braces) → IsWithin n b → b.skip ≡ None → Gives n (open_braces b (b.left - 1) place o)
+braces_give n b place None h e = tt
+braces_give n b place (Some f) h e = let l : b.left ≤ n = h.left in (opened_within n b (form.Braces f) (b.left - 1) h e (omega (l, arith)), tt)
+
+taking_gives : (n : ℕ) (b : Building) (m : Mark) (empty : Bool) (place behind : ℕ) → IsWithin n b → b.skip ≡ None → Gives n (taking b m empty place behind)
+taking_gives n b (mark.BraceOpen head) empty place behind h e =
+    level_gives n b.left place (open_braces b (b.left - 1) place (braces_of head empty)) (nat_eq b.left 0) refl (λ l. braces_give n b place (braces_of head empty) h e)
+taking_gives n b mark.ArithmeticOpen empty place behind h e =
+    level_gives n b.left place (on (opened b form.Arithmetic (b.left - 1))) (nat_eq b.left 0) refl (λ l.
+    let k : b.left ≤ n = h.left in (opened_within n b form.Arithmetic (b.left - 1) h e (omega (k, arith)), tt))
+taking_gives n b mark.CommandsOpen empty place behind h e =
+    level_gives n b.left place (on (record b { skip = Some (record { depth = 0; place = place; start = behind }) })) (nat_eq b.left 0) refl (λ l.
+    (record { left = h.left; frames = h.frames; skip = l }, tt))
+taking_gives n b (mark.Backquoted bytes) empty place behind h e =
+    level_gives n b.left place (Ok (record { building = b; request = Some (backquoted b place behind) })) (nat_eq b.left 0) refl (λ l.
+    let k : b.left ≤ n = h.left in (h, omega (k, l, arith)))
+taking_gives n b m empty place behind h e = (plainly_within n b m h e, tt)
+
+close_gives : (n : ℕ) (b : Building) (s : Skip) (here : ℕ) (z : Bool) → nat_eq s.depth 0 ≡ z → IsWithin n b → 0 < b.left → Gives n (skip_close b s here)
+close_gives n b s here true e h l = let k : b.left ≤ n = h.left in rw e (record { left = h.left; frames = h.frames; skip = tt }, omega (k, l, arith))
+close_gives n b s here false e h l = rw e (record { left = h.left; frames = h.frames; skip = l }, tt)
+
+skipping_gives : (n : ℕ) (b : Building) (s : Skip) (m : Mark) (here : ℕ) → IsWithin n b → 0 < b.left → Gives n (skipping b s m here)
+skipping_gives n b s mark.CommandsOpen here h l = (record { left = h.left; frames = h.frames; skip = l }, tt)
+skipping_gives n b s mark.CommandsClose here h l = close_gives n b s here (nat_eq s.depth 0) refl h l
+skipping_gives n b s m here h l = (h, tt)
+
+take_gives_by : (n : ℕ) (b : Building) (m : Mark) (empty : Bool) (place behind : ℕ) (o : Option Skip) → b.skip ≡ o → IsWithin n b → Gives n (take_by o b m empty place behind)
+take_gives_by n b m empty place behind None e h = taking_gives n b m empty place behind h e
+take_gives_by n b m empty place behind (Some s) e h = skipping_gives n b s m place h (subst (λ x. SkipLeft b.left x) e h.skip)
+
+take_gives : (n : ℕ) (b : Building) (m : Mark) (empty : Bool) (place behind : ℕ) → IsWithin n b → Gives n (take_piece b m empty place behind)
+unfolding take_piece
+take_gives n b m empty place behind h = take_gives_by n b m empty place behind b.skip refl h
+
+program_within : (n : ℕ) (b : Building) (s : Substitution) (c : Complete) → IsWithin n b → IsWithin n (with_program b s c)
+unfolding with_program
+program_within n b s c h = part_within n b _ h
+
+then_all : {A B : Type 0} (o : Result A PartFault) (f h : A → Result B PartFault) → ((x : A) → f x ≡ h x) → and_then o f ≡ and_then o h
+then_all (Ok x) f h e = e x
+then_all (Err y) f h e = refl
+
+-- readers that agree on texts with less than n levels left agree on the words and bodies of one with n left
+module _ (n : ℕ) (read other : Reader) (agree : (left : ℕ) → left < n → (text : List ℕ) → read left text ≡ other left text) where
+  abbrev After : Result Building PartFault → Type 0
+  After (Ok b) = IsWithin n b
+  After (Err f) = Unit {0}
+
+  answer_same : (text : List ℕ) (r : Request) → r.left < n → answer_of read text r ≡ answer_of other text r
+  unfolding answer_of
+  answer_same text r l = ap (λ x. fault_moved (λ at. place_in r at) x) (agree r.left l (text_of r text))
+
+  answered_same : (text : List ℕ) (b : Building) (o : Option Request) → Asks n o → answered read text b o ≡ answered other text b o
+  answered_same text b None l = refl
+  answered_same text b (Some r) l = ap (λ x. and_then x (λ c. Ok (with_program b r.form c))) (answer_same text r l)
+
+  made_within : (b : Building) (s : Substitution) (x : Result Complete PartFault) → IsWithin n b → After (and_then x (λ c. Ok (with_program b s c)))
+  made_within b s (Ok c) h = program_within n b s c h
+  made_within b s (Err f) h = tt
+
+  answered_within : (text : List ℕ) (b : Building) (o : Option Request) → IsWithin n b → After (answered read text b o)
+  answered_within text b None h = h
+  answered_within text b (Some r) h = made_within b r.form (answer_of read text r) h
+
+  step_same : (text : List ℕ) (o : Outcome) → Gives n o → and_then o (λ t. answered read text t.building t.request) ≡ and_then o (λ t. answered other text t.building t.request)
+  step_same text (Ok t) h = answered_same text t.building t.request h.1
+  step_same text (Err f) h = refl
+
+  step_within : (text : List ℕ) (o : Outcome) → Gives n o → After (and_then o (λ t. answered read text t.building t.request))
+  step_within text (Ok t) h = answered_within text t.building t.request h.0
+  step_within text (Err f) h = tt
+
+  piece_same : (text : List ℕ) (b : Building) (m : Mark) (empty : Bool) (bytes : List ℕ) → IsWithin n b → with_piece read text b m empty bytes ≡ with_piece other text b m empty bytes
+  unfolding with_piece
+  piece_same text b m empty bytes h = step_same text _ (take_gives n b m empty _ _ h)
+
+  piece_within : (text : List ℕ) (b : Building) (m : Mark) (empty : Bool) (bytes : List ℕ) → IsWithin n b → After (with_piece read text b m empty bytes)
+  unfolding with_piece
+  piece_within text b m empty bytes h = step_within text _ (take_gives n b m empty _ _ h)
+
+  then_within : (o : Result Building PartFault) (f g : Building → Result Building PartFault) → After o → ((b : Building) → IsWithin n b → f b ≡ g b) → and_then o f ≡ and_then o g
+  then_within (Ok b) f g h e = e b h
+  then_within (Err x) f g h e = refl
+
+  pieces_same : (text : List ℕ) (ms : List Mark) (b : Building) (bytes : List ℕ) → IsWithin n b → with_pieces read text b ms bytes ≡ with_pieces other text b ms bytes
+  pieces_same text [] b bytes h = refl
+  pieces_same text (m ∷ ms) b bytes h =
+      then_within (with_piece read text b m (begins_closed ms) bytes) (λ c. with_pieces read text c ms (behind_piece m bytes)) (λ c. with_pieces other text c ms (behind_piece m bytes))
+      (piece_within text b m (begins_closed ms) bytes h) (λ c k. pieces_same text ms c (behind_piece m bytes) k)
+      ∙ ap (λ o. and_then o (λ c. with_pieces other text c ms (behind_piece m bytes))) (piece_same text b m (begins_closed ms) bytes h)
+
+  parts_same : (text : List ℕ) (ms : List Mark) (bytes : List ℕ) → parts_in read n text ms bytes ≡ parts_in other n text ms bytes
+  unfolding parts_in
+  parts_same text ms bytes =
+      ap (λ o. and_then o (λ b. Ok (whole b))) (pieces_same text ms (begun n) bytes (record { left = omega arith; frames = tt; skip = tt }))
+
+  word_by : (text : List ℕ) (ms : List Mark) (span : Span) (front : List ℕ) (size : Option ℕ) → leaf_by read n text ms span front size ≡ leaf_by other n text ms span front size
+  word_by text ms span front None =
+      ap (λ o. and_then o (λ parts. Ok (plain_leaf ms front parts (text_between text span.start span.«end»)))) (parts_same text ms (drop span.start text))
+  word_by text ms span front (Some size) =
+      ap (λ o. and_then o (λ value. Ok (assignment_leaf front size value (text_between text span.start span.«end»))))
+      (parts_same text (drop (suc size) ms) (behind_pieces (take (suc size) ms) (drop span.start text)))
+
+  word_same : (text : List ℕ) (ms : List Mark) (span : Span) → word_leaf read n text ms span ≡ word_leaf other n text ms span
+  unfolding word_leaf
+  word_same text ms span = word_by text ms span (literal_front ms) (name_size (literal_front ms))
+
+  leaf_same : (text : List ℕ) (kind : TokenKind) (span : Span) → leaf_of read n text kind span ≡ leaf_of other n text kind span
+  leaf_same text (TokenKind.Operator o) span = refl
+  leaf_same text TokenKind.Number span = refl
+  leaf_same text (TokenKind.Word ms) span = word_same text ms span
+  leaf_same text TokenKind.End span = refl
+
+  body_same : (bytes : List ℕ) → expanded_body read n bytes ≡ expanded_body other n bytes
+  unfolding expanded_body
+  body_same bytes =
+      then_all (pieces_by (body_answer (pieces_of_body bytes))) (λ ms. parts_in read n bytes ms bytes) (λ ms. parts_in other n bytes ms bytes) (λ ms. parts_same bytes ms bytes)
+
+  document_same : (d : Document) → document_parts read n d ≡ document_parts other n d
+  unfolding document_parts
+  document_same d = ap (λ o. if d.is_quoted then Ok (parts_of (ended [] d.text)) else fault_moved (λ at. place_at d at) o) (body_same d.text)
+
+  documents_same : (ds : List Document) (bodies : List Parts) → with_documents read n bodies ds ≡ with_documents other n bodies ds
+  documents_same [] bodies = refl
+  documents_same (d ∷ ds) bodies =
+      then_all (document_parts read n d) (λ parts. with_documents read n (bodies ++ parts ∷ []) ds) (λ parts. with_documents other n (bodies ++ parts ∷ []) ds)
+      (λ parts. documents_same ds (bodies ++ parts ∷ []))
+      ∙ ap (λ o. and_then o (λ parts. with_documents other n (bodies ++ parts ∷ []) ds)) (document_same d)
+
+  bodies_same : (text : List ℕ) (due : List Delimiter) (item : Item) → bodies_of read n text due item ≡ bodies_of other n text due item
+  unfolding bodies_of
+  bodies_same text due item = documents_same (documents due item.token.span.«end» (between item.token.span.«end» item.«end» text)) []
+
+  leaves_same : (text : List ℕ) (due : List Delimiter) (item : Item) (j : Judged) → with_leaf read n text due item j ≡ with_leaf other n text due item j
+  leaves_same text due item j =
+      then_all (leaf_of read n text item.token.kind item.token.span)
+      (λ l. and_then (bodies_of read n text due item) (λ others. Ok (record j { leaves = j.leaves ++ l ∷ []; bodies = j.bodies ++ others })))
+      (λ l. and_then (bodies_of other n text due item) (λ others. Ok (record j { leaves = j.leaves ++ l ∷ []; bodies = j.bodies ++ others })))
+      (λ l. ap (λ o. and_then o (λ others. Ok (record j { leaves = j.leaves ++ l ∷ []; bodies = j.bodies ++ others }))) (bodies_same text due item))
+      ∙ ap (λ o. and_then o (λ l. and_then (bodies_of other n text due item) (λ others. Ok (record j { leaves = j.leaves ++ l ∷ []; bodies = j.bodies ++ others }))))
+      (leaf_same text item.token.kind item.token.span)
+
+abbrev Agree : ℕ → Reader → Reader → Type 0
+Agree n read other = (left : ℕ) → left < n → (text : List ℕ) → read left text ≡ other left text
+
+below : (n k : ℕ) (read other : Reader) → Agree n read other → Agree (n - k) read other
+below n k read other agree left l text = agree left (omega (l, arith)) text
+
+item_same : (n : ℕ) (read other : Reader) → Agree n read other → (text : List ℕ) (due : List Delimiter) (item : Item) (j : Judged) → with_item read n text due item j ≡ with_item other n text due item j
+unfolding with_item
+item_same n read other agree text due item j =
+    let k = with_input j (input_of item) in
+    ap (λ o. if takes k then if nat_lt n (open_in k) then Err (fault.TooDeep item.token.span.start) else o else Err (fault.Refused item.token.span.start))
+    (leaves_same (n - open_in k) read other (below n (open_in k) read other agree) text due item k)
+
+items_same : (n : ℕ) (read other : Reader) → Agree n read other → (text : List ℕ) (items : List Item) (w : Waiting) (j : Judged) → with_items read n text w items j ≡ with_items other n text w items j
+items_same n read other agree text [] w j = refl
+items_same n read other agree text (i ∷ items) w j =
+    then_all (with_item read n text (due_at i.token.kind w) i j) (λ k. with_items read n text (behind_token i.token.kind w) items k)
+    (λ k. with_items other n text (behind_token i.token.kind w) items k) (λ k. items_same n read other agree text items (behind_token i.token.kind w) k)
+    ∙ ap (λ o. and_then o (λ k. with_items other n text (behind_token i.token.kind w) items k)) (item_same n read other agree text (due_at i.token.kind w) i j)
+
+program_same : (n : ℕ) (read other : Reader) → Agree n read other → (text : List ℕ) → program_in read n text ≡ program_in other n text
+unfolding program_in
+program_same n read other agree text =
+    ap (λ o. and_then o (λ j. ended_by (length text) j (items_of true text).ending)) (items_same n read other agree text (items_of true text).items nothing (none_of substitution))
+
+-- a text with less levels left than this is the same, however deep texts may nest
+programs_same : (d : ℕ) → Agree d (programs d) (programs (suc d))
+programs_same zero left l text = absurd (omega (l, arith))
+programs_same (suc d) left l text = program_same left (programs d) (programs (suc d)) (λ k m t. programs_same d k (omega (m, l, arith)) t) text
+
+fixed : (d left : ℕ) → left ≤ d → (text : List ℕ) → programs (suc d) left text ≡ program_in (programs (suc d)) left text
+fixed d left l text = program_same left (programs d) (programs (suc d)) (λ k m t. programs_same d k (omega (m, l, arith)) t) text
+
+text_fixed : (left : ℕ) → left ≤ 500 → (text : List ℕ) → read_text left text ≡ program_in read_text left text
+text_fixed left l text = fixed 500 left l text
+
+pub text_defined : (left : ℕ) → left ≤ 500 → (text : List ℕ) (answer : Result Complete PartFault) → (read_text left text ≡ answer) ↔ IsProgram read_text left text answer
+text_defined left l text answer =
+    let p = program_defined read_text left text answer in
+    ((λ h. p.0 (sym (text_fixed left l text) ∙ h)), (λ h. text_fixed left l text ∙ p.1 h))

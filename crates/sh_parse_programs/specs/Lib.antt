@@ -1,0 +1,10 @@
+pub mod Results
+pub mod Sources
+pub mod Inputs
+pub mod Words
+pub mod Leaves
+pub mod Documents
+pub mod Levels
+pub mod Judging
+pub mod Programs
+pub mod Defined
