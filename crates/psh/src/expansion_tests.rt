@@ -1,5 +1,6 @@
 //! Runs of scripts that expand words, on the standard image of files.
 use crate::command_line::asked;
+use crate::tests;
 use crate::tests::{served, settings};
 use sh_files::Files;
 use sh_syntax::memory::NoMemory;
@@ -255,28 +256,23 @@ fn commands_that_are_not_served(rt: HostRuntime) -> Result<(), Fail> {
 #[test]
 fn turns_of_expansions(rt: HostRuntime) -> Result<(), Fail> {
     let alloc = rt.alloc();
-    let mut world = world_on(alloc, &[], settings(alloc, "x=a y=$x; echo $x$y ${z=b}")?)?;
-    for _ in 0..3 {
-        world.apply(Event::Next)?;
-    }
-    assert_eq!(rt; world.terminal(), b"".as_slice());
-    world.apply(Event::Next)?;
-    assert_eq!(rt; world.terminal(), b"aa b\n".as_slice());
-    world.apply(Event::Next)?;
-    assert_eq!(rt; world.ended(), None);
-    world.apply(Event::Next)?;
-    assert_eq!(rt; world.ended(), Some(Status::Exited(0)));
-    let mut faulty = world_on(alloc, &[], settings(alloc, "echo $((1/0))")?)?;
-    faulty.run(&[Event::Next, Event::Next])?;
-    assert_eq!(rt; faulty.terminal(), b"".as_slice());
-    faulty.apply(Event::Next)?;
-    assert_eq!(rt;
-        faulty.terminal(),
-        b"psh: arithmetic: division by zero\n".as_slice()
-    );
-    assert_eq!(rt; faulty.ended(), None);
-    faulty.apply(Event::Next)?;
-    assert_eq!(rt; faulty.ended(), Some(Status::Exited(2)));
+    let text = "x=a y=$x; echo $x$y ${z=b}";
+    let done = Some(Status::Exited(0));
+    assert!(rt; tests::comes_to(alloc, text, 3, "", None)?);
+    assert!(rt; tests::comes_to(alloc, text, 4, "aa b\n", None)?);
+    assert!(rt; tests::comes_to(alloc, text, 5, "aa b\n", None)?);
+    assert!(rt; tests::comes_to(alloc, text, 6, "aa b\n", done)?);
+    Ok(())
+}
+
+#[test]
+fn turns_of_a_fault(rt: HostRuntime) -> Result<(), Fail> {
+    let alloc = rt.alloc();
+    let text = "echo $((1/0)); echo no";
+    let message = "psh: arithmetic: division by zero\n";
+    assert!(rt; tests::comes_to(alloc, text, 2, "", None)?);
+    assert!(rt; tests::comes_to(alloc, text, 3, message, None)?);
+    assert!(rt; tests::comes_to(alloc, text, 4, message, Some(Status::Exited(2)))?);
     Ok(())
 }
 

@@ -38,7 +38,7 @@ fn after(alloc: Global, text: &str, turns: usize) -> Result<World, NoMemory> {
 }
 
 /// Whether a text comes to this terminal and this end after so many turns.
-fn comes_to(
+pub(crate) fn comes_to(
     alloc: Global,
     text: &str,
     turns: usize,
