@@ -1,5 +1,5 @@
--- The items of a text stand in it, and so what is read is of it.
-use Rattle.std.proofs.Common.{◌≡◌, ◌⊎◌, inl, inr, ℕ, zero, suc, ◌+◌, ◌-◌, ◌<◌, ◌≤◌, Bool, true, false, List, [], ◌∷◌, ◌++◌, length, take, drop, Option, Some, None, Ok, Err, refl, sym, ap, subst, ◌∙◌, arith}
+-- The items of a text stand in it.
+use Rattle.std.proofs.Common.{◌≡◌, inl, inr, ℕ, zero, suc, ◌+◌, ◌-◌, ◌<◌, ◌≤◌, Bool, List, [], ◌∷◌, ◌++◌, length, take, drop, Option, Some, None, refl, sym, ap, subst, ◌∙◌, arith}
 use Rattle.std.proofs.lemmas.List.{length-drop}
 use Rattle.sh_scanner_base.specs.declared.here.Delimiter.{Delimiter}
 use Rattle.sh_scanner.specs.declared.token.TokenKind.{TokenKind}
@@ -13,17 +13,9 @@ use Rattle.sh_parse_lines.specs.declared.item.Item.{Item}
 use Rattle.sh_parse_lines.specs.Bodies.{AreBodies, bodies_size}
 use Rattle.sh_parse_lines.specs.Waiting.{Waiting, nothing, behind_token, due_at}
 use Rattle.sh_parse_lines.specs.Items.{FirstItem, FoundItem, NoItem, first_item, item_of, with_bodies, with_nul, no_end}
-use Rattle.sh_parse_lines.specs.Stream.{Ending, AtEnd, Cut, Nul, Deep, Items, with_item, with_first, items_from, items_of}
+use Rattle.sh_parse_lines.specs.Stream.{Items, with_item, with_first, items_from, items_of}
 use Rattle.sh_parse_lines.proofs.Defined.{bodies_defined}
-use Rattle.sh_parse_words.specs.declared.fault.PartFault.{PartFault}
-use Rattle.sh_parse_words.specs.declared.fault.PartFault.TheVariants as fault
-use Rattle.sh_parse.specs.Aliases.{AliasTable}
-use Rattle.sh_parse.specs.Reading.{Answer, fault_of, reading}
-use Rattle.sh_parse.specs.declared.Reading.TheVariants.{Complete, Blank, More}
-use Rattle.sh_parse.specs.declared.ParseFault.TheVariants.{Refused, Unclosed, TooDeep}
-use Rattle.sh_parse.specs.Defined.{Says, blank_line, faulty_line, whole_line, faulty_bodies, faulty_newline, Ends, blank_text, faulty_text, whole_text, open_text, FaultOr, EndSays, IsReading}
-use Rattle.sh_parse.specs.Insides.{IsInside, AreInside}
-use Rattle.sh_parse.proofs.Decisions.{reading_defined}
+use Rattle.sh_parse.specs.Insides.{AreInside}
 
 -- the first token stands in its text
 first_placed : (e : Bool) (text : List ℕ) (at : ℕ) (kind : TokenKind) (start stop : ℕ) → first_token e (drop at text) ≡ Found kind start stop
@@ -92,7 +84,7 @@ module _ (e : Bool) (text : List ℕ) (w : Waiting) (at : ℕ) (l : at ≤ lengt
   by_token (NulAt place) f h = absurd (cc)
   by_token (DeepAt place) f h = absurd (cc)
 
-  found_inside : first_item e w (drop at text) ≡ FoundItem kind start stop after → ItemInside at (length text) start stop after
+  pub found_inside : first_item e w (drop at text) ≡ FoundItem kind start stop after → ItemInside at (length text) start stop after
   unfolding first_item
   found_inside h = by_token (first_token e (drop at text)) refl h
 
@@ -130,70 +122,16 @@ inside_from (suc n) e text w at l =
 pub inside_of : (e : Bool) (text : List ℕ) → AreInside 0 (length text) (items_of e text).items
 inside_of e text = inside_from (suc (length text)) e text nothing 0 (omega arith)
 
-last_inside : (at size : ℕ) (t : Item) (items : List Item) → AreInside at size (t ∷ items) → (0 < t.«end») × (t.«end» ≤ size)
+pub last_inside : (at size : ℕ) (t : Item) (items : List Item) → AreInside at size (t ∷ items) → (0 < t.«end») × (t.«end» ≤ size)
 last_inside at size t items h =
     let first : t.token.span.start < t.token.span.«end» = h.1 in
     let last : t.token.span.«end» ≤ t.«end» = h.2 in
     (omega (first, last, arith), h.3)
 
-one_inside : (at size : ℕ) (before : List Item) (t : Item) (after : List Item) → AreInside at size (before ++ t ∷ after) → (0 < t.«end») × (t.«end» ≤ size)
+pub one_inside : (at size : ℕ) (before : List Item) (t : Item) (after : List Item) → AreInside at size (before ++ t ∷ after) → (0 < t.«end») × (t.«end» ≤ size)
 one_inside at size [] t after h = last_inside at size t after h
 one_inside at size (b ∷ before) t after h = one_inside b.«end» size before t after h.4
 
-some_inside : (at size : ℕ) (items : List Item) → AreInside at size items → (items ≡ [] → ⊥) → 0 < size
+pub some_inside : (at size : ℕ) (items : List Item) → AreInside at size items → (items ≡ [] → ⊥) → 0 < size
 some_inside at size [] h n = absurd (n refl)
 some_inside at size (t ∷ items) h n = let i = last_inside at size t items h in let a : 0 < t.«end» = i.0 in let b : t.«end» ≤ size = i.1 in omega (a, b, arith)
-
--- the answers
-fault_inside : (e : Bool) (text : List ℕ) (f : PartFault) → IsInside e text (Err (fault_of f))
-fault_inside e text (fault.BadSubstitution at) = tt
-fault_inside e text (fault.TooDeep at) = tt
-fault_inside e text (fault.Refused at) = tt
-fault_inside e text fault.NoMemory = tt
-
-told : (e : Bool) (text : List ℕ) (answer known : Answer) → answer ≡ known → IsInside e text known → IsInside e text answer
-told e text answer known h i = subst (λ x. IsInside e text x) (sym h) i
-
-line_inside : (e : Bool) (text : List ℕ) (before : List Item) (newline : Item) (answer : Answer) → (0 < newline.«end») × (newline.«end» ≤ length text)
-    → Says text before newline answer → IsInside e text answer
-line_inside e text before newline answer i (blank_line n h) = told e text answer (Ok (Blank newline.«end»)) h (inl i.0, i.1)
-line_inside e text before newline answer i (faulty_line f x h) = told e text answer (Err (fault_of f)) h (fault_inside e text f)
-line_inside e text before newline answer i (whole_line n others b tree a h) = told e text answer (Ok (Complete tree newline.«end»)) h i
-line_inside e text before newline answer i (faulty_bodies n x d f b h) = told e text answer (Err (fault_of f)) h (fault_inside e text f)
-line_inside e text before newline answer i (faulty_newline n x d f w h) = told e text answer (Err (fault_of f)) h (fault_inside e text f)
-
-some_or_none : (text : List ℕ) → (0 < length text) ⊎ (text ≡ [])
-some_or_none [] = inr refl
-some_or_none (b ∷ bs) = inl (omega arith)
-
-text_inside : (e : Bool) (text : List ℕ) (tokens : List Item) (answer : Answer) → AreInside 0 (length text) tokens → Ends text tokens answer → IsInside e text answer
-text_inside e text tokens answer i (blank_text n h) = told e text answer (Ok (Blank (length text))) h (some_or_none text, omega arith)
-text_inside e text tokens answer i (faulty_text f x h) = told e text answer (Err (fault_of f)) h (fault_inside e text f)
-text_inside e text tokens answer i (whole_text n tree a h) = told e text answer (Ok (Complete tree (length text))) h (some_inside 0 (length text) tokens i n, omega arith)
-text_inside e text tokens answer i (open_text n x d h) = told e text answer (Err (Unclosed (length text))) h refl
-
-or_inside : (e : Bool) (text : List ℕ) (tokens : List Item) (other answer : Answer) → IsInside e text other → FaultOr text tokens other answer → IsInside e text answer
-or_inside e text tokens other answer i (inl (f, x, h)) = told e text answer (Err (fault_of f)) h (fault_inside e text f)
-or_inside e text tokens other answer i (inr (x, h)) = told e text answer other h i
-
-end_inside : (e : Bool) (text : List ℕ) (tokens : List Item) (ending : Ending) (answer : Answer) → AreInside 0 (length text) tokens → EndSays e text tokens ending answer → IsInside e text answer
-end_inside e text tokens AtEnd answer i h = text_inside e text tokens answer i h
-end_inside true text tokens Cut answer i h = or_inside true text tokens (Err (Unclosed (length text))) answer refl h
-end_inside true text tokens (Nul place) answer i h = or_inside true text tokens (Err (Refused place)) answer tt h
-end_inside true text tokens (Deep place) answer i h = or_inside true text tokens (Err (TooDeep place)) answer tt h
-end_inside false text tokens Cut answer i h = told false text answer (Ok More) h refl
-end_inside false text tokens (Nul place) answer i h = told false text answer (Ok More) h refl
-end_inside false text tokens (Deep place) answer i h = told false text answer (Ok More) h refl
-
-answer_inside : (table : AliasTable) (e : Bool) (text : List ℕ) (answer : Answer) → IsReading table e text answer → IsInside e text answer
-answer_inside table e text answer (inl n) =
-    line_inside e text n.before n.newline answer
-    (one_inside 0 (length text) n.before n.newline n.after (subst (λ xs. AreInside 0 (length text) xs) n.joined (inside_of e text))) n.says
-answer_inside table e text answer (inr n) = end_inside e text (items_of e text).items (items_of e text).ending answer (inside_of e text) n.says
-
-pub reading_inside : (table : AliasTable) (e : Bool) (text : List ℕ) → IsInside e text (reading table e text)
-reading_inside table e text = answer_inside table e text (reading table e text) ((reading_defined table e text (reading table e text)).0 refl)
-
--- one reading alone
-pub one_reading : (table : AliasTable) (e : Bool) (text : List ℕ) (x y : Answer) → IsReading table e text x → IsReading table e text y → x ≡ y
-one_reading table e text x y a b = sym ((reading_defined table e text x).1 a) ∙ (reading_defined table e text y).1 b

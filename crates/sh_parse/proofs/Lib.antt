@@ -2,3 +2,5 @@ pub mod Turning
 pub mod Lines
 pub mod Decisions
 pub mod Insides
+pub mod Faults
+pub mod Readings

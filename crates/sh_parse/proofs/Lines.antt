@@ -1,5 +1,5 @@
 -- What a newline says.
-use Rattle.std.proofs.Common.{◌≡◌, ℕ, Bool, true, false, List, Option, Some, None, Result, Ok, Err, refl, sym, ap, ◌∙◌, if◌then◌else◌}
+use Rattle.std.proofs.Common.{◌≡◌, ℕ, true, false, List, Some, None, Result, Ok, ap, ◌∙◌, if◌then◌else◌}
 use Rattle.std.specs.Option.{unwrap_or}
 use Rattle.sh_parse_lines.specs.declared.item.Item.{Item}
 use Rattle.sh_parse_lines.specs.Waiting.{Waiting, due_at}

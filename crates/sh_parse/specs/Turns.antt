@@ -8,7 +8,6 @@ use Rattle.sh_parse_programs.specs.Judging.{Judged}
 use Rattle.sh_parse.specs.Aliases.{AliasTable}
 use Rattle.sh_parse_programs.specs.Results.{and_then}
 use Rattle.sh_parse.specs.Reading.{Answer, taken, decided, Answers}
-use Rattle.sh_parse.specs.declared.Reading.{Reading}
 use Rattle.sh_parse.specs.declared.ParseFault.{ParseFault}
 use Rattle.sh_parse.specs.declared.ParseFault.TheVariants.{NoMemory}
 use Rattle.sh_parse.specs.declared.turn.Turn.{Turn}

@@ -18,8 +18,8 @@ pub fn no_text_has_two_readings()
     ensures { (table : AliasTable) (at_end : Bool) (text : List ℕ) (one other : Answer) → IsReading table at_end text one → IsReading table at_end text other → one ≡ other }
 {}
 
-/// Law: what is read is some bytes of the text, or none of an empty one; an unclosed command ends with the text; and more is asked for only
-/// before the end of the input.
+/// Law: what is read is some bytes of the text, or none of an empty one; an unclosed command ends with the text; more is asked for only
+/// before the end of the input; and a fault's place is one of the text, also that of a fault in a substitution or in a body.
 pub fn readings_are_inside()
     ensures { (table : AliasTable) (at_end : Bool) (text : List ℕ) → IsInside at_end text (reading table at_end text) }
 {}

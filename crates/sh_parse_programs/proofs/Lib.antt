@@ -5,3 +5,4 @@ pub mod Taking
 pub mod Faultless
 pub mod Texts
 pub mod Deeper
+pub mod Within

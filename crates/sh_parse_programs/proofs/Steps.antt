@@ -1,5 +1,5 @@
 -- The steps of a reading, each as what is known of its parts.
-use Rattle.std.proofs.Common.{◌≡◌, ℕ, zero, suc, ◌-◌, Bool, true, false, nat_lt, List, [], ◌∷◌, ◌++◌, length, take, drop, Option, Some, None, Result, Ok, Err, refl, sym, ap, subst, ◌∙◌, if◌then◌else◌}
+use Rattle.std.proofs.Common.{◌≡◌, ℕ, suc, ◌-◌, Bool, true, false, nat_lt, List, [], ◌∷◌, ◌++◌, length, take, drop, Some, None, Result, Ok, Err, refl, sym, ap, subst, ◌∙◌, if◌then◌else◌}
 use Rattle.sh_syntax.specs.declared.word.Span.{Span}
 use Rattle.sh_token_base.specs.Shell.{substitution}
 use Rattle.sh_scanner_base.specs.declared.mark.Mark.{Mark}
@@ -15,7 +15,7 @@ use Rattle.sh_parse_documents.specs.declared.document.Document.{Document}
 use Rattle.sh_parse_documents.specs.Documents.{between, documents, place_at}
 use Rattle.sh_parse_lines.specs.declared.item.Item.{Item}
 use Rattle.sh_parse_lines.specs.Waiting.{Waiting, nothing, behind_token, due_at}
-use Rattle.sh_parse_lines.specs.Stream.{Items, Ending, items_of}
+use Rattle.sh_parse_lines.specs.Stream.{Items, items_of}
 use Rattle.sh_parse_words.specs.declared.build.Request.{Request}
 use Rattle.sh_parse_words.specs.declared.fault.PartFault.{PartFault}
 use Rattle.sh_parse_words.specs.declared.fault.PartFault.TheVariants as fault

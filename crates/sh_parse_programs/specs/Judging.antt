@@ -19,7 +19,6 @@ use Rattle.sh_parse_lines.specs.declared.item.Item.{Item}
 use Rattle.sh_parse_lines.specs.Waiting.{Waiting, behind_token, due_at}
 use Rattle.sh_parse_words.specs.declared.fault.PartFault.{PartFault}
 use Rattle.sh_parse_words.specs.declared.fault.PartFault.TheVariants as fault
-use Rattle.sh_parse_words.specs.Building.{parts_of}
 use Rattle.sh_parse_programs.specs.Inputs.{input_of}
 use Rattle.sh_parse_programs.specs.Results.{and_then}
 use Rattle.sh_parse_programs.specs.Words.{Reader}

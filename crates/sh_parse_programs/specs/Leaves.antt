@@ -1,5 +1,5 @@
 -- What a token is to the tree (XCU 2.10.2).
-use Rattle.std.specs.Prelude.{ℕ, suc, Bool, true, false, ◌&&◌, List, [], ◌∷◌, ◌++◌, take, drop, Option, Some, None, Result, Ok, Err, if◌then◌else◌}
+use Rattle.std.specs.Prelude.{ℕ, suc, ◌&&◌, List, [], ◌∷◌, ◌++◌, take, drop, Option, Some, None, Result, Ok, if◌then◌else◌}
 use Rattle.std.specs.List.{list_all}
 use Rattle.sh_syntax.specs.declared.word.Span.{Span}
 use Rattle.sh_token_base.specs.Classes.{is_name}
@@ -16,7 +16,6 @@ use Rattle.sh_tree.specs.declared.tree.RedirectOperator.TheVariants as redirect
 use Rattle.sh_tree.specs.declared.tree.HereDocumentOperator.TheVariants as here
 use Rattle.sh_parse_trees_base.specs.declared.leaf.Leaf.{Leaf}
 use Rattle.sh_parse_trees_base.specs.declared.leaf.Leaf.TheVariants as leaf
-use Rattle.sh_parse_lines.specs.declared.item.Item.{Item}
 use Rattle.sh_parse_words.specs.declared.fault.PartFault.{PartFault}
 use Rattle.sh_parse_words.specs.Building.{parts_of}
 use Rattle.sh_parse_programs.specs.Results.{and_then}

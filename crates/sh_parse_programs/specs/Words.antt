@@ -1,5 +1,5 @@
 -- The parts of a word (XCU 2.2, 2.6), with the commands of its substitutions, which are read as texts of their own (2.6.3).
-use Rattle.std.specs.Prelude.{◌≡◌, ℕ, ◌+◌, ◌-◌, Bool, true, false, List, [], ◌∷◌, length, Option, Some, None, Result, Ok, Err}
+use Rattle.std.specs.Prelude.{ℕ, ◌+◌, Bool, true, false, List, [], ◌∷◌, length, Option, Some, None, Result, Ok}
 use Rattle.std.specs.Option.{unwrap_or}
 use Rattle.sh_scanner_base.specs.declared.mark.Mark.{Mark}
 use Rattle.sh_scanner_base.specs.declared.mark.Mark.TheVariants as mark
@@ -9,7 +9,7 @@ use Rattle.sh_parse_words.specs.declared.build.Request.{Request}
 use Rattle.sh_parse_words.specs.declared.build.Substitution.{Substitution}
 use Rattle.sh_parse_words.specs.declared.build.Substitution.TheVariants as substitution
 use Rattle.sh_parse_words.specs.declared.fault.PartFault.{PartFault}
-use Rattle.sh_parse_words.specs.Building.{Building, Taken, begun, finished, parts_of, take_piece, with_program}
+use Rattle.sh_parse_words.specs.Building.{Building, begun, finished, parts_of, take_piece, with_program}
 use Rattle.sh_parse_words.specs.Parameters.{capped}
 use Rattle.sh_parse_words.specs.Places.{behind_joins, behind_piece, place_of}
 use Rattle.sh_parse_programs.specs.Results.{and_then, fault_moved}

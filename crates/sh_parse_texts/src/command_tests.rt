@@ -6,11 +6,7 @@ use std::test::Fail;
 /// Simple commands, pipelines and lists, with newlines where they may stand and where they may not.
 #[test]
 fn lists(rt: HostRuntime) -> Result<(), Fail> {
-    complete(
-        &rt,
-        rt.alloc(),
-        false,
-        r#"
+    let rows = r#"
 a~ => a ;
 a; b~ => a ; b ;
 a; b;~ => a ; b ;
@@ -34,31 +30,21 @@ a !~ => a ! ;
 a ! b~ => a ! b ;
 !a~ => !a ;
 ! !a~ => ! !a ;
-"#,
-    )?;
+"#;
+    complete(&rt, rt.alloc(), false, rows)?;
     complete(&rt, rt.alloc(), false, "a b  c\td~ => a b c d ;")?;
-    complete(
-        &rt,
-        rt.alloc(),
-        true,
-        r#"
+    let rows = r#"
 a => a ;
 a; => a ;
 a & => a &
  a # b => a ;
-"#,
-    )?;
-    Ok(())
+"#;
+    complete(&rt, rt.alloc(), true, rows)
 }
 
 #[test]
 fn refused_lists(rt: HostRuntime) -> Result<(), Fail> {
-    reads(
-        &rt,
-        rt.alloc(),
-        false,
-        Kind::Refused,
-        r#"
+    let rows = r#"
 ! ^! a~
 !^~
 ! ^; a~
@@ -85,30 +71,19 @@ a b^(c)~
 'a' ^(~
 a &&~^&& b~
 a; b; ^) c~
-"#,
-    )?;
-    reads(
-        &rt,
-        rt.alloc(),
-        true,
-        Kind::Refused,
-        r#"
+"#;
+    reads(&rt, rt.alloc(), false, Kind::Refused, rows)?;
+    let rows = r#"
 ^fi
 a ^)
 ^fi 'b~
-"#,
-    )?;
-    Ok(())
+"#;
+    reads(&rt, rt.alloc(), true, Kind::Refused, rows)
 }
 
 #[test]
 fn unfinished_lists(rt: HostRuntime) -> Result<(), Fail> {
-    reads(
-        &rt,
-        rt.alloc(),
-        false,
-        Kind::More,
-        r#"
+    let rows = r#"
 a
 a;
 a &
@@ -118,32 +93,21 @@ a ||~~
 a && # b~
 fi
 a )
-"#,
-    )?;
-    reads(
-        &rt,
-        rt.alloc(),
-        true,
-        Kind::Unclosed,
-        r#"
+"#;
+    reads(&rt, rt.alloc(), false, Kind::More, rows)?;
+    let rows = r#"
 a &&~
 a |
 ! 
 !
-"#,
-    )?;
-    Ok(())
+"#;
+    reads(&rt, rt.alloc(), true, Kind::Unclosed, rows)
 }
 
 /// Blanks, comments and joined lines without a token.
 #[test]
 fn blank_lines(rt: HostRuntime) -> Result<(), Fail> {
-    reads(
-        &rt,
-        rt.alloc(),
-        false,
-        Kind::Blank,
-        r#"
+    let rows = r#"
 ~
 ~^~
 # a~
@@ -152,47 +116,27 @@ fn blank_lines(rt: HostRuntime) -> Result<(), Fail> {
 # a \~^b~
 \~# a~
 # '"$(`~^a
-"#,
-    )?;
+"#;
+    reads(&rt, rt.alloc(), false, Kind::Blank, rows)?;
     reads(&rt, rt.alloc(), false, Kind::Blank, " \t~^a")?;
-    reads(
-        &rt,
-        rt.alloc(),
-        true,
-        Kind::Blank,
-        r#"
+    let rows = r#"
   
 #a
 \~
-"#,
-    )?;
-    Ok(())
-}
-
-#[test]
-fn unfinished_blank_lines(rt: HostRuntime) -> Result<(), Fail> {
-    reads(
-        &rt,
-        rt.alloc(),
-        false,
-        Kind::More,
-        r#"
+"#;
+    reads(&rt, rt.alloc(), true, Kind::Blank, rows)?;
+    let rows = r#"
 # a
   
 \~
-"#,
-    )?;
-    Ok(())
+"#;
+    reads(&rt, rt.alloc(), false, Kind::More, rows)
 }
 
 /// Reserved words are such where a command may begin, and in their own commands; else they are words.
 #[test]
 fn reserved_words(rt: HostRuntime) -> Result<(), Fail> {
-    complete(
-        &rt,
-        rt.alloc(),
-        false,
-        r#"
+    let rows = r#"
 echo if then else elif fi do done case esac while until for in { } !~ => echo if then else elif fi do done case esac while until for in { } ! ;
 echo if; echo }~ => echo if ; echo } ;
 'if' a~ => 'if' a ;
@@ -211,19 +155,9 @@ time a~ => time a ;
 ifa~ => ifa ;
 {a~ => {a ;
 a }~ => a } ;
-"#,
-    )?;
-    Ok(())
-}
-
-#[test]
-fn refused_reserved_words(rt: HostRuntime) -> Result<(), Fail> {
-    reads(
-        &rt,
-        rt.alloc(),
-        false,
-        Kind::Refused,
-        r#"
+"#;
+    complete(&rt, rt.alloc(), false, rows)?;
+    let rows = r#"
 ^in a~
 ^then a~
 ^do a~
@@ -239,19 +173,14 @@ a | ^done~
 ! ^fi~
 echo if a; ^then b; fi~
 ^then~
-"#,
-    )?;
-    Ok(())
+"#;
+    reads(&rt, rt.alloc(), false, Kind::Refused, rows)
 }
 
 /// Assignments stand before the command name.
 #[test]
 fn assignments(rt: HostRuntime) -> Result<(), Fail> {
-    complete(
-        &rt,
-        rt.alloc(),
-        false,
-        r#"
+    let rows = r#"
 a=b~ => a=b ;
 a= b~ => a= b ;
 a=b c=d e f=g~ => a=b c=d e f=g ;
@@ -266,36 +195,21 @@ a==b~ => a==b ;
 =a~ => =a ;
 a=b | c=d~ => a=b | c=d ;
 $a=b~ => $a=b ;
-"#,
-    )?;
-    Ok(())
-}
-
-#[test]
-fn refused_assignments(rt: HostRuntime) -> Result<(), Fail> {
-    reads(
-        &rt,
-        rt.alloc(),
-        false,
-        Kind::Refused,
-        r#"
+"#;
+    complete(&rt, rt.alloc(), false, rows)?;
+    let rows = r#"
 a=^(b)~
 a=b^(c)~
 a=b ^(c)~
 a=b c=d ^)~
-"#,
-    )?;
-    Ok(())
+"#;
+    reads(&rt, rt.alloc(), false, Kind::Refused, rows)
 }
 
 /// Function definitions, and simple commands that begin like one.
 #[test]
 fn functions(rt: HostRuntime) -> Result<(), Fail> {
-    complete(
-        &rt,
-        rt.alloc(),
-        false,
-        r#"
+    let rows = r#"
 f() { a; }~ => f ( ) { a ; } ;
 f ( ) { a; }~ => f ( ) { a ; } ;
 f()~~{ a; }~ => f ( ) { a ; } ;
@@ -315,19 +229,13 @@ _f1() (a)~ => _f1 ( ) ( a ; ) ;
 f~^()~ => f ;
 f() { a; } &~ => f ( ) { a ; } &
 f(\~)(a)~ => f ( ) ( a ; ) ;
-"#,
-    )?;
-    Ok(())
+"#;
+    complete(&rt, rt.alloc(), false, rows)
 }
 
 #[test]
 fn refused_functions(rt: HostRuntime) -> Result<(), Fail> {
-    reads(
-        &rt,
-        rt.alloc(),
-        false,
-        Kind::Refused,
-        r#"
+    let rows = r#"
 f(^~
 f() ^a~
 f() ^a=b~
@@ -360,46 +268,30 @@ f() (^)~
 f() ^;~
 {(^) (a)~
 f()^)~
-"#,
-    )?;
-    Ok(())
+"#;
+    reads(&rt, rt.alloc(), false, Kind::Refused, rows)
 }
 
 #[test]
 fn unfinished_functions(rt: HostRuntime) -> Result<(), Fail> {
-    reads(
-        &rt,
-        rt.alloc(),
-        false,
-        Kind::More,
-        r#"
+    let rows = r#"
 f
 f()
 f()~
 f() { a~
-"#,
-    )?;
-    reads(
-        &rt,
-        rt.alloc(),
-        true,
-        Kind::Unclosed,
-        r#"
+"#;
+    reads(&rt, rt.alloc(), false, Kind::More, rows)?;
+    let rows = r#"
 f()~
 f(
-"#,
-    )?;
-    Ok(())
+"#;
+    reads(&rt, rt.alloc(), true, Kind::Unclosed, rows)
 }
 
 /// Groups and subshells, whose lists may not be empty.
 #[test]
 fn groups(rt: HostRuntime) -> Result<(), Fail> {
-    complete(
-        &rt,
-        rt.alloc(),
-        false,
-        r#"
+    let rows = r#"
 { a; }~ => { a ; } ;
 { a~}~ => { a ; } ;
 { a & }~ => { a & } ;
@@ -423,19 +315,17 @@ fn groups(rt: HostRuntime) -> Result<(), Fail> {
 (a;~~)~ => ( a ; ) ;
 ! (a)~ => ! ( a ; ) ;
 { ! a; }~ => { ! a ; } ;
-"#,
-    )?;
-    Ok(())
+{ a &~~b &~}~ => { a & b & } ;
+{ a &&~b |~~c; }~ => { a && b | c ; } ;
+{ f~(a); }~ => { f ; ( a ; ) ; } ;
+{ (a)~>f; }~ => { ( a ; ) ; > f ; } ;
+"#;
+    complete(&rt, rt.alloc(), false, rows)
 }
 
 #[test]
 fn refused_groups(rt: HostRuntime) -> Result<(), Fail> {
-    reads(
-        &rt,
-        rt.alloc(),
-        false,
-        Kind::Refused,
-        r#"
+    let rows = r#"
 { ^}~
 (^)~
 (~^)~
@@ -460,36 +350,34 @@ fn refused_groups(rt: HostRuntime) -> Result<(), Fail> {
 { a; } ^}~
 (a)^)~
 { ! ^}~
-"#,
-    )?;
-    Ok(())
+(! ^! a)~
+{ !^~a; }~
+{ a~^| b; }~
+{ a~^&& b; }~
+{ a~^& b; }~
+{ a;~^; b; }~
+(a &~^& b)~
+{ f~(^) (a); }~
+{ f(^~) { a; }; }~
+{ a >^~f; }~
+"#;
+    reads(&rt, rt.alloc(), false, Kind::Refused, rows)
 }
 
 #[test]
 fn unfinished_groups(rt: HostRuntime) -> Result<(), Fail> {
-    reads(
-        &rt,
-        rt.alloc(),
-        false,
-        Kind::More,
-        r#"
+    let rows = r#"
 { echo }~
 (a~
 {
 {~
 { a; }
-"#,
-    )?;
-    reads(
-        &rt,
-        rt.alloc(),
-        true,
-        Kind::Unclosed,
-        r#"
+"#;
+    reads(&rt, rt.alloc(), false, Kind::More, rows)?;
+    let rows = r#"
 { echo }~
 (a
 { a;
-"#,
-    )?;
-    Ok(())
+"#;
+    reads(&rt, rt.alloc(), true, Kind::Unclosed, rows)
 }

@@ -6,11 +6,7 @@ use std::test::Fail;
 /// Redirections before and behind commands.
 #[test]
 fn redirections(rt: HostRuntime) -> Result<(), Fail> {
-    complete(
-        &rt,
-        rt.alloc(),
-        false,
-        r#"
+    let rows = r#"
 <f~ => < f ;
 >f a~ => > f a ;
 a >f b <g c~ => a > f b < g c ;
@@ -38,19 +34,13 @@ a >$b >"c d"~ => a > $b > "c d" ;
 { (a) >f; }~ => { ( a ; ) > f ; } ;
 a 1>b 2>c~ => a 1> b 2> c ;
 a >f; b~ => a > f ; b ;
-"#,
-    )?;
-    Ok(())
+"#;
+    complete(&rt, rt.alloc(), false, rows)
 }
 
 #[test]
 fn refused_redirections(rt: HostRuntime) -> Result<(), Fail> {
-    reads(
-        &rt,
-        rt.alloc(),
-        false,
-        Kind::Refused,
-        r#"
+    let rows = r#"
 >^~
 a >^~
 > ^> f~
@@ -60,6 +50,11 @@ a >^;~
 >f { a; ^}~
 { a; } >f ^b~
 (a) >f ^(b)~
+>f if a; ^then b; fi~
+2>f while a; ^do b; done~
+<f for a in b; ^do c; done~
+>f case a in b^) c;; esac~
+a=b { c; ^}~
 a >|^| b~
 a <<^~
 a >&^~
@@ -67,19 +62,14 @@ a >&^~
 a < # b^~
 (a >^)~
 a <^(b)~
-"#,
-    )?;
-    Ok(())
+"#;
+    reads(&rt, rt.alloc(), false, Kind::Refused, rows)
 }
 
 /// if, with its lists and newlines.
 #[test]
 fn conditions(rt: HostRuntime) -> Result<(), Fail> {
-    complete(
-        &rt,
-        rt.alloc(),
-        false,
-        r#"
+    let rows = r#"
 if a; then b; fi~ => if a ; then b ; fi ;
 if a~then b~fi~ => if a ; then b ; fi ;
 if a; then b; else c; fi~ => if a ; then b ; else c ; fi ;
@@ -94,19 +84,14 @@ if a && b; c; then d; fi~ => if a && b ; c ; then d ; fi ;
 if { a; } then { b; } fi~ => if { a ; } ; then { b ; } ; fi ;
 if a; then b; fi; c~ => if a ; then b ; fi ; c ;
 echo if; if a; then b; fi~ => echo if ; if a ; then b ; fi ;
-"#,
-    )?;
-    Ok(())
+if~a;~then~b;~elif~c;~then~d;~else~e;~fi~ => if a ; then b ; elif c ; then d ; else e ; fi ;
+"#;
+    complete(&rt, rt.alloc(), false, rows)
 }
 
 #[test]
 fn refused_conditions(rt: HostRuntime) -> Result<(), Fail> {
-    reads(
-        &rt,
-        rt.alloc(),
-        false,
-        Kind::Refused,
-        r#"
+    let rows = r#"
 if^; then a; fi~
 if ^)~
 if ^then a; fi~
@@ -124,19 +109,20 @@ if a; ^do b; done~
 if a; then b; elif c; ^fi~
 if a &&^; then b; fi~
 if a; then b; fi ^fi~
-"#,
-    )?;
-    Ok(())
+if~^then a; fi~
+if a~^; then b; fi~
+if a; then~^fi~
+if a; then b; elif ^then c; fi~
+if a; then b; elif c; then~^else d; fi~
+if a; then b; else~^fi~
+"#;
+    reads(&rt, rt.alloc(), false, Kind::Refused, rows)
 }
 
 /// while and until.
 #[test]
 fn loops(rt: HostRuntime) -> Result<(), Fail> {
-    complete(
-        &rt,
-        rt.alloc(),
-        false,
-        r#"
+    let rows = r#"
 while a; do b; done~ => while a ; do b ; done ;
 until a~do~b~done~ => until a ; do b ; done ;
 while (a) do (b) done~ => while ( a ; ) ; do ( b ; ) ; done ;
@@ -145,19 +131,14 @@ while a; do b; done; c~ => while a ; do b ; done ; c ;
 while a & do b & done~ => while a & do b & done ;
 while~a~~do~~b~~done~ => while a ; do b ; done ;
 until ! a; do while b; do c; done; done | d~ => until ! a ; do while b ; do c ; done ; done | d ;
-"#,
-    )?;
-    Ok(())
+until~~a;~do~~b;~done >f~ => until a ; do b ; done > f ;
+"#;
+    complete(&rt, rt.alloc(), false, rows)
 }
 
 #[test]
 fn refused_loops(rt: HostRuntime) -> Result<(), Fail> {
-    reads(
-        &rt,
-        rt.alloc(),
-        false,
-        Kind::Refused,
-        r#"
+    let rows = r#"
 while ^do a; done~
 while a; do ^done~
 while a; ^done~
@@ -167,19 +148,18 @@ until a; do b; done ^c~
 while^; do a; done~
 while a; do^; b; done~
 while a; ^then b; fi~
-"#,
-    )?;
-    Ok(())
+until ^do a; done~
+until~^do a; done~
+while a~^; do b; done~
+until a; do~^done~
+"#;
+    reads(&rt, rt.alloc(), false, Kind::Refused, rows)
 }
 
 /// for, with and without `in`.
 #[test]
 fn loops_over_words(rt: HostRuntime) -> Result<(), Fail> {
-    complete(
-        &rt,
-        rt.alloc(),
-        false,
-        r#"
+    let rows = r#"
 for a in b c; do d; done~ => for a in b c ; do d ; done ;
 for a in b c~do d; done~ => for a in b c ; do d ; done ;
 for a in; do b; done~ => for a in ; do b ; done ;
@@ -200,19 +180,13 @@ for a in b; do for c in d; do e; done; done~ => for a in b ; do for c in d ; do 
 for a in { } ! ; do b; done~ => for a in { } ! ; do b ; done ;
 for a in b; do~~c~~done~ => for a in b ; do c ; done ;
 for a in b do; do c; done~ => for a in b do ; do c ; done ;
-"#,
-    )?;
-    Ok(())
+"#;
+    complete(&rt, rt.alloc(), false, rows)
 }
 
 #[test]
 fn refused_loops_over_words(rt: HostRuntime) -> Result<(), Fail> {
-    reads(
-        &rt,
-        rt.alloc(),
-        false,
-        Kind::Refused,
-        r#"
+    let rows = r#"
 for^~
 for ^1a in b; do c; done~
 for ^$a in b; do c; done~
@@ -238,19 +212,16 @@ for a in b~^c~
 for a; do b; done ^c~
 for ^a=b in c; do d; done~
 for a^;; do b; done~
-"#,
-    )?;
-    Ok(())
+for a in b;~^; do c; done~
+for a; do~^done~
+"#;
+    reads(&rt, rt.alloc(), false, Kind::Refused, rows)
 }
 
 /// case, with and without the last `;;`.
 #[test]
 fn cases(rt: HostRuntime) -> Result<(), Fail> {
-    complete(
-        &rt,
-        rt.alloc(),
-        false,
-        r#"
+    let rows = r#"
 case a in b) c;; esac~ => case a in b ) c ; ;; esac ;
 case a in b) c; esac~ => case a in b ) c ; esac ;
 case a in b) c~esac~ => case a in b ) c ; esac ;
@@ -284,19 +255,14 @@ case a in b=c) d;; esac~ => case a in b=c ) d ; ;; esac ;
 case a in {) b;; }) c;; esac~ => case a in { ) b ; ;; } ) c ; ;; esac ;
 case a in # b~c) d;; # e~esac # f~ => case a in c ) d ; ;; esac ;
 case a in b) c&;; esac~ => case a in b ) c & ;; esac ;
-"#,
-    )?;
-    Ok(())
+case a in (b)~c &~;;~(d)~;;~~esac~ => case a in ( b ) c & ;; ( d ) ;; esac ;
+"#;
+    complete(&rt, rt.alloc(), false, rows)
 }
 
 #[test]
 fn refused_cases(rt: HostRuntime) -> Result<(), Fail> {
-    reads(
-        &rt,
-        rt.alloc(),
-        false,
-        Kind::Refused,
-        r#"
+    let rows = r#"
 case^~
 case a ^b in c) d;; esac~
 case a^; in b) c;; esac~
@@ -321,7 +287,10 @@ case a in b) c; d^) e;; esac~
 case ^(a) in b) c;; esac~
 case a in (^~b) c;; esac~
 case a in ^; esac~
-"#,
-    )?;
-    Ok(())
+case a~^b in c) d;; esac~
+case a in~^; esac~
+case a in b)~^; ;; esac~
+case a in b) c;;~^;; esac~
+"#;
+    reads(&rt, rt.alloc(), false, Kind::Refused, rows)
 }

@@ -9,3 +9,5 @@ mod compound_tests;
 mod document_tests;
 #[cfg(test)]
 mod tests;
+#[cfg(test)]
+mod word_tests;

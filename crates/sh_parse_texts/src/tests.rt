@@ -189,40 +189,35 @@ fn of_sign(sign: u8, size: usize, place: usize) -> Outcome {
 #[test]
 fn fronts(rt: HostRuntime) -> Result<(), Fail> {
     for (text, decided, place, signs) in [
+        ("echo a &&\n", 11usize, 0usize, "bccccccccuu"),
+        ("if )\n", 5, 3, "bcuurr"),
+        ("{ echo }\n", 10, 0, "buuuuuuuuu"),
         (
-            b"echo a &&\n".as_slice(),
-            11usize,
-            0usize,
-            b"bccccccccuu".as_slice(),
-        ),
-        (b"if )\n", 5, 3, b"bcuurr"),
-        (b"{ echo }\n", 10, 0, b"buuuuuuuuu"),
-        (
-            b"echo $(case a in a) :;; esac)\n",
+            "echo $(case a in a) :;; esac)\n",
             30,
             0,
-            b"bccccccuuuuuuuuuuuuuuuuuuuuuucc",
+            "bccccccuuuuuuuuuuuuuuuuuuuuuucc",
         ),
-        (b"cat <<E\nx", 10, 0, b"bccccuuccc"),
-        (b"${#@}\n", 6, 0, b"bcuuuss"),
-        (b"f() { a; }\n", 11, 0, b"bcuuuuuuuucc"),
+        ("cat <<E\nx", 10, 0, "bccccuuccc"),
+        ("${#@}\n", 6, 0, "bcuuuss"),
+        ("f() { a; }\n", 11, 0, "bcuuuuuuuucc"),
         (
-            b"for a in b; do c; done\n",
+            "for a in b; do c; done\n",
             23,
             18,
-            b"bccuuuuluuuuuluuuuuurucc",
+            "bccuuuuluuuuuluuuuuurucc",
         ),
-        (b"if a; then b; fi >f\n", 20, 0, b"bcuuuuuuuuuuuuuuccucc"),
-        (b"case a in b) ;; esac\n", 21, 0, b"bcccuuuuluuuuuluuuuucc"),
-        (b"a `b` ${c}\n", 11, 0, b"bccuucccuucc"),
-        (b"a 'b' \"c\" \\d\n", 13, 0, b"bccuuccuuccccc"),
-        (b"cat <<E\nx\nE\n", 12, 0, b"bccccuucccccc"),
-        (b"! a && b || c &\n", 16, 0, b"buucccuuccuuucccc"),
-        (b"(a)2>&1\n", 8, 3, b"buucruucc"),
-        (b"{ fi; }\n", 8, 2, b"buuurrrrr"),
+        ("if a; then b; fi >f\n", 20, 0, "bcuuuuuuuuuuuuuuccucc"),
+        ("case a in b) ;; esac\n", 21, 0, "bcccuuuuluuuuuluuuuucc"),
+        ("a `b` ${c}\n", 11, 0, "bccuucccuucc"),
+        ("a 'b' \"c\" \\d\n", 13, 0, "bccuuccuuccccc"),
+        ("cat <<E\nx\nE\n", 12, 0, "bccccuucccccc"),
+        ("! a && b || c &\n", 16, 0, "buucccuuccuuucccc"),
+        ("(a)2>&1\n", 8, 3, "buucruucc"),
+        ("{ fi; }\n", 8, 2, "buuurrrrr"),
     ] {
-        for (size, sign) in signs.iter().enumerate() {
-            let front = text.get(..size).unwrap_or(text);
+        for (size, sign) in signs.as_bytes().iter().enumerate() {
+            let front = text.as_bytes().get(..size).unwrap_or(b"");
             let (found, _) = read(rt.alloc(), front, true)?;
             assert_eq!(rt; (front, found), (front, of_sign(*sign, size, place)));
             if size < decided {
@@ -254,13 +249,12 @@ fn nested(
     Ok(text)
 }
 
-/// Fronts of 500 parentheses and of 501: each of the first and the last bytes, and each fiftieth between.
+/// Each front of 500 parentheses and of 501.
 #[test]
 fn fronts_of_parentheses(rt: HostRuntime) -> Result<(), Fail> {
     for count in [500usize, 501] {
         let text = nested(rt.alloc(), count, b"(", b":", b")")?;
-        let last = text.len().saturating_sub(4);
-        for size in (1..=text.len()).filter(|size| *size <= 4 || *size % 50 <= 1 || *size >= last) {
+        for size in 1..=text.len() {
             let front = text.as_slice().get(..size).unwrap_or(b"");
             let mut expected = Outcome::Unclosed(size);
             if size >= text.len().saturating_sub(1) {
@@ -271,6 +265,10 @@ fn fronts_of_parentheses(rt: HostRuntime) -> Result<(), Fail> {
             }
             let (found, _) = read(rt.alloc(), front, true)?;
             assert_eq!(rt; (size, found), (size, expected));
+            if size < text.len() {
+                let (found, _) = read(rt.alloc(), front, false)?;
+                assert_eq!(rt; (size, found), (size, Outcome::More));
+            }
         }
     }
     Ok(())
@@ -315,20 +313,12 @@ fn levels_of_compound_commands(rt: HostRuntime) -> Result<(), Fail> {
 }
 
 #[test]
-fn levels_of_substitutions(rt: HostRuntime) -> Result<(), Fail> {
-    check_levels(&rt, rt.alloc(), b"$(", b":", b")", 0)
-}
-
-#[test]
-fn levels_of_quoted_substitutions(rt: HostRuntime) -> Result<(), Fail> {
-    check_levels(&rt, rt.alloc(), b"\"$(", b":", b")\"", 1)
-}
-
-#[test]
-fn levels_of_expansions(rt: HostRuntime) -> Result<(), Fail> {
+fn levels_of_words(rt: HostRuntime) -> Result<(), Fail> {
     for (front, middle, back, opener) in [
         (b"${x-".as_slice(), b":".as_slice(), b"}".as_slice(), 0usize),
         (b"a=${x:-", b":", b"}", 2),
+        (b"$(", b":", b")", 0),
+        (b"\"$(", b":", b")\"", 1),
         (b"$((", b"1", b"))", 0),
     ] {
         check_levels(&rt, rt.alloc(), front, middle, back, opener)?;
@@ -389,22 +379,17 @@ fn mixed_levels(rt: HostRuntime) -> Result<(), Fail> {
 #[test]
 fn levels_in_levels(rt: HostRuntime) -> Result<(), Fail> {
     for (count, front, middle, back, expected) in [
-        (
-            250usize,
-            b"$((${x-".as_slice(),
-            b"1".as_slice(),
-            b"}))".as_slice(),
-            None,
-        ),
-        (250, b"$((${x-", b"`a`", b"}))", Some(1750usize)),
-        (499, b"(", b"`a`", b")", None),
-        (500, b"(", b"`a`", b")", Some(500)),
-        (499, b"(", b"a `(b)`", b")", Some(501)),
-        (498, b"(", b"a `(b)`", b")", None),
-        (499, b"{ ", b"a ${b} $c", b";}", None),
-        (500, b"{ ", b"a $b ${c}", b";}", Some(1005)),
+        (250usize, "$((${x-", "1", "}))", None),
+        (250, "$((${x-", "`a`", "}))", Some(1750usize)),
+        (499, "(", "`a`", ")", None),
+        (500, "(", "`a`", ")", Some(500)),
+        (499, "(", "a `(b)`", ")", Some(501)),
+        (498, "(", "a `(b)`", ")", None),
+        (499, "{ ", "a ${b} $c", ";}", None),
+        (500, "{ ", "a $b ${c}", ";}", Some(1005)),
     ] {
-        let text = nested(rt.alloc(), count, front, middle, back)?;
+        let (before, middle) = (front.as_bytes(), middle.as_bytes());
+        let text = nested(rt.alloc(), count, before, middle, back.as_bytes())?;
         check_nested(&rt, rt.alloc(), text.as_slice(), expected)?;
     }
     Ok(())
@@ -423,30 +408,22 @@ fn subshells_in_substitutions(rt: HostRuntime) -> Result<(), Fail> {
 #[test]
 fn levels_beside_one_another(rt: HostRuntime) -> Result<(), Fail> {
     for (count, front, middle, back) in [
-        (
-            501usize,
-            b"(:);".as_slice(),
-            b":".as_slice(),
-            b"".as_slice(),
-        ),
-        (501, b"${x}", b"", b""),
-        (501, b"$(:) ", b":", b""),
-        (501, b"", b"cat <<E\n${x}", b"\n${x}"),
-        (1, b"cat <<E\n", b"$(a)${b}`c`", b"\nE"),
+        (501usize, "(:);", ":", ""),
+        (501, "${x}", "", ""),
+        (501, "$(:) ", ":", ""),
+        (501, "", "cat <<E\n${x}", "\n${x}"),
+        (1, "cat <<E\n", "$(a)${b}`c`", "\nE"),
     ] {
-        let text = nested(rt.alloc(), count, front, middle, back)?;
+        let (before, middle) = (front.as_bytes(), middle.as_bytes());
+        let text = nested(rt.alloc(), count, before, middle, back.as_bytes())?;
         let (found, _) = read(rt.alloc(), text.as_slice(), true)?;
         assert_eq!(rt; (front, found), (front, Outcome::Complete(text.len())));
     }
-    let mut text = b"cat <<E\n".as_slice().to_vec(rt.alloc())?;
-    text.extend_from_slice(nested(rt.alloc(), 500, b"${x-", b"", b"}")?.as_slice())?;
-    text.extend_from_slice(b"E\n")?;
-    let (found, _) = read(rt.alloc(), text.as_slice(), false)?;
-    assert_eq!(rt; found, Outcome::Complete(text.len()));
-    let mut text = b"cat <<E\n".as_slice().to_vec(rt.alloc())?;
-    text.extend_from_slice(nested(rt.alloc(), 501, b"${x-", b"", b"}")?.as_slice())?;
-    text.extend_from_slice(b"E\n")?;
-    let (found, _) = read(rt.alloc(), text.as_slice(), false)?;
-    assert_eq!(rt; found, Outcome::TooDeep(2008));
+    for (count, expected) in [(500usize, None), (501, Some(2008usize))] {
+        let mut text = b"cat <<E\n".as_slice().to_vec(rt.alloc())?;
+        text.extend_from_slice(nested(rt.alloc(), count, b"${x-", b"", b"}")?.as_slice())?;
+        text.extend_from_slice(b"E\n")?;
+        check_nested(&rt, rt.alloc(), text.as_slice(), expected)?;
+    }
     Ok(())
 }

@@ -45,7 +45,10 @@ fn gather(values: Backward<Value>, kept: &[bool]) -> Option<(Children, Backward<
         return Some((Children::None, values));
     };
     let (value, values) = values.split_first()?;
-    let (children, values) = gather(values, others)?;
+    let Some((children, values)) = gather(values, others) else {
+        drop(value);
+        return None;
+    };
     put(*keeps, value, children, values)
 }
 

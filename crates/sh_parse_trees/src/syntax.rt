@@ -1,5 +1,6 @@
 //! The syntax tree of a derivation.
 ghost use Rattle.std.specs.Prelude.{◌≡◌, IfOk};
+ghost use Rattle.std.specs.Option.{is_some};
 ghost use Rattle.sh_token_base.specs.Shell.{complete, substitution};
 ghost use Rattle.sh_parse_trees.specs.Meaning.{IsSyntaxWhere, whole_list, only};
 ghost use Rattle.sh_parse_trees.specs.Stack.{finished, made_all};
@@ -50,11 +51,19 @@ fn finish(alloc: Global, making: Making) -> Option<Complete>
     ensures { result ≡ finished making }
 {
     let Making { leaves, values } = making;
-    if leaves.split_first().is_some() {
+    if was_some(leaves.split_first()) {
+        drop(values);
         return None;
     }
     let value = only_value(values)?;
     complete_of(alloc, value)
+}
+
+/// Whether there is something, which is let go.
+fn was_some<T: Drop>(found: Option<T>) -> bool
+    ensures { result ≡ is_some found }
+{
+    found.is_some()
 }
 
 /// The one value that there is.
@@ -62,7 +71,8 @@ fn only_value(values: Backward<Value>) -> Option<Value>
     ensures { result ≡ only values }
 {
     let (value, others) = values.split_first()?;
-    if others.split_first().is_some() {
+    if was_some(others.split_first()) {
+        drop(value);
         return None;
     }
     Some(value)

@@ -307,7 +307,9 @@ fn redirect_to(number: Option<Text>, operator: Value, word: Word) -> Option<Valu
 fn redirect(operator: Value, word: Value) -> Option<Value>
     ensures { result ≡ made_two Binary.Redirect operator word }
 {
-    let word = word.into_word()?;
+    let Some(word) = word.into_word() else {
+        return operator.discard();
+    };
     redirect_to(None, operator, word)
 }
 
@@ -339,7 +341,9 @@ fn for_words(name: Name, behind: Value) -> Option<Value>
 fn for_loop(name: Value, behind: Value) -> Option<Value>
     ensures { result ≡ made_two Binary.For name behind }
 {
-    let name = name.into_name()?;
+    let Some(name) = name.into_name() else {
+        return behind.discard();
+    };
     for_of(name, behind)
 }
 
@@ -402,7 +406,9 @@ fn make_two(alloc: Global, kind: Binary, a: Value, b: Value) -> Made
 fn numbered_redirect(number: Value, operator: Value, word: Value) -> Option<Value>
     ensures { result ≡ made_three Ternary.Redirect number operator word }
 {
-    let (digits, word) = number.into_number().zip(word.into_word())?;
+    let Some((digits, word)) = number.into_number().zip(word.into_word()) else {
+        return operator.discard();
+    };
     redirect_to(Some(digits), operator, word)
 }
 
@@ -520,8 +526,7 @@ fn make_three(alloc: Global, kind: Ternary, a: Value, b: Value, c: Value) -> Mad
 fn nothing(children: Children) -> Made
     ensures { IfOk result (λ v. v ≡ Some Value.Nothing) }
 {
-    let _: Option<Value> = children.discard();
-    Ok(Some(Value::Nothing))
+    Ok(children.discard().or(Some(Value::Nothing)))
 }
 
 fn of_one(alloc: Global, kind: Unary, children: Children) -> Made

@@ -204,6 +204,7 @@ impl Value {
     pub(crate) fn discard<T>(self) -> Option<T>
         ensures { result ≡ None }
     {
+        drop(self);
         None
     }
 

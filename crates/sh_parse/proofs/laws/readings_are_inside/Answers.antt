@@ -1,4 +1,4 @@
-use Rattle.sh_parse.proofs.Insides.{reading_inside}
+use Rattle.sh_parse.proofs.Readings.{reading_inside}
 use Rattle.sh_parse.proofs.laws.readings_are_inside.Goals as goal
 
 pub returns : goal.returns

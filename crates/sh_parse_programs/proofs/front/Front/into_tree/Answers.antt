@@ -1,5 +1,5 @@
-use Rattle.std.proofs.Common.{◌≡◌, Some, sym}
-use Rattle.sh_parse_programs.proofs.Shells.{Derived, no_tree, tree_found, some_tree, none_found}
+use Rattle.std.proofs.Common.{sym}
+use Rattle.sh_parse_programs.proofs.Shells.{no_tree, tree_found, some_tree, none_found}
 use Rattle.sh_parse_programs.specs.Judging.{tree_where}
 use Rattle.sh_parse_programs.proofs.front.Front.into_tree.Goals as goal
 

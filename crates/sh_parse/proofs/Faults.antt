@@ -1,0 +1,159 @@
+-- The faults of a text's tokens, and what ends these, stand in the text.
+use Rattle.std.proofs.Common.{◌≡◌, inl, inr, ℕ, zero, suc, ◌+◌, ◌-◌, ◌<◌, ◌≤◌, nat_eq, Bool, true, List, [], ◌∷◌, ◌++◌, length, take, drop, min, Option, Some, None, Result, refl, sym, subst, arith}
+use Rattle.std.proofs.Math.Nat.{min-le_right}
+use Rattle.std.proofs.lemmas.List.{length-take, length-drop}
+use Rattle.std.proofs.lemmas.List.Quantifiers.{position-Some}
+use Rattle.sh_scanner.specs.declared.token.TokenKind.{TokenKind}
+use Rattle.sh_scanner.specs.FirstToken.{FirstToken, Found, Unfinished, NulAt, DeepAt, IsFirst, nul_in}
+use Rattle.sh_scanner.specs.Found.{first_token}
+use Rattle.sh_scanner.proofs.Laws.{is_first}
+use Rattle.sh_tree.specs.declared.tree.Complete.{Complete}
+use Rattle.sh_parse_lines.specs.declared.item.Item.{Item}
+use Rattle.sh_parse_lines.specs.Bodies.{bodies_size}
+use Rattle.sh_parse_lines.specs.Waiting.{Waiting, nothing, behind_token, due_at}
+use Rattle.sh_parse_lines.specs.Items.{FirstItem, FoundItem, NoItem, first_item, item_of, with_bodies, with_nul, no_end}
+use Rattle.sh_parse_lines.specs.Stream.{Ending, AtEnd, Cut, Nul, Deep, Items, with_item, with_first, ending_at, items_from, items_of}
+use Rattle.sh_parse_words.specs.declared.fault.PartFault.{PartFault}
+use Rattle.sh_parse_programs.specs.Words.{Reader}
+use Rattle.sh_parse_programs.specs.Programs.{program_in, programs}
+use Rattle.sh_parse_programs.specs.Defined.{Judge, waiting_behind, opened, HasFault, refused, too_deep, in_word, in_body, FirstFault, EndIs, inner, IsProgram}
+use Rattle.sh_parse_programs.proofs.Texts.{program_defined}
+use Rattle.sh_parse.specs.Insides.{AreInside}
+use Rattle.sh_parse.proofs.Insides.{found_inside, inside_of}
+use Rattle.sh_parse_programs.proofs.Within.{FaultIn, FaultsIn, leaf_in, bodies_in}
+
+-- what ends the items of a text
+abbrev pub EndingIn : ℕ → Ending → Type 0
+EndingIn size AtEnd = Unit {0}
+EndingIn size Cut = Unit {0}
+EndingIn size (Nul place) = place ≤ size
+EndingIn size (Deep place) = place ≤ size
+
+abbrev FirstIn : ℕ → FirstToken → Type 0
+FirstIn size (Found kind start stop) = Unit {0}
+FirstIn size Unfinished = Unit {0}
+FirstIn size (NulAt place) = place ≤ size
+FirstIn size (DeepAt place) = place ≤ size
+
+abbrev NoItemIn : ℕ → FirstItem → Type 0
+NoItemIn size (FoundItem kind start stop after) = Unit {0}
+NoItemIn size (NoItem fault) = FirstIn size fault
+
+nul_place : (bs : List ℕ) (p : ℕ) → nul_in bs ≡ Some p → p < length bs
+nul_place bs p h = (position-Some (λ b. nat_eq b 0) bs p 0 h).0
+
+no_end_in : (size stop : ℕ) (bs : List ℕ) → stop + length bs ≤ size → (z : Option ℕ) → nul_in bs ≡ z → NoItemIn size (no_end stop z)
+no_end_in size stop bs h None e = tt
+no_end_in size stop bs h (Some p) e = let a = nul_place bs p e in omega (a, h, arith)
+
+with_nul_in : (size : ℕ) (kind : TokenKind) (start stop n : ℕ) (bs : List ℕ) → stop + length bs ≤ size → (z : Option ℕ) → nul_in bs ≡ z → NoItemIn size (with_nul kind start stop n z)
+with_nul_in size kind start stop n bs h None e = tt
+with_nul_in size kind start stop n bs h (Some p) e = let a = nul_place bs p e in omega (a, h, arith)
+
+taken_size : (n : ℕ) (bs : List ℕ) → length (take n bs) ≤ length bs
+taken_size n bs =
+    let a : length (take n bs) ≡ min n (length bs) = length-take n bs in
+    let b : min n (length bs) ≤ length bs = min-le_right n (length bs) in
+    omega (a, b, arith)
+
+with_bodies_in : (size : ℕ) (kind : TokenKind) (start stop : ℕ) (bs : List ℕ) → stop + length bs ≤ size → (o : Option ℕ) → NoItemIn size (with_bodies kind start stop bs o)
+with_bodies_in size kind start stop bs h None = no_end_in size stop bs h (nul_in bs) refl
+with_bodies_in size kind start stop bs h (Some n) =
+    let a = taken_size n bs in
+    with_nul_in size kind start stop n (take n bs) (omega (a, h, arith)) (nul_in (take n bs)) refl
+
+item_of_in : (e : Bool) (w : Waiting) (bytes : List ℕ) (f : FirstToken) → IsFirst e bytes f → NoItemIn (length bytes) (item_of e w bytes f)
+item_of_in e w bytes (Found kind start stop) x =
+    let rest = x.0.1.0 in
+    let to : stop + length rest ≡ length bytes = x.0.1.3 in
+    let a : length (drop stop bytes) ≡ length bytes - stop = length-drop stop bytes in
+    with_bodies_in (length bytes) kind start stop (drop stop bytes) (omega (to, a, arith)) (bodies_size e (due_at kind w) (drop stop bytes))
+item_of_in e w bytes Unfinished x = tt
+item_of_in e w bytes (NulAt place) x = let a = nul_place bytes place x.2 in omega (a, arith)
+item_of_in e w bytes (DeepAt place) x =
+    let rest = x.0.0 in
+    let to : place + length rest ≡ length bytes = x.0.2 in
+    omega (to, arith)
+
+first_item_in : (e : Bool) (w : Waiting) (bytes : List ℕ) → NoItemIn (length bytes) (first_item e w bytes)
+unfolding first_item
+first_item_in e w bytes = item_of_in e w bytes (first_token e bytes) (is_first e bytes)
+
+item_ending : (size : ℕ) (kind : TokenKind) (start stop after : ℕ) (others : Items) → ((kind ≡ TokenKind.End → ⊥) → EndingIn size others.ending)
+    → EndingIn size (with_item kind start stop after others).ending
+item_ending size TokenKind.End start stop after others h = tt
+item_ending size (TokenKind.Operator o) start stop after others h = h (λ x. cc)
+item_ending size TokenKind.Number start stop after others h = h (λ x. cc)
+item_ending size (TokenKind.Word ms) start stop after others h = h (λ x. cc)
+
+no_item_ending : (at : ℕ) (text : List ℕ) → at ≤ length text → (f : FirstToken) → FirstIn (length (drop at text)) f → EndingIn (length text) (ending_at at f)
+no_item_ending at text l (Found kind start stop) h = tt
+no_item_ending at text l Unfinished h = tt
+no_item_ending at text l (NulAt place) h = let a : length (drop at text) ≡ length text - at = length-drop at text in omega (a, l, h, arith)
+no_item_ending at text l (DeepAt place) h = let a : length (drop at text) ≡ length text - at = length-drop at text in omega (a, l, h, arith)
+
+first_ending : (e : Bool) (text : List ℕ) (w : Waiting) (at : ℕ) → at ≤ length text → (others : Waiting → ℕ → Items)
+    → ((v : Waiting) (place : ℕ) → place ≤ length text → EndingIn (length text) (others v place).ending)
+    → (first : FirstItem) → first_item e w (drop at text) ≡ first → EndingIn (length text) (with_first others w at first).ending
+first_ending e text w at l others more (NoItem fault) h =
+    no_item_ending at text l fault (subst (λ x. NoItemIn (length (drop at text)) x) h (first_item_in e w (drop at text)))
+first_ending e text w at l others more (FoundItem kind start stop after) h =
+    item_ending (length text) kind (at + start) (at + stop) (at + after) (others (behind_token kind w) (at + after)) (λ k.
+    more (behind_token kind w) (at + after) (found_inside e text w at l kind start stop after k h).inside)
+
+ending_from : (n : ℕ) (e : Bool) (text : List ℕ) (w : Waiting) (at : ℕ) → at ≤ length text → EndingIn (length text) (items_from n e text w at).ending
+ending_from zero e text w at l = tt
+ending_from (suc n) e text w at l =
+    first_ending e text w at l (λ v place. items_from n e text v place) (λ v place m. ending_from n e text v place m) (first_item e w (drop at text)) refl
+
+pub ending_in : (e : Bool) (text : List ℕ) → EndingIn (length text) (items_of e text).ending
+ending_in e text = ending_from (suc (length text)) e text nothing 0 (omega arith)
+
+-- tokens
+pub token_in : (at size : ℕ) (before : List Item) (t : Item) (after : List Item) → AreInside at size (before ++ t ∷ after)
+    → (t.token.span.start ≤ size) × (t.token.span.«end» ≤ size)
+token_in at size [] t after h =
+    let a : t.token.span.start < t.token.span.«end» = h.1 in
+    let b : t.token.span.«end» ≤ t.«end» = h.2 in
+    let c : t.«end» ≤ size = h.3 in
+    (omega (a, b, c, arith), omega (b, c, arith))
+token_in at size (b ∷ before) t after h = token_in b.«end» size before t after h.4
+
+-- faults of the texts that are read stand in these
+abbrev pub ReadsIn : Reader → Type 0
+ReadsIn read = (left : ℕ) (text : List ℕ) → FaultsIn (length text) (read left text)
+
+pub has_fault_in : (g : Judge) → ReadsIn g.read → (before : List Item) (t : Item) (f : PartFault) → t.token.span.start ≤ length g.text → t.token.span.«end» ≤ length g.text
+    → HasFault g before t f → FaultIn (length g.text) f
+has_fault_in g reads before t f l m (refused n h) = subst (λ x. FaultIn (length g.text) x) (sym h) l
+has_fault_in g reads before t f l m (too_deep a n h) = subst (λ x. FaultIn (length g.text) x) (sym h) l
+has_fault_in g reads before t f l m (in_word a n h) =
+    subst (λ x. FaultsIn (length g.text) x) h (leaf_in g.read reads (g.left - opened g (before ++ t ∷ [])) g.text t.token.kind t.token.span)
+has_fault_in g reads before t f l m (in_body a n x k h) =
+    subst (λ x. FaultsIn (length g.text) x) h
+    (bodies_in g.read reads (g.left - opened g (before ++ t ∷ [])) g.text (due_at t.token.kind (waiting_behind nothing before)) t m)
+
+pub first_fault_in : (g : Judge) → ReadsIn g.read → (tokens : List Item) (f : PartFault) → AreInside 0 (length g.text) tokens → FirstFault g tokens f → FaultIn (length g.text) f
+first_fault_in g reads tokens f i x =
+    let p = token_in 0 (length g.text) x.before x.token x.after (subst (λ xs. AreInside 0 (length g.text) xs) x.joined i) in
+    has_fault_in g reads x.before x.token f p.0 p.1 x.fault
+
+end_is_in : (g : Judge) (tokens : List Item) (ending : Ending) (answer : Result Complete PartFault) → EndingIn (length g.text) ending → EndIs g tokens ending answer → FaultsIn (length g.text) answer
+end_is_in g tokens AtEnd answer i (inl (tree, a, h)) = subst (λ x. FaultsIn (length g.text) x) (sym h) tt
+end_is_in g tokens AtEnd answer i (inr (d, h)) = subst (λ x. FaultsIn (length g.text) x) (sym h) (omega arith)
+end_is_in g tokens Cut answer i h = subst (λ x. FaultsIn (length g.text) x) (sym h) (omega arith)
+end_is_in g tokens (Nul place) answer i h = subst (λ x. FaultsIn (length g.text) x) (sym h) i
+end_is_in g tokens (Deep place) answer i h = subst (λ x. FaultsIn (length g.text) x) (sym h) i
+
+-- the texts of substitutions
+program_told_in : (read : Reader) → ReadsIn read → (left : ℕ) (text : List ℕ) (answer : Result Complete PartFault) → IsProgram read left text answer → FaultsIn (length text) answer
+program_told_in read reads left text answer (inl (f, x, h)) =
+    subst (λ a. FaultsIn (length text) a) (sym h) (first_fault_in (inner read left text) reads (items_of true text).items f (inside_of true text) x)
+program_told_in read reads left text answer (inr (x, h)) =
+    end_is_in (inner read left text) (items_of true text).items (items_of true text).ending answer (ending_in true text) h
+
+pub programs_in : (d : ℕ) → ReadsIn (programs d)
+programs_in zero left text = omega arith
+programs_in (suc d) left text =
+    program_told_in (programs d) (programs_in d) left text (program_in (programs d) left text)
+    ((program_defined (programs d) left text (program_in (programs d) left text)).0 refl)
