@@ -7,9 +7,9 @@ use Rattle.std.proofs.lemmas.List.Quantifiers.{position-Some}
 use Rattle.sh_files.specs.Nodes.{FileMap}
 use Rattle.sh_files_base.specs.Fields.{line_of}
 use Rattle.sh_files.specs.Image.{advanced, by_line, ended, entries, entry}
-use Rattle.sh_files.specs.declared.image_fault.FaultKind.{FaultKind}
-use Rattle.sh_files.specs.declared.image_fault.FaultKind.TheVariants.{NoMemory, Trailing, Truncated}
-use Rattle.sh_files.specs.declared.image_fault.Stop.{Stop}
+use Rattle.sh_files_base.specs.declared.image_fault.FaultKind.{FaultKind}
+use Rattle.sh_files_base.specs.declared.image_fault.FaultKind.TheVariants.{NoMemory, Trailing, Truncated}
+use Rattle.sh_files.specs.declared.image.Stop.{Stop}
 
 entries_behind : (files : FileMap) (k : ℕ) (bs : List ℕ) → entries files k bs ≡ entries files 0 (drop k bs)
 entries_behind files zero [] = refl

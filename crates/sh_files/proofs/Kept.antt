@@ -16,10 +16,10 @@ use Rattle.sh_files_base.proofs.Wording.{newline, behind_is_one, file_path_is_on
 use Rattle.sh_files.specs.Nodes.{FileMap, node_at, starting, with_new}
 use Rattle.sh_files.specs.Image.{advanced, beyond, by_directory, by_file, by_header, by_line, content_fault, ended, entries, entry, file_entry, first_fault, image_of, is_directory, not_directory, numbered_line, path_fault, placed, read_image, stands}
 use Rattle.sh_files.specs.Whole.{IsPlaced, IsWhole, is_kept}
-use Rattle.sh_files.specs.declared.image_fault.FaultKind.{FaultKind}
-use Rattle.sh_files.specs.declared.image_fault.FaultKind.TheVariants.{BadHeader, BadPath, Duplicate, NoParent, TooLarge}
-use Rattle.sh_files.specs.declared.image_fault.ImageFault.{ImageFault}
-use Rattle.sh_files.specs.declared.image_fault.Stop.{Stop}
+use Rattle.sh_files_base.specs.declared.image_fault.FaultKind.{FaultKind}
+use Rattle.sh_files_base.specs.declared.image_fault.FaultKind.TheVariants.{BadHeader, BadPath, Duplicate, NoParent, TooLarge}
+use Rattle.sh_files_base.specs.declared.image_fault.ImageFault.{ImageFault}
+use Rattle.sh_files.specs.declared.image.Stop.{Stop}
 use Rattle.sh_files.proofs.Lookups.{Numbered, is, is_same, node_new, node_other, numbered_new}
 use Rattle.sh_files.proofs.Restored.{differ, second}
 use Rattle.sh_files.proofs.Whole.{start_absent, start_numbered}

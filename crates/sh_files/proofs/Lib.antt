@@ -6,4 +6,4 @@ pub mod Whole
 pub mod Kept
 pub mod Sizes
 pub mod Changed
-mod Blocks
+pub mod Nameless

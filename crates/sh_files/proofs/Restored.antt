@@ -17,9 +17,10 @@ use Rattle.sh_files_base.proofs.Wording.{first_line, newline, one_line, read_fil
 use Rattle.sh_files.specs.Nodes.{FileMap, node_at, with_new}
 use Rattle.sh_files.specs.Image.{by_file, content_fault, entries, first_fault, is_directory, path_fault, placed}
 use Rattle.sh_files.specs.Whole.{AreSame, IsWhole, is_kept}
-use Rattle.sh_files.specs.Writing.{found_text, last_line, paths_text}
-use Rattle.sh_files.specs.declared.image_fault.FaultKind.{FaultKind}
-use Rattle.sh_files.specs.declared.image_fault.FaultKind.TheVariants.{BadPath, Duplicate, NoParent}
+use Rattle.sh_files_base.specs.Writing.{found_text, paths_text}
+use Rattle.sh_files.specs.Writing.{last_line}
+use Rattle.sh_files_base.specs.declared.image_fault.FaultKind.{FaultKind}
+use Rattle.sh_files_base.specs.declared.image_fault.FaultKind.TheVariants.{BadPath, Duplicate, NoParent}
 use Rattle.sh_files.proofs.Entries.{next_line}
 use Rattle.sh_files.proofs.Lookups.{Numbered, before_first, first_found, first_once, front_before, get_within, is, is_same, node_new, node_other, not_first, number_new, numbered_new}
 

@@ -20,11 +20,12 @@ use Rattle.sh_files_base.proofs.Wording.{behind_is_one, behind_length, fields_le
 use Rattle.sh_files.specs.Nodes.{FileMap, starting, with_new}
 use Rattle.sh_files.specs.Image.{advanced, beyond, by_directory, by_file, by_header, by_line, content_fault, ended, entries, entry, file_entry, first_fault, image_of, not_directory, numbered_line, path_fault, placed, read_image, stands}
 use Rattle.sh_files.specs.Whole.{IsWhole}
-use Rattle.sh_files.specs.Writing.{found_text, image_text, last_line, path_text, paths_text}
-use Rattle.sh_files.specs.declared.image_fault.FaultKind.{FaultKind}
-use Rattle.sh_files.specs.declared.image_fault.FaultKind.TheVariants.{BadHeader, TooLarge}
-use Rattle.sh_files.specs.declared.image_fault.ImageFault.{ImageFault}
-use Rattle.sh_files.specs.declared.image_fault.Stop.{Stop}
+use Rattle.sh_files_base.specs.Writing.{found_text, path_text, paths_text}
+use Rattle.sh_files.specs.Writing.{image_text, last_line}
+use Rattle.sh_files_base.specs.declared.image_fault.FaultKind.{FaultKind}
+use Rattle.sh_files_base.specs.declared.image_fault.FaultKind.TheVariants.{BadHeader, TooLarge}
+use Rattle.sh_files_base.specs.declared.image_fault.ImageFault.{ImageFault}
+use Rattle.sh_files.specs.declared.image.Stop.{Stop}
 use Rattle.sh_files.proofs.Lookups.{Numbered, first_found, get_front, get_last, is, not_first}
 use Rattle.sh_files.proofs.Restored.{left_out_text, other}
 use Rattle.sh_files.proofs.Kept.{free, line_whole, start_whole}
@@ -44,15 +45,15 @@ grown nodes p n (e ∷ es) h =
           omega (arith, a, b, c)
     ] h
 
-abbrev Within : ℕ → Entries → Type 0
+abbrev pub Within : ℕ → Entries → Type 0
 Within k [] = Unit {0}
 Within k (e ∷ es) = (e.1 < k) × Within k es
 
-within : (k : ℕ) (es : Entries) → Rises es → ((q : List ℕ) (n : ℕ) → map.find order q es ≡ Some n → n < k) → Within k es
+pub within : (k : ℕ) (es : Entries) → Rises es → ((q : List ℕ) (n : ℕ) → map.find order q es ≡ Some n → n < k) → Within k es
 within k [] h f = tt
 within k (e ∷ es) h f = (f e.0 e.1 (first_found e es), within k es (right _ _ h) (λ q n at. f q n (not_first q e es (other q n e es h at) ∙ at)))
 
-same_texts : (nodes more : List Node) (es : Entries) → Within (length nodes) es → paths_text (nodes ++ more) es ≡ paths_text nodes es
+pub same_texts : (nodes more : List Node) (es : Entries) → Within (length nodes) es → paths_text (nodes ++ more) es ≡ paths_text nodes es
 same_texts nodes more [] h = refl
 same_texts nodes more (e ∷ es) h =
     ap (λ (o : Option Node). (if is_left_out e.0 then [] else found_text e.0 o) ++ paths_text (nodes ++ more) es) (get_front nodes more e.1 h.0)

@@ -14,7 +14,8 @@ use Rattle.sh_files_base.proofs.Wording.{first_line}
 use Rattle.sh_files.specs.Nodes.{FileMap, node_at, starting}
 use Rattle.sh_files.specs.Image.{beyond, by_header, image_of, numbered_line, read_image}
 use Rattle.sh_files.specs.Whole.{AreSame, IsWhole}
-use Rattle.sh_files.specs.Writing.{image_text, last_line, paths_text}
+use Rattle.sh_files_base.specs.Writing.{paths_text}
+use Rattle.sh_files.specs.Writing.{image_text, last_line}
 use Rattle.sh_files.proofs.Lookups.{Numbered, is, is_same, not_first}
 use Rattle.sh_files.proofs.Restored.{Reading, restore}
 

@@ -8,10 +8,10 @@ use Rattle.sh_files.specs.Nodes.{FileMap, node_at, with_new, starting}
 use Rattle.sh_files_base.specs.declared.node.Flags.{Flags}
 use Rattle.sh_files_base.specs.declared.node.Node.{Node}
 use Rattle.sh_files_base.specs.declared.node.Node.TheVariants.{Directory, File, Null, Terminal}
-use Rattle.sh_files.specs.declared.image_fault.FaultKind.{FaultKind}
-use Rattle.sh_files.specs.declared.image_fault.FaultKind.TheVariants.{BadHeader, BadLine, BadPath, NoParent, Duplicate, Truncated, TooLarge, Trailing, NoMemory}
-use Rattle.sh_files.specs.declared.image_fault.Stop.{Stop}
-use Rattle.sh_files.specs.declared.image_fault.ImageFault.{ImageFault}
+use Rattle.sh_files_base.specs.declared.image_fault.FaultKind.{FaultKind}
+use Rattle.sh_files_base.specs.declared.image_fault.FaultKind.TheVariants.{BadHeader, BadLine, BadPath, NoParent, Duplicate, Truncated, TooLarge, Trailing, NoMemory}
+use Rattle.sh_files.specs.declared.image.Stop.{Stop}
+use Rattle.sh_files_base.specs.declared.image_fault.ImageFault.{ImageFault}
 
 -- ---- one line
 abbrev pub is_directory : Option Node → Bool

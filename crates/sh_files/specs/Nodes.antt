@@ -91,8 +91,12 @@ abbrev pub may_create : List ℕ → Bool
 may_create place =
     not (starts_with nat_eq place (codes "/dev/")) && (not (list_any (λ b. b == 10) place) && not (list_any (λ b. b == 0) place))
 
+-- a file that is made with these bytes may be read and written
+abbrev pub new_file_of : List ℕ → Node
+new_file_of bytes = File (record { flags = record { read = true; write = true; execute = false }; bytes = bytes })
+
 abbrev pub new_file : Node
-new_file = File (record { flags = record { read = true; write = true; execute = false }; bytes = [] })
+new_file = new_file_of []
 
 -- one more node, at this path
 abbrev pub with_new : FileMap → List ℕ → Node → FileMap
@@ -116,6 +120,17 @@ open_place files how (Ok place) = open_number files place how (get files.paths p
 -- whether it is a directory, whether it is there already, and the flags
 abbrev pub opened : FileMap → List ℕ → List ℕ → Opening → Result (ℕ × FileMap) FileFault
 opened files directory path how = open_place files how (resolved files directory path)
+
+-- ---- files that no path names, as a here-document (XCU 2.7.4)
+-- one more node, at no path
+abbrev pub with_nameless : FileMap → Node → FileMap
+with_nameless files node = record files { nodes = files.nodes ++ node ∷ [] }
+
+-- a new file of these bytes, with its number; a file has at most 2^30 bytes
+abbrev pub nameless : FileMap → List ℕ → Result (ℕ × FileMap) FileFault
+nameless files bytes =
+    if nat_le (length bytes) 1073741824 then Ok (length files.nodes, with_nameless files (new_file_of bytes))
+    else Err TooLarge
 
 -- ---- reading and writing (XSH read, write)
 abbrev pub content_of : Option Node → ℕ → ℕ → Result (List ℕ) FileFault
@@ -165,6 +180,15 @@ truncate_node files n count (Some node) = with_node files n (node_truncated coun
 abbrev pub truncated : FileMap → ℕ → ℕ → Result FileMap FileFault
 truncated files n count = truncate_node files n count (slice_get files.nodes n)
 
+-- ---- what a path names
+abbrev pub found_at : FileMap → Result (List ℕ) FileFault → Option Node
+found_at files (Err fault) = None
+found_at files (Ok place) = node_at files place
+
+-- the node that a path names, read as it is to open it
+abbrev pub named : FileMap → List ℕ → List ℕ → Option Node
+named files directory path = found_at files (resolved files directory path)
+
 -- ---- what may be run (XCU 2.9.1.4)
 abbrev pub runs : Option Node → Bool
 runs None = false
@@ -173,13 +197,9 @@ runs (Some (File file)) = file.flags.execute
 runs (Some Null) = false
 runs (Some Terminal) = false
 
-abbrev pub runs_at : FileMap → Result (List ℕ) FileFault → Bool
-runs_at files (Err fault) = false
-runs_at files (Ok place) = runs (node_at files place)
-
 -- a path names a regular file that may be executed
 abbrev pub is_executable : FileMap → List ℕ → List ℕ → Bool
-is_executable files directory path = runs_at files (resolved files directory path)
+is_executable files directory path = runs (named files directory path)
 
 -- ---- the names in a directory (XSH readdir, without dot and dot-dot)
 abbrev pub names_at : FileMap → List ℕ → Result (Unit {0}) FileFault → Result (List (List ℕ)) FileFault

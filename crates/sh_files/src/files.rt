@@ -8,7 +8,7 @@ ghost use Rattle.sh_files_base.specs.Listing.{front_of, names_in};
 ghost use Rattle.sh_files_base.specs.Paths.{fits, components};
 ghost use Rattle.std.specs.Result.{result_map_both};
 ghost use Rattle.sh_files_base.specs.Contents.{written};
-ghost use Rattle.sh_files.specs.Nodes.{allows, node_opened, node_truncated, node_written, emptied, runs, write_fits, created, entrance, is_empty, is_executable, may_create, node_at, open_node, open_number, opened, read_at, resolved, starting, truncated, walked, with_new, write_at};
+ghost use Rattle.sh_files.specs.Nodes.{allows, node_opened, node_truncated, node_written, emptied, runs, write_fits, created, entrance, is_empty, is_executable, may_create, named, nameless, node_at, open_node, open_number, opened, read_at, resolved, starting, truncated, walked, with_new, write_at};
 
 use crate::fault::FileFault;
 use crate::opening::Opening;
@@ -178,16 +178,6 @@ impl Files {
         Ok(number)
     }
 
-    /// Whether what is at a place may be run.
-    fn runs(&self, place: &[u8]) -> bool
-        ensures { result ≡ runs (node_at self.now place.now) }
-    {
-        match self.node_at(place) {
-            Some(Node::File(file)) => file.flags().execute,
-            _ => false,
-        }
-    }
-
     /// Opens what is there.
     fn open_number(&mut self, number: usize, how: Opening) -> Result<(), FileFault>
         ensures ok { OnOk result (open_node self.old how number (slice_get self.old.nodes number) ≡ Ok self.new) }
@@ -269,19 +259,57 @@ impl Files {
         truncate_node(node, length)
     }
 
+    /// Adds a regular file of these bytes, as for a here-document (XCU 2.7.4), and gives the number of its node. No path
+    /// names it, and it is in no image. It may be read and written.
+    ///
+    /// `TooLarge` where there are more than [`MAX_LENGTH`] bytes; else `NoMemory`.
+    pub fn add_nameless(&mut self, bytes: Vec<u8>) -> Result<usize, FileFault>
+        ensures ok { IfOk result (λ number. nameless self.old bytes.items ≡ Ok (number, self.new)) }
+        ensures refused { IfErr result (λ fault. fault ≢ FileFault.NoMemory → nameless self.old bytes.items ≡ Err fault) }
+        ensures err { OnErr result (self.new ≡ self.old) }
+    {
+        if bytes.len() > MAX_LENGTH {
+            return Err(FileFault::TooLarge);
+        }
+        let number = self.nodes.len();
+        self.nodes.reserve(1)?;
+        self.nodes
+            .push_reserved(Node::File(File::new(NEW_FLAGS, bytes)));
+        Ok(number)
+    }
+
+    /// The node that a path names, which is read as by [`Files::open`]; none where it names nothing, also for a fault
+    /// of the path. The only error is want of memory.
+    pub fn find(&self, directory: &[u8], path: &[u8]) -> Result<Option<&Node>, AllocError>
+        ensures { IfOk result (λ found. option_map (λ node. node.now) found ≡ named self.now directory.now path.now) }
+    {
+        match self.resolve(directory, path) {
+            Ok(place) => Ok(self.node_at(&place)),
+            Err(FileFault::NoMemory) => Err(AllocError),
+            Err(_) => Ok(None),
+        }
+    }
+
     /// Whether a path names a regular file that may be executed (XCU 2.9.1.4). The only error is want of memory.
     pub fn is_executable(&self, directory: &[u8], path: &[u8]) -> Result<bool, AllocError>
         ensures { IfOk result (λ executable. executable ≡ is_executable self.now directory.now path.now) }
     {
-        match self.resolve(directory, path) {
-            Ok(place) => Ok(self.runs(&place)),
-            Err(FileFault::NoMemory) => Err(AllocError),
-            Err(_) => Ok(false),
-        }
+        let found = self.find(directory, path)?;
+        Ok(runs(found))
     }
 }
 
-/// The flags of a file that `open` makes.
+/// Whether what was found may be run.
+fn runs(found: Option<&Node>) -> bool
+    ensures { result ≡ runs (option_map (λ node. node.now) found.entry) }
+{
+    match found {
+        Some(Node::File(file)) => file.flags().execute,
+        _ => false,
+    }
+}
+
+/// The flags of a file that is made.
 const NEW_FLAGS: Flags = Flags {
     read: true,
     write: true,

@@ -5,12 +5,18 @@ ghost use Rattle.sh_files_base.specs.Fields.{line_of};
 ghost use Rattle.sh_files.specs.Image.{by_header, image_of, read_image, stands, content_fault, entries, entry, file_entry, is_directory, path_fault, placed};
 
 use crate::files::Files;
-use crate::image_fault::{FaultKind, ImageFault, Stop};
 use sh_files_base::{
-    File, Flags, MAX_IMAGE, Node, behind, count_newlines, file_fields, first, is_image_path,
-    parent, skip, split_line,
+    FaultKind, File, Flags, ImageFault, MAX_IMAGE, Node, behind, count_newlines, file_fields,
+    first, is_image_path, parent, skip, split_line,
 };
 use std::alloc::Global;
+
+/// Where reading an image stopped: so many bytes before its end.
+#[derive(Clone, Copy)]
+struct Stop {
+    kind: FaultKind,
+    left: usize,
+}
 
 /// What is wrong with a file's bytes and the newline behind them.
 fn check_content(size: usize, after: &[u8]) -> Result<(), FaultKind>

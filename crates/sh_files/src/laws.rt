@@ -2,7 +2,7 @@
 ghost use Rattle.std.specs.Prelude.{◌≡◌, ◌≤◌, List, ℕ, Ok, length, true};
 ghost use Rattle.std.specs.FinMap as map;
 ghost use Rattle.sh_files_base.specs.Listing.{front_of, names_in, rise};
-ghost use Rattle.sh_files.specs.Nodes.{FileMap, truncated, write_at};
+ghost use Rattle.sh_files.specs.Nodes.{FileMap, nameless, truncated, write_at};
 ghost use Rattle.sh_files.specs.Image.{read_image};
 ghost use Rattle.sh_files.specs.Whole.{AreSame, IsWhole};
 ghost use Rattle.sh_files.specs.Writing.{image_text};
@@ -21,10 +21,12 @@ pub fn read_files_are_whole()
     ensures again { (bytes : List ℕ) (files : FileMap) → read_image bytes ≡ Ok files → (read : FileMap) × ((read_image (image_text files) ≡ Ok read) × AreSame read files) }
 {}
 
-/// Law: files that an image can hold stay so where one of them is written or truncated.
+/// Law: files that an image can hold stay so where one of them is written or truncated, or one that no path names is
+/// added: their image stays the same then.
 pub fn changed_files_stay_whole()
     ensures written { (files changed : FileMap) (n offset : ℕ) (bytes : List ℕ) → IsWhole files → write_at files n offset bytes ≡ Ok changed → IsWhole changed }
     ensures cut { (files changed : FileMap) (n count : ℕ) → IsWhole files → truncated files n count ≡ Ok changed → IsWhole changed }
+    ensures nameless { (files changed : FileMap) (n : ℕ) (bytes : List ℕ) → IsWhole files → nameless files bytes ≡ Ok (n, changed) → IsWhole changed × (image_text changed ≡ image_text files) }
 {}
 
 /// Law: the names in a directory rise by their bytes, and none stands twice.

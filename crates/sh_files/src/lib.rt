@@ -2,23 +2,17 @@
 #![tactic(auto)]
 
 mod fault;
-#[cfg(test)]
-mod fault_tests;
 mod files;
 mod image;
-mod image_fault;
-#[cfg(test)]
-mod image_tests;
 mod laws;
 mod listing;
 mod opening;
-#[cfg(test)]
-mod tests;
 mod writing;
 
 pub use fault::FileFault;
 pub use files::Files;
-pub use image_fault::{FaultKind, ImageFault};
-pub use laws::{names_rise, read_files_are_whole, written_image_is_read};
+pub use laws::{changed_files_stay_whole, names_rise, read_files_are_whole, written_image_is_read};
 pub use opening::Opening;
-pub use sh_files_base::{File, Flags, MAX_IMAGE, MAX_LENGTH, MAX_NAME, MAX_PATH, Node};
+pub use sh_files_base::{
+    FaultKind, File, Flags, ImageFault, MAX_IMAGE, MAX_LENGTH, MAX_NAME, MAX_PATH, Node,
+};

@@ -1,48 +1,10 @@
 // Writing an image.
-ghost use Rattle.std.specs.Prelude.{◌≡◌, ◌++◌, IfOk, OnOk};
-ghost use Rattle.sh_files_base.specs.Blocks.{flat};
-ghost use Rattle.sh_files.specs.Writing.{image_text, path_text, paths_text};
+ghost use Rattle.std.specs.Prelude.{◌≡◌, IfOk};
+ghost use Rattle.sh_files.specs.Writing.{image_text};
 
 use crate::files::Files;
-use sh_files_base::{Block, Entry, Node, is_left_out, write_node};
+use sh_files_base::write_blocks;
 use std::alloc::AllocError;
-
-/// Writes what the image has of one path.
-fn write_path(image: &mut Vec<u8>, nodes: &[Node], entry: &Entry) -> Result<(), AllocError>
-    ensures { OnOk result (image.new.items ≡ image.old.items ++ path_text nodes.now entry.now) }
-{
-    if is_left_out(entry.path()) {
-        return Ok(());
-    }
-    match nodes.get(entry.node()) {
-        Some(node) => write_node(image, entry.path(), node),
-        None => Ok(()),
-    }
-}
-
-/// Writes what the image has of these paths.
-fn write_paths(image: &mut Vec<u8>, nodes: &[Node], entries: &[Entry]) -> Result<(), AllocError>
-    ensures { OnOk result (image.new.items ≡ image.old.items ++ paths_text nodes.now entries.now) }
-{
-    let mut rest = entries;
-    'paths: while let Some((entry, behind)) = rest.split_first() {
-        write_path(image, nodes, entry)?;
-        rest = behind;
-    }
-    Ok(())
-}
-
-/// Writes what the image has of the paths in blocks.
-fn write_blocks(image: &mut Vec<u8>, nodes: &[Node], blocks: &[Block]) -> Result<(), AllocError>
-    ensures { OnOk result (image.new.items ≡ image.old.items ++ paths_text nodes.now (flat blocks.now)) }
-{
-    let mut rest = blocks;
-    'parts: while let Some((block, behind)) = rest.split_first() {
-        write_paths(image, nodes, block.entries())?;
-        rest = behind;
-    }
-    Ok(())
-}
 
 impl Files {
     /// The image of the files, as [`Files::from_image`] reads it, its lines sorted by the bytes of their paths. The root

@@ -5,3 +5,4 @@ pub mod Blocks
 pub mod Held
 pub mod Turns
 pub mod Wording
+mod Written

@@ -7,3 +7,4 @@ pub mod Starting
 pub mod Texts
 pub mod Listing
 pub mod Blocks
+pub mod Writing

@@ -19,7 +19,7 @@ use Rattle.sh_kernel_base.specs.Closings.{Pipes, goes, is_held, left, let_go, le
 use Rattle.sh_kernel_base.specs.Descriptors.{is_called, is_named, reads_from, writes_to}
 use Rattle.sh_kernel_base.specs.Machine.{MachineState, closed, ended, forked}
 use Rattle.sh_kernel_base.specs.Naming.{end_of, put_back, renamed, renamed_at, renumbered, with_number, with_pipe}
-use Rattle.sh_kernel_base.specs.Opening.{description_of, target_of, with_node}
+use Rattle.sh_kernel_base.specs.Opening.{description_of, for_reading, target_of, with_node}
 use Rattle.sh_kernel_base.specs.Processes.{copies, is_copied, next_pid, of_process, process_at, with_status, with_status_of}
 use Rattle.sh_kernel_base.specs.Reading.{moved, moved_of}
 use Rattle.sh_kernel_base.specs.declared.descriptor.Closing.{Closing}
@@ -38,6 +38,7 @@ use Rattle.sh_kernel.specs.Requests.{Request, Open}
 use Rattle.sh_kernel.proofs.Cases.{IsHeld}
 use Rattle.sh_kernel.proofs.Lists.{apart, false_of, front_place, or_left, or_right, other_place}
 use Rattle.sh_kernel.proofs.Requesting.{by_cases}
+use Rattle.sh_kernel.proofs.Nameless.{nameless_other}
 
 pub true≢false : (b : Bool) → b ≡ true → b ≡ false → ⊥
 true≢false b h k = absurd (cc)
@@ -427,20 +428,23 @@ pub opened_end : (n : ℕ) (o : Option Node) (how : Opening) (append : Bool) (q 
 opened_end n o how append q zero = no_end n o q
 opened_end n o how append q (suc j) = refl
 
-keeps_opens : (pid : ℕ) (m : MachineState) (r : Request) (directory path : List ℕ) (how : Opening) (append : Bool) (number : ℕ) (o : ℕ × FileMap) → r ≡ Open directory path how append number → opened m.files directory path how ≡ Ok o → Keeps pid (opens m r) m (with_number (with_node m how append o.0 o.1) pid number (length m.descriptions))
-keeps_opens pid m r directory path how append number o is at =
+keeps_opens : (pid : ℕ) (op : ℕ → Bool) (m : MachineState) (how : Opening) (append : Bool) (number : ℕ) (o : ℕ × FileMap) → ((n : ℕ) → n < length m.files.nodes → op n ≡ false → slice_get o.1.nodes n ≡ slice_get m.files.nodes n) → Keeps pid op m (with_number (with_node m how append o.0 o.1) pid number (length m.descriptions))
+keeps_opens pid op m how append number o same =
     let made = with_node m how append o.0 o.1 in
     record {
       pipes = λ q within h.
           let fails : (k : ℕ) → is_end m.descriptions q k ≡ false → is_end made.descriptions q k ≡ false = λ k g. more_fails m.descriptions _ (λ (e : Description). reads_from q e.target || writes_to q e.target) k (opened_end o.0 (slice_get o.1.nodes o.0) how append q) g in
           pipes_left_other pid (Named (Number number)) m.descriptors made.descriptions m.pipes q (reaches_no_more m.descriptors pid (is_end m.descriptions q) (is_end made.descriptions q) fails h);
-      files = λ n within h unopened.
-          let other : (o.0 == n) ≡ false = sym (ap (λ (x : Result (ℕ × FileMap) FileFault). is_opened n x) at) ∙ sym (ap (λ (x : Request). opens m x n) is) ∙ unopened in
-          opened_other m.files directory path how o n within (apart o.0 n other) at;
+      files = λ n within h unopened. same n within unopened;
       descriptors = λ q n _. others_numbered made pid number (length m.descriptions) q n;
       descriptions = λ k within h. front_place m.descriptions _ k within;
       processes = λ _ _ _. refl;
     }
+
+-- a file that isn't opened isn't that whose number was answered
+not_answered : (m : MachineState) (r r' : Request) (n : ℕ) (o : ℕ × FileMap) (was : Result (ℕ × FileMap) FileFault) → r ≡ r' → opens m r' n ≡ is_opened n was → was ≡ Ok o → opens m r n ≡ false → o.0 ≢ n
+not_answered m r r' n o was is answers at unopened =
+    apart o.0 n (sym (ap (λ (x : Result (ℕ × FileMap) FileFault). is_opened n x) at) ∙ sym answers ∙ sym (ap (λ (x : Request). opens m x n) is) ∙ unopened)
 
 pub requests_change : RequestsChangeOnlyReached
 requests_change s pid r =
@@ -458,5 +462,7 @@ requests_change s pid r =
       back = λ k number. keeps_back pid op m k number;
       forks = keeps_forked pid op m;
       makes_pipe = λ from to. keeps_makes_pipe pid op m from to;
-      opens = λ directory path how append number o is at. keeps_opens pid m r directory path how append number o is at;
+      opens = λ directory path how append number o is at.
+          keeps_opens pid op m how append number o (λ n within unopened. opened_other m.files directory path how o n within (not_answered m r (Open directory path how append number) n o (opened m.files directory path how) is refl at unopened) at);
+      heres = λ bytes number o is at. keeps_opens pid op m for_reading false number o (λ n within unopened. nameless_other m.files bytes o n within at);
     })

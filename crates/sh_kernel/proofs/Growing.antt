@@ -18,7 +18,7 @@ use Rattle.sh_pipe.specs.Pipe.{PipeState}
 use Rattle.sh_kernel_base.specs.Machine.{MachineState, closed, ended, forked}
 use Rattle.sh_kernel_base.specs.Processes.{process_at, with_status, with_status_of}
 use Rattle.sh_kernel_base.specs.Naming.{put_back, renamed, with_number, with_pipe}
-use Rattle.sh_kernel_base.specs.Opening.{with_node}
+use Rattle.sh_kernel_base.specs.Opening.{for_reading, with_node}
 use Rattle.sh_kernel_base.specs.declared.process.Process.{Process}
 use Rattle.sh_kernel_base.specs.declared.process.Status.{Status}
 use Rattle.sh_kernel_base.specs.declared.descriptor.Name.{Name}
@@ -31,6 +31,7 @@ use Rattle.sh_kernel_base.specs.declared.descriptor.Closing.{Closing}
 use Rattle.sh_kernel_base.specs.declared.description.Description.{Description}
 use Rattle.sh_kernel.specs.Laws.{OnlyGrows, RequestsOnlyGrow, target_at}
 use Rattle.sh_kernel.proofs.Requesting.{by_cases}
+use Rattle.sh_kernel.proofs.Nameless.{nameless_length, nameless_paths}
 use Rattle.sh_kernel.proofs.Lists.{front_place, length_set}
 
 pub grows_same : (m : MachineState) → OnlyGrows m m
@@ -256,4 +257,7 @@ requests_grow s pid r = let m = s.machine in by_cases s pid r (λ m'. OnlyGrows 
   opens = λ directory path how append number o is opened_is.
       let before = with_node m how append o.0 o.1 in
       grows_then m before (with_number before pid number (length m.descriptions)) (grows_with_node m how append o.0 o.1 (opened_length m.files directory path how o opened_is) (opened_paths m.files directory path how o opened_is)) (grows_number before pid number (length m.descriptions));
+  heres = λ bytes number o is made.
+      let before = with_node m for_reading false o.0 o.1 in
+      grows_then m before (with_number before pid number (length m.descriptions)) (grows_with_node m for_reading false o.0 o.1 (nameless_length m.files bytes o made) (nameless_paths m.files bytes o made)) (grows_number before pid number (length m.descriptions));
 })

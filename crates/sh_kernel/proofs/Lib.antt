@@ -1,5 +1,6 @@
 pub mod FileWaits
 pub mod Lists
+pub mod Nameless
 pub mod Cases
 pub mod Requesting
 pub mod Growing
@@ -7,3 +8,4 @@ pub mod Frames
 pub mod Owning
 pub mod Screens
 pub mod Reached
+pub mod Extending

@@ -5,7 +5,7 @@ use Rattle.sh_kernel_base.specs.Closings.{left}
 use Rattle.sh_kernel_base.specs.Descriptors.{is_named}
 use Rattle.sh_kernel_base.specs.Machine.{MachineState}
 use Rattle.sh_kernel_base.specs.Naming.{renamed, renamed_at, renumbered, with_number, with_pipe}
-use Rattle.sh_kernel_base.specs.Opening.{with_node}
+use Rattle.sh_kernel_base.specs.Opening.{for_reading, with_node}
 use Rattle.sh_kernel_base.specs.Processes.{copies, is_copied, next_pid, of_process}
 use Rattle.sh_kernel_base.specs.declared.descriptor.Closing.TheVariants.{Named}
 use Rattle.sh_kernel_base.specs.declared.descriptor.Descriptor.{Descriptor}
@@ -92,6 +92,7 @@ owned_stays s pid q r test n within own =
         makes_pipe = λ from to.
             number_owned (with_number (with_pipe m) q from (length m.descriptions)) q to (length m.descriptions + 1) pid test newer (number_owned (with_pipe m) q from (length m.descriptions) pid test new own);
         opens = λ directory path how append number o is at. number_owned (with_node m how append o.0 o.1) q number (length m.descriptions) pid test new own;
+        heres = λ bytes number o is at. number_owned (with_node m for_reading false o.0 o.1) q number (length m.descriptions) pid test new own;
       }),
       unreached,
     )

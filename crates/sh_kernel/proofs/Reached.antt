@@ -12,7 +12,7 @@ use Rattle.sh_kernel_base.specs.Closings.{left}
 use Rattle.sh_kernel_base.specs.Descriptors.{is_named, reads_from, writes_to}
 use Rattle.sh_kernel_base.specs.Machine.{MachineState}
 use Rattle.sh_kernel_base.specs.Naming.{end_of, renamed, renamed_at, renumbered, with_number, with_pipe}
-use Rattle.sh_kernel_base.specs.Opening.{description_of, target_of}
+use Rattle.sh_kernel_base.specs.Opening.{description_of, for_reading, target_of}
 use Rattle.sh_kernel_base.specs.Processes.{copies, is_copied, next_pid, of_process}
 use Rattle.sh_kernel_base.specs.Reading.{moved}
 use Rattle.sh_kernel_base.specs.declared.descriptor.Closing.TheVariants.{Named, All}
@@ -101,6 +101,7 @@ unreached s pid r =
             reaches_one_more (left pid (Named (Number to)) first.descriptors) _ pid test (reaches_left pid (Named (Number to)) first.descriptors test at_first) (new (length m.descriptions + 1) (omega arith));
       };
       opens = λ directory path how append number o is at. record { fails = λ test h new. reaches_one_more (left pid (Named (Number number)) ds) _ pid test (reaches_left pid (Named (Number number)) ds test h) (new (length m.descriptions) (omega arith)) };
+      heres = λ bytes number o is at. record { fails = λ test h new. reaches_one_more (left pid (Named (Number number)) ds) _ pid test (reaches_left pid (Named (Number number)) ds test h) (new (length m.descriptions) (omega arith)) };
     })
 
 -- ---- descriptions
@@ -168,6 +169,12 @@ new_fails s pid r =
         files = λ n k unopened h.
             let other : (o.0 == n) ≡ false = sym (ap (λ (x : Result (ℕ × FileMap) FileFault). is_opened n x) at) ∙ sym (ap (λ (x : Request). opens m x n) is) ∙ unopened in
             more_fails m.descriptions _ (files_of n) k (λ j. opened_file o.0 n (slice_get o.1.nodes o.0) how append j other) (past_all m.descriptions (files_of n) k h);
+      };
+      heres = λ bytes number o is at. record {
+        ends = λ q k within h. more_fails m.descriptions _ (ends_of q) k (opened_end o.0 (slice_get o.1.nodes o.0) for_reading false q) (past_all m.descriptions (ends_of q) k h);
+        files = λ n k unopened h.
+            let other : (o.0 == n) ≡ false = sym (ap (λ (x : Result (ℕ × FileMap) FileFault). is_opened n x) at) ∙ sym (ap (λ (x : Request). opens m x n) is) ∙ unopened in
+            more_fails m.descriptions _ (files_of n) k (λ j. opened_file o.0 n (slice_get o.1.nodes o.0) for_reading false j other) (past_all m.descriptions (files_of n) k h);
       };
     })
 

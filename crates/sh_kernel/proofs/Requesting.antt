@@ -1,6 +1,6 @@
 -- The changes of a machine of which each request is made.
 use Rattle.std.proofs.Common.{◌≡◌, ℕ, ◌+◌, List, length, Bool, true, false, cond, ◌&&◌, Option, Some, None, slice_set, refl, Result, Ok, Err}
-use Rattle.sh_files.specs.Nodes.{FileMap, opened, write_at}
+use Rattle.sh_files.specs.Nodes.{FileMap, nameless, opened, write_at}
 use Rattle.sh_files.specs.declared.fault.FileFault.{FileFault}
 use Rattle.sh_files.specs.declared.opening.Opening.{Opening}
 use Rattle.sh_pipe.specs.Pipe.{PipeState}
@@ -10,7 +10,7 @@ use Rattle.sh_kernel_base.specs.Descriptors.{found}
 use Rattle.sh_kernel_base.specs.Processes.{lives, may_fork, next_pid}
 use Rattle.sh_kernel_base.specs.Reading.{moved}
 use Rattle.sh_kernel_base.specs.Naming.{aside_found, back_found, close_found, dup_found, is_allowed, is_description, put_back, renamed, with_number, with_pipe}
-use Rattle.sh_kernel_base.specs.Opening.{open_result, with_node}
+use Rattle.sh_kernel_base.specs.Opening.{for_reading, open_result, with_node}
 use Rattle.sh_kernel_base.specs.Terminals.{reads_terminal, writes_terminal}
 use Rattle.sh_kernel_base.specs.declared.descriptor.Closing.{Closing}
 use Rattle.sh_kernel_base.specs.declared.descriptor.Closing.TheVariants.{Named, Asides}
@@ -23,7 +23,7 @@ use Rattle.sh_tty.specs.Happenings.{entries_of}
 use Rattle.sh_tty.specs.Keys.{read_of}
 use Rattle.sh_kernel.specs.State.{KernelState}
 use Rattle.sh_kernel.specs.Calls.{on_machine, read_terminal, write_terminal}
-use Rattle.sh_kernel.specs.Requests.{Request, Read, Write, Close, Duplicate, MakePipe, Open, SetAside, PutBack, Fork, StartProgram, End, after_request}
+use Rattle.sh_kernel.specs.Requests.{Request, Read, Write, Close, Duplicate, MakePipe, Open, Here, SetAside, PutBack, Fork, StartProgram, End, after_request}
 use Rattle.sh_kernel_base.specs.Reading as reading
 use Rattle.sh_kernel_base.specs.Writing as writing
 use Rattle.sh_kernel.specs.Reaching.{is_end, is_file}
@@ -43,6 +43,7 @@ pub record Changes (m : MachineState) (pid : ℕ) (r : Request) (P : MachineStat
   pub forks : P (forked m pid)
   pub makes_pipe : (from to : ℕ) → P (with_number (with_number (with_pipe m) pid from (length m.descriptions)) pid to (length m.descriptions + 1))
   pub opens : (directory path : List ℕ) (how : Opening) (append : Bool) (number : ℕ) (o : ℕ × FileMap) → r ≡ Open directory path how append number → opened m.files directory path how ≡ Ok o → P (with_number (with_node m how append o.0 o.1) pid number (length m.descriptions))
+  pub heres : (bytes : List ℕ) (number : ℕ) (o : ℕ × FileMap) → r ≡ Here bytes number → nameless m.files bytes ≡ Ok o → P (with_number (with_node m for_reading false o.0 o.1) pid number (length m.descriptions))
 
 module _ (m : MachineState) (pid : ℕ) (r : Request) (P : MachineState → Type 0) (c : Changes m pid r P) where
   close_cases : (name : Name) (o : Option ℕ) → P (close_found m pid name o).after
@@ -71,6 +72,15 @@ module _ (m : MachineState) (pid : ℕ) (r : Request) (P : MachineState → Type
   open_tests directory path how append number is true true = open_cases directory path how append number is (opened m.files directory path how) refl
   open_tests directory path how append number is true false = c.same
   open_tests directory path how append number is false b = c.same
+
+  here_cases : (bytes : List ℕ) (number : ℕ) → r ≡ Here bytes number → (o : Result (ℕ × FileMap) FileFault) → nameless m.files bytes ≡ o → P (open_result m pid for_reading false number o).after
+  here_cases bytes number is (Err fault) e = c.same
+  here_cases bytes number is (Ok o) e = c.heres bytes number o is e
+
+  here_tests : (bytes : List ℕ) (number : ℕ) → r ≡ Here bytes number → (a b : Bool) → P (cond a (cond b (open_result m pid for_reading false number (nameless m.files bytes)) (refused m TooManyDescriptors)) (refused m NoProcess)).after
+  here_tests bytes number is true true = here_cases bytes number is (nameless m.files bytes) refl
+  here_tests bytes number is true false = c.same
+  here_tests bytes number is false b = c.same
 
   aside_cases : (number : ℕ) (o : Option ℕ) → P (aside_found m pid number o).after
   aside_cases number None = c.same
@@ -116,6 +126,7 @@ module _ (m : MachineState) (pid : ℕ) (r : Request) (P : MachineState → Type
   machine_by_cases (Duplicate name to) is s = dup_cases to name (found m.descriptors pid name) refl
   machine_by_cases (MakePipe from to) is s = pipe_cases from to (lives m.processes pid) (is_allowed from && is_allowed to)
   machine_by_cases (Open directory path how append number) is s = open_tests directory path how append number is (lives m.processes pid) (is_allowed number)
+  machine_by_cases (Here bytes number) is s = here_tests bytes number is (lives m.processes pid) (is_allowed number)
   machine_by_cases (SetAside number) is s = aside_cases number (found m.descriptors pid (Number number))
   machine_by_cases (PutBack aside number) is s = back_cases aside number (found m.descriptors pid (Aside aside))
   machine_by_cases Fork is s = fork_cases (lives m.processes pid) (may_fork m.processes)

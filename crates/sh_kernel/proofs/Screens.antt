@@ -14,7 +14,7 @@ use Rattle.sh_tty.specs.Keys.{read_of}
 use Rattle.sh_kernel.specs.Calls.{on_machine, read_terminal, write_terminal}
 use Rattle.sh_kernel.specs.Laws.{TerminalIsReached, TerminalOnlyGrows}
 use Rattle.sh_kernel.specs.Reaching.{is_screen, reaches}
-use Rattle.sh_kernel.specs.Requests.{Read, Write, Close, Duplicate, MakePipe, Open, SetAside, PutBack, Fork, StartProgram, End}
+use Rattle.sh_kernel.specs.Requests.{Read, Write, Close, Duplicate, MakePipe, Open, Here, SetAside, PutBack, Fork, StartProgram, End}
 use Rattle.sh_kernel.specs.State.{KernelState}
 use Rattle.sh_kernel.proofs.Cases.{found_held}
 
@@ -39,6 +39,7 @@ terminal_stays s pid (Close name) h = refl
 terminal_stays s pid (Duplicate name to) h = refl
 terminal_stays s pid (MakePipe from to) h = refl
 terminal_stays s pid (Open directory path how append number) h = refl
+terminal_stays s pid (Here bytes number) h = refl
 terminal_stays s pid (SetAside number) h = refl
 terminal_stays s pid (PutBack aside number) h = refl
 terminal_stays s pid Fork h = refl
@@ -67,6 +68,7 @@ terminal_grows s pid (Close name) = ([], sym (append-nil _))
 terminal_grows s pid (Duplicate name to) = ([], sym (append-nil _))
 terminal_grows s pid (MakePipe from to) = ([], sym (append-nil _))
 terminal_grows s pid (Open directory path how append number) = ([], sym (append-nil _))
+terminal_grows s pid (Here bytes number) = ([], sym (append-nil _))
 terminal_grows s pid (SetAside number) = ([], sym (append-nil _))
 terminal_grows s pid (PutBack aside number) = ([], sym (append-nil _))
 terminal_grows s pid Fork = ([], sym (append-nil _))

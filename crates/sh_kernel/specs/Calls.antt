@@ -54,6 +54,9 @@ pipe_call s pid from to = on_machine s (naming.pipe_call s.machine pid from to)
 abbrev pub open_call : KernelState → ℕ → List ℕ → List ℕ → Opening → Bool → ℕ → Done KernelState (Unit {0})
 open_call s pid directory path how append number = on_machine s (opening.open_call s.machine pid directory path how append number)
 
+abbrev pub here_call : KernelState → ℕ → List ℕ → ℕ → Done KernelState (Unit {0})
+here_call s pid bytes number = on_machine s (opening.here_call s.machine pid bytes number)
+
 abbrev pub set_aside_call : KernelState → ℕ → ℕ → Done KernelState ℕ
 set_aside_call s pid number = on_machine s (naming.set_aside_call s.machine pid number)
 

@@ -3,7 +3,7 @@ use Rattle.std.specs.Prelude.{◌≡◌, ◌≢◌, ℕ, ◌<◌, ◌≤◌, ◌
 use Rattle.std.specs.FinMap.{get}
 use Rattle.sh_tty.specs.Happenings.{bytes_of}
 use Rattle.std.specs.Option.{option_map}
-use Rattle.sh_files.specs.Nodes.{FileMap, opened}
+use Rattle.sh_files.specs.Nodes.{FileMap, nameless, opened}
 use Rattle.sh_files.specs.declared.fault.FileFault.{FileFault}
 use Rattle.sh_kernel_base.specs.Machine.{MachineState}
 use Rattle.sh_kernel_base.specs.Processes.{next_pid, process_at}
@@ -11,7 +11,7 @@ use Rattle.sh_kernel_base.specs.declared.descriptor.Descriptor.{Descriptor}
 use Rattle.sh_kernel_base.specs.declared.description.Description.{Description}
 use Rattle.sh_kernel_base.specs.declared.description.Target.{Target}
 use Rattle.sh_kernel.specs.State.{KernelState}
-use Rattle.sh_kernel.specs.Requests.{Request, Read, Write, Close, Duplicate, MakePipe, Open, SetAside, PutBack, Fork, StartProgram, End, after_request, after_requests}
+use Rattle.sh_kernel.specs.Requests.{Request, Read, Write, Close, Duplicate, MakePipe, Open, Here, SetAside, PutBack, Fork, StartProgram, End, after_request, after_requests}
 use Rattle.sh_kernel.specs.Reaching.{reaches, is_end, is_file, is_screen}
 
 -- ---- what a request opens
@@ -19,7 +19,7 @@ abbrev pub is_opened : ℕ → Result (ℕ × FileMap) FileFault → Bool
 is_opened node (Ok o) = o.0 == node
 is_opened node (Err fault) = false
 
--- the request opens the file of this node
+-- the request opens the file of this node; a here-document is a new one
 abbrev pub opens : MachineState → Request → ℕ → Bool
 opens m (Read name count) node = false
 opens m (Write number bytes) node = false
@@ -27,6 +27,7 @@ opens m (Close name) node = false
 opens m (Duplicate name to) node = false
 opens m (MakePipe from to) node = false
 opens m (Open directory path how append number) node = is_opened node (opened m.files directory path how)
+opens m (Here bytes number) node = is_opened node (nameless m.files bytes)
 opens m (SetAside number) node = false
 opens m (PutBack aside number) node = false
 opens m Fork node = false

@@ -3,7 +3,7 @@ use Rattle.std.specs.Prelude.{ℕ, List, [], ◌∷◌, Bool}
 use Rattle.sh_files.specs.declared.opening.Opening.{Opening}
 use Rattle.sh_kernel_base.specs.declared.descriptor.Name.{Name}
 use Rattle.sh_kernel.specs.State.{KernelState}
-use Rattle.sh_kernel.specs.Calls.{close_call, dup_call, end_call, fork_call, open_call, pipe_call, put_back_call, read_call, set_aside_call, start_call, write_call}
+use Rattle.sh_kernel.specs.Calls.{close_call, dup_call, end_call, fork_call, here_call, open_call, pipe_call, put_back_call, read_call, set_aside_call, start_call, write_call}
 
 pub data Request : Type 0 where
   Read : (name : Name) → (count : ℕ) → Request
@@ -12,6 +12,7 @@ pub data Request : Type 0 where
   Duplicate : (name : Name) → (to : ℕ) → Request
   MakePipe : (from to : ℕ) → Request
   Open : (directory path : List ℕ) → (how : Opening) → (append : Bool) → (number : ℕ) → Request
+  Here : (bytes : List ℕ) → (number : ℕ) → Request
   SetAside : (number : ℕ) → Request
   PutBack : (aside number : ℕ) → Request
   Fork : Request
@@ -26,6 +27,7 @@ after_request s pid (Close name) = (close_call s pid name).after
 after_request s pid (Duplicate name to) = (dup_call s pid name to).after
 after_request s pid (MakePipe from to) = (pipe_call s pid from to).after
 after_request s pid (Open directory path how append number) = (open_call s pid directory path how append number).after
+after_request s pid (Here bytes number) = (here_call s pid bytes number).after
 after_request s pid (SetAside number) = (set_aside_call s pid number).after
 after_request s pid (PutBack aside number) = (put_back_call s pid aside number).after
 after_request s pid Fork = (fork_call s pid).after

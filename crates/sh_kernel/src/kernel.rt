@@ -1,5 +1,8 @@
 //! The kernel.
-ghost use Rattle.std.specs.Prelude.{◌≡◌, ℕ, List, IfOk, length};
+ghost use Rattle.std.specs.Prelude.{◌≡◌, ◌∷◌, ℕ, List, IfErr, IfOk, OnErr, OnOk, length};
+ghost use Rattle.sh_tty.specs.Happenings.{Happening};
+ghost use Rattle.sh_tty.specs.Kept as tty;
+ghost use Rattle.sh_tty.specs.Kept.{Extends};
 
 use crate::machine::Machine;
 use crate::next::Next;
@@ -35,6 +38,22 @@ impl Model for Kernel {
     ghost view = { λ k. record { machine = k.machine; terminal = k.terminal } };
 }
 
+/// Writes to the terminal.
+#[tactic(auto, using(crate::proofs::Extending::unchanged, crate::proofs::Extending::longer))]
+fn show(terminal: &mut Tty, bytes: &[u8]) -> Result<usize, KernelFault>
+    ensures stands { (hs : List Happening) → tty.StandsAt terminal.old hs → OnOk result (tty.StandsAt terminal.new (Happening.Wrote bytes.now ∷ hs)) }
+    ensures foreground { terminal.new.foreground ≡ terminal.old.foreground }
+    ensures whole { IfOk result (λ count. count ≡ length bytes.now) }
+    ensures memory { IfErr result (λ fault. fault ≡ KernelFault.NoMemory) }
+    ensures unchanged { OnErr result (terminal.new ≡ terminal.old) }
+    ensures extends { Extends terminal.old.bytes terminal.new.bytes }
+{
+    match terminal.write(bytes) {
+        Ok(()) => Ok(bytes.len()),
+        Err(_) => Err(KernelFault::NoMemory),
+    }
+}
+
 impl Kernel {
     ghost use Rattle.sh_kernel_base.specs.Machine.{wait_answer};
     ghost use Rattle.sh_kernel_base.specs.Processes.{parent_at, status_at};
@@ -44,7 +63,7 @@ impl Kernel {
     ghost use Rattle.sh_tty.specs.Happenings.{bytes_of};
     ghost use Rattle.sh_kernel.specs.State.{KernelState, StandsAt, starting};
     ghost use Rattle.sh_kernel.specs.Outcomes.{Gives, GivesOrLacks, GivesRead};
-    ghost use Rattle.sh_kernel.specs.Calls.{close_call, dup_call, end_call, fork_call, open_call, pipe_call, put_back_call, read_call, set_aside_call, start_call, write_call};
+    ghost use Rattle.sh_kernel.specs.Calls.{close_call, dup_call, end_call, fork_call, here_call, open_call, pipe_call, put_back_call, read_call, set_aside_call, start_call, write_call};
 
     /// The first process, whose descriptors 0, 1 and 2 refer to one description of the terminal, over these files. Its
     /// process group is the foreground group. The only error is want of memory.
@@ -61,7 +80,8 @@ impl Kernel {
     /// Closes a descriptor (XSH close); a pipe goes with the last descriptor of its ends. `BadDescriptor` where the
     /// process has none of this name. Takes no memory.
     pub fn close(&mut self, pid: u32, name: Name) -> Result<(), KernelFault>
-        ensures { (s : KernelState) → StandsAt self.old s → Gives result self.new (close_call s pid name) }
+        ensures state { (s : KernelState) → StandsAt self.old s → Gives result self.new (close_call s pid name) }
+        ensures terminal { self.new.terminal ≡ self.old.terminal }
     {
         self.machine.close(pid, name)
     }
@@ -72,7 +92,8 @@ impl Kernel {
     /// `BadDescriptor` where the process has no descriptor of this name; `TooManyDescriptors` where the number is not
     /// below [`MAX_DESCRIPTORS`](crate::MAX_DESCRIPTORS); else `NoMemory`.
     pub fn dup(&mut self, pid: u32, name: Name, to: u8) -> Result<(), KernelFault>
-        ensures { (s : KernelState) → StandsAt self.old s → GivesOrLacks result self.new s (dup_call s pid name to) }
+        ensures state { (s : KernelState) → StandsAt self.old s → GivesOrLacks result self.new s (dup_call s pid name to) }
+        ensures terminal { self.new.terminal ≡ self.old.terminal }
     {
         self.machine.dup(pid, name, to)
     }
@@ -82,7 +103,8 @@ impl Kernel {
     ///
     /// `NoProcess` where no such process lives; `TooManyDescriptors` where a number is too high; else `NoMemory`.
     pub fn pipe(&mut self, pid: u32, from: u8, to: u8) -> Result<(), KernelFault>
-        ensures { (s : KernelState) → StandsAt self.old s → GivesOrLacks result self.new s (pipe_call s pid from to) }
+        ensures state { (s : KernelState) → StandsAt self.old s → GivesOrLacks result self.new s (pipe_call s pid from to) }
+        ensures terminal { self.new.terminal ≡ self.old.terminal }
     {
         self.machine.pipe(pid, from, to)
     }
@@ -102,9 +124,22 @@ impl Kernel {
         append: bool,
         number: u8,
     ) -> Result<(), KernelFault>
-        ensures { (s : KernelState) → StandsAt self.old s → GivesOrLacks result self.new s (open_call s pid directory.now path.now how append number) }
+        ensures state { (s : KernelState) → StandsAt self.old s → GivesOrLacks result self.new s (open_call s pid directory.now path.now how append number) }
+        ensures terminal { self.new.terminal ≡ self.old.terminal }
     {
         self.machine.open(pid, directory, path, how, append, number)
+    }
+
+    /// Makes a number refer to a here-document (XCU 2.7.4): a new file of these bytes, which no path names, open for
+    /// reading alone; what the number referred to is closed.
+    ///
+    /// `NoProcess` where no such process lives; `TooManyDescriptors` where the number is too high; `File` with `TooLarge`
+    /// where there are more than [`MAX_LENGTH`](sh_files::MAX_LENGTH) bytes; else `NoMemory`.
+    pub fn here_document(&mut self, pid: u32, bytes: &[u8], number: u8) -> Result<(), KernelFault>
+        ensures state { (s : KernelState) → StandsAt self.old s → GivesOrLacks result self.new s (here_call s pid bytes.now number) }
+        ensures terminal { self.new.terminal ≡ self.old.terminal }
+    {
+        self.machine.here_document(pid, bytes, number)
     }
 
     /// Sets a descriptor aside: it loses its number, and is called by that of its description, which this answers. A
@@ -112,7 +147,8 @@ impl Kernel {
     ///
     /// `BadDescriptor` where the number refers to nothing. Takes no memory.
     pub fn set_aside(&mut self, pid: u32, number: u8) -> Result<usize, KernelFault>
-        ensures { (s : KernelState) → StandsAt self.old s → Gives result self.new (set_aside_call s pid number) }
+        ensures state { (s : KernelState) → StandsAt self.old s → Gives result self.new (set_aside_call s pid number) }
+        ensures terminal { self.new.terminal ≡ self.old.terminal }
     {
         self.machine.set_aside(pid, number)
     }
@@ -122,7 +158,8 @@ impl Kernel {
     /// `BadDescriptor` where the process has set aside no descriptor of this description; `TooManyDescriptors` where the
     /// number is too high. Takes no memory.
     pub fn put_back(&mut self, pid: u32, aside: usize, number: u8) -> Result<(), KernelFault>
-        ensures { (s : KernelState) → StandsAt self.old s → Gives result self.new (put_back_call s pid aside number) }
+        ensures state { (s : KernelState) → StandsAt self.old s → Gives result self.new (put_back_call s pid aside number) }
+        ensures terminal { self.new.terminal ≡ self.old.terminal }
     {
         self.machine.put_back(pid, aside, number)
     }
@@ -133,7 +170,8 @@ impl Kernel {
     /// `NoProcess` where no such process lives; `TooManyProcesses` where [`MAX_LIVE`](crate::MAX_LIVE) live already, or
     /// the number would be above [`MAX_PID`](crate::MAX_PID); else `NoMemory`.
     pub fn fork(&mut self, pid: u32) -> Result<u32, KernelFault>
-        ensures { (s : KernelState) → StandsAt self.old s → GivesOrLacks result self.new s (fork_call s pid) }
+        ensures state { (s : KernelState) → StandsAt self.old s → GivesOrLacks result self.new s (fork_call s pid) }
+        ensures terminal { self.new.terminal ≡ self.old.terminal }
     {
         self.machine.fork(pid)
     }
@@ -141,7 +179,8 @@ impl Kernel {
     /// Ends a process by itself with a status (XSH _exit): all its descriptors are closed, and 1 is the parent of its
     /// children. `NoProcess` where no such process lives. Takes no memory.
     pub fn end(&mut self, pid: u32, status: u8) -> Result<(), KernelFault>
-        ensures { (s : KernelState) → StandsAt self.old s → Gives result self.new (end_call s pid status) }
+        ensures state { (s : KernelState) → StandsAt self.old s → Gives result self.new (end_call s pid status) }
+        ensures terminal { self.new.terminal ≡ self.old.terminal }
     {
         self.machine.end(pid, status)
     }
@@ -149,7 +188,8 @@ impl Kernel {
     /// A process starts a program: what it has set aside is closed (XSH exec, `FD_CLOEXEC`). `NoProcess` where no such
     /// process lives. Takes no memory.
     pub fn start_program(&mut self, pid: u32) -> Result<(), KernelFault>
-        ensures { (s : KernelState) → StandsAt self.old s → Gives result self.new (start_call s pid) }
+        ensures state { (s : KernelState) → StandsAt self.old s → Gives result self.new (start_call s pid) }
+        ensures terminal { self.new.terminal ≡ self.old.terminal }
     {
         self.machine.start_program(pid)
     }
@@ -161,7 +201,8 @@ impl Kernel {
     /// `BadDescriptor` where the process has no such descriptor, or it isn't open for reading; `WouldWait` at an empty
     /// pipe that has a writer, and at a terminal that handed nothing over. Takes no memory.
     pub fn read(&mut self, pid: u32, name: Name, buf: &mut [u8]) -> Result<usize, KernelFault>
-        ensures { (s : KernelState) → StandsAt self.old s → GivesRead result buf.old buf.new self.new (read_call s pid name (length buf.old)) }
+        ensures state { (s : KernelState) → StandsAt self.old s → GivesRead result buf.old buf.new self.new (read_call s pid name (length buf.old)) }
+        ensures terminal { self.new.terminal.bytes ≡ self.old.terminal.bytes }
     {
         if self.machine.reads_terminal(pid, name) {
             return match self.terminal.read(buf) {
@@ -181,13 +222,11 @@ impl Kernel {
     /// without room; `BrokenPipe` at one without a reader: the process was sent SIGPIPE, which ended it; `File` with
     /// `TooLarge` where a file would be too long; else `NoMemory`.
     pub fn write(&mut self, pid: u32, number: u8, bytes: &[u8]) -> Result<usize, KernelFault>
-        ensures { (s : KernelState) → StandsAt self.old s → GivesOrLacks result self.new s (write_call s pid number bytes.now) }
+        ensures state { (s : KernelState) → StandsAt self.old s → GivesOrLacks result self.new s (write_call s pid number bytes.now) }
+        ensures terminal { Extends self.old.terminal.bytes self.new.terminal.bytes }
     {
         if self.machine.writes_terminal(pid, Name::Number(number)) {
-            return match self.terminal.write(bytes) {
-                Ok(()) => Ok(bytes.len()),
-                Err(_) => Err(KernelFault::NoMemory),
-            };
+            return show(&mut self.terminal, bytes);
         }
         self.machine.write(pid, number, bytes)
     }
@@ -223,7 +262,8 @@ impl Kernel {
 
     /// The terminal's bytes: what was written to it, and the echo of the keys. Takes no memory.
     pub fn terminal(&self) -> &[u8]
-        ensures { (s : KernelState) → StandsAt self.now s → result.now ≡ bytes_of s.terminal }
+        ensures view { (s : KernelState) → StandsAt self.now s → result.now ≡ bytes_of s.terminal }
+        ensures kept { result.now ≡ self.now.terminal.bytes }
     {
         self.terminal.terminal()
     }

@@ -5,8 +5,6 @@ mod kernel;
 mod laws;
 mod machine;
 mod next;
-#[cfg(test)]
-mod tests;
 
 pub use kernel::Kernel;
 pub use laws::{

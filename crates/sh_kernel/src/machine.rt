@@ -2,7 +2,7 @@
 ghost use Rattle.std.specs.Prelude.{◌≡◌, ◌++◌, ◌+◌, ◌∷◌, []};
 ghost use Rattle.std.specs.Prelude.{length, ◌<◌, ◌≢◌, IfErr, IfOk, ℕ, List};
 
-use sh_files::{Files, Opening};
+use sh_files::{FileFault, Files, MAX_LENGTH, Opening};
 use sh_kernel_base::{
     Channel, Closing, Description, Descriptor, FIRST_PID, KernelFault, Name, Process, Status,
     Target, all_children, all_ended, close, copy_all, description_of, end_of, fault_of_file, find,
@@ -13,6 +13,15 @@ use sh_kernel_base::{
 };
 use std::alloc::{AllocError, Global};
 use std::marker::Model;
+
+/// How a here-document is open.
+const FOR_READING: Opening = Opening {
+    read: true,
+    write: false,
+    create: false,
+    exclusive: false,
+    truncate: false,
+};
 
 /// The processes and what they have open: descriptors, open file descriptions, pipes and files.
 ///
@@ -50,7 +59,7 @@ impl Model for Machine {
 impl Machine {
     ghost use Rattle.sh_kernel_base.specs.Machine.{end_call, fork_call, start_call, wait_answer};
     ghost use Rattle.sh_kernel_base.specs.Naming.{close_call, dup_call, pipe_call, put_back_call, set_aside_call};
-    ghost use Rattle.sh_kernel_base.specs.Opening.{open_call};
+    ghost use Rattle.sh_kernel_base.specs.Opening.{here_call, open_call};
     ghost use Rattle.sh_kernel_base.specs.Processes.{parent_at, status_at};
     ghost use Rattle.sh_kernel_base.specs.Starting.{starting};
     ghost use Rattle.sh_kernel_base.specs.Terminals.{described, is_terminal, reads_terminal, writes_terminal};
@@ -333,6 +342,51 @@ impl Machine {
         let target = target_of(&self.files, node);
         self.descriptions
             .push_reserved(description_of(target, how, append));
+        give_number(
+            pid,
+            number,
+            k,
+            &mut self.descriptors,
+            &self.descriptions,
+            &mut self.pipes,
+        );
+        Ok(())
+    }
+
+    /// Makes a number refer to a new file of these bytes, which no path names, open for reading alone (XCU 2.7.4); what
+    /// the number referred to is closed. `NoProcess` where no such process lives; `TooManyDescriptors` where the number
+    /// is too high; `File` with `TooLarge` where there are more than [`MAX_LENGTH`] bytes; else `NoMemory`.
+    pub(crate) fn here_document(
+        &mut self,
+        pid: u32,
+        bytes: &[u8],
+        number: u8,
+    ) -> Result<(), KernelFault>
+        ensures { GivesOrLacks result self.old self.new (here_call self.old pid bytes.now number) }
+    {
+        if !lives(&self.processes, pid) {
+            return Err(KernelFault::NoProcess);
+        }
+        if !is_allowed(number) {
+            return Err(KernelFault::TooManyDescriptors);
+        }
+        if bytes.len() > MAX_LENGTH {
+            return Err(KernelFault::File(FileFault::TooLarge));
+        }
+        if self.descriptors.reserve(1).is_err() || self.descriptions.reserve(1).is_err() {
+            return Err(KernelFault::NoMemory);
+        }
+        let Ok(body) = Vec::from_slice(self.alloc, bytes) else {
+            return Err(KernelFault::NoMemory);
+        };
+        let node = match self.files.add_nameless(body) {
+            Ok(node) => node,
+            Err(fault) => return Err(fault_of_file(fault)),
+        };
+        let k = self.descriptions.len();
+        let target = target_of(&self.files, node);
+        self.descriptions
+            .push_reserved(description_of(target, FOR_READING, false));
         give_number(
             pid,
             number,

@@ -1,6 +1,6 @@
--- Opening a file (XSH open) at a number.
-use Rattle.std.specs.Prelude.{ℕ, ◌++◌, List, [], ◌∷◌, length, Bool, Option, Some, None, if◌then◌else◌, slice_get, Result, Ok, Err}
-use Rattle.sh_files.specs.Nodes.{FileMap, opened}
+-- Opening a file (XSH open), or a here-document (XCU 2.7.4), at a number.
+use Rattle.std.specs.Prelude.{ℕ, ◌++◌, List, [], ◌∷◌, length, Bool, true, false, Option, Some, None, if◌then◌else◌, slice_get, Result, Ok, Err}
+use Rattle.sh_files.specs.Nodes.{FileMap, nameless, opened}
 use Rattle.sh_files.specs.declared.fault.FileFault.{FileFault}
 use Rattle.sh_files.specs.declared.opening.Opening.{Opening}
 use Rattle.sh_files_base.specs.declared.node.Node.{Node}
@@ -42,5 +42,19 @@ open_call s pid directory path how append number =
     if lives s.processes pid
     then (if is_allowed number
     then open_result s pid how append number (opened s.files directory path how)
+    else refused s TooManyDescriptors)
+    else refused s NoProcess
+
+-- ---- here-documents
+abbrev pub for_reading : Opening
+for_reading = record { read = true; write = false; create = false; exclusive = false; truncate = false }
+
+-- the number of the process refers to a new file of these bytes, which no path names; it is open for reading alone, and
+-- what the number referred to is closed
+abbrev pub here_call : MachineState → ℕ → List ℕ → ℕ → Done MachineState (Unit {0})
+here_call s pid bytes number =
+    if lives s.processes pid
+    then (if is_allowed number
+    then open_result s pid for_reading false number (nameless s.files bytes)
     else refused s TooManyDescriptors)
     else refused s NoProcess

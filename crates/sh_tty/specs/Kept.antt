@@ -35,3 +35,7 @@ kept_entries Erase entries line = entries ++ handed Erase line
 kept_entries (Raise signal) entries line = []
 kept_entries (Text b) entries line = entries ++ handed (Text b) line
 kept_entries Dropped entries line = entries ++ handed Dropped line
+
+-- the terminal's bytes still begin with the earlier ones
+abbrev pub Extends : List ℕ → List ℕ → Type 0
+Extends old new = (more : List ℕ) × (new ≡ old ++ more)

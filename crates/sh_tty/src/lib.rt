@@ -3,8 +3,6 @@
 
 mod entry;
 mod key;
-#[cfg(test)]
-mod tests;
 mod tty;
 
 pub use key::Signal;

@@ -213,6 +213,7 @@ impl Tty {
         ensures stands { (hs : List Happening) → StandsAt self.old hs → OnOk result (StandsAt self.new (Happening.Took (length buf.old) ∷ hs)) }
         ensures bytes { MatchResult result (λ n. Some (take n buf.new) ≡ read_of (length buf.old) self.old.entries) (λ e. (e ≡ TtyFault.WouldWait) × (read_of (length buf.old) self.old.entries ≡ None)) }
         ensures rest { MatchResult result (λ n. drop n buf.new ≡ drop n buf.old) (λ e. buf.new ≡ buf.old) }
+        ensures terminal { self.new.bytes ≡ self.old.bytes }
         ensures foreground { self.new.foreground ≡ self.old.foreground }
         ensures unchanged { OnErr result (self.new ≡ self.old) }
     {
@@ -227,6 +228,7 @@ impl Tty {
     /// Writes. After an `Err`, which only want of memory gives, nothing happened.
     pub fn write(&mut self, bytes: &[u8]) -> Result<(), TtyFault>
         ensures stands { (hs : List Happening) → StandsAt self.old hs → OnOk result (StandsAt self.new (Happening.Wrote bytes.now ∷ hs)) }
+        ensures terminal { OnOk result (self.new.bytes ≡ self.old.bytes ++ bytes.now) }
         ensures foreground { self.new.foreground ≡ self.old.foreground }
         ensures unchanged { OnErr result (self.new ≡ self.old) }
     {

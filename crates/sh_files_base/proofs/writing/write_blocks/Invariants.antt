@@ -1,7 +1,7 @@
 use Rattle.std.proofs.Common.{◌≡◌, ◌++◌, length}
 use Rattle.sh_files_base.specs.Blocks.{flat}
-use Rattle.sh_files.specs.Writing.{paths_text}
-use Rattle.sh_files.proofs.writing.write_blocks.Given as goal
+use Rattle.sh_files_base.specs.Writing.{paths_text}
+use Rattle.sh_files_base.proofs.writing.write_blocks.Given as goal
 
 abbrev pub invariant-parts : goal.invariant-parts
 invariant-parts l = l.image.items ++ paths_text l.nodes (flat l.rest) ≡ l.fn.image.items ++ paths_text l.nodes (flat l.blocks)

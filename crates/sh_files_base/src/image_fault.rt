@@ -37,7 +37,7 @@ pub enum FaultKind {
 }
 
 impl From<AllocError> for FaultKind {
-    ghost use Rattle.sh_files.specs.declared.image_fault.FaultKind.TheVariants.{NoMemory};
+    ghost use Rattle.sh_files_base.specs.declared.image_fault.FaultKind.TheVariants.{NoMemory};
 
     ghost from_gives = { λ _ kind. kind ≡ NoMemory };
 
@@ -55,11 +55,4 @@ pub struct ImageFault {
     pub kind: FaultKind,
     /// The line.
     pub line: usize,
-}
-
-/// Where reading an image stopped: so many bytes before its end.
-#[derive(Clone, Copy)]
-pub(crate) struct Stop {
-    pub(crate) kind: FaultKind,
-    pub(crate) left: usize,
 }

@@ -1,8 +1,8 @@
 use Rattle.std.proofs.Common.{◌∙◌, ◌++◌, ap}
 use Rattle.sh_files_base.specs.Places.{Entries}
-use Rattle.sh_files.specs.Writing.{paths_text}
-use Rattle.sh_files.proofs.Blocks.{block_written}
-use Rattle.sh_files.proofs.writing.write_blocks.Goals as goal
+use Rattle.sh_files_base.specs.Writing.{paths_text}
+use Rattle.sh_files_base.proofs.Written.{block_written}
+use Rattle.sh_files_base.proofs.writing.write_blocks.Goals as goal
 
 pub parts-preserved : goal.parts-preserved
 parts-preserved c =

@@ -3,7 +3,7 @@ use Rattle.std.proofs.Common.{◌≡◌, ℕ, List, [], ◌∷◌, ◌++◌, ref
 use Rattle.sh_files_base.specs.Blocks.{flat}
 use Rattle.sh_files_base.specs.Places.{Entries}
 use Rattle.sh_files_base.specs.declared.node.Node.{Node}
-use Rattle.sh_files.specs.Writing.{path_text, paths_text}
+use Rattle.sh_files_base.specs.Writing.{path_text, paths_text}
 
 assoc : (xs ys zs : List ℕ) → (xs ++ ys) ++ zs ≡ xs ++ (ys ++ zs)
 assoc [] ys zs = refl
