@@ -1,0 +1,8 @@
+pub mod Builtins
+pub mod Messages
+pub mod Numbers
+pub mod Pipelines
+pub mod Redirections
+pub mod Scripts
+pub mod Served
+pub mod Simple

@@ -1,0 +1,145 @@
+//! Built-in utilities (XCU 2.14, 2.15).
+ghost use Rattle.std.specs.Prelude.{◌≡◌, ◌++◌, ◌∷◌, [], IfOk};
+ghost use Rattle.sh_exec_base.specs.Builtins.{built_in, builtin_of, echo_text, exit_by, exit_status, exit_with, is_number, is_special, name_of, operands_of};
+
+use crate::number::{all_digits, small_value};
+use sh_syntax::memory::NoMemory;
+use sh_syntax::sequence::{Sequence, Text};
+use std::alloc::Global;
+
+/// A built-in utility.
+#[derive(Clone, Copy, Debug, PartialEq, Eq)]
+pub enum Builtin {
+    Echo,
+    Exit,
+}
+
+/// What a built-in does with its arguments.
+#[derive(Debug, Drop)]
+pub enum Act {
+    /// It writes this.
+    Write(Text),
+    /// The shell is left with this status.
+    Leave(u8),
+    /// Its operands are wrong.
+    Usage,
+}
+
+impl Builtin {
+    /// The built-in of a name.
+    pub fn of(name: &[u8]) -> Option<Self>
+        ensures { result ≡ builtin_of name.now }
+    {
+        if name == b"echo".as_slice() {
+            return Some(Builtin::Echo);
+        }
+        if name == b"exit".as_slice() {
+            return Some(Builtin::Exit);
+        }
+        None
+    }
+
+    /// Its name.
+    pub fn name(self) -> &'static [u8]
+        ensures { result.now ≡ name_of self }
+    {
+        match self {
+            Builtin::Echo => b"echo",
+            Builtin::Exit => b"exit",
+        }
+    }
+
+    /// Whether it is a special built-in: an error in it ends the shell, and assignments before it stay.
+    pub fn is_special(self) -> bool
+        ensures { result ≡ is_special self }
+    {
+        match self {
+            Builtin::Echo => false,
+            Builtin::Exit => true,
+        }
+    }
+
+    /// What it does with its arguments, where the last command had the status `last`.
+    #[tactic(auto, unfolding(crate::specs::Builtins::built_in))]
+    pub fn run(self, alloc: Global, last: u8, arguments: &[Text]) -> Result<Act, NoMemory>
+        ensures { IfOk result (λ done. done ≡ built_in last self arguments.now) }
+    {
+        match self {
+            Builtin::Echo => {
+                let text = echo_text(alloc, arguments)?;
+                Ok(Act::Write(text))
+            },
+            Builtin::Exit => Ok(exit_with(last, operands_of(arguments))),
+        }
+    }
+}
+
+/// What echo writes.
+fn echo_text(alloc: Global, arguments: &[Text]) -> Result<Text, NoMemory>
+    ensures { IfOk result (λ text. text ≡ echo_text arguments.now) }
+{
+    let mut text = Sequence::new(alloc);
+    let mut rest = arguments;
+    'words: while let Some((first, others)) = rest.split_first() {
+        text.extend_from_slice(first.as_slice())?;
+        if !others.is_empty() {
+            text.push(b' ')?;
+        }
+        rest = others;
+    }
+    text.push(b'\n')?;
+    Ok(text)
+}
+
+/// The operands, behind a `--` if there is one.
+fn operands_of(arguments: &[Text]) -> &[Text]
+    ensures { result.now ≡ operands_of arguments.now }
+{
+    match arguments.split_first() {
+        Some((first, others)) => {
+            if first.as_slice() == b"--".as_slice() {
+                return others;
+            }
+            arguments
+        },
+        None => arguments,
+    }
+}
+
+/// Whether an operand is a number.
+fn is_number(operand: &[u8]) -> bool
+    ensures { result ≡ is_number operand.now }
+{
+    1 <= operand.len() && operand.len() <= 18 && all_digits(operand)
+}
+
+/// The status of an operand of exit.
+fn exit_status(operand: &[u8]) -> Option<u8>
+    ensures { result ≡ exit_status operand.now }
+{
+    if !is_number(operand) {
+        return None;
+    }
+    small_value(operand, 255)
+}
+
+/// exit, by the status that its operand gives.
+fn exit_by(status: Option<u8>) -> Act
+    ensures { result ≡ exit_by status }
+{
+    match status {
+        Some(status) => Act::Leave(status),
+        None => Act::Usage,
+    }
+}
+
+/// exit, with its operands.
+fn exit_with(last: u8, operands: &[Text]) -> Act
+    ensures { result ≡ exit_with last operands.now }
+{
+    match operands {
+        [] => Act::Leave(last),
+        [operand] => exit_by(exit_status(operand.as_slice())),
+        _ => Act::Usage,
+    }
+}

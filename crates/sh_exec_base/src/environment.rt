@@ -1,0 +1,128 @@
+//! The environment of a shell that a script begins (XCU 2.9.1.6, 2.5.3).
+ghost use Rattle.std.specs.Prelude.{◌≡◌, ◌++◌, decimal, option_map, IfOk, OnOk};
+ghost use Rattle.sh_vars.specs.Environment.{with_export};
+ghost use Rattle.sh_exec_base.specs.Scripts.{all_inherited, exported, given, inherited, is_own, own_variables, script_environment, valued};
+
+use itoa::Buffer;
+use sh_syntax::memory::NoMemory;
+use sh_syntax::sequence::Text;
+use sh_vars::{Entry, Vars, VarsFault};
+use std::alloc::Global;
+
+/// Gives a variable a value, where that isn't refused.
+#[tactic(auto, unfolding(crate::specs::Scripts::given))]
+fn give(vars: &mut Vars, name: &[u8], value: &[u8]) -> Result<(), NoMemory>
+    ensures { OnOk result (vars.new ≡ given vars.old name.now value.now) }
+{
+    match vars.set(name, value) {
+        Ok(()) => Ok(()),
+        Err(VarsFault::NoMemory) => Err(NoMemory),
+        Err(_) => Ok(()),
+    }
+}
+
+/// Exports a variable.
+fn export(vars: &mut Vars, name: &[u8]) -> Result<(), NoMemory>
+    ensures { OnOk result (vars.new ≡ exported vars.old name.now) }
+{
+    match vars.export(name) {
+        Ok(()) => Ok(()),
+        Err(VarsFault::NoMemory) => Err(NoMemory),
+        Err(_) => Ok(()),
+    }
+}
+
+/// Gives a variable the number of a process.
+fn give_number(vars: &mut Vars, name: &[u8], number: u32) -> Result<(), NoMemory>
+    ensures { OnOk result (vars.new ≡ given vars.old name.now (decimal number)) }
+{
+    let mut buffer = Buffer::new();
+    give(vars, name, buffer.format(number).as_bytes())
+}
+
+/// What a shell sets itself.
+#[tactic(auto, unfolding(crate::specs::Scripts::own_variables))]
+fn own_variables(alloc: Global, directory: &[u8], parent: u32) -> Result<Vars, NoMemory>
+    ensures { IfOk result (λ vars. vars ≡ own_variables directory.now parent) }
+{
+    let mut vars = Vars::new(alloc)?;
+    vars.forget(b"PATH");
+    vars.forget(b"HOME");
+    give_number(&mut vars, b"PPID", parent)?;
+    give(&mut vars, b"PWD", directory)?;
+    Ok(vars)
+}
+
+/// Whether a variable is the shell's own whatever it is handed.
+fn is_own(name: &[u8]) -> bool
+    ensures { result ≡ is_own name.now }
+{
+    name == b"IFS".as_slice() || name == b"PPID".as_slice()
+}
+
+/// Hands a variable on, if it has a value.
+fn hand_on(vars: &mut Vars, name: &[u8], value: Option<&[u8]>) -> Result<(), NoMemory>
+    ensures { OnOk result (vars.new ≡ valued vars.old name.now (option_map (λ value. value.now) value.entry)) }
+{
+    let Some(value) = value else {
+        return Ok(());
+    };
+    give(vars, name, value)?;
+    export(vars, name)
+}
+
+/// Hands a variable on, if it is exported.
+#[tactic(auto, unfolding(crate::specs::Scripts::inherited))]
+fn inherit(vars: &mut Vars, entry: &Entry) -> Result<(), NoMemory>
+    ensures { OnOk result (vars.new ≡ inherited vars.old entry.now) }
+{
+    if entry.is_exported() && !is_own(entry.name()) {
+        return hand_on(vars, entry.name(), entry.value());
+    }
+    Ok(())
+}
+
+/// Hands variables on.
+fn inherit_all(vars: &mut Vars, entries: &[Entry]) -> Result<(), NoMemory>
+    ensures { OnOk result (vars.new ≡ all_inherited vars.old entries.now) }
+{
+    let mut rest = entries;
+    'entries: while let Some((entry, others)) = rest.split_first() {
+        inherit(vars, entry)?;
+        rest = others;
+    }
+    Ok(())
+}
+
+/// Copies of operands, as positional parameters.
+fn copies_of(alloc: Global, operands: &[Text]) -> Result<Vec<sh_vars::Text>, NoMemory>
+    ensures { IfOk result (λ copies. copies.items ≡ operands.now) }
+{
+    let mut copies = Vec::with_capacity(alloc, operands.len())?;
+    for operand in operands {
+        copies.push(sh_vars::Text::copy_of(alloc, operand.as_slice())?)?;
+    }
+    Ok(copies)
+}
+
+/// The environment of a shell that runs a script in place of the process `pid`, whose parent is `parent`: of the variables those
+/// that are exported and its own, no options, `$0` the script's path, and the operands.
+#[tactic(auto, unfolding(crate::specs::Scripts::script_environment))]
+pub fn script_environment(
+    alloc: Global,
+    old: &Vars,
+    path: &[u8],
+    operands: &[Text],
+    pid: u32,
+    parent: u32,
+) -> Result<Vars, NoMemory>
+    ensures { IfOk result (λ vars. vars ≡ script_environment old.now path.now operands.now pid parent) }
+{
+    let mut vars = own_variables(alloc, old.directory(), parent)?;
+    inherit_all(&mut vars, old.variables())?;
+    vars.set_zero(sh_vars::Text::copy_of(alloc, path)?);
+    vars.set_positional(copies_of(alloc, operands)?);
+    vars.set_process(pid);
+    vars.set_directory(sh_vars::Text::copy_of(alloc, old.directory())?);
+    Ok(vars)
+}

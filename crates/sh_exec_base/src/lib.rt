@@ -1,0 +1,20 @@
+//! What a shell's process stands on: single functions over the commands of a script, the redirections and built-ins that it
+//! does, and what it writes of them. Nothing here knows of processes.
+#![tactic(auto)]
+
+pub mod builtin;
+mod environment;
+pub mod message;
+mod number;
+mod pipeline;
+mod queue;
+pub mod redirection;
+mod rest;
+mod served;
+pub mod simple;
+
+pub use environment::script_environment;
+pub use pipeline::{commands_of, first_pipeline, is_negated};
+pub use queue::Queue;
+pub use rest::Rest;
+pub use served::is_served;

@@ -1,0 +1,40 @@
+//! The pipelines and commands of a list (XCU 2.9.2, 2.9.3).
+ghost use Rattle.std.specs.Prelude.{◌≡◌, ◌++◌, ◌∷◌, IfOk};
+ghost use Rattle.sh_exec_base.specs.Pipelines.{commands_of, first_pipeline, is_negated};
+
+use sh_syntax::memory::NoMemory;
+use sh_syntax::sequence::Sequence;
+use sh_syntax::shared::Shared;
+use sh_tree::tree::{Command, ListItem, Pipeline};
+use std::alloc::Global;
+
+/// The first pipeline of an AND-OR list.
+pub fn first_pipeline(item: &ListItem) -> &Shared<Pipeline>
+    ensures { result.now ≡ first_pipeline item.now }
+{
+    &item.list.get().first
+}
+
+/// Whether a `!` stands before a pipeline.
+pub fn is_negated(pipeline: &Pipeline) -> bool
+    ensures { result ≡ is_negated pipeline.now }
+{
+    pipeline.is_negated
+}
+
+/// The commands of a pipeline, in order.
+pub fn commands_of(
+    alloc: Global,
+    pipeline: &Pipeline,
+) -> Result<Sequence<Shared<Command>>, NoMemory>
+    ensures { IfOk result (λ commands. commands ≡ commands_of pipeline.now) }
+{
+    let mut commands = Sequence::new(alloc);
+    commands.push(pipeline.first.share()?)?;
+    let mut rest = pipeline.rest.as_slice();
+    'commands: while let Some((command, others)) = rest.split_first() {
+        commands.push(command.share()?)?;
+        rest = others;
+    }
+    Ok(commands)
+}

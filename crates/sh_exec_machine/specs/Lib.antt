@@ -1,0 +1,3 @@
+pub mod Forking
+pub mod Redirecting
+pub mod Undoing

@@ -1,0 +1,213 @@
+//! Making a process between pipes.
+ghost use Rattle.std.specs.Prelude.{◌≡◌, IfOk, OnOk};
+ghost use Rattle.sh_kernel.specs.State.{KernelState, StandsAt};
+ghost use Rattle.sh_exec_machine.specs.Forking.{HasForked, HasLaid, closed, connected, dropped, duplicated, fork_between, forked, joined, laid, let_go, moved, piped, reads_from, set_aside, taken_up, unjoined};
+
+use sh_kernel::{Kernel, KernelFault, Name};
+use sh_syntax::memory::NoMemory;
+
+/// The number at which a new process finds the end of a pipe to read from, until it is moved to 0.
+const READ_END: u8 = 10;
+/// The number at which it finds the end to write to, until that is moved to 1.
+const WRITE_END: u8 = 11;
+
+/// A process that was made.
+#[derive(Clone, Copy, Debug, PartialEq, Eq)]
+pub struct Forked {
+    /// Its number; `None` where no process can be made.
+    pub child: Option<u32>,
+    /// The end of the new pipe to read from, which is set aside.
+    pub aside: Option<usize>,
+}
+
+/// Closes a number.
+#[tactic(auto, unfolding(crate::specs::Forking::closed))]
+fn close(kernel: &mut Kernel, pid: u32, number: u8)
+    ensures state { (s : KernelState) → StandsAt kernel.old s → StandsAt kernel.new (closed s pid number) }
+    ensures terminal { kernel.new.terminal ≡ kernel.old.terminal }
+{
+    let _closed = kernel.close(pid, Name::Number(number));
+}
+
+/// A number refers to what another one refers to.
+#[tactic(auto, unfolding(crate::specs::Forking::duplicated))]
+fn duplicate(kernel: &mut Kernel, pid: u32, from: u8, to: u8) -> Result<(), NoMemory>
+    ensures state { (s : KernelState) → StandsAt kernel.old s → OnOk result (StandsAt kernel.new (duplicated s pid from to)) }
+    ensures terminal { kernel.new.terminal ≡ kernel.old.terminal }
+{
+    match kernel.dup(pid, Name::Number(from), to) {
+        Err(KernelFault::NoMemory) => Err(NoMemory),
+        _ => Ok(()),
+    }
+}
+
+/// A number goes over to another one.
+#[tactic(auto, unfolding(crate::specs::Forking::moved))]
+fn move_over(kernel: &mut Kernel, pid: u32, from: u8, to: u8) -> Result<(), NoMemory>
+    ensures state { (s : KernelState) → StandsAt kernel.old s → OnOk result (StandsAt kernel.new (moved s pid from to)) }
+    ensures terminal { kernel.new.terminal ≡ kernel.old.terminal }
+{
+    duplicate(kernel, pid, from, to)?;
+    close(kernel, pid, from);
+    Ok(())
+}
+
+/// Makes a pipe.
+#[tactic(auto, unfolding(crate::specs::Forking::piped))]
+fn pipe(kernel: &mut Kernel, pid: u32) -> Result<(), NoMemory>
+    ensures state { (s : KernelState) → StandsAt kernel.old s → OnOk result (StandsAt kernel.new (piped s pid)) }
+    ensures terminal { kernel.new.terminal ≡ kernel.old.terminal }
+{
+    match kernel.pipe(pid, READ_END, WRITE_END) {
+        Err(KernelFault::NoMemory) => Err(NoMemory),
+        _ => Ok(()),
+    }
+}
+
+/// Sets the end to read from aside.
+#[tactic(auto, unfolding(crate::specs::Forking::set_aside))]
+fn set_aside(kernel: &mut Kernel, pid: u32) -> Option<usize>
+    ensures state { (s : KernelState) → StandsAt kernel.old s → HasLaid kernel.new result (set_aside s pid) }
+    ensures terminal { kernel.new.terminal ≡ kernel.old.terminal }
+{
+    match kernel.set_aside(pid, READ_END) {
+        Ok(aside) => Some(aside),
+        Err(_) => None,
+    }
+}
+
+/// A new pipe, whose end to read from is set aside, where the new process writes to one.
+#[tactic(auto, unfolding(crate::specs::Forking::laid))]
+fn lay(kernel: &mut Kernel, pid: u32, writes: bool) -> Result<Option<usize>, NoMemory>
+    ensures state { (s : KernelState) → StandsAt kernel.old s → IfOk result (λ aside. HasLaid kernel.new aside (laid writes s pid)) }
+    ensures terminal { kernel.new.terminal ≡ kernel.old.terminal }
+{
+    if !writes {
+        return Ok(None);
+    }
+    pipe(kernel, pid)?;
+    Ok(set_aside(kernel, pid))
+}
+
+/// The end of the pipe before, as a number.
+#[tactic(auto, unfolding(crate::specs::Forking::taken_up))]
+fn take_up(kernel: &mut Kernel, pid: u32, before: Option<usize>)
+    ensures state { (s : KernelState) → StandsAt kernel.old s → StandsAt kernel.new (taken_up before s pid) }
+    ensures terminal { kernel.new.terminal ≡ kernel.old.terminal }
+{
+    if let Some(aside) = before {
+        let _put_back = kernel.put_back(pid, aside, READ_END);
+    }
+}
+
+/// What the new process has as 0 and 1.
+#[tactic(auto, unfolding(crate::specs::Forking::connected))]
+fn connect(kernel: &mut Kernel, child: u32, reads: bool, writes: bool) -> Result<(), NoMemory>
+    ensures state { (s : KernelState) → StandsAt kernel.old s → OnOk result (StandsAt kernel.new (connected reads writes s child)) }
+    ensures terminal { kernel.new.terminal ≡ kernel.old.terminal }
+{
+    if reads {
+        move_over(kernel, child, READ_END, 0)?;
+    }
+    if writes {
+        move_over(kernel, child, WRITE_END, 1)?;
+    }
+    Ok(())
+}
+
+/// The shell lets go what only the new process has.
+#[tactic(auto, unfolding(crate::specs::Forking::let_go))]
+fn let_go(kernel: &mut Kernel, pid: u32)
+    ensures state { (s : KernelState) → StandsAt kernel.old s → StandsAt kernel.new (let_go s pid) }
+    ensures terminal { kernel.new.terminal ≡ kernel.old.terminal }
+{
+    close(kernel, pid, READ_END);
+    close(kernel, pid, WRITE_END);
+}
+
+/// Closes the end that was set aside, if one was.
+#[tactic(auto, unfolding(crate::specs::Forking::dropped))]
+fn drop_aside(kernel: &mut Kernel, pid: u32, aside: Option<usize>)
+    ensures state { (s : KernelState) → StandsAt kernel.old s → StandsAt kernel.new (dropped aside s pid) }
+    ensures terminal { kernel.new.terminal ≡ kernel.old.terminal }
+{
+    if let Some(aside) = aside {
+        let _closed = kernel.close(pid, Name::Aside(aside));
+    }
+}
+
+/// The process is made.
+#[tactic(auto, unfolding(crate::specs::Forking::joined))]
+fn join(
+    kernel: &mut Kernel,
+    pid: u32,
+    reads: bool,
+    writes: bool,
+    aside: Option<usize>,
+    child: u32,
+) -> Result<Forked, NoMemory>
+    ensures state { (s : KernelState) → StandsAt kernel.old s → IfOk result (λ made. HasForked kernel.new made.child made.aside (joined pid reads writes aside child s)) }
+    ensures terminal { kernel.new.terminal ≡ kernel.old.terminal }
+{
+    connect(kernel, child, reads, writes)?;
+    let_go(kernel, pid);
+    Ok(Forked {
+        child: Some(child),
+        aside,
+    })
+}
+
+/// None can be made.
+#[tactic(auto, unfolding(crate::specs::Forking::unjoined))]
+fn give_up(kernel: &mut Kernel, pid: u32, aside: Option<usize>) -> Forked
+    ensures state { (s : KernelState) → StandsAt kernel.old s → HasForked kernel.new result.child result.aside (unjoined pid aside s) }
+    ensures terminal { kernel.new.terminal ≡ kernel.old.terminal }
+{
+    let_go(kernel, pid);
+    drop_aside(kernel, pid, aside);
+    Forked {
+        child: None,
+        aside: None,
+    }
+}
+
+/// Makes the process, once its pipes are there.
+#[tactic(auto, unfolding(crate::specs::Forking::fork_between))]
+fn fork_between(
+    kernel: &mut Kernel,
+    pid: u32,
+    reads: bool,
+    writes: bool,
+    aside: Option<usize>,
+) -> Result<Forked, NoMemory>
+    ensures state { (s : KernelState) → StandsAt kernel.old s → IfOk result (λ made. HasForked kernel.new made.child made.aside (fork_between s pid reads writes aside)) }
+    ensures terminal { kernel.new.terminal ≡ kernel.old.terminal }
+{
+    match kernel.fork(pid) {
+        Ok(child) => {
+            let forked = join(kernel, pid, reads, writes, aside, child)?;
+            Ok(forked)
+        }
+        Err(KernelFault::NoMemory) => Err(NoMemory),
+        Err(_) => Ok(give_up(kernel, pid, aside)),
+    }
+}
+
+/// Makes a process (XCU 2.9.2, 2.6.3). It reads, as 0, from the end of a pipe that the maker has set aside, if there is
+/// one, and writes, as 1, to a new pipe, where it is to; the end of that to read from is set aside in the maker. The only
+/// error is want of memory; what of this is done then is left open.
+#[tactic(auto, unfolding(crate::specs::Forking::forked))]
+pub fn fork_process(
+    kernel: &mut Kernel,
+    pid: u32,
+    before: Option<usize>,
+    writes: bool,
+) -> Result<Forked, NoMemory>
+    ensures state { (s : KernelState) → StandsAt kernel.old s → IfOk result (λ made. HasForked kernel.new made.child made.aside (forked s pid before writes)) }
+    ensures terminal { kernel.new.terminal ≡ kernel.old.terminal }
+{
+    let aside = lay(kernel, pid, writes)?;
+    take_up(kernel, pid, before);
+    let forked = fork_between(kernel, pid, before.is_some(), writes, aside)?;
+    Ok(forked)
+}

@@ -1,0 +1,14 @@
+//! What a shell does with its descriptors, and the processes that it makes, by calls of a kernel.
+#![tactic(auto)]
+
+mod fork;
+mod redirecting;
+#[cfg(test)]
+mod tests;
+mod undo;
+mod undone;
+
+pub use fork::{Forked, fork_process};
+pub use redirecting::{Redirected, redirect};
+pub use undo::restore_all;
+pub use undone::Undone;
