@@ -29,15 +29,25 @@ fn words(rt: &HostRuntime) -> io::Result<Vec<String>> {
     Ok(words)
 }
 
+/// Says why a file couldn't be read, and answers the program's exit status.
+fn unread(rt: &HostRuntime, error: &io::Error) -> u8 {
+    if error.kind() == io::ErrorKind::OutOfMemory {
+        let _ = eprintln!(rt; "psh: out of memory");
+        return 3;
+    }
+    let _ = eprintln!(rt; "psh: cannot read");
+    4
+}
+
 /// Opens and reads both files, runs, and writes what comes of it.
 fn run(rt: &HostRuntime, asked: usage::Asked) -> u8 {
-    let Ok(image) = fs::read(rt, asked.image.as_str()) else {
-        let _ = eprintln!(rt; "psh: cannot read");
-        return 4;
+    let image = match fs::read(rt, asked.image.as_str()) {
+        Ok(image) => image,
+        Err(error) => return unread(rt, &error),
     };
-    let Ok(events) = fs::read(rt, asked.events.as_str()) else {
-        let _ = eprintln!(rt; "psh: cannot read");
-        return 4;
+    let events = match fs::read(rt, asked.events.as_str()) {
+        Ok(events) => events,
+        Err(error) => return unread(rt, &error),
     };
     let mut out = Vec::new(rt.alloc());
     let mut err = Vec::new(rt.alloc());

@@ -6,10 +6,26 @@ use sh_world::{Settings, World};
 use std::alloc::Global;
 use std::fmt::Display;
 
-/// Writes a line of the program's own to standard error. One that can't be written is dropped.
-fn complain(alloc: Global, err: &mut Vec<u8>, fault: impl Display + Drop) {
-    if let Ok(text) = format!(in alloc; "psh: {fault}\n") {
-        let _ = err.extend_from_slice(text.as_bytes());
+/// Writes a line of the program's own to standard error. After an `Err` nothing is written.
+fn complain(alloc: Global, err: &mut Vec<u8>, fault: impl Display + Drop) -> Result<(), NoMemory> {
+    let Ok(text) = format!(in alloc; "psh: {fault}\n") else {
+        return Err(NoMemory);
+    };
+    err.extend_from_slice(text.as_bytes())?;
+    Ok(())
+}
+
+/// Says that memory is wanting, and gives the status for it. A line that can't be written is dropped.
+fn lack(alloc: Global, err: &mut Vec<u8>) -> u8 {
+    let _ = complain(alloc, err, NoMemory);
+    3
+}
+
+/// Says why an input is refused, and gives the status for it, or that memory is wanting to say so.
+fn refuse(alloc: Global, err: &mut Vec<u8>, fault: impl Display + Drop) -> u8 {
+    match complain(alloc, err, fault) {
+        Ok(()) => 1,
+        Err(_) => lack(alloc, err),
     }
 }
 
@@ -44,28 +60,26 @@ pub fn serve(
         Ok(files) => files,
         Err(fault) => {
             if fault.kind == FaultKind::NoMemory {
-                complain(alloc, err, NoMemory);
-                return 3;
+                return lack(alloc, err);
             }
-            complain(alloc, err, fault);
-            return 1;
+            return refuse(alloc, err, fault);
         },
     };
     let all = match read_events(alloc, events) {
         Ok(all) => all,
         Err(fault) => {
-            complain(alloc, err, fault);
-            return if fault == EventFault::NoMemory { 3 } else { 1 };
+            if fault == EventFault::NoMemory {
+                return lack(alloc, err);
+            }
+            return refuse(alloc, err, fault);
         },
     };
     let Ok(mut world) = World::new(alloc, files, settings) else {
-        complain(alloc, err, NoMemory);
-        return 3;
+        return lack(alloc, err);
     };
     let driven = drive(&mut world, &all);
     if out.extend_from_slice(world.terminal()).is_err() || driven.is_err() {
-        complain(alloc, err, NoMemory);
-        return 3;
+        return lack(alloc, err);
     }
     0
 }

@@ -1,13 +1,14 @@
 //! Runs of the whole program, without its files.
 use crate::command_line::asked;
 use crate::serving::serve;
-use crate::usage::UsageFault;
+use crate::usage::{Asked, UsageFault};
 use sh_files::Files;
 use sh_syntax::memory::NoMemory;
 use sh_syntax::sequence::Sequence;
 use sh_vars::{Options, Text};
 use sh_world::{Event, Settings, Source, Status, World};
 use std::alloc::Global;
+use std::process::Abort;
 use std::test::Fail;
 
 const IMAGE: &[u8] = b"psh image 1\nend\n";
@@ -28,13 +29,17 @@ fn world(alloc: Global, text: &str) -> Result<World, NoMemory> {
     World::new(alloc, Files::new(alloc)?, settings(alloc, text)?)
 }
 
-/// The world that runs a text, after so many turns.
-fn after(alloc: Global, text: &str, turns: usize) -> Result<World, NoMemory> {
-    let mut world = world(alloc, text)?;
+/// Gives a world turns.
+pub(crate) fn take_turns(world: &mut World, turns: usize) -> Result<(), NoMemory> {
     for _ in 0..turns {
-        world.run(&[Event::Next])?;
+        world.apply(Event::Next)?;
     }
-    Ok(world)
+    Ok(())
+}
+
+/// Whether a world shows this terminal and this end.
+pub(crate) fn shows(world: &World, terminal: &str, end: Option<Status>) -> bool {
+    world.terminal() == terminal.as_bytes() && world.ended() == end
 }
 
 /// Whether a text comes to this terminal and this end after so many turns.
@@ -45,157 +50,172 @@ pub(crate) fn comes_to(
     terminal: &str,
     end: Option<Status>,
 ) -> Result<bool, NoMemory> {
-    let world = after(alloc, text, turns)?;
-    Ok(world.terminal() == terminal.as_bytes() && world.ended() == end)
+    let mut world = world(alloc, text)?;
+    let taken = take_turns(&mut world, turns);
+    let right = shows(&world, terminal, end);
+    drop(world);
+    taken?;
+    Ok(right)
 }
 
-/// Whether a text that runs to its end comes to this terminal and exit status.
-fn ends_with(alloc: Global, text: &str, terminal: &str, status: u8) -> Result<bool, NoMemory> {
-    comes_to(alloc, text, 1000, terminal, Some(Status::Exited(status)))
+/// A text, its turns, and the terminal and the end that it then comes to.
+pub(crate) type Turns = (&'static str, usize, &'static str, Option<Status>);
+
+/// Each text comes to its terminal and its end after its turns.
+pub(crate) fn come_to(rt: &impl Abort, alloc: Global, rows: &[Turns]) -> Result<(), Fail> {
+    for (text, turns, terminal, end) in rows {
+        let right = comes_to(alloc, text, *turns, terminal, *end)?;
+        assert_eq!(rt; (*text, *turns, right), (*text, *turns, true));
+    }
+    Ok(())
+}
+
+/// A text that runs to its end, and the terminal and the exit status that it comes to.
+type Run = (&'static str, &'static str, u8);
+
+/// Each text runs to its end, and comes to its terminal and exit status.
+fn end_with(rt: &impl Abort, alloc: Global, rows: &[Run]) -> Result<(), Fail> {
+    for (text, terminal, status) in rows {
+        let right = comes_to(alloc, text, 1000, terminal, Some(Status::Exited(*status)))?;
+        assert_eq!(rt; (*text, right), (*text, true));
+    }
+    Ok(())
 }
 
 const FIRST: &str = "echo 'a  b'; x=1; echo $x $?";
 
+const TURNS_OF_THE_FIRST: [Turns; 5] = [
+    (FIRST, 2, "", None),
+    (FIRST, 5, "a  b\n", None),
+    (FIRST, 6, "a  b\n1 0\n", None),
+    (FIRST, 7, "a  b\n1 0\n", None),
+    (FIRST, 8, "a  b\n1 0\n", Some(Status::Exited(0))),
+];
+
 #[test]
 fn turns_of_the_first_example(rt: HostRuntime) -> Result<(), Fail> {
-    let alloc = rt.alloc();
-    assert!(rt; comes_to(alloc, FIRST, 2, "", None)?);
-    assert!(rt; comes_to(alloc, FIRST, 5, "a  b\n", None)?);
-    assert!(rt; comes_to(alloc, FIRST, 6, "a  b\n1 0\n", None)?);
-    assert!(rt; comes_to(alloc, FIRST, 7, "a  b\n1 0\n", None)?);
-    assert!(rt; comes_to(alloc, FIRST, 8, "a  b\n1 0\n", Some(Status::Exited(0)))?);
-    Ok(())
+    come_to(&rt, rt.alloc(), &TURNS_OF_THE_FIRST)
 }
+
+const TURNS_OF_ECHO: [Turns; 4] = [
+    ("echo a", 2, "", None),
+    ("echo a", 3, "a\n", None),
+    ("echo a", 4, "a\n", None),
+    ("echo a", 5, "a\n", Some(Status::Exited(0))),
+];
 
 #[test]
 fn turns_of_one_echo(rt: HostRuntime) -> Result<(), Fail> {
-    let alloc = rt.alloc();
-    assert!(rt; comes_to(alloc, "echo a", 2, "", None)?);
-    assert!(rt; comes_to(alloc, "echo a", 3, "a\n", None)?);
-    assert!(rt; comes_to(alloc, "echo a", 4, "a\n", None)?);
-    assert!(rt; comes_to(alloc, "echo a", 5, "a\n", Some(Status::Exited(0)))?);
-    Ok(())
+    come_to(&rt, rt.alloc(), &TURNS_OF_ECHO)
 }
+
+const TURNS_OF_EXIT: [Turns; 6] = [
+    ("exit 3", 2, "", None),
+    ("exit 3", 3, "", Some(Status::Exited(3))),
+    ("exit 256", 3, "psh: exit: usage\n", None),
+    ("exit 256", 4, "psh: exit: usage\n", Some(Status::Exited(2))),
+    ("exit", 3, "", Some(Status::Exited(0))),
+    (
+        "nosuch; exit",
+        5,
+        "psh: nosuch: not found\n",
+        Some(Status::Exited(127)),
+    ),
+];
+
+const EXITS: [Run; 9] = [
+    ("exit 255", "", 255),
+    ("exit 007", "", 7),
+    ("exit -- 4", "", 4),
+    ("exit --", "", 0),
+    ("exit -1", "psh: exit: usage\n", 2),
+    ("exit 1 2", "psh: exit: usage\n", 2),
+    ("exit ''", "psh: exit: usage\n", 2),
+    ("exit 0000000000000000001", "psh: exit: usage\n", 2),
+    ("exit 000000000000000001", "", 1),
+];
 
 #[test]
 fn turns_of_exit(rt: HostRuntime) -> Result<(), Fail> {
-    let alloc = rt.alloc();
-    assert!(rt; comes_to(alloc, "exit 3", 2, "", None)?);
-    assert!(rt; comes_to(alloc, "exit 3", 3, "", Some(Status::Exited(3)))?);
-    assert!(rt; comes_to(alloc, "exit 256", 3, "psh: exit: usage\n", None)?);
-    assert!(rt;
-        comes_to(
-            alloc,
-            "exit 256",
-            4,
-            "psh: exit: usage\n",
-            Some(Status::Exited(2))
-        )?
-    );
-    assert!(rt; comes_to(alloc, "exit", 3, "", Some(Status::Exited(0)))?);
-    assert!(rt;
-        comes_to(
-            alloc,
-            "nosuch; exit",
-            5,
-            "psh: nosuch: not found\n",
-            Some(Status::Exited(127))
-        )?
-    );
-    assert!(rt; ends_with(alloc, "exit 255", "", 255)?);
-    assert!(rt; ends_with(alloc, "exit 007", "", 7)?);
-    assert!(rt; ends_with(alloc, "exit -- 4", "", 4)?);
-    assert!(rt; ends_with(alloc, "exit --", "", 0)?);
-    assert!(rt; ends_with(alloc, "exit -1", "psh: exit: usage\n", 2)?);
-    assert!(rt; ends_with(alloc, "exit 1 2", "psh: exit: usage\n", 2)?);
-    assert!(rt; ends_with(alloc, "exit ''", "psh: exit: usage\n", 2)?);
-    assert!(rt; ends_with(alloc, "exit 0000000000000000001", "psh: exit: usage\n", 2)?);
-    assert!(rt; ends_with(alloc, "exit 000000000000000001", "", 1)?);
-    Ok(())
+    come_to(&rt, rt.alloc(), &TURNS_OF_EXIT)?;
+    end_with(&rt, rt.alloc(), &EXITS)
 }
+
+const REFUSED_TURNS: [Turns; 2] = [
+    ("echo a; fi", 2, "psh: syntax error\n", None),
+    (
+        "echo a; fi",
+        3,
+        "psh: syntax error\n",
+        Some(Status::Exited(2)),
+    ),
+];
+
+const REFUSED: [Run; 6] = [
+    ("echo ok\nfi", "ok\npsh: syntax error\n", 2),
+    ("echo ok; if", "psh: syntax error\n", 2),
+    ("echo 'a", "psh: syntax error\n", 2),
+    ("echo a\necho \"", "a\npsh: syntax error\n", 2),
+    ("echo ok\necho `a`", "ok\npsh: syntax error\n", 2),
+    ("x=1 echo a", "psh: syntax error\n", 2),
+];
 
 #[test]
 fn refused_commands(rt: HostRuntime) -> Result<(), Fail> {
-    let alloc = rt.alloc();
-    assert!(rt; comes_to(alloc, "echo a; fi", 2, "psh: syntax error\n", None)?);
-    assert!(rt;
-        comes_to(
-            alloc,
-            "echo a; fi",
-            3,
-            "psh: syntax error\n",
-            Some(Status::Exited(2))
-        )?
-    );
-    assert!(rt; ends_with(alloc, "echo ok\nfi", "ok\npsh: syntax error\n", 2)?);
-    assert!(rt; ends_with(alloc, "echo ok; if", "psh: syntax error\n", 2)?);
-    assert!(rt; ends_with(alloc, "echo 'a", "psh: syntax error\n", 2)?);
-    assert!(rt; ends_with(alloc, "echo a\necho \"", "a\npsh: syntax error\n", 2)?);
-    assert!(rt; ends_with(alloc, "echo ok\necho `a`", "ok\npsh: syntax error\n", 2)?);
-    assert!(rt; ends_with(alloc, "x=1 echo a", "psh: syntax error\n", 2)?);
-    Ok(())
+    come_to(&rt, rt.alloc(), &REFUSED_TURNS)?;
+    end_with(&rt, rt.alloc(), &REFUSED)
 }
+
+const WORDS: [Run; 11] = [
+    ("echo a  \"b  c\" 'd'\\ e", "a b  c d e\n", 0),
+    ("x='1  2'; echo $x\"$x\"", "1 21  2\n", 0),
+    ("echo $none a \"$none\" b ''", "a  b \n", 0),
+    ("echo $ \"$\" $+ a$", "$ $ $+ a$\n", 0),
+    ("echo \"\\$x \\a \\\" \\\\ \\`\"", "$x \\a \" \\ `\n", 0),
+    ("ec\\\nho a\\\nb", "ab\n", 0),
+    ("echo a#b #c\necho d", "a#b\nd\n", 0),
+    ("echo if then fi", "if then fi\n", 0),
+    ("x=a y=$x$x; echo $y", "aa\n", 0),
+    ("x=a\"b\"'c'\\d$?; echo $x", "abcd0\n", 0),
+    ("echo $HOME $PATH \"$PS4\"", "/ /bin + \n", 0),
+];
 
 #[test]
 fn words(rt: HostRuntime) -> Result<(), Fail> {
-    let alloc = rt.alloc();
-    assert!(rt; ends_with(alloc, "echo a  \"b  c\" 'd'\\ e", "a b  c d e\n", 0)?);
-    assert!(rt; ends_with(alloc, "x='1  2'; echo $x\"$x\"", "1 21  2\n", 0)?);
-    assert!(rt; ends_with(alloc, "echo $none a \"$none\" b ''", "a  b \n", 0)?);
-    assert!(rt; ends_with(alloc, "echo $ \"$\" $+ a$", "$ $ $+ a$\n", 0)?);
-    assert!(rt;
-        ends_with(
-            alloc,
-            "echo \"\\$x \\a \\\" \\\\ \\`\"",
-            "$x \\a \" \\ `\n",
-            0
-        )?
-    );
-    assert!(rt; ends_with(alloc, "ec\\\nho a\\\nb", "ab\n", 0)?);
-    assert!(rt; ends_with(alloc, "echo a#b #c\necho d", "a#b\nd\n", 0)?);
-    assert!(rt; ends_with(alloc, "echo if then fi", "if then fi\n", 0)?);
-    assert!(rt; ends_with(alloc, "x=a y=$x$x; echo $y", "aa\n", 0)?);
-    assert!(rt; ends_with(alloc, "x=a\"b\"'c'\\d$?; echo $x", "abcd0\n", 0)?);
-    assert!(rt; ends_with(alloc, "echo $HOME $PATH \"$PS4\"", "/ /bin + \n", 0)?);
-    Ok(())
+    end_with(&rt, rt.alloc(), &WORDS)
 }
+
+const COMMANDS: [Run; 8] = [
+    ("", "", 0),
+    ("nosuch", "psh: nosuch: not found\n", 127),
+    (
+        "nosuch; echo $?; echo $?",
+        "psh: nosuch: not found\n127\n0\n",
+        0,
+    ),
+    ("''", "psh: : not found\n", 127),
+    ("\n\n  \necho a\n\n\necho b\n\n", "a\nb\n", 0),
+    ("echo a;", "a\n", 0),
+    ("echo", "\n", 0),
+    ("nosuch; x=1; echo $?", "psh: nosuch: not found\n0\n", 0),
+];
+
+const ENDS: [Turns; 5] = [
+    ("", 1, "", None),
+    ("", 2, "", Some(Status::Exited(0))),
+    ("# c", 2, "", Some(Status::Exited(0))),
+    ("x=1", 4, "", Some(Status::Exited(0))),
+    ("$none", 4, "", Some(Status::Exited(0))),
+];
 
 #[test]
 fn commands(rt: HostRuntime) -> Result<(), Fail> {
-    let alloc = rt.alloc();
-    assert!(rt; ends_with(alloc, "", "", 0)?);
-    assert!(rt; comes_to(alloc, "", 1, "", None)?);
-    assert!(rt; comes_to(alloc, "", 2, "", Some(Status::Exited(0)))?);
-    assert!(rt; comes_to(alloc, "# c", 2, "", Some(Status::Exited(0)))?);
-    assert!(rt; comes_to(alloc, "x=1", 4, "", Some(Status::Exited(0)))?);
-    assert!(rt; comes_to(alloc, "$none", 4, "", Some(Status::Exited(0)))?);
-    assert!(rt; ends_with(alloc, "nosuch", "psh: nosuch: not found\n", 127)?);
-    assert!(rt;
-        ends_with(
-            alloc,
-            "nosuch; echo $?; echo $?",
-            "psh: nosuch: not found\n127\n0\n",
-            0
-        )?
-    );
-    assert!(rt; ends_with(alloc, "''", "psh: : not found\n", 127)?);
-    assert!(rt; ends_with(alloc, "\n\n  \necho a\n\n\necho b\n\n", "a\nb\n", 0)?);
-    assert!(rt; ends_with(alloc, "echo a;", "a\n", 0)?);
-    assert!(rt; ends_with(alloc, "echo", "\n", 0)?);
-    assert!(rt;
-        ends_with(
-            alloc,
-            "nosuch; x=1; echo $?",
-            "psh: nosuch: not found\n0\n",
-            0
-        )?
-    );
-    Ok(())
+    end_with(&rt, rt.alloc(), &COMMANDS)?;
+    come_to(&rt, rt.alloc(), &ENDS)
 }
 
-#[test]
-fn places_and_ends(rt: HostRuntime) -> Result<(), Fail> {
-    let mut world = world(rt.alloc(), "echo a")?;
+/// Runs `echo a` by places among the processes that can take a turn.
+fn run_by_places(rt: &impl Abort, world: &mut World) -> Result<(), Fail> {
     assert_eq!(rt; world.status(100), Some(Status::Running));
     assert_eq!(rt; world.status(99), None);
     for k in 0..4u32 {
@@ -209,6 +229,14 @@ fn places_and_ends(rt: HostRuntime) -> Result<(), Fail> {
     assert!(rt; world.files().is_some());
     assert!(rt; world.jobs().is_some());
     Ok(())
+}
+
+#[test]
+fn places_and_ends(rt: HostRuntime) -> Result<(), Fail> {
+    let mut world = world(rt.alloc(), "echo a")?;
+    let found = run_by_places(&rt, &mut world);
+    drop(world);
+    found
 }
 
 /// What `serve` answers and writes, in one line.
@@ -236,91 +264,82 @@ pub(crate) fn served(
     Ok(all)
 }
 
-#[test]
-fn images_and_events_are_checked(rt: HostRuntime) -> Result<(), Fail> {
-    let alloc = rt.alloc();
-    let text = "echo a";
-    assert_eq!(rt;
-        served(alloc, text, IMAGE, b"next 5")?.as_slice(),
-        b"0|a\n|".as_slice()
-    );
-    assert_eq!(rt;
-        served(alloc, text, IMAGE, b"next 2\n")?.as_slice(),
-        b"0||".as_slice()
-    );
-    assert_eq!(rt;
-        served(alloc, text, IMAGE, b"next\n\nrun 0 2\nrun 5\n")?.as_slice(),
-        b"0|a\n|".as_slice()
-    );
-    for end in 0..12usize {
-        assert_eq!(rt;
-            served(alloc, text, IMAGE.get(..end).unwrap_or(b""), b"")?.as_slice(),
-            b"1||psh: Truncated: line 1\n".as_slice()
-        );
+/// An image, events, and what comes of `echo a`.
+pub(crate) type Served = (&'static [u8], &'static [u8], &'static [u8]);
+
+/// Each image and its events come to this.
+pub(crate) fn serve_all(rt: &impl Abort, alloc: Global, rows: &[Served]) -> Result<(), Fail> {
+    for (image, events, expected) in rows {
+        let found = served(alloc, "echo a", image, events)?;
+        assert_eq!(rt; (*events, found.as_slice()), (*events, *expected));
     }
-    for end in 12..16usize {
-        assert_eq!(rt;
-            served(alloc, text, IMAGE.get(..end).unwrap_or(b""), b"")?.as_slice(),
-            b"1||psh: Truncated: line 2\n".as_slice()
-        );
-    }
-    assert_eq!(rt;
-        served(alloc, text, b"psh image 1\nend\nx", b"")?.as_slice(),
-        b"1||psh: Trailing: line 3\n".as_slice()
-    );
-    assert_eq!(rt;
-        served(alloc, text, b"psh image 2\nend\n", b"")?.as_slice(),
-        b"1||psh: BadHeader: line 1\n".as_slice()
-    );
-    assert_eq!(rt;
-        served(alloc, text, b"psh image 1\nlink /a\nend\n", b"")?.as_slice(),
-        b"1||psh: BadLine: line 2\n".as_slice()
-    );
     Ok(())
 }
 
+const SERVED: [Served; 6] = [
+    (IMAGE, b"next 5", b"0|a\n|"),
+    (IMAGE, b"next 2\n", b"0||"),
+    (IMAGE, b"next\n\nrun 0 2\nrun 5\n", b"0|a\n|"),
+    (b"psh image 1\nend\nx", b"", b"1||psh: Trailing: line 3\n"),
+    (b"psh image 2\nend\n", b"", b"1||psh: BadHeader: line 1\n"),
+    (
+        b"psh image 1\nlink /a\nend\n",
+        b"",
+        b"1||psh: BadLine: line 2\n",
+    ),
+];
+
+#[test]
+fn images_and_events_are_checked(rt: HostRuntime) -> Result<(), Fail> {
+    serve_all(&rt, rt.alloc(), &SERVED)?;
+    for end in 0..16usize {
+        let front = IMAGE.get(..end).unwrap_or(b"");
+        let found = served(rt.alloc(), "echo a", front, b"")?;
+        let expected = if end < 12 {
+            b"1||psh: Truncated: line 1\n".as_slice()
+        } else {
+            b"1||psh: Truncated: line 2\n".as_slice()
+        };
+        assert_eq!(rt; (end, found.as_slice()), (end, expected));
+    }
+    Ok(())
+}
+
+/// Events that are refused at their first line.
+const BAD_LINES: [Served; 16] = [
+    (IMAGE, b"run x", BAD_EVENT),
+    (IMAGE, b"next 0", BAD_EVENT),
+    (IMAGE, b"next 1000001", BAD_EVENT),
+    (IMAGE, b"run 2147483648", BAD_EVENT),
+    (IMAGE, b"run", BAD_EVENT),
+    (IMAGE, b"run ", BAD_EVENT),
+    (IMAGE, b"run 1 ", BAD_EVENT),
+    (IMAGE, b"next ", BAD_EVENT),
+    (IMAGE, b"next  1", BAD_EVENT),
+    (IMAGE, b" next", BAD_EVENT),
+    (IMAGE, b"next 1 2", BAD_EVENT),
+    (IMAGE, b"next 00000000001", BAD_EVENT),
+    (IMAGE, b"key 4", BAD_EVENT),
+    (IMAGE, b"type", BAD_EVENT),
+    (IMAGE, b"next\r", BAD_EVENT),
+    (IMAGE, b"NEXT", BAD_EVENT),
+];
+
+const BAD_EVENT: &[u8] = b"1||psh: BadEvent: line 1\n";
+
+const EVENTS: [Served; 2] = [
+    (IMAGE, b"next 5\n\nnext\nx\n", b"1||psh: BadEvent: line 4\n"),
+    (
+        IMAGE,
+        b"run 0000000000 1000000\nnext 0000000001\n",
+        b"0|a\n|",
+    ),
+];
+
 #[test]
 fn bad_events(rt: HostRuntime) -> Result<(), Fail> {
-    let alloc = rt.alloc();
-    let bad: [&[u8]; 16] = [
-        b"run x",
-        b"next 0",
-        b"next 1000001",
-        b"run 2147483648",
-        b"run",
-        b"run ",
-        b"run 1 ",
-        b"next ",
-        b"next  1",
-        b" next",
-        b"next 1 2",
-        b"next 00000000001",
-        b"key 4",
-        b"type",
-        b"next\r",
-        b"NEXT",
-    ];
-    for line in bad {
-        assert_eq!(rt;
-            served(alloc, "echo a", IMAGE, line)?.as_slice(),
-            b"1||psh: BadEvent: line 1\n".as_slice()
-        );
-    }
-    assert_eq!(rt;
-        served(alloc, "echo a", IMAGE, b"next 5\n\nnext\nx\n")?.as_slice(),
-        b"1||psh: BadEvent: line 4\n".as_slice()
-    );
-    assert_eq!(rt;
-        served(
-            alloc,
-            "echo a",
-            IMAGE,
-            b"run 0000000000 1000000\nnext 0000000001\n"
-        )?
-        .as_slice(),
-        b"0|a\n|".as_slice()
-    );
-    Ok(())
+    serve_all(&rt, rt.alloc(), &BAD_LINES)?;
+    serve_all(&rt, rt.alloc(), &EVENTS)
 }
 
 /// Words of a command line.
@@ -332,42 +351,61 @@ fn line(alloc: Global, words: &[&str]) -> Result<Vec<String>, NoMemory> {
     Ok(all)
 }
 
+/// What `asked` says of words: `a` where they are in order, `h` where they ask for help, `u` where they are not in order.
+fn answer_to(alloc: Global, words: &[&str]) -> Result<&'static str, NoMemory> {
+    let words = line(alloc, words)?;
+    match asked(alloc, &words) {
+        Ok(found) => {
+            drop(found);
+            Ok("a")
+        },
+        Err(fault) => {
+            let answer = match &fault {
+                UsageFault::Help { .. } => Ok("h"),
+                UsageFault::Usage { .. } => Ok("u"),
+                UsageFault::NoMemory => Err(NoMemory),
+            };
+            drop(fault);
+            answer
+        },
+    }
+}
+
+/// Whether words ask for this text, image and events, without a report.
+fn is_asked(found: &Asked, text: &[u8], image: &str, events: &str) -> bool {
+    let Source::Text(asked) = &found.settings.source;
+    asked.as_slice() == text
+        && found.image.as_str() == image
+        && found.events.as_str() == events
+        && !found.report
+}
+
+const LINES: [(&[&str], &str); 4] = [
+    (&["--help"], "h"),
+    (&[], "u"),
+    (&["-c", "x", "i"], "u"),
+    (&["-q", "x", "i", "e"], "u"),
+];
+
 #[test]
 fn command_lines(rt: HostRuntime) -> Result<(), Fail> {
-    let alloc = rt.alloc();
-    let words = line(alloc, &["-c", "-x", "i", "e"])?;
-    let Ok(found) = asked(alloc, &words) else {
-        return Err(Fail::from("refused"));
+    let words = line(rt.alloc(), &["-c", "-x", "i", "e"])?;
+    let right = match asked(rt.alloc(), &words) {
+        Ok(found) => {
+            let right = is_asked(&found, b"-x", "i", "e");
+            drop(found);
+            right
+        },
+        Err(fault) => {
+            drop(fault);
+            false
+        },
     };
-    let Source::Text(text) = &found.settings.source;
-    assert_eq!(rt; text.as_slice(), b"-x".as_slice());
-    assert_eq!(rt; found.image.as_str(), "i");
-    assert_eq!(rt; found.events.as_str(), "e");
-    assert!(rt; !found.report);
-    assert!(rt;
-        matches!(
-            asked(alloc, &line(alloc, &["--help"])?),
-            Err(UsageFault::Help { .. })
-        )
-    );
-    assert!(rt;
-        matches!(
-            asked(alloc, &line(alloc, &[])?),
-            Err(UsageFault::Usage { .. })
-        )
-    );
-    assert!(rt;
-        matches!(
-            asked(alloc, &line(alloc, &["-c", "x", "i"])?),
-            Err(UsageFault::Usage { .. })
-        )
-    );
-    assert!(rt;
-        matches!(
-            asked(alloc, &line(alloc, &["-q", "x", "i", "e"])?),
-            Err(UsageFault::Usage { .. })
-        )
-    );
+    assert!(rt; right);
+    for (words, expected) in LINES {
+        let found = answer_to(rt.alloc(), words)?;
+        assert_eq!(rt; found, expected);
+    }
     Ok(())
 }
 
@@ -384,29 +422,45 @@ const FRONTS: [&str; 9] = [
     "a  b\n1 0\n",
 ];
 
+/// Whether a world that was refused shows this terminal, and answers nothing any more.
+fn is_spent(world: &mut World, terminal: &str) -> bool {
+    world.terminal() == terminal.as_bytes()
+        && world.ended().is_none()
+        && world.status(100).is_none()
+        && world.files().is_none()
+        && world.jobs().is_none()
+        && world.run(&[Event::Next]).is_err()
+        && world.run(&[]).is_err()
+}
+
+/// How many events of the first example go through; the terminal is right before each and after the last.
+fn run_the_first(rt: &impl Abort, world: &mut World) -> usize {
+    for done in 0..8usize {
+        assert_eq!(rt; world.terminal(), FRONTS[done].as_bytes());
+        if world.apply(Event::Next).is_err() {
+            assert!(rt; is_spent(world, FRONTS[done]));
+            return done;
+        }
+    }
+    assert!(rt; shows(world, FRONTS[8], Some(Status::Exited(0))));
+    8
+}
+
 /// Whatever growth is refused, the world shows the terminal after the events that went through, and is
 /// spent. With ample memory nothing is refused.
 #[test]
 fn want_of_memory(rt: HostRuntime) -> Result<(), Fail> {
-    let Ok(mut world) = world(rt.alloc(), FIRST) else {
-        println!(rt; "no world")?;
-        return Ok(());
-    };
-    for done in 0..8usize {
-        assert_eq!(rt; world.terminal(), FRONTS[done].as_bytes());
-        if world.apply(Event::Next).is_err() {
-            assert_eq!(rt; world.terminal(), FRONTS[done].as_bytes());
-            assert_eq!(rt; world.ended(), None);
-            assert_eq!(rt; world.status(100), None);
-            assert!(rt; world.files().is_none());
-            assert!(rt; world.jobs().is_none());
-            assert!(rt; world.run(&[Event::Next]).is_err());
-            assert!(rt; world.run(&[]).is_err());
-            println!(rt; "spent after {done}")?;
+    let mut world = match world(rt.alloc(), FIRST) {
+        Ok(world) => world,
+        Err(_) => {
+            println!(rt; "no world")?;
             return Ok(());
-        }
+        },
+    };
+    let done = run_the_first(&rt, &mut world);
+    drop(world);
+    if done < 8 {
+        println!(rt; "spent after {done}")?;
     }
-    assert_eq!(rt; world.terminal(), FRONTS[8].as_bytes());
-    assert_eq!(rt; world.ended(), Some(Status::Exited(0)));
     Ok(())
 }

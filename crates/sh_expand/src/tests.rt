@@ -6,10 +6,11 @@ use sh_pattern::Mark;
 use sh_syntax::sequence::Sequence;
 use sh_vars::{Text, Vars, VarsFault};
 use std::alloc::{AllocError, Global};
+use std::io;
 use std::test::Fail;
 
 /// What a shell has before a case: `h` is its HOME, `x` is `a b`, `e` is empty, `p` is `a.b.c`, `s` is `*.c`, `c` is
-/// `:a::b:`, `n` is `3`, `r` is `old` and read-only; `u` isn't set.
+/// `:a::b:`, `n` is `3`, `r` is `old` and read-only, `k` read-only without a value; `u` isn't set.
 const VARIABLES: [(&[u8], &[u8]); 9] = [
     (b"HOME", b"/h"),
     (b"x", b"a b"),
@@ -33,28 +34,82 @@ file /.c rw- 0\n\
 \n\
 end\n";
 
-fn copies(alloc: Global, operands: &[&[u8]]) -> Result<Vec<Text>, AllocError> {
-    let mut texts = Vec::new(alloc);
-    for operand in operands {
-        texts.push(Text::copy_of(alloc, operand)?)?;
+/// Words with what they are expanded with.
+#[derive(Clone, Copy)]
+struct Case<'a> {
+    ifs: Option<&'a [u8]>,
+    /// The positional parameters, as in [`cases`].
+    operands: &'a [u8],
+    no_unset: bool,
+    context: Context,
+    words: &'a [u8],
+    /// The answer to each command substitution.
+    answer: &'a [u8],
+    /// Fields in brackets, or a message.
+    expected: &'a [u8],
+}
+
+/// What becomes of a case.
+#[derive(Clone, Copy, Debug, PartialEq, Eq)]
+enum Outcome {
+    Right,
+    Wrong,
+    /// Memory was wanting, but not in the calls.
+    Unready,
+    /// A call was refused for want of memory.
+    Refused,
+}
+
+/// The words of a case, and what they are expanded with.
+#[derive(Drop)]
+struct Ready {
+    words: Sequence<Wanted>,
+    vars: Vars,
+    files: Files,
+}
+
+/// The positional parameters of an entry.
+fn operands_of(alloc: Global, column: &[u8]) -> Result<Vec<Text>, AllocError> {
+    let mut operands = Vec::new(alloc);
+    if column.is_empty() {
+        return Ok(operands);
     }
-    Ok(texts)
+    if column == b"empty".as_slice() {
+        operands.push(Text::copy_of(alloc, b"")?)?;
+        return Ok(operands);
+    }
+    for operand in column.split(|byte| *byte == b'&') {
+        operands.push(Text::copy_of(alloc, operand)?)?;
+    }
+    Ok(operands)
 }
 
 /// A shell with positional parameters.
-fn shell(alloc: Global, ifs: Option<&[u8]>, operands: &[&[u8]]) -> Result<Vars, VarsFault> {
+fn shell(alloc: Global, ifs: Option<&[u8]>, operands: &[u8]) -> Result<Vars, VarsFault> {
     let mut vars = Vars::new(alloc)?;
     for (name, value) in &VARIABLES {
         vars.set(name, value)?;
     }
     vars.make_readonly(b"r")?;
+    vars.make_readonly(b"k")?;
     match ifs {
         Some(ifs) => vars.set(b"IFS", ifs)?,
         None => vars.unset(b"IFS")?,
     }
-    let texts = copies(alloc, operands)?;
-    vars.set_positional(texts);
+    vars.set_positional(operands_of(alloc, operands)?);
     Ok(vars)
+}
+
+fn prepare(alloc: Global, case: &Case) -> Result<Ready, VarsFault> {
+    let mut vars = shell(alloc, case.ifs, case.operands)?;
+    let mut options = vars.options();
+    options.no_unset = case.no_unset;
+    vars.set_options(options);
+    let Ok(files) = Files::from_image(alloc, IMAGE) else {
+        return Err(VarsFault::NoMemory);
+    };
+    let words = Reader::read(alloc, case.context, case.words)?;
+    Ok(Ready { words, vars, files })
 }
 
 fn put(text: &mut Vec<u8>, more: &[u8]) -> Result<(), AllocError> {
@@ -113,9 +168,9 @@ fn answered(
 /// What words come to, each command substitution being answered by `answer`.
 fn expanded(
     alloc: Global,
+    words: Sequence<Wanted>,
     vars: &mut Vars,
     files: &Files,
-    words: Sequence<Wanted>,
     answer: &[u8],
 ) -> Result<Step, AllocError> {
     let (mut expansion, mut step) = Expansion::start(alloc, words, vars, files)?;
@@ -133,34 +188,30 @@ fn put_step(text: &mut Vec<u8>, step: &Step) -> Result<(), AllocError> {
     }
 }
 
-/// The same as text: fields in brackets, or a message.
-fn shown(
-    alloc: Global,
-    vars: &mut Vars,
-    words: Sequence<Wanted>,
-    answer: &[u8],
-) -> Result<Vec<u8>, AllocError> {
-    let Ok(files) = Files::from_image(alloc, IMAGE) else {
-        return Err(AllocError);
-    };
+/// Whether a step is this: fields in brackets, or a message.
+fn is_shown_as(alloc: Global, step: &Step, expected: &[u8]) -> Result<bool, AllocError> {
     let mut text = Vec::new(alloc);
-    let step = expanded(alloc, vars, &files, words, answer)?;
-    put_step(&mut text, &step)?;
-    Ok(text)
+    put_step(&mut text, step)?;
+    Ok(text.as_slice() == expected)
 }
 
-/// Whether words come to this.
-fn come_to(
-    alloc: Global,
-    vars: &mut Vars,
-    context: Context,
-    words: &[u8],
-    answer: &[u8],
-    expected: &[u8],
-) -> Result<bool, AllocError> {
-    let words = Reader::read(alloc, context, words)?;
-    let text = shown(alloc, vars, words, answer)?;
-    Ok(text.as_slice() == expected)
+fn judged(alloc: Global, case: &Case) -> Outcome {
+    let Ok(ready) = prepare(alloc, case) else {
+        return Outcome::Unready;
+    };
+    let Ready {
+        words,
+        mut vars,
+        files,
+    } = ready;
+    let Ok(step) = expanded(alloc, words, &mut vars, &files, case.answer) else {
+        return Outcome::Refused;
+    };
+    match is_shown_as(alloc, &step, case.expected) {
+        Ok(true) => Outcome::Right,
+        Ok(false) => Outcome::Wrong,
+        Err(_) => Outcome::Unready,
+    }
 }
 
 /// Whether a variable has this value.
@@ -170,261 +221,6 @@ fn has(vars: &Vars, name: &[u8], value: &[u8]) -> bool {
         None => false,
     }
 }
-
-/// A case: IFS, positional parameters, words, and their fields.
-type Case = (
-    Option<&'static [u8]>,
-    &'static [&'static [u8]],
-    &'static [u8],
-    &'static [u8],
-);
-
-/// Quotes and simple parameters.
-const PARAMETERS: [Case; 18] = [
-    (Some(b" \t\n"), &[], b"a b", b"[a][b]"),
-    (
-        Some(b" \t\n"),
-        &[],
-        b"a\\ b 'c  d' \"e  f\"",
-        b"[a b][c  d][e  f]",
-    ),
-    (Some(b" \t\n"), &[], b"\"\" '' a\"\"b", b"[][][ab]"),
-    (Some(b" \t\n"), &[], b"\\$x '$x' \"\\$x\"", b"[$x][$x][$x]"),
-    (Some(b" \t\n"), &[], b"$x", b"[a][b]"),
-    (Some(b" \t\n"), &[], b"\"$x\"", b"[a b]"),
-    (Some(b" \t\n"), &[], b"$e", b""),
-    (Some(b" \t\n"), &[], b"\"$e\"", b"[]"),
-    (Some(b" \t\n"), &[], b"$u", b""),
-    (Some(b" \t\n"), &[], b"\"$u\"", b"[]"),
-    (Some(b" \t\n"), &[], b"a$e b\"$u\"c", b"[a][bc]"),
-    (Some(b" \t\n"), &[], b"z$x\"y\"", b"[za][by]"),
-    (Some(b" \t\n"), &[], b"${x}y \"${x}y\"", b"[a][by][a by]"),
-    (Some(b":"), &[], b"$c", b"[][a][][b]"),
-    (Some(b":"), &[], b"$x", b"[a b]"),
-    (Some(b": "), &[], b"$c $x", b"[][a][][b][a][b]"),
-    (Some(b""), &[], b"$x$c", b"[a b:a::b:]"),
-    (None, &[], b"$x", b"[a][b]"),
-];
-
-/// The positional parameters.
-const POSITIONAL: [Case; 19] = [
-    (Some(b" \t\n"), &[b"a b", b"", b"c"], b"$#", b"[3]"),
-    (
-        Some(b" \t\n"),
-        &[b"a b", b"", b"c"],
-        b"\"$@\"",
-        b"[a b][][c]",
-    ),
-    (Some(b" \t\n"), &[b"a b", b"", b"c"], b"\"$*\"", b"[a b  c]"),
-    (Some(b" \t\n"), &[b"a b", b"", b"c"], b"$@", b"[a][b][c]"),
-    (Some(b" \t\n"), &[b"a b", b"", b"c"], b"$*", b"[a][b][c]"),
-    (
-        Some(b" \t\n"),
-        &[b"a b", b"", b"c"],
-        b"x\"$@\"y",
-        b"[xa b][][cy]",
-    ),
-    (
-        Some(b" \t\n"),
-        &[b"a b", b"", b"c"],
-        b"x$@y",
-        b"[xa][b][cy]",
-    ),
-    (Some(b":"), &[b"a b", b"", b"c"], b"\"$*\"", b"[a b::c]"),
-    (Some(b""), &[b"a b", b"", b"c"], b"\"$*\"", b"[a bc]"),
-    (
-        Some(b""),
-        &[b"a b", b"", b"c"],
-        b"$* $@",
-        b"[a b][c][a b][c]",
-    ),
-    (None, &[b"a b", b"", b"c"], b"\"$*\"", b"[a b  c]"),
-    (Some(b" \t\n"), &[], b"\"$@\"", b""),
-    (Some(b" \t\n"), &[], b"\"$*\"", b"[]"),
-    (Some(b" \t\n"), &[], b"$@ $*", b""),
-    (Some(b" \t\n"), &[], b"a\"$@\"b \"x$@\"", b"[ab][x]"),
-    (Some(b" \t\n"), &[], b"\"$@\"\"\"", b"[]"),
-    (Some(b" \t\n"), &[b""], b"\"$@\"", b"[]"),
-    (
-        Some(b" \t\n"),
-        &[b"a b", b"", b"c"],
-        b"$1 \"$1\" $2 \"$2\" $9 ${3}",
-        b"[a][b][a b][][c]",
-    ),
-    (Some(b":"), &[b"a::b", b""], b"$@", b"[a][][b]"),
-];
-
-/// `${p-w}` and its like.
-const CONDITIONALS: [Case; 27] = [
-    (Some(b" \t\n"), &[], b"${x-w} ${e-w} ${u-w}", b"[a][b][w]"),
-    (
-        Some(b" \t\n"),
-        &[],
-        b"${x:-w} ${e:-w} ${u:-w}",
-        b"[a][b][w][w]",
-    ),
-    (
-        Some(b" \t\n"),
-        &[],
-        b"${x+w} \"${e+w}\" \"${u+w}\"",
-        b"[w][w][]",
-    ),
-    (
-        Some(b" \t\n"),
-        &[],
-        b"\"${x:+w}\" \"${e:+w}\" \"${u:+w}\"",
-        b"[w][][]",
-    ),
-    (Some(b" \t\n"), &[], b"${u=a b} \"$u\"", b"[a][b][a b]"),
-    (Some(b" \t\n"), &[], b"\"${e:=a b}\" $e", b"[a b][a][b]"),
-    (Some(b" \t\n"), &[], b"${e=a} \"$e\"", b"[]"),
-    (Some(b" \t\n"), &[], b"${u-a b}", b"[a][b]"),
-    (Some(b" \t\n"), &[], b"${u-\"a b\"}", b"[a b]"),
-    (Some(b" \t\n"), &[], b"\"${u-a  b}\"", b"[a  b]"),
-    (Some(b" \t\n"), &[], b"${u-'a  b'c}", b"[a  bc]"),
-    (Some(b" \t\n"), &[], b"${u-$x}", b"[a][b]"),
-    (Some(b" \t\n"), &[], b"\"${u-$x}\"", b"[a b]"),
-    (Some(b" \t\n"), &[], b"${u-\"$x\"}", b"[a b]"),
-    (Some(b" \t\n"), &[], b"${u-a\\ b}", b"[a b]"),
-    (Some(b" \t\n"), &[], b"${u-${v-$x}}", b"[a][b]"),
-    (Some(b" \t\n"), &[], b"${u=${v=w}} $v$u", b"[w][ww]"),
-    (Some(b" \t\n"), &[b"1 2", b"3"], b"${u-$@}", b"[1][2][3]"),
-    (Some(b" \t\n"), &[b"1 2", b"3"], b"${u-\"$@\"}", b"[1 2][3]"),
-    (Some(b" \t\n"), &[b"1 2", b"3"], b"\"${u-$@}\"", b"[1 2][3]"),
-    (Some(b" \t\n"), &[], b"${u-} \"${u-}\"", b"[]"),
-    (Some(b" \t\n"), &[], b"${1-w} ${2+w}", b"[w]"),
-    (
-        Some(b" \t\n"),
-        &[b"a", b""],
-        b"${1-w} ${2-w} ${2:-w} ${3-w}",
-        b"[a][w][w]",
-    ),
-    (Some(b" \t\n"), &[], b"${@:-w}", b"[w]"),
-    (Some(b" \t\n"), &[b""], b"${@:-w}", b"[w]"),
-    (Some(b":"), &[], b"${u-a:b}", b"[a][b]"),
-    (Some(b":"), &[], b"${u-\"a:b\":c}", b"[a:b][c]"),
-];
-
-/// Lengths, removals, arithmetic, tildes and pathnames.
-const OTHERS: [Case; 32] = [
-    (
-        Some(b" \t\n"),
-        &[b"ab", b"c"],
-        b"${#x} ${#e} ${#u} ${#1}",
-        b"[3][0][0][2]",
-    ),
-    (Some(b" \t\n"), &[], b"\"${#p}\"", b"[5]"),
-    (
-        Some(b" \t\n"),
-        &[],
-        b"${p%.*} ${p%%.*} ${p#*.} ${p##*.}",
-        b"[a.b][a][b.c][c]",
-    ),
-    (
-        Some(b" \t\n"),
-        &[],
-        b"\"${p%.*}\" \"${p%\".*\"}\"",
-        b"[a.b][a.b.c]",
-    ),
-    (
-        Some(b" \t\n"),
-        &[],
-        b"${p%'.c'} ${p%x} ${p%} ${p#a}",
-        b"[a.b][a.b.c][a.b.c][.b.c]",
-    ),
-    (
-        Some(b" \t\n"),
-        &[],
-        b"${p%$u} ${p%.?} ${p#?.}",
-        b"[a.b.c][a.b][b.c]",
-    ),
-    (
-        Some(b" \t\n"),
-        &[],
-        b"${p%${u-.c}} ${p%\"${u-.?}\"}",
-        b"[a.b][a.b.c]",
-    ),
-    (
-        Some(b" \t\n"),
-        &[],
-        b"${p%[bc]} ${p##*[.]} ${p%%[!a]*}",
-        b"[a.b.][c][a]",
-    ),
-    (
-        Some(b" \t\n"),
-        &[],
-        b"${s#\\*} \"${s#*}\" \"${s##*}\"",
-        b"[.c][*.c][]",
-    ),
-    (
-        Some(b" \t\n"),
-        &[b"ab", b"cb"],
-        b"${@%b} \"${*%b}\"",
-        b"[a][c][a c]",
-    ),
-    (
-        Some(b" \t\n"),
-        &[b"a b", b"c b"],
-        b"\"${@%b}\"",
-        b"[a ][c ]",
-    ),
-    (Some(b" \t\n"), &[], b"${u%w}x", b"[x]"),
-    (Some(b" \t\n"), &[], b"$((1+2)) \"$((3*4))\"", b"[3][12]"),
-    (Some(b" \t\n"), &[], b"$((n+1)) $(($n$n))", b"[4][33]"),
-    (Some(b" \t\n"), &[], b"$((v=n+1)) $v", b"[4][4]"),
-    (
-        Some(b" \t\n"),
-        &[],
-        b"$((v+=5)) $((v*2)) \"$v\"",
-        b"[5][10][5]",
-    ),
-    (Some(b"1"), &[], b"$((10+3)) \"$((10+3))\"", b"[][3][13]"),
-    (Some(b" \t\n"), &[], b"$((-7/2)) $((-7%2))", b"[-3][-1]"),
-    (Some(b" \t\n"), &[], b"${u-$((n*n))}", b"[9]"),
-    (Some(b" \t\n"), &[], b"$((${#x}+1))", b"[4]"),
-    (
-        Some(b" \t\n"),
-        &[],
-        b"$((u)) $((0x10)) $((010))",
-        b"[0][16][8]",
-    ),
-    (Some(b" \t\n"), &[], b"~ ~/a", b"[/h][/h/a]"),
-    (
-        Some(b" \t\n"),
-        &[],
-        b"\"~\" \\~ a~ ~\"\" ~$e",
-        b"[~][~][a~][~][~]",
-    ),
-    (
-        Some(b" \t\n"),
-        &[],
-        b"${u-~} ${u-~/a} \"${u-~}\"",
-        b"[/h][/h/a][~]",
-    ),
-    (Some(b" \t\n"), &[], b"a:~ =~", b"[a:~][=~]"),
-    (Some(b" \t\n"), &[], b"*.c", b"[a.c][b.c]"),
-    (
-        Some(b" \t\n"),
-        &[],
-        b"\"*.c\" \\*.c '*'.c",
-        b"[*.c][*.c][*.c]",
-    ),
-    (Some(b" \t\n"), &[], b"$s \"$s\"", b"[a.c][b.c][*.c]"),
-    (
-        Some(b" \t\n"),
-        &[],
-        b"*.d ?.c [!a].c",
-        b"[*.d][a.c][b.c][b.c]",
-    ),
-    (Some(b" \t\n"), &[], b".*c", b"[.c]"),
-    (
-        Some(b" \t\n"),
-        &[],
-        b"${u-*.c} \"${u-*.c}\"",
-        b"[a.c][b.c][*.c]",
-    ),
-    (Some(b" \t\n"), &[], b"a*$e ${p%%.*}*", b"[a.c][a.c]"),
-];
 
 /// What one word is expanded for, the word, and its text; IFS is `:`, the positional parameters `a b`, an empty one and `c`.
 const TEXTS: [(Context, &[u8], &[u8]); 29] = [
@@ -463,38 +259,6 @@ const TEXTS: [(Context, &[u8], &[u8]); 29] = [
     (Context::QuotedSingle, b"$*", b"[a b::c]"),
 ];
 
-/// Whether `set -u` is on, words, and what they come to.
-const FAULTS: [(bool, &[u8], &[u8]); 28] = [
-    (false, b"${u?}", b"u: parameter not set"),
-    (false, b"${u?a $x}", b"u: a a b"),
-    (false, b"${e:?m}", b"e: m"),
-    (false, b"${u?$x}", b"u: a b"),
-    (false, b"${u:?\"a  b\"}", b"u: a  b"),
-    (false, b"${u?$e}", b"u: "),
-    (false, b"${x?m}", b"[a][b]"),
-    (false, b"${1=x}", b"bad substitution"),
-    (false, b"${@=x}", b"bad substitution"),
-    (false, b"$((1/0))", b"arithmetic: division by zero"),
-    (false, b"$((1 2))", b"arithmetic: syntax"),
-    (false, b"$((1+))", b"arithmetic: syntax"),
-    (false, b"$((x))", b"arithmetic: not a number"),
-    (false, b"$((r=1))", b"r: read only"),
-    (false, b"${r=w}", b"[old]"),
-    (false, b"${k=w}", b"k: read only"),
-    (false, b"a ${u?} ${v=b}", b"u: parameter not set"),
-    (true, b"$u", b"u: parameter not set"),
-    (true, b"\"$u\"", b"u: parameter not set"),
-    (true, b"${#u}", b"u: parameter not set"),
-    (true, b"${u%w}", b"u: parameter not set"),
-    (true, b"$((u))", b"u: parameter not set"),
-    (true, b"$9", b"9: parameter not set"),
-    (true, b"$!", b"!: parameter not set"),
-    (true, b"\"$@\" $* x", b"[x]"),
-    (true, b"${u-w}", b"[w]"),
-    (true, b"${u+w}", b""),
-    (true, b"${u:=w}$u", b"[ww]"),
-];
-
 /// Words, the answer to each substitution, and what they come to.
 const ANSWERS: [(&[u8], &[u8], &[u8]); 18] = [
     (b"\"[$(p)]\"", b"a\0b\n\n", b"[[ab]]"),
@@ -517,57 +281,17 @@ const ANSWERS: [(&[u8], &[u8], &[u8]); 18] = [
     (b"$x\"$(p)\"$x", b"c", b"[a][bca][b]"),
 ];
 
-fn give_fields(alloc: Global, case: &Case) -> Result<bool, VarsFault> {
-    let (ifs, operands, words, expected) = *case;
-    let mut vars = shell(alloc, ifs, operands)?;
-    let right = come_to(alloc, &mut vars, Context::Fields, words, b"", expected)?;
-    Ok(right)
-}
-
-fn gives_text(
-    alloc: Global,
-    context: Context,
-    word: &[u8],
-    expected: &[u8],
-) -> Result<bool, VarsFault> {
-    let mut vars = shell(alloc, Some(b":"), &[b"a b", b"", b"c"])?;
-    let right = come_to(alloc, &mut vars, context, word, b"", expected)?;
-    Ok(right)
-}
-
-fn give_fault(
-    alloc: Global,
-    no_unset: bool,
-    words: &[u8],
-    expected: &[u8],
-) -> Result<bool, VarsFault> {
-    let mut vars = shell(alloc, Some(b" \t\n"), &[])?;
-    let mut options = vars.options();
-    options.no_unset = no_unset;
-    vars.set_options(options);
-    vars.make_readonly(b"k")?;
-    let right = come_to(alloc, &mut vars, Context::Fields, words, b"", expected)?;
-    Ok(right)
-}
-
-fn take_answers(
-    alloc: Global,
-    words: &[u8],
-    answer: &[u8],
-    expected: &[u8],
-) -> Result<bool, VarsFault> {
-    let mut vars = shell(alloc, Some(b" \t\n"), &[])?;
-    let right = come_to(alloc, &mut vars, Context::Fields, words, answer, expected)?;
-    Ok(right)
-}
-
-fn first_wrong_fields(alloc: Global, cases: &[Case]) -> Result<Option<usize>, VarsFault> {
-    for (i, case) in cases.iter().enumerate() {
-        if !give_fields(alloc, case)? {
-            return Ok(Some(i));
-        }
+/// A command's words, under the usual separators.
+fn command<'a>(words: &'a [u8], expected: &'a [u8]) -> Case<'a> {
+    Case {
+        ifs: Some(b" \t\n"),
+        operands: b"",
+        no_unset: false,
+        context: Context::Fields,
+        words,
+        answer: b"",
+        expected,
     }
-    Ok(None)
 }
 
 /// The separators of an entry of [`cases`].
@@ -575,143 +299,175 @@ fn ifs_of(column: &[u8]) -> Option<&[u8]> {
     match column {
         b"none" => None,
         b"default" => Some(b" \t\n"),
+        b"-u" => Some(b" \t\n"),
         bytes => Some(bytes),
     }
 }
 
-/// The positional parameters of an entry.
-fn operands_of(alloc: Global, column: &[u8]) -> Result<Vec<&[u8]>, AllocError> {
-    let mut operands = Vec::new(alloc);
-    if column.is_empty() {
-        return Ok(operands);
-    }
-    for operand in column.split(|byte| *byte == b'&') {
-        operands.push(operand)?;
-    }
-    Ok(operands)
-}
-
-/// Whether the words of an entry come to its fields.
-fn is_right(alloc: Global, entry: &[u8]) -> Result<bool, VarsFault> {
+fn of_entry(entry: &[u8]) -> Case<'_> {
     let mut columns = entry.split(|byte| *byte == b'\t');
-    let ifs = ifs_of(columns.next().unwrap_or(b""));
-    let operands = operands_of(alloc, columns.next().unwrap_or(b""))?;
+    let separators = columns.next().unwrap_or(b"");
+    let operands = columns.next().unwrap_or(b"");
     let words = columns.next().unwrap_or(b"");
-    let expected = columns.next().unwrap_or(b"no fields");
-    let mut vars = shell(alloc, ifs, operands.as_slice())?;
-    let right = come_to(alloc, &mut vars, Context::Fields, words, b"", expected)?;
-    Ok(right)
+    let mut case = command(words, columns.next().unwrap_or(b"no fields"));
+    case.ifs = ifs_of(separators);
+    case.no_unset = separators == b"-u".as_slice();
+    case.operands = operands;
+    case
 }
 
-fn first_wrong_entry(alloc: Global, entries: &[u8]) -> Result<Option<usize>, VarsFault> {
+fn of_text(entry: &(Context, &'static [u8], &'static [u8])) -> Case<'static> {
+    let (context, word, expected) = *entry;
+    let mut case = command(word, expected);
+    case.ifs = Some(b":");
+    case.operands = b"a b&&c";
+    case.context = context;
+    case
+}
+
+fn of_answer(entry: &(&'static [u8], &'static [u8], &'static [u8])) -> Case<'static> {
+    let (words, answer, expected) = *entry;
+    let mut case = command(words, expected);
+    case.answer = answer;
+    case
+}
+
+/// The place of the first entry that isn't right.
+fn first_wrong(alloc: Global, entries: &[u8]) -> Option<usize> {
     for (i, entry) in entries.split(|byte| *byte == b'\n').enumerate() {
-        if !is_right(alloc, entry)? {
-            return Ok(Some(i));
+        if judged(alloc, &of_entry(entry)) != Outcome::Right {
+            return Some(i);
         }
     }
-    Ok(None)
+    None
 }
 
-fn first_wrong_text(rt: HostRuntime) -> Result<Option<usize>, VarsFault> {
-    for (i, (context, word, expected)) in TEXTS.iter().enumerate() {
-        if !gives_text(rt.alloc(), *context, word, expected)? {
-            return Ok(Some(i));
+fn first_wrong_text(alloc: Global) -> Option<usize> {
+    for (i, entry) in TEXTS.iter().enumerate() {
+        if judged(alloc, &of_text(entry)) != Outcome::Right {
+            return Some(i);
         }
     }
-    Ok(None)
+    None
 }
 
-fn first_wrong_fault(rt: HostRuntime) -> Result<Option<usize>, VarsFault> {
-    for (i, (no_unset, words, expected)) in FAULTS.iter().enumerate() {
-        if !give_fault(rt.alloc(), *no_unset, words, expected)? {
-            return Ok(Some(i));
+fn first_wrong_answer(alloc: Global) -> Option<usize> {
+    for (i, entry) in ANSWERS.iter().enumerate() {
+        if judged(alloc, &of_answer(entry)) != Outcome::Right {
+            return Some(i);
         }
     }
-    Ok(None)
-}
-
-fn first_wrong_answer(rt: HostRuntime) -> Result<Option<usize>, VarsFault> {
-    for (i, (words, answer, expected)) in ANSWERS.iter().enumerate() {
-        if !take_answers(rt.alloc(), words, answer, expected)? {
-            return Ok(Some(i));
-        }
-    }
-    Ok(None)
+    None
 }
 
 #[test]
 fn quotes_and_parameters(rt: HostRuntime) -> Result<(), Fail> {
-    assert_eq!(rt; first_wrong_fields(rt.alloc(), &PARAMETERS)?, None);
-    Ok(())
-}
-
-#[test]
-fn positional_parameters(rt: HostRuntime) -> Result<(), Fail> {
-    assert_eq!(rt; first_wrong_fields(rt.alloc(), &POSITIONAL)?, None);
+    assert_eq!(rt; first_wrong(rt.alloc(), cases::QUOTES), None);
+    assert_eq!(rt; first_wrong(rt.alloc(), cases::POSITIONAL), None);
+    assert_eq!(rt; first_wrong(rt.alloc(), cases::PARAMETERS), None);
     Ok(())
 }
 
 #[test]
 fn conditional_forms(rt: HostRuntime) -> Result<(), Fail> {
-    assert_eq!(rt; first_wrong_fields(rt.alloc(), &CONDITIONALS)?, None);
+    assert_eq!(rt; first_wrong(rt.alloc(), cases::DEFAULTS), None);
+    assert_eq!(rt; first_wrong(rt.alloc(), cases::CONDITIONALS), None);
     Ok(())
 }
 
 #[test]
 fn other_forms(rt: HostRuntime) -> Result<(), Fail> {
-    assert_eq!(rt; first_wrong_fields(rt.alloc(), &OTHERS)?, None);
+    assert_eq!(rt; first_wrong(rt.alloc(), cases::OTHERS), None);
+    assert_eq!(rt; first_wrong(rt.alloc(), cases::REMOVALS), None);
+    assert_eq!(rt; first_wrong(rt.alloc(), cases::SUMS), None);
     Ok(())
 }
 
 #[test]
-fn further_words(rt: HostRuntime) -> Result<(), Fail> {
-    assert_eq!(rt; first_wrong_entry(rt.alloc(), cases::SPLITTING)?, None);
-    assert_eq!(rt; first_wrong_entry(rt.alloc(), cases::PARAMETERS)?, None);
-    assert_eq!(rt; first_wrong_entry(rt.alloc(), cases::CONDITIONALS)?, None);
-    Ok(())
-}
-
-#[test]
-fn further_forms(rt: HostRuntime) -> Result<(), Fail> {
-    assert_eq!(rt; first_wrong_entry(rt.alloc(), cases::REMOVALS)?, None);
-    assert_eq!(rt; first_wrong_entry(rt.alloc(), cases::FILES)?, None);
-    assert_eq!(rt; first_wrong_entry(rt.alloc(), cases::SUMS)?, None);
-    Ok(())
-}
-
-#[test]
-fn texts(rt: HostRuntime) -> Result<(), Fail> {
-    assert_eq!(rt; first_wrong_text(rt)?, None);
+fn splitting_and_pathnames(rt: HostRuntime) -> Result<(), Fail> {
+    assert_eq!(rt; first_wrong(rt.alloc(), cases::SPLITTING), None);
+    assert_eq!(rt; first_wrong(rt.alloc(), cases::FILES), None);
     Ok(())
 }
 
 #[test]
 fn faults(rt: HostRuntime) -> Result<(), Fail> {
-    assert_eq!(rt; first_wrong_fault(rt)?, None);
+    assert_eq!(rt; first_wrong(rt.alloc(), cases::FAULTS), None);
+    assert_eq!(rt; first_wrong(rt.alloc(), cases::UNDER_U), None);
+    Ok(())
+}
+
+#[test]
+fn texts(rt: HostRuntime) -> Result<(), Fail> {
+    assert_eq!(rt; first_wrong_text(rt.alloc()), None);
     Ok(())
 }
 
 #[test]
 fn answers(rt: HostRuntime) -> Result<(), Fail> {
-    assert_eq!(rt; first_wrong_answer(rt)?, None);
+    assert_eq!(rt; first_wrong_answer(rt.alloc()), None);
+    Ok(())
+}
+
+/// What becomes of a case while a growth of memory may be refused, as a letter.
+fn letter(outcome: Outcome) -> &'static str {
+    match outcome {
+        Outcome::Right => "",
+        Outcome::Wrong => "w",
+        Outcome::Unready => "u",
+        Outcome::Refused => "r",
+    }
+}
+
+fn put_letters(rt: &HostRuntime, entries: &[u8]) -> io::Result<()> {
+    for entry in entries.split(|byte| *byte == b'\n') {
+        print!(rt; "{}", letter(judged(rt.alloc(), &of_entry(entry))))?;
+    }
+    Ok(())
+}
+
+fn put_other_letters(rt: &HostRuntime) -> io::Result<()> {
+    for entry in &TEXTS {
+        print!(rt; "{}", letter(judged(rt.alloc(), &of_text(entry))))?;
+    }
+    for entry in &ANSWERS {
+        print!(rt; "{}", letter(judged(rt.alloc(), &of_answer(entry))))?;
+    }
+    Ok(())
+}
+
+/// Whatever growth is refused, words come to what they come to with ample memory, or the call is refused. It writes a
+/// letter for each case that doesn't come to it.
+#[test]
+fn want_of_memory(rt: HostRuntime) -> Result<(), Fail> {
+    put_letters(&rt, cases::SPLITTING)?;
+    put_letters(&rt, cases::PARAMETERS)?;
+    put_letters(&rt, cases::CONDITIONALS)?;
+    put_letters(&rt, cases::REMOVALS)?;
+    put_letters(&rt, cases::FILES)?;
+    put_letters(&rt, cases::SUMS)?;
+    put_letters(&rt, cases::QUOTES)?;
+    put_letters(&rt, cases::POSITIONAL)?;
+    put_letters(&rt, cases::DEFAULTS)?;
+    put_letters(&rt, cases::OTHERS)?;
+    put_letters(&rt, cases::FAULTS)?;
+    put_letters(&rt, cases::UNDER_U)?;
+    put_other_letters(&rt)?;
+    println!(rt; ".")?;
     Ok(())
 }
 
 #[test]
 fn what_was_assigned_before_a_fault_stays(rt: HostRuntime) -> Result<(), Fail> {
     let alloc = rt.alloc();
-    let mut vars = shell(alloc, Some(b" \t\n"), &[])?;
-    let words = b"${v=1}$((w=2))${u?} ${z=3}";
-    assert!(rt;
-        come_to(
-            alloc,
-            &mut vars,
-            Context::Fields,
-            words,
-            b"",
-            b"u: parameter not set"
-        )?
-    );
+    let case = command(b"${v=1}$((w=2))${u?} ${z=3}", b"u: parameter not set");
+    let Ready {
+        words,
+        mut vars,
+        files,
+    } = prepare(alloc, &case)?;
+    let step = expanded(alloc, words, &mut vars, &files, b"")?;
+    assert!(rt; is_shown_as(alloc, &step, case.expected)?);
     assert!(rt; has(&vars, b"v", b"1"));
     assert!(rt; has(&vars, b"w", b"2"));
     assert!(rt; !has(&vars, b"z", b"3"));
@@ -721,26 +477,23 @@ fn what_was_assigned_before_a_fault_stays(rt: HostRuntime) -> Result<(), Fail> {
 #[test]
 fn no_pathnames_under_an_option(rt: HostRuntime) -> Result<(), Fail> {
     let alloc = rt.alloc();
-    let mut vars = shell(alloc, Some(b" \t\n"), &[])?;
+    let case = command(b"*.c $s $-", b"[*.c][*.c][f]");
+    let Ready {
+        words,
+        mut vars,
+        files,
+    } = prepare(alloc, &case)?;
     let mut options = vars.options();
     options.no_glob = true;
     vars.set_options(options);
-    assert!(rt;
-        come_to(
-            alloc,
-            &mut vars,
-            Context::Fields,
-            b"*.c $s $-",
-            b"",
-            b"[*.c][*.c][f]"
-        )?
-    );
+    let step = expanded(alloc, words, &mut vars, &files, b"")?;
+    assert!(rt; is_shown_as(alloc, &step, case.expected)?);
     Ok(())
 }
 
 /// A word as a pattern, a literal byte behind a `\\`.
 fn pattern(alloc: Global, word: &[u8]) -> Result<Vec<u8>, VarsFault> {
-    let mut vars = shell(alloc, Some(b":"), &[])?;
+    let mut vars = shell(alloc, Some(b":"), b"")?;
     let Ok(files) = Files::from_image(alloc, IMAGE) else {
         return Err(VarsFault::NoMemory);
     };

@@ -8,8 +8,6 @@ mod laws;
 mod pathnames;
 mod separators;
 mod splitting;
-#[cfg(test)]
-mod tests;
 mod text;
 
 pub use item::Item;

@@ -1,0 +1,159 @@
+#!/usr/bin/env python3
+"""Refuses each growth of memory in turn where words are expanded.
+
+In the built program: scripts on the image of the stock programs. A run that a refusal changes must end with 3, the line
+`psh: out of memory` on standard error and, as output, the terminal's bytes after some of the events.
+
+In the test `want_of_memory` of sh_expand, which writes a letter for each case that doesn't come to what it comes to with
+ample memory: `r` for a call that was refused, `u` where memory was wanting beside it; any other is bad.
+
+Needs a C compiler. Build first: ./psh --help, and rt test in crates/sh_expand. The words `program` and `expand` choose one
+of the two.
+"""
+import os
+import subprocess
+import sys
+import tempfile
+
+from refuse_growth import SHIM
+
+TOP = os.path.dirname(os.path.dirname(os.path.abspath(__file__)))
+PROGRAMS = ["cat", "count", "echo", "false", "having", "head", "readstop", "spin", "true", "yes"]
+WANTING = b"psh: out of memory\n"
+
+SOURCES = ["/src/", "/src/.hidden.c", "/src/list.c", "/src/list.h", "/src/main.c", "/src/read me"]
+
+# A script, directories and empty files, words behind the events, turns, and the terminal.
+ROWS = [
+    ("echo a  \"b  c\" 'd'\\ e", [], [], 1000, "a b  c d e\n"),
+    ("echo $((9223372036854775807+1))", [], [], 1000, "-9223372036854775808\n"),
+    ("echo ok\nfi", [], [], 1000, "ok\npsh: syntax error\n"),
+    ("echo *.c *.d", ["/a.c", "/b.c", "/.c"], [], 1000, "a.c b.c *.d\n"),
+    ("echo a", [], [], 2, ""),
+    ("echo a", [], [], 3, "a\n"),
+    ("echo a", [], [], 4, "a\n"),
+    ("echo a", [], [], 5, "a\n"),
+    ("echo $((1/0)); echo no", [], [], 1000, "psh: arithmetic: division by zero\n"),
+    ("x=a.b.c; echo ${x%.*} ${x%%.*} ${x#*.} ${x##*.}", [], [], 1000, "a.b a b.c c\n"),
+    ("echo $# \"$@\"", [], ["z", "a b", "c"], 1000, "2 a b c\n"),
+    ("p=a:b::c; IFS=:; echo $p; echo \"$p\"", [], [], 1000, "a b  c\na:b::c\n"),
+    ("echo src/*.[ch] src/*.o; f=src/r*; echo $f \"$f\"", SOURCES, [], 1000, "src/list.c src/list.h src/main.c src/*.o\nsrc/read me src/r*\n"),
+    ("f=$1; echo ${f##*/} ${f%.c}.o; echo $((2*${#f}))", [], ["psh", "/src/main.c"], 1000, "main.c /src/main.o\n22\n"),
+    ("x=${y=a}$((z=2)); echo ~ ${x:-no} \"${y:+$z}\" ${none?gone}", [], [], 1000, "psh: none: gone\n"),
+]
+
+
+# An image, events, and the line by which they are refused.
+REFUSED = [
+    ("psh image 1\ndir /d\ndir /e\nfile /f rw- 10\nabc", "next 1\n", b"psh: Truncated: line 4\n"),
+    ("psh image 1\nend\n", "next 1\nrun x\n", b"psh: BadEvent: line 2\n"),
+]
+
+
+def image_of(files):
+    """The standard image, with directories and empty files behind it."""
+    lines = ["psh image 1", "dir /bin"]
+    for program in PROGRAMS:
+        content = "#!stock %s\n" % program
+        lines += ["file /bin/%s r-x %d" % (program, len(content)), content]
+    lines += ["dir /tmp"]
+    for path in files:
+        lines += ["dir " + path[:-1]] if path.endswith("/") else ["file %s rw- 0" % path, ""]
+    return "\n".join(lines + ["end", ""])
+
+
+def run(words, shim=None, refused=0):
+    env = {"LD_PRELOAD": shim, "REFUSE": str(refused)} if refused else {}
+    done = subprocess.run(words, capture_output=True, env=env, timeout=60)
+    return done.returncode, done.stdout, done.stderr
+
+
+def refuse_all(name, words, shim, judge):
+    """Refuses the 1st, 2nd .. growth until 100 in a row change nothing; the number of refusals, and of bad ones."""
+    whole = run(words)
+    refusals = bad = quiet = n = 0
+    while quiet < 100:
+        n += 1
+        got = run(words, shim, n)
+        quiet = quiet + 1 if got == whole else 0
+        if got == whole:
+            continue
+        refusals += 1
+        if not judge(got):
+            bad += 1
+            print("growth %d of %s: %r" % (n, name, got))
+    return refusals, bad
+
+
+def refuse_in_program(folder, shim):
+    program = os.path.join(TOP, "crates", "psh", "out", "psh")
+    image, events = os.path.join(folder, "image"), os.path.join(folder, "events")
+
+    def turns(count):
+        with open(events, "w") as file:
+            file.write("next %d\n" % count if count else "")
+
+    total = bad = 0
+    for text, files, words, count, terminal in ROWS:
+        with open(image, "w") as file:
+            file.write(image_of(files))
+        line = [program, "-c", text, image, events] + words
+        fronts = []
+        for k in range(min(count, 30) + 1):
+            turns(k)
+            fronts.append(run(line)[1])
+        turns(count)
+        ample = run(line)
+        if ample != (0, terminal.encode(), b"") or fronts[-1] != ample[1]:
+            bad += 1
+            print("%r with ample memory: %r" % (text, ample))
+        refusals, wrong = refuse_all(repr(text), line, shim, lambda got: got[0] == 3 and got[1] in fronts and got[2] == WANTING)
+        print("%r, %d turns: %d refusals" % (text, count, refusals))
+        total, bad = total + refusals, bad + wrong
+    for held, lines, told in REFUSED:
+        with open(image, "w") as file:
+            file.write(held)
+        with open(events, "w") as file:
+            file.write(lines)
+        line = [program, "-c", "echo a", image, events]
+        if run(line) != (1, b"", told):
+            bad += 1
+            print("%r with ample memory: %r" % (told, run(line)))
+        refusals, wrong = refuse_all(repr(told), line, shim, lambda got: got == (3, b"", WANTING))
+        print("%r: %d refusals" % (told, refusals))
+        total, bad = total + refusals, bad + wrong
+    print("program: %d refusals, %d bad" % (total, bad))
+    return bad
+
+
+def refuse_in_test(crate, name, shim):
+    program = os.path.join(TOP, "crates", crate, "out", crate + "_tests")
+    counts = {"r": 0, "u": 0}
+
+    def judge(got):
+        letters = got[1].decode().split("\n")[0].rstrip(".")
+        if got[0] == 0 and letters in counts:
+            counts[letters] += 1
+            return True
+        return False
+
+    refusals, bad = refuse_all(crate, [program, name], shim, judge)
+    print("%s: %d refusals, %d of them in its calls, %d bad" % (crate, refusals, counts["r"], bad))
+    return bad
+
+
+def main():
+    chosen = sys.argv[1:] or ["program", "expand"]
+    bad = 0
+    with tempfile.TemporaryDirectory() as folder:
+        shim = os.path.join(folder, "shim.so")
+        subprocess.run(["cc", "-shared", "-fPIC", "-x", "c", "-", "-o", shim], input=SHIM.encode(), check=True)
+        if "program" in chosen:
+            bad += refuse_in_program(folder, shim)
+        if "expand" in chosen:
+            bad += refuse_in_test("sh_expand", "tests::want_of_memory", shim)
+    return 1 if bad else 0
+
+
+if __name__ == "__main__":
+    sys.exit(main())
