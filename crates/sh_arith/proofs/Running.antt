@@ -7,7 +7,7 @@ use Rattle.sh_arith.specs.Expression.{Expression, Zero, Number, Name, Prefix, Bi
 use Rattle.sh_arith.specs.Outcome.{Outcome, Gives, Stops, and_then}
 use Rattle.sh_arith_base.specs.Operators.{is_zero, truth, turned}
 use Rattle.sh_arith.specs.Value.{value, stored, worked, decides, before}
-use Rattle.sh_arith.specs.Steps.{Step, PushOp, DoPrefix, DoBinary, Test, Decide, Question, Colon, Join, Store, Stacks, Machine, Runs, Skips, Halts, outcome_on, take_name, do_prefix, do_binary, test, decide, question, open_assign, store, push, code, run, perform}
+use Rattle.sh_arith.specs.Steps.{Step, PushOp, DoPrefix, DoBinary, Test, Decide, Question, Colon, Join, Store, Stacks, Machine, Runs, Skips, Halts, outcome_on, take_name, do_prefix, do_binary, test_left, decide, question, open_assign, store, push, code, run, perform}
 
 pub run-append : (text : List ℕ) → (a b : List Step) (m : Machine) → run text (a ++ b) m ≡ run text b (run text a m)
 run-append text [] b m = refl
@@ -43,17 +43,17 @@ skipped text (Choice c x y) n s env =
 skipped text (Assign op t x) n s env = run-between text (code x) Store [] (Skips n s env) ∙ ap (perform text Store) (skipped text x n s env)
 
 prefix_end : (text : List ℕ) → (op : Operator) (s : Stacks) (o : Outcome) → perform text DoPrefix (outcome_on (record { values = s.values; ops = op ∷ s.ops; names = s.names }) o) ≡ outcome_on s (and_then o (λ v. Gives (turned op v)))
-unfolding take_name do_prefix do_binary test decide question open_assign store
+unfolding take_name do_prefix do_binary test_left decide question open_assign store
 prefix_end text op s (Gives v e) = refl
 prefix_end text op s (Stops f e) = refl
 
 binary_end : (text : List ℕ) → (op : Operator) (v : ℤ) (s : Stacks) (o : Outcome) → perform text DoBinary (outcome_on (record { values = v ∷ s.values; ops = op ∷ s.ops; names = s.names }) o) ≡ outcome_on s (and_then o (worked op v))
-unfolding take_name do_prefix do_binary test decide question open_assign store
+unfolding take_name do_prefix do_binary test_left decide question open_assign store
 binary_end text op v s (Gives w e) = refl
 binary_end text op v s (Stops f e) = refl
 
 decide_end : (text : List ℕ) → (s : Stacks) (o : Outcome) → perform text Decide (outcome_on s o) ≡ outcome_on s (and_then o (λ w. Gives (truth (not (is_zero w)))))
-unfolding take_name do_prefix do_binary test decide question open_assign store
+unfolding take_name do_prefix do_binary test_left decide question open_assign store
 decide_end text s (Gives w e) = refl
 decide_end text s (Stops f e) = refl
 
@@ -62,7 +62,7 @@ join_end text s (Gives w e) = refl
 join_end text s (Stops f e) = refl
 
 store_end : (text : List ℕ) → (op : Operator) (t : ℕ) (v : ℤ) (s : Stacks) (o : Outcome) → perform text Store (outcome_on (record { values = v ∷ s.values; ops = op ∷ s.ops; names = t ∷ s.names }) o) ≡ outcome_on s (and_then o (λ w f. and_then (worked op v w f) (stored text t)))
-unfolding take_name do_prefix do_binary test decide question open_assign store
+unfolding take_name do_prefix do_binary test_left decide question open_assign store
 store_end text op t v s (Gives w e) = refl
 store_end text op t v s (Stops f e) = refl
 
@@ -79,12 +79,12 @@ binary_rest text op y g s (Gives v e) h =
     ∙ binary_end text op v s (g e))
 
 logic_taken : (text : List ℕ) → (b : Bool) (v : ℤ) (y : List Step) (g : Environment → Outcome) (s : Stacks) (e : Environment) → Means text y g → run text (y ++ Decide ∷ []) (if b then Skips 0 (push s (truth (not (is_zero v)))) e else Runs s e) ≡ outcome_on s (if b then Gives (truth (not (is_zero v))) e else and_then (g e) (λ w. Gives (truth (not (is_zero w)))))
-unfolding take_name do_prefix do_binary test decide question open_assign store
+unfolding take_name do_prefix do_binary test_left decide question open_assign store
 logic_taken text true v y g s e h = run-between text y Decide [] (Skips 0 (push s (truth (not (is_zero v)))) e) ∙ ap (perform text Decide) (h.skips 0 (push s (truth (not (is_zero v)))) e)
 logic_taken text false v y g s e h = run-between text y Decide [] (Runs s e) ∙ (ap (perform text Decide) (h.runs s e) ∙ decide_end text s (g e))
 
 logic_rest : (text : List ℕ) → (op : Operator) (y : List Step) (g : Environment → Outcome) (s : Stacks) (o : Outcome) → Means text y g → run text (y ++ Decide ∷ []) (perform text (Test op) (outcome_on s o)) ≡ outcome_on s (and_then o (λ v e. if decides op v then Gives (truth (not (is_zero v))) e else and_then (g e) (λ w. Gives (truth (not (is_zero w))))))
-unfolding take_name do_prefix do_binary test decide question open_assign store
+unfolding take_name do_prefix do_binary test_left decide question open_assign store
 logic_rest text op y g s (Stops f e) h = halts text (y ++ Decide ∷ []) f e
 logic_rest text op y g s (Gives v e) h = logic_taken text (decides op v) v y g s e h
 
@@ -102,12 +102,12 @@ choice_taken text false x y f g s e hx hy =
     ∙ (ap (λ m. run text (y ++ Join ∷ []) (perform text Colon m)) (hx.runs s e) ∙ colon_rest text y g s (f e) hy)
 
 choice_rest : (text : List ℕ) → (x y : List Step) (f g : Environment → Outcome) (s : Stacks) (o : Outcome) → Means text x f → Means text y g → run text (x ++ Colon ∷ (y ++ Join ∷ [])) (perform text Question (outcome_on s o)) ≡ outcome_on s (and_then o (λ v e. if is_zero v then g e else f e))
-unfolding take_name do_prefix do_binary test decide question open_assign store
+unfolding take_name do_prefix do_binary test_left decide question open_assign store
 choice_rest text x y f g s (Stops fault e) hx hy = halts text (x ++ Colon ∷ (y ++ Join ∷ [])) fault e
 choice_rest text x y f g s (Gives v e) hx hy = choice_taken text (is_zero v) x y f g s e hx hy
 
 assign_rest : (text : List ℕ) → (op : Operator) (t : ℕ) (x : List Step) (g : Environment → Outcome) (s : Stacks) (o : Outcome) → Means text x g → run text (x ++ Store ∷ []) (outcome_on (record { values = s.values; ops = op ∷ s.ops; names = t ∷ s.names }) o) ≡ outcome_on s (and_then o (λ v e. and_then (g e) (λ w f. and_then (worked op v w f) (stored text t))))
-unfolding take_name do_prefix do_binary test decide question open_assign store
+unfolding take_name do_prefix do_binary test_left decide question open_assign store
 assign_rest text op t x g s (Stops f e) h = halts text (x ++ Store ∷ []) f e
 assign_rest text op t x g s (Gives v e) h =
     run-between text x Store [] (Runs (record { values = v ∷ s.values; ops = op ∷ s.ops; names = t ∷ s.names }) e)
@@ -118,7 +118,7 @@ means : (text : List ℕ) → (e : Expression) → ((s : Stacks) (env : Environm
 means text e h = record { runs = h; skips = skipped text e }
 
 pub ran : (text : List ℕ) → (e : Expression) (s : Stacks) (env : Environment) → run text (code e) (Runs s env) ≡ outcome_on s (value text e env)
-unfolding take_name do_prefix do_binary test decide question open_assign store
+unfolding take_name do_prefix do_binary test_left decide question open_assign store
 ran text Zero s env = refl
 ran text (Number t) s env = refl
 ran text (Name t) s env = refl

@@ -64,8 +64,8 @@ do_prefix s env = Runs (record { values = turned (top operator.Assign s.ops) (to
 unfoldable pub do_binary : Stacks → Environment → Machine
 do_binary s env = outcome_on (record { values = rest (rest s.values); ops = rest s.ops; names = s.names }) (worked (top operator.Assign s.ops) (top (pos 0) (rest s.values)) (top (pos 0) s.values) env)
 
-unfoldable pub test : Operator → Stacks → Environment → Machine
-test op s env =
+unfoldable pub test_left : Operator → Stacks → Environment → Machine
+test_left op s env =
     if decides op (top (pos 0) s.values) then Skips 0 (record { values = truth (not (is_zero (top (pos 0) s.values))) ∷ rest s.values; ops = s.ops; names = s.names }) env
     else Runs (record { values = rest s.values; ops = s.ops; names = s.names }) env
 
@@ -93,7 +93,7 @@ live text TakeName s env = take_name text s env
 live text (PushOp op) s env = Runs (record { values = s.values; ops = op ∷ s.ops; names = s.names }) env
 live text DoPrefix s env = do_prefix s env
 live text DoBinary s env = do_binary s env
-live text (Test op) s env = test op s env
+live text (Test op) s env = test_left op s env
 live text Decide s env = decide s env
 live text Question s env = question s env
 live text Colon s env = Skips 0 s env

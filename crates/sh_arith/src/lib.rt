@@ -14,13 +14,9 @@ ghost use Rattle.sh_arith.specs.Expression.{Expression};
 ghost use Rattle.sh_arith.specs.Outcome.{Gives, Stops};
 ghost use Rattle.sh_arith.specs.Value.{value};
 
-#[cfg(test)]
-mod expressions;
 mod faults;
 mod machine;
 mod read;
-#[cfg(test)]
-mod tests;
 mod values;
 
 pub use faults::ArithFault;

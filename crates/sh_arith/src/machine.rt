@@ -9,7 +9,7 @@ ghost use Rattle.sh_arith.specs.Outcome.{Gives, Stops};
 ghost use Rattle.sh_arith.specs.Reading.{expand_steps, said, shift_steps, step_of, steps};
 ghost use Rattle.sh_arith_base.specs.Roles.{kind_of, operator_of, role_of};
 ghost use Rattle.sh_arith.specs.State.{depth, state, stacks_of, state_of, Halting};
-ghost use Rattle.sh_arith.specs.Steps.{Stacks, Runs, Skips, decide, do_binary, do_prefix, leave, open_assign, question, run, store, take_name, test};
+ghost use Rattle.sh_arith.specs.Steps.{Stacks, Runs, Skips, decide, do_binary, do_prefix, leave, open_assign, question, run, store, take_name, test_left};
 ghost use Rattle.sh_arith_base.specs.Stack.{rest, top};
 ghost use Rattle.sh_arith.specs.Value.{value};
 
@@ -85,10 +85,10 @@ fn run_binary(machine: &mut Machine) -> Result<(), ArithFault>
     push_value(&mut machine.values, r)
 }
 
-#[tactic(auto, unfolding(crate::specs::Steps::test))]
+#[tactic(auto, unfolding(crate::specs::Steps::test_left))]
 fn run_test(machine: &mut Machine, op: Operator) -> Result<(), ArithFault>
     requires { machine.old.skip ≡ None }
-    ensures ok { OnOk result ((env : Environment) → state_of machine.new env ≡ test op (stacks_of machine.old) env) }
+    ensures ok { OnOk result ((env : Environment) → state_of machine.new env ≡ test_left op (stacks_of machine.old) env) }
     ensures fault { IfErr result (λ f. f ≡ ArithFault.NoMemory) }
     ensures depth { depth machine.new.skip ≤ 1 }
 {

@@ -14,6 +14,3 @@ pub use laws::{matching_is_decided, parts_are_decided};
 pub use mark::Mark;
 pub use part::{longest_back, longest_front, shortest_back, shortest_front};
 pub use search::matches;
-
-#[cfg(test)]
-mod tests;

@@ -8,9 +8,6 @@ use std::alloc::{AllocError, Global};
 use std::marker::Model;
 use thiserror::Error;
 
-#[cfg(test)]
-mod tests;
-
 /// Why a call on a pipe did nothing. The pipe is as it was.
 #[derive(Clone, Copy, Debug, PartialEq, Eq, Error)]
 pub enum PipeFault {

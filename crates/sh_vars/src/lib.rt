@@ -13,8 +13,6 @@ mod faults;
 mod names;
 mod shell_options;
 mod table;
-#[cfg(test)]
-mod tests;
 mod texts;
 
 pub use entries::Entry;

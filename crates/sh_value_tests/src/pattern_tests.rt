@@ -1,5 +1,5 @@
 //! Cases worked out from the standard (XCU 2.14, XBD 9.3.5), each also asked of a shell, and the parts that answer.
-use crate::{Mark, longest_back, longest_front, matches, shortest_back, shortest_front};
+use sh_pattern::{Mark, longest_back, longest_front, matches, shortest_back, shortest_front};
 use std::alloc::{AllocError, Global};
 use std::test::Fail;
 

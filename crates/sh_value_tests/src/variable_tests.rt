@@ -1,6 +1,6 @@
 // Values from the standard, and from what dash and bash answer.
 
-use crate::{Entry, Options, ShellOption, Text, Vars, VarsFault, is_name};
+use sh_vars::{Entry, Options, ShellOption, Text, Vars, VarsFault, is_name};
 use std::process::Abort;
 use std::test::Fail;
 

@@ -1,9 +1,10 @@
 //! What no clause says: that the definitions mean what the standard means, and the texts of faults.
 use crate::expressions::{ASSIGNMENTS, CHOICES, NUMBERS, PAIRS_1, PAIRS_2, PAIRS_3, PREFIXES};
-use crate::{ArithFault, evaluate, says_one_expression};
+use sh_arith::{ArithFault, evaluate, says_one_expression};
 use sh_arith_base::levels_are_nested;
-use sh_vars::{Options, Vars};
+use sh_vars::{Options, Vars, VarsFault};
 use std::alloc::{AllocError, Global};
+use std::process::Abort;
 use std::test::Fail;
 
 /// Texts without a value, in the form of [`crate::expressions`]: what is wrong, and where.
@@ -63,18 +64,31 @@ fn answer(alloc: Global, text: &[u8], vars: &mut Vars) -> Result<String, AllocEr
     }
 }
 
-/// Whether an entry is answered as it says.
-fn is_right(alloc: Global, entry: &[u8]) -> Result<bool, Fail> {
-    let mut vars = Vars::new(alloc)?;
-    vars.set(b"n", b"7")?;
-    vars.set(b"m", b"5")?;
-    vars.set(b"e", b"")?;
+/// Gives variables their values.
+fn set_all(vars: &mut Vars, values: &[(&[u8], &[u8])]) -> Result<(), VarsFault> {
+    for (name, value) in values {
+        vars.set(name, value)?;
+    }
+    Ok(())
+}
+
+/// Whether an entry is answered as it says, with these variables.
+fn is_answered(alloc: Global, vars: &mut Vars, entry: &[u8]) -> Result<bool, Fail> {
+    set_all(vars, &[(b"n", b"7"), (b"m", b"5"), (b"e", b"")])?;
     let mut fields = entry.split(|byte| *byte == b'#');
     let text = fields.next().unwrap_or(b"");
     let wanted = fields.next().unwrap_or(b"");
     let n = fields.next().unwrap_or(b"7");
-    let answer = answer(alloc, text, &mut vars)?;
+    let answer = answer(alloc, text, vars)?;
     Ok(answer.as_bytes() == wanted && vars.get(b"n") == Some(n))
+}
+
+/// Whether an entry is answered as it says.
+fn is_right(alloc: Global, entry: &[u8]) -> Result<bool, Fail> {
+    let mut vars = Vars::new(alloc)?;
+    let right = is_answered(alloc, &mut vars, entry);
+    drop(vars);
+    right
 }
 
 /// How many entries there are, and how many of them aren't answered as they say.
@@ -128,92 +142,143 @@ fn faults(rt: HostRuntime) -> Result<(), Fail> {
     Ok(())
 }
 
-#[test]
-fn a_blank_text_is_zero(rt: HostRuntime) -> Result<(), Fail> {
-    let mut vars = Vars::new(rt.alloc())?;
-    assert_eq!(rt; evaluate(rt.alloc(), b"", &mut vars)?, 0);
-    assert_eq!(rt; evaluate(rt.alloc(), b" \t\n", &mut vars)?, 0);
-    assert_eq!(rt; evaluate(rt.alloc(), b"\n1\n+\n2\n", &mut vars)?, 3);
+/// A text, and what its evaluation answers.
+type Row = (&'static [u8], Result<i64, ArithFault>);
+
+/// Texts that are evaluated one after another with the same variables are answered so.
+fn answer_so(rt: &impl Abort, alloc: Global, vars: &mut Vars, rows: &[Row]) -> Result<(), Fail> {
+    for (text, wanted) in rows {
+        let found = evaluate(alloc, text, vars);
+        assert_eq!(rt; (*text, found), (*text, *wanted));
+    }
     Ok(())
 }
 
+const BLANKS: [Row; 3] = [(b"", Ok(0)), (b" \t\n", Ok(0)), (b"\n1\n+\n2\n", Ok(3))];
+
+#[test]
+fn a_blank_text_is_zero(rt: HostRuntime) -> Result<(), Fail> {
+    let mut vars = Vars::new(rt.alloc())?;
+    let answered = answer_so(&rt, rt.alloc(), &mut vars, &BLANKS);
+    drop(vars);
+    answered
+}
+
 /// Where C leaves the result open.
+const WHOLE: [Row; 5] = [
+    (b"(-9223372036854775807-1)/-1", Ok(i64::MIN)),
+    (b"(-9223372036854775807-1)%-1", Ok(0)),
+    (b"1<<64", Ok(1)),
+    (b"1<<-1", Ok(i64::MIN)),
+    (b"8>>65", Ok(4)),
+];
+
 #[test]
 fn whole_numbers_of_64_bits(rt: HostRuntime) -> Result<(), Fail> {
     let mut vars = Vars::new(rt.alloc())?;
-    let least = b"(-9223372036854775807-1)/-1";
-    assert_eq!(rt; evaluate(rt.alloc(), least, &mut vars)?, i64::MIN);
-    let rest = b"(-9223372036854775807-1)%-1";
-    assert_eq!(rt; evaluate(rt.alloc(), rest, &mut vars)?, 0);
-    assert_eq!(rt; evaluate(rt.alloc(), b"1<<64", &mut vars)?, 1);
-    assert_eq!(rt; evaluate(rt.alloc(), b"1<<-1", &mut vars)?, i64::MIN);
-    assert_eq!(rt; evaluate(rt.alloc(), b"8>>65", &mut vars)?, 4);
-    Ok(())
+    let answered = answer_so(&rt, rt.alloc(), &mut vars, &WHOLE);
+    drop(vars);
+    answered
+}
+
+const LEFT_FIRST: [Row; 2] = [(b"a+=a+=1", Ok(3)), (b"x-- 1", Ok(6))];
+
+fn takes_the_left_first(rt: &impl Abort, alloc: Global, vars: &mut Vars) -> Result<(), Fail> {
+    set_all(vars, &[(b"a", b"1"), (b"x", b"5")])?;
+    answer_so(rt, alloc, vars, &LEFT_FIRST)
 }
 
 #[test]
 fn the_left_side_is_taken_first(rt: HostRuntime) -> Result<(), Fail> {
     let mut vars = Vars::new(rt.alloc())?;
-    vars.set(b"a", b"1")?;
-    assert_eq!(rt; evaluate(rt.alloc(), b"a+=a+=1", &mut vars)?, 3);
-    vars.set(b"x", b"5")?;
-    assert_eq!(rt; evaluate(rt.alloc(), b"x-- 1", &mut vars)?, 6);
+    let answered = takes_the_left_first(&rt, rt.alloc(), &mut vars);
+    drop(vars);
+    answered
+}
+
+const SKIPPED: [Row; 2] = [(b"0 && (x=1)", Ok(0)), (b"0&&9223372036854775808", Ok(0))];
+
+fn skips(rt: &impl Abort, alloc: Global, vars: &mut Vars) -> Result<(), Fail> {
+    answer_so(rt, alloc, vars, &SKIPPED)?;
+    assert!(rt; vars.get(b"x").is_none());
     Ok(())
 }
 
 #[test]
 fn a_skipped_assignment_is_not_done(rt: HostRuntime) -> Result<(), Fail> {
     let mut vars = Vars::new(rt.alloc())?;
-    assert_eq!(rt; evaluate(rt.alloc(), b"0 && (x=1)", &mut vars)?, 0);
-    assert!(rt; vars.get(b"x").is_none());
-    assert_eq!(rt;
-        evaluate(rt.alloc(), b"0&&9223372036854775808", &mut vars)?,
-        0
-    );
+    let answered = skips(&rt, rt.alloc(), &mut vars);
+    drop(vars);
+    answered
+}
+
+fn takes_values(rt: &impl Abort, alloc: Global, vars: &mut Vars) -> Result<(), Fail> {
+    for (value, wanted) in VALUES.iter() {
+        vars.set(b"x", value)?;
+        let found = evaluate(alloc, b"x", vars);
+        assert_eq!(rt; found, Ok(*wanted));
+    }
+    for value in NO_NUMBERS.iter() {
+        vars.set(b"x", value)?;
+        let found = evaluate(alloc, b"x", vars);
+        assert_eq!(rt; found, Err(ArithFault::NotANumber));
+    }
     Ok(())
 }
 
 #[test]
 fn values_of_variables(rt: HostRuntime) -> Result<(), Fail> {
     let mut vars = Vars::new(rt.alloc())?;
-    for (value, wanted) in VALUES.iter() {
-        vars.set(b"x", value)?;
-        assert_eq!(rt; evaluate(rt.alloc(), b"x", &mut vars)?, *wanted);
-    }
-    for value in NO_NUMBERS.iter() {
-        vars.set(b"x", value)?;
-        let answer = evaluate(rt.alloc(), b"x", &mut vars);
-        assert!(rt; answer == Err(ArithFault::NotANumber));
-    }
+    let answered = takes_values(&rt, rt.alloc(), &mut vars);
+    drop(vars);
+    answered
+}
+
+const READ_ONLY: [Row; 3] = [
+    (b"1+(x=2)", Err(ArithFault::ReadOnly { at: 3 })),
+    (b"y=x=2", Err(ArithFault::ReadOnly { at: 2 })),
+    (b"1||(x=2)", Ok(1)),
+];
+
+fn keeps_what_is_read_only(rt: &impl Abort, alloc: Global, vars: &mut Vars) -> Result<(), Fail> {
+    vars.set(b"x", b"1")?;
+    vars.make_readonly(b"x")?;
+    answer_so(rt, alloc, vars, &READ_ONLY)?;
+    assert!(rt; vars.get(b"x") == Some(b"1".as_slice()));
+    assert!(rt; vars.get(b"y").is_none());
     Ok(())
 }
 
 #[test]
 fn read_only_variables(rt: HostRuntime) -> Result<(), Fail> {
     let mut vars = Vars::new(rt.alloc())?;
-    vars.set(b"x", b"1")?;
-    vars.make_readonly(b"x")?;
-    assert!(rt; evaluate(rt.alloc(), b"1+(x=2)", &mut vars) == Err(ArithFault::ReadOnly { at: 3 }));
-    assert!(rt; evaluate(rt.alloc(), b"y=x=2", &mut vars) == Err(ArithFault::ReadOnly { at: 2 }));
-    assert!(rt; vars.get(b"x") == Some(b"1".as_slice()));
-    assert!(rt; vars.get(b"y").is_none());
-    assert_eq!(rt; evaluate(rt.alloc(), b"1||(x=2)", &mut vars)?, 1);
-    Ok(())
+    let answered = keeps_what_is_read_only(&rt, rt.alloc(), &mut vars);
+    drop(vars);
+    answered
+}
+
+const UNSET: [Row; 4] = [
+    (b"1+x", Err(ArithFault::Unset { at: 2 })),
+    (b"x+=1", Err(ArithFault::Unset { at: 0 })),
+    (b"0 && x", Ok(0)),
+    (b"x=4", Ok(4)),
+];
+
+fn refuses_unset(rt: &impl Abort, alloc: Global, vars: &mut Vars) -> Result<(), Fail> {
+    answer_so(rt, alloc, vars, &[(b"1+x", Ok(1))])?;
+    vars.set_options(Options {
+        no_unset: true,
+        ..Options::default()
+    });
+    answer_so(rt, alloc, vars, &UNSET)
 }
 
 #[test]
 fn unset_variables(rt: HostRuntime) -> Result<(), Fail> {
     let mut vars = Vars::new(rt.alloc())?;
-    assert_eq!(rt; evaluate(rt.alloc(), b"1+x", &mut vars)?, 1);
-    vars.set_options(Options {
-        no_unset: true,
-        ..Options::default()
-    });
-    assert!(rt; evaluate(rt.alloc(), b"1+x", &mut vars) == Err(ArithFault::Unset { at: 2 }));
-    assert!(rt; evaluate(rt.alloc(), b"x+=1", &mut vars) == Err(ArithFault::Unset { at: 0 }));
-    assert_eq!(rt; evaluate(rt.alloc(), b"0 && x", &mut vars)?, 0);
-    assert_eq!(rt; evaluate(rt.alloc(), b"x=4", &mut vars)?, 4);
-    Ok(())
+    let answered = refuses_unset(&rt, rt.alloc(), &mut vars);
+    drop(vars);
+    answered
 }
 
 /// A text of three parts, the first and the last repeated.
@@ -246,17 +311,23 @@ const NESTED: [(&[u8], &[u8], &[u8], i64); 7] = [
     (b" ( ", b"4", b" ) ", 4),
 ];
 
-#[test]
-fn levels(rt: HostRuntime) -> Result<(), Fail> {
-    let mut vars = Vars::new(rt.alloc())?;
+fn counts_levels(rt: &impl Abort, alloc: Global, vars: &mut Vars) -> Result<(), Fail> {
     for (before, inside, behind, wanted) in NESTED.iter() {
-        let text = nested(rt.alloc(), before, 500, inside, behind)?;
-        assert_eq!(rt; evaluate(rt.alloc(), &text, &mut vars)?, *wanted);
-        let text = nested(rt.alloc(), before, 501, inside, behind)?;
-        assert!(rt; evaluate(rt.alloc(), &text, &mut vars) == Err(ArithFault::TooDeep));
+        let text = nested(alloc, before, 500, inside, behind)?;
+        assert_eq!(rt; evaluate(alloc, &text, vars), Ok(*wanted));
+        let text = nested(alloc, before, 501, inside, behind)?;
+        assert_eq!(rt; evaluate(alloc, &text, vars), Err(ArithFault::TooDeep));
         vars.unset(b"x")?;
     }
     Ok(())
+}
+
+#[test]
+fn levels(rt: HostRuntime) -> Result<(), Fail> {
+    let mut vars = Vars::new(rt.alloc())?;
+    let answered = counts_levels(&rt, rt.alloc(), &mut vars);
+    drop(vars);
+    answered
 }
 
 /// Inside 500 parentheses one level more is too deep, unless a token before it is refused.
@@ -270,16 +341,22 @@ const INSIDE: [(&[u8], ArithFault); 7] = [
     (b")", ArithFault::Syntax { at: 500 }),
 ];
 
+fn tells_the_first_fault(rt: &impl Abort, alloc: Global, vars: &mut Vars) -> Result<(), Fail> {
+    for (inside, wanted) in INSIDE.iter() {
+        let text = nested(alloc, b"(", 500, inside, b")")?;
+        assert_eq!(rt; evaluate(alloc, &text, vars), Err(*wanted));
+    }
+    let text = nested(alloc, b"(", 501, b"", b"")?;
+    assert_eq!(rt; evaluate(alloc, &text, vars), Err(ArithFault::TooDeep));
+    Ok(())
+}
+
 #[test]
 fn the_first_fault_decides(rt: HostRuntime) -> Result<(), Fail> {
     let mut vars = Vars::new(rt.alloc())?;
-    for (inside, wanted) in INSIDE.iter() {
-        let text = nested(rt.alloc(), b"(", 500, inside, b")")?;
-        assert!(rt; evaluate(rt.alloc(), &text, &mut vars) == Err(*wanted));
-    }
-    let text = nested(rt.alloc(), b"(", 501, b"", b"")?;
-    assert!(rt; evaluate(rt.alloc(), &text, &mut vars) == Err(ArithFault::TooDeep));
-    Ok(())
+    let answered = tells_the_first_fault(&rt, rt.alloc(), &mut vars);
+    drop(vars);
+    answered
 }
 
 /// What closes again, and operators between operands, open no levels: each is repeated 600 times.
@@ -291,14 +368,20 @@ const CHAINS: [(&[u8], i64); 5] = [
     (b"(x=1)+", 600),
 ];
 
+fn takes_chains(rt: &impl Abort, alloc: Global, vars: &mut Vars) -> Result<(), Fail> {
+    for (unit, wanted) in CHAINS.iter() {
+        let text = nested(alloc, unit, 600, b"0", b"")?;
+        assert_eq!(rt; evaluate(alloc, &text, vars), Ok(*wanted));
+    }
+    Ok(())
+}
+
 #[test]
 fn chains_open_no_levels(rt: HostRuntime) -> Result<(), Fail> {
     let mut vars = Vars::new(rt.alloc())?;
-    for (unit, wanted) in CHAINS.iter() {
-        let text = nested(rt.alloc(), unit, 600, b"0", b"")?;
-        assert_eq!(rt; evaluate(rt.alloc(), &text, &mut vars)?, *wanted);
-    }
-    Ok(())
+    let answered = takes_chains(&rt, rt.alloc(), &mut vars);
+    drop(vars);
+    answered
 }
 
 #[test]

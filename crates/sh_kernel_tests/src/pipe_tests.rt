@@ -1,6 +1,6 @@
 //! Reads and writes round PIPE_BUF and the capacity.
-use crate::PipeFault::{NoReader, WouldWait};
-use crate::{PIPE_BUF, Pipe};
+use sh_pipe::PipeFault::{NoReader, WouldWait};
+use sh_pipe::{PIPE_BUF, Pipe};
 use std::test::Fail;
 
 #[test]

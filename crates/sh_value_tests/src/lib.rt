@@ -1,0 +1,16 @@
+//! Lists, variables, arithmetic, patterns and fields: tests of `sh_syntax`, `sh_vars`, `sh_arith`, `sh_pattern` and
+//! `sh_expand_base` alone.
+#![tactic(auto)]
+
+#[cfg(test)]
+mod arithmetic_tests;
+#[cfg(test)]
+mod expressions;
+#[cfg(test)]
+mod field_tests;
+#[cfg(test)]
+mod pattern_tests;
+#[cfg(test)]
+mod sequence_tests;
+#[cfg(test)]
+mod variable_tests;
