@@ -165,6 +165,7 @@ between_in text start stop at l h =
 place_by_in : (text : List ℕ) (r : Request) (s : Substitution) → RequestIn (length text) (Some r) → (at : ℕ) → at ≤ length (text_by s (text_between text r.start r.«end»)) → place_by s r at ≤ length text
 place_by_in text r substitution.Commands h at l = between_in text r.start r.«end» at h.1 l
 place_by_in text r substitution.Backquotes h at l = h.0
+place_by_in text r substitution.QuotedBackquotes h at l = h.0
 
 place_in_text : (text : List ℕ) (r : Request) → RequestIn (length text) (Some r) → (at : ℕ) → at ≤ length (text_of r text) → place_in r at ≤ length text
 unfolding place_in text_of

@@ -1,5 +1,5 @@
 -- Parts of texts.
-use Rattle.std.specs.Prelude.{ℕ, ◌-◌, List, [], ◌∷◌, length, take, drop, if◌then◌else◌}
+use Rattle.std.specs.Prelude.{ℕ, ◌-◌, Bool, List, [], ◌∷◌, length, take, drop, if◌then◌else◌}
 use Rattle.sh_scanner_base.specs.Bytes.{is_digit}
 use Rattle.sh_scanner_base.specs.declared.mark.Mark.{Mark}
 use Rattle.sh_parse_words.specs.Places.{behind_piece}
@@ -13,9 +13,9 @@ text_between text start stop = take (stop - start) (drop start text)
 abbrev pub inside : List ℕ → List ℕ
 inside bytes = take (length bytes - 2) (drop 1 bytes)
 
--- the commands between backquotes, by the bytes from the one to the other
-abbrev pub backquoted : List ℕ → List ℕ
-backquoted bytes = unescaped (inside bytes)
+-- the commands between backquotes, by the bytes from the one to the other; quoted: they stand in double quotes
+abbrev pub backquoted : Bool → List ℕ → List ℕ
+backquoted quoted bytes = unescaped quoted (inside bytes)
 
 -- the digits among the bytes: a number without its joined lines
 abbrev pub digits_in : List ℕ → List ℕ

@@ -22,7 +22,8 @@ Reader = ℕ → List ℕ → Result Complete PartFault
 -- the text of a substitution, and where a fault at a place of it stands in the text around it: one in backquotes at the first of these
 abbrev pub text_by : Substitution → List ℕ → List ℕ
 text_by substitution.Commands bytes = bytes
-text_by substitution.Backquotes bytes = backquoted bytes
+text_by substitution.Backquotes bytes = backquoted false bytes
+text_by substitution.QuotedBackquotes bytes = backquoted true bytes
 
 unfoldable pub text_of : Request → List ℕ → List ℕ
 text_of r text = text_by r.form (text_between text r.start r.«end»)
@@ -30,6 +31,7 @@ text_of r text = text_by r.form (text_between text r.start r.«end»)
 abbrev pub place_by : Substitution → Request → ℕ → ℕ
 place_by substitution.Commands r at = capped (r.start + at)
 place_by substitution.Backquotes r at = r.place
+place_by substitution.QuotedBackquotes r at = r.place
 
 unfoldable pub place_in : Request → ℕ → ℕ
 place_in r at = place_by r.form r at

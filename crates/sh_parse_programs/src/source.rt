@@ -44,11 +44,15 @@ fn inside(bytes: &[u8]) -> &[u8]
     first_bytes(text_from(bytes, 1), bytes.len().saturating_sub(2))
 }
 
-/// The commands between backquotes, by the bytes from the one to the other.
-pub(crate) fn backquoted(alloc: Global, bytes: &[u8]) -> Result<Vec<u8>, AllocError>
-    ensures { IfOk result (λ text. text.items ≡ backquoted bytes.now) }
+/// The commands between backquotes, which stand in double quotes or not, by the bytes from the one to the other.
+pub(crate) fn backquoted(
+    alloc: Global,
+    is_quoted: bool,
+    bytes: &[u8],
+) -> Result<Vec<u8>, AllocError>
+    ensures { IfOk result (λ text. text.items ≡ backquoted is_quoted bytes.now) }
 {
-    let text = unescaped(alloc, inside(bytes))?;
+    let text = unescaped(alloc, is_quoted, inside(bytes))?;
     Ok(text)
 }
 

@@ -25,7 +25,8 @@ pub(crate) fn text_of(alloc: Global, request: &Request, text: &[u8]) -> Result<V
     let bytes = text_between(text, request.start, request.end);
     match request.form {
         Substitution::Commands => bytes.to_vec(alloc),
-        Substitution::Backquotes => backquoted(alloc, bytes),
+        Substitution::Backquotes => backquoted(alloc, false, bytes),
+        Substitution::QuotedBackquotes => backquoted(alloc, true, bytes),
     }
 }
 
@@ -37,6 +38,7 @@ fn place_in(request: &Request, at: usize) -> usize
     match request.form {
         Substitution::Commands => request.start.saturating_add(at),
         Substitution::Backquotes => request.place,
+        Substitution::QuotedBackquotes => request.place,
     }
 }
 

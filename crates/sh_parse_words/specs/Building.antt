@@ -135,8 +135,31 @@ open_braces b left place (Some f) = on (opened b (form.Braces f) left)
 abbrev pub at_level : ℕ → ℕ → Outcome → Outcome
 at_level left place outcome = if nat_eq left 0 then Err (fault.TooDeep place) else outcome
 
+-- whether what stands in a form stands in double quotes (XCU 2.2.3); around: whether the form does. The pattern of a removal is read as outside
+-- of them (2.6.2), and in arithmetic a `"` is no quote (2.6.4)
+abbrev pub braces_quote : Braces → Bool → Bool
+braces_quote (braces.Value p) around = around
+braces_quote (braces.Length p) around = around
+braces_quote (braces.Conditional p absence action) around = around
+braces_quote (braces.Removal p affix extent) around = false
+
+abbrev pub form_quotes : Form → Bool → Bool
+form_quotes form.Quotes around = true
+form_quotes (form.Braces b) around = braces_quote b around
+form_quotes form.Arithmetic around = false
+
+-- whether what stands in the innermost of these forms stands in double quotes; around: whether they all do
+abbrev pub in_quotes : Bool → List Frame → Bool
+in_quotes around [] = around
+in_quotes around (f ∷ fs) = in_quotes (form_quotes f.form around) fs
+
+abbrev pub backquotes_by : Bool → Substitution
+backquotes_by true = substitution.QuotedBackquotes
+backquotes_by false = substitution.Backquotes
+
 abbrev pub backquoted : Building → ℕ → ℕ → Request
-backquoted b place behind = record { form = substitution.Backquotes; place = place; start = place; «end» = behind; left = b.left - 1 }
+backquoted b place behind =
+    record { form = backquotes_by (in_quotes false b.frames); place = place; start = place; «end» = behind; left = b.left - 1 }
 
 -- a piece that asks for nothing and opens no level
 unfoldable pub plainly : Building → Mark → Building
@@ -174,6 +197,7 @@ take_piece b m empty place behind = take_by b.skip b m empty place behind
 abbrev pub program_part : Substitution → Complete → Part
 program_part substitution.Commands c = part.Substitution c
 program_part substitution.Backquotes c = part.Backquoted c
+program_part substitution.QuotedBackquotes c = part.Backquoted c
 
 unfoldable pub with_program : Building → Substitution → Complete → Building
 with_program b s c = with_part b (program_part s c)

@@ -4,7 +4,7 @@ ghost use Rattle.sh_tree.specs.declared.tree.Part.{Part as PartTree};
 ghost use Rattle.sh_parse_words.specs.Parameters.{braces_of, short};
 ghost use Rattle.sh_parse_words.specs.declared.fault.PartFault.TheVariants as fault;
 ghost use Rattle.sh_parse_words.specs.declared.build.Form.TheVariants as form;
-ghost use Rattle.sh_parse_words.specs.Building.{Building, Takes, begun, parts_of, ended, flushed, with_part, with_bytes, braces_part, form_part, opened, closed, on, skipping, skip_close, backquoted, parameter_part, open_braces, at_level, taking, plainly, take_piece, program_part, with_program, finished, last_frame, other_frames};
+ghost use Rattle.sh_parse_words.specs.Building.{Building, Takes, begun, parts_of, ended, flushed, with_part, with_bytes, braces_part, form_part, opened, closed, on, skipping, skip_close, braces_quote, form_quotes, in_quotes, backquotes_by, backquoted, parameter_part, open_braces, at_level, taking, plainly, take_piece, program_part, with_program, finished, last_frame, other_frames};
 
 use crate::fault::PartFault;
 use crate::parameter::{Braces, parameter};
@@ -53,8 +53,10 @@ pub struct Skip {
 pub enum Substitution {
     /// `$(..)`
     Commands,
-    /// Backquotes.
+    /// Backquotes outside of double quotes.
     Backquotes,
+    /// Backquotes in double quotes, where a backslash before a `"` isn't of their text (XCU 2.2.3).
+    QuotedBackquotes,
 }
 
 /// The commands that the parts wait for. Places are numbers of bytes before them, in the text in which the word stands.
@@ -94,6 +96,17 @@ impl Model for Builder {
 }
 
 impl Form {
+    /// Whether what stands in the form stands in double quotes, by whether the form does.
+    fn quotes(&self, around: bool) -> bool
+        ensures { result ≡ form_quotes self.now around }
+    {
+        match self {
+            Form::Quotes => true,
+            Form::Braces(braces) => braces_quote(braces, around),
+            Form::Arithmetic => false,
+        }
+    }
+
     /// The part that the form is with what stands in it.
     fn part(self, alloc: Global, inside: Sequence<Part>) -> Result<Part, AllocError>
         ensures { IfOk result (λ part. part ≡ form_part self (parts_of inside)) }
@@ -104,6 +117,42 @@ impl Form {
             Form::Arithmetic => Ok(Part::Arithmetic(word)),
             Form::Braces(braces) => Ok(braces_part(braces, word)),
         }
+    }
+}
+
+/// Whether the word of a `${..}` stands in double quotes, by whether this does.
+fn braces_quote(braces: &Braces, around: bool) -> bool
+    ensures { result ≡ braces_quote braces.now around }
+{
+    match braces {
+        Braces::Value(_) => around,
+        Braces::Length(_) => around,
+        Braces::Conditional { .. } => around,
+        Braces::Removal { .. } => false,
+    }
+}
+
+/// Whether what stands in the innermost of these forms stands in double quotes, by whether all of them do.
+fn in_quotes(around: bool, frames: &[Frame]) -> bool
+    ensures { result ≡ in_quotes around frames.now }
+{
+    let mut is_quoted = around;
+    let mut rest = frames;
+    while let Some((frame, others)) = rest.split_first() {
+        is_quoted = frame.form.quotes(is_quoted);
+        rest = others;
+    }
+    is_quoted
+}
+
+/// The form of backquotes, by whether they stand in double quotes.
+fn backquotes_by(is_quoted: bool) -> Substitution
+    ensures { result ≡ backquotes_by is_quoted }
+{
+    if is_quoted {
+        Substitution::QuotedBackquotes
+    } else {
+        Substitution::Backquotes
     }
 }
 
@@ -303,7 +352,7 @@ impl Builder {
             return Err(PartFault::TooDeep { at: place });
         }
         Ok(Request {
-            form: Substitution::Backquotes,
+            form: backquotes_by(in_quotes(false, self.frames.as_slice())),
             place,
             start: place,
             end: behind,
@@ -428,6 +477,7 @@ impl Builder {
         match form {
             Substitution::Commands => self.put(Part::Substitution(program)),
             Substitution::Backquotes => self.put(Part::Backquoted(program)),
+            Substitution::QuotedBackquotes => self.put(Part::Backquoted(program)),
         }
     }
 

@@ -140,15 +140,17 @@ fn heads(rt: HostRuntime) -> Result<(), Fail> {
 
 #[test]
 fn backquotes(rt: HostRuntime) -> Result<(), Fail> {
-    for (bytes, expected) in [
-        (b"a".as_slice(), b"a".as_slice()),
-        (b"\\$x", b"$x"),
-        (b"\\`a\\`", b"`a`"),
-        (b"\\\\\\\\", b"\\\\"),
-        (b"\\a\\\"", b"\\a\\\""),
-        (b"a\\", b"a\\"),
+    for (bytes, expected, quoted) in [
+        (b"a".as_slice(), b"a".as_slice(), b"a".as_slice()),
+        (b"\\$x", b"$x", b"$x"),
+        (b"\\`a\\`", b"`a`", b"`a`"),
+        (b"\\\\\\\\", b"\\\\", b"\\\\"),
+        (b"\\a\\\"", b"\\a\\\"", b"\\a\""),
+        (b"\\\\\\\"", b"\\\\\"", b"\\\""),
+        (b"a\\", b"a\\", b"a\\"),
     ] {
-        assert_eq!(rt; unescaped(rt.alloc(), bytes)?.as_slice(), expected);
+        assert_eq!(rt; unescaped(rt.alloc(), false, bytes)?.as_slice(), expected);
+        assert_eq!(rt; unescaped(rt.alloc(), true, bytes)?.as_slice(), quoted);
     }
     Ok(())
 }
@@ -177,6 +179,56 @@ fn quoted(rt: HostRuntime) -> Result<(), Fail> {
         matches!(parts.items.as_slice(), [Part::Literal(a), Part::DoubleQuoted(inside)]
         if a.as_slice() == b"a".as_slice() && inside.get().items.len() == 2)
     );
+    Ok(())
+}
+
+/// The form of the backquotes that are the last of the pieces.
+fn form_of_backquotes(alloc: Global, before: &[Mark]) -> Result<Option<Substitution>, NoMemory> {
+    let mut builder = Builder::new(alloc, 500);
+    for piece in before {
+        if builder.take(piece, false, 0, 1).is_err() {
+            return Ok(None);
+        }
+    }
+    let backquotes = Mark::Backquoted(text(alloc, b"a")?);
+    match builder.take(&backquotes, false, 1, 4) {
+        Ok(Some(request)) => Ok(Some(request.form)),
+        _ => Ok(None),
+    }
+}
+
+/// Between `"` and `"` backquotes stand in double quotes, but for those in a pattern or in arithmetic.
+#[test]
+fn backquotes_in_quotes(rt: HostRuntime) -> Result<(), Fail> {
+    let alloc = rt.alloc();
+    let quotes = || Mark::DoubleQuotesOpen;
+    for (pieces, expected) in [
+        (vec![in alloc; Mark::Byte(b'a')]?, Substitution::Backquotes),
+        (vec![in alloc; quotes()]?, Substitution::QuotedBackquotes),
+        (
+            vec![in alloc; quotes(), Mark::DoubleQuotesClose]?,
+            Substitution::Backquotes,
+        ),
+        (
+            vec![in alloc; quotes(), Mark::BraceOpen(text(alloc, b"x-")?)]?,
+            Substitution::QuotedBackquotes,
+        ),
+        (
+            vec![in alloc; Mark::BraceOpen(text(alloc, b"x-")?)]?,
+            Substitution::Backquotes,
+        ),
+        (
+            vec![in alloc; quotes(), Mark::BraceOpen(text(alloc, b"x%")?)]?,
+            Substitution::Backquotes,
+        ),
+        (
+            vec![in alloc; quotes(), Mark::ArithmeticOpen]?,
+            Substitution::Backquotes,
+        ),
+    ] {
+        let form = form_of_backquotes(alloc, pieces.as_slice())?;
+        assert_eq!(rt; form, Some(expected));
+    }
     Ok(())
 }
 
