@@ -1,3 +1,4 @@
 pub mod Forking
 pub mod Redirecting
+pub mod Transfers
 pub mod Undoing

@@ -5,10 +5,12 @@ mod fork;
 mod redirecting;
 #[cfg(test)]
 mod tests;
+mod transfer;
 mod undo;
 mod undone;
 
 pub use fork::{Forked, fork_process};
 pub use redirecting::{Redirected, redirect};
+pub use transfer::{Given, Taken, give_bytes, take_bytes};
 pub use undo::restore_all;
 pub use undone::Undone;

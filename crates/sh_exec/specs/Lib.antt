@@ -1,0 +1,4 @@
+pub mod Programs
+pub mod Runnable
+pub mod Starting
+pub mod Turns

@@ -1,0 +1,87 @@
+//! A process: a shell, or a program.
+ghost use Rattle.std.specs.Prelude.{◌≡◌, IfOk};
+ghost use Rattle.sh_kernel.specs.State.{KernelState, StandsAt};
+ghost use Rattle.sh_tty.specs.Kept.{Extends};
+ghost use Rattle.sh_exec.specs.Turns as turns;
+ghost use Rattle.sh_exec.specs.Runnable as runnable;
+ghost use Rattle.sh_exec_shell.specs.Reduction.{shell_turn};
+
+use crate::program::ask_turn;
+use crate::runnable::{ask_runnable, shell_runnable};
+use crate::shell::starting_of;
+use crate::start::start_turn;
+use sh_exec_shell::{Child, Shell};
+use sh_kernel::Kernel;
+use sh_stock::{Ask, Stock};
+use sh_syntax::memory::NoMemory;
+use std::alloc::Global;
+use std::mem;
+
+/// What a process runs.
+#[derive(Drop)]
+pub enum Process<S: Stock> {
+    /// A shell.
+    Runs(Shell),
+    /// A program of the stock, and what it asks.
+    Asks(Ask, S),
+}
+
+/// A turn of a shell that is about to start nothing.
+fn shell_turn<S: Stock>(
+    alloc: Global,
+    kernel: &mut Kernel,
+    pid: u32,
+    shell: &mut Shell,
+) -> Result<Option<Child>, NoMemory>
+    ensures state { (s : KernelState) → StandsAt kernel.old s → IfOk result (λ child. turns.IsTurned {S = S} kernel.new (Process.Runs shell.new) child (turns.by_shell (shell_turn s pid shell.old))) }
+    ensures terminal { Extends kernel.old.terminal.bytes kernel.new.terminal.bytes }
+{
+    let child = shell.turn(alloc, kernel, pid)?;
+    Ok(child)
+}
+
+impl<S: Stock> Process<S> {
+    /// One turn of the process `pid`, and the process that it made, if it made one. The only error is want of memory, after which
+    /// the process is given up.
+    #[tactic(auto, using(crate::proofs::Extending::unchanged))]
+    pub fn turn(
+        &mut self,
+        alloc: Global,
+        kernel: &mut Kernel,
+        pid: u32,
+    ) -> Result<Option<Child>, NoMemory>
+        ensures state { (s : KernelState) → StandsAt kernel.old s → IfOk result (λ child. turns.IsTurned kernel.new self.new child (turns.turn S.meaning s pid self.old)) }
+        ensures terminal { Extends kernel.old.terminal.bytes kernel.new.terminal.bytes }
+    {
+        match self {
+            Process::Runs(shell) => match starting_of(alloc, shell.active())? {
+                Some(fields) => {
+                    let vars = shell.vars().copy()?;
+                    let next = start_turn(alloc, kernel, pid, vars, fields)?;
+                    *self = next;
+                    Ok(None)
+                },
+                None => {
+                    let child = shell_turn::<S>(alloc, kernel, pid, shell)?;
+                    Ok(child)
+                },
+            },
+            Process::Asks(ask, program) => {
+                let last = mem::replace(ask, Ask::Idle);
+                let next = ask_turn(alloc, kernel, pid, last, program)?;
+                *ask = next;
+                Ok(None)
+            },
+        }
+    }
+
+    /// Whether the process `pid` can take a turn: it has not ended, and its next action need not wait. Takes no memory.
+    pub fn is_runnable(&self, kernel: &Kernel, pid: u32) -> bool
+        ensures { (s : KernelState) → StandsAt kernel.now s → result ≡ runnable.is_runnable s pid self.now }
+    {
+        match self {
+            Process::Runs(shell) => shell_runnable(kernel, pid, shell.active()),
+            Process::Asks(ask, _) => ask_runnable(kernel, pid, ask),
+        }
+    }
+}

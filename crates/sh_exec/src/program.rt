@@ -1,0 +1,155 @@
+//! A turn of a program.
+ghost use Rattle.std.specs.Prelude.{◌≡◌, IfOk, drop};
+ghost use Rattle.sh_kernel.specs.State.{KernelState, StandsAt};
+ghost use Rattle.sh_tty.specs.Kept.{Extends};
+ghost use Rattle.sh_exec.specs.Programs.{HasLeft, ask_turn, asking, end_turn, read_by, read_turn, write_by, write_turn};
+
+use crate::process::Process;
+use sh_exec_machine::{Given, Taken, give_bytes, take_bytes};
+use sh_kernel::{Kernel, Name};
+use sh_stock::{Answer, Ask, Stock};
+use sh_syntax::memory::NoMemory;
+use std::alloc::Global;
+
+/// A program takes its answer, and asks next.
+pub(crate) fn asking<S: Stock>(
+    alloc: Global,
+    program: &mut S,
+    answer: Answer,
+) -> Result<Ask, NoMemory>
+    ensures { IfOk result (λ ask. Process.Asks ask program.new ≡ asking S.meaning program.old answer) }
+{
+    match program.turn(alloc, answer) {
+        Ok(ask) => Ok(ask),
+        Err(_) => Err(NoMemory),
+    }
+}
+
+/// What follows a read.
+fn read_by<S: Stock>(
+    alloc: Global,
+    count: usize,
+    program: &mut S,
+    taken: Taken,
+) -> Result<Ask, NoMemory>
+    ensures { IfOk result (λ ask. Process.Asks ask program.new ≡ read_by S.meaning count program.old taken) }
+{
+    match taken {
+        Taken::Bytes(bytes) => {
+            let bytes = sh_stock::Text::from(bytes.into_vec());
+            asking(alloc, program, Answer::Bytes(bytes))
+        },
+        Taken::Wait => Ok(Ask::Read(count)),
+        Taken::Failed => asking(alloc, program, Answer::Failed),
+    }
+}
+
+/// A program reads.
+#[tactic(auto, unfolding(crate::specs::Programs::read_turn))]
+fn read_turn<S: Stock>(
+    alloc: Global,
+    kernel: &mut Kernel,
+    pid: u32,
+    count: usize,
+    program: &mut S,
+) -> Result<Ask, NoMemory>
+    ensures state { (s : KernelState) → StandsAt kernel.old s → IfOk result (λ ask. HasLeft kernel.new (Process.Asks ask program.new) (read_turn S.meaning s pid count program.old)) }
+    ensures terminal { kernel.new.terminal.bytes ≡ kernel.old.terminal.bytes }
+{
+    let taken = take_bytes(alloc, kernel, pid, Name::Number(0), count)?;
+    let ask = read_by(alloc, count, program, taken)?;
+    Ok(ask)
+}
+
+/// What is left of bytes behind the first ones.
+fn rest_of(alloc: Global, bytes: &[u8], count: usize) -> Result<sh_stock::Text, NoMemory>
+    ensures { IfOk result (λ rest. rest ≡ drop count bytes.now) }
+{
+    let from = count.min(bytes.len());
+    let rest = sh_stock::Text::copy_of(alloc, &bytes[from..])?;
+    Ok(rest)
+}
+
+/// What follows a write.
+fn write_by<S: Stock>(
+    alloc: Global,
+    bytes: sh_stock::Text,
+    program: &mut S,
+    given: Given,
+) -> Result<Ask, NoMemory>
+    ensures { IfOk result (λ ask. Process.Asks ask program.new ≡ write_by S.meaning bytes program.old given) }
+{
+    match given {
+        Given::Whole => asking(alloc, program, Answer::Done),
+        Given::Part(count) => {
+            let rest = rest_of(alloc, bytes.as_bytes(), count)?;
+            Ok(Ask::Write(rest))
+        },
+        Given::Wait => Ok(Ask::Write(bytes)),
+        Given::Ended => Ok(Ask::Write(bytes)),
+        Given::Failed => asking(alloc, program, Answer::Failed),
+    }
+}
+
+/// A program writes.
+#[tactic(auto, unfolding(crate::specs::Programs::write_turn))]
+fn write_turn<S: Stock>(
+    alloc: Global,
+    kernel: &mut Kernel,
+    pid: u32,
+    bytes: sh_stock::Text,
+    program: &mut S,
+) -> Result<Ask, NoMemory>
+    ensures state { (s : KernelState) → StandsAt kernel.old s → IfOk result (λ ask. HasLeft kernel.new (Process.Asks ask program.new) (write_turn S.meaning s pid bytes program.old)) }
+    ensures terminal { Extends kernel.old.terminal.bytes kernel.new.terminal.bytes }
+{
+    let given = give_bytes(kernel, pid, 1, bytes.as_bytes())?;
+    let ask = write_by(alloc, bytes, program, given)?;
+    Ok(ask)
+}
+
+/// A program ends.
+#[tactic(auto, unfolding(crate::specs::Programs::end_turn))]
+fn end_turn<S: Stock>(kernel: &mut Kernel, pid: u32, status: u8, _program: &mut S) -> Ask
+    ensures state { (s : KernelState) → StandsAt kernel.old s → HasLeft kernel.new (Process.Asks result _program.new) (end_turn s pid status _program.old) }
+    ensures terminal { kernel.new.terminal.bytes ≡ kernel.old.terminal.bytes }
+{
+    let _ended = kernel.end(pid, status);
+    Ask::End(status)
+}
+
+/// One turn of a program in the process `pid`: what it asks is done, and it takes the answer.
+#[tactic(auto, using(crate::proofs::Extending::unchanged))]
+pub(crate) fn ask_turn<S: Stock>(
+    alloc: Global,
+    kernel: &mut Kernel,
+    pid: u32,
+    ask: Ask,
+    program: &mut S,
+) -> Result<Ask, NoMemory>
+    ensures state { (s : KernelState) → StandsAt kernel.old s → IfOk result (λ next. HasLeft kernel.new (Process.Asks next program.new) (ask_turn S.meaning s pid ask program.old)) }
+    ensures terminal { Extends kernel.old.terminal.bytes kernel.new.terminal.bytes }
+{
+    match ask {
+        Ask::Read(count) => {
+            let next = read_turn(alloc, kernel, pid, count, program)?;
+            Ok(next)
+        },
+        Ask::Write(bytes) => {
+            let next = write_turn(alloc, kernel, pid, bytes, program)?;
+            Ok(next)
+        },
+        Ask::Stop => {
+            let next = asking(alloc, program, Answer::Done)?;
+            Ok(next)
+        },
+        Ask::Idle => {
+            let next = asking(alloc, program, Answer::Done)?;
+            Ok(next)
+        },
+        Ask::End(status) => {
+            let next = end_turn(kernel, pid, status, program);
+            Ok(next)
+        },
+    }
+}

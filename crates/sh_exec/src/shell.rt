@@ -1,0 +1,69 @@
+//! What a shell is about to start.
+ghost use Rattle.std.specs.Prelude.{◌≡◌, IfOk, option_map};
+ghost use Rattle.sh_exec.specs.Starting.{starting_at, starting_in};
+
+use sh_exec_command::{Active, Place};
+use sh_syntax::memory::NoMemory;
+use sh_syntax::sequence::{Sequence, Text};
+use std::alloc::Global;
+
+/// What is started at a place.
+fn starting_at(place: &Place) -> Option<&Sequence<Text>>
+    ensures { option_map (λ fields. fields.now) result ≡ starting_at place.now }
+{
+    match place {
+        Place::Reading(_) => None,
+        Place::Expanding(_, _) => None,
+        Place::Collecting(_) => None,
+        Place::Answering(_) => None,
+        Place::Redirecting(_) => None,
+        Place::Forking(_) => None,
+        Place::Starting(fields) => Some(fields),
+        Place::Staging(_) => None,
+        Place::Waiting(_) => None,
+        Place::Writing(_, _) => None,
+        Place::Ending(_) => None,
+    }
+}
+
+/// What is started at an active place.
+fn starting_in(active: &Active) -> Option<&Sequence<Text>>
+    ensures { option_map (λ fields. fields.now) result ≡ starting_in active.now }
+{
+    match active {
+        Active::Next(place) => starting_at(place),
+        Active::Done(_) => None,
+        Active::Leaving(_) => None,
+    }
+}
+
+/// Copies of texts.
+fn copies_of(alloc: Global, texts: &[Text]) -> Result<Sequence<Text>, NoMemory>
+    ensures { IfOk result (λ copies. copies ≡ texts.now) }
+{
+    let mut copies = Sequence::new(alloc);
+    let mut rest = texts;
+    'texts: while let Some((text, others)) = rest.split_first() {
+        let mut copy = Text::new(alloc);
+        copy.extend_from_slice(text.as_slice())?;
+        copies.push(copy)?;
+        rest = others;
+    }
+    Ok(copies)
+}
+
+/// A copy of what is started at an active place.
+pub(crate) fn starting_of(
+    alloc: Global,
+    active: &Active,
+) -> Result<Option<Sequence<Text>>, NoMemory>
+    ensures { IfOk result (λ fields. fields ≡ starting_in active.now) }
+{
+    match starting_in(active) {
+        Some(fields) => {
+            let copies = copies_of(alloc, fields.as_slice())?;
+            Ok(Some(copies))
+        },
+        None => Ok(None),
+    }
+}

@@ -1,0 +1,4 @@
+pub mod Finding
+pub mod Restoring
+pub mod Resuming
+pub mod Turning

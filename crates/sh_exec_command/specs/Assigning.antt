@@ -1,0 +1,105 @@
+-- The assignments of a simple command (XCU 2.9.1.2), from left to right, each seeing those before it.
+use Rattle.std.specs.Prelude.{ℕ, List, [], ◌∷◌, ◌++◌, not, ◌&&◌, Bool, true, false, Option, None, slice_get, unwrap_or, if◌then◌else◌}
+use Rattle.sh_exec_base.specs.Builtins.{is_special}
+use Rattle.sh_exec_base.specs.Messages.{fault_text, read_only}
+use Rattle.sh_exec_base.specs.declared.simple.Assignment.{Assignment}
+use Rattle.sh_exec_command.specs.Answers.{expanded}
+use Rattle.sh_exec_command.specs.Expanding.{Turn, fatal, start_of}
+use Rattle.sh_exec_command.specs.Preparing.{performed}
+use Rattle.sh_exec_command.specs.Undoing.{saved_of}
+use Rattle.sh_exec_command.specs.declared.assigning.Assigned.{Assigned}
+use Rattle.sh_exec_command.specs.declared.assigning.Assigned.TheVariants.{On, Over}
+use Rattle.sh_exec_command.specs.declared.running.Expanded.TheVariants as expanded_as
+use Rattle.sh_exec_command.specs.declared.running.Move.TheVariants.{Held}
+use Rattle.sh_exec_command.specs.declared.running.Pending.{Pending}
+use Rattle.sh_exec_command.specs.declared.running.Prepared.{Prepared}
+use Rattle.sh_exec_command.specs.declared.running.Role.{Role}
+use Rattle.sh_exec_command.specs.declared.running.Role.TheVariants as role
+use Rattle.sh_exec_command.specs.declared.running.Undo.{Undo}
+use Rattle.sh_exec_command.specs.declared.running.Wants.TheVariants.{Values}
+use Rattle.sh_expand.specs.Expanding as expanding
+use Rattle.sh_expand_parts.specs.declared.context.Context.TheVariants as context
+use Rattle.sh_expand_words.specs.declared.wanted.Wanted.{Wanted}
+use Rattle.sh_files.specs.Nodes.{FileMap}
+use Rattle.sh_tree.specs.declared.tree.Parts.{Parts}
+use Rattle.sh_vars.specs.Environment.{Environment, is_read_only, with_export, with_value}
+use Rattle.sh_vars.specs.Names.{is_name}
+
+-- before a built-in that isn't special and before a program the variable is exported while that runs; before a special built-in,
+-- and without a command name, it is set and stays (2.9.1.2, 2.15)
+abbrev pub is_passing : Role → Bool
+is_passing role.Nameless = false
+is_passing (role.Builtin builtin) = not (is_special builtin)
+is_passing role.Program = true
+
+unfoldable pub with_assigned : Role → Environment → List ℕ → List ℕ → Environment
+with_assigned r env name value = if is_passing r then with_export (with_value env name value) name else with_value env name value
+
+-- how it is undone: a program's process keeps it
+abbrev pub is_undone : Role → Bool
+is_undone role.Nameless = false
+is_undone (role.Builtin builtin) = not (is_special builtin)
+is_undone role.Program = false
+
+unfoldable pub undo_with : Role → Environment → Undo → List ℕ → Undo
+undo_with r env undo name = if is_undone r then record undo { variables = undo.variables ++ saved_of env name ∷ [] } else undo
+
+-- the command after an assignment
+abbrev pub noted : Prepared → Environment → List ℕ → Prepared
+noted p env name = record p { undo = undo_with p.role env p.undo name }
+
+-- the one text that a value comes to
+abbrev pub text_of : List (List ℕ) → List ℕ
+text_of fields = unwrap_or (slice_get fields 0) []
+
+abbrev pub value_wanted : Parts → Wanted
+value_wanted parts = record { parts = parts; context = context.Assignment }
+
+abbrev pub value_of : FileMap → Pending → Assignment → expanding.Result
+value_of files pending assignment = expanded files (value_wanted assignment.value ∷ []) pending.start pending.answers
+
+-- what the shell's variables and the command are after one assignment
+pub record Step : Type 0 where
+  pub environment : Environment
+  pub outcome : Assigned
+
+-- a fault ends the shell; what the command changed is undone behind the message
+abbrev pub stopped : Prepared → Environment → List ℕ → Step
+stopped p env text = record { environment = env; outcome = Over (expanded_as.Go (Held p.undo (fatal text))) }
+
+-- an assignment to a read-only variable is refused (2.8.1)
+abbrev pub may_set : Environment → List ℕ → Bool
+may_set env name = is_name name && not (is_read_only env name)
+
+unfoldable pub valued : Prepared → Environment → List ℕ → List ℕ → Step
+valued p env name value =
+    if may_set env name
+    then record { environment = with_assigned p.role env name value; outcome = On (noted p env name) }
+    else stopped p env (read_only name)
+
+-- an assignment that needs an answer is the next one again; those behind it are still the command's
+abbrev pub assigned_by : Prepared → Assignment → Pending → expanding.Result → Step
+assigned_by p assignment pending (expanding.Need program env) =
+    record { environment = env; outcome = Over (expanded_as.Need program (Values (record p { assignments = assignment ∷ p.assignments })) pending) }
+assigned_by p assignment pending (expanding.Fields fields env) = valued p env assignment.name (text_of fields)
+assigned_by p assignment pending (expanding.Stops fault env) = stopped p env (fault_text fault)
+
+unfoldable pub assigned_one : FileMap → Environment → Prepared → Assignment → Option Pending → Step
+assigned_one files env p assignment pending =
+    assigned_by p assignment (start_of env pending) (value_of files (start_of env pending) assignment)
+
+-- the next assignment, where the turn isn't over
+abbrev pub behind : Environment → Assigned → (Environment → Prepared → Turn) → Turn
+behind env (On p) next = next env p
+behind env (Over outcome) next = record { environment = env; outcome = outcome }
+
+-- these assignments; the answers so far are for the first of them
+abbrev pub assigned : FileMap → List Assignment → Environment → Prepared → Option Pending → Turn
+assigned files [] env p pending = record { environment = env; outcome = expanded_as.Go (performed env.special.status p) }
+assigned files (assignment ∷ others) env p pending =
+    let step = assigned_one files env (record p { assignments = others }) assignment pending in
+    behind step.environment step.outcome (λ after command. assigned files others after command None)
+
+-- what the command then does, or what it needs first
+unfoldable pub assign_turn : FileMap → Environment → Prepared → Option Pending → Turn
+assign_turn files env p pending = assigned files p.assignments env p pending

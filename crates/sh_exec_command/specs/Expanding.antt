@@ -1,0 +1,50 @@
+-- The expansion turn of a simple command's words (XCU 2.9.1.1, steps 1 and 2): always from the first word, in the variables at
+-- its start, with the answers so far.
+use Rattle.std.specs.Prelude.{ℕ, List, [], Bool, Option, Some, None}
+use Rattle.sh_exec_base.specs.Messages.{fault_text, message}
+use Rattle.sh_exec_base.specs.Simple.{items_of, wanted_of}
+use Rattle.sh_exec_command.specs.Answers.{expanded}
+use Rattle.sh_exec_command.specs.Preparing.{begun, prepared_of}
+use Rattle.sh_exec_command.specs.declared.running.Active.{Active}
+use Rattle.sh_exec_command.specs.declared.running.Active.TheVariants.{Next}
+use Rattle.sh_exec_command.specs.declared.running.Expanded.{Expanded}
+use Rattle.sh_exec_command.specs.declared.running.Expanded.TheVariants.{Need, Go}
+use Rattle.sh_exec_command.specs.declared.running.Finish.TheVariants.{Leave}
+use Rattle.sh_exec_command.specs.declared.running.Move.TheVariants.{At}
+use Rattle.sh_exec_command.specs.declared.running.Pending.{Pending}
+use Rattle.sh_exec_command.specs.declared.running.Place.TheVariants.{Writing}
+use Rattle.sh_exec_command.specs.declared.running.Wants.TheVariants.{Words}
+use Rattle.sh_expand.specs.Expanding as expanding
+use Rattle.sh_files.specs.Nodes.{FileMap}
+use Rattle.sh_tree.specs.declared.tree.Command.{Command}
+use Rattle.sh_vars.specs.Environment.{Environment}
+
+-- the environment and what comes of a turn
+pub record Turn : Type 0 where
+  pub environment : Environment
+  pub outcome : Expanded
+
+-- where an expansion begins that has had no answers
+abbrev pub start_of : Environment → Option Pending → Pending
+start_of env None = record { start = env; answers = [] }
+start_of env (Some pending) = pending
+
+-- an error that ends the shell with status 2 (2.8.1), once its message is written
+abbrev pub fatal : List ℕ → Active
+fatal text = Next (Writing (message text) (Leave 2))
+
+-- what the words come to; what was assigned before a fault stays
+abbrev pub words_by : Command → (in_place : Bool) → (status : ℕ) → Pending → expanding.Result → Turn
+words_by command in_place status pending (expanding.Need program env) =
+    record { environment = env; outcome = Need program (Words command in_place status) pending }
+words_by command in_place status pending (expanding.Fields fields env) =
+    record { environment = env; outcome = Go (begun env.special.status in_place (prepared_of env (items_of command) fields status)) }
+words_by command in_place status pending (expanding.Stops fault env) =
+    record { environment = env; outcome = Go (At (fatal (fault_text fault))) }
+
+abbrev pub words_from : FileMap → Command → (in_place : Bool) → (status : ℕ) → Pending → Turn
+words_from files command in_place status pending =
+    words_by command in_place status pending (expanded files (wanted_of (items_of command)) pending.start pending.answers)
+
+unfoldable pub words_turn : FileMap → Environment → Command → (in_place : Bool) → (status : ℕ) → Option Pending → Turn
+words_turn files env command in_place status pending = words_from files command in_place status (start_of env pending)

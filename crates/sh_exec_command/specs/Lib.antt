@@ -1,0 +1,6 @@
+pub mod Answers
+pub mod Assigning
+pub mod Expanding
+pub mod Preparing
+pub mod Reading
+pub mod Undoing

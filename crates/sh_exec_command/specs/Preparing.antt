@@ -1,0 +1,121 @@
+-- A simple command (XCU 2.9.1) from its tree to the place of its first action, and from its expanded words to what it does.
+use Rattle.std.specs.Prelude.{ℕ, List, [], ◌∷◌, ◌||◌, not, Bool, true, false, Option, Some, None, drop, length, if◌then◌else◌}
+use Rattle.std.specs.List.{list_any}
+use Rattle.sh_exec_base.specs.Builtins.{builtin_of, built_in, is_special, name_of}
+use Rattle.sh_exec_base.specs.Messages.{message, not_redirected, usage}
+use Rattle.sh_exec_base.specs.Redirections.{prepared}
+use Rattle.sh_exec_base.specs.Simple.{assignments_of, is_redirect, is_word, items_of, redirect_fields, redirects_of, word_fields}
+use Rattle.sh_exec_base.specs.declared.builtin.Act.{Act}
+use Rattle.sh_exec_base.specs.declared.builtin.Act.TheVariants as act
+use Rattle.sh_exec_base.specs.declared.builtin.Builtin.{Builtin}
+use Rattle.sh_exec_base.specs.declared.redirection.Redirection.{Redirection}
+use Rattle.sh_exec_base.specs.declared.simple.Assignment.{Assignment}
+use Rattle.sh_exec_command.specs.declared.running.Active.{Active}
+use Rattle.sh_exec_command.specs.declared.running.Active.TheVariants.{Next, Done, Leaving}
+use Rattle.sh_exec_command.specs.declared.running.Finish.{Finish}
+use Rattle.sh_exec_command.specs.declared.running.Finish.TheVariants.{Status, Leave, Output}
+use Rattle.sh_exec_command.specs.declared.running.Move.{Move}
+use Rattle.sh_exec_command.specs.declared.running.Move.TheVariants.{At, Held}
+use Rattle.sh_exec_command.specs.declared.running.Place.{Place}
+use Rattle.sh_exec_command.specs.declared.running.Place.TheVariants.{Expanding, Redirecting, Forking, Starting, Writing}
+use Rattle.sh_exec_command.specs.declared.running.Prepared.{Prepared}
+use Rattle.sh_exec_command.specs.declared.running.Role.{Role}
+use Rattle.sh_exec_command.specs.declared.running.Role.TheVariants as role
+use Rattle.sh_exec_command.specs.declared.running.Undo.{Undo}
+use Rattle.sh_exec_command.specs.declared.running.Wants.{Wants}
+use Rattle.sh_exec_command.specs.declared.running.Wants.TheVariants.{Words, Values}
+use Rattle.sh_kernel_base.specs.declared.fault.KernelFault.{KernelFault}
+use Rattle.sh_tree.specs.declared.tree.Command.{Command}
+use Rattle.sh_tree.specs.declared.tree.SimpleItem.{SimpleItem}
+use Rattle.sh_vars.specs.Environment.{Environment}
+
+abbrev pub no_undo : Undo
+no_undo = record { descriptors = []; variables = [] }
+
+-- ---- the first action: its words and those of its redirections are expanded; a command of assignments alone begins with these
+unfoldable pub nameless : List SimpleItem → Prepared
+nameless items = record {
+  role = role.Nameless;
+  fields = [];
+  redirections = [];
+  assignments = assignments_of items;
+  undo = no_undo;
+  status = 0;
+}
+
+abbrev pub wants_of : Bool → Command → Wants
+wants_of in_place command =
+    if list_any is_word (items_of command) || list_any is_redirect (items_of command)
+    then Words command in_place 0
+    else Values (nameless (items_of command))
+
+unfoldable pub first_place : Bool → Command → Place
+first_place in_place command = Expanding (wants_of in_place command) None
+
+-- ---- the command of these fields (2.9.1.4): a built-in's name goes before a program's
+abbrev pub role_by : Option Builtin → Role
+role_by (Some builtin) = role.Builtin builtin
+role_by None = role.Program
+
+abbrev pub role_of : List (List ℕ) → Role
+role_of [] = role.Nameless
+role_of (name ∷ arguments) = role_by (builtin_of name)
+
+unfoldable pub prepared_of : Environment → List SimpleItem → List (List ℕ) → ℕ → Prepared
+prepared_of env items fields status =
+    let count = length (redirects_of items) in
+    record {
+      role = role_of (word_fields fields count);
+      fields = word_fields fields count;
+      redirections = prepared env.options.no_clobber (redirects_of items) (redirect_fields fields count);
+      assignments = assignments_of items;
+      undo = no_undo;
+      status = status;
+    }
+
+-- ---- what it does, once all else is done
+-- an error ends the shell in a special built-in (2.8.1), and in the process that was to become a program
+abbrev pub failing : Bool → Finish
+failing true = Leave 2
+failing false = Status 2
+
+abbrev pub failing_of : Role → Finish
+failing_of role.Nameless = Status 2
+failing_of (role.Builtin builtin) = failing (is_special builtin)
+failing_of role.Program = Leave 2
+
+abbrev pub acted : Builtin → Act → Active
+acted builtin (act.Write text) = Next (Writing (record { descriptor = 1; bytes = text }) (Output builtin))
+acted builtin (act.Leave status) = Leaving status
+acted builtin act.Usage = Next (Writing (message (usage (name_of builtin))) (failing (is_special builtin)))
+
+abbrev pub performed_by : ℕ → Prepared → Role → Move
+performed_by last p role.Nameless = Held p.undo (Done p.status)
+performed_by last p (role.Builtin builtin) = Held p.undo (acted builtin (built_in last builtin (drop 1 p.fields)))
+performed_by last p role.Program = At (Next (Starting p.fields))
+
+-- a command without a name has the status of its last substitution; a built-in acts at once; a program is started; `last` is `$?`
+unfoldable pub performed : ℕ → Prepared → Move
+performed last p = performed_by last p p.role
+
+-- first the redirections, then the assignments (2.9.1.1)
+abbrev pub ahead_by : ℕ → Prepared → List Redirection → List Assignment → Move
+ahead_by last p (redirection ∷ redirections) assignments = At (Next (Redirecting p))
+ahead_by last p [] (assignment ∷ assignments) = At (Next (Expanding (Values p) None))
+ahead_by last p [] [] = performed last p
+
+unfoldable pub ahead : ℕ → Prepared → Move
+ahead last p = ahead_by last p p.redirections p.assignments
+
+-- a program runs in a process of its own, unless the shell's process is there for it alone
+abbrev pub forks : Role → (in_place : Bool) → Bool
+forks role.Nameless in_place = false
+forks (role.Builtin builtin) in_place = false
+forks role.Program in_place = not in_place
+
+unfoldable pub begun : ℕ → (in_place : Bool) → Prepared → Move
+begun last in_place p = if forks p.role in_place then At (Next (Forking p)) else ahead last p
+
+-- a redirection that can't be done (2.8.1): its message is written while those before it still stand
+unfoldable pub not_done : Prepared → List ℕ → KernelFault → Move
+not_done p word fault = Held p.undo (Next (Writing (message (not_redirected word fault)) (failing_of p.role)))

@@ -1,0 +1,255 @@
+//! The assignment turn of a simple command.
+ghost use Rattle.std.specs.Prelude.{◌≡◌, ◌∷◌, [], IfOk, IsTrue, OnOk};
+ghost use Rattle.sh_exec_command.specs.Answers.{expanded, result_of};
+ghost use Rattle.sh_exec_command.specs.Assigning.{assign_turn, assigned, assigned_by, assigned_one, is_passing, is_undone, may_set, noted, stopped, text_of, undo_with, value_of, value_wanted, valued, with_assigned};
+ghost use Rattle.sh_exec_command.specs.Expanding.{start_of};
+
+use crate::answers::expand;
+use crate::expanding::{fatal_message, start};
+use crate::preparing::perform;
+use crate::running::{Active, Expanded, Finish, Move, Pending, Place, Prepared, Role, Undo, Wants};
+use crate::undo::save;
+use sh_exec_base::message::{Piece, not_expanded, read_only};
+use sh_exec_base::simple::Assignment;
+use sh_expand::{Context, Step};
+use sh_expand_words::Wanted;
+use sh_files::Files;
+use sh_syntax::memory::NoMemory;
+use sh_syntax::sequence::{Sequence, Text};
+use sh_syntax::shared::Shared;
+use sh_tree::tree::Parts;
+use sh_vars::{Vars, is_name};
+use std::alloc::Global;
+
+/// What one assignment comes to.
+#[derive(Drop)]
+pub(crate) enum Assigned {
+    /// It is done, and the command goes on.
+    On(Prepared),
+    /// The turn is over.
+    Over(Expanded),
+}
+
+/// Whether the variables that are set for a command are exported.
+fn is_passing(role: Role) -> bool
+    ensures { result ≡ is_passing role }
+{
+    match role {
+        Role::Nameless => false,
+        Role::Builtin(builtin) => !builtin.is_special(),
+        Role::Program => true,
+    }
+}
+
+/// Whether they are brought back behind the command.
+fn is_undone(role: Role) -> bool
+    ensures { result ≡ is_undone role }
+{
+    match role {
+        Role::Nameless => false,
+        Role::Builtin(builtin) => !builtin.is_special(),
+        Role::Program => false,
+    }
+}
+
+/// Whether a variable may be set.
+fn may_set(vars: &Vars, name: &[u8]) -> bool
+    ensures { result ≡ may_set vars.now name.now }
+{
+    if !is_name(name) {
+        return false;
+    }
+    match vars.variable(name) {
+        Some(entry) => !entry.is_read_only(),
+        None => true,
+    }
+}
+
+/// Sets a variable that may be set.
+#[tactic(auto, unfolding(crate::specs::Assigning::with_assigned))]
+fn set(vars: &mut Vars, role: Role, name: &[u8], value: &[u8]) -> Result<(), NoMemory>
+    requires { IsTrue (may_set vars.old name.now) }
+    ensures { OnOk result (vars.new ≡ with_assigned role vars.old name.now value.now) }
+{
+    match vars.set(name, value) {
+        Ok(()) => {},
+        Err(_) => return Err(NoMemory),
+    }
+    if is_passing(role) {
+        return match vars.export(name) {
+            Ok(()) => Ok(()),
+            Err(_) => Err(NoMemory),
+        };
+    }
+    Ok(())
+}
+
+/// How an assignment is undone, beside those before it.
+#[tactic(auto, unfolding(crate::specs::Assigning::undo_with))]
+fn undo_with(
+    alloc: Global,
+    role: Role,
+    vars: &Vars,
+    undo: Undo,
+    name: &[u8],
+) -> Result<Undo, NoMemory>
+    ensures { IfOk result (λ next. next ≡ undo_with role vars.now undo name.now) }
+{
+    if !is_undone(role) {
+        return Ok(undo);
+    }
+    let mut undo = undo;
+    undo.variables.push(save(alloc, vars, name)?)?;
+    Ok(undo)
+}
+
+/// A command with one assignment more to be undone.
+fn note(alloc: Global, prepared: Prepared, vars: &Vars, name: &[u8]) -> Result<Prepared, NoMemory>
+    ensures { IfOk result (λ next. next ≡ noted prepared vars.now name.now) }
+{
+    let Prepared {
+        role,
+        fields,
+        redirections,
+        assignments,
+        undo,
+        status,
+    } = prepared;
+    let undo = undo_with(alloc, role, vars, undo, name)?;
+    Ok(Prepared {
+        role,
+        fields,
+        redirections,
+        assignments,
+        undo,
+        status,
+    })
+}
+
+/// The turn is over with a fault, whose message is this.
+fn stop(prepared: Prepared, piece: Piece) -> Assigned
+    ensures { result ≡ Assigned.Over (Expanded.Go (Move.Held prepared.undo (Active.Next (Place.Writing piece (Finish.Leave 2))))) }
+{
+    let Prepared { undo, .. } = prepared;
+    Assigned::Over(Expanded::Go(Move::Held(undo, fatal_message(piece))))
+}
+
+/// The assignment of a value.
+#[tactic(auto, unfolding(crate::specs::Assigning::valued))]
+fn assign(
+    alloc: Global,
+    prepared: Prepared,
+    name: &[u8],
+    value: &[u8],
+    vars: &mut Vars,
+) -> Result<Assigned, NoMemory>
+    ensures { IfOk result (λ a. record { environment = vars.new; outcome = a } ≡ valued prepared vars.old name.now value.now) }
+{
+    if !may_set(vars, name) {
+        let piece = read_only(alloc, name)?;
+        return Ok(stop(prepared, piece));
+    }
+    let role = prepared.role;
+    let prepared = note(alloc, prepared, vars, name)?;
+    set(vars, role, name, value)?;
+    Ok(Assigned::On(prepared))
+}
+
+/// The one text that a value comes to.
+fn text_of(fields: &[Text]) -> &[u8]
+    ensures { result.now ≡ text_of fields.now }
+{
+    match fields.first() {
+        Some(text) => text.as_slice(),
+        None => b"",
+    }
+}
+
+/// What a value comes to.
+fn expand_value(
+    alloc: Global,
+    value: &Shared<Parts>,
+    pending: &Pending,
+    vars: &mut Vars,
+    files: &Files,
+) -> Result<Step, NoMemory>
+    ensures { IfOk result (λ step. result_of step vars.new ≡ expanded files.now (value_wanted value.now ∷ []) pending.now.start pending.now.answers) }
+{
+    let mut wanted = Sequence::new(alloc);
+    wanted.push(Wanted {
+        parts: value.share()?,
+        context: Context::Assignment,
+    })?;
+    *vars = pending.start.copy()?;
+    expand(alloc, wanted, vars, files, pending.answers.as_slice())
+}
+
+/// A command whose next assignment is this one again.
+fn put_again(prepared: Prepared, assignment: Assignment) -> Result<Prepared, NoMemory>
+    ensures { IfOk result (λ next. next ≡ record prepared { assignments = assignment ∷ prepared.assignments }) }
+{
+    let mut prepared = prepared;
+    prepared.assignments.put_front(assignment)?;
+    Ok(prepared)
+}
+
+/// The next assignment of a command, which has those behind it.
+#[tactic(auto, unfolding(crate::specs::Assigning::assigned_one))]
+fn assign_one(
+    alloc: Global,
+    prepared: Prepared,
+    assignment: Assignment,
+    pending: Option<Pending>,
+    vars: &mut Vars,
+    files: &Files,
+) -> Result<Assigned, NoMemory>
+    ensures { IfOk result (λ a. record { environment = vars.new; outcome = a } ≡ assigned_one files.now vars.old prepared assignment pending) }
+{
+    let pending = start(alloc, vars, pending)?;
+    match expand_value(alloc, &assignment.value, &pending, vars, files)? {
+        Step::Need(program) => {
+            let prepared = put_again(prepared, assignment)?;
+            Ok(Assigned::Over(Expanded::Need {
+                program,
+                wants: Wants::Values(prepared),
+                pending,
+            }))
+        },
+        Step::Fields(fields) => {
+            let value = text_of(fields.as_slice());
+            let next = assign(alloc, prepared, assignment.name.as_slice(), value, vars)?;
+            Ok(next)
+        },
+        Step::Fault(fault) => {
+            let piece = not_expanded(alloc, fault)?;
+            Ok(stop(prepared, piece))
+        },
+    }
+}
+
+/// The turn of a command's assignments (XCU 2.9.1.2), from left to right, each seeing those before it; the answers so far are
+/// for the first of them. The only error is want of memory; what the variables are then is left open.
+#[tactic(auto, unfolding(crate::specs::Assigning::assign_turn))]
+pub fn assign_turn(
+    alloc: Global,
+    prepared: Prepared,
+    pending: Option<Pending>,
+    vars: &mut Vars,
+    files: &Files,
+) -> Result<Expanded, NoMemory>
+    ensures { IfOk result (λ e. record { environment = vars.new; outcome = e } ≡ assign_turn files.now vars.old prepared pending) }
+{
+    let mut prepared = prepared;
+    let mut pending = pending;
+    'assignments: while let Some(assignment) = prepared.assignments.take() {
+        match assign_one(alloc, prepared, assignment, pending, vars, files)? {
+            Assigned::On(next) => {
+                prepared = next;
+                pending = None;
+            },
+            Assigned::Over(expanded) => return Ok(expanded),
+        }
+    }
+    let next = perform(alloc, vars.status(), prepared)?;
+    Ok(Expanded::Go(next))
+}

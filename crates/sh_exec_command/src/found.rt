@@ -1,0 +1,26 @@
+//! What a reading turn finds.
+use sh_exec_base::Rest;
+use sh_exec_base::message::Refusal;
+use sh_tree::tree::Complete;
+
+/// What one reading of a text answers.
+#[derive(Drop)]
+pub enum Answer {
+    /// A complete command, and how many bytes it takes.
+    Command(Complete, usize),
+    /// As many bytes without a command.
+    Blank(usize),
+    /// The text of the next command is refused.
+    Fault(Refusal),
+}
+
+/// What a reading turn finds.
+#[derive(Drop)]
+pub enum Found {
+    /// No command follows.
+    Nothing,
+    /// The next complete command, and the text behind it.
+    Command(Complete, Rest),
+    /// The text of the next command is refused.
+    Fault(Refusal),
+}

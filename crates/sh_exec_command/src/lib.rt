@@ -1,0 +1,23 @@
+//! A simple command of a shell between its turns (XCU 2.9.1): what its words, its redirections and its assignments come to, and
+//! what it does then. Nothing here calls a kernel; what a turn asks of one is said by the place at which the shell then stands.
+#![tactic(auto)]
+
+mod answers;
+mod assigning;
+mod expanding;
+mod found;
+mod preparing;
+mod reading;
+mod running;
+mod undo;
+
+pub use assigning::assign_turn;
+pub use expanding::words_turn;
+pub use found::Found;
+pub use preparing::{first_place, go_ahead, not_done};
+pub use reading::find_command;
+pub use running::{
+    Active, Expanded, Finish, Move, Pending, Place, Prepared, Role, Saved, Stages, Substitution,
+    Undo, Wants,
+};
+pub use undo::restore_variables;

@@ -1,0 +1,273 @@
+//! A simple command from its tree to its first place, and from its expanded words to what it does.
+ghost use Rattle.std.specs.Prelude.{◌≡◌, IfOk, drop};
+ghost use Rattle.sh_exec_base.specs.Builtins.{built_in};
+ghost use Rattle.sh_exec_command.specs.Preparing.{acted, ahead, begun, failing, failing_of, first_place, forks, nameless, no_undo, not_done, performed, prepared_of, role_by, role_of, wants_of};
+
+use crate::running::{Active, Finish, Move, Place, Prepared, Role, Undo, Wants};
+use sh_exec_base::Queue;
+use sh_exec_base::builtin::{Act, Builtin};
+use sh_exec_base::message::{Piece, not_redirected, usage};
+use sh_exec_base::redirection::prepared_redirections;
+use sh_exec_base::simple::{
+    assignments_of, has_redirects, has_words, items_of, redirect_count, split_fields,
+};
+use sh_kernel_base::KernelFault;
+use sh_syntax::memory::NoMemory;
+use sh_syntax::sequence::{Sequence, Text};
+use sh_syntax::shared::Shared;
+use sh_tree::tree::{Command, SimpleItem};
+use sh_vars::Vars;
+use std::alloc::Global;
+
+/// Nothing to undo.
+fn no_undo(alloc: Global) -> Undo
+    ensures { result ≡ no_undo }
+{
+    Undo {
+        descriptors: Sequence::new(alloc),
+        variables: Sequence::new(alloc),
+    }
+}
+
+/// A command of assignments alone.
+#[tactic(auto, unfolding(crate::specs::Preparing::nameless))]
+fn nameless(alloc: Global, items: &[SimpleItem]) -> Result<Prepared, NoMemory>
+    ensures { IfOk result (λ p. p ≡ nameless items.now) }
+{
+    let assignments = assignments_of(alloc, items)?;
+    Ok(Prepared {
+        role: Role::Nameless,
+        fields: Sequence::new(alloc),
+        redirections: Queue::new(Sequence::new(alloc)),
+        assignments: Queue::new(assignments),
+        undo: no_undo(alloc),
+        status: 0,
+    })
+}
+
+/// What of a command is expanded first.
+fn wants_of(alloc: Global, in_place: bool, command: Shared<Command>) -> Result<Wants, NoMemory>
+    ensures { IfOk result (λ wants. wants ≡ wants_of in_place command) }
+{
+    if has_words(items_of(command.get())) || has_redirects(items_of(command.get())) {
+        return Ok(Wants::Words {
+            command,
+            in_place,
+            status: 0,
+        });
+    }
+    let prepared = nameless(alloc, items_of(command.get()))?;
+    Ok(Wants::Values(prepared))
+}
+
+/// The first place of a simple command; the process is there for it alone if `in_place`.
+#[tactic(auto, unfolding(crate::specs::Preparing::first_place))]
+pub fn first_place(
+    alloc: Global,
+    in_place: bool,
+    command: Shared<Command>,
+) -> Result<Place, NoMemory>
+    ensures { IfOk result (λ place. place ≡ first_place in_place command) }
+{
+    let wants = wants_of(alloc, in_place, command)?;
+    Ok(Place::Expanding(wants, None))
+}
+
+/// What runs the command of a name.
+fn role_by(builtin: Option<Builtin>) -> Role
+    ensures { result ≡ role_by builtin }
+{
+    match builtin {
+        Some(builtin) => Role::Builtin(builtin),
+        None => Role::Program,
+    }
+}
+
+/// What runs the command of these fields.
+fn role_of(fields: &[Text]) -> Role
+    ensures { result ≡ role_of fields.now }
+{
+    match fields.split_first() {
+        Some((name, _)) => role_by(Builtin::of(name.as_slice())),
+        None => Role::Nameless,
+    }
+}
+
+/// Copies of texts.
+fn copies_of(alloc: Global, texts: &[Text]) -> Result<Sequence<Text>, NoMemory>
+    ensures { IfOk result (λ copies. copies ≡ texts.now) }
+{
+    let mut copies = Sequence::new(alloc);
+    let mut rest = texts;
+    'texts: while let Some((text, others)) = rest.split_first() {
+        let mut copy = Text::new(alloc);
+        copy.extend_from_slice(text.as_slice())?;
+        copies.push(copy)?;
+        rest = others;
+    }
+    Ok(copies)
+}
+
+/// A command whose words came to these fields.
+#[tactic(auto, unfolding(crate::specs::Preparing::prepared_of))]
+pub(crate) fn prepare(
+    alloc: Global,
+    vars: &Vars,
+    items: &[SimpleItem],
+    fields: &[Text],
+    status: u8,
+) -> Result<Prepared, NoMemory>
+    ensures { IfOk result (λ p. p ≡ prepared_of vars.now items.now fields.now status) }
+{
+    let (words, redirects) = split_fields(fields, redirect_count(items));
+    let redirections = prepared_redirections(alloc, items, redirects, vars.options().no_clobber)?;
+    let assignments = assignments_of(alloc, items)?;
+    Ok(Prepared {
+        role: role_of(words),
+        fields: copies_of(alloc, words)?,
+        redirections,
+        assignments: Queue::new(assignments),
+        undo: no_undo(alloc),
+        status,
+    })
+}
+
+/// What follows the message of an error.
+fn failing(is_special: bool) -> Finish
+    ensures { result ≡ failing is_special }
+{
+    if is_special {
+        return Finish::Leave(2);
+    }
+    Finish::Status(2)
+}
+
+/// What follows the message of a redirection that can't be done.
+fn failing_of(role: Role) -> Finish
+    ensures { result ≡ failing_of role }
+{
+    match role {
+        Role::Nameless => Finish::Status(2),
+        Role::Builtin(builtin) => failing(builtin.is_special()),
+        Role::Program => Finish::Leave(2),
+    }
+}
+
+/// What follows when a built-in has acted.
+fn acted(alloc: Global, builtin: Builtin, act: Act) -> Result<Active, NoMemory>
+    ensures { IfOk result (λ active. active ≡ acted builtin act) }
+{
+    match act {
+        Act::Write(bytes) => {
+            let piece = Piece {
+                descriptor: 1,
+                bytes,
+            };
+            Ok(Active::Next(Place::Writing(piece, Finish::Output(builtin))))
+        },
+        Act::Leave(status) => Ok(Active::Leaving(status)),
+        Act::Usage => {
+            let piece = usage(alloc, builtin.name())?;
+            Ok(Active::Next(Place::Writing(piece, failing(builtin.is_special()))))
+        },
+    }
+}
+
+/// The arguments behind a command's name.
+fn arguments_of(fields: &[Text]) -> &[Text]
+    ensures { result.now ≡ drop 1 fields.now }
+{
+    match fields.split_first() {
+        Some((_, arguments)) => arguments,
+        None => fields,
+    }
+}
+
+/// A built-in acts.
+fn act(alloc: Global, last: u8, builtin: Builtin, fields: &[Text]) -> Result<Active, NoMemory>
+    ensures { IfOk result (λ active. active ≡ acted builtin (built_in last builtin (drop 1 fields.now))) }
+{
+    let act = builtin.run(alloc, last, arguments_of(fields))?;
+    acted(alloc, builtin, act)
+}
+
+/// What a command does, once all else is done; `last` is `$?`.
+#[tactic(auto, unfolding(crate::specs::Preparing::performed))]
+pub(crate) fn perform(alloc: Global, last: u8, prepared: Prepared) -> Result<Move, NoMemory>
+    ensures { IfOk result (λ m. m ≡ performed last prepared) }
+{
+    let Prepared {
+        role,
+        fields,
+        undo,
+        status,
+        ..
+    } = prepared;
+    match role {
+        Role::Nameless => Ok(Move::Held(undo, Active::Done(status))),
+        Role::Builtin(builtin) => {
+            let active = act(alloc, last, builtin, fields.as_slice())?;
+            Ok(Move::Held(undo, active))
+        },
+        Role::Program => Ok(Move::At(Active::Next(Place::Starting(fields)))),
+    }
+}
+
+/// Where a command whose words are expanded, or of which a redirection is done, goes on: first its redirections, then its
+/// assignments. `last` is `$?`. The only error is want of memory.
+#[tactic(auto, unfolding(crate::specs::Preparing::ahead))]
+pub fn go_ahead(alloc: Global, last: u8, prepared: Prepared) -> Result<Move, NoMemory>
+    ensures { IfOk result (λ m. m ≡ ahead last prepared) }
+{
+    if !prepared.redirections.is_empty() {
+        return Ok(Move::At(Active::Next(Place::Redirecting(prepared))));
+    }
+    if !prepared.assignments.is_empty() {
+        let wants = Wants::Values(prepared);
+        return Ok(Move::At(Active::Next(Place::Expanding(wants, None))));
+    }
+    perform(alloc, last, prepared)
+}
+
+/// Whether a command runs in a process that is made for it.
+fn forks(role: Role, in_place: bool) -> bool
+    ensures { result ≡ forks role in_place }
+{
+    match role {
+        Role::Nameless => false,
+        Role::Builtin(_) => false,
+        Role::Program => !in_place,
+    }
+}
+
+/// Where a command whose words are expanded goes on.
+#[tactic(auto, unfolding(crate::specs::Preparing::begun))]
+pub(crate) fn begin_command(
+    alloc: Global,
+    last: u8,
+    in_place: bool,
+    prepared: Prepared,
+) -> Result<Move, NoMemory>
+    ensures { IfOk result (λ m. m ≡ begun last in_place prepared) }
+{
+    if forks(prepared.role, in_place) {
+        return Ok(Move::At(Active::Next(Place::Forking(prepared))));
+    }
+    go_ahead(alloc, last, prepared)
+}
+
+/// Where a command goes on of which a redirection can't be done, which a message names by this word.
+#[tactic(auto, unfolding(crate::specs::Preparing::not_done))]
+pub fn not_done(
+    alloc: Global,
+    prepared: Prepared,
+    word: &[u8],
+    fault: KernelFault,
+) -> Result<Move, NoMemory>
+    ensures { IfOk result (λ m. m ≡ not_done prepared word.now fault) }
+{
+    let Prepared { role, undo, .. } = prepared;
+    let piece = not_redirected(alloc, word, fault)?;
+    let active = Active::Next(Place::Writing(piece, failing_of(role)));
+    Ok(Move::Held(undo, active))
+}

@@ -1,0 +1,170 @@
+//! Where a shell stands before its next action.
+use sh_exec_base::builtin::Builtin;
+use sh_exec_base::message::Piece;
+use sh_exec_base::redirection::Redirection;
+use sh_exec_base::simple::Assignment;
+use sh_exec_base::{Queue, Rest};
+use sh_exec_machine::Undone;
+use sh_syntax::sequence::{Sequence, Text};
+use sh_syntax::shared::Shared;
+use sh_tree::tree::{Command, Complete};
+use sh_vars::{Entry, Vars};
+
+/// What runs a simple command (XCU 2.9.1).
+#[derive(Clone, Copy, Debug, PartialEq, Eq)]
+pub enum Role {
+    /// Nothing: it has no command name.
+    Nameless,
+    /// A built-in utility.
+    Builtin(Builtin),
+    /// A program.
+    Program,
+}
+
+/// A variable as it was before a command's assignment.
+#[derive(Drop)]
+pub enum Saved {
+    /// It was there.
+    Variable(Entry),
+    /// None of this name was.
+    Absent(Text),
+}
+
+/// How what a command changed is undone behind it; in both the last one comes first.
+#[derive(Drop)]
+pub struct Undo {
+    pub descriptors: Sequence<Undone>,
+    pub variables: Sequence<Saved>,
+}
+
+/// A simple command whose words are expanded.
+#[derive(Drop)]
+pub struct Prepared {
+    pub role: Role,
+    /// The command name, and its arguments.
+    pub fields: Sequence<Text>,
+    /// The redirections that are to be done.
+    pub redirections: Queue<Redirection>,
+    /// The assignments that are to be done.
+    pub assignments: Queue<Assignment>,
+    pub undo: Undo,
+    /// The status of its last command substitution, 0 without one.
+    pub status: u8,
+}
+
+/// What is expanded.
+#[derive(Drop)]
+pub enum Wants {
+    /// The words of a simple command and of its redirections. A program is run in the shell's own process if `in_place`;
+    /// `status` is that of the last command substitution in them.
+    Words {
+        command: Shared<Command>,
+        in_place: bool,
+        status: u8,
+    },
+    /// The values of its assignments, one after another.
+    Values(Prepared),
+}
+
+/// An expansion that needs answers: the shell's variables at its start, and the answers so far.
+#[derive(Drop)]
+pub struct Pending {
+    pub start: Vars,
+    pub answers: Sequence<Text>,
+}
+
+/// A command substitution (2.6.3) whose process runs.
+#[derive(Drop)]
+pub struct Substitution {
+    /// What is expanded once its answer is there.
+    pub wants: Wants,
+    pub pending: Pending,
+    /// What the process has written so far.
+    pub written: Text,
+    /// The end of its pipe, which is set aside.
+    pub aside: Option<usize>,
+    /// The process, alone.
+    pub children: Sequence<u32>,
+}
+
+/// A pipeline of several commands (2.9.2) whose processes are being made.
+#[derive(Drop)]
+pub struct Stages {
+    /// The commands that have none yet.
+    pub commands: Queue<Shared<Command>>,
+    /// The end of the last pipe, which is set aside.
+    pub aside: Option<usize>,
+    /// The processes so far.
+    pub children: Sequence<u32>,
+}
+
+/// What follows a write that is done whole.
+#[derive(Clone, Copy, Debug, PartialEq, Eq)]
+pub enum Finish {
+    /// The command is done with this status.
+    Status(u8),
+    /// The shell is left with this status.
+    Leave(u8),
+    /// This built-in is done with status 0; a write that fails gives it 1, and a message.
+    Output(Builtin),
+}
+
+/// The next action of a shell.
+#[derive(Drop)]
+pub enum Place {
+    /// Read the next complete command of the rest of a text (2.1).
+    Reading(Rest),
+    /// Expand, with the answers so far if there were needs before.
+    Expanding(Wants, Option<Pending>),
+    /// Read what a command substitution's process writes.
+    Collecting(Substitution),
+    /// Wait for the end of that process.
+    Answering(Substitution),
+    /// Do the next redirection of a command (2.7).
+    Redirecting(Prepared),
+    /// Make the process that runs a program.
+    Forking(Prepared),
+    /// Search for a program, and start it in this process (2.9.1.4).
+    Starting(Sequence<Text>),
+    /// Make the process of the next command of a pipeline.
+    Staging(Stages),
+    /// Wait for the end of these processes, the last of which gives the status.
+    Waiting(Sequence<u32>),
+    /// Write.
+    Writing(Piece, Finish),
+    /// End the process with a status.
+    Ending(u8),
+}
+
+/// What a shell does at the innermost of its running forms.
+#[derive(Drop)]
+pub enum Active {
+    /// An action comes next.
+    Next(Place),
+    /// What ran here is done, with this status.
+    Done(u8),
+    /// The shell is left with this status.
+    Leaving(u8),
+}
+
+/// Where a command goes on.
+#[derive(Drop)]
+pub enum Move {
+    /// Here.
+    At(Active),
+    /// Here, and when that is done what the command changed is undone.
+    Held(Undo, Active),
+}
+
+/// What an expansion turn comes to.
+#[derive(Drop)]
+pub enum Expanded {
+    /// What this program writes is needed.
+    Need {
+        program: Shared<Complete>,
+        wants: Wants,
+        pending: Pending,
+    },
+    /// The command goes on.
+    Go(Move),
+}

@@ -1,0 +1,52 @@
+//! Undoing a command's assignments.
+ghost use Rattle.std.specs.Prelude.{◌≡◌, IfOk, OnOk};
+ghost use Rattle.sh_exec_command.specs.Undoing.{all_restored, restored, saved_of};
+
+use crate::running::Saved;
+use sh_syntax::memory::NoMemory;
+use sh_syntax::sequence::{Sequence, Text};
+use sh_vars::Vars;
+use std::alloc::Global;
+
+/// A variable as it is.
+#[tactic(auto, unfolding(crate::specs::Undoing::saved_of))]
+pub(crate) fn save(alloc: Global, vars: &Vars, name: &[u8]) -> Result<Saved, NoMemory>
+    ensures { IfOk result (λ saved. saved ≡ saved_of vars.now name.now) }
+{
+    match vars.variable(name) {
+        Some(entry) => Ok(Saved::Variable(entry.copy(alloc)?)),
+        None => {
+            let mut text = Text::new(alloc);
+            text.extend_from_slice(name)?;
+            Ok(Saved::Absent(text))
+        },
+    }
+}
+
+/// Brings a variable back.
+fn restore(vars: &mut Vars, saved: Saved) -> Result<(), NoMemory>
+    ensures { OnOk result (vars.new ≡ restored saved vars.old) }
+{
+    match saved {
+        Saved::Variable(entry) => {
+            vars.put(entry)?;
+            Ok(())
+        },
+        Saved::Absent(name) => {
+            vars.forget(name.as_slice());
+            Ok(())
+        },
+    }
+}
+
+/// Brings variables back as they were, the last one first (XCU 2.9.1.2). The only error is want of memory; what the
+/// variables are then is left open.
+pub fn restore_variables(vars: &mut Vars, saved: Sequence<Saved>) -> Result<(), NoMemory>
+    ensures { OnOk result (vars.new ≡ all_restored saved vars.old) }
+{
+    let mut saved = saved;
+    'saved: while let Some(one) = saved.pop() {
+        restore(vars, one)?;
+    }
+    Ok(())
+}

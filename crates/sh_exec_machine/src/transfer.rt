@@ -1,0 +1,114 @@
+//! What a process reads and writes in one turn.
+ghost use Rattle.std.specs.Prelude.{◌≡◌, ℕ, List, IfOk, length, take};
+ghost use Rattle.sh_kernel.specs.Calls.{read_call, write_call};
+ghost use Rattle.sh_kernel.specs.State.{KernelState, StandsAt};
+ghost use Rattle.sh_tty.specs.Kept.{Extends};
+ghost use Rattle.sh_exec_machine.specs.Transfers.{HasGiven, HasTaken, give_bytes, given_by, refused_by, take_bytes, taken_by};
+
+use sh_kernel::{Kernel, KernelFault, Name};
+use sh_syntax::memory::NoMemory;
+use sh_syntax::sequence::Text;
+use std::alloc::Global;
+
+/// What a read gave.
+#[derive(Debug, Drop)]
+pub enum Taken {
+    /// These bytes; none at the end of the file.
+    Bytes(Text),
+    /// Nothing yet.
+    Wait,
+    /// It failed.
+    Failed,
+}
+
+/// What a write came to.
+#[derive(Clone, Copy, Debug, PartialEq, Eq)]
+pub enum Given {
+    /// All bytes went.
+    Whole,
+    /// So many of them went, at least one.
+    Part(usize),
+    /// None yet.
+    Wait,
+    /// Its process was ended by a signal.
+    Ended,
+    /// It failed.
+    Failed,
+}
+
+/// A refused read.
+fn not_taken(fault: KernelFault) -> Taken
+    ensures { result ≡ taken_by (Err fault) }
+{
+    if fault.is_wait() {
+        return Taken::Wait;
+    }
+    Taken::Failed
+}
+
+/// Reads up to so many bytes by a descriptor of a process. The only error is want of memory, after which nothing is read.
+#[tactic(auto, unfolding(crate::specs::Transfers::take_bytes))]
+pub fn take_bytes(
+    alloc: Global,
+    kernel: &mut Kernel,
+    pid: u32,
+    name: Name,
+    count: usize,
+) -> Result<Taken, NoMemory>
+    ensures state { (s : KernelState) → StandsAt kernel.old s → IfOk result (λ taken. HasTaken kernel.new taken (take_bytes s pid name count)) }
+    ensures terminal { kernel.new.terminal.bytes ≡ kernel.old.terminal.bytes }
+{
+    let mut buf = vec![in alloc; 0u8; count]?;
+    match kernel.read(pid, name, &mut buf) {
+        Ok(read) => {
+            buf.truncate(read);
+            Ok(Taken::Bytes(Text::from_vec(buf)))
+        }
+        Err(fault) => Ok(not_taken(fault)),
+    }
+}
+
+/// Of so many bytes this many went.
+fn counted(total: usize, count: usize) -> Given
+    ensures { result ≡ given_by total (Ok count) }
+{
+    if count < total {
+        return Given::Part(count);
+    }
+    Given::Whole
+}
+
+/// A refused write.
+fn refused(fault: KernelFault) -> Given
+    ensures { result ≡ refused_by fault }
+{
+    match fault {
+        KernelFault::BadDescriptor => Given::Failed,
+        KernelFault::NoProcess => Given::Failed,
+        KernelFault::TooManyProcesses => Given::Failed,
+        KernelFault::TooManyDescriptors => Given::Failed,
+        KernelFault::WouldWait => Given::Wait,
+        KernelFault::BrokenPipe => Given::Ended,
+        KernelFault::File(_) => Given::Failed,
+        KernelFault::NoMemory => Given::Failed,
+    }
+}
+
+/// Writes by the descriptor of a number of a process what goes at once. The only error is want of memory, after which nothing
+/// is written.
+#[tactic(auto, unfolding(crate::specs::Transfers::give_bytes))]
+pub fn give_bytes(
+    kernel: &mut Kernel,
+    pid: u32,
+    number: u8,
+    bytes: &[u8],
+) -> Result<Given, NoMemory>
+    ensures state { (s : KernelState) → StandsAt kernel.old s → IfOk result (λ given. HasGiven kernel.new given (give_bytes s pid number bytes.now)) }
+    ensures terminal { Extends kernel.old.terminal.bytes kernel.new.terminal.bytes }
+{
+    match kernel.write(pid, number, bytes) {
+        Ok(count) => Ok(counted(bytes.len(), count)),
+        Err(KernelFault::NoMemory) => Err(NoMemory),
+        Err(fault) => Ok(refused(fault)),
+    }
+}

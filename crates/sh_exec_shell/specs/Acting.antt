@@ -1,0 +1,169 @@
+-- The actions of a shell that make no process.
+use Rattle.std.specs.Prelude.{◌≡◌, ℕ, List, [], ◌∷◌, ◌++◌, Bool, true, false, drop, length, nat_eq, Option, Some, None, Result, Ok, Err, if◌then◌else◌}
+use Rattle.sh_exec_base.specs.Builtins.{name_of}
+use Rattle.sh_exec_base.specs.Messages.{message, refusal_text, write_error}
+use Rattle.sh_exec_base.specs.declared.message.Piece.{Piece}
+use Rattle.sh_exec_base.specs.declared.redirection.Redirection.{Redirection}
+use Rattle.sh_exec_command.specs.Assigning.{assign_turn}
+use Rattle.sh_exec_command.specs.Expanding.{Turn, fatal, words_turn}
+use Rattle.sh_exec_command.specs.Preparing.{ahead, not_done}
+use Rattle.sh_exec_command.specs.declared.found.Found.{Found}
+use Rattle.sh_exec_command.specs.declared.found.Found.TheVariants as found
+use Rattle.sh_exec_command.specs.declared.running.Active.{Active}
+use Rattle.sh_exec_command.specs.declared.running.Active.TheVariants.{Next, Done, Leaving}
+use Rattle.sh_exec_command.specs.declared.running.Finish.{Finish}
+use Rattle.sh_exec_command.specs.declared.running.Finish.TheVariants.{Status, Leave, Output}
+use Rattle.sh_exec_command.specs.declared.running.Pending.{Pending}
+use Rattle.sh_exec_command.specs.declared.running.Place.{Place}
+use Rattle.sh_exec_command.specs.declared.running.Place.TheVariants.{Answering, Collecting, Ending, Expanding, Waiting, Writing}
+use Rattle.sh_exec_command.specs.declared.running.Prepared.{Prepared}
+use Rattle.sh_exec_command.specs.declared.running.Role.{Role}
+use Rattle.sh_exec_command.specs.declared.running.Role.TheVariants as role
+use Rattle.sh_exec_command.specs.declared.running.Substitution.{Substitution}
+use Rattle.sh_exec_command.specs.declared.running.Wants.{Wants}
+use Rattle.sh_exec_command.specs.declared.running.Wants.TheVariants.{Words, Values}
+use Rattle.sh_exec_machine.specs.Redirecting.{redirected}
+use Rattle.sh_exec_machine.specs.Transfers.{give_bytes, take_bytes}
+use Rattle.sh_exec_machine.specs.declared.transfer.Given.{Given}
+use Rattle.sh_exec_machine.specs.declared.transfer.Given.TheVariants as given
+use Rattle.sh_exec_machine.specs.declared.transfer.Taken.{Taken}
+use Rattle.sh_exec_machine.specs.declared.transfer.Taken.TheVariants as taken
+use Rattle.sh_exec_machine.specs.declared.undone.Undone.{Undone}
+use Rattle.sh_exec_shell.specs.Forms.{Acted, acted}
+use Rattle.sh_exec_shell.specs.Running.{Run, At, In, entered, moved}
+use Rattle.sh_exec_shell.specs.Waits.{waited}
+use Rattle.sh_exec_shell.specs.declared.form.Form.TheVariants.{Text}
+use Rattle.sh_files.specs.Nodes.{FileMap}
+use Rattle.sh_kernel.specs.Calls.{close_call, end_call}
+use Rattle.sh_kernel.specs.State.{KernelKept, KernelState, StandsAt}
+use Rattle.sh_kernel_base.specs.declared.descriptor.Name.TheVariants.{Aside}
+use Rattle.sh_kernel_base.specs.declared.fault.KernelFault.{KernelFault}
+use Rattle.sh_tree.specs.declared.tree.Command.TheViews as view
+use Rattle.sh_vars.specs.Environment.{Environment}
+
+-- ---- reading (2.1): where no command follows the shell is left with the last status
+abbrev pub read_turn : Environment → Found → Run
+read_turn env found.Nothing = At (Leaving env.special.status)
+read_turn env (found.Command tree rest) = In (Text rest) (entered (view.out-Complete tree).items env.special.status)
+read_turn env (found.Fault refusal) = At (fatal (refusal_text refusal))
+
+-- ---- expansion
+abbrev pub expand_turn : FileMap → Environment → Wants → Option Pending → Turn
+expand_turn files env (Words command in_place status) pending = words_turn files env command in_place status pending
+expand_turn files env (Values p) pending = assign_turn files env p pending
+
+-- ---- reading what a substitution's process writes, 1024 bytes at a time; a read that fails counts as end of file
+abbrev pub next : Place → Run
+next place = At (Next place)
+
+unfoldable pub collected : KernelState → ℕ → Environment → Substitution → ℕ → Acted
+collected s pid env substitution aside = acted (close_call s pid (Aside aside)).after env (next (Answering substitution))
+
+abbrev pub with_written : Substitution → List ℕ → Substitution
+with_written substitution bytes = record substitution { written = substitution.written ++ bytes }
+
+-- the end of the pipe is let go at its end of file
+abbrev pub collect_by : KernelState → ℕ → Environment → Substitution → ℕ → Taken → Acted
+collect_by s pid env substitution aside (taken.Bytes bytes) =
+    if nat_eq (length bytes) 0 then collected s pid env substitution aside
+    else acted s env (next (Collecting (with_written substitution bytes)))
+collect_by s pid env substitution aside taken.Wait = acted s env (next (Collecting substitution))
+collect_by s pid env substitution aside taken.Failed = collected s pid env substitution aside
+
+unfoldable pub collect_from : KernelState → ℕ → Environment → Substitution → ℕ → Acted
+collect_from s pid env substitution aside =
+    let t = take_bytes s pid (Aside aside) 1024 in collect_by t.after pid env substitution aside t.told
+
+abbrev pub collect_end : KernelState → ℕ → Environment → Substitution → Option ℕ → Acted
+collect_end s pid env substitution None = acted s env (next (Answering substitution))
+collect_end s pid env substitution (Some aside) = collect_from s pid env substitution aside
+
+unfoldable pub collect_turn : KernelState → ℕ → Environment → Substitution → Acted
+collect_turn s pid env substitution = collect_end s pid env substitution substitution.aside
+
+-- ---- waiting
+-- the status of a substitution is kept for a command without a name (2.9.1)
+abbrev pub with_substitution : Wants → ℕ → Wants
+with_substitution (Words command in_place before) status = Words command in_place status
+with_substitution (Values p) status = Values (record p { status = status })
+
+abbrev pub answered : Pending → List ℕ → Pending
+answered pending answer = record pending { answers = pending.answers ++ answer ∷ [] }
+
+abbrev pub answer_by : Substitution → Option ℕ → Place
+answer_by substitution None = Answering substitution
+answer_by substitution (Some status) =
+    Expanding (with_substitution substitution.wants status) (Some (answered substitution.pending substitution.written))
+
+unfoldable pub answer_turn : KernelState → ℕ → Substitution → Place
+answer_turn s pid substitution = answer_by substitution (waited s pid substitution.children)
+
+abbrev pub wait_by : List ℕ → Option ℕ → Active
+wait_by children None = Next (Waiting children)
+wait_by children (Some status) = Done status
+
+unfoldable pub wait_turn : KernelState → ℕ → List ℕ → Active
+wait_turn s pid children = wait_by children (waited s pid children)
+
+-- ---- redirection (2.7); what a program's process changes is never undone
+abbrev pub keeps : Role → Bool
+keeps role.Nameless = true
+keeps (role.Builtin builtin) = true
+keeps role.Program = false
+
+abbrev pub undone_by : List Undone → Option Undone → List Undone
+undone_by undo None = undo
+undone_by undo (Some one) = undo ++ one ∷ []
+
+abbrev pub noted : Prepared → Option Undone → Prepared
+noted p one = record p { undo = record p.undo { descriptors = undone_by p.undo.descriptors one } }
+
+abbrev pub redirect_by : ℕ → Prepared → List ℕ → Result (Unit {0}) KernelFault → Option Undone → Run
+redirect_by last p word (Ok _) one = moved (ahead last (noted p one))
+redirect_by last p word (Err f) one = moved (not_done p word f)
+
+unfoldable pub redirect_one : KernelState → ℕ → Environment → Prepared → Redirection → Acted
+redirect_one s pid env p redirection =
+    let r = redirected (keeps p.role) s pid env.directory redirection in
+    acted r.after env (redirect_by env.special.status p redirection.word r.answer r.undone)
+
+abbrev pub redirect_from : KernelState → ℕ → Environment → Prepared → List Redirection → Acted
+redirect_from s pid env p [] = acted s env (moved (ahead env.special.status p))
+redirect_from s pid env p (redirection ∷ redirections) = redirect_one s pid env (record p { redirections = redirections }) redirection
+
+unfoldable pub redirect_turn : KernelState → ℕ → Environment → Prepared → Acted
+redirect_turn s pid env p = redirect_from s pid env p p.redirections
+
+-- ---- writing
+abbrev pub finished : Finish → Active
+finished (Status status) = Done status
+finished (Leave status) = Leaving status
+finished (Output builtin) = Done 0
+
+-- a message that can't be written is dropped; a built-in has 1 then, and a message
+abbrev pub unwritten : Finish → Active
+unwritten (Status status) = Done status
+unwritten (Leave status) = Leaving status
+unwritten (Output builtin) = Next (Writing (message (write_error (name_of builtin))) (Status 1))
+
+-- what is left stands to be written; a process that a signal ended acts no more
+abbrev pub written_by : Piece → Finish → Given → Active
+written_by piece finish given.Whole = finished finish
+written_by piece finish (given.Part count) = Next (Writing (record piece { bytes = drop count piece.bytes }) finish)
+written_by piece finish given.Wait = Next (Writing piece finish)
+written_by piece finish given.Ended = Next (Writing piece finish)
+written_by piece finish given.Failed = unwritten finish
+
+unfoldable pub write_turn : KernelState → ℕ → Environment → Piece → Finish → Acted
+write_turn s pid env piece finish =
+    let g = give_bytes s pid piece.descriptor piece.bytes in acted g.after env (At (written_by piece finish g.told))
+
+-- ---- the end of the process
+unfoldable pub end_turn : KernelState → ℕ → Environment → ℕ → Acted
+end_turn s pid env status = acted (end_call s pid status).after env (next (Ending status))
+
+-- a kernel and a shell stand at what an action leaves
+pub record IsActed (kernel : KernelKept) (env : Environment) (ran : Run) (a : Acted) : Type 0 where
+  pub state : StandsAt kernel a.machine
+  pub environment : env ≡ a.environment
+  pub run : ran ≡ a.run

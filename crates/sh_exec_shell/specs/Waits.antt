@@ -1,0 +1,34 @@
+-- Waiting for processes (2.9.2, 2.8.2).
+use Rattle.std.specs.Prelude.{ℕ, ◌+◌, ◌-◌, List, length, nat_lt, Option, Some, None, Result, Ok, Err, slice_get, unwrap_or, if◌then◌else◌}
+use Rattle.sh_kernel.specs.State.{KernelState}
+use Rattle.sh_kernel_base.specs.Machine.{wait_answer}
+use Rattle.sh_kernel_base.specs.Processes.{status_at}
+use Rattle.sh_kernel_base.specs.Waiting.{is_wait}
+use Rattle.sh_kernel_base.specs.declared.fault.KernelFault.{KernelFault}
+use Rattle.sh_kernel_base.specs.declared.process.Status.{Status}
+use Rattle.sh_kernel_base.specs.declared.process.Status.TheVariants.{Running, Stopped, Exited, Signaled}
+
+-- the exit status by which a shell knows how a process stands (2.8.2); a process that a signal ended has 128 and its number
+-- signals' numbers are below 128
+abbrev pub signal_status : ℕ → ℕ
+signal_status signal = if nat_lt signal 128 then 128 + signal else 255
+
+abbrev pub number_of : Option Status → ℕ
+number_of None = 127
+number_of (Some Running) = 0
+number_of (Some (Stopped signal)) = signal_status signal
+number_of (Some (Exited status)) = status
+number_of (Some (Signaled signal)) = signal_status signal
+
+-- the last of some processes; there is one
+abbrev pub last_of : List ℕ → ℕ
+last_of children = unwrap_or (slice_get children (length children - 1)) 0
+
+abbrev pub status_by : Result (Unit {0}) KernelFault → ℕ → Option ℕ
+status_by (Ok _) status = Some status
+status_by (Err fault) status = if is_wait fault then None else Some status
+
+-- the status of the last of these processes, once all of them have ended
+unfoldable pub waited : KernelState → ℕ → List ℕ → Option ℕ
+waited s pid children =
+    status_by (wait_answer s.machine.processes pid children) (number_of (status_at s.machine.processes (last_of children)))

@@ -1,0 +1,241 @@
+//! The turns of a shell that make a process.
+ghost use Rattle.std.specs.Prelude.{◌≡◌, ◌++◌, ◌∷◌, [], IfOk, true};
+ghost use Rattle.sh_kernel.specs.State.{KernelState, StandsAt};
+ghost use Rattle.sh_exec_base.specs.Messages as messages;
+ghost use Rattle.sh_exec_command.specs.Expanding as expanding;
+ghost use Rattle.sh_exec_command.specs.Preparing.{ahead, first_place};
+ghost use Rattle.sh_exec_machine.specs.Forking.{HasForked};
+ghost use Rattle.sh_exec_shell.specs.Forks.{IsTurned, child_of, fork_turn, is_more, program_by, stage_by, stage_from, stage_one, stage_turn, staged, substitute_turn, substitution_by, turned, unforked};
+ghost use Rattle.sh_exec_shell.specs.Running.{Run, body_of, moved};
+ghost use Rattle.sh_exec_shell.specs.Tree.{run_of};
+
+use crate::entering::{body_of, go, next};
+use crate::shell::{Child, child_of};
+use crate::tree::Tree;
+use sh_exec_base::Queue;
+use sh_exec_base::message::cannot_fork;
+use sh_exec_command::{
+    Active, Finish, Move, Pending, Place, Prepared, Stages, Substitution, Wants, first_place,
+    go_ahead,
+};
+use sh_exec_machine::{Forked, fork_process};
+use sh_kernel::Kernel;
+use sh_syntax::memory::NoMemory;
+use sh_syntax::sequence::{Sequence, Text};
+use sh_syntax::shared::Shared;
+use sh_tree::tree::{Command, Complete};
+use sh_vars::Vars;
+use std::alloc::Global;
+
+/// No process can be made.
+fn refused(alloc: Global) -> Result<Active, NoMemory>
+    ensures { IfOk result (λ active. active ≡ expanding.fatal messages.cannot_fork) }
+{
+    let piece = cannot_fork(alloc)?;
+    Ok(Active::Next(Place::Writing(piece, Finish::Leave(2))))
+}
+
+/// Some processes, and one more.
+fn one_more(children: Sequence<u32>, child: u32) -> Result<Sequence<u32>, NoMemory>
+    ensures { IfOk result (λ all. all ≡ children ++ child ∷ []) }
+{
+    let mut children = children;
+    children.push(child)?;
+    Ok(children)
+}
+
+/// A program's process is made.
+fn put_program(
+    alloc: Global,
+    vars: &Vars,
+    prepared: Prepared,
+    child: u32,
+) -> Result<Child, NoMemory>
+    ensures { IfOk result (λ made. made ≡ record { pid = child; shell = record { environment = vars.now; run = moved (ahead vars.now.special.status prepared) } }) }
+{
+    let copy = vars.copy()?;
+    let to = go_ahead(alloc, vars.status(), prepared)?;
+    let tree = go(alloc, to)?;
+    Ok(child_of(child, copy, tree))
+}
+
+/// The turn in which a program's process is made (XCU 2.9.1.6).
+#[tactic(auto, unfolding(crate::specs::Forks::fork_turn))]
+pub(crate) fn fork_turn(
+    alloc: Global,
+    kernel: &mut Kernel,
+    pid: u32,
+    vars: &Vars,
+    prepared: Prepared,
+) -> Result<(Tree, Option<Child>), NoMemory>
+    ensures state { (s : KernelState) → StandsAt kernel.old s → IfOk result (λ r. IsTurned kernel.new vars.now (run_of r.0) r.1 (fork_turn s pid vars.now prepared)) }
+    ensures terminal { kernel.new.terminal ≡ kernel.old.terminal }
+{
+    let Forked { child, .. } = fork_process(kernel, pid, None, false)?;
+    match child {
+        Some(child) => {
+            let made = put_program(alloc, vars, prepared, child)?;
+            let children = one_more(Sequence::new(alloc), child)?;
+            Ok((next(Place::Waiting(children)), Some(made)))
+        },
+        None => {
+            let active = refused(alloc)?;
+            Ok((Tree::At(active), None))
+        },
+    }
+}
+
+/// Where a pipeline goes on behind one of its processes.
+fn staged(commands: Queue<Shared<Command>>, aside: Option<usize>, children: Sequence<u32>) -> Place
+    ensures { result ≡ staged commands aside children }
+{
+    if commands.is_empty() {
+        return Place::Waiting(children);
+    }
+    Place::Staging(Stages {
+        commands,
+        aside,
+        children,
+    })
+}
+
+/// The process of a stage is made.
+fn put_stage(
+    alloc: Global,
+    vars: &Vars,
+    command: Shared<Command>,
+    child: u32,
+) -> Result<Child, NoMemory>
+    ensures { IfOk result (λ made. made ≡ record { pid = child; shell = record { environment = vars.now; run = Run.At (Active.Next (first_place true command)) } }) }
+{
+    let copy = vars.copy()?;
+    let place = first_place(alloc, true, command)?;
+    Ok(child_of(child, copy, next(place)))
+}
+
+/// The process of the next stage.
+#[tactic(auto, unfolding(crate::specs::Forks::stage_one))]
+fn stage_one(
+    alloc: Global,
+    kernel: &mut Kernel,
+    pid: u32,
+    vars: &Vars,
+    command: Shared<Command>,
+    stages: Stages,
+) -> Result<(Tree, Option<Child>), NoMemory>
+    ensures state { (s : KernelState) → StandsAt kernel.old s → IfOk result (λ r. IsTurned kernel.new vars.now (run_of r.0) r.1 (stage_one s pid vars.now command stages.commands stages.aside stages.children)) }
+    ensures terminal { kernel.new.terminal ≡ kernel.old.terminal }
+{
+    let Stages {
+        commands,
+        aside,
+        children,
+    } = stages;
+    let forked = fork_process(kernel, pid, aside, !commands.is_empty())?;
+    match forked.child {
+        Some(child) => {
+            let made = put_stage(alloc, vars, command, child)?;
+            let children = one_more(children, child)?;
+            let place = staged(commands, forked.aside, children);
+            Ok((next(place), Some(made)))
+        },
+        None => {
+            let active = refused(alloc)?;
+            Ok((Tree::At(active), None))
+        },
+    }
+}
+
+/// The turn in which the process of a pipeline's next stage is made (XCU 2.9.2).
+#[tactic(auto, unfolding(crate::specs::Forks::stage_turn))]
+pub(crate) fn stage_turn(
+    alloc: Global,
+    kernel: &mut Kernel,
+    pid: u32,
+    vars: &Vars,
+    stages: Stages,
+) -> Result<(Tree, Option<Child>), NoMemory>
+    ensures state { (s : KernelState) → StandsAt kernel.old s → IfOk result (λ r. IsTurned kernel.new vars.now (run_of r.0) r.1 (stage_turn s pid vars.now stages)) }
+    ensures terminal { kernel.new.terminal ≡ kernel.old.terminal }
+{
+    let mut stages = stages;
+    let Some(command) = stages.commands.take() else {
+        return Ok((next(Place::Waiting(stages.children)), None));
+    };
+    let (tree, child) = stage_one(alloc, kernel, pid, vars, command, stages)?;
+    Ok((tree, child))
+}
+
+/// Where a command goes on whose substitution can have no process.
+fn unforked(alloc: Global, wants: Wants) -> Result<Move, NoMemory>
+    ensures { IfOk result (λ to. to ≡ unforked wants) }
+{
+    let active = refused(alloc)?;
+    match wants {
+        Wants::Words { .. } => Ok(Move::At(active)),
+        Wants::Values(prepared) => Ok(Move::Held(prepared.undo, active)),
+    }
+}
+
+/// The process of a substitution is made.
+fn put_substitution(
+    alloc: Global,
+    vars: &Vars,
+    program: &Complete,
+    child: u32,
+) -> Result<Child, NoMemory>
+    ensures { IfOk result (λ made. made ≡ record { pid = child; shell = record { environment = vars.now; run = body_of program.now vars.now.special.status } }) }
+{
+    let copy = vars.copy()?;
+    let tree = body_of(alloc, program, vars.status())?;
+    Ok(child_of(child, copy, tree))
+}
+
+/// A command waits for what a process writes.
+fn collecting(
+    alloc: Global,
+    wants: Wants,
+    pending: Pending,
+    aside: Option<usize>,
+    child: u32,
+) -> Result<Place, NoMemory>
+    ensures { IfOk result (λ place. place ≡ Place.Collecting (record { wants = wants; pending = pending; written = []; aside = aside; children = child ∷ [] })) }
+{
+    let children = one_more(Sequence::new(alloc), child)?;
+    Ok(Place::Collecting(Substitution {
+        wants,
+        pending,
+        written: Text::new(alloc),
+        aside,
+        children,
+    }))
+}
+
+/// The turn in which a command substitution's process is made (XCU 2.6.3).
+#[tactic(auto, unfolding(crate::specs::Forks::substitute_turn))]
+pub(crate) fn substitute_turn(
+    alloc: Global,
+    kernel: &mut Kernel,
+    pid: u32,
+    vars: &Vars,
+    program: Shared<Complete>,
+    wants: Wants,
+    pending: Pending,
+) -> Result<(Tree, Option<Child>), NoMemory>
+    ensures state { (s : KernelState) → StandsAt kernel.old s → IfOk result (λ r. IsTurned kernel.new vars.now (run_of r.0) r.1 (substitute_turn s pid vars.now program wants pending)) }
+    ensures terminal { kernel.new.terminal ≡ kernel.old.terminal }
+{
+    let forked = fork_process(kernel, pid, None, true)?;
+    match forked.child {
+        Some(child) => {
+            let made = put_substitution(alloc, vars, program.get(), child)?;
+            let place = collecting(alloc, wants, pending, forked.aside, child)?;
+            Ok((next(place), Some(made)))
+        },
+        None => {
+            let to = unforked(alloc, wants)?;
+            let tree = go(alloc, to)?;
+            Ok((tree, None))
+        },
+    }
+}

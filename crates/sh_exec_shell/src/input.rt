@@ -1,0 +1,87 @@
+//! Reading what a command substitution's process writes.
+ghost use Rattle.std.specs.Prelude.{◌≡◌, IfOk};
+ghost use Rattle.sh_kernel.specs.State.{KernelState, StandsAt};
+ghost use Rattle.sh_exec_shell.specs.Acting.{IsActed, collect_by, collect_end, collect_from, collect_turn, collected, with_written};
+ghost use Rattle.sh_exec_shell.specs.Tree.{run_of};
+
+use crate::entering::next;
+use crate::tree::Tree;
+use sh_exec_command::{Place, Substitution};
+use sh_exec_machine::{Taken, take_bytes};
+use sh_kernel::{Kernel, Name};
+use sh_syntax::memory::NoMemory;
+use sh_vars::Vars;
+use std::alloc::Global;
+
+/// The most bytes that are read at once.
+const READ: usize = 1024;
+
+/// A substitution whose process has written more.
+fn with_written(substitution: Substitution, bytes: &[u8]) -> Result<Substitution, NoMemory>
+    ensures { IfOk result (λ next. next ≡ with_written substitution bytes.now) }
+{
+    let mut substitution = substitution;
+    substitution.written.extend_from_slice(bytes)?;
+    Ok(substitution)
+}
+
+/// All that it writes is there.
+#[tactic(auto, unfolding(crate::specs::Acting::collected))]
+fn collected(
+    kernel: &mut Kernel,
+    pid: u32,
+    vars: &Vars,
+    substitution: Substitution,
+    aside: usize,
+) -> Tree
+    ensures state { (s : KernelState) → StandsAt kernel.old s → IsActed kernel.new vars.now (run_of result) (collected s pid vars.now substitution aside) }
+    ensures terminal { kernel.new.terminal.bytes ≡ kernel.old.terminal.bytes }
+{
+    let _closed = kernel.close(pid, Name::Aside(aside));
+    next(Place::Answering(substitution))
+}
+
+/// A read from its pipe.
+#[tactic(auto, unfolding(crate::specs::Acting::collect_from))]
+fn collect_from(
+    alloc: Global,
+    kernel: &mut Kernel,
+    pid: u32,
+    vars: &Vars,
+    substitution: Substitution,
+    aside: usize,
+) -> Result<Tree, NoMemory>
+    ensures state { (s : KernelState) → StandsAt kernel.old s → IfOk result (λ tree. IsActed kernel.new vars.now (run_of tree) (collect_from s pid vars.now substitution aside)) }
+    ensures terminal { kernel.new.terminal.bytes ≡ kernel.old.terminal.bytes }
+{
+    match take_bytes(alloc, kernel, pid, Name::Aside(aside), READ)? {
+        Taken::Bytes(bytes) => {
+            if bytes.len() == 0 {
+                return Ok(collected(kernel, pid, vars, substitution, aside));
+            }
+            let substitution = with_written(substitution, bytes.as_slice())?;
+            Ok(next(Place::Collecting(substitution)))
+        },
+        Taken::Wait => Ok(next(Place::Collecting(substitution))),
+        Taken::Failed => Ok(collected(kernel, pid, vars, substitution, aside)),
+    }
+}
+
+/// The turn of a command substitution's reading.
+#[tactic(auto, unfolding(crate::specs::Acting::collect_turn))]
+pub(crate) fn collect_turn(
+    alloc: Global,
+    kernel: &mut Kernel,
+    pid: u32,
+    vars: &Vars,
+    substitution: Substitution,
+) -> Result<Tree, NoMemory>
+    ensures state { (s : KernelState) → StandsAt kernel.old s → IfOk result (λ tree. IsActed kernel.new vars.now (run_of tree) (collect_turn s pid vars.now substitution)) }
+    ensures terminal { kernel.new.terminal.bytes ≡ kernel.old.terminal.bytes }
+{
+    let Some(aside) = substitution.aside else {
+        return Ok(next(Place::Answering(substitution)));
+    };
+    let tree = collect_from(alloc, kernel, pid, vars, substitution, aside)?;
+    Ok(tree)
+}

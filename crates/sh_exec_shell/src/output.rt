@@ -1,0 +1,99 @@
+//! The writes of a shell, and the end of its process.
+ghost use Rattle.std.specs.Prelude.{◌≡◌, IfOk, drop};
+ghost use Rattle.sh_kernel.specs.State.{KernelState, StandsAt};
+ghost use Rattle.sh_tty.specs.Kept.{Extends};
+ghost use Rattle.sh_exec_shell.specs.Acting.{IsActed, end_turn, finished, unwritten, write_turn, written_by};
+ghost use Rattle.sh_exec_shell.specs.Tree.{run_of};
+
+use crate::entering::next;
+use crate::tree::Tree;
+use sh_exec_base::message::{Piece, write_error};
+use sh_exec_command::{Active, Finish, Place};
+use sh_exec_machine::{Given, give_bytes};
+use sh_kernel::Kernel;
+use sh_syntax::memory::NoMemory;
+use sh_syntax::sequence::Text;
+use sh_vars::Vars;
+use std::alloc::Global;
+
+/// What follows a write that is done whole.
+fn finished(finish: Finish) -> Active
+    ensures { result ≡ finished finish }
+{
+    match finish {
+        Finish::Status(status) => Active::Done(status),
+        Finish::Leave(status) => Active::Leaving(status),
+        Finish::Output(_) => Active::Done(0),
+    }
+}
+
+/// What follows a write that failed.
+fn unwritten(alloc: Global, finish: Finish) -> Result<Active, NoMemory>
+    ensures { IfOk result (λ active. active ≡ unwritten finish) }
+{
+    match finish {
+        Finish::Status(status) => Ok(Active::Done(status)),
+        Finish::Leave(status) => Ok(Active::Leaving(status)),
+        Finish::Output(builtin) => {
+            let piece = write_error(alloc, builtin.name())?;
+            Ok(Active::Next(Place::Writing(piece, Finish::Status(1))))
+        },
+    }
+}
+
+/// What is left of a piece behind its first bytes.
+fn rest_of(alloc: Global, piece: Piece, count: usize) -> Result<Piece, NoMemory>
+    ensures { IfOk result (λ rest. rest ≡ record piece { bytes = drop count piece.bytes }) }
+{
+    let mut bytes = Text::new(alloc);
+    let from = count.min(piece.bytes.len());
+    bytes.extend_from_slice(&piece.bytes.as_slice()[from..])?;
+    Ok(Piece {
+        descriptor: piece.descriptor,
+        bytes,
+    })
+}
+
+/// What follows a write.
+fn written(alloc: Global, piece: Piece, finish: Finish, given: Given) -> Result<Active, NoMemory>
+    ensures { IfOk result (λ active. active ≡ written_by piece finish given) }
+{
+    match given {
+        Given::Whole => Ok(finished(finish)),
+        Given::Part(count) => {
+            let rest = rest_of(alloc, piece, count)?;
+            Ok(Active::Next(Place::Writing(rest, finish)))
+        },
+        Given::Wait => Ok(Active::Next(Place::Writing(piece, finish))),
+        Given::Ended => Ok(Active::Next(Place::Writing(piece, finish))),
+        Given::Failed => unwritten(alloc, finish),
+    }
+}
+
+/// A write turn.
+#[tactic(auto, unfolding(crate::specs::Acting::write_turn))]
+pub(crate) fn write_turn(
+    alloc: Global,
+    kernel: &mut Kernel,
+    pid: u32,
+    vars: &Vars,
+    piece: Piece,
+    finish: Finish,
+) -> Result<Tree, NoMemory>
+    ensures state { (s : KernelState) → StandsAt kernel.old s → IfOk result (λ tree. IsActed kernel.new vars.now (run_of tree) (write_turn s pid vars.now piece finish)) }
+    ensures terminal { Extends kernel.old.terminal.bytes kernel.new.terminal.bytes }
+{
+    let given = give_bytes(kernel, pid, piece.descriptor, piece.bytes.as_slice())?;
+    let active = written(alloc, piece, finish, given)?;
+    Ok(Tree::At(active))
+}
+
+/// The end of the process.
+#[tactic(auto, unfolding(crate::specs::Acting::end_turn))]
+pub(crate) fn end_turn(kernel: &mut Kernel, pid: u32, vars: &Vars, status: u8) -> Tree
+    ensures state { (s : KernelState) → StandsAt kernel.old s → IsActed kernel.new vars.now (run_of result) (end_turn s pid vars.now status) }
+    ensures terminal { kernel.new.terminal.bytes ≡ kernel.old.terminal.bytes }
+{
+    let _ended = kernel.end(pid, status);
+    next(Place::Ending(status))
+}

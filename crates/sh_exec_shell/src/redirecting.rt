@@ -1,0 +1,116 @@
+//! The redirection turns of a command.
+ghost use Rattle.std.specs.Prelude.{◌≡◌, IfOk};
+ghost use Rattle.sh_kernel.specs.State.{KernelState, StandsAt};
+ghost use Rattle.sh_exec_shell.specs.Acting.{IsActed, keeps, noted, redirect_by, redirect_from, redirect_one, redirect_turn, undone_by};
+ghost use Rattle.sh_exec_shell.specs.Running.{Run};
+ghost use Rattle.sh_exec_shell.specs.Tree.{run_of};
+
+use crate::entering::go;
+use crate::tree::Tree;
+use sh_exec_base::redirection::Redirection;
+use sh_exec_command::{Prepared, Role, go_ahead, not_done};
+use sh_exec_machine::{Redirected, Undone, redirect};
+use sh_kernel::{Kernel, KernelFault};
+use sh_syntax::memory::NoMemory;
+use sh_vars::Vars;
+use std::alloc::Global;
+
+/// Whether the redirections of a command are undone behind it.
+fn keeps(role: Role) -> bool
+    ensures { result ≡ keeps role }
+{
+    match role {
+        Role::Nameless => true,
+        Role::Builtin(_) => true,
+        Role::Program => false,
+    }
+}
+
+/// A command with one redirection more to be undone.
+fn note(prepared: Prepared, one: Option<Undone>) -> Result<Prepared, NoMemory>
+    ensures { IfOk result (λ next. next ≡ noted prepared one) }
+{
+    let Some(one) = one else {
+        return Ok(prepared);
+    };
+    let mut prepared = prepared;
+    prepared.undo.descriptors.push(one)?;
+    Ok(prepared)
+}
+
+/// Where a command goes on behind a redirection.
+fn go_on(
+    alloc: Global,
+    last: u8,
+    prepared: Prepared,
+    word: &[u8],
+    answer: Result<(), KernelFault>,
+    one: Option<Undone>,
+) -> Result<Tree, NoMemory>
+    ensures { IfOk result (λ tree. run_of tree ≡ redirect_by last prepared word.now answer one) }
+{
+    match answer {
+        Ok(()) => {
+            let prepared = note(prepared, one)?;
+            let to = go_ahead(alloc, last, prepared)?;
+            go(alloc, to)
+        },
+        Err(fault) => {
+            let to = not_done(alloc, prepared, word, fault)?;
+            go(alloc, to)
+        },
+    }
+}
+
+/// One redirection of a command.
+#[tactic(auto, unfolding(crate::specs::Acting::redirect_one))]
+fn redirect_one(
+    alloc: Global,
+    kernel: &mut Kernel,
+    pid: u32,
+    vars: &Vars,
+    prepared: Prepared,
+    redirection: Redirection,
+) -> Result<Tree, NoMemory>
+    ensures state { (s : KernelState) → StandsAt kernel.old s → IfOk result (λ tree. IsActed kernel.new vars.now (run_of tree) (redirect_one s pid vars.now prepared redirection)) }
+    ensures terminal { kernel.new.terminal ≡ kernel.old.terminal }
+{
+    let Redirected { answer, undone } = redirect(
+        kernel,
+        pid,
+        vars.directory(),
+        &redirection,
+        keeps(prepared.role),
+    )?;
+    let tree = go_on(
+        alloc,
+        vars.status(),
+        prepared,
+        redirection.word.as_slice(),
+        answer,
+        undone,
+    )?;
+    Ok(tree)
+}
+
+/// A redirection turn of a command.
+#[tactic(auto, unfolding(crate::specs::Acting::redirect_turn))]
+pub(crate) fn redirect_turn(
+    alloc: Global,
+    kernel: &mut Kernel,
+    pid: u32,
+    vars: &Vars,
+    prepared: Prepared,
+) -> Result<Tree, NoMemory>
+    ensures state { (s : KernelState) → StandsAt kernel.old s → IfOk result (λ tree. IsActed kernel.new vars.now (run_of tree) (redirect_turn s pid vars.now prepared)) }
+    ensures terminal { kernel.new.terminal ≡ kernel.old.terminal }
+{
+    let mut prepared = prepared;
+    let Some(redirection) = prepared.redirections.take() else {
+        let to = go_ahead(alloc, vars.status(), prepared)?;
+        let tree = go(alloc, to)?;
+        return Ok(tree);
+    };
+    let tree = redirect_one(alloc, kernel, pid, vars, prepared, redirection)?;
+    Ok(tree)
+}

@@ -1,0 +1,140 @@
+//! A shell's process.
+ghost use Rattle.std.specs.Prelude.{◌≡◌, IfOk, OnOk};
+ghost use Rattle.sh_kernel.specs.State.{KernelState, StandsAt};
+ghost use Rattle.sh_tty.specs.Kept.{Extends};
+ghost use Rattle.sh_exec_shell.specs.Forks.{IsTurned};
+ghost use Rattle.sh_exec_shell.specs.Reduction.{reduce, rooted, shell_turn, with_root};
+ghost use Rattle.sh_exec_shell.specs.Running.{Run, active_of};
+ghost use Rattle.sh_exec_shell.specs.Tree.{run_of};
+
+use crate::act::reduce;
+use crate::tree::Tree;
+use sh_exec_base::Rest;
+use sh_exec_command::{Active, Place};
+use sh_kernel::Kernel;
+use sh_syntax::memory::NoMemory;
+use sh_syntax::sequence::Text;
+use sh_vars::Vars;
+use std::alloc::Global;
+use std::marker::Model;
+use std::mem;
+
+/// A shell: its variables, options and parameters (XCU 2.13), and what it runs.
+#[derive(Drop)]
+pub struct Shell {
+    vars: Vars,
+    tree: Tree,
+}
+
+impl Model for Shell {
+    ghost use Rattle.std.specs.Coded.{codes};
+    ghost use Rattle.sh_vars.specs.Codes.{map_code};
+    ghost use Rattle.sh_exec_shell.specs.Codes.{run_code};
+    ghost use Rattle.sh_exec_shell.specs.Running.{ShellState};
+    ghost use Rattle.sh_exec_shell.specs.Tree.{run_of};
+
+    ghost Value = { ShellState };
+
+    ghost coded = { Prim.hlevel (codes, map_code, run_code) };
+
+    ghost view = { λ t. record { environment = t.vars; run = run_of t.tree } };
+}
+
+/// A shell in a process that another one made.
+#[derive(Drop)]
+pub struct Child {
+    pub pid: u32,
+    pub shell: Shell,
+}
+
+/// At the root what leaves the shell comes to the end of the process.
+fn root(tree: Tree) -> Tree
+    ensures { run_of result ≡ rooted (run_of tree) }
+{
+    match tree {
+        Tree::At(active) => match active {
+            Active::Leaving(status) => Tree::At(Active::Next(Place::Ending(status))),
+            Active::Done(status) => Tree::At(Active::Next(Place::Ending(status))),
+            Active::Next(place) => Tree::At(Active::Next(place)),
+        },
+        Tree::In(form, inner) => Tree::In(form, inner),
+    }
+}
+
+/// The active place of a tree.
+fn active_of(tree: &Tree) -> &Active
+    ensures { result.now ≡ active_of (run_of tree.now) }
+{
+    match tree {
+        Tree::At(active) => active,
+        Tree::In(_, inner) => active_of(inner),
+    }
+}
+
+/// A shell of these variables and this tree.
+pub(crate) fn shell_of(vars: Vars, tree: Tree) -> Shell
+    ensures { result ≡ record { environment = vars; run = run_of tree } }
+{
+    Shell { vars, tree }
+}
+
+/// A child that is a shell of these variables and this tree.
+pub(crate) fn child_of(pid: u32, vars: Vars, tree: Tree) -> Child
+    ensures { result ≡ record { pid = pid; shell = record { environment = vars; run = run_of tree } } }
+{
+    Child {
+        pid,
+        shell: shell_of(vars, tree),
+    }
+}
+
+impl Shell {
+    /// A shell that is about to read its text.
+    pub fn reading(vars: Vars, text: Text) -> Self
+        ensures { result ≡ record { environment = vars; run = Run.At (Active.Next (Place.Reading text)) } }
+    {
+        shell_of(
+            vars,
+            Tree::At(Active::Next(Place::Reading(Rest::new(text)))),
+        )
+    }
+
+    /// A shell of these variables that is about to do this alone.
+    pub fn at(vars: Vars, place: Place) -> Self
+        ensures { result ≡ record { environment = vars; run = Run.At (Active.Next place) } }
+    {
+        shell_of(vars, Tree::At(Active::Next(place)))
+    }
+
+    /// Its variables, options and parameters.
+    pub fn vars(&self) -> &Vars
+        ensures { result.now ≡ self.now.environment }
+    {
+        &self.vars
+    }
+
+    /// Its active place: what it is about to do.
+    pub fn active(&self) -> &Active
+        ensures { result.now ≡ active_of self.now.run }
+    {
+        active_of(&self.tree)
+    }
+
+    /// One turn of a shell in the process `pid`, and the process that it made, if it made one. The only error is want of
+    /// memory, after which the shell is given up.
+    #[tactic(auto, unfolding(crate::specs::Reduction::shell_turn))]
+    pub fn turn(
+        &mut self,
+        alloc: Global,
+        kernel: &mut Kernel,
+        pid: u32,
+    ) -> Result<Option<Child>, NoMemory>
+        ensures state { (s : KernelState) → StandsAt kernel.old s → IfOk result (λ child. IsTurned kernel.new self.new.environment self.new.run child (shell_turn s pid self.old)) }
+        ensures terminal { Extends kernel.old.terminal.bytes kernel.new.terminal.bytes }
+    {
+        let tree = mem::replace(&mut self.tree, Tree::At(Active::Done(0)));
+        let (next, child) = reduce(alloc, kernel, pid, &mut self.vars, tree)?;
+        self.tree = root(next);
+        Ok(child)
+    }
+}

@@ -1,0 +1,121 @@
+//! Waiting for processes.
+ghost use Rattle.std.specs.Prelude.{◌≡◌, IfOk};
+ghost use Rattle.sh_kernel.specs.State.{KernelState, StandsAt};
+ghost use Rattle.sh_exec_shell.specs.Acting.{answer_by, answer_turn, answered, wait_by, wait_turn, with_substitution};
+ghost use Rattle.sh_exec_shell.specs.Waits.{last_of, number_of, signal_status, waited};
+
+use sh_exec_command::{Active, Pending, Place, Substitution, Wants};
+use sh_kernel::{Kernel, Status};
+use sh_syntax::memory::NoMemory;
+use sh_syntax::sequence::{Sequence, Text};
+
+/// The exit status of a process that a signal ended.
+fn signal_status(signal: u8) -> u8
+    ensures { result ≡ signal_status signal }
+{
+    if signal < 128 { 128 + signal } else { 255 }
+}
+
+/// The exit status by which a shell knows how a process stands.
+fn number_of(status: Option<Status>) -> u8
+    ensures { result ≡ number_of status }
+{
+    match status {
+        None => 127,
+        Some(Status::Running) => 0,
+        Some(Status::Stopped(signal)) => signal_status(signal),
+        Some(Status::Exited(status)) => status,
+        Some(Status::Signaled(signal)) => signal_status(signal),
+    }
+}
+
+/// The last of some processes.
+fn last_of(children: &[u32]) -> u32
+    ensures { result ≡ last_of children.now }
+{
+    match children.get(children.len().saturating_sub(1)) {
+        Some(child) => *child,
+        None => 0,
+    }
+}
+
+/// The status of the last of these processes, once all of them have ended.
+#[tactic(auto, unfolding(crate::specs::Waits::waited))]
+fn waited(kernel: &Kernel, pid: u32, children: &[u32]) -> Option<u8>
+    ensures { (s : KernelState) → StandsAt kernel.now s → result ≡ waited s pid children.now }
+{
+    let status = number_of(kernel.status(last_of(children)));
+    match kernel.wait(pid, children) {
+        Ok(()) => Some(status),
+        Err(fault) => {
+            if fault.is_wait() {
+                return None;
+            }
+            Some(status)
+        },
+    }
+}
+
+/// The status of a substitution is kept.
+fn with_substitution(wants: Wants, status: u8) -> Wants
+    ensures { result ≡ with_substitution wants status }
+{
+    match wants {
+        Wants::Words {
+            command,
+            in_place,
+            ..
+        } => Wants::Words {
+            command,
+            in_place,
+            status,
+        },
+        Wants::Values(prepared) => {
+            let mut prepared = prepared;
+            prepared.status = status;
+            Wants::Values(prepared)
+        },
+    }
+}
+
+/// An expansion with one answer more.
+fn with_answer(pending: Pending, answer: Text) -> Result<Pending, NoMemory>
+    ensures { IfOk result (λ next. next ≡ answered pending answer) }
+{
+    let mut pending = pending;
+    pending.answers.push(answer)?;
+    Ok(pending)
+}
+
+/// The turn of waiting for a command substitution's process.
+#[tactic(auto, unfolding(crate::specs::Acting::answer_turn))]
+pub(crate) fn answer_turn(
+    kernel: &Kernel,
+    pid: u32,
+    substitution: Substitution,
+) -> Result<Place, NoMemory>
+    ensures { (s : KernelState) → StandsAt kernel.now s → IfOk result (λ place. place ≡ answer_turn s pid substitution) }
+{
+    let Some(status) = waited(kernel, pid, substitution.children.as_slice()) else {
+        return Ok(Place::Answering(substitution));
+    };
+    let Substitution {
+        wants,
+        pending,
+        written,
+        ..
+    } = substitution;
+    let pending = with_answer(pending, written)?;
+    Ok(Place::Expanding(with_substitution(wants, status), Some(pending)))
+}
+
+/// The turn of waiting for processes.
+#[tactic(auto, unfolding(crate::specs::Acting::wait_turn))]
+pub(crate) fn wait_turn(kernel: &Kernel, pid: u32, children: Sequence<u32>) -> Active
+    ensures { (s : KernelState) → StandsAt kernel.now s → result ≡ wait_turn s pid children }
+{
+    match waited(kernel, pid, children.as_slice()) {
+        Some(status) => Active::Done(status),
+        None => Active::Next(Place::Waiting(children)),
+    }
+}
