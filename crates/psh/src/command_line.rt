@@ -16,8 +16,7 @@ fn command<'a>(alloc: Global) -> Result<Command<'a>, AllocError> {
             Arg::new(alloc, "text")
                 .short('c')
                 .value_name("TEXT")
-                .help("The commands to run")
-                .required(true)
+                .help("The commands to run, in place of a script's")
                 .allow_hyphen_values(true)
                 .action(ArgAction::Set),
         )?
@@ -38,7 +37,10 @@ fn command<'a>(alloc: Global) -> Result<Command<'a>, AllocError> {
         .arg(
             Arg::new(alloc, "words")
                 .value_name("WORDS")
-                .help("$0, and the positional parameters")
+                .help(
+                    "The script's path in the image, or with -c $0; and the positional parameters",
+                )
+                .required_unless_present("text")?
                 .num_args(0..)
                 .action(ArgAction::Append),
         )
@@ -56,15 +58,23 @@ fn fault_of(alloc: Global, error: &Error) -> UsageFault {
     }
 }
 
-/// How a shell is started that runs a text: the first word is `$0`, the others are `$1` and so on.
-fn settings(alloc: Global, text: &str, words: &[&str]) -> Result<Settings, AllocError> {
+/// Where the commands come from: of a text, or of the script that the first word names.
+fn source(alloc: Global, text: Option<&str>, zero: &str) -> Result<Source, AllocError> {
+    match text {
+        Some(text) => Ok(Source::Text(Sequence::from_vec(text.as_bytes().to_vec(alloc)?))),
+        None => Ok(Source::Script(Sequence::from_vec(zero.as_bytes().to_vec(alloc)?))),
+    }
+}
+
+/// How a shell is started that runs a text or a script: the first word is `$0`, the others are `$1` and so on.
+fn settings(alloc: Global, text: Option<&str>, words: &[&str]) -> Result<Settings, AllocError> {
     let mut args = Vec::new(alloc);
     for word in words.iter().skip(1) {
         args.push(Text::copy_of(alloc, word.as_bytes())?)?;
     }
     let zero = words.first().copied().unwrap_or("psh");
     Ok(Settings {
-        source: Source::Text(Sequence::from_vec(text.as_bytes().to_vec(alloc)?)),
+        source: source(alloc, text, zero)?,
         zero: Text::copy_of(alloc, zero.as_bytes())?,
         args: Sequence::from_vec(args),
         options: Options::default(),
@@ -82,7 +92,7 @@ pub fn asked(alloc: Global, words: &[String]) -> Result<usage::Asked, UsageFault
         Ok(matches) => matches,
         Err(error) => return Err(fault_of(alloc, &error)),
     };
-    let text = matches.get_str("text").unwrap_or("");
+    let text = matches.get_str("text");
     let words = matches.get_strs("words").unwrap_or(&[]);
     let image = matches.get_str("image").unwrap_or("");
     let events = matches.get_str("events").unwrap_or("");

@@ -4,6 +4,7 @@ use crate::tests;
 use crate::tests::{Turns, served, settings, shows, take_turns};
 use crate::usage::Asked;
 use sh_files::Files;
+use sh_stock::Program;
 use sh_syntax::memory::NoMemory;
 use sh_vars::Options;
 use sh_world::{Settings, Status, World};
@@ -49,7 +50,7 @@ fn standard_image(alloc: Global, files: &[&str]) -> Result<Vec<u8>, NoMemory> {
 }
 
 /// A world on the standard image with these empty files.
-fn world_on(alloc: Global, files: &[&str], settings: Settings) -> Result<World, NoMemory> {
+fn world_on(alloc: Global, files: &[&str], settings: Settings) -> Result<World<Program>, NoMemory> {
     let image = standard_image(alloc, files)?;
     let Ok(files) = Files::from_image(alloc, &image) else {
         return Err(NoMemory);
@@ -218,14 +219,14 @@ fn faults(rt: HostRuntime) -> Result<(), Fail> {
 }
 
 const NOT_SERVED: [Row; 8] = [
-    ("echo a; echo $(b)", "psh: syntax error\n"),
-    ("echo a; echo \"${x-\"$(b)\"}\"", "psh: syntax error\n"),
-    ("echo a; x=${y%$(b)}", "psh: syntax error\n"),
-    ("echo a; echo $((1+$(b)))", "psh: syntax error\n"),
+    ("echo a; echo $(b &)", "psh: syntax error\n"),
+    ("echo a; echo \"${x-\"$(b && c)\"}\"", "psh: syntax error\n"),
+    ("echo a; x=${y%$(b || c)}", "psh: syntax error\n"),
+    ("echo a; echo $((1+$( (b) )))", "psh: syntax error\n"),
     ("echo a\necho b &", "a\npsh: syntax error\n"),
-    ("echo a | echo b", "psh: syntax error\n"),
-    ("! echo a", "psh: syntax error\n"),
-    ("x=1 echo $x", "psh: syntax error\n"),
+    ("echo a | (echo b)", "psh: syntax error\n"),
+    ("! { echo a; }", "psh: syntax error\n"),
+    ("if echo a; then echo b; fi", "psh: syntax error\n"),
 ];
 
 #[test]

@@ -1,7 +1,7 @@
 //! `psh`: what a shell script does when its processes take turns in a stated way.
 //!
 //! `psh -c TEXT IMAGE EVENTS` runs TEXT by the events of the file EVENTS, on the files of the image IMAGE,
-//! and writes the bytes that the terminal then has.
+//! and writes the bytes that the terminal then has. `psh IMAGE EVENTS SCRIPT` runs a script of the image.
 #![tactic(auto)]
 
 mod command_line;

@@ -1,6 +1,7 @@
 //! One run of the program, over what its files hold.
 use crate::events::{EventFault, Turns, read_events};
 use sh_files::{FaultKind, Files};
+use sh_stock::Program;
 use sh_syntax::memory::NoMemory;
 use sh_world::{Settings, World};
 use std::alloc::Global;
@@ -30,7 +31,7 @@ fn refuse(alloc: Global, err: &mut Vec<u8>, fault: impl Display + Drop) -> u8 {
 }
 
 /// Gives a world its turns.
-fn drive(world: &mut World, all: &[Turns]) -> Result<(), NoMemory> {
+fn drive(world: &mut World<Program>, all: &[Turns]) -> Result<(), NoMemory> {
     for turns in all {
         for _ in 0..turns.times {
             world.apply(turns.event)?;
@@ -74,7 +75,7 @@ pub fn serve(
             return refuse(alloc, err, fault);
         },
     };
-    let Ok(mut world) = World::new(alloc, files, settings) else {
+    let Ok(mut world) = World::<Program>::new(alloc, files, settings) else {
         return lack(alloc, err);
     };
     let driven = drive(&mut world, &all);

@@ -3,6 +3,7 @@ use crate::command_line::asked;
 use crate::serving::serve;
 use crate::usage::{Asked, UsageFault};
 use sh_files::Files;
+use sh_stock::Program;
 use sh_syntax::memory::NoMemory;
 use sh_syntax::sequence::Sequence;
 use sh_vars::{Options, Text};
@@ -25,12 +26,12 @@ pub(crate) fn settings(alloc: Global, text: &str) -> Result<Settings, NoMemory> 
 }
 
 /// The world that runs a text, with no file but the devices.
-fn world(alloc: Global, text: &str) -> Result<World, NoMemory> {
+fn world(alloc: Global, text: &str) -> Result<World<Program>, NoMemory> {
     World::new(alloc, Files::new(alloc)?, settings(alloc, text)?)
 }
 
 /// Gives a world turns.
-pub(crate) fn take_turns(world: &mut World, turns: usize) -> Result<(), NoMemory> {
+pub(crate) fn take_turns(world: &mut World<Program>, turns: usize) -> Result<(), NoMemory> {
     for _ in 0..turns {
         world.apply(Event::Next)?;
     }
@@ -38,7 +39,7 @@ pub(crate) fn take_turns(world: &mut World, turns: usize) -> Result<(), NoMemory
 }
 
 /// Whether a world shows this terminal and this end.
-pub(crate) fn shows(world: &World, terminal: &str, end: Option<Status>) -> bool {
+pub(crate) fn shows(world: &World<Program>, terminal: &str, end: Option<Status>) -> bool {
     world.terminal() == terminal.as_bytes() && world.ended() == end
 }
 
@@ -117,7 +118,7 @@ const TURNS_OF_EXIT: [Turns; 6] = [
     ("exit", 3, "", Some(Status::Exited(0))),
     (
         "nosuch; exit",
-        5,
+        9,
         "psh: nosuch: not found\n",
         Some(Status::Exited(127)),
     ),
@@ -156,8 +157,8 @@ const REFUSED: [Run; 6] = [
     ("echo ok; if", "psh: syntax error\n", 2),
     ("echo 'a", "psh: syntax error\n", 2),
     ("echo a\necho \"", "a\npsh: syntax error\n", 2),
-    ("echo ok\necho `a`", "ok\npsh: syntax error\n", 2),
-    ("x=1 echo a", "psh: syntax error\n", 2),
+    ("echo ok\necho `a &`", "ok\npsh: syntax error\n", 2),
+    ("echo a && echo b", "psh: syntax error\n", 2),
 ];
 
 #[test]
@@ -215,7 +216,7 @@ fn commands(rt: HostRuntime) -> Result<(), Fail> {
 }
 
 /// Runs `echo a` by places among the processes that can take a turn.
-fn run_by_places(rt: &impl Abort, world: &mut World) -> Result<(), Fail> {
+fn run_by_places(rt: &impl Abort, world: &mut World<Program>) -> Result<(), Fail> {
     assert_eq!(rt; world.status(100), Some(Status::Running));
     assert_eq!(rt; world.status(99), None);
     for k in 0..4u32 {
@@ -373,16 +374,18 @@ fn answer_to(alloc: Global, words: &[&str]) -> Result<&'static str, NoMemory> {
 
 /// Whether words ask for this text, image and events, without a report.
 fn is_asked(found: &Asked, text: &[u8], image: &str, events: &str) -> bool {
-    let Source::Text(asked) = &found.settings.source;
-    asked.as_slice() == text
-        && found.image.as_str() == image
-        && found.events.as_str() == events
-        && !found.report
+    let is_text = match &found.settings.source {
+        Source::Text(asked) => asked.as_slice() == text,
+        Source::Script(_) => false,
+    };
+    is_text && found.image.as_str() == image && found.events.as_str() == events && !found.report
 }
 
-const LINES: [(&[&str], &str); 4] = [
+const LINES: [(&[&str], &str); 6] = [
     (&["--help"], "h"),
     (&[], "u"),
+    (&["i", "e"], "u"),
+    (&["i", "e", "s", "a"], "a"),
     (&["-c", "x", "i"], "u"),
     (&["-q", "x", "i", "e"], "u"),
 ];
@@ -423,7 +426,7 @@ const FRONTS: [&str; 9] = [
 ];
 
 /// Whether a world that was refused shows this terminal, and answers nothing any more.
-fn is_spent(world: &mut World, terminal: &str) -> bool {
+fn is_spent(world: &mut World<Program>, terminal: &str) -> bool {
     world.terminal() == terminal.as_bytes()
         && world.ended().is_none()
         && world.status(100).is_none()
@@ -434,7 +437,7 @@ fn is_spent(world: &mut World, terminal: &str) -> bool {
 }
 
 /// How many events of the first example go through; the terminal is right before each and after the last.
-fn run_the_first(rt: &impl Abort, world: &mut World) -> usize {
+fn run_the_first(rt: &impl Abort, world: &mut World<Program>) -> usize {
     for done in 0..8usize {
         assert_eq!(rt; world.terminal(), FRONTS[done].as_bytes());
         if world.apply(Event::Next).is_err() {

@@ -1,15 +1,13 @@
 -- What a world keeps, and the state at which it stands.
-use Rattle.std.specs.Prelude.{◌≡◌, ℕ, List, length, ◌++◌, take, Bool, true, false, Option}
-use Rattle.sh_files.specs.Nodes.{FileMap}
-use Rattle.sh_world.specs.declared.jobs.Jobs.{Jobs}
-use Rattle.sh_world.specs.Requests.{Machine}
-use Rattle.sh_world.specs.Running.{Process}
+use Rattle.std.specs.Prelude.{◌≡◌, ℕ, List, length, take, Bool, true, false, Option}
+use Rattle.sh_kernel.specs.State.{KernelKept, StandsAt}
 use Rattle.sh_world.specs.State.{State}
+use Rattle.sh_world.specs.declared.jobs.Jobs.{Jobs}
+use Rattle.sh_world.specs.declared.task.Task.{Task}
 
-pub record WorldKept : Type 0 where
-  pub files : FileMap
-  pub kernel : Machine
-  pub task : Process
+pub record WorldKept (S : Type 0) : Type 0 where
+  pub kernel : KernelKept
+  pub tasks : List (Task S)
   pub jobs : Jobs
   pub last : Option ℕ
   -- how many of the terminal's bytes there were after the last event that was answered Ok
@@ -18,22 +16,21 @@ pub record WorldKept : Type 0 where
   pub spent : Bool
 
 -- the bytes that a world shows
-abbrev pub shown_of : WorldKept → List ℕ
-shown_of w = take w.shown w.kernel.terminal
+abbrev pub shown_of : {S : Type 0} → WorldKept S → List ℕ
+shown_of w = take w.shown w.kernel.terminal.bytes
+
+-- what is kept of the machine, of the processes and of the last turn is that of this state
+pub record PartsStand {S : Type 0} (kernel : KernelKept) (tasks : List (Task S)) (last : Option ℕ) (s : State S) : Type 0 where
+  pub machine : StandsAt kernel s.machine
+  pub tasks_are : tasks ≡ s.tasks
+  pub last_is : last ≡ s.last
 
 -- what a world keeps is that of this state
-pub record WorldStands (w : WorldKept) (s : State) : Type 0 where
-  pub files : w.files ≡ s.files
-  pub kernel : w.kernel ≡ s.machine
-  pub task : w.task ≡ s.shell
+pub record WorldStands {S : Type 0} (w : WorldKept S) (s : State S) : Type 0 where
+  pub parts : PartsStand w.kernel w.tasks w.last s
   pub jobs : w.jobs ≡ s.jobs
-  pub last : w.last ≡ s.last
-  pub shown : w.shown ≡ length w.kernel.terminal
+  pub shown : w.shown ≡ length w.kernel.terminal.bytes
   pub unspent : w.spent ≡ false
 
-abbrev pub IsSpent : WorldKept → Type 0
+abbrev pub IsSpent : {S : Type 0} → WorldKept S → Type 0
 IsSpent w = w.spent ≡ true
-
--- the terminal's bytes still begin with the earlier ones
-abbrev pub Extends : List ℕ → List ℕ → Type 0
-Extends old new = (more : List ℕ) × (new ≡ old ++ more)

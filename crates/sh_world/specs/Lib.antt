@@ -1,12 +1,5 @@
-pub mod Builtins
 pub mod Choice
-pub mod Codes
-pub mod Expansion
 pub mod Kept
-pub mod Messages
-pub mod Reading
-pub mod Reduction
-pub mod Requests
-pub mod Running
+pub mod Scripts
 pub mod State
-pub mod Tree
+pub mod Tasks

@@ -1,27 +1,35 @@
 -- The shell machine: its states, one event, a list of events, and what can be seen of a state.
-use Rattle.std.specs.Prelude.{ℕ, nat_eq, List, [], ◌∷◌, Option, Some, None, if◌then◌else◌}
+use Rattle.std.specs.Prelude.{ℕ, List, [], ◌∷◌, Bool, Option, Some, None, if◌then◌else◌}
+use Rattle.sh_exec.specs.declared.process.Process.TheVariants.{Runs}
+use Rattle.sh_exec_command.specs.declared.running.Active.TheVariants.{Next}
+use Rattle.sh_exec_command.specs.declared.running.Place.{Place}
+use Rattle.sh_exec_command.specs.declared.running.Place.TheVariants.{Reading}
+use Rattle.sh_exec_shell.specs.Running.{At}
 use Rattle.sh_files.specs.Nodes.{FileMap}
+use Rattle.sh_kernel.specs.State as kernel
+use Rattle.sh_kernel.specs.State.{KernelState}
+use Rattle.sh_kernel_base.specs.Processes.{status_at}
+use Rattle.sh_kernel_base.specs.Waiting.{is_running}
+use Rattle.sh_kernel_base.specs.declared.process.Status.{Status}
+use Rattle.sh_kernel_base.specs.declared.process.Status.TheVariants.{Running, Stopped, Exited, Signaled}
+use Rattle.sh_stock.specs.Asking.{Meaning}
+use Rattle.sh_tty.specs.Happenings.{bytes_of}
 use Rattle.sh_vars.specs.Environment.{Environment, with_options, with_positional, with_zero}
 use Rattle.sh_vars.specs.Starting.{starting}
+use Rattle.sh_world.specs.Choice.{chosen}
+use Rattle.sh_world.specs.Scripts.{script_place}
+use Rattle.sh_world.specs.Tasks.{TasksTurned, living, runnable_pids, turn_among, with_child}
 use Rattle.sh_world.specs.declared.event.Event.{Event}
 use Rattle.sh_world.specs.declared.jobs.Jobs.{Jobs}
 use Rattle.sh_world.specs.declared.settings.Settings.{Settings}
 use Rattle.sh_world.specs.declared.settings.Source.{Source}
-use Rattle.sh_world.specs.declared.settings.Source.TheVariants.{Text}
-use Rattle.sh_world.specs.declared.status.Status.{Status}
-use Rattle.sh_world.specs.declared.status.Status.TheVariants.{Running, Stopped, Exited, Signaled}
-use Rattle.sh_world.specs.declared.running.Active.TheVariants.{Next}
-use Rattle.sh_world.specs.declared.running.Place.TheVariants.{Reading}
-use Rattle.sh_world.specs.Choice.{chosen}
-use Rattle.sh_world.specs.Reduction.{reduced}
-use Rattle.sh_world.specs.Requests.{Machine, request_of, perform}
-use Rattle.sh_world.specs.Running.{At, Process}
+use Rattle.sh_world.specs.declared.settings.Source.TheVariants.{Text, Script}
+use Rattle.sh_world.specs.declared.task.Task.{Task}
 
--- the files, the machine, the first shell (the only process yet), the jobs, and which process took a turn last
-pub record State : Type 0 where
-  pub files : FileMap
-  pub machine : Machine
-  pub shell : Process
+-- the machine with its files and its terminal, the processes that live, the first shell's jobs, and which process took a turn last
+pub record State (S : Type 0) : Type 0 where
+  pub machine : KernelState
+  pub tasks : List (Task S)
   pub jobs : Jobs
   pub last : Option ℕ
 
@@ -29,63 +37,77 @@ pub record State : Type 0 where
 abbrev pub first_pid : ℕ
 first_pid = 100
 
-abbrev pub text_of : Source → List ℕ
-text_of (Text bytes) = bytes
-
 -- the first shell's environment: its `$0`, positional parameters and options are the settings'
 abbrev pub environment_of : Settings → Environment
 environment_of settings = with_options (with_positional (with_zero starting settings.zero) settings.args) settings.options
 
+-- it begins to read its text, or its script in the image
+abbrev pub first_place : FileMap → Source → Place
+first_place image (Text bytes) = Reading bytes
+first_place image (Script path) = script_place image path
+
 -- the first shell before its first action
-abbrev pub start : FileMap → Settings → State
+abbrev pub first_task : {S : Type 0} → FileMap → Settings → Task S
+first_task image settings = record {
+  pid = first_pid;
+  process = Runs (record { environment = environment_of settings; run = At (Next (first_place image settings.source)) });
+}
+
+abbrev pub start : {S : Type 0} → FileMap → Settings → State S
 start image settings = record {
-  files = image;
-  machine = record { terminal = []; shell = Running };
-  shell = record { environment = environment_of settings; run = At (Next (Reading (text_of settings.source))) };
+  machine = kernel.starting image;
+  tasks = first_task image settings ∷ [];
   jobs = record {};
   last = None;
 }
 
--- a process that hasn't ended or stopped can always do its next action in this machine
-abbrev pub runnable_of : Status → List ℕ
-runnable_of Running = first_pid ∷ []
-runnable_of (Stopped signal) = []
-runnable_of (Exited status) = []
-runnable_of (Signaled signal) = []
+abbrev pub status_of : {S : Type 0} → State S → ℕ → Option Status
+status_of s pid = status_at s.machine.machine.processes pid
 
--- a turn of the shell: its request is performed, and it is reduced
-abbrev pub turned : State → ℕ → State
-turned s pid = record s {
-  machine = perform s.machine (request_of s.shell.run);
-  shell = reduced s.files s.shell;
+abbrev pub first_runs : KernelState → Bool
+first_runs s = is_running (status_at s.machine.processes first_pid)
+
+-- after the first shell's end no process takes a turn
+abbrev pub runnables : {S : Type 0} → State S → List ℕ
+runnables s = if first_runs s.machine then runnable_pids s.machine s.tasks else []
+
+-- the processes that live after a turn
+abbrev pub with_tasks : {S : Type 0} → State S → ℕ → TasksTurned S → State S
+with_tasks s pid t = record s {
+  machine = t.machine;
+  tasks = living t.machine (with_child t.tasks t.child);
   last = Some pid;
 }
 
-abbrev pub turn_of : State → Option ℕ → State
-turn_of s None = s
-turn_of s (Some pid) = turned s pid
+abbrev pub turned : {S : Type 0} → Meaning S → State S → ℕ → State S
+turned m s pid = with_tasks s pid (turn_among m s.machine pid s.tasks)
+
+abbrev pub turn_of : {S : Type 0} → Meaning S → State S → Option ℕ → State S
+turn_of m s None = s
+turn_of m s (Some pid) = turned m s pid
 
 -- one event: a turn of the process that it chooses, and nothing where none is runnable
-abbrev pub step : State → Event → State
-step s event = turn_of s (chosen event s.last (runnable_of s.machine.shell))
+abbrev pub step : {S : Type 0} → Meaning S → State S → Event → State S
+step m s event = turn_of m s (chosen event s.last (runnables s))
 
 -- events in order
-abbrev pub run : State → List Event → State
-run s [] = s
-run s (event ∷ events) = run (step s event) events
+abbrev pub run : {S : Type 0} → Meaning S → State S → List Event → State S
+run m s [] = s
+run m s (event ∷ events) = run m (step m s event) events
 
 -- what is seen of a state: the terminal's bytes, the files, the jobs, each process's status, and how the first shell ended
-abbrev pub terminal_of : State → List ℕ
-terminal_of s = s.machine.terminal
+abbrev pub terminal_of : {S : Type 0} → State S → List ℕ
+terminal_of s = bytes_of s.machine.terminal
 
-abbrev pub status_of : State → ℕ → Option Status
-status_of s pid = if nat_eq pid first_pid then Some s.machine.shell else None
+abbrev pub files_of : {S : Type 0} → State S → FileMap
+files_of s = s.machine.machine.files
 
-abbrev pub end_of : Status → Option Status
-end_of Running = None
-end_of (Stopped signal) = None
-end_of (Exited status) = Some (Exited status)
-end_of (Signaled signal) = Some (Signaled signal)
+abbrev pub end_of : Option Status → Option Status
+end_of None = None
+end_of (Some Running) = None
+end_of (Some (Stopped signal)) = None
+end_of (Some (Exited status)) = Some (Exited status)
+end_of (Some (Signaled signal)) = Some (Signaled signal)
 
-abbrev pub ended_of : State → Option Status
-ended_of s = end_of s.machine.shell
+abbrev pub ended_of : {S : Type 0} → State S → Option Status
+ended_of s = end_of (status_of s first_pid)

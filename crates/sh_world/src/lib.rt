@@ -2,21 +2,16 @@
 //! the state shows.
 #![tactic(auto)]
 
-mod builtin;
 mod event;
-mod expansion;
 mod jobs;
-mod kernel;
-mod message;
-mod reading;
-mod running;
+mod script;
 mod settings;
-mod status;
 mod task;
+mod turns;
 mod world;
 
 pub use event::Event;
 pub use jobs::Jobs;
 pub use settings::{Settings, Source};
-pub use status::Status;
+pub use sh_kernel::Status;
 pub use world::World;

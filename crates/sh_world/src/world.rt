@@ -1,90 +1,184 @@
-//! A world: the first shell over its terminal, moved by events.
+//! A world: processes over a kernel, moved by events.
 ghost use Rattle.std.specs.Prelude.{◌≡◌, ℕ, ◌<◌, List, OnOk, OnErr, IsErr, IfOk, Some, None, length, take, option_copied};
-ghost use Rattle.sh_world.specs.Kept.{Extends, IsSpent, WorldKept, WorldStands, shown_of};
-ghost use Rattle.sh_world.specs.State.{State, ended_of, run, start, status_of, step, terminal_of, turn_of};
+ghost use Rattle.sh_kernel.specs.State.{KernelState, StandsAt};
+ghost use Rattle.sh_tty.specs.Kept.{Extends};
+ghost use Rattle.sh_world.specs.Choice.{chosen};
+ghost use Rattle.sh_world.specs.Kept.{IsSpent, PartsStand, WorldKept, WorldStands, shown_of};
+ghost use Rattle.sh_world.specs.State.{State, end_of, ended_of, files_of, first_place, first_runs, first_task, run, runnables, start, status_of, step, terminal_of, turn_of, turned};
 
 use crate::event::{Event, choose};
 use crate::jobs::Jobs;
-use crate::kernel::Kernel;
-use crate::settings::Settings;
-use crate::status::Status;
+use crate::script::script_place;
+use crate::settings::{Settings, Source};
 use crate::task::Task;
+use crate::turns::{keep_living, put_child, runnable_pids, turn_among};
+use sh_exec::Process;
+use sh_exec_base::Rest;
+use sh_exec_command::Place;
+use sh_exec_shell::Shell;
 use sh_files::Files;
+use sh_kernel::{FIRST_PID, Kernel, Status};
+use sh_stock::Stock;
 use sh_syntax::memory::NoMemory;
+use sh_vars::Vars;
 use std::alloc::Global;
 use std::marker::Model;
 
-/// One shell over one terminal. It stands at a state of the shell machine, and each event takes it to
-/// the next one. Once memory was wanting it is spent: it answers `NoMemory` from then on, and shows the
-/// terminal's bytes as they were after the last event that was answered `Ok`.
+/// A first shell with its terminal and its files, and the processes that it makes, with the programs of a stock. It stands at a
+/// state of the shell machine, and each event takes it to the next one. Once memory was wanting it is spent: it answers `NoMemory`
+/// from then on, and shows the terminal's bytes as they were after the last event that was answered `Ok`.
 #[derive(Drop)]
-pub struct World {
-    files: Files,
+pub struct World<S: Stock> {
+    alloc: Global,
     kernel: Kernel,
-    task: Task,
+    tasks: Vec<Task<S>>,
     jobs: Jobs,
     last: Option<u32>,
     shown: usize,
     spent: bool,
 }
 
-impl Model for World {
+impl<S: Stock> Model for World<S> {
     ghost use Rattle.std.specs.Prelude.{◌≤◌, length};
     ghost use Rattle.std.specs.Coded.{codes};
     ghost use Rattle.sh_files_base.specs.Codes as paths;
     ghost use Rattle.sh_vars.specs.Codes as variables;
-    ghost use Rattle.sh_world.specs.Codes.{run_code};
+    ghost use Rattle.sh_exec_shell.specs.Codes.{run_code};
     ghost use Rattle.sh_world.specs.Kept.{WorldKept};
 
-    ghost Value = { WorldKept };
+    ghost Value = { WorldKept S };
 
     ghost coded = { Prim.hlevel (codes, paths.map_code, variables.map_code, run_code) };
 
-    ghost view = { λ w. record { files = w.files; kernel = w.kernel; task = w.task; jobs = w.jobs; last = w.last; shown = w.shown; spent = w.spent } };
+    ghost view = { λ w. record { kernel = w.kernel; tasks = w.tasks.items; jobs = w.jobs; last = w.last; shown = w.shown; spent = w.spent } };
 
-    ghost invariant = { λ w. w.shown ≤ length w.kernel.terminal };
+    ghost invariant = { λ w. w.shown ≤ length w.kernel.terminal.bytes };
 }
 
-/// One turn of a process.
-fn turn(
-    files: &Files,
-    kernel: &mut Kernel,
-    task: &mut Task,
-    last: &mut Option<u32>,
-    pid: Option<u32>,
-) -> Result<(), NoMemory>
-    ensures turned { (s : State) → files.now ≡ s.files → kernel.old ≡ s.machine → task.old ≡ s.shell → last.old ≡ s.last →
-        OnOk result ((kernel.new ≡ (turn_of s pid).machine) × (task.new ≡ (turn_of s pid).shell) × (last.new ≡ (turn_of s pid).last)) }
-    ensures extends { Extends kernel.old.terminal kernel.new.terminal }
+/// The first place of the first shell.
+fn first_place(alloc: Global, image: &Files, source: Source) -> Result<Place, NoMemory>
+    ensures { IfOk result (λ place. place ≡ first_place image.now source) }
 {
-    let Some(pid) = pid else {
-        return Ok(());
-    };
-    task.turn(files, kernel)?;
+    match source {
+        Source::Text(text) => Ok(Place::Reading(Rest::new(text))),
+        Source::Script(path) => script_place(alloc, image, path.as_slice()),
+    }
+}
+
+/// The first shell before its first action.
+fn first_task<S: Stock>(
+    alloc: Global,
+    image: &Files,
+    settings: Settings,
+) -> Result<Task<S>, NoMemory>
+    ensures { IfOk result (λ task. task ≡ first_task image.now settings) }
+{
+    let Settings {
+        source,
+        zero,
+        args,
+        options,
+    } = settings;
+    let mut vars = Vars::new(alloc)?;
+    vars.set_zero(zero);
+    vars.set_positional(args.into_vec());
+    vars.set_options(options);
+    let place = first_place(alloc, image, source)?;
+    Ok(Task {
+        pid: FIRST_PID,
+        process: Process::Runs(Shell::at(vars, place)),
+    })
+}
+
+/// Whether the first shell runs.
+fn is_running(kernel: &Kernel) -> bool
+    ensures { (s : KernelState) → StandsAt kernel.now s → result ≡ first_runs s }
+{
+    match kernel.status(FIRST_PID) {
+        Some(Status::Running) => true,
+        Some(Status::Stopped(_)) => false,
+        Some(Status::Exited(_)) => false,
+        Some(Status::Signaled(_)) => false,
+        None => false,
+    }
+}
+
+/// The process that an event gives a turn to.
+fn chosen_by<S: Stock>(
+    alloc: Global,
+    event: Event,
+    kernel: &Kernel,
+    tasks: &[Task<S>],
+    last: Option<u32>,
+) -> Result<Option<u32>, NoMemory>
+    ensures { (s : State S) → PartsStand kernel.now tasks.now last s → IfOk result (λ pid. pid ≡ chosen event s.last (runnables s)) }
+{
+    if !is_running(kernel) {
+        return Ok(choose(event, last, &[]));
+    }
+    let pids = runnable_pids(alloc, kernel, tasks)?;
+    Ok(choose(event, last, pids.as_slice()))
+}
+
+/// A turn of a process.
+fn turn<S: Stock>(
+    alloc: Global,
+    kernel: &mut Kernel,
+    tasks: &mut Vec<Task<S>>,
+    last: &mut Option<u32>,
+    pid: u32,
+) -> Result<(), NoMemory>
+    ensures turned { (s : State S) → PartsStand kernel.old tasks.old.items last.old s → OnOk result (PartsStand kernel.new tasks.new.items last.new (turned S.meaning s pid)) }
+    ensures extends { Extends kernel.old.terminal.bytes kernel.new.terminal.bytes }
+{
+    let child = turn_among(alloc, kernel, pid, tasks.as_mut_slice())?;
+    put_child(tasks, child)?;
+    keep_living(kernel, tasks);
     *last = Some(pid);
     Ok(())
 }
 
-impl World {
+/// What one event does.
+fn happen<S: Stock>(
+    alloc: Global,
+    event: Event,
+    kernel: &mut Kernel,
+    tasks: &mut Vec<Task<S>>,
+    last: &mut Option<u32>,
+) -> Result<(), NoMemory>
+    ensures step { (s : State S) → PartsStand kernel.old tasks.old.items last.old s → OnOk result (PartsStand kernel.new tasks.new.items last.new (step S.meaning s event)) }
+    ensures extends { Extends kernel.old.terminal.bytes kernel.new.terminal.bytes }
+{
+    let Some(pid) = chosen_by(alloc, event, kernel, tasks.as_slice(), *last)? else {
+        return Ok(());
+    };
+    turn(alloc, kernel, tasks, last, pid)?;
+    Ok(())
+}
+
+impl<S: Stock> World<S> {
     /// The world before the first event.
     pub fn new(alloc: Global, image: Files, settings: Settings) -> Result<Self, NoMemory>
         ensures { IfOk result (λ world. WorldStands world (start image settings)) }
     {
-        let task = Task::new(alloc, settings)?;
+        let mut tasks = Vec::new(alloc);
+        tasks.push(first_task(alloc, &image, settings)?)?;
+        let kernel = Kernel::new(alloc, image)?;
+        let shown = kernel.terminal().len();
         Ok(World {
-            files: image,
-            kernel: Kernel::new(alloc),
-            task,
+            alloc,
+            kernel,
+            tasks,
             jobs: Jobs {},
             last: None,
-            shown: 0,
+            shown,
             spent: false,
         })
     }
 
     /// One event: what it does is one step of the shell machine. After `NoMemory` the world is spent.
     pub fn apply(&mut self, event: Event) -> Result<(), NoMemory>
-        ensures step { (s : State) → WorldStands self.old s → OnOk result (WorldStands self.new (step s event)) }
+        ensures step { (s : State S) → WorldStands self.old s → OnOk result (WorldStands self.new (step S.meaning s event)) }
         ensures spent { OnErr result (IsSpent self.new) }
         ensures shown { OnErr result (shown_of self.new ≡ shown_of self.old) }
         ensures still { IsSpent self.old → IsErr result }
@@ -93,13 +187,12 @@ impl World {
             return Err(NoMemory);
         }
         self.spent = true;
-        let pid = choose(event, self.last, self.kernel.runnable());
-        turn(
-            &self.files,
+        happen(
+            self.alloc,
+            event,
             &mut self.kernel,
-            &mut self.task,
+            &mut self.tasks,
             &mut self.last,
-            pid,
         )?;
         self.shown = self.kernel.terminal().len();
         self.spent = false;
@@ -108,10 +201,10 @@ impl World {
 
     /// Each event in turn, up to the first for which there is no memory.
     pub fn run(&mut self, events: &[Event]) -> Result<(), NoMemory>
-        ensures run { (s : State) → WorldStands self.old s → OnOk result (WorldStands self.new (run s events.now)) }
+        ensures run { (s : State S) → WorldStands self.old s → OnOk result (WorldStands self.new (run S.meaning s events.now)) }
         ensures spent { OnErr result (IsSpent self.new) }
-        ensures shown { (s : State) → WorldStands self.old s → OnErr result
-            ((j : ℕ) × (j < length events.now) × (shown_of self.new ≡ terminal_of (run s (take j events.now)))) }
+        ensures shown { (s : State S) → WorldStands self.old s → OnErr result
+            ((j : ℕ) × (j < length events.now) × (shown_of self.new ≡ terminal_of (run S.meaning s (take j events.now)))) }
         ensures still { IsSpent self.old → IsErr result }
     {
         if self.spent {
@@ -126,22 +219,26 @@ impl World {
     /// The terminal's bytes, as they were after the last event that was answered `Ok`.
     pub fn terminal(&self) -> &[u8]
         ensures shown { result.now ≡ shown_of self.now }
-        ensures view { (s : State) → WorldStands self.now s → result.now ≡ terminal_of s }
+        ensures view { (s : State S) → WorldStands self.now s → result.now ≡ terminal_of s }
     {
         &self.kernel.terminal()[..self.shown]
     }
 
     /// The files; `None` once memory was wanting.
     pub fn files(&self) -> Option<&Files>
-        ensures view { (s : State) → WorldStands self.now s → option_copied result ≡ Some s.files }
+        ensures view { (s : State S) → WorldStands self.now s → option_copied result ≡ Some (files_of s) }
         ensures spent { IsSpent self.now → option_copied result ≡ None }
     {
-        if self.spent { None } else { Some(&self.files) }
+        if self.spent {
+            None
+        } else {
+            Some(self.kernel.files())
+        }
     }
 
     /// The first shell's jobs; `None` once memory was wanting.
     pub fn jobs(&self) -> Option<&Jobs>
-        ensures view { (s : State) → WorldStands self.now s → option_copied result ≡ Some s.jobs }
+        ensures view { (s : State S) → WorldStands self.now s → option_copied result ≡ Some s.jobs }
         ensures spent { IsSpent self.now → option_copied result ≡ None }
     {
         if self.spent { None } else { Some(&self.jobs) }
@@ -149,7 +246,7 @@ impl World {
 
     /// Where a process stands: `Some` for every process that ever was; `None` once memory was wanting.
     pub fn status(&self, pid: u32) -> Option<Status>
-        ensures view { (s : State) → WorldStands self.now s → result ≡ status_of s pid }
+        ensures view { (s : State S) → WorldStands self.now s → result ≡ status_of s pid }
         ensures spent { IsSpent self.now → result ≡ None }
     {
         if self.spent {
@@ -161,13 +258,26 @@ impl World {
 
     /// How the first shell ended, once it did; `None` once memory was wanting.
     pub fn ended(&self) -> Option<Status>
-        ensures view { (s : State) → WorldStands self.now s → result ≡ ended_of s }
+        ensures view { (s : State S) → WorldStands self.now s → result ≡ ended_of s }
         ensures spent { IsSpent self.now → result ≡ None }
     {
         if self.spent {
             None
         } else {
-            self.kernel.ended()
+            end_of(self.kernel.status(FIRST_PID))
         }
+    }
+}
+
+/// How a process ended, if it did.
+fn end_of(status: Option<Status>) -> Option<Status>
+    ensures { result ≡ end_of status }
+{
+    match status {
+        None => None,
+        Some(Status::Running) => None,
+        Some(Status::Stopped(_)) => None,
+        Some(Status::Exited(status)) => Some(Status::Exited(status)),
+        Some(Status::Signaled(signal)) => Some(Status::Signaled(signal)),
     }
 }

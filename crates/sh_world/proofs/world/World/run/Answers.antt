@@ -5,12 +5,12 @@ use Rattle.sh_world.proofs.world.World.run.Goals as goal
 
 -- the world stood at the state before this event, so it stands at the state after it
 pub loop-event-preserved : goal.loop-event-preserved
-loop-event-preserved c = λ s h.
-    rw (run-take_more s c.args.events.now c.loop-event.event-index (Run 0) c.loop-event-test.true)
+loop-event-preserved g c = λ s h.
+    rw (run-take_more g.S.Stock.meaning s c.args.events.now c.loop-event.event-index (Run 0) c.loop-event-test.true)
     (c.in_ok-apply.ensures.step _ (c.loop-event.invariant s h))
 
 -- no event is left
 pub returns-clause-run : goal.returns-clause-run
-returns-clause-run c = λ s h.
+returns-clause-run g c = λ s h.
     let past : length c.args.events.now ≤ c.loop-event.event-index = omega arith in
     rw (← take_all _ _ past) (c.loop-event.invariant s h)

@@ -4,4 +4,4 @@ use Rattle.sh_world.specs.Kept.{WorldStands}
 use Rattle.sh_world.proofs.world.World.run.Given as goal
 
 abbrev pub invariant-loop-event : goal.invariant-loop-event
-invariant-loop-event l = (s : State) → WorldStands l.fn.self s → WorldStands l.self (run s (take l.event-index l.events))
+invariant-loop-event g l = (s : State _) → WorldStands l.fn.self s → WorldStands l.self (run g.S.Stock.meaning s (take l.event-index l.events))

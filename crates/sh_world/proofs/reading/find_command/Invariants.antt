@@ -1,9 +1,0 @@
-use Rattle.std.proofs.Common.{◌≡◌, length}
-use Rattle.sh_world.specs.Reading.{next_command}
-use Rattle.sh_world.proofs.reading.find_command.Given as goal
-
-abbrev pub invariant-lines : goal.invariant-lines
-invariant-lines l = next_command l.fn.text ≡ next_command l.rest
-
-abbrev pub decreases-lines : goal.decreases-lines
-decreases-lines l = length l.rest

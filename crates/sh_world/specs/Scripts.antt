@@ -1,0 +1,28 @@
+-- The script that a shell is given as its operand (the page of sh): the text of its file, which need not be executable.
+use Rattle.std.specs.Prelude.{ℕ, List, [], ◌&&◌, nat_le, codes, Option, Some, None, length, if◌then◌else◌}
+use Rattle.sh_exec_base.specs.Messages.{cannot_execute, message, not_found}
+use Rattle.sh_exec_command.specs.declared.running.Finish.TheVariants.{Leave}
+use Rattle.sh_exec_command.specs.declared.running.Place.{Place}
+use Rattle.sh_exec_command.specs.declared.running.Place.TheVariants.{Reading, Writing}
+use Rattle.sh_files.specs.Nodes.{FileMap, named}
+use Rattle.sh_files_base.specs.declared.node.Node.{Node}
+use Rattle.sh_files_base.specs.declared.node.Node.TheVariants.{Directory, File, Null, Terminal}
+
+abbrev pub missing : List ℕ → Place
+missing path = Writing (message (not_found path)) (Leave 127)
+
+abbrev pub unreadable : List ℕ → Place
+unreadable path = Writing (message (cannot_execute path)) (Leave 126)
+
+-- a script has 2^24 bytes at most, and /dev/null none
+abbrev pub place_by : List ℕ → Option Node → Place
+place_by path None = missing path
+place_by path (Some Directory) = unreadable path
+place_by path (Some (File file)) =
+    if file.flags.read && nat_le (length file.bytes) 16777216 then Reading file.bytes else unreadable path
+place_by path (Some Null) = Reading []
+place_by path (Some Terminal) = unreadable path
+
+-- the path goes from the root, the first shell's working directory
+unfoldable pub script_place : FileMap → List ℕ → Place
+script_place files path = place_by path (named files (codes "/") path)

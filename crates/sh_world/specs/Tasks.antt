@@ -1,0 +1,57 @@
+-- The processes of a machine that live, in order of pid: which of them can take a turn, and what a turn of one leaves.
+use Rattle.std.specs.Prelude.{◌≡◌, ℕ, List, [], ◌∷◌, ◌++◌, nat_eq, Bool, Option, Some, None, if◌then◌else◌}
+use Rattle.std.specs.List.{filter}
+use Rattle.sh_exec.specs.Runnable.{is_runnable}
+use Rattle.sh_exec.specs.Turns.{Turned, turn}
+use Rattle.sh_exec.specs.declared.process.Process.TheVariants.{Runs}
+use Rattle.sh_exec_shell.specs.declared.shell.Child.{Child}
+use Rattle.sh_kernel.specs.State.{KernelKept, KernelState, StandsAt}
+use Rattle.sh_kernel_base.specs.Processes.{lives}
+use Rattle.sh_stock.specs.Asking.{Meaning}
+use Rattle.sh_world.specs.declared.task.Task.{Task}
+
+-- those that can take a turn
+abbrev pub pid_before : {S : Type 0} → KernelState → Task S → List ℕ → List ℕ
+pid_before s task pids = if is_runnable s task.pid task.process then task.pid ∷ pids else pids
+
+abbrev pub runnable_pids : {S : Type 0} → KernelState → List (Task S) → List ℕ
+runnable_pids s [] = []
+runnable_pids s (task ∷ tasks) = pid_before s task (runnable_pids s tasks)
+
+-- the machine and the processes after a turn of one, and the process that it made
+pub record TasksTurned (S : Type 0) : Type 0 where
+  pub machine : KernelState
+  pub tasks : List (Task S)
+  pub child : Option Child
+
+abbrev pub turned_first : {S : Type 0} → Task S → List (Task S) → Turned S → TasksTurned S
+turned_first task tasks t = record { machine = t.machine; tasks = record task { process = t.process } ∷ tasks; child = t.child }
+
+abbrev pub behind : {S : Type 0} → Task S → TasksTurned S → TasksTurned S
+behind task t = record t { tasks = task ∷ t.tasks }
+
+-- a turn of the process of this pid
+abbrev pub turn_among : {S : Type 0} → Meaning S → KernelState → ℕ → List (Task S) → TasksTurned S
+turn_among m s pid [] = record { machine = s; tasks = []; child = None }
+turn_among m s pid (task ∷ tasks) =
+    if nat_eq task.pid pid
+    then turned_first task tasks (turn m s pid task.process)
+    else behind task (turn_among m s pid tasks)
+
+-- a process that was made has the greatest pid
+abbrev pub with_child : {S : Type 0} → List (Task S) → Option Child → List (Task S)
+with_child tasks None = tasks
+with_child tasks (Some child) = tasks ++ record { pid = child.pid; process = Runs child.shell } ∷ []
+
+-- a process that has ended is gone
+abbrev pub is_living : {S : Type 0} → KernelState → Task S → Bool
+is_living s task = lives s.machine.processes task.pid
+
+abbrev pub living : {S : Type 0} → KernelState → List (Task S) → List (Task S)
+living s tasks = filter (is_living s) tasks
+
+-- a kernel and its processes stand at what a turn leaves, and this process was made
+pub record HaveTurned {S : Type 0} (kernel : KernelKept) (tasks : List (Task S)) (made : Option Child) (t : TasksTurned S) : Type 0 where
+  pub state : StandsAt kernel t.machine
+  pub tasks_are : tasks ≡ t.tasks
+  pub child : made ≡ t.child

@@ -1,0 +1,93 @@
+//! The processes that live: which of them can take a turn, and a turn of one.
+ghost use Rattle.std.specs.Prelude.{◌≡◌, ◌++◌, ◌∷◌, [], IfOk, OnOk};
+ghost use Rattle.sh_kernel.specs.State.{KernelState, StandsAt};
+ghost use Rattle.sh_kernel_base.specs.Processes.{lives};
+ghost use Rattle.sh_tty.specs.Kept.{Extends};
+ghost use Rattle.sh_exec.specs.Runnable.{is_runnable};
+ghost use Rattle.sh_exec.specs.Turns as processes;
+ghost use Rattle.sh_world.specs.Tasks.{HaveTurned, living, pid_before, runnable_pids, turn_among, with_child};
+
+use crate::task::Task;
+use sh_exec::Process;
+use sh_exec_shell::Child;
+use sh_kernel::{Kernel, Status};
+use sh_stock::Stock;
+use sh_syntax::memory::NoMemory;
+use std::alloc::Global;
+
+/// The pids of the processes that can take a turn.
+pub(crate) fn runnable_pids<S: Stock>(
+    alloc: Global,
+    kernel: &Kernel,
+    tasks: &[Task<S>],
+) -> Result<Vec<u32>, NoMemory>
+    ensures { (s : KernelState) → StandsAt kernel.now s → IfOk result (λ pids. pids.items ≡ runnable_pids s tasks.now) }
+{
+    let mut pids = Vec::new(alloc);
+    let mut rest = tasks;
+    'tasks: while let Some((task, others)) = rest.split_first() {
+        if task.process.is_runnable(kernel, task.pid) {
+            pids.push(task.pid)?;
+        }
+        rest = others;
+    }
+    Ok(pids)
+}
+
+/// A turn of the process of this pid.
+pub(crate) fn turn_among<S: Stock>(
+    alloc: Global,
+    kernel: &mut Kernel,
+    pid: u32,
+    tasks: &mut [Task<S>],
+) -> Result<Option<Child>, NoMemory>
+    ensures state { (s : KernelState) → StandsAt kernel.old s → IfOk result (λ child. HaveTurned kernel.new tasks.new child (turn_among S.meaning s pid tasks.old)) }
+    ensures terminal { Extends kernel.old.terminal.bytes kernel.new.terminal.bytes }
+{
+    let Some((task, others)) = tasks.split_first_mut() else {
+        return Ok(None);
+    };
+    if task.pid == pid {
+        let child = task.process.turn(alloc, kernel, pid)?;
+        return Ok(child);
+    }
+    let child = turn_among(alloc, kernel, pid, others)?;
+    Ok(child)
+}
+
+/// A process that was made comes behind the others.
+pub(crate) fn put_child<S: Stock>(
+    tasks: &mut Vec<Task<S>>,
+    child: Option<Child>,
+) -> Result<(), NoMemory>
+    ensures { OnOk result (tasks.new.items ≡ with_child tasks.old.items child) }
+{
+    let Some(Child { pid, shell }) = child else {
+        return Ok(());
+    };
+    tasks.push(Task {
+        pid,
+        process: Process::Runs(shell),
+    })?;
+    Ok(())
+}
+
+/// Whether a process has not ended.
+fn is_living(kernel: &Kernel, pid: u32) -> bool
+    ensures { (s : KernelState) → StandsAt kernel.now s → result ≡ lives s.machine.processes pid }
+{
+    match kernel.status(pid) {
+        Some(Status::Running) => true,
+        Some(Status::Stopped(_)) => true,
+        Some(Status::Exited(_)) => false,
+        Some(Status::Signaled(_)) => false,
+        None => false,
+    }
+}
+
+/// Processes that have ended go.
+pub(crate) fn keep_living<S: Stock>(kernel: &Kernel, tasks: &mut Vec<Task<S>>)
+    ensures { (s : KernelState) → StandsAt kernel.now s → tasks.new.items ≡ living s tasks.old.items }
+{
+    tasks.retain(|task| is_living(kernel, task.pid));
+}

@@ -1,0 +1,82 @@
+#!/usr/bin/env python3
+"""Instructions for each turn of the built program, and how they grow.
+
+Runs scripts under valgrind's callgrind, each with two numbers of turns, and prints the instructions for one turn between
+the two: of `yes | head -n N >/dev/null` and of `cat <big | cat | cat >out`, then of ten times the work, and of the first
+behind 900 processes that have ended. The last line is the greatest ratio. Needs valgrind, and psh built (./psh --help).
+"""
+
+import os
+import subprocess
+import sys
+import tempfile
+
+TOP = os.path.dirname(os.path.dirname(os.path.abspath(__file__)))
+PROGRAM = f"{TOP}/crates/psh/out/psh"
+
+
+def write_image(path, files):
+    """Writes an image with the programs that are used and these files."""
+    with open(path, "wb") as image:
+        image.write(b"psh image 1\ndir /bin\n")
+        for name in ("cat", "head", "true", "yes"):
+            content = f"#!stock {name}\n".encode()
+            image.write(f"file /bin/{name} r-x {len(content)}\n".encode() + content + b"\n")
+        for name, content in files:
+            image.write(f"file {name} rw- {len(content)}\n".encode() + content + b"\n")
+        image.write(b"end\n")
+
+
+def instructions(folder, image, script, turns):
+    """The instructions of a run of so many turns."""
+    events = f"{folder}/events"
+    with open(events, "w") as it:
+        while turns:
+            part = min(turns, 1_000_000)
+            it.write(f"next {part}\n")
+            turns -= part
+    ran = subprocess.run(
+        ["valgrind", "--tool=callgrind", f"--callgrind-out-file={folder}/out", PROGRAM, "-c", script, image, events],
+        capture_output=True,
+    )
+    if ran.returncode:
+        sys.exit(f"{script}: {ran.stdout[-200:]} {ran.stderr[-400:]}")
+    for line in ran.stderr.decode().splitlines():
+        if "Collected" in line:
+            return int(line.split(":")[1].replace(",", ""))
+    sys.exit("callgrind counted nothing")
+
+
+def each(folder, image, script, begin, end):
+    """The instructions for one turn between two numbers of turns."""
+    first = instructions(folder, image, script, begin)
+    last = instructions(folder, image, script, end)
+    return (last - first) / (end - begin)
+
+
+def main():
+    with tempfile.TemporaryDirectory() as folder:
+        small, large = f"{folder}/small", f"{folder}/large"
+        write_image(small, [("/big", b"x" * (1 << 20))])
+        write_image(large, [("/big", b"x" * (10 << 20))])
+        filtered = "yes | head -n {} >/dev/null"
+        copied = "cat <big | cat | cat >out"
+        behind = "true\n" * 900
+        # a program in the shell's own list takes seven turns up to and with the wait
+        ended = 900 * 6
+        ratios = []
+        base = each(folder, small, filtered.format(10_000), 1_000, 29_000)
+        more = each(folder, small, filtered.format(100_000), 1_000, 290_000)
+        ratios.append(more / base)
+        print(f"yes | head: {base:.0f} a turn, ten times the lines {more:.0f}, ratio {more / base:.2f}")
+        late = each(folder, small, behind + filtered.format(10_000), ended + 1_000, ended + 29_000)
+        ratios.append(late / base)
+        print(f"the same behind 900 ended processes: {late:.0f}, ratio {late / base:.2f}")
+        base = each(folder, small, copied, 100, 6_100)
+        more = each(folder, large, copied, 100, 61_000)
+        ratios.append(more / base)
+        print(f"cat | cat | cat: {base:.0f} a turn over 1 MiB, over 10 MiB {more:.0f}, ratio {more / base:.2f}")
+        print(f"greatest ratio {max(ratios):.2f}")
+
+
+main()
