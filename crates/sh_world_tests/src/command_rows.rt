@@ -157,31 +157,3 @@ const REFUSED_TEXTS: [Row; 20] = [
 fn refused_texts(rt: HostRuntime) -> Result<(), Fail> {
     come_to(&rt, rt.alloc(), &REFUSED_TEXTS)
 }
-
-/// Commands of the grammar that are not served yet, which are refused as texts outside it are.
-const OTHER_FORMS: [Row; 9] = [
-    ("echo a && echo b", 3, "psh: syntax error\n", 2),
-    ("echo a || echo b", 3, "psh: syntax error\n", 2),
-    ("echo a &", 3, "psh: syntax error\n", 2),
-    ("(echo a)", 3, "psh: syntax error\n", 2),
-    (
-        "echo a\nif true; then echo b; fi",
-        6,
-        "a\npsh: syntax error\n",
-        2,
-    ),
-    ("echo a\nf() { echo b; }", 6, "a\npsh: syntax error\n", 2),
-    ("echo a; echo $( (echo b) )", 3, "psh: syntax error\n", 2),
-    ("echo a\necho `{ echo b; }`", 6, "a\npsh: syntax error\n", 2),
-    (
-        "cat <<E\n$(true && echo a)\nE\n",
-        3,
-        "psh: syntax error\n",
-        2,
-    ),
-];
-
-#[test]
-fn other_forms(rt: HostRuntime) -> Result<(), Fail> {
-    come_to(&rt, rt.alloc(), &OTHER_FORMS)
-}

@@ -252,6 +252,37 @@ pub(crate) fn come_to(rt: &impl Abort, alloc: Global, rows: &[Row]) -> Result<()
     Ok(())
 }
 
+/// Places of the processes that take a turn, one after another.
+const ORDERS: [&str; 5] = [
+    "213000201003301030010301012310210120001332332211102323200312",
+    "011001111100110011111011001001001110011101111100000000101100",
+    "222112222212211112112111112111212222112222211122211121121221",
+    "000000000000000000000000000000000000000000000000000000000000",
+    "333333333333333333333333333333333333333333333333333333333333",
+];
+
+/// What is wrong with what comes of a script by these places first, in a line.
+fn wrong_order(alloc: Global, row: &Row, order: &str) -> Result<String, NoMemory> {
+    let came = run(alloc, row.0, order, 3000)?;
+    let found = shown(&came.terminal);
+    if came.end == Some(Status::Exited(row.3)) && found == row.2 {
+        return Ok(String::new(alloc));
+    }
+    Ok(format!(in alloc; "\n{:?} {order}: {found:?}", row.0)?)
+}
+
+/// Each script comes to its terminal and its status in other orders of turns too.
+pub(crate) fn come_to_in_orders(rt: &impl Abort, alloc: Global, rows: &[Row]) -> Result<(), Fail> {
+    let mut wrong = String::new(alloc);
+    for row in rows {
+        for order in ORDERS {
+            wrong.push_str(&wrong_order(alloc, row, order)?)?;
+        }
+    }
+    assert!(rt; wrong.is_empty(), "{wrong}");
+    Ok(())
+}
+
 /// Each file of the image, run as a script, ends in its last turn and not before, with its terminal and its status.
 pub(crate) fn run_scripts(rt: &impl Abort, alloc: Global, rows: &[Row]) -> Result<(), Fail> {
     let mut wrong = String::new(alloc);
