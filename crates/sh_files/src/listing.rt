@@ -8,7 +8,7 @@ use crate::files::Files;
 
 impl Files {
     /// The names in the directory that a path names, sorted by byte, without dot and dot-dot. The path is read as by
-    /// [`Files::open`]. It takes a look-up for each name and for each directory among them, and never goes over the
+    /// [`Files::open`]. It takes a look-up for the first name, then goes from each to its neighbour, and never goes over the
     /// files that lie elsewhere.
     ///
     /// `NoEntry` and `NotDirectory` are as for [`Files::open`]; `NoEntry` where nothing is there, `NotDirectory` where

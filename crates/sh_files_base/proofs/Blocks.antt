@@ -131,12 +131,45 @@ block_found q bs (suc n) i w le h is =
     let z : n ≡ i = omega arith in
     subst (IsBlockOf q bs) z (record { before = all_before q bs n [] w.rise (omega arith) (h.0 n [] (omega arith) (omega arith)); behind = ends_behind q bs (suc n) w.rise w.filled (λ k d a lt. h.1 k d a lt) })
 
+pub started_within : (q : List ℕ) (bs : List Entries) (i : ℕ) → starts_by q (get_or bs i []) ≡ true → i < length bs
+started_within q [] i s = cc
+started_within q (b ∷ bs) zero s = omega arith
+started_within q (b ∷ bs) (suc i) s =
+    let k : i < length bs = started_within q bs i s in
+    omega arith
+
+within_same : (bs : List Entries) (i : ℕ) (d e : Entries) → i < length bs → get_or bs i d ≡ get_or bs i e
+within_same [] i d e lt = absurd (omega arith)
+within_same (b ∷ bs) zero d e lt = refl
+within_same (b ∷ bs) (suc i) d e lt = within_same bs i d e (omega arith)
+
+differ : true ≡ false → ⊥
+differ h = cc
+
 pub last_found : (q : List ℕ) (bs : List Entries) (i : ℕ) (d : Entries) → AreBlocks bs → length bs ≡ suc i → starts_by q (get_or bs i d) ≡ true → IsBlockOf q bs i
 last_found q bs i d w n s =
     record {
       before = all_before q bs i d w.rise (omega arith) s;
       behind = ends_behind q bs (suc i) w.rise w.filled (λ k e le lt. absurd (omega arith));
     }
+
+only_started : (q : List ℕ) (bs : List Entries) (i : ℕ) → AreBlocks bs → starts_by q (get_or bs i []) ≡ true → starts_by q (get_or bs (suc i) []) ≡ false → IsBlockOf q bs i
+only_started q bs i w s n =
+    record {
+      before = all_before q bs i [] w.rise (started_within q bs i s) s;
+      behind = ends_behind q bs (suc i) w.rise w.filled (λ k e le lt. by k e le lt (starts_by q (get_or bs k e)) refl);
+    }
+  where
+    by : (k : ℕ) (e : Entries) → suc i ≤ k → k < length bs → (b : Bool) → starts_by q (get_or bs k e) ≡ b → starts_by q (get_or bs k e) ≡ false
+    by k e le lt false h = h
+    by k e le lt true h =
+        let t : starts_by q (get_or bs (suc i) e) ≡ true = together q bs w.rise w.filled (suc i) k e le lt h in
+        let same : get_or bs (suc i) e ≡ get_or bs (suc i) [] = within_same bs (suc i) e [] (omega arith) in
+        absurd (differ (sym t ∙ ap (starts_by q) same ∙ n))
+
+pub near_found : (q : List ℕ) (bs : List Entries) (i j : ℕ) (a b : Bool) → AreBlocks bs → j ≡ suc i → a ≡ starts_by q (get_or bs i []) → b ≡ starts_by q (get_or bs j []) → a ≡ true → not b ≡ true → IsBlockOf q bs i
+near_found q bs i j a b w next s n h k =
+    only_started q bs i w (sym s ∙ h) (ap (λ l. starts_by q (get_or bs l [])) (sym next) ∙ sym n ∙ untrue b k)
 
 -- ---- a block among the others
 pub flat_at : (bs : List Entries) (i : ℕ) (d : Entries) → i < length bs → flat bs ≡ flat (take i bs) ++ (get_or bs i d ++ flat (drop (suc i) bs))

@@ -63,7 +63,8 @@ fn names_of<'a>(alloc: Global, table: &'a Table, front: &[u8]) -> Result<Vec<&'a
 {
     let mut names = Vec::new(alloc);
     let mut text = Vec::from_slice(alloc, front)?;
-    'paths: while let Some(entry) = table.first_from(&text) {
+    let mut near = 0;
+    'paths: while let Some(entry) = table.first_near(&mut near, &text) {
         let path = entry.path();
         if !path.starts_with(front) {
             return Ok(names);
@@ -81,8 +82,9 @@ fn names_of<'a>(alloc: Global, table: &'a Table, front: &[u8]) -> Result<Vec<&'a
 }
 
 impl Table {
-    /// The names that a directory holds, in the order of their bytes. It takes a look-up for each of them and for each
-    /// directory among them. The only error is want of memory.
+    /// The names that a directory holds, in the order of their bytes. It takes a look-up for the first of them, and for
+    /// each of the others and each directory among them a look at its neighbours, or a look-up where they stand far
+    /// apart. The only error is want of memory.
     pub fn names_in<'a>(&'a self, alloc: Global, place: &[u8]) -> Result<Vec<&'a [u8]>, AllocError>
         ensures { IfOk result (λ names. map (λ (name : Bor (List ℕ)). name.now) names.items ≡ names_in (front_of place.now) (paths.entries self.now)) }
     {

@@ -1,5 +1,5 @@
 // Node numbers by path.
-ghost use Rattle.std.specs.Prelude.{◌≡◌, ◌<◌, ◌≤◌, ◌++◌, ◌∷◌, [], IfOk, OnOk, T, if◌then◌else◌, drop, is_ok, length, option_map, true, false};
+ghost use Rattle.std.specs.Prelude.{◌≡◌, ◌<◌, ◌≤◌, ◌++◌, ◌∷◌, [], IfOk, OnOk, T, if◌then◌else◌, drop, get_or, is_ok, length, option_map, true, false};
 ghost use Rattle.std.specs.List.Sorted.{IsPartitionPoint};
 ghost use Rattle.std.specs.Ordering.{nat_cmp};
 ghost use Rattle.std.specs.Cmp.Lexicographic.{slice_cmp};
@@ -85,11 +85,13 @@ impl Table {
         self.blocks.as_slice()
     }
 
-    /// The first entry that doesn't come before a text.
-    pub(crate) fn first_from(&self, text: &[u8]) -> Option<&Entry>
+    /// The first entry that doesn't come before a text. Where the block numbered `near` is the one in which the text
+    /// belongs, it takes a look-up in that block alone; `near` becomes the number of the text's block.
+    pub(crate) fn first_near(&self, near: &mut usize, text: &[u8]) -> Option<&Entry>
         ensures { option_map (λ entry. entry.now) result ≡ head (from text.now (map.entries self.now)) }
     {
-        let index = block_of(&self.blocks, text);
+        let index = block_near(&self.blocks, *near, text);
+        *near = index;
         match self.blocks[index].rest_from(text) {
             [first, ..] => Some(first),
             [] => first_behind(&self.blocks, index + 1),
@@ -127,6 +129,40 @@ fn block_of(blocks: &[Block], path: &[u8]) -> usize
         return last;
     }
     count_started(blocks, path).saturating_sub(1)
+}
+
+/// Whether there is a block of this number that starts at a path or before it.
+fn is_started(blocks: &[Block], index: usize, path: &[u8]) -> bool
+    ensures { result ≡ starts_by path.now (get_or blocks.now index []) }
+{
+    match blocks.get(index) {
+        Some(block) => block.starts_by(path),
+        None => false,
+    }
+}
+
+/// Whether this block is the one in which a path stands, or else belongs.
+fn is_block_of(blocks: &[Block], index: usize, path: &[u8]) -> bool
+    requires { AreBlocks blocks.now }
+    ensures within { result ≡ true → index < length blocks.now }
+    ensures place { result ≡ true → IsBlockOf path.now blocks.now index }
+{
+    if !is_started(blocks, index, path) {
+        return false;
+    }
+    !is_started(blocks, index + 1, path)
+}
+
+/// The block in which a path stands, or else belongs. The one of this number is looked at first.
+fn block_near(blocks: &[Block], near: usize, path: &[u8]) -> usize
+    requires { AreBlocks blocks.now }
+    ensures within { result < length blocks.now }
+    ensures place { IsBlockOf path.now blocks.now result }
+{
+    if is_block_of(blocks, near, path) {
+        return near;
+    }
+    block_of(blocks, path)
 }
 
 /// The number of the node at a path, which is looked for in this block first.
