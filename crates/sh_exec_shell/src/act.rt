@@ -38,7 +38,7 @@ fn read(alloc: Global, rest: Rest, vars: &Vars) -> Result<Tree, NoMemory>
     match find_command(alloc, rest)? {
         Found::Nothing => Ok(Tree::At(Active::Leaving(vars.status()))),
         Found::Command(tree, rest) => {
-            let items = Queue::new(tree.items);
+            let items = Queue::new(tree.into_items());
             let inner = enter(alloc, items, vars.status())?;
             within(alloc, Form::Text(rest), inner)
         },

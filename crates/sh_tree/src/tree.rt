@@ -2,6 +2,9 @@
 //! goes on to hold, beside its tree, is `Shared`. Nested syntax makes a tree deep, of 500 levels at
 //! most; a list of any length is a sequence, never a chain of pairs. Contracts see a
 //! tree as plain data, without pointers.
+ghost use Rattle.std.specs.Prelude.{◌≡◌};
+ghost use Rattle.sh_tree.specs.declared.tree.Command.TheViews as view;
+
 use sh_syntax::sequence::{Sequence, Text};
 use sh_syntax::shared::Shared;
 
@@ -17,7 +20,6 @@ pub struct Word {
 /// Parts one after another: of a word, between double quotes, in `${..}`, in `$((..))` or of the body of a
 /// here-document.
 #[cycle(syntax)]
-#[derive(Drop)]
 pub struct Parts {
     pub items: Sequence<Part>,
 }
@@ -196,7 +198,6 @@ pub enum HereDocumentOperator {
 
 /// A command (XCU 2.9).
 #[cycle(syntax)]
-#[derive(Drop)]
 pub enum Command {
     /// A simple command: at least one item, in the order of the source.
     Simple(Sequence<SimpleItem>),
@@ -222,7 +223,6 @@ pub enum SimpleItem {
 
 /// A compound command with its redirections (XCU 2.9.4).
 #[cycle(syntax)]
-#[derive(Drop)]
 pub struct Compound {
     pub form: CompoundForm,
     pub redirects: Sequence<Redirect>,
@@ -311,7 +311,6 @@ pub enum CaseEnd {
 
 /// A pipeline (XCU 2.9.2).
 #[cycle(syntax)]
-#[derive(Drop)]
 pub struct Pipeline {
     /// Whether a `!` stands before it.
     pub is_negated: bool,
@@ -322,7 +321,6 @@ pub struct Pipeline {
 
 /// An AND-OR list (XCU 2.9.3).
 #[cycle(syntax)]
-#[derive(Drop)]
 pub struct AndOr {
     pub first: Shared<Pipeline>,
     /// The pipelines behind a `&&` or `||`.
@@ -349,9 +347,18 @@ pub enum Connector {
 /// AND-OR lists one after another: a complete command (XCU 2.10.2), the list inside a compound command, or
 /// the commands of a substitution.
 #[cycle(syntax)]
-#[derive(Drop)]
 pub struct Complete {
     pub items: Sequence<ListItem>,
+}
+
+impl Complete {
+    /// Takes the AND-OR lists out.
+    pub fn into_items(self) -> Sequence<ListItem>
+        ensures { result ≡ (view.out-Complete self).items }
+    {
+        let Complete { items: lists } = self;
+        lists
+    }
 }
 
 /// An AND-OR list of a list, and how it is run (XCU 2.9.3).
@@ -369,4 +376,68 @@ pub enum Separator {
     Sequential,
     /// `&`: the shell goes on at once.
     Asynchronous,
+}
+
+// The types that stand behind a `Shared` say how they are let go, in place of a derive: that is proved once here, and no crate
+// above proves it anew for the whole cycle of a tree's types.
+
+impl Drop for Parts {
+    #[cycle(letting_go)]
+    fn drop(self) {
+        let Parts { items } = self;
+        drop(items);
+    }
+}
+
+impl Drop for Command {
+    #[cycle(letting_go)]
+    fn drop(self) {
+        match self {
+            Command::Simple(items) => drop(items),
+            Command::Compound(compound) => drop(compound),
+            Command::Function { name, body } => {
+                drop(name);
+                drop(body);
+            }
+        }
+    }
+}
+
+impl Drop for Compound {
+    #[cycle(letting_go)]
+    fn drop(self) {
+        let Compound { form, redirects } = self;
+        drop(form);
+        drop(redirects);
+    }
+}
+
+impl Drop for Pipeline {
+    #[cycle(letting_go)]
+    fn drop(self) {
+        let Pipeline {
+            is_negated: _,
+            first,
+            rest,
+        } = self;
+        drop(first);
+        drop(rest);
+    }
+}
+
+impl Drop for AndOr {
+    #[cycle(letting_go)]
+    fn drop(self) {
+        let AndOr { first, rest } = self;
+        drop(first);
+        drop(rest);
+    }
+}
+
+impl Drop for Complete {
+    #[cycle(letting_go)]
+    fn drop(self) {
+        let Complete { items } = self;
+        drop(items);
+    }
 }
