@@ -1,0 +1,36 @@
+//! Laws on words.
+ghost use Rattle.std.specs.Prelude.{◌≡◌, ℕ, Bool, true, List, ◌++◌, Ok};
+ghost use Rattle.std.specs.List.{list_all};
+ghost use Rattle.sh_scanner_base.specs.Told.{is_byte};
+ghost use Rattle.sh_scanner.specs.Body.{IsFront};
+ghost use Rattle.sh_scanner.specs.Tokens.{HasToken};
+ghost use Rattle.sh_scanner.specs.declared.token.TokenKind.{TokenKind};
+ghost use Rattle.sh_scanner_base.specs.declared.mark.Mark.{Mark};
+ghost use Rattle.sh_tree.specs.declared.tree.Part.{Part};
+ghost use Rattle.sh_parse_programs.specs.Words.{Reader, parts_in};
+ghost use Rattle.sh_parse_words.specs.Building.{parts_of};
+ghost use Rattle.sh_parse_laws.specs.Spelled.{AreSpelled, Nested};
+
+/// Law: where the pieces of a word, or of a here-document's body, spell some parts, the reader gives these parts and no others (XCU 2.2,
+/// 2.6).
+pub fn spelled_parts_are_given()
+    ensures { (read : Reader) (left : ℕ) (text : List ℕ) (pieces : List Mark) (bytes : List ℕ) (parts : List Part) → AreSpelled read text left pieces bytes parts → parts_in read left text pieces bytes ≡ Ok (parts_of parts) }
+{}
+
+/// Law: no pieces spell two lists of parts.
+pub fn pieces_spell_one_word()
+    ensures { (read : Reader) (left : ℕ) (text : List ℕ) (pieces : List Mark) (bytes : List ℕ) (one other : List Part) → AreSpelled read text left pieces bytes one → AreSpelled read text left pieces bytes other → one ≡ other }
+{}
+
+/// Law: what the reader gives for pieces that close each form that they open is what these spell.
+pub fn given_parts_are_spelled()
+    ensures { (read : Reader) (left : ℕ) (text : List ℕ) (pieces : List Mark) (bytes : List ℕ) (parts : List Part) → Nested pieces → parts_in read left text pieces bytes ≡ Ok (parts_of parts) → AreSpelled read text left pieces bytes parts }
+{}
+
+/// Law: the pieces of each word of a text, and of each here-document's body, close each form that they open; and so do those behind bytes
+/// at a word's front, as those of an assignment's value behind its name and `=`.
+pub fn words_are_nested()
+    ensures words { (at_end : Bool) (bytes front rest : List ℕ) (pieces : List Mark) → HasToken at_end bytes front rest (TokenKind.Word pieces) → Nested pieces }
+    ensures values { (front pieces : List Mark) → list_all is_byte front ≡ true → Nested (front ++ pieces) → Nested pieces }
+    ensures bodies { (bytes : List ℕ) (pieces : List Mark) (place : List ℕ) → IsFront bytes pieces place → Nested pieces }
+{}
