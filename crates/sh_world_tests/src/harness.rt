@@ -241,17 +241,6 @@ fn wrong_row(alloc: Global, came: &Came, row: &Row) -> Result<String, NoMemory> 
     Ok(format!(in alloc; "\n{text:?}: {ran} {end:?} {found:?}")?)
 }
 
-/// Each script ends in its last turn and not before, with its terminal and its status.
-pub(crate) fn come_to(rt: &impl Abort, alloc: Global, rows: &[Row]) -> Result<(), Fail> {
-    let mut wrong = String::new(alloc);
-    for row in rows {
-        let came = run(alloc, row.0, "", row.1)?;
-        wrong.push_str(&wrong_row(alloc, &came, row)?)?;
-    }
-    assert!(rt; wrong.is_empty(), "{wrong}");
-    Ok(())
-}
-
 /// Places of the processes that take a turn, one after another.
 const ORDERS: [&str; 5] = [
     "213000201003301030010301012310210120001332332211102323200312",
@@ -271,13 +260,34 @@ fn wrong_order(alloc: Global, row: &Row, order: &str) -> Result<String, NoMemory
     Ok(format!(in alloc; "\n{:?} {order}: {found:?}", row.0)?)
 }
 
-/// Each script comes to its terminal and its status in other orders of turns too.
-pub(crate) fn come_to_in_orders(rt: &impl Abort, alloc: Global, rows: &[Row]) -> Result<(), Fail> {
+/// What is wrong with what comes of a script in other orders of turns: nothing where it comes to its terminal and its status.
+fn wrong_orders(alloc: Global, row: &Row) -> Result<String, NoMemory> {
+    let mut wrong = String::new(alloc);
+    for order in ORDERS {
+        wrong.push_str(&wrong_order(alloc, row, order)?)?;
+    }
+    Ok(wrong)
+}
+
+/// Each script ends in its last turn and not before, with its terminal and its status, and comes to these in other orders of
+/// turns too.
+pub(crate) fn come_to(rt: &impl Abort, alloc: Global, rows: &[Row]) -> Result<(), Fail> {
     let mut wrong = String::new(alloc);
     for row in rows {
-        for order in ORDERS {
-            wrong.push_str(&wrong_order(alloc, row, order)?)?;
-        }
+        let came = run(alloc, row.0, "", row.1)?;
+        wrong.push_str(&wrong_row(alloc, &came, row)?)?;
+        wrong.push_str(&wrong_orders(alloc, row)?)?;
+    }
+    assert!(rt; wrong.is_empty(), "{wrong}");
+    Ok(())
+}
+
+/// Each script, whose stages race, ends in its last turn and not before, with its terminal and its status.
+pub(crate) fn come_to_by_next(rt: &impl Abort, alloc: Global, rows: &[Row]) -> Result<(), Fail> {
+    let mut wrong = String::new(alloc);
+    for row in rows {
+        let came = run(alloc, row.0, "", row.1)?;
+        wrong.push_str(&wrong_row(alloc, &came, row)?)?;
     }
     assert!(rt; wrong.is_empty(), "{wrong}");
     Ok(())

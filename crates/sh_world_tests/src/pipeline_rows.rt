@@ -1,5 +1,5 @@
 //! Pipelines, their statuses, and what goes through their pipes.
-use crate::harness::{Row, come_to, come_to_in_orders};
+use crate::harness::{Row, come_to};
 use std::test::Fail;
 
 /// Pipelines of up to five stages, and `!`.
@@ -117,19 +117,4 @@ const SIZES: [Row; 20] = [
 #[test]
 fn sizes(rt: HostRuntime) -> Result<(), Fail> {
     come_to(&rt, rt.alloc(), &SIZES)
-}
-
-#[test]
-fn pipelines_in_other_orders(rt: HostRuntime) -> Result<(), Fail> {
-    come_to_in_orders(&rt, rt.alloc(), &PIPELINES)
-}
-
-#[test]
-fn stages_in_other_orders(rt: HostRuntime) -> Result<(), Fail> {
-    come_to_in_orders(&rt, rt.alloc(), &STAGES)
-}
-
-#[test]
-fn sizes_in_other_orders(rt: HostRuntime) -> Result<(), Fail> {
-    come_to_in_orders(&rt, rt.alloc(), &SIZES)
 }

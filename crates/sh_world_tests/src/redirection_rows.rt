@@ -1,5 +1,5 @@
 //! Redirections, descriptors and the offsets of open files.
-use crate::harness::{Row, come_to};
+use crate::harness::{Row, come_to, come_to_by_next};
 use std::test::Fail;
 
 /// Files that are written and read, and the words that name them.
@@ -143,7 +143,7 @@ fn redirection_faults(rt: HostRuntime) -> Result<(), Fail> {
 }
 
 /// Descriptors that share an offset, and such that do not.
-const OFFSETS: [Row; 12] = [
+const OFFSETS: [Row; 10] = [
     ("/d/two >f; cat <f", 32, "a\nb\nc\n", 0),
     ("/d/both >f 2>f; cat <f", 27, "b\naa\n", 0),
     ("/d/both >f 2>&1; cat <f", 27, "aaaa\nb\n", 0),
@@ -163,8 +163,6 @@ const OFFSETS: [Row; 12] = [
         "aaaa\nb\n",
         0,
     ),
-    ("echo a >f | echo b >>f; cat <f", 23, "a\nb\n", 0),
-    ("echo a >>f | echo b >>f; cat <f", 23, "a\nb\n", 0),
     (
         "echo aa >f; cat <f >>f 2>g <in; cat <f",
         27,
@@ -176,6 +174,17 @@ const OFFSETS: [Row; 12] = [
 #[test]
 fn offsets(rt: HostRuntime) -> Result<(), Fail> {
     come_to(&rt, rt.alloc(), &OFFSETS)
+}
+
+/// Stages that write to one file, whose order shows.
+const RACES: [Row; 2] = [
+    ("echo a >f | echo b >>f; cat <f", 23, "a\nb\n", 0),
+    ("echo a >>f | echo b >>f; cat <f", 23, "a\nb\n", 0),
+];
+
+#[test]
+fn races(rt: HostRuntime) -> Result<(), Fail> {
+    come_to_by_next(&rt, rt.alloc(), &RACES)
 }
 
 /// Here-documents.
