@@ -2,7 +2,7 @@
 ghost use Rattle.std.specs.Prelude.{◌≡◌, IfOk, option_map};
 ghost use Rattle.sh_exec.specs.Starting.{starting_at, starting_in};
 
-use sh_exec_command::{Active, Place};
+use sh_exec_command::{Active, Place, copies_of};
 use sh_syntax::memory::NoMemory;
 use sh_syntax::sequence::{Sequence, Text};
 use std::alloc::Global;
@@ -35,21 +35,6 @@ fn starting_in(active: &Active) -> Option<&Sequence<Text>>
         Active::Done(_) => None,
         Active::Leaving(_) => None,
     }
-}
-
-/// Copies of texts.
-fn copies_of(alloc: Global, texts: &[Text]) -> Result<Sequence<Text>, NoMemory>
-    ensures { IfOk result (λ copies. copies ≡ texts.now) }
-{
-    let mut copies = Sequence::new(alloc);
-    let mut rest = texts;
-    'texts: while let Some((text, others)) = rest.split_first() {
-        let mut copy = Text::new(alloc);
-        copy.extend_from_slice(text.as_slice())?;
-        copies.push(copy)?;
-        rest = others;
-    }
-    Ok(copies)
 }
 
 /// A copy of what is started at an active place.

@@ -93,8 +93,8 @@ fn role_of(fields: &[Text]) -> Role
     }
 }
 
-/// Copies of texts.
-fn copies_of(alloc: Global, texts: &[Text]) -> Result<Sequence<Text>, NoMemory>
+/// Copies of texts, in their order. The only error is want of memory.
+pub fn copies_of(alloc: Global, texts: &[Text]) -> Result<Sequence<Text>, NoMemory>
     ensures { IfOk result (λ copies. copies ≡ texts.now) }
 {
     let mut copies = Sequence::new(alloc);

@@ -3,4 +3,4 @@
 
 mod search;
 
-pub use search::{Located, locate};
+pub use search::{Located, MAX_SCRIPT, locate};

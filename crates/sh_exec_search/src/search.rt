@@ -11,8 +11,8 @@ use sh_syntax::sequence::{Sequence, Text};
 use sh_vars::Vars;
 use std::alloc::Global;
 
-/// The longest script, in bytes.
-const MAX_SCRIPT: usize = 1 << 24;
+/// The longest script, in bytes: a longer file can't be executed.
+pub const MAX_SCRIPT: usize = 1 << 24;
 
 /// What a command's name leads to (XCU 2.9.1.4).
 #[derive(Debug, Drop)]

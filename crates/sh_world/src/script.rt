@@ -6,13 +6,11 @@ ghost use Rattle.sh_world.specs.Scripts.{missing, place_by, script_place, unread
 use sh_exec_base::Rest;
 use sh_exec_base::message::{cannot_execute, not_found};
 use sh_exec_command::{Finish, Place};
+use sh_exec_search::MAX_SCRIPT;
 use sh_files::{File, Files, Node};
 use sh_syntax::memory::NoMemory;
 use sh_syntax::sequence::Text;
 use std::alloc::Global;
-
-/// The longest script, in bytes.
-const MAX_SCRIPT: usize = 1 << 24;
 
 /// There is no such file.
 fn missing(alloc: Global, path: &[u8]) -> Result<Place, NoMemory>
