@@ -39,8 +39,8 @@ pub enum Reading {
 #[derive(Clone, Copy, Debug, PartialEq, Eq, Error)]
 pub enum ParseFault {
     /// The token at `at` can't stand there, whatever comes behind it (XCU 2.10); or the byte at `at` is a NUL, which no text of a script
-    /// has; or the commands in the backquotes at `at` are none (XCU 2.6.3); or the body of a here-document doesn't close the form at
-    /// `at` (XCU 2.7.4).
+    /// has; or the text in the backquotes at `at` is no list of commands (XCU 2.6.3); or the body of a here-document doesn't close the
+    /// form at `at` (XCU 2.7.4).
     #[error("syntax error at byte {at}")]
     Refused { at: usize },
     /// The input ends within a token or a command. `at` is the length of the text.
@@ -49,7 +49,8 @@ pub enum ParseFault {
     /// The `${` at `at` asks for nothing that there is (XCU 2.6.2).
     #[error("bad substitution at byte {at}")]
     BadSubstitution { at: usize },
-    /// The token or part at `at` opens level 501: compound commands, `${`, `$(`, `$((` and backquotes are levels.
+    /// The token or part at `at` opens level 501: compound commands, `${`, `$(`, `$((` and backquotes are levels. Of a word or a body that
+    /// has 501 levels by itself it is the part that opens one too many there.
     #[error("nested too deep at byte {at}")]
     TooDeep { at: usize },
     /// There was not enough memory.
@@ -73,10 +74,12 @@ impl From<AllocError> for ParseFault {
 /// replaced yet.
 ///
 /// The reading is decided at the first newline token behind its bodies, or end of the input, at which the tokens before it are none, are
-/// a complete command, or have a fault, of which the one at the least place is told. After `Complete` or `Blank` the next reading begins
-/// `used` bytes further on. After `More` it begins at the same byte, in a longer text or at the end of the input. Where to go on after a
-/// fault is for the caller to say; want of memory leaves it open what the text reads as. The time is linear in the text for each level
-/// of its substitutions, and so is the memory.
+/// a complete command, or have a fault, of which the one at the least place is told. Behind a NUL, and behind a word that opens 501
+/// levels by itself, there are no tokens, so that the end of the input alone decides there; a word that isn't finished is none.
+///
+/// After `Complete` or `Blank` the next reading begins `used` bytes further on. After `More` it begins at the same byte, in a longer text
+/// or at the end of the input. Where to go on after a fault is for the caller to say; want of memory leaves it open what the text reads
+/// as. The time is linear in the text for each level of its substitutions, and so is the memory.
 #[tactic(auto, using(crate::proofs::Turning::fails))]
 pub fn read_command(
     alloc: Global,

@@ -87,9 +87,14 @@ no_backquotes : (read : Reader) (text : List ℕ) (fs : List Frame) (ps : List P
 unfolding with_piece take_piece
 no_backquotes read text fs ps literal between empty bytes c h = cc
 
+no_form : (fs : List Frame) (ps : List Part) (literal : List ℕ) (c : Building) (place : ℕ) (o : Option Braces) (k : Taken → Result Building PartFault) → and_then (open_braces (at fs zero ps literal) place o) k ≡ Ok c → ⊥
+no_form fs ps literal c place None k h = cc
+no_form fs ps literal c place (Some f) k h = cc
+
 no_braces : (read : Reader) (text : List ℕ) (fs : List Frame) (ps : List Part) (literal head : List ℕ) (empty : Bool) (bytes : List ℕ) (c : Building) → with_piece read text (at fs zero ps literal) (mark.BraceOpen head) empty bytes ≡ Ok c → ⊥
 unfolding with_piece take_piece
-no_braces read text fs ps literal head empty bytes c h = cc
+no_braces read text fs ps literal head empty bytes c h =
+    no_form fs ps literal c (next text bytes) (braces_of head empty) (λ (t : Taken). answered read text t.building t.request) h
 
 no_arithmetic : (read : Reader) (text : List ℕ) (fs : List Frame) (ps : List Part) (literal : List ℕ) (empty : Bool) (bytes : List ℕ) (c : Building) → with_piece read text (at fs zero ps literal) mark.ArithmeticOpen empty bytes ≡ Ok c → ⊥
 unfolding with_piece take_piece
@@ -126,17 +131,16 @@ grouped read text b xs ys bytes h g = moved read text b b xs ys bytes bytes (ap 
 placed : (read : Reader) (text : List ℕ) (b : Building) (xs : List Mark) (bytes after : List ℕ) → bytes ≡ after → Going read text b xs bytes → Going read text b xs after
 placed read text b xs bytes after h g = moved read text b b xs xs bytes after (ap (λ bs. with_pieces read text b xs bs) h) g
 
-found : (read : Reader) (text : List ℕ) (b c : Building) (n place : ℕ) (o p : Option Braces) (k : Taken → Result Building PartFault) → o ≡ p → and_then (open_braces b n place p) k ≡ Ok c → (f : Braces) × (o ≡ Some f)
-found read text b c n place o None k e h = cc
-found read text b c n place o (Some f) k e h = (f, e)
+found : (b c : Building) (place : ℕ) (o p : Option Braces) (k : Taken → Result Building PartFault) → o ≡ p → and_then (open_braces b place p) k ≡ Ok c → (f : Braces) × (o ≡ Some f)
+found b c place o None k e h = cc
+found b c place o (Some f) k e h = (f, e)
 
 braces_found : (read : Reader) (text : List ℕ) (fs : List Frame) (n : ℕ) (ps : List Part) (literal head : List ℕ) (empty : Bool) (bytes : List ℕ) (c : Building) → with_piece read text (at fs (suc n) ps literal) (mark.BraceOpen head) empty bytes ≡ Ok c → (f : Braces) × (braces_of head empty ≡ Some f)
 unfolding with_piece take_piece
 braces_found read text fs n ps literal head empty bytes c h =
     let k = λ (t : Taken). answered read text t.building t.request in
     let b = at fs (suc n) ps literal in
-    found read text b c (suc n - 1) (next text bytes) (braces_of head empty) (braces_of head empty) k refl
-    (sym (ap (λ o. and_then o k) (levelled n (next text bytes) (open_braces b (suc n - 1) (next text bytes) (braces_of head empty)))) ∙ h)
+    found b c (next text bytes) (braces_of head empty) (braces_of head empty) k refl h
 
 commands_asked : (read : Reader) (text : List ℕ) (fs : List Frame) (n : ℕ) (ps : List Part) (literal : List ℕ) (place start : ℕ) (empty : Bool) (bytes : List ℕ) → with_piece read text (passing fs (suc n) ps literal (begun_at place start)) mark.CommandsClose empty bytes ≡ answered read text (at fs (suc n) ps literal) (Some (record { form = substitution.Commands; place = place; start = start; «end» = next text bytes; left = suc n - 1 }))
 unfolding with_piece take_piece

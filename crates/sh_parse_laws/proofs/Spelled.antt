@@ -112,8 +112,8 @@ arithmetic_opened fs left ps literal empty place behind =
 pub braces_opened : (fs : List Frame) (left : ℕ) (ps : List Part) (literal : List ℕ) (head : List ℕ) (f : Braces) (empty : Bool) → braces_of head empty ≡ Some f → (place behind : ℕ) → take_piece (at fs (suc left) ps literal) (mark.BraceOpen head) empty place behind ≡ on (at (fs ++ frame_of (form.Braces f) (suc left) ps literal ∷ []) left [] [])
 unfolding take_piece opened
 braces_opened fs left ps literal head f empty h place behind =
-    levelled left place _
-    ∙ ap (λ o. open_braces (at fs (suc left) ps literal) (suc left - 1) place o) h
+    ap (λ o. open_braces (at fs (suc left) ps literal) place o) h
+    ∙ levelled left place _
     ∙ ap (λ n. on (at (fs ++ frame_of (form.Braces f) (suc left) ps literal ∷ []) n [] [])) (one_less left)
 
 pub closed_is : (fs : List Frame) (f : Frame) (left : ℕ) (qs : List Part) (rest : List ℕ) → closed (at (fs ++ f ∷ []) left qs rest) ≡ at fs f.left (f.before ++ form_part f.form (parts_of (ended qs rest)) ∷ []) []

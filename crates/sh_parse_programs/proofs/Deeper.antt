@@ -34,7 +34,7 @@ use Rattle.sh_parse_programs.specs.Results.{and_then, fault_moved}
 use Rattle.sh_parse_programs.specs.Sources.{text_between, behind_pieces}
 use Rattle.sh_parse_programs.specs.Words.{Reader, text_of, place_in, answer_of, answered, with_piece, begins_closed, with_pieces, whole, parts_in}
 use Rattle.sh_parse_programs.specs.Leaves.{name_size, assignment_leaf, plain_leaf, leaf_by, word_leaf, leaf_of}
-use Rattle.sh_parse_programs.specs.Documents.{pieces_by, expanded_body, document_parts, with_documents, bodies_of}
+use Rattle.sh_parse_programs.specs.Documents.{front_of, unless, expanded_body, document_parts, with_documents, bodies_of}
 use Rattle.sh_parse_programs.specs.Judging.{Judged, none_of, with_input, takes, open_in, with_leaf, with_item, with_items}
 use Rattle.sh_parse_programs.specs.Inputs.{input_of}
 use Rattle.sh_parse_programs.specs.Programs.{ended_by, program_in, programs, read_text}
@@ -127,13 +127,14 @@ level_gives n left place o false e h = let x = eqb-false left 0 e in h (positive
     positive zero x = absurd (x refl)
     positive (suc k) x = omega arith
 
-braces_give : (n : ℕ) (b : Building) (place : ℕ) (o : Option Braces) → IsWithin n b → b.skip ≡ None → Gives n (open_braces b (b.left - 1) place o)
+braces_give : (n : ℕ) (b : Building) (place : ℕ) (o : Option Braces) → IsWithin n b → b.skip ≡ None → Gives n (open_braces b place o)
 braces_give n b place None h e = tt
-braces_give n b place (Some f) h e = let l : b.left ≤ n = h.left in (opened_within n b (form.Braces f) (b.left - 1) h e (omega (l, arith)), tt)
+braces_give n b place (Some f) h e =
+    level_gives n b.left place (on (opened b (form.Braces f) (b.left - 1))) (nat_eq b.left 0) refl (λ k.
+    let l : b.left ≤ n = h.left in (opened_within n b (form.Braces f) (b.left - 1) h e (omega (l, arith)), tt))
 
 taking_gives : (n : ℕ) (b : Building) (m : Mark) (empty : Bool) (place behind : ℕ) → IsWithin n b → b.skip ≡ None → Gives n (taking b m empty place behind)
-taking_gives n b (mark.BraceOpen head) empty place behind h e =
-    level_gives n b.left place (open_braces b (b.left - 1) place (braces_of head empty)) (nat_eq b.left 0) refl (λ l. braces_give n b place (braces_of head empty) h e)
+taking_gives n b (mark.BraceOpen head) empty place behind h e = braces_give n b place (braces_of head empty) h e
 taking_gives n b mark.ArithmeticOpen empty place behind h e =
     level_gives n b.left place (on (opened b form.Arithmetic (b.left - 1))) (nat_eq b.left 0) refl (λ l.
     let k : b.left ≤ n = h.left in (opened_within n b form.Arithmetic (b.left - 1) h e (omega (k, arith)), tt))
@@ -244,7 +245,7 @@ module _ (n : ℕ) (read other : Reader) (agree : (left : ℕ) → left < n → 
   body_same : (bytes : List ℕ) → expanded_body read n bytes ≡ expanded_body other n bytes
   unfolding expanded_body
   body_same bytes =
-      then_all (pieces_by (body_answer (pieces_of_body bytes))) (λ ms. parts_in read n bytes ms bytes) (λ ms. parts_in other n bytes ms bytes) (λ ms. parts_same bytes ms bytes)
+      ap (λ o. and_then o (λ parts. unless (front_of bytes).fault parts)) (parts_same bytes (front_of bytes).pieces bytes)
 
   document_same : (d : Document) → document_parts read n d ≡ document_parts other n d
   unfolding document_parts

@@ -1,13 +1,10 @@
 -- The steps of a reading, each as what is known of its parts.
-use Rattle.std.proofs.Common.{◌≡◌, ℕ, suc, ◌-◌, Bool, true, false, nat_lt, List, [], ◌∷◌, ◌++◌, length, take, drop, Some, None, Result, Ok, Err, refl, sym, ap, subst, ◌∙◌, if◌then◌else◌}
+use Rattle.std.proofs.Common.{◌≡◌, ℕ, suc, ◌-◌, Bool, true, false, nat_lt, List, [], ◌∷◌, ◌++◌, length, take, drop, Option, Some, None, Result, Ok, Err, refl, sym, ap, subst, ◌∙◌, if◌then◌else◌}
 use Rattle.sh_syntax.specs.declared.word.Span.{Span}
 use Rattle.sh_token_base.specs.Shell.{substitution}
 use Rattle.sh_scanner_base.specs.declared.mark.Mark.{Mark}
 use Rattle.sh_scanner_base.specs.declared.here.Delimiter.{Delimiter}
 use Rattle.sh_scanner_base.specs.Told.{literal_front}
-use Rattle.sh_scanner.specs.declared.document.BodyFault.{BodyFault}
-use Rattle.sh_scanner.specs.Body.{body_answer, GivesPieces}
-use Rattle.sh_scanner.specs.Found.{pieces_of_body}
 use Rattle.sh_tree.specs.declared.tree.Complete.{Complete}
 use Rattle.sh_tree.specs.declared.tree.Parts.{Parts}
 use Rattle.sh_parse_trees_base.specs.declared.leaf.Leaf.{Leaf}
@@ -26,7 +23,8 @@ use Rattle.sh_parse_programs.specs.Sources.{text_between, behind_pieces}
 use Rattle.sh_parse_programs.specs.Inputs.{input_of}
 use Rattle.sh_parse_programs.specs.Words.{Reader, text_of, place_in, answer_of, answered, with_piece, begins_closed, with_pieces, whole, parts_in}
 use Rattle.sh_parse_programs.specs.Leaves.{name_size, assignment_leaf, plain_leaf, leaf_by, word_leaf, leaf_of}
-use Rattle.sh_parse_programs.specs.Documents.{fault_of_body, pieces_by, expanded_body, document_parts, with_documents, bodies_of}
+use Rattle.sh_parse_programs.specs.declared.document.BodyFront.{BodyFront}
+use Rattle.sh_parse_programs.specs.Documents.{front_of, unless, expanded_body, document_parts, with_documents, bodies_of}
 use Rattle.sh_parse_programs.specs.Judging.{Judged, none_of, with_input, takes, open_in, with_leaf, taken_item, with_item, with_items}
 use Rattle.sh_parse_programs.specs.Programs.{ended_by, program_of, program_in, programs}
 
@@ -160,20 +158,27 @@ word_assigned_fault read left text ms span front bytes size first others behind 
     (then_fault e (parts_in read left text others behind) (λ p. Ok (assignment_leaf front size p (text_between text span.start span.«end»))) g)
 
 -- a body
-pub body_gives : (read : Reader) (left : ℕ) (bytes : List ℕ) (ms : List Mark) (result : Result Parts PartFault)
-    → Ok ms ≡ body_answer (pieces_of_body bytes) → Gives result (parts_in read left bytes ms bytes) → Gives result (expanded_body read left bytes)
-unfolding expanded_body
-body_gives read left bytes ms result h g =
-    subst (λ z. Gives result (and_then (pieces_by z) (λ ps. parts_in read left bytes ps bytes))) h g
+unless_gives : (f : Option PartFault) (parts : Parts) → Gives (unless f parts) (unless f parts)
+unless_gives None parts = refl
+unless_gives (Some fault.NoMemory) parts = tt
+unless_gives (Some (fault.BadSubstitution at)) parts = refl
+unless_gives (Some (fault.TooDeep at)) parts = refl
+unless_gives (Some (fault.Refused at)) parts = refl
 
-pub body_fault : (read : Reader) (left : ℕ) (bytes : List ℕ) (e : BodyFault) (result : PartFault)
-    → GivesPieces (Err e) (body_answer (pieces_of_body bytes)) → result ≡ fault_of_body e → GivesFault result (expanded_body read left bytes)
+pub body_gives : (read : Reader) (left : ℕ) (bytes : List ℕ) (front : BodyFront) (parts : Parts) (result : Result Parts PartFault)
+    → front ≡ front_of bytes → parts_in read left bytes front.pieces bytes ≡ Ok parts → result ≡ unless front.fault parts → Gives result (expanded_body read left bytes)
 unfolding expanded_body
-body_fault read left bytes (BodyFault.Open at) result h r =
-    subst (λ z. GivesFault z (expanded_body read left bytes)) (sym r) (ap (λ z. and_then (pieces_by z) (λ ps. parts_in read left bytes ps bytes)) (sym h))
-body_fault read left bytes (BodyFault.TooDeep at) result h r =
-    subst (λ z. GivesFault z (expanded_body read left bytes)) (sym r) (ap (λ z. and_then (pieces_by z) (λ ps. parts_in read left bytes ps bytes)) (sym h))
-body_fault read left bytes BodyFault.NoMemory result h r = subst (λ z. GivesFault z (expanded_body read left bytes)) (sym r) tt
+body_gives read left bytes front parts result f p r =
+    subst (λ z. Gives z (expanded_body read left bytes)) (sym r)
+    (subst (λ z. Gives (unless front.fault parts) (and_then (parts_in read left bytes z.pieces bytes) (λ ps. unless z.fault ps))) f
+    (subst (λ z. Gives (unless front.fault parts) (and_then z (λ ps. unless front.fault ps))) (sym p) (unless_gives front.fault parts)))
+
+pub body_fault : (read : Reader) (left : ℕ) (bytes : List ℕ) (front : BodyFront) (e : PartFault)
+    → front ≡ front_of bytes → GivesFault e (parts_in read left bytes front.pieces bytes) → GivesFault e (expanded_body read left bytes)
+unfolding expanded_body
+body_fault read left bytes front e f g =
+    subst (λ z. GivesFault e (and_then (parts_in read left bytes z.pieces bytes) (λ ps. unless z.fault ps))) f
+    (then_fault e (parts_in read left bytes front.pieces bytes) (λ ps. unless front.fault ps) g)
 
 pub document_quoted : (read : Reader) (left : ℕ) (d : Document) (parts : Parts) → d.is_quoted ≡ true → parts ≡ parts_of (ended [] d.text) → document_parts read left d ≡ Ok parts
 unfolding document_parts

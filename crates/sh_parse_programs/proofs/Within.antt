@@ -116,13 +116,13 @@ level_in : (size place : ℕ) (o : Outcome) (z : Bool) → place ≤ size → Ou
 level_in size place o true p h = p
 level_in size place o false p h = h
 
-braces_in : (size : ℕ) (b : Building) (left place : ℕ) (o : Option Braces) → place ≤ size → SkipIn size b.skip → OutcomeIn size (open_braces b left place o)
-braces_in size b left place None p h = p
-braces_in size b left place (Some f) p h = (opened_in size b (form.Braces f) left h, tt)
+braces_in : (size : ℕ) (b : Building) (place : ℕ) (o : Option Braces) → place ≤ size → SkipIn size b.skip → OutcomeIn size (open_braces b place o)
+braces_in size b place None p h = p
+braces_in size b place (Some f) p h =
+    level_in size place (on (opened b (form.Braces f) (b.left - 1))) (nat_eq b.left 0) p (opened_in size b (form.Braces f) (b.left - 1) h, tt)
 
 taking_in : (size : ℕ) (b : Building) (m : Mark) (empty : Bool) (place behind : ℕ) → place ≤ size → behind ≤ size → SkipIn size b.skip → OutcomeIn size (taking b m empty place behind)
-taking_in size b (mark.BraceOpen head) empty place behind p q h =
-    level_in size place (open_braces b (b.left - 1) place (braces_of head empty)) (nat_eq b.left 0) p (braces_in size b (b.left - 1) place (braces_of head empty) p h)
+taking_in size b (mark.BraceOpen head) empty place behind p q h = braces_in size b place (braces_of head empty) p h
 taking_in size b mark.ArithmeticOpen empty place behind p q h =
     level_in size place (on (opened b form.Arithmetic (b.left - 1))) (nat_eq b.left 0) p (opened_in size b form.Arithmetic (b.left - 1) h, tt)
 taking_in size b mark.CommandsOpen empty place behind p q h =

@@ -1,5 +1,5 @@
 -- The parts of the bodies of here-documents (XCU 2.7.4).
-use Rattle.std.specs.Prelude.{ℕ, List, [], ◌∷◌, ◌++◌, Result, Ok, Err, if◌then◌else◌}
+use Rattle.std.specs.Prelude.{ℕ, List, [], ◌∷◌, ◌++◌, Option, Some, None, Result, Ok, Err, if◌then◌else◌}
 use Rattle.sh_scanner_base.specs.declared.here.Delimiter.{Delimiter}
 use Rattle.sh_scanner_base.specs.declared.mark.Mark.{Mark}
 use Rattle.sh_scanner.specs.declared.document.BodyFault.{BodyFault}
@@ -13,21 +13,42 @@ use Rattle.sh_parse_words.specs.declared.fault.PartFault.{PartFault}
 use Rattle.sh_parse_words.specs.declared.fault.PartFault.TheVariants as fault
 use Rattle.sh_parse_words.specs.Building.{ended, parts_of}
 use Rattle.sh_parse_programs.specs.Results.{and_then, fault_moved}
+use Rattle.sh_parse_programs.specs.Sources.{text_between}
 use Rattle.sh_parse_programs.specs.Words.{Reader, parts_in}
+use Rattle.sh_parse_programs.specs.declared.document.BodyFront.{BodyFront}
 
--- a form that the body doesn't close is refused where it begins
-abbrev pub fault_of_body : BodyFault → PartFault
-fault_of_body (BodyFault.Open at) = fault.Refused at
-fault_of_body (BodyFault.TooDeep at) = fault.TooDeep at
-fault_of_body BodyFault.NoMemory = fault.NoMemory
+-- the pieces of bytes, or of as many of them as stand before the first form that they don't close
+abbrev pub pieces_or_none : Result (List Mark) BodyFault → List Mark
+pieces_or_none (Ok ms) = ms
+pieces_or_none (Err e) = []
 
-abbrev pub pieces_by : Result (List Mark) BodyFault → Result (List Mark) PartFault
-pieces_by (Ok ms) = Ok ms
-pieces_by (Err e) = Err (fault_of_body e)
+abbrev pub closed_by : List ℕ → Result (List Mark) BodyFault → List Mark
+closed_by bytes (Ok ms) = ms
+closed_by bytes (Err (BodyFault.Open at)) = pieces_or_none (body_answer (pieces_of_body (text_between bytes 0 at)))
+closed_by bytes (Err (BodyFault.TooDeep at)) = []
+closed_by bytes (Err BodyFault.NoMemory) = []
 
--- the parts of a body that is expanded
+unfoldable pub closed_pieces : List ℕ → List Mark
+closed_pieces bytes = closed_by bytes (body_answer (pieces_of_body bytes))
+
+-- a body up to where it has a form that it doesn't close, or a level too many, and that fault
+abbrev pub front_by : List ℕ → Result (List Mark) BodyFault → BodyFront
+front_by bytes (Ok ms) = record { pieces = ms; fault = None }
+front_by bytes (Err (BodyFault.Open at)) = record { pieces = closed_pieces (text_between bytes 0 at); fault = Some (fault.Refused at) }
+front_by bytes (Err (BodyFault.TooDeep at)) = record { pieces = closed_pieces (text_between bytes 0 at); fault = Some (fault.TooDeep at) }
+front_by bytes (Err BodyFault.NoMemory) = record { pieces = []; fault = Some fault.NoMemory }
+
+unfoldable pub front_of : List ℕ → BodyFront
+front_of bytes = front_by bytes (body_answer (pieces_of_body bytes))
+
+abbrev pub unless : Option PartFault → Parts → Result Parts PartFault
+unless None parts = Ok parts
+unless (Some f) parts = Err f
+
+-- the parts of a body that is expanded; a fault in the parts before such a form stands before it
 unfoldable pub expanded_body : Reader → ℕ → List ℕ → Result Parts PartFault
-expanded_body read left bytes = and_then (pieces_by (body_answer (pieces_of_body bytes))) (λ ms. parts_in read left bytes ms bytes)
+expanded_body read left bytes =
+    and_then (parts_in read left bytes (front_of bytes).pieces bytes) (λ parts. unless (front_of bytes).fault parts)
 
 -- the parts of a body; one whose delimiter is quoted is a single literal part
 unfoldable pub document_parts : Reader → ℕ → Document → Result Parts PartFault

@@ -3,23 +3,81 @@ ghost use Rattle.std.specs.Prelude.{◌≡◌, [], IfOk};
 ghost use Rattle.sh_parse_words.specs.Building.{ended, parts_of};
 ghost use Rattle.sh_parse_documents.specs.Documents.{place_at};
 ghost use Rattle.sh_parse_programs.specs.Results.{moved};
-ghost use Rattle.sh_parse_programs.specs.Documents.{fault_of_body};
+ghost use Rattle.sh_scanner.specs.Body.{body_answer};
+ghost use Rattle.sh_scanner.specs.Found.{pieces_of_body};
+ghost use Rattle.sh_parse_programs.specs.Documents.{closed_pieces, front_of, pieces_or_none, unless};
 
+use crate::source::text_between;
 use sh_parse_documents::document::Document;
 use sh_parse_words::fault::PartFault;
-use sh_scanner::document::BodyFault;
+use sh_scanner::document::{BodyFault, body_pieces};
+use sh_scanner_base::mark::Mark;
 use sh_syntax::sequence::{Sequence, Text};
 use sh_tree::tree::{Part, Parts};
 use std::alloc::{AllocError, Global};
 
-/// A fault of a body as one of a text.
-pub(crate) fn fault_of_body(fault: BodyFault) -> PartFault
-    ensures { result ≡ fault_of_body fault }
+/// The pieces of a body up to where it has a form that it doesn't close, or a level too many, and that fault.
+#[derive(Drop)]
+pub(crate) struct BodyFront {
+    pub(crate) pieces: Sequence<Mark>,
+    pub(crate) fault: Option<PartFault>,
+}
+
+/// The pieces of bytes, none where these don't close a form.
+fn pieces_or_none(alloc: Global, bytes: &[u8]) -> Result<Sequence<Mark>, AllocError>
+    ensures { IfOk result (λ pieces. pieces ≡ pieces_or_none (body_answer (pieces_of_body bytes.now))) }
+{
+    match body_pieces(alloc, bytes) {
+        Ok(pieces) => Ok(pieces),
+        Err(BodyFault::NoMemory) => Err(AllocError),
+        Err(_) => Ok(Sequence::new(alloc)),
+    }
+}
+
+/// The pieces of bytes before the first form that they don't close.
+#[tactic(auto, unfolding(crate::specs::Documents::closed_pieces))]
+fn closed_pieces(alloc: Global, bytes: &[u8]) -> Result<Sequence<Mark>, AllocError>
+    ensures { IfOk result (λ pieces. pieces ≡ closed_pieces bytes.now) }
+{
+    match body_pieces(alloc, bytes) {
+        Ok(pieces) => Ok(pieces),
+        Err(BodyFault::Open { at }) => pieces_or_none(alloc, text_between(bytes, 0, at)),
+        Err(BodyFault::TooDeep { .. }) => Ok(Sequence::new(alloc)),
+        Err(BodyFault::NoMemory) => Err(AllocError),
+    }
+}
+
+/// What is judged of a body: the whole of it, where it closes each form that it opens.
+#[tactic(auto, unfolding(crate::specs::Documents::front_of))]
+pub(crate) fn front_of(alloc: Global, body: &[u8]) -> Result<BodyFront, AllocError>
+    ensures { IfOk result (λ front. front ≡ front_of body.now) }
+{
+    match body_pieces(alloc, body) {
+        Ok(pieces) => Ok(BodyFront {
+            pieces,
+            fault: None,
+        }),
+        Err(BodyFault::Open { at }) => {
+            let pieces = closed_pieces(alloc, text_between(body, 0, at))?;
+            let fault = Some(PartFault::Refused { at });
+            Ok(BodyFront { pieces, fault })
+        },
+        Err(BodyFault::TooDeep { at }) => {
+            let pieces = closed_pieces(alloc, text_between(body, 0, at))?;
+            let fault = Some(PartFault::TooDeep { at });
+            Ok(BodyFront { pieces, fault })
+        },
+        Err(BodyFault::NoMemory) => Err(AllocError),
+    }
+}
+
+/// The parts, unless there is a fault behind them.
+pub(crate) fn unless(fault: Option<PartFault>, parts: Parts) -> Result<Parts, PartFault>
+    ensures { result ≡ unless fault parts }
 {
     match fault {
-        BodyFault::Open { at } => PartFault::Refused { at },
-        BodyFault::TooDeep { at } => PartFault::TooDeep { at },
-        BodyFault::NoMemory => PartFault::NoMemory,
+        Some(fault) => Err(fault),
+        None => Ok(parts),
     }
 }
 

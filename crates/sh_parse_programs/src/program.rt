@@ -10,7 +10,7 @@ ghost use Rattle.sh_parse_programs.specs.Documents.{expanded_body, document_part
 ghost use Rattle.sh_parse_programs.specs.Judging.{with_item};
 ghost use Rattle.sh_parse_programs.specs.Programs.{programs, ended_by};
 
-use crate::document::{fault_at, fault_of_body, literal_parts};
+use crate::document::{fault_at, front_of, literal_parts, unless};
 use crate::front::Front;
 use crate::input::input;
 use crate::leaf::{assignment_leaf, name_size, operator_leaf, plain_leaf};
@@ -26,7 +26,6 @@ use sh_parse_trees_base::leaf::Leaf;
 use sh_parse_words::build::{Builder, Request};
 use sh_parse_words::fault::PartFault;
 use sh_parse_words::place::{behind_joins, behind_piece};
-use sh_scanner::document::body_pieces;
 use sh_scanner::token::{TokenFault, TokenKind};
 use sh_scanner_base::here::Delimiter;
 use sh_scanner_base::mark::{Mark, literal_front};
@@ -206,9 +205,10 @@ fn leaf_of(
 fn expanded_body(alloc: Global, depth: usize, left: usize, body: &[u8]) -> Result<Parts, PartFault>
     ensures { Gives result (expanded_body (programs depth) left body.now) }
 {
-    match body_pieces(alloc, body) {
-        Ok(pieces) => parts_in(alloc, depth, left, body, pieces.as_slice(), body),
-        Err(fault) => Err(fault_of_body(fault)),
+    let front = front_of(alloc, body)?;
+    match parts_in(alloc, depth, left, body, front.pieces.as_slice(), body) {
+        Ok(parts) => unless(front.fault, parts),
+        Err(fault) => Err(fault),
     }
 }
 

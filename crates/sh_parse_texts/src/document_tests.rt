@@ -87,16 +87,12 @@ cat <<E~^$(fi)~E~
 cat <<E; ^fi~${}~E~
 cat <<E~x~^$(y~E~z)~
 cat <<E~^`a \`fi\``~E~
+cat <<E~^`fi` ${x~E~
 a $(cat <<E~^${x~E~)~
 "#;
     reads(&rt, rt.alloc(), false, Kind::Refused, rows)?;
-    reads(
-        &rt,
-        rt.alloc(),
-        false,
-        Kind::Refused,
-        "cat <<-E~\t^${x~\tE~",
-    )?;
+    let rows = "cat <<-E~\t^${x~\tE~";
+    reads(&rt, rt.alloc(), false, Kind::Refused, rows)?;
     let rows = r#"
 cat <<E~^${x~
 "#;
@@ -112,6 +108,8 @@ if cat <<E~^${}~E~
 cat <<E~"^${}"~E~
 cat <<E~x\~^${#@}~E~
 cat <<E ^${}~${x~E~
+cat <<E~^${}${x~E~
+cat <<E~a $(b ^${#@})$((c~E~
 a $(cat <<E~^${}~E~)~
 "#;
     reads(&rt, rt.alloc(), false, Kind::BadSubstitution, rows)?;

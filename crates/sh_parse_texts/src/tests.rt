@@ -326,7 +326,8 @@ fn levels_of_words(rt: HostRuntime) -> Result<(), Fail> {
     Ok(())
 }
 
-/// A compound command that opens level 501 is told at the newline behind it, without the end of the input.
+/// A compound command that opens level 501 is told at the newline behind it, without the end of the input; a `${` that asks for nothing
+/// is told before its level.
 #[test]
 fn levels_at_a_newline(rt: HostRuntime) -> Result<(), Fail> {
     for (front, back) in [
@@ -339,6 +340,9 @@ fn levels_at_a_newline(rt: HostRuntime) -> Result<(), Fail> {
         let place = 500usize.saturating_mul(front.len());
         assert_eq!(rt; (front, found), (front, Outcome::TooDeep(place)));
     }
+    let text = nested(rt.alloc(), 500, b"(", b"${#@}", b")")?;
+    let (found, _) = read(rt.alloc(), text.as_slice(), false)?;
+    assert_eq!(rt; found, Outcome::BadSubstitution(500));
     Ok(())
 }
 

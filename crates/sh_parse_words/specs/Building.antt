@@ -127,13 +127,14 @@ abbrev pub parameter_part : ℕ → Option Parameter → Part
 parameter_part c None = part.Literal (36 ∷ c ∷ [])
 parameter_part c (Some p) = part.Parameter p
 
-abbrev pub open_braces : Building → ℕ → ℕ → Option Braces → Outcome
-open_braces b left place None = Err (fault.BadSubstitution place)
-open_braces b left place (Some f) = on (opened b (form.Braces f) left)
-
 -- `${`, `$((`, `$(` and a backquote open a level
 abbrev pub at_level : ℕ → ℕ → Outcome → Outcome
 at_level left place outcome = if nat_eq left 0 then Err (fault.TooDeep place) else outcome
+
+-- a `${` that asks for nothing that there is is told before the level that it opens
+abbrev pub open_braces : Building → ℕ → Option Braces → Outcome
+open_braces b place None = Err (fault.BadSubstitution place)
+open_braces b place (Some f) = at_level b.left place (on (opened b (form.Braces f) (b.left - 1)))
 
 -- whether what stands in a form stands in double quotes (XCU 2.2.3); around: whether the form does. The pattern of a removal is read as outside
 -- of them (2.6.2), and in arithmetic a `"` is no quote (2.6.4)
@@ -178,7 +179,7 @@ plainly b m = b
 
 -- a piece of the word itself. `empty`: the next piece is a `}`; the piece stands at `place`, and the text behind it at `behind`
 abbrev pub taking : Building → Mark → Bool → ℕ → ℕ → Outcome
-taking b (mark.BraceOpen head) empty place behind = at_level b.left place (open_braces b (b.left - 1) place (braces_of head empty))
+taking b (mark.BraceOpen head) empty place behind = open_braces b place (braces_of head empty)
 taking b mark.ArithmeticOpen empty place behind = at_level b.left place (on (opened b form.Arithmetic (b.left - 1)))
 taking b mark.CommandsOpen empty place behind =
     at_level b.left place (on (record b { skip = Some (record { depth = 0; place = place; start = behind }) }))

@@ -304,14 +304,14 @@ impl Builder {
         is_empty: bool,
         place: usize,
     ) -> Result<Option<Request>, PartFault>
-        ensures { Takes result self.new (at_level self.old.left place (open_braces self.old (self.old.left - 1) place (braces_of head.now is_empty))) }
+        ensures { Takes result self.new (open_braces self.old place (braces_of head.now is_empty)) }
     {
-        if !self.has_level() {
-            return Err(PartFault::TooDeep { at: place });
-        }
         let Some(braces) = Braces::of_head(self.alloc, head, is_empty)? else {
             return Err(PartFault::BadSubstitution { at: place });
         };
+        if !self.has_level() {
+            return Err(PartFault::TooDeep { at: place });
+        }
         let left = self.left - 1;
         self.open(Form::Braces(braces), left)?;
         Ok(None)
