@@ -8,4 +8,5 @@ pub mod Frames
 pub mod Owning
 pub mod Screens
 pub mod Reached
+pub mod Terminals
 pub mod Extending

@@ -7,11 +7,11 @@ use Rattle.sh_files.specs.declared.fault.FileFault.{FileFault}
 use Rattle.sh_files.specs.declared.fault.FileFault.TheVariants.{TooLarge}
 use Rattle.sh_kernel.proofs.Lists.{front_place}
 
-abbrev file_in : FileMap → Result (ℕ × FileMap) FileFault → FileMap
+abbrev pub file_in : FileMap → Result (ℕ × FileMap) FileFault → FileMap
 file_in d (Ok x) = x.1
 file_in d (Err fault) = d
 
-made : (files : FileMap) (bytes : List ℕ) (o : ℕ × FileMap) → nameless files bytes ≡ Ok o → with_nameless files (new_file_of bytes) ≡ o.1
+pub made : (files : FileMap) (bytes : List ℕ) (o : ℕ × FileMap) → nameless files bytes ≡ Ok o → with_nameless files (new_file_of bytes) ≡ o.1
 made files bytes o h = of_size (nat_le (length bytes) 1073741824) h
   where
     of_size : (b : Bool) → cond b (Ok (length files.nodes, with_nameless files (new_file_of bytes))) (Err TooLarge) ≡ Ok o → with_nameless files (new_file_of bytes) ≡ o.1

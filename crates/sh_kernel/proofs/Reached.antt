@@ -23,7 +23,7 @@ use Rattle.sh_kernel_base.specs.declared.description.Description.{Description}
 use Rattle.sh_kernel_base.specs.declared.description.Target.{Target}
 use Rattle.sh_kernel_base.specs.declared.description.Target.TheVariants.{ReadEnd, WriteEnd}
 use Rattle.sh_kernel.specs.State.{KernelState}
-use Rattle.sh_kernel.specs.Laws.{ChangesOnlyReached, ListsChangeOnlyReached, ListsLeaveOwned, ListsOnlyGrow, OnlyGrows, ReachesNoMore, RequestsReachNoMore, is_opened, opens, opens_any, target_at}
+use Rattle.sh_kernel.specs.Laws.{ChangesOnlyReached, ListsChangeOnlyReached, ListsLeaveOwned, ListsOnlyGrow, ListsReachNoMore, OnlyGrows, ReachesNoMore, RequestsReachNoMore, is_opened, opens, opens_any, target_at}
 use Rattle.sh_kernel.specs.Reaching.{is_end, is_file, is_node, reaches}
 use Rattle.sh_kernel.specs.Requests.{Request, after_request, after_requests}
 use Rattle.sh_kernel.proofs.Frames.{keeps_same, more_fails, new_ends, opened_end, reaches_left, reaches_no_more, reaches_one_more, requests_change}
@@ -34,8 +34,8 @@ use Rattle.sh_kernel.proofs.Requesting.{by_cases}
 
 -- ---- descriptors
 -- what fails at new numbers, and wherever the process reaches, still does
-record Unreached (pid : ℕ) (old new : MachineState) : Type 0 where
-  fails : (test : ℕ → Bool) → reaches old.descriptors pid test ≡ false → ((k : ℕ) → length old.descriptions ≤ k → test k ≡ false) → reaches new.descriptors pid test ≡ false
+pub record Unreached (pid : ℕ) (old new : MachineState) : Type 0 where
+  pub fails : (test : ℕ → Bool) → reaches old.descriptors pid test ≡ false → ((k : ℕ) → length old.descriptions ≤ k → test k ≡ false) → reaches new.descriptors pid test ≡ false
 
 reaches_append : (xs ys : List Descriptor) (pid : ℕ) (test : ℕ → Bool) → reaches xs pid test ≡ false → reaches ys pid test ≡ false → reaches (xs ++ ys) pid test ≡ false
 reaches_append [] ys pid test h k = k
@@ -79,7 +79,7 @@ reaches_renamed ds q name number pid test h = of_place (position (is_named q nam
     of_place None = h
     of_place (Some i) = of_entry i (slice_get ds i) refl
 
-unreached : (s : KernelState) (pid : ℕ) (r : Request) → Unreached pid s.machine (after_request s pid r).machine
+pub unreached : (s : KernelState) (pid : ℕ) (r : Request) → Unreached pid s.machine (after_request s pid r).machine
 unreached s pid r =
     let m = s.machine in
     let ds = m.descriptors in
@@ -110,7 +110,7 @@ record NewFails (opens : ℕ → Bool) (old new : MachineState) : Type 0 where
   ends : (q k : ℕ) → q < length old.pipes → length old.descriptions ≤ k → is_end new.descriptions q k ≡ false
   files : (n k : ℕ) → opens n ≡ false → length old.descriptions ≤ k → is_file new.descriptions n k ≡ false
 
-past_all : (es : List Description) (f : Description → Bool) (k : ℕ) → length es ≤ k → option_map_or f (slice_get es k) false ≡ false
+pub past_all : (es : List Description) (f : Description → Bool) (k : ℕ) → length es ≤ k → option_map_or f (slice_get es k) false ≡ false
 past_all [] f k h = refl
 past_all (e ∷ es) f zero h = absurd (omega arith)
 past_all (e ∷ es) f (suc k) h = past_all es f k (omega arith)
@@ -184,7 +184,7 @@ by_target : (f : Target → Bool) (o : Option Description) → option_map_or (λ
 by_target f None = refl
 by_target f (Some e) = refl
 
-still_fails : (f : Target → Bool) (es es' : List Description) (k : ℕ) → ((j : ℕ) → j < length es → target_at es' j ≡ target_at es j) → (length es ≤ k → option_map_or (λ (e : Description). f e.target) (slice_get es' k) false ≡ false) → option_map_or (λ (e : Description). f e.target) (slice_get es k) false ≡ false → option_map_or (λ (e : Description). f e.target) (slice_get es' k) false ≡ false
+pub still_fails : (f : Target → Bool) (es es' : List Description) (k : ℕ) → ((j : ℕ) → j < length es → target_at es' j ≡ target_at es j) → (length es ≤ k → option_map_or (λ (e : Description). f e.target) (slice_get es' k) false ≡ false) → option_map_or (λ (e : Description). f e.target) (slice_get es k) false ≡ false → option_map_or (λ (e : Description). f e.target) (slice_get es' k) false ≡ false
 still_fails f es es' k old new h = of_test (nat_lt k (length es)) refl
   where
     of_test : (b : Bool) → nat_lt k (length es) ≡ b → option_map_or (λ (e : Description). f e.target) (slice_get es' k) false ≡ false
@@ -223,6 +223,18 @@ pub lists_change : ListsChangeOnlyReached
 lists_change s pid [] = keeps_same pid (λ n. false) s.machine
 lists_change s pid (r ∷ rs) =
     changes_then pid (opens s.machine r) (opens_any (after_request s pid r) pid rs) s.machine (after_request s pid r).machine (after_requests (after_request s pid r) pid rs).machine (requests_grow s pid r) (reach_no_more s pid r) (requests_change s pid r) (lists_change (after_request s pid r) pid rs)
+
+reaches_then : (pid : ℕ) (op op' : ℕ → Bool) (a b c : MachineState) → OnlyGrows a b → ReachesNoMore pid op a b → ReachesNoMore pid op' b c → ReachesNoMore pid (λ n. op n || op' n) a c
+reaches_then pid op op' a b c grow f g = record {
+  pipes = λ q within h. let within' : q < length b.pipes = omega (arith, grow.pipes) in g.pipes q within' (f.pipes q within h);
+  files = λ n h unopened. g.files n (f.files n h (or_left (op n) (op' n) unopened)) (or_right (op n) (op' n) unopened);
+  descriptions = λ k within h. let within' : k < length b.descriptions = omega (arith, grow.descriptions) in g.descriptions k within' (f.descriptions k within h);
+}
+
+pub lists_reach_no_more : ListsReachNoMore
+lists_reach_no_more s pid [] = record { pipes = λ q within h. h; files = λ n h unopened. h; descriptions = λ k within h. h }
+lists_reach_no_more s pid (r ∷ rs) =
+    reaches_then pid (opens s.machine r) (opens_any (after_request s pid r) pid rs) s.machine (after_request s pid r).machine (after_requests (after_request s pid r) pid rs).machine (requests_grow s pid r) (reach_no_more s pid r) (lists_reach_no_more (after_request s pid r) pid rs)
 
 pub lists_grow : ListsOnlyGrow
 lists_grow s pid [] = grows_same s.machine

@@ -1,10 +1,12 @@
--- Laws of one request, whatever the state, the process and the request.
+-- Laws of one request, and of those that a process makes one after another, whatever the state, the process and the
+-- requests.
 use Rattle.std.specs.Prelude.{◌≡◌, ◌≢◌, ℕ, ◌<◌, ◌≤◌, ◌==◌, ◌++◌, ◌||◌, List, [], ◌∷◌, length, filter, Bool, true, false, Option, Some, slice_get, Result, Ok, Err}
 use Rattle.std.specs.FinMap.{get}
 use Rattle.sh_tty.specs.Happenings.{bytes_of}
 use Rattle.std.specs.Option.{option_map}
 use Rattle.sh_files.specs.Nodes.{FileMap, nameless, opened}
 use Rattle.sh_files.specs.declared.fault.FileFault.{FileFault}
+use Rattle.sh_files_base.specs.declared.node.Node.TheVariants.{Terminal}
 use Rattle.sh_kernel_base.specs.Machine.{MachineState}
 use Rattle.sh_kernel_base.specs.Processes.{next_pid, process_at}
 use Rattle.sh_kernel_base.specs.declared.descriptor.Descriptor.{Descriptor}
@@ -104,8 +106,21 @@ abbrev pub ListsChangeOnlyReached : Type 0
 ListsChangeOnlyReached =
     (s : KernelState) (pid : ℕ) (rs : List Request) → ChangesOnlyReached pid (opens_any s pid rs) s.machine (after_requests s pid rs).machine
 
+abbrev pub ListsReachNoMore : Type 0
+ListsReachNoMore =
+    (s : KernelState) (pid : ℕ) (rs : List Request) → ReachesNoMore pid (opens_any s pid rs) s.machine (after_requests s pid rs).machine
+
+-- the terminal has part in a list only where the process reaches it at first, or opens what is the terminal
+abbrev pub ListsLeaveTheTerminal : Type 0
+ListsLeaveTheTerminal =
+    (s : KernelState) (pid : ℕ) (rs : List Request) → reaches s.machine.descriptors pid (is_screen s.machine.descriptions) ≡ false → ((node : ℕ) → slice_get s.machine.files.nodes node ≡ Some Terminal → opens_any s pid rs node ≡ false)
+    → (after_requests s pid rs).terminal ≡ s.terminal
+
 abbrev pub ListsOnlyGrow : Type 0
 ListsOnlyGrow = (s : KernelState) (pid : ℕ) (rs : List Request) → OnlyGrows s.machine (after_requests s pid rs).machine
+
+abbrev pub ListsOnlyGrowTheTerminal : Type 0
+ListsOnlyGrowTheTerminal = (s : KernelState) (pid : ℕ) (rs : List Request) → (more : List ℕ) × (bytes_of (after_requests s pid rs).terminal ≡ bytes_of s.terminal ++ more)
 
 abbrev pub ListsLeaveOwned : Type 0
 ListsLeaveOwned =

@@ -1,5 +1,5 @@
 //! Laws of requests, over all states.
-ghost use Rattle.sh_kernel.specs.Laws.{ListsChangeOnlyReached, ListsLeaveOwned, ListsOnlyGrow, OwnedStaysOwned, RequestsChangeOnlyReached, RequestsOnlyGrow, RequestsReachNoMore, TerminalIsReached, TerminalOnlyGrows};
+ghost use Rattle.sh_kernel.specs.Laws.{ListsChangeOnlyReached, ListsLeaveOwned, ListsLeaveTheTerminal, ListsOnlyGrow, ListsOnlyGrowTheTerminal, ListsReachNoMore, OwnedStaysOwned, RequestsChangeOnlyReached, RequestsOnlyGrow, RequestsReachNoMore, TerminalIsReached, TerminalOnlyGrows};
 
 /// Law: a request changes no pipe and no file but those to which its process's descriptors refer or which it opens, no
 /// description but those, and neither the descriptors nor the status of another process that was there. So do requests
@@ -10,19 +10,23 @@ pub fn requests_change_what_is_reached()
 {}
 
 /// Law: by its own request a process comes to reach no pipe, file or description that was there and that it didn't
-/// reach, but for the file that it opens.
+/// reach, but for the file that it opens. So it does by requests one after another, but for the files that they open.
 pub fn requests_reach_no_more()
-    ensures { RequestsReachNoMore }
+    ensures one { RequestsReachNoMore }
+    ensures list { ListsReachNoMore }
 {}
 
-/// Law: nothing happens to the terminal in a request of a process of which no descriptor refers to it.
+/// Law: nothing happens to the terminal in a request of a process of which no descriptor refers to it, nor in a list of
+/// such requests that doesn't open it.
 pub fn the_terminal_is_reached()
-    ensures { TerminalIsReached }
+    ensures one { TerminalIsReached }
+    ensures list { ListsLeaveTheTerminal }
 {}
 
-/// Law: after a request the terminal shows what it showed, and perhaps more.
+/// Law: after a request, and after a list of them, the terminal shows what it showed, and perhaps more.
 pub fn the_terminal_only_grows()
-    ensures { TerminalOnlyGrows }
+    ensures one { TerminalOnlyGrows }
+    ensures list { ListsOnlyGrowTheTerminal }
 {}
 
 /// Law: a description to which descriptors of one process alone refer stays that process's in each request of another,

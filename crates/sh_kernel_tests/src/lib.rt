@@ -1,4 +1,4 @@
-//! Files, pipes, the terminal and the kernel over them: tests of `sh_files`, `sh_pipe`, `sh_tty` and `sh_kernel` alone.
+//! Files, the terminal and the kernel over them: tests of `sh_files`, `sh_tty` and `sh_kernel` alone.
 #![tactic(auto)]
 
 #[cfg(test)]
@@ -9,8 +9,6 @@ mod fault_tests;
 mod file_tests;
 #[cfg(test)]
 mod image_tests;
-#[cfg(test)]
-mod pipe_tests;
 #[cfg(test)]
 mod steps;
 #[cfg(test)]

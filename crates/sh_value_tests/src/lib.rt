@@ -1,5 +1,5 @@
-//! Lists, variables, arithmetic, patterns and fields: tests of `sh_syntax`, `sh_vars`, `sh_arith`, `sh_pattern` and
-//! `sh_expand_base` alone.
+//! Lists, variables, arithmetic, patterns, fields and pipes: tests of `sh_syntax`, `sh_vars`, `sh_arith`, `sh_pattern`,
+//! `sh_expand_base` and `sh_pipe` alone.
 #![tactic(auto)]
 
 #[cfg(test)]
@@ -10,6 +10,8 @@ mod expressions;
 mod field_tests;
 #[cfg(test)]
 mod pattern_tests;
+#[cfg(test)]
+mod pipe_tests;
 #[cfg(test)]
 mod sequence_tests;
 #[cfg(test)]

@@ -1,0 +1,6 @@
+pub mod Changing
+pub mod Forking
+pub mod Lists
+pub mod Others
+pub mod Undoing
+pub mod Unmade
