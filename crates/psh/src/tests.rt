@@ -232,6 +232,58 @@ fn run_by_places(rt: &impl Abort, world: &mut World<Program>) -> Result<(), Fail
     Ok(())
 }
 
+/// A pipeline of so many stages before the last one.
+fn long_pipeline(alloc: Global, stages: usize, last: &str) -> Result<String, NoMemory> {
+    let mut text = String::new(alloc);
+    for _ in 0..stages {
+        text.push_str("a | ")?;
+    }
+    text.push_str(last)?;
+    Ok(text)
+}
+
+/// Gives turns to the process at a place.
+fn take_place(world: &mut World<Program>, place: u32, turns: usize) -> Result<(), NoMemory> {
+    for _ in 0..turns {
+        world.apply(Event::Run(place))?;
+    }
+    Ok(())
+}
+
+/// Whether a text shows that no process could be made, after turns of the first process and of the one at a place.
+fn is_refused(
+    alloc: Global,
+    text: &str,
+    turns: usize,
+    place: u32,
+    others: usize,
+    end: Option<Status>,
+) -> Result<bool, NoMemory> {
+    let mut world = world(alloc, text)?;
+    let first = take_place(&mut world, 0, turns);
+    let second = take_place(&mut world, place, others);
+    let right = shows(&world, "psh: cannot fork\n", end);
+    drop(world);
+    first?;
+    second?;
+    Ok(right)
+}
+
+/// A thousand processes live at once, and no more: the shell that would make another ends with 2.
+#[test]
+fn refused_forks(rt: HostRuntime) -> Result<(), Fail> {
+    let alloc = rt.alloc();
+    let text = long_pipeline(alloc, 999, "a")?;
+    let right = is_refused(alloc, text.as_str(), 1002, 0, 0, None)?;
+    assert!(rt; right, "a pipeline before its shell ends");
+    let right = is_refused(alloc, text.as_str(), 1002, 0, 1, Some(Status::Exited(2)))?;
+    assert!(rt; right, "a pipeline");
+    let text = long_pipeline(alloc, 998, "echo $(a)")?;
+    let right = is_refused(alloc, text.as_str(), 1000, 998, 2, None)?;
+    assert!(rt; right, "a substitution");
+    Ok(())
+}
+
 #[test]
 fn places_and_ends(rt: HostRuntime) -> Result<(), Fail> {
     let mut world = world(rt.alloc(), "echo a")?;

@@ -1,5 +1,5 @@
 -- Redirections (XCU 2.7): which descriptor, and what is put in its place.
-use Rattle.std.specs.Prelude.{ℕ, List, [], ◌∷◌, ◌&&◌, Bool, true, false, Option, Some, None, codes, length, nat_le, if◌then◌else◌}
+use Rattle.std.specs.Prelude.{ℕ, List, [], ◌∷◌, ◌&&◌, Bool, true, false, Option, Some, None, Result, Ok, Err, codes, length, nat_le, if◌then◌else◌}
 use Rattle.std.specs.Char.{is_ascii_digit}
 use Rattle.std.specs.List.{list_all}
 use Rattle.std.specs.Str.{bytes_eq}
@@ -9,6 +9,12 @@ use Rattle.sh_exec_base.specs.declared.redirection.Action.{Action}
 use Rattle.sh_exec_base.specs.declared.redirection.Action.TheVariants.{Open, Duplicate, Close, Here}
 use Rattle.sh_exec_base.specs.declared.redirection.Redirection.{Redirection}
 use Rattle.sh_files.specs.declared.opening.Opening.{Opening}
+use Rattle.sh_scanner.specs.declared.token.Token.{Token}
+use Rattle.sh_scanner.specs.declared.token.TokenFault.{TokenFault}
+use Rattle.sh_scanner.specs.declared.token.TokenKind.{TokenKind}
+use Rattle.sh_scanner.specs.FirstToken.{answer_at}
+use Rattle.sh_scanner.specs.Found.{first_token}
+use Rattle.sh_scanner_base.specs.Here.{delimiter_text}
 use Rattle.sh_tree.specs.declared.tree.Redirect.{Redirect}
 use Rattle.sh_tree.specs.declared.tree.RedirectOperator.{RedirectOperator}
 use Rattle.sh_tree.specs.declared.tree.RedirectOperator.TheVariants.{Input, Output, Clobber, Append, DuplicateInput, DuplicateOutput, ReadWrite}
@@ -68,10 +74,24 @@ abbrev pub action_of : Bool → Opened layer.Target-F → List ℕ → Action
 action_of no_clobber (layer.Named operator word) field = action_by no_clobber operator field
 action_of no_clobber (layer.Here operator delimiter body) field = Here field
 
--- what a message names: the expanded word, of a here-document the source of its delimiter
+-- the word of which this is the source, without its quotes (2.6.7)
+abbrev pub kind_text : List ℕ → TokenKind → List ℕ
+kind_text source (TokenKind.Word ms) = delimiter_text ms
+kind_text source (TokenKind.Operator o) = source
+kind_text source TokenKind.Number = source
+kind_text source TokenKind.End = source
+
+abbrev pub token_text : List ℕ → Result Token TokenFault → List ℕ
+token_text source (Ok token) = kind_text source token.kind
+token_text source (Err e) = source
+
+unfoldable pub delimiter_shown : List ℕ → List ℕ
+delimiter_shown source = token_text source (answer_at 0 (first_token true source))
+
+-- what a message names: the expanded word, of a here-document its delimiter
 abbrev pub word_shown : Opened layer.Target-F → List ℕ → List ℕ
 word_shown (layer.Named operator word) field = field
-word_shown (layer.Here operator delimiter body) field = (view.out-Word delimiter).source
+word_shown (layer.Here operator delimiter body) field = delimiter_shown (view.out-Word delimiter).source
 
 abbrev pub redirection_to : Bool → Option (List ℕ) → Opened layer.Target-F → List ℕ → Redirection
 redirection_to no_clobber number target field = record {

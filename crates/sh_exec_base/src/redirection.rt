@@ -1,12 +1,14 @@
 //! Redirections, once their words are expanded (XCU 2.7).
 ghost use Rattle.std.specs.Prelude.{◌≡◌, ◌++◌, [], option_map, IfOk, OnOk};
-ghost use Rattle.sh_exec_base.specs.Redirections.{action_by, default_number, duplicated, fields_behind, item_prepared, named_descriptor, number_or, prepared, redirection_of, to_append, to_read, to_read_and_write, to_write};
+ghost use Rattle.sh_exec_base.specs.Redirections.{action_by, default_number, delimiter_shown, duplicated, fields_behind, item_prepared, kind_text, named_descriptor, number_or, prepared, redirection_of, to_append, to_read, to_read_and_write, to_write};
 ghost use Rattle.sh_exec_base.specs.Simple.{redirect_of, redirects_of};
 
 use crate::number::{all_digits, small_value};
 use crate::queue::Queue;
 use crate::simple::redirect_of;
 use sh_files::Opening;
+use sh_scanner::token::{TokenFault, TokenKind, next_token};
+use sh_scanner_base::here::{Delimiter, Tabs};
 use sh_syntax::memory::NoMemory;
 use sh_syntax::sequence::{Sequence, Text};
 use sh_tree::tree::{Redirect, RedirectOperator, SimpleItem, Target};
@@ -31,7 +33,7 @@ pub struct Redirection {
     /// The descriptor; `None` where its number is above 9.
     pub number: Option<u8>,
     pub action: Action,
-    /// What a message names: the expanded word, of a here-document its delimiter as written.
+    /// What a message names: the expanded word, of a here-document its delimiter without quotes.
     pub word: Text,
 }
 
@@ -159,6 +161,32 @@ fn copy_of(alloc: Global, text: &[u8]) -> Result<Text, NoMemory>
     Ok(copy)
 }
 
+/// The text of the word of which this is the source, without its quotes.
+#[tactic(auto, unfolding(crate::specs::Redirections::delimiter_shown))]
+fn delimiter_shown(alloc: Global, source: &[u8]) -> Result<Text, NoMemory>
+    ensures { IfOk result (λ text. text ≡ delimiter_shown source.now) }
+{
+    let token = match next_token(alloc, source, 0, true) {
+        Ok(token) => token,
+        Err(TokenFault::NoMemory) => return Err(NoMemory),
+        Err(_) => return copy_of(alloc, source),
+    };
+    kind_text(alloc, source, &token.kind)
+}
+
+/// What is shown of a token of this kind that has this source.
+fn kind_text(alloc: Global, source: &[u8], kind: &TokenKind) -> Result<Text, NoMemory>
+    ensures { IfOk result (λ text. text ≡ kind_text source.now kind.now) }
+{
+    match kind {
+        TokenKind::Word(pieces) => {
+            let delimiter = Delimiter::new(alloc, Tabs::Kept, pieces.as_slice())?;
+            Ok(delimiter.text)
+        },
+        _ => copy_of(alloc, source),
+    }
+}
+
 /// A redirection whose word came to this field; of a here-document the field is its text.
 #[tactic(auto, unfolding(crate::specs::Redirections::redirection_of))]
 pub fn redirection_of(
@@ -178,7 +206,7 @@ pub fn redirection_of(
         Target::Here { delimiter, .. } => Ok(Redirection {
             number: number_or(0, redirect.number.as_ref()),
             action: Action::Here(copy_of(alloc, field)?),
-            word: copy_of(alloc, delimiter.source.as_slice())?,
+            word: delimiter_shown(alloc, delimiter.source.as_slice())?,
         }),
     }
 }

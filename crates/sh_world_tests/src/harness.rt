@@ -61,12 +61,7 @@ const FILES: [Entry; 38] = [
     ("/t/count", "", "", 1),
     ("/t/nosuch", "rw-", "echo no\n", 1),
     ("/wo", "-w-", "wo\n", 1),
-    (
-        "/z5000",
-        "rw-",
-        "zzzzzzzzzzzzzzzzzzzzzzzzzzzzzzzzzzzzzzzzzzzzzzzzzzzzzzzzzzzzzzzzzzzzzzzzzzzzzzzzzzzzzzzzzzzzzzzzzzzz",
-        50,
-    ),
+    ("/z5000", "rw-", "zzzzzzzzzz", 500),
 ];
 
 /// Puts a file into an image.
@@ -304,8 +299,8 @@ pub(crate) fn run_scripts(rt: &impl Abort, alloc: Global, rows: &[Row]) -> Resul
     Ok(())
 }
 
-/// An order of turns (each byte above `0` by the place of the process that takes the turn), the terminal after them, the turns
-/// that are then left to the end, and the terminal and the status at the end.
+/// An order of turns (each byte is the place of the process that takes the turn: `<` is 60, the first of up to six processes that
+/// can take one), the terminal after them, the turns that are then left to the end, and the terminal and the status at the end.
 type Schedule = (&'static str, &'static str, usize, &'static str, u8);
 
 /// A script, and schedules of it.

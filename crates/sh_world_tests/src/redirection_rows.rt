@@ -76,7 +76,7 @@ fn descriptors(rt: HostRuntime) -> Result<(), Fail> {
 }
 
 /// Redirections that fail.
-const REDIRECTION_FAULTS: [Row; 23] = [
+const REDIRECTION_FAULTS: [Row; 25] = [
     ("cat </none; echo $?", 11, "psh: /none: cannot open\n2\n", 0),
     ("echo a >/bin; echo $?", 8, "psh: /bin: cannot open\n2\n", 0),
     ("echo a >&3; echo $?", 8, "psh: 3: bad descriptor\n2\n", 0),
@@ -84,11 +84,13 @@ const REDIRECTION_FAULTS: [Row; 23] = [
     ("echo a >&''; echo $?", 8, "psh: : bad descriptor\n2\n", 0),
     ("echo a >&07; echo $?", 8, "psh: 07: bad descriptor\n2\n", 0),
     ("echo a 10>f; echo $?", 8, "psh: f: bad descriptor\n2\n", 0),
+    ("echo a 10<<E\nx\nE\n", 6, "psh: E: bad descriptor\n", 2),
+    ("echo a 10<<'E'\nx\nE\n", 6, "psh: E: bad descriptor\n", 2),
     (
-        "echo a 10<<E; echo $?\nx\nE\n",
-        8,
-        "psh: E: bad descriptor\n2\n",
-        0,
+        "echo a 10<<E\\\nF\nx\nEF\n",
+        6,
+        "psh: EF: bad descriptor\n",
+        2,
     ),
     ("echo a >&10; echo $?", 8, "psh: 10: bad descriptor\n2\n", 0),
     ("echo a <&9; echo $?", 8, "psh: 9: bad descriptor\n2\n", 0),
