@@ -2,6 +2,8 @@
 ghost use Rattle.std.specs.Prelude.{◌≡◌, IfOk};
 ghost use Rattle.sh_kernel.specs.State.{KernelState, StandsAt};
 ghost use Rattle.sh_tty.specs.Kept.{Extends};
+ghost use Rattle.sh_exec.specs.Programs.{HasLeft};
+ghost use Rattle.sh_exec.specs.Starting.{start_turn};
 ghost use Rattle.sh_exec.specs.Turns as turns;
 ghost use Rattle.sh_exec.specs.Runnable as runnable;
 ghost use Rattle.sh_exec_shell.specs.Reduction.{shell_turn};
@@ -14,6 +16,7 @@ use sh_exec_shell::{Child, Shell};
 use sh_kernel::Kernel;
 use sh_stock::{Ask, Stock};
 use sh_syntax::memory::NoMemory;
+use sh_syntax::sequence::{Sequence, Text};
 use std::alloc::Global;
 use std::mem;
 
@@ -40,6 +43,26 @@ fn shell_turn<S: Stock>(
     Ok(child)
 }
 
+/// The turn in which a shell's process starts what these fields name, with a copy of its variables.
+fn start_from<S: Stock>(
+    alloc: Global,
+    kernel: &mut Kernel,
+    pid: u32,
+    shell: &Shell,
+    fields: Sequence<Text>,
+) -> Result<Process<S>, NoMemory>
+    ensures state { (s : KernelState) → StandsAt kernel.old s → IfOk result (λ process. HasLeft kernel.new process (start_turn S.meaning s pid shell.now.environment fields)) }
+    ensures terminal { kernel.new.terminal ≡ kernel.old.terminal }
+{
+    match shell.vars().copy() {
+        Ok(vars) => start_turn(alloc, kernel, pid, vars, fields),
+        Err(_) => {
+            drop(fields);
+            Err(NoMemory)
+        },
+    }
+}
+
 impl<S: Stock> Process<S> {
     /// One turn of the process `pid`, and the process that it made, if it made one. The only error is want of memory, after which
     /// the process is given up.
@@ -56,9 +79,8 @@ impl<S: Stock> Process<S> {
         match self {
             Process::Runs(shell) => match starting_of(alloc, shell.active())? {
                 Some(fields) => {
-                    let vars = shell.vars().copy()?;
-                    let next = start_turn(alloc, kernel, pid, vars, fields)?;
-                    *self = next;
+                    let next = start_from(alloc, kernel, pid, shell, fields)?;
+                    drop(mem::replace(self, next));
                     Ok(None)
                 },
                 None => {

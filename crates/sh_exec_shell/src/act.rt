@@ -196,8 +196,13 @@ fn act_and_settle(
     ensures terminal { Extends kernel.old.terminal.bytes kernel.new.terminal.bytes }
 {
     let (tree, child) = act(alloc, kernel, pid, vars, active)?;
-    let tree = settle(alloc, kernel, pid, vars, tree)?;
-    Ok((tree, child))
+    match settle(alloc, kernel, pid, vars, tree) {
+        Ok(tree) => Ok((tree, child)),
+        Err(refusal) => {
+            drop(child);
+            Err(refusal)
+        },
+    }
 }
 
 /// Inward to the active place, the action there, and outward again.
@@ -218,9 +223,20 @@ pub(crate) fn reduce(
         },
         Tree::In(form, inner) => {
             let inner = Box::into_inner(inner);
-            let (inner, child) = reduce(alloc, kernel, pid, vars, inner)?;
-            let tree = wrap(alloc, kernel, pid, vars, form, inner)?;
-            Ok((tree, child))
+            let (inner, child) = match reduce(alloc, kernel, pid, vars, inner) {
+                Ok(reduced) => reduced,
+                Err(refusal) => {
+                    drop(form);
+                    return Err(refusal);
+                },
+            };
+            match wrap(alloc, kernel, pid, vars, form, inner) {
+                Ok(tree) => Ok((tree, child)),
+                Err(refusal) => {
+                    drop(child);
+                    Err(refusal)
+                },
+            }
         },
     }
 }

@@ -75,10 +75,16 @@ pub(crate) fn fork_turn(
     match child {
         Some(child) => {
             let made = put_program(alloc, vars, prepared, child)?;
-            let children = one_more(Sequence::new(alloc), child)?;
-            Ok((next(Place::Waiting(children)), Some(made)))
+            match one_more(Sequence::new(alloc), child) {
+                Ok(children) => Ok((next(Place::Waiting(children)), Some(made))),
+                Err(refusal) => {
+                    drop(made);
+                    Err(refusal)
+                },
+            }
         },
         None => {
+            drop(prepared);
             let active = refused(alloc)?;
             Ok((Tree::At(active), None))
         },
@@ -97,6 +103,24 @@ fn staged(commands: Queue<Shared<Command>>, aside: Option<usize>, children: Sequ
         aside,
         children,
     })
+}
+
+/// Where a pipeline goes on behind a process that was made.
+fn next_stage(
+    commands: Queue<Shared<Command>>,
+    aside: Option<usize>,
+    children: Sequence<u32>,
+    child: u32,
+) -> Result<Place, NoMemory>
+    ensures { IfOk result (λ place. place ≡ staged commands aside (children ++ child ∷ [])) }
+{
+    match one_more(children, child) {
+        Ok(children) => Ok(staged(commands, aside, children)),
+        Err(refusal) => {
+            drop(commands);
+            Err(refusal)
+        },
+    }
 }
 
 /// The process of a stage is made.
@@ -134,12 +158,26 @@ fn stage_one(
     let forked = fork_process(kernel, pid, aside, !commands.is_empty())?;
     match forked.child {
         Some(child) => {
-            let made = put_stage(alloc, vars, command, child)?;
-            let children = one_more(children, child)?;
-            let place = staged(commands, forked.aside, children);
-            Ok((next(place), Some(made)))
+            let made = match put_stage(alloc, vars, command, child) {
+                Ok(made) => made,
+                Err(refusal) => {
+                    drop(commands);
+                    drop(children);
+                    return Err(refusal);
+                },
+            };
+            match next_stage(commands, forked.aside, children, child) {
+                Ok(place) => Ok((next(place), Some(made))),
+                Err(refusal) => {
+                    drop(made);
+                    Err(refusal)
+                },
+            }
         },
         None => {
+            drop(command);
+            drop(commands);
+            drop(children);
             let active = refused(alloc)?;
             Ok((Tree::At(active), None))
         },
@@ -228,11 +266,24 @@ pub(crate) fn substitute_turn(
     let forked = fork_process(kernel, pid, None, true)?;
     match forked.child {
         Some(child) => {
-            let made = put_substitution(alloc, vars, program.get(), child)?;
-            let place = collecting(alloc, wants, pending, forked.aside, child)?;
-            Ok((next(place), Some(made)))
+            let made = match put_substitution(alloc, vars, program.get(), child) {
+                Ok(made) => made,
+                Err(refusal) => {
+                    drop(wants);
+                    drop(pending);
+                    return Err(refusal);
+                },
+            };
+            match collecting(alloc, wants, pending, forked.aside, child) {
+                Ok(place) => Ok((next(place), Some(made))),
+                Err(refusal) => {
+                    drop(made);
+                    Err(refusal)
+                },
+            }
         },
         None => {
+            drop(pending);
             let to = unforked(alloc, wants)?;
             let tree = go(alloc, to)?;
             Ok((tree, None))

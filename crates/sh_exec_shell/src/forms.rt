@@ -40,8 +40,13 @@ fn undo(
         variables,
     } = undo;
     restore_all(kernel, pid, descriptors);
-    restore_variables(vars, variables)?;
-    Ok(tree)
+    match restore_variables(vars, variables) {
+        Ok(()) => Ok(tree),
+        Err(refusal) => {
+            drop(tree);
+            Err(refusal)
+        },
+    }
 }
 
 /// A form in which all is done.

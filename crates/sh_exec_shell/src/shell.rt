@@ -134,7 +134,7 @@ impl Shell {
     {
         let tree = mem::replace(&mut self.tree, Tree::At(Active::Done(0)));
         let (next, child) = reduce(alloc, kernel, pid, &mut self.vars, tree)?;
-        self.tree = root(next);
+        drop(mem::replace(&mut self.tree, root(next)));
         Ok(child)
     }
 }
