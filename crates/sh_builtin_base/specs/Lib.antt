@@ -1,0 +1,2 @@
+pub mod Conditional
+pub mod Integers

@@ -1,0 +1,10 @@
+//! What built-in utilities do that needs no shell around them.
+#![tactic(auto)]
+
+mod conditional;
+mod number;
+
+pub use conditional::{Verdict, evaluate};
+
+#[cfg(test)]
+mod tests;
