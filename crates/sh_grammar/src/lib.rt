@@ -44,6 +44,3 @@ pub enum Action {
     /// The token is taken.
     Shift(Token),
 }
-
-#[cfg(test)]
-mod tests;

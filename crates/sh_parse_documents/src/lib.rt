@@ -4,5 +4,3 @@
 mod cut;
 pub mod document;
 mod line;
-#[cfg(test)]
-mod tests;

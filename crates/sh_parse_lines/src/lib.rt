@@ -2,10 +2,6 @@
 #![tactic(auto)]
 
 pub mod bodies;
-#[cfg(test)]
-mod body_tests;
 pub mod item;
 pub mod items;
-#[cfg(test)]
-mod token_tests;
 pub mod waiting;

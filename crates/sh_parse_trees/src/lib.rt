@@ -9,6 +9,3 @@ mod syntax;
 
 pub use laws::fitting_leaves_have_syntax;
 pub use syntax::syntax_tree;
-
-#[cfg(test)]
-mod tests;

@@ -7,5 +7,3 @@ pub mod build;
 pub mod fault;
 pub mod parameter;
 pub mod place;
-#[cfg(test)]
-mod tests;

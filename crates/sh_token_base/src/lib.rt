@@ -5,5 +5,3 @@ pub mod class;
 pub mod grammar;
 pub mod levels;
 mod tables;
-#[cfg(test)]
-mod tests;

@@ -1,4 +1,4 @@
-// Tokens of the crate below at the edges: spans, operators, levels, NUL bytes, fronts of texts.
+//! Tokens at the edges: spans, operators, levels, NUL bytes, fronts of texts.
 use sh_scanner::token::{TokenFault, TokenKind, next_token};
 use std::test::Fail;
 

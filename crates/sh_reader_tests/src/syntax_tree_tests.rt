@@ -1,6 +1,6 @@
 //! Trees of texts whose tokens stand apart by spaces; `\` is a newline. What is expected was worked out by hand.
-use crate::syntax_tree;
 use sh_grammar::{Action, Recognizer, Token};
+use sh_parse_trees::syntax_tree;
 use sh_parse_trees_base::leaf::Leaf;
 use sh_syntax::memory::NoMemory;
 use sh_syntax::sequence::{Sequence, Text};

@@ -1,5 +1,5 @@
 //! Bodies: what is expected was worked out from XCU 2.7.4, and for rows without a cut body held against dash and yash.
-use crate::document::{Document, documents};
+use sh_parse_documents::document::{Document, documents};
 use sh_scanner_base::here::{Delimiter, Tabs};
 use sh_syntax::memory::NoMemory;
 use sh_syntax::sequence::Text;

@@ -1,9 +1,9 @@
 //! What a `${..}` asks for, by its head; expected values are those of XCU 2.6.2 and, where the standard leaves a choice, of
 //! `docs/DECISIONS.md`. And parts of pieces that were written by hand.
-use crate::backquotes::unescaped;
-use crate::build::{Builder, Substitution};
-use crate::fault::PartFault;
-use crate::parameter::Braces;
+use sh_parse_words::backquotes::unescaped;
+use sh_parse_words::build::{Builder, Substitution};
+use sh_parse_words::fault::PartFault;
+use sh_parse_words::parameter::Braces;
 use sh_scanner_base::mark::Mark;
 use sh_syntax::memory::NoMemory;
 use sh_syntax::sequence::Text;

@@ -1,8 +1,8 @@
 //! Texts of the grammar, their tokens apart by spaces; `\` is a newline.
-use crate::class::{TokenClass, is_name};
-use crate::grammar::{complete_command, substituted};
-use crate::levels::{end_of_compound, open_compounds};
 use sh_grammar::{Recognizer, Token};
+use sh_token_base::class::{TokenClass, is_name};
+use sh_token_base::grammar::{complete_command, substituted};
+use sh_token_base::levels::{end_of_compound, open_compounds};
 use std::alloc::{AllocError, Global};
 use std::test::Fail;
 

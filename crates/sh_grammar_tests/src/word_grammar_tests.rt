@@ -2,9 +2,9 @@
 ghost use Rattle.sh_grammar.specs.Passes.{IsPredictive};
 ghost use Rattle.sh_grammar.specs.Tabulation.{tabulation_of};
 
-use crate::Action::{Expand, Shift};
-use crate::Symbol::{Nonterminal, Terminal};
-use crate::{Recognizer, Symbol, Tables, Token};
+use sh_grammar::Action::{Expand, Shift};
+use sh_grammar::Symbol::{Nonterminal, Terminal};
+use sh_grammar::{Recognizer, Symbol, Tables, Token};
 use std::alloc::{AllocError, Global};
 
 const WORD: u8 = 0;
