@@ -62,7 +62,7 @@ def main():
         filtered = "yes | head -n {} >/dev/null"
         copied = "cat <big | cat | cat >out"
         behind = "true\n" * 900
-        # a program in the shell's own list takes seven turns up to and with the wait
+        # a program in a line of its own takes six turns: reading, expansion, fork, start, end and wait
         ended = 900 * 6
         ratios = []
         base = each(folder, small, filtered.format(10_000), 1_000, 29_000)
@@ -76,6 +76,9 @@ def main():
         more = each(folder, large, copied, 100, 61_000)
         ratios.append(more / base)
         print(f"cat | cat | cat: {base:.0f} a turn over 1 MiB, over 10 MiB {more:.0f}, ratio {more / base:.2f}")
+        late = each(folder, small, behind + copied, ended + 100, ended + 6_100)
+        ratios.append(late / base)
+        print(f"the same behind 900 ended processes: {late:.0f}, ratio {late / base:.2f}")
         print(f"greatest ratio {max(ratios):.2f}")
 
 

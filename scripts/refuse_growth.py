@@ -51,11 +51,20 @@ ROWS = [
     ("cat <<E >f; cat <f\n$((1+1))\nE\n", 30),
     ("x=1 y=$(cat <in) nosuch 2>f; echo $? >>f; cat <f", 50),
     ("! two a 'b c' | having b", 50),
+    ("echo a >/bin; echo $?", 8),
 ]
+
+# scripts of the image that the shell runs, and their turns
+SCRIPTS = [("/empty", 2), ("/tabs", 16)]
 
 STOCK = ("cat", "having", "head", "yes")
 
-FILES = [("/in", "rw-", b"a\nb\n"), ("/bin/two", "r-x", b"echo $# \"$@\"\necho $0\n")]
+FILES = [
+    ("/in", "rw-", b"a\nb\n"),
+    ("/bin/two", "r-x", b"echo $# \"$@\"\necho $0\n"),
+    ("/empty", "rw-", b""),
+    ("/tabs", "rw-", b"x=1; cat <<-E\n\t$x\n\tE\n"),
+]
 
 # so many growths in a row that change nothing are taken for the end of them
 QUIET = 40
@@ -83,20 +92,22 @@ def main():
         image, events = os.path.join(folder, "image"), os.path.join(folder, "events")
         write_image(image)
 
-        def run(text, turns, refused):
+        def run(words, turns, refused):
             with open(events, "w") as file:
                 file.write("next %d\n" % turns if turns else "")
             env = {"LD_PRELOAD": shim, "REFUSE": str(refused)} if refused else {}
-            done = subprocess.run([program, "-c", text, image, events], capture_output=True, env=env)
+            done = subprocess.run([program, *words], capture_output=True, env=env)
             return done.returncode, done.stdout
 
-        for text, turns in ROWS:
-            whole = run(text, turns, 0)
-            fronts = [run(text, k, 0)[1] for k in range(turns)] + [whole[1]]
+        texts = [(["-c", text, image, events], text, turns) for text, turns in ROWS]
+        scripts = [([image, events, path], path, turns) for path, turns in SCRIPTS]
+        for words, text, turns in texts + scripts:
+            whole = run(words, turns, 0)
+            fronts = [run(words, k, 0)[1] for k in range(turns)] + [whole[1]]
             refusals = growth = quiet = 0
             while quiet < QUIET:
                 growth += 1
-                status, out = run(text, turns, growth)
+                status, out = run(words, turns, growth)
                 if (status, out) == whole:
                     quiet += 1
                     continue
