@@ -1,2 +1,3 @@
 pub mod Forking
+pub mod Redirecting
 pub mod Undoing

@@ -1,13 +1,18 @@
-//! Laws on what a shell does between two commands.
+//! The laws.
 ghost use Rattle.std.specs.Prelude.{◌≡◌, ◌≢◌, ℕ, ◌<◌, Bool, true, false, List, length, Option};
 ghost use Rattle.sh_files.specs.Nodes.{FileMap};
 ghost use Rattle.sh_kernel_base.specs.Processes.{next_pid};
 ghost use Rattle.sh_kernel.specs.State.{KernelState, starting};
 ghost use Rattle.sh_kernel.specs.Laws.{ChangesOnlyReached, IsOwned, OnlyGrows};
-ghost use Rattle.sh_kernel.specs.Requests.{Request, after_requests};
+ghost use Rattle.sh_kernel_base.specs.declared.descriptor.Name.{Name};
+ghost use Rattle.sh_kernel.specs.Requests.{Read, Request, Write, after_request, after_requests};
 ghost use Rattle.sh_exec_machine.specs.declared.undone.Undone.{Undone};
 ghost use Rattle.sh_exec_machine.specs.Undoing.{all_restored};
 ghost use Rattle.sh_exec_machine.specs.Forking.{forked};
+ghost use Rattle.sh_exec_base.specs.declared.redirection.Redirection.{Redirection};
+ghost use Rattle.sh_exec_machine.specs.Redirecting.{redirected};
+ghost use Rattle.sh_exec_machine.specs.Transfers.{give_bytes, take_bytes};
+ghost use Rattle.sh_exec_laws.specs.Redirecting.{redirecting};
 ghost use Rattle.sh_exec_laws.specs.Undoing.{undoing};
 ghost use Rattle.sh_exec_laws.specs.Forking.{UnmadeReachNothing, after_both, behind_fork, end_aside, in_child, kept, new_process, with_fork};
 
@@ -47,4 +52,16 @@ pub fn unmade_processes_reach_nothing()
     ensures start { (files : FileMap) → UnmadeReachNothing (starting files).machine }
     ensures list { (s : KernelState) (pid : ℕ) (rs : List Request) → pid < next_pid s.machine.processes → UnmadeReachNothing s.machine → UnmadeReachNothing (after_requests s pid rs).machine }
     ensures fork { (s : KernelState) (pid : ℕ) (before : Option ℕ) (writes : Bool) → pid < next_pid s.machine.processes → UnmadeReachNothing s.machine → UnmadeReachNothing (forked s pid before writes).after.machine }
+{}
+
+/// Law: a redirection is done by requests of its process (XCU 2.7): what the number referred to is set aside where it is to come back, the
+/// number is made to refer to something else, and where that fails what was set aside comes back at once.
+pub fn redirecting_is_requests()
+    ensures { (keeps : Bool) (s : KernelState) (pid : ℕ) (directory : List ℕ) (r : Redirection) → (redirected keeps s pid directory r).after ≡ after_requests s pid (redirecting keeps s pid directory r) }
+{}
+
+/// Law: what a process takes or gives in one turn is one read or one write.
+pub fn transfers_are_requests()
+    ensures taken { (s : KernelState) (pid : ℕ) (name : Name) (count : ℕ) → (take_bytes s pid name count).after ≡ after_request s pid (Read name count) }
+    ensures given { (s : KernelState) (pid number : ℕ) (bytes : List ℕ) → (give_bytes s pid number bytes).after ≡ after_request s pid (Write number bytes) }
 {}

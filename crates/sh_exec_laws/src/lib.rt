@@ -1,4 +1,4 @@
-//! Laws on what a shell does between two commands, as requests of its processes.
+//! Laws on what a shell does with the kernel, as requests of its processes.
 #![tactic(auto)]
 
 pub mod laws;

@@ -1,0 +1,4 @@
+pub mod Names
+pub mod Walking
+pub mod Opening
+pub mod Requesting

@@ -1,0 +1,4 @@
+//! Laws of files that processes open.
+#![tactic(auto)]
+
+pub mod laws;

@@ -1,0 +1,4 @@
+pub mod Growing
+pub mod Requests
+pub mod Runs
+pub mod Turns

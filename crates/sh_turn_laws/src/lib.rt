@@ -1,0 +1,4 @@
+//! Laws of the turns of processes.
+#![tactic(auto)]
+
+pub mod laws;
