@@ -1,0 +1,251 @@
+#!/usr/bin/env python3
+"""Runs scripts made at random by psh and by real shells, and shows those in which psh stands alone.
+
+usage: compare_shells.py words|documents|processes [COUNT [SEED]]
+
+`words` expands words of every form, nested, with several IFS and positional parameters, into the fields that a program
+then shows. `documents` does so in bodies of here-documents and in assignments. `processes` runs pipelines, redirections, here-documents, assignments and command substitutions over a few
+files, and shows these at the end. Scripts do nothing whose result depends on the order of turns.
+
+Shown is a script where no real shell gives what psh gives, and one where four or more agree with one another and not with
+psh; diagnostics are left out, since their texts differ. The shells are those of dash, bash, yash, mksh and busybox that are
+installed. They run as nobody, in folders of their own. Needs what ./psh builds: run ./psh --help once before.
+"""
+import os
+import random
+import re
+import shutil
+import subprocess
+import sys
+import tempfile
+
+TOP = os.path.dirname(os.path.dirname(os.path.abspath(__file__)))
+PSH = f"{TOP}/crates/psh/out/psh"
+SHELLS = [["dash"], ["bash", "--posix"], ["yash", "-o", "posixly-correct"], ["mksh"], ["busybox", "ash"]]
+NOBODY = ["setpriv", "--reuid=65534", "--regid=65534", "--clear-groups", "--no-new-privs"]
+
+# Scripts and programs of the stock that both sides find in PATH, and what stands for the latter beside real shells.
+SCRIPTS = {
+    "show": 'echo "$#<$1><$2><$3><$4><$5><$6><$7><$8><$9>" "$x" "$y"\n',
+    "two": "echo one\necho two >&2\n",
+    "vars": 'echo "v:$x:$y:$#"\n',
+    "st7": "exit 7\n",
+    "sub": 'x=$(cat)\necho "[$x]"\n',
+}
+STOCK = ["cat", "count", "echo", "false", "having", "head", "true"]
+STAND_IN = {"having": 'exec grep -F -- "$1"\n', "count": 'wc -c | tr -d " "\n'}
+FILES = {"in": "apple\nplum\npear\nplum pie\n", "a": "A\n", "long": "0123456789\n" * 60, "nl": "no newline"}
+
+
+class Words:
+    """Commands that show the fields of words."""
+
+    names = ["x", "e", "u", "p", "c", "n"]
+    operands = [[], ["a b"], ["a", "b c", ""], ["", "x:y"], [" a ", "b", "c  d"], ["*", "a"]]
+    values = ["''", "'a b'", "' a  b '", "a:b", "':a::b:'", "a.b.c", "'*'", "3", "'a:b c'", "x", "'a  '", "'  a'", "'::'",
+              "': :'", "' : '", "'a\nb'"]
+    separators = ["':'", "' :'", "','", "''", "'a'", "' '", "': '", "'.'", "':.'", "' \t\n'"]
+    patterns = ["a", "*", "?", "a*", "*a", "*.", ".*", "[ab]", "[!a]", "*:", "b", '"*"', "'?'", "${p}", '"$p"', "[a-c]*",
+                "?*", "\\*", "$c"]
+    numbers = ["1", "2", "3", "n", "u", "010", "0x1f", "$n", "(n+1)", "-n", "!n", "~n", "7"]
+    # (no division: by zero it is a fault, which before a program's name ends that program's process alone)
+    operators = "+ - * << >> < <= == != & | ^ && ||".split() + [" ? 4 : "]
+
+    def __init__(self, seed):
+        self.pick = random.Random(seed).choice
+        self.chance = random.Random(seed + 1).random
+
+    def literal(self):
+        return self.pick(["a", "b", "ab", "-", ".", "./", "x.y", "a:b", ":", "::", "1", "=", "A_"])
+
+    def arithmetic(self):
+        if self.chance() < 0.2:
+            return f"$(({self.pick('nu')}={self.pick(self.numbers)}+1))"
+        return f"$(({self.pick(self.numbers)}{self.pick(self.operators)}{self.pick(self.numbers)}))"
+
+    def braces(self, depth, quoted):
+        name, kind = self.pick(self.names + ["1", "2", "@", "*"]), self.chance()
+        if kind < 0.2:
+            return f"${{{name}}}"
+        if kind < 0.65:
+            operator = self.pick(["-", ":-", "+", ":+", *([] if name in "12@*" else ["=", ":="])])
+            inner = [self.word(depth - 1, quoted) for _ in range(self.pick([1, 1, 2]))]
+            return f"${{{name}{operator}{' '.join(inner)}}}"
+        name = "x" if name in "@*" else name
+        if kind < 0.9:
+            return f"${{{name}{self.pick(['#', '##', '%', '%%'])}{self.pick(self.patterns)}}}"
+        return f"${{#{name}}}"
+
+    def part(self, depth, quoted):
+        kind = self.chance()
+        if depth <= 0 or kind < 0.3:
+            return self.literal()
+        if kind < 0.36:
+            return " " if quoted else "\\ "
+        if kind < 0.56 and not quoted:
+            inner = self.word(depth - 1, True)
+            return self.pick([f'"{inner}"', f"'{self.pick(['a b', '', '$x', '*', ':'])}'"])
+        if kind < 0.68:
+            return "$" + self.pick(self.names + ["1", "2", "#", "@", "*", "@", "*"])
+        if kind < 0.86:
+            return self.braces(depth, quoted)
+        if kind < 0.9:
+            return self.arithmetic()
+        if kind < 0.95:
+            return f"$(echo {self.words(depth - 1)})"
+        return self.literal() if quoted else self.pick(["~", "~/a", "=~", ":~"])
+
+    def word(self, depth, quoted=False):
+        return "".join(self.part(depth, quoted) for _ in range(self.pick([0, 1, 1, 1, 2, 2, 3])))
+
+    def words(self, depth):
+        return " ".join(self.word(depth) for _ in range(self.pick([1, 1, 2, 3])))
+
+    def setting(self):
+        lines = [f"{name}={self.pick(self.values)}" for name in "xpc"]
+        lines += ["e=", f"n={self.pick(['0', '3', '-4', '07'])}", "HOME=/h"]
+        if self.chance() < 0.6:
+            lines.append(f"IFS={self.pick(self.separators)}")
+        return "; ".join(lines)
+
+    def script(self):
+        return f"{self.setting()}; show {self.words(3)}; echo $? $n"
+
+
+class Documents(Words):
+    """Bodies of here-documents, and assignments."""
+
+    pieces = ["a b", '"', "'", "\\$x", "\\\\", "\\`", '\\"', "\\a", "x\\\ny", "  ", "\tq", "#c", "~", "*"]
+
+    def line(self):
+        # (in a body `$@` is joined by a space, as bash does it; the standard leaves it open)
+        one = [self.pick(self.pieces), "$" + self.pick([*self.names, "1", "#", "*"]), self.arithmetic()]
+        one += [self.braces(1, True).replace("@", "*"), f"$(echo {self.words(1)})"]
+        return "".join(self.pick(one) for _ in range(self.pick([1, 2, 3, 4])))
+
+    def document(self):
+        tabs = self.chance() < 0.3
+        body = [self.pick(["", "\t"]) + self.line() for _ in range(self.pick([1, 2, 3]))]
+        start = f"cat <<{'-' * tabs}" + self.pick(["E", "E", "'E'", '"E"'])
+        return "\n".join([start, *body, self.pick(["", "\t"] if tabs else [""]) + "E"])
+
+    def assignments(self):
+        if self.chance() < 0.5:
+            return f'x={self.word(3)}; show "$x"'
+        return f"x={self.word(2)} y={self.word(2)} vars {self.word(2)}\nshow $x $y"
+
+    def script(self):
+        return f"{self.setting()}\n{self.document() if self.chance() < 0.5 else self.assignments()}\necho $?\n"
+
+
+class Processes:
+    """Commands over a few files, which are shown at the end."""
+
+    operands = [[]]
+    made = ["f", "g", "h"]
+    document = "cat <<E\nx$x ${y-n}\n\tt\nE"
+    sources = ["cat <in", "cat <in", "cat <a", "two 2>&1", "two 2>/dev/null", "vars", "x=1 y=2 vars", "cat <long", "cat <nl",
+               "true", "false", "head -n 2 <in", "having p <in", document]
+    filters = ["cat", "cat", "head -n 1", "head -n 3", "having p", "having plum", "count", "sub", "show z",
+               "cat <in", "echo no", "true"]
+    values = ["a", '"b c"', '"$x"', "$x", "$y", "$?", '"$(cat <a)"', "$(echo p q)", "$((1+2))", "'q r'", "x$y", "${z-d}",
+              '"${x:-e}"', "$(cat <in | having plum)", "$(false; echo $?)"]
+
+    def __init__(self, seed):
+        self.pick = random.Random(seed).choice
+        self.chance = random.Random(seed + 1).random
+
+    def redirection(self):
+        file = self.pick(self.made)
+        return self.pick([f" >{file}", f" >>{file}", f" >|{file}", f" >{file} 2>&1", f" 3>{file} >&3", f" 1<>{file}",
+                          " 2>&1", " <in", " 2>/dev/null"])
+
+    def pipeline(self):
+        words = [f"echo {self.pick(self.values)} {self.pick(self.values)}", f"show {self.pick(self.values)}"]
+        first, _, body = self.pick([*self.sources, *words]).partition("\n")
+        stages = [first, *(self.pick(self.filters) for _ in range(self.pick([0, 0, 1, 1, 2, 3])))]
+        text = ("! " if self.chance() < 0.1 else "") + " | ".join(stages)
+        text += self.redirection() if self.chance() < 0.4 else ""
+        return f"{text}\n{body}" if body else text
+
+    def command(self):
+        name, value = self.pick("xy"), self.pick(self.values)
+        others = [f"{name}={value}", f"{name}=$({self.pipeline()}\n)", f"x={value} {self.pick(['vars', 'show $x', 'echo $x'])}",
+                  f">{self.pick(self.made)}", self.pick(["nosuch", "st7", "./in", "./w"]), "cat <none"]
+        return self.pick(others) if self.chance() < 0.35 else self.pipeline()
+
+    def script(self):
+        lines = []
+        for _ in range(self.pick([2, 3, 4, 5, 6])):
+            lines += [self.command(), *(['echo $? "$x" "$y"'] if self.chance() < 0.5 else [])]
+        return "\n".join([*lines, *(f"echo {file}: ; cat <{file}" for file in self.made), ""])
+
+
+def image():
+    """The image of files for psh."""
+    entries = [(f"/bin/{name}", "r-x", f"#!stock {name}\n") for name in STOCK]
+    entries += [(f"/bin/{name}", "r-x", text) for name, text in SCRIPTS.items()]
+    entries += [(f"/{name}", "rw-", text) for name, text in FILES.items()]
+    files = "".join(f"file {path} {flags} {len(text)}\n{text}\n" for path, flags, text in entries)
+    return f"psh image 1\ndir /bin\ndir /w\n{files}end\n"
+
+
+def make_bin(room):
+    """The same programs for real shells."""
+    os.mkdir(f"{room}/bin")
+    for name, text in {**SCRIPTS, **STAND_IN}.items():
+        with open(f"{room}/bin/{name}", "w", encoding="ascii") as it:
+            it.write(f"#!/bin/sh\n{text}")
+        os.chmod(f"{room}/bin/{name}", 0o755)
+
+
+def by_psh(room, script, operands):
+    words = [PSH, "-c", script, f"{room}/image", f"{room}/events", "psh", *operands]
+    return subprocess.run(words, stdin=subprocess.DEVNULL, stdout=subprocess.PIPE, check=True).stdout
+
+
+def by_shell(room, shell, script, operands):
+    folder = f"{room}/cwd"
+    shutil.rmtree(folder, ignore_errors=True)
+    for name in ("bin", "dev", "w"):
+        os.makedirs(f"{folder}/{name}")
+    for name, text in FILES.items():
+        with open(f"{folder}/{name}", "w", encoding="ascii") as it:
+            it.write(text)
+        os.chmod(f"{folder}/{name}", 0o666)
+    os.chmod(folder, 0o777)
+    how = {"stdin": subprocess.DEVNULL, "stdout": subprocess.PIPE, "stderr": subprocess.DEVNULL}
+    how |= {"cwd": folder, "env": {"PATH": f"{room}/bin:/usr/bin:/bin", "LC_ALL": "C"}}
+    return subprocess.run([*NOBODY, *shell, "-c", script, "psh", *operands], timeout=20, **how).stdout
+
+
+SOURCES = {"words": Words, "documents": Documents, "processes": Processes}
+
+
+def main(kind, count=200, seed=1):
+    source = SOURCES[kind](int(seed))
+    shells = [it for it in SHELLS if shutil.which(it[0])]
+    alone = 0
+    with tempfile.TemporaryDirectory(prefix="shells-") as room:
+        os.chmod(room, 0o755)
+        make_bin(room)
+        for name, text in (("image", image()), ("events", "next 20000\n")):
+            with open(f"{room}/{name}", "w", encoding="ascii") as it:
+                it.write(text)
+        for _ in range(int(count)):
+            script, operands = source.script(), source.pick(source.operands)
+            ours = re.sub(rb"psh: [^\n]*\n", b"", by_psh(room, script, operands))
+            theirs = [by_shell(room, it, script, operands) for it in shells]
+            most = max(theirs, key=theirs.count)
+            if ours not in theirs or ours != most and theirs.count(most) >= 4:
+                alone += 1
+                print(f"{script}\n  {operands}\n  psh: {ours}")
+                print("\n".join(f"  {it[0]}: {shown}" for it, shown in zip(shells, theirs)), flush=True)
+    print(f"{count} scripts, {len(shells)} shells; psh alone in {alone}")
+    return 1 if alone else 0
+
+
+if __name__ == "__main__":
+    if len(sys.argv) not in (2, 3, 4) or sys.argv[1] not in SOURCES:
+        sys.exit(__doc__)
+    sys.exit(main(*sys.argv[1:]))
