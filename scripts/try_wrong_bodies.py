@@ -20,7 +20,7 @@ def main(names):
     names = names or sorted(os.listdir(f"{TOP}/wrong-bodies"))
     with tempfile.TemporaryDirectory(prefix="wrong-bodies-") as room:
         copy = f"{room}/psh"
-        shutil.copytree(TOP, copy, ignore=shutil.ignore_patterns(".git"))
+        shutil.copytree(TOP, copy, ignore=shutil.ignore_patterns(".git", "incremental"))
         subprocess.run(["git", "init", "-q", copy], check=True)
         for name in names:
             edits = f"{copy}/crates/{name}/must-fail"
