@@ -22,7 +22,8 @@ import tempfile
 TOP = os.path.dirname(os.path.dirname(os.path.abspath(__file__)))
 PSH = f"{TOP}/crates/psh/out/psh"
 SHELLS = [["dash"], ["bash", "--posix"], ["yash", "-o", "posixly-correct"], ["mksh"], ["busybox", "ash"]]
-NOBODY = ["setpriv", "--reuid=65534", "--regid=65534", "--clear-groups", "--no-new-privs"]
+# (another user runs the shells as itself)
+NOBODY = [] if os.geteuid() else ["setpriv", "--reuid=65534", "--regid=65534", "--clear-groups", "--no-new-privs"]
 
 # Scripts and programs of the stock that both sides find in PATH, and what stands for the latter beside real shells.
 SCRIPTS = {
