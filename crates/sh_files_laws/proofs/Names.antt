@@ -1,5 +1,6 @@
 -- The names of a path, and paths of one name more.
-use Rattle.std.proofs.Common.{◌≡◌, ℕ, suc, ◌+◌, List, [], ◌∷◌, ◌++◌, Bool, true, false, cond, length, take, refl, sym, ap, ◌∙◌, arith}
+use Rattle.std.proofs.Common.{◌≡◌, ℕ, suc, ◌+◌, List, [], ◌∷◌, ◌++◌, Bool, true, false, cond, length, refl, sym, ap, ◌∙◌, arith}
+use Rattle.std.proofs.Math.Seq.{take-append_seam}
 use Rattle.std.specs.Prelude.{◌==◌, ◌&&◌, ◌||◌, codes, max}
 use Rattle.std.specs.List.{onto_first, slice_split}
 use Rattle.sh_files_base.specs.Paths.{good_names, has_slash, is_good_name, last_slash, parent}
@@ -78,16 +79,12 @@ last_behind : (xs name : List ℕ) → has_slash name ≡ false → last_slash (
 last_behind [] name h = rw h refl
 last_behind (x ∷ xs) name h = rw (has_slash_behind xs name) (ap suc (last_behind xs name h))
 
-take_front : (xs ys : List ℕ) → take (length xs) (xs ++ ys) ≡ xs
-take_front [] ys = refl
-take_front (x ∷ xs) ys = ap (λ l. x ∷ l) (take_front xs ys)
-
 max_one : (n : ℕ) → max 1 (suc n) ≡ suc n
 max_one n = omega arith
 
 -- the directory of a path of one name more
 pub parent_behind : (x : ℕ) (xs name : List ℕ) → has_slash name ≡ false → parent ((x ∷ xs) ++ 47 ∷ name) ≡ x ∷ xs
-parent_behind x xs name h = rw (last_behind (x ∷ xs) name h, max_one (length xs)) (take_front (x ∷ xs) (47 ∷ name))
+parent_behind x xs name h = rw (last_behind (x ∷ xs) name h, max_one (length xs)) (take-append_seam (x ∷ xs) (47 ∷ name))
 
 pub parent_in_root : (name : List ℕ) → has_slash name ≡ false → parent (47 ∷ name) ≡ codes "/"
 parent_in_root name h = rw (last_behind [] name h) refl

@@ -1,11 +1,11 @@
 -- Files of which one was opened are files that an image can hold, as before.
 use Rattle.std.proofs.Common.{◌≡◌, ℕ, suc, zero, ◌+◌, ◌≤◌, List, [], ◌∷◌, ◌++◌, Bool, true, false, length, set, drop, Some, None, Option, Result, Ok, Err, refl, sym, ap, ◌∙◌, subst, arith, inl, inr, length-append}
-use Rattle.std.specs.Prelude.{◌==◌, ◌&&◌, ◌||◌, if◌then◌else◌, not, codes, nat_eq, nat_le, slice_get}
+use Rattle.std.specs.Prelude.{◌==◌, ◌||◌, if◌then◌else◌, not, codes, nat_eq, nat_le, slice_get}
 use Rattle.std.specs.FinMap as map
 use Rattle.std.specs.List.{list_any, slice_split, starts_with}
 use Rattle.std.specs.Option.{option_and_then}
 use Rattle.std.specs.Str.{bytes_eq}
-use Rattle.std.proofs.lemmas.Bool.{eqb-true, leb-true}
+use Rattle.std.proofs.lemmas.Bool.{and_parts, eqb-true, leb-true}
 use Rattle.std.proofs.lemmas.Bool.Decides.{nat_tests}
 use Rattle.std.proofs.lemmas.Slice.Eq.{bytes_eq-Decides}
 use Rattle.sh_files_base.specs.Contents.{Regular}
@@ -23,10 +23,6 @@ use Rattle.sh_files.proofs.Kept.{new_whole, not_left_out}
 use Rattle.sh_files.proofs.Whole.{started}
 use Rattle.sh_files_laws.proofs.Names.{Good, NoSlash, good_more, one_more, one_part, parent_behind, parent_in_root, slash, split_good, total}
 use Rattle.sh_files_laws.proofs.Walking.{Directories, Entry, Short, Standing, devices, entered, longer, named, root, root_is, walk, which}
-
-both : (a b : Bool) → (a && b) ≡ true → (a ≡ true) × (b ≡ true)
-both true b p = (refl, p)
-both false b p = cc
 
 untrue : (b : Bool) → not b ≡ true → b ≡ false
 untrue true h = cc
@@ -66,8 +62,8 @@ reached files directory path r b w h = tried (is_empty path) (fits directory pat
     from : (fits directory path ≡ true) → walked files (codes "/") (components (absolute directory path)) ≡ Ok r → Standing files r × Short r 1024
     from f g =
         let a = absolute_rooted directory path b in
-        let k = both (nat_le (length path) 1024) _ f in
-        let m = both (nat_le (length (absolute directory path)) 1024) (names_fit (components (absolute directory path))) k.1 in
+        let k = and_parts (nat_le (length path) 1024) _ f in
+        let m = and_parts (nat_le (length (absolute directory path)) 1024) (names_fit (components (absolute directory path))) k.1 in
         from_root files a.0 r w (leb-true (length (47 ∷ a.0)) 1024 (ap (λ xs. nat_le (length xs) 1024) (sym a.1) ∙ m.0)) (ap (λ xs. names_fit (components xs)) (sym a.1) ∙ m.1)
         (ap (λ xs. walked files (codes "/") (components xs)) (sym a.1) ∙ g)
 
@@ -84,8 +80,8 @@ record Creates (r : List ℕ) : Type 0 where
 
 creates : (r : List ℕ) → may_create r ≡ true → Creates r
 creates r h =
-    let a = both (not (starts_with nat_eq r (codes "/dev/"))) _ h in
-    let b = both (not (list_any (λ b. b == 10) r)) (not (list_any (λ b. b == 0) r)) a.1 in
+    let a = and_parts (not (starts_with nat_eq r (codes "/dev/"))) _ h in
+    let b = and_parts (not (list_any (λ b. b == 10) r)) (not (list_any (λ b. b == 0) r)) a.1 in
     record { no_device = untrue _ a.0; one_line = untrue _ b.0; no_nul = untrue _ b.1 }
 
 record Path (files : FileMap) (r : List ℕ) : Type 0 where
@@ -134,8 +130,8 @@ behind files r w c e = at (which files e.place w e.directory)
         let f : true ≡ false = ap (λ p. starts_with nat_eq p (codes "/dev/")) (sym (e.path ∙ ap (λ p. joined p e.name) q)) ∙ c.no_device in
         cc
     at (named placed) =
-        let k = both (begins_at_root e.place) _ placed.named in
-        let m = both (good_names (components (drop 1 e.place))) _ k.1 in
+        let k = and_parts (begins_at_root e.place) _ placed.named in
+        let m = and_parts (good_names (components (drop 1 e.place))) _ k.1 in
         let o = either_false (bytes_eq e.place (codes "/")) (is_device e.place) (not_left_out e.place placed.named) in
         subst (Behind files) (sym (e.path ∙ ap (λ b. if b then 47 ∷ e.name else e.place ++ 47 ∷ e.name) o.0))
         (in_named files e.place e.name k.0 m.0 e.directory e.good e.plain)

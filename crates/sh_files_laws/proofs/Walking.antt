@@ -1,6 +1,7 @@
 -- Where a path leads: a directory, or a name in one.
 use Rattle.std.proofs.Common.{◌≡◌, ℕ, suc, zero, ◌+◌, ◌≤◌, List, [], ◌∷◌, ◌++◌, Bool, true, false, cond, length, take, Some, None, Option, Result, Ok, refl, sym, ap, ◌∙◌, subst, arith, inl, inr, ◌⊎◌, length-append}
-use Rattle.std.specs.Prelude.{◌&&◌, if◌then◌else◌, codes, max, nat_le, slice_get}
+use Rattle.std.proofs.lemmas.Bool.{and_parts}
+use Rattle.std.specs.Prelude.{if◌then◌else◌, codes, max, nat_le, slice_get}
 use Rattle.std.specs.FinMap as map
 use Rattle.std.specs.Option.{option_and_then}
 use Rattle.std.specs.Str.{bytes_eq}
@@ -162,15 +163,11 @@ entered (Some (File f)) next r h = cc
 entered (Some Null) next r h = cc
 entered (Some Terminal) next r h = cc
 
-both : (a b : Bool) → (a && b) ≡ true → (a ≡ true) × (b ≡ true)
-both true b p = (refl, p)
-both false b p = cc
-
 pub walk : (files : FileMap) (names : List (List ℕ)) (place r : List ℕ) (n : ℕ) → IsWhole files → Standing files place → Short place n → NoSlash names → names_fit names ≡ true → walked files place names ≡ Ok r
     → Standing files r × Short r (total names + n)
 walk files [] place r n w s k p f h = let same : place ≡ r = cc in subst (λ q. Standing files q × Short q (0 + n)) same (s, longer place n (0 + n) k (omega arith))
 walk files (name ∷ names) place r n w s k p f h =
     let g = entered (node_at files place) (walked files (stepped place name) names) r h in
-    let l = both (nat_le (length name) 255) (names_fit names) f in
+    let l = and_parts (nat_le (length name) 255) (names_fit names) f in
     let i = walk files names (stepped place name) r (suc (length name) + n) w (step_stands files place name w g.0 l.0 p.0) (step_short place name n k) p.1 l.1 g.1 in
     (i.0, longer r (total names + (suc (length name) + n)) (total (name ∷ names) + n) i.1 (omega arith))

@@ -27,78 +27,78 @@ abbrev pub IsKept : List ℕ → (KernelState → Type 0) → Type 0
 IsKept directory P = (s : KernelState) (pid : ℕ) (r : Request) → IsFrom directory r → P s → P (after_request s pid r)
 
 module _ (directory : List ℕ) where
-  abbrev pub AllFrom : List Request → Type 0
-  AllFrom [] = Unit {0}
-  AllFrom (r ∷ rs) = IsFrom directory r × AllFrom rs
+  abbrev pub ListFrom : List Request → Type 0
+  ListFrom [] = Unit {0}
+  ListFrom (r ∷ rs) = IsFrom directory r × ListFrom rs
 
-  all_append : (xs ys : List Request) → AllFrom xs → AllFrom ys → AllFrom (xs ++ ys)
+  all_append : (xs ys : List Request) → ListFrom xs → ListFrom ys → ListFrom (xs ++ ys)
   all_append [] ys a b = b
   all_append (x ∷ xs) ys a b = (a.0, all_append xs ys a.1 b)
 
-  laying_from : (writes : Bool) → AllFrom (laying writes)
+  laying_from : (writes : Bool) → ListFrom (laying writes)
   laying_from false = tt
   laying_from true = (tt, (tt, tt))
 
-  taking_up_from : (before : Option ℕ) → AllFrom (taking_up before)
+  taking_up_from : (before : Option ℕ) → ListFrom (taking_up before)
   taking_up_from None = tt
   taking_up_from (Some aside) = (tt, tt)
 
-  with_fork_from : (before : Option ℕ) (writes : Bool) → AllFrom (with_fork before writes)
+  with_fork_from : (before : Option ℕ) (writes : Bool) → ListFrom (with_fork before writes)
   with_fork_from before writes = all_append (laying writes ++ taking_up before) (Fork ∷ []) (all_append (laying writes) (taking_up before) (laying_from writes) (taking_up_from before)) (tt, tt)
 
-  moving_from : (b : Bool) (from to : ℕ) → AllFrom (moving b from to)
+  moving_from : (b : Bool) (from to : ℕ) → ListFrom (moving b from to)
   moving_from false from to = tt
   moving_from true from to = (tt, (tt, tt))
 
-  in_child_from : (before : Option ℕ) (writes : Bool) → AllFrom (in_child before writes)
+  in_child_from : (before : Option ℕ) (writes : Bool) → ListFrom (in_child before writes)
   in_child_from before writes = all_append (moving (is_some before) 10 0) (moving writes 11 1) (moving_from (is_some before) 10 0) (moving_from writes 11 1)
 
-  dropping_from : (child aside : Option ℕ) → AllFrom (dropping child aside)
+  dropping_from : (child aside : Option ℕ) → ListFrom (dropping child aside)
   dropping_from (Some child) aside = tt
   dropping_from None None = tt
   dropping_from None (Some aside) = (tt, tt)
 
-  behind_fork_from : (child aside : Option ℕ) → AllFrom (behind_fork child aside)
+  behind_fork_from : (child aside : Option ℕ) → ListFrom (behind_fork child aside)
   behind_fork_from child aside = (tt, (tt, dropping_from child aside))
 
   one_from : (u : Undone) → IsFrom directory (undoing_one u)
   one_from (undone.Restore aside number) = tt
   one_from (undone.Close number) = tt
 
-  undoing_from : (us : List Undone) → AllFrom (undoing us)
+  undoing_from : (us : List Undone) → ListFrom (undoing us)
   undoing_from [] = tt
   undoing_from (u ∷ us) = all_append (undoing us) (undoing_one u ∷ []) (undoing_from us) (one_from u, tt)
 
-  placing_from : (number : ℕ) (word : List ℕ) (a : Action) → AllFrom (placing_by directory number word a)
+  placing_from : (number : ℕ) (word : List ℕ) (a : Action) → ListFrom (placing_by directory number word a)
   placing_from number word (action.Open how append) = (refl, tt)
   placing_from number word (action.Duplicate None) = tt
   placing_from number word (action.Duplicate (Some from)) = (tt, tt)
   placing_from number word action.Close = (tt, tt)
   placing_from number word (action.Here bytes) = (tt, tt)
 
-  back_from : (aside number : ℕ) (answer : Result (Unit {0}) KernelFault) → AllFrom (back_after aside number answer)
+  back_from : (aside number : ℕ) (answer : Result (Unit {0}) KernelFault) → ListFrom (back_after aside number answer)
   back_from aside number (Ok t) = tt
   back_from aside number (Err f) = (tt, tt)
 
-  keeping_from : (s : KernelState) (pid number : ℕ) (r : Redirection) (answer : Result ℕ KernelFault) → AllFrom (keeping s pid directory number r answer)
+  keeping_from : (s : KernelState) (pid number : ℕ) (r : Redirection) (answer : Result ℕ KernelFault) → ListFrom (keeping s pid directory number r answer)
   keeping_from s pid number r (Ok aside) =
       all_append (placing directory number r) (back_after aside number (placed s pid directory number r).answer) (placing_from number r.word r.action) (back_from aside number (placed s pid directory number r).answer)
   keeping_from s pid number r (Err f) = placing_from number r.word r.action
 
-  redirecting_from : (keeps : Bool) (s : KernelState) (pid : ℕ) (r : Redirection) (o : Option ℕ) → AllFrom (redirecting_to keeps s pid directory r o)
+  redirecting_from : (keeps : Bool) (s : KernelState) (pid : ℕ) (r : Redirection) (o : Option ℕ) → ListFrom (redirecting_to keeps s pid directory r o)
   redirecting_from keeps s pid r None = tt
   redirecting_from keeps s pid r (Some number) = at (keeps && not (is_itself number r.action))
     where
-      at : (b : Bool) → AllFrom (if b then SetAside number ∷ keeping (set_aside_call s pid number).after pid directory number r (set_aside_call s pid number).answer else placing directory number r)
+      at : (b : Bool) → ListFrom (if b then SetAside number ∷ keeping (set_aside_call s pid number).after pid directory number r (set_aside_call s pid number).answer else placing directory number r)
       at true = (tt, keeping_from (set_aside_call s pid number).after pid number r (set_aside_call s pid number).answer)
       at false = placing_from number r.word r.action
 
   module _ (P : KernelState → Type 0) (kept : IsKept directory P) where
-    pub list_keeps : (rs : List Request) → AllFrom rs → (s : KernelState) (pid : ℕ) → P s → P (after_requests s pid rs)
+    pub list_keeps : (rs : List Request) → ListFrom rs → (s : KernelState) (pid : ℕ) → P s → P (after_requests s pid rs)
     list_keeps [] a s pid p = p
     list_keeps (r ∷ rs) a s pid p = list_keeps rs a.1 (after_request s pid r) pid (kept s pid r a.0 p)
 
-    child_keeps : (s : KernelState) (child : Option ℕ) (rs : List Request) → AllFrom rs → P s → P (after_child s child rs)
+    child_keeps : (s : KernelState) (child : Option ℕ) (rs : List Request) → ListFrom rs → P s → P (after_child s child rs)
     child_keeps s None rs a p = p
     child_keeps s (Some child) rs a p = list_keeps rs a s child p
 

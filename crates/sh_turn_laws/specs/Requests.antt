@@ -1,23 +1,13 @@
 -- What processes do to a kernel by requests.
 use Rattle.std.specs.Prelude.{◌≡◌, ℕ, List, [], ◌∷◌, ◌++◌}
-use Rattle.sh_kernel.specs.Requests.{Request, Close, Duplicate, End, Fork, Here, MakePipe, Open, PutBack, Read, SetAside, StartProgram, Write, after_request}
+use Rattle.sh_files_laws.specs.Rooted.{OpensFrom}
+use Rattle.sh_kernel.specs.Requests.{Request, after_request}
 use Rattle.sh_kernel.specs.State.{KernelState}
 use Rattle.sh_tty.specs.Happenings.{bytes_of}
 
 -- the paths of files go from this directory
 abbrev pub IsFrom : List ℕ → Request → Type 0
-IsFrom directory (Read name count) = Unit {0}
-IsFrom directory (Write number bytes) = Unit {0}
-IsFrom directory (Close name) = Unit {0}
-IsFrom directory (Duplicate name to) = Unit {0}
-IsFrom directory (MakePipe from to) = Unit {0}
-IsFrom directory (Open other path how append number) = other ≡ directory
-IsFrom directory (Here bytes number) = Unit {0}
-IsFrom directory (SetAside number) = Unit {0}
-IsFrom directory (PutBack aside number) = Unit {0}
-IsFrom directory Fork = Unit {0}
-IsFrom directory StartProgram = Unit {0}
-IsFrom directory (End status) = Unit {0}
+IsFrom directory = OpensFrom (λ other. other ≡ directory)
 
 abbrev pub AllFrom : List ℕ → List (ℕ × Request) → Type 0
 AllFrom directory [] = Unit {0}
