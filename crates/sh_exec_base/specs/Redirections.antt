@@ -86,7 +86,7 @@ token_text source (Ok token) = kind_text source token.kind
 token_text source (Err e) = source
 
 unfoldable pub delimiter_shown : List ℕ → List ℕ
-delimiter_shown source = token_text source (answer_at 0 (first_token true source))
+delimiter_shown source = token_text source (answer_at 0 (first_token true 500 source))
 
 -- what a message names: the expanded word, of a here-document its delimiter
 abbrev pub word_shown : Opened layer.Target-F → List ℕ → List ℕ

@@ -8,22 +8,22 @@ use Rattle.sh_tree.specs.declared.tree.Complete.{Complete as Tree}
 use Rattle.sh_tree.specs.declared.tree.Parts.{Parts}
 use Rattle.sh_scanner.specs.declared.token.TokenKind.{TokenKind}
 use Rattle.sh_parse_lines.specs.declared.item.Item.{Item}
-use Rattle.sh_parse_lines.specs.Waiting.{nothing, due_at}
-use Rattle.sh_parse_lines.specs.Stream.{Ending, AtEnd, Cut, Nul, Deep, items_of}
+use Rattle.sh_parse_lines.specs.Waiting.{Waiting, nothing, due_at}
+use Rattle.sh_parse_lines.specs.Stream.{Ending, AtEnd, Cut, items_of, waiting_behind}
 use Rattle.sh_parse_words.specs.declared.fault.PartFault.{PartFault}
 use Rattle.sh_parse_programs.specs.Inputs.{inputs_of}
 use Rattle.sh_parse_programs.specs.Results.{and_then}
 use Rattle.sh_parse_programs.specs.Judging.{IsShell, Judged, with_item, are_no, tree_by}
 use Rattle.sh_parse_programs.specs.Programs.{read_text}
-use Rattle.sh_parse_programs.specs.Defined.{Judge, Derive, waiting_behind, AreFaultless, AreTree, AreTokens}
+use Rattle.sh_parse_programs.specs.Defined.{Judge, Derive, AreFaultless, AreTree, AreTokens}
 use Rattle.sh_parse_programs.proofs.Taking.{behind, judged_next, Told, next_told, next_fault}
 use Rattle.sh_parse_programs.proofs.Faultless.{waiting_push, judged, JudgedSo, judged_told, judged_push, faultless_judged, fault_judged}
 use Rattle.sh_parse_programs.proofs.Texts.{derive_whole, whole_not_derive, derive_not_whole, whole_derive, tree_found, tree_gives, tree_whole, tree_alone, alone_gives, none_told, some_told, some_leaves, tokens_of}
 use Rattle.sh_parse.specs.Aliases.{AliasTable}
-use Rattle.sh_parse.specs.Reading.{Answer, fault_of, is_newline, taken, completed, refusal, said, at_last, decided, reading}
+use Rattle.sh_parse.specs.Reading.{Answer, is_newline, taken, completed, refusal, said, at_last, decided, reading}
 use Rattle.sh_parse.specs.declared.Reading.TheVariants.{Complete, Blank, More}
-use Rattle.sh_parse.specs.declared.ParseFault.TheVariants.{Refused, Unclosed, TooDeep}
-use Rattle.sh_parse.specs.Defined.{outer, last_bodies, Says, blank_line, faulty_line, whole_line, faulty_bodies, faulty_newline, IsSilent, AreSilent, Ends, blank_text, faulty_text, whole_text, open_text, FaultOr, EndSays, NewlineDecides, EndDecides, IsReading}
+use Rattle.sh_parse.specs.declared.ParseFault.TheVariants.{Unclosed}
+use Rattle.sh_parse.specs.Defined.{outer, last_bodies, Says, blank_line, faulty_line, whole_line, faulty_bodies, faulty_newline, IsSilent, AreSilent, Ends, blank_text, faulty_text, whole_text, open_text, FaultOr, cut_answer, EndSays, NewlineDecides, EndDecides, IsReading}
 
 commands : IsShell complete
 commands = inl refl
@@ -159,83 +159,55 @@ module _ (table : AliasTable) (text : List ℕ) (before : List Item) (newline : 
 
 -- the end of the text
 module _ (text : List ℕ) (tokens : List Item) where
+  abbrev wait : Waiting
+  wait = waiting_behind nothing tokens
+
   ends_by : (x : AreFaultless (outer text) tokens) → AreTokens tokens → (b c : Bool) → are_no x.leaves ≡ b → is_whole complete (inputs_of tokens) ≡ c
       → Ends text tokens (if b then Ok (Blank (length text)) else if c then Ok (Complete (tree_by (behind (outer text) tokens x.leaves x.bodies)) (length text)) else Err (Unclosed (length text)))
   ends_by x a true c e d = blank_text (none_told (outer text) tokens x e) refl
   ends_by x a false true e d = whole_text (some_told (outer text) tokens x e) _ (tree_alone (outer text) commands tokens x a d) refl
   ends_by x a false false e d = open_text (some_told (outer text) tokens x e) x (whole_not_derive (outer text) commands tokens d) refl
 
-  ends_told : (e : Bool) → AreTokens tokens → (r : Result Judged PartFault) → JudgedSo (outer text) tokens r → Ends text tokens (at_last e (length text) r AtEnd)
+  ends_told : (e : Bool) → AreTokens tokens → (r : Result Judged PartFault) → JudgedSo (outer text) tokens r → Ends text tokens (at_last e text wait r AtEnd)
   ends_told e a (Ok k) (x, is) =
-      subst (λ j. Ends text tokens (at_last e (length text) (Ok j) AtEnd)) (sym is) (ends_by x a (are_no x.leaves) (is_whole complete (inputs_of tokens)) refl refl)
+      subst (λ j. Ends text tokens (at_last e text wait (Ok j) AtEnd)) (sym is) (ends_by x a (are_no x.leaves) (is_whole complete (inputs_of tokens)) refl refl)
   ends_told e a (Err f) h = faulty_text f h refl
 
-  abbrev or_fault : Answer → Result Judged PartFault → Answer
-  or_fault other (Ok k) = other
-  or_fault other (Err f) = Err (fault_of f)
+  cut_told : (at : ℕ) (r : Result Judged PartFault) → JudgedSo (outer text) tokens r → FaultOr text tokens (cut_answer text tokens at) (at_last true text wait r (Cut at))
+  cut_told at (Ok k) (x, is) = inr (x, ap (λ j. at_last true text wait (Ok j) (Cut at)) is)
+  cut_told at (Err f) h = inl (f, h, refl)
 
-  fault_told : (other : Answer) (r : Result Judged PartFault) → JudgedSo (outer text) tokens r → FaultOr text tokens other (or_fault other r)
-  fault_told other (Ok k) (x, is) = inr (x, refl)
-  fault_told other (Err f) h = inl (f, h, refl)
-
-  cut_is : (r : Result Judged PartFault) → at_last true (length text) r Cut ≡ or_fault (Err (Unclosed (length text))) r
-  cut_is (Ok k) = refl
-  cut_is (Err f) = refl
-
-  nul_is : (place : ℕ) (r : Result Judged PartFault) → at_last true (length text) r (Nul place) ≡ or_fault (Err (Refused place)) r
-  nul_is place (Ok k) = refl
-  nul_is place (Err f) = refl
-
-  deep_is : (place : ℕ) (r : Result Judged PartFault) → at_last true (length text) r (Deep place) ≡ or_fault (Err (TooDeep place)) r
-  deep_is place (Ok k) = refl
-  deep_is place (Err f) = refl
-
-  more_is : (ending : Ending) → (ending ≡ AtEnd → ⊥) → (r : Result Judged PartFault) → at_last false (length text) r ending ≡ Ok More
-  more_is AtEnd n r = absurd (n refl)
-  more_is Cut n (Ok k) = refl
-  more_is Cut n (Err f) = refl
-  more_is (Nul place) n (Ok k) = refl
-  more_is (Nul place) n (Err f) = refl
-  more_is (Deep place) n (Ok k) = refl
-  more_is (Deep place) n (Err f) = refl
+  more_is : (at : ℕ) (r : Result Judged PartFault) → at_last false text wait r (Cut at) ≡ Ok More
+  more_is at (Ok k) = refl
+  more_is at (Err f) = refl
 
   abbrev last : Bool → Ending → Answer
-  last e ending = at_last e (length text) (judged (outer text) tokens) ending
+  last e ending = at_last e text wait (judged (outer text) tokens) ending
 
   end_told : (e : Bool) → AreTokens tokens → (ending : Ending) → EndSays e text tokens ending (last e ending)
   end_told true a AtEnd = ends_told true a (judged (outer text) tokens) (judged_told (outer text) commands tokens)
   end_told false a AtEnd = ends_told false a (judged (outer text) tokens) (judged_told (outer text) commands tokens)
-  end_told true a Cut =
-      subst (λ x. FaultOr text tokens (Err (Unclosed (length text))) x) (sym (cut_is (judged (outer text) tokens)))
-      (fault_told (Err (Unclosed (length text))) (judged (outer text) tokens) (judged_told (outer text) commands tokens))
-  end_told true a (Nul place) =
-      subst (λ x. FaultOr text tokens (Err (Refused place)) x) (sym (nul_is place (judged (outer text) tokens)))
-      (fault_told (Err (Refused place)) (judged (outer text) tokens) (judged_told (outer text) commands tokens))
-  end_told true a (Deep place) =
-      subst (λ x. FaultOr text tokens (Err (TooDeep place)) x) (sym (deep_is place (judged (outer text) tokens)))
-      (fault_told (Err (TooDeep place)) (judged (outer text) tokens) (judged_told (outer text) commands tokens))
-  end_told false a Cut = more_is Cut (λ x. cc) (judged (outer text) tokens)
-  end_told false a (Nul place) = more_is (Nul place) (λ x. cc) (judged (outer text) tokens)
-  end_told false a (Deep place) = more_is (Deep place) (λ x. cc) (judged (outer text) tokens)
+  end_told true a (Cut at) = cut_told at (judged (outer text) tokens) (judged_told (outer text) commands tokens)
+  end_told false a (Cut at) = more_is at (judged (outer text) tokens)
 
   -- and back
   last_whole : (e : Bool) (j : Judged) (tree : Tree) → are_no j.leaves ≡ false → is_whole j.grammar j.tokens ≡ true → tree_by j ≡ tree
-      → at_last e (length text) (Ok j) AtEnd ≡ Ok (Complete tree (length text))
+      → at_last e text wait (Ok j) AtEnd ≡ Ok (Complete tree (length text))
   last_whole e j tree n w t = rw (n, w, t) refl
 
-  last_open : (e : Bool) (j : Judged) → are_no j.leaves ≡ false → is_whole j.grammar j.tokens ≡ false → at_last e (length text) (Ok j) AtEnd ≡ Err (Unclosed (length text))
+  last_open : (e : Bool) (j : Judged) → are_no j.leaves ≡ false → is_whole j.grammar j.tokens ≡ false → at_last e text wait (Ok j) AtEnd ≡ Err (Unclosed (length text))
   last_open e j n w = rw (n, w) refl
 
-  last_of : (e : Bool) (ending : Ending) (x : AreFaultless (outer text) tokens) → last e ending ≡ at_last e (length text) (Ok (behind (outer text) tokens x.leaves x.bodies)) ending
-  last_of e ending x = ap (λ r. at_last e (length text) r ending) (faultless_judged (outer text) commands tokens x)
+  last_of : (e : Bool) (ending : Ending) (x : AreFaultless (outer text) tokens) → last e ending ≡ at_last e text wait (Ok (behind (outer text) tokens x.leaves x.bodies)) ending
+  last_of e ending x = ap (λ r. at_last e text wait r ending) (faultless_judged (outer text) commands tokens x)
 
   ends_said : (e : Bool) (answer : Answer) → Ends text tokens answer → last e AtEnd ≡ answer
   ends_said e answer (blank_text n h) = of_none tokens n ∙ sym h
     where
-      of_none : (xs : List Item) → xs ≡ [] → at_last e (length text) (judged (outer text) xs) AtEnd ≡ Ok (Blank (length text))
+      of_none : (xs : List Item) → xs ≡ [] → at_last e text wait (judged (outer text) xs) AtEnd ≡ Ok (Blank (length text))
       of_none [] n = refl
       of_none (t ∷ xs) n = absurd (cc)
-  ends_said e answer (faulty_text f x h) = ap (λ r. at_last e (length text) r AtEnd) (fault_judged (outer text) commands tokens f x) ∙ sym h
+  ends_said e answer (faulty_text f x h) = ap (λ r. at_last e text wait r AtEnd) (fault_judged (outer text) commands tokens f x) ∙ sym h
   ends_said e answer (whole_text n tree a h) =
       last_of e AtEnd a.faultless
       ∙ (last_whole e (behind (outer text) tokens a.faultless.leaves a.faultless.bodies) tree (some_leaves (outer text) tokens a.faultless n)
@@ -244,19 +216,15 @@ module _ (text : List ℕ) (tokens : List Item) where
       last_of e AtEnd x
       ∙ (last_open e (behind (outer text) tokens x.leaves x.bodies) (some_leaves (outer text) tokens x n) (derive_not_whole (outer text) commands tokens d) ∙ sym h)
 
-  fault_said : (other answer : Answer) → FaultOr text tokens other answer → or_fault other (judged (outer text) tokens) ≡ answer
-  fault_said other answer (inl (f, x, h)) = ap (λ r. or_fault other r) (fault_judged (outer text) commands tokens f x) ∙ sym h
-  fault_said other answer (inr (x, h)) = ap (λ r. or_fault other r) (faultless_judged (outer text) commands tokens x) ∙ sym h
+  cut_said : (at : ℕ) (answer : Answer) → FaultOr text tokens (cut_answer text tokens at) answer → last true (Cut at) ≡ answer
+  cut_said at answer (inl (f, x, h)) = ap (λ r. at_last true text wait r (Cut at)) (fault_judged (outer text) commands tokens f x) ∙ sym h
+  cut_said at answer (inr (x, h)) = last_of true (Cut at) x ∙ sym h
 
   end_said : (e : Bool) (ending : Ending) (answer : Answer) → EndSays e text tokens ending answer → last e ending ≡ answer
   end_said true AtEnd answer h = ends_said true answer h
   end_said false AtEnd answer h = ends_said false answer h
-  end_said true Cut answer h = cut_is (judged (outer text) tokens) ∙ fault_said (Err (Unclosed (length text))) answer h
-  end_said true (Nul place) answer h = nul_is place (judged (outer text) tokens) ∙ fault_said (Err (Refused place)) answer h
-  end_said true (Deep place) answer h = deep_is place (judged (outer text) tokens) ∙ fault_said (Err (TooDeep place)) answer h
-  end_said false Cut answer h = more_is Cut (λ x. cc) (judged (outer text) tokens) ∙ sym h
-  end_said false (Nul place) answer h = more_is (Nul place) (λ x. cc) (judged (outer text) tokens) ∙ sym h
-  end_said false (Deep place) answer h = more_is (Deep place) (λ x. cc) (judged (outer text) tokens) ∙ sym h
+  end_said true (Cut at) answer h = cut_said at answer h
+  end_said false (Cut at) answer h = more_is at (judged (outer text) tokens) ∙ sym h
 
 -- one token more
 silent_push : (text : List ℕ) (start before : List Item) (t : Item) → AreSilent text start before → (is_newline t.token.kind ≡ true → IsSilent text (start ++ before) t)
@@ -297,7 +265,7 @@ module _ (table : AliasTable) (e : Bool) (text : List ℕ) (ending : Ending) whe
 
   sound : (tokens before : List Item) → AreTokens before → AreTokens tokens → AreSilent text [] before → Decides (before ++ tokens) (from before tokens)
   sound [] before a n s =
-      subst (λ x. Decides x (at_last e (length text) (judged (outer text) before) ending)) (sym (append-nil before)) (inr (record { silent = s; says = end_told text before e a ending }))
+      subst (λ x. Decides x (at_last e text (waiting_behind nothing before) (judged (outer text) before) ending)) (sym (append-nil before)) (inr (record { silent = s; says = end_told text before e a ending }))
   sound (t ∷ tokens) before a n s =
       subst (λ x. Decides (before ++ t ∷ tokens) x) (sym (from_next before t tokens))
       (sound_step before t tokens (from (before ++ t ∷ []) tokens) (is_newline t.token.kind) (says_at table text before t) a s refl refl

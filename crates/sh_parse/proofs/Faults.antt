@@ -1,5 +1,6 @@
 -- The faults of a text's tokens, and what ends these, stand in the text.
 use Rattle.std.proofs.Common.{◌≡◌, inl, inr, ℕ, zero, suc, ◌+◌, ◌-◌, ◌<◌, ◌≤◌, nat_eq, Bool, true, List, [], ◌∷◌, ◌++◌, length, take, drop, min, Option, Some, None, Result, refl, sym, subst, arith}
+use Rattle.std.specs.Option.{unwrap_or}
 use Rattle.std.proofs.Math.Nat.{min-le_right}
 use Rattle.std.proofs.lemmas.List.{length-take, length-drop}
 use Rattle.std.proofs.lemmas.List.Quantifiers.{position-Some}
@@ -12,11 +13,13 @@ use Rattle.sh_parse_lines.specs.declared.item.Item.{Item}
 use Rattle.sh_parse_lines.specs.Bodies.{bodies_size}
 use Rattle.sh_parse_lines.specs.Waiting.{Waiting, nothing, behind_token, due_at}
 use Rattle.sh_parse_lines.specs.Items.{FirstItem, FoundItem, NoItem, first_item, item_of, with_bodies, with_nul, no_end}
-use Rattle.sh_parse_lines.specs.Stream.{Ending, AtEnd, Cut, Nul, Deep, Items, with_item, with_first, ending_at, items_from, items_of}
+use Rattle.sh_parse_lines.specs.Stream.{Ending, AtEnd, Cut, Items, with_item, with_first, items_from, items_of, waiting_behind}
 use Rattle.sh_parse_words.specs.declared.fault.PartFault.{PartFault}
 use Rattle.sh_parse_programs.specs.Words.{Reader}
+use Rattle.sh_parse_words.specs.declared.fault.PartFault.TheVariants as fault
+use Rattle.sh_parse_programs.specs.Cuts.{told_of, cut_fault}
 use Rattle.sh_parse_programs.specs.Programs.{program_in, programs}
-use Rattle.sh_parse_programs.specs.Defined.{Judge, waiting_behind, opened, HasFault, refused, too_deep, in_word, in_body, FirstFault, EndIs, inner, IsProgram}
+use Rattle.sh_parse_programs.specs.Defined.{Judge, opened, cut_at, HasFault, refused, too_deep, in_word, in_body, FirstFault, EndIs, inner, IsProgram}
 use Rattle.sh_parse_programs.proofs.Texts.{program_defined}
 use Rattle.sh_parse.specs.Insides.{AreInside}
 use Rattle.sh_parse.proofs.Insides.{found_inside, inside_of}
@@ -25,9 +28,7 @@ use Rattle.sh_parse_programs.proofs.Within.{FaultIn, FaultsIn, leaf_in, bodies_i
 -- what ends the items of a text
 abbrev pub EndingIn : ℕ → Ending → Type 0
 EndingIn size AtEnd = Unit {0}
-EndingIn size Cut = Unit {0}
-EndingIn size (Nul place) = place ≤ size
-EndingIn size (Deep place) = place ≤ size
+EndingIn size (Cut at) = at ≤ size
 
 abbrev FirstIn : ℕ → FirstToken → Type 0
 FirstIn size (Found kind start stop) = Unit {0}
@@ -62,22 +63,22 @@ with_bodies_in size kind start stop bs h (Some n) =
     let a = taken_size n bs in
     with_nul_in size kind start stop n (take n bs) (omega (a, h, arith)) (nul_in (take n bs)) refl
 
-item_of_in : (e : Bool) (w : Waiting) (bytes : List ℕ) (f : FirstToken) → IsFirst e bytes f → NoItemIn (length bytes) (item_of e w bytes f)
-item_of_in e w bytes (Found kind start stop) x =
+item_of_in : (e : Bool) (limit : ℕ) (w : Waiting) (bytes : List ℕ) (f : FirstToken) → IsFirst e limit bytes f → NoItemIn (length bytes) (item_of e w bytes f)
+item_of_in e limit w bytes (Found kind start stop) x =
     let rest = x.0.1.0 in
     let to : stop + length rest ≡ length bytes = x.0.1.3 in
     let a : length (drop stop bytes) ≡ length bytes - stop = length-drop stop bytes in
     with_bodies_in (length bytes) kind start stop (drop stop bytes) (omega (to, a, arith)) (bodies_size e (due_at kind w) (drop stop bytes))
-item_of_in e w bytes Unfinished x = tt
-item_of_in e w bytes (NulAt place) x = let a = nul_place bytes place x.2 in omega (a, arith)
-item_of_in e w bytes (DeepAt place) x =
+item_of_in e limit w bytes Unfinished x = tt
+item_of_in e limit w bytes (NulAt place) x = let a = nul_place bytes place x.2 in omega (a, arith)
+item_of_in e limit w bytes (DeepAt place) x =
     let rest = x.0.0 in
     let to : place + length rest ≡ length bytes = x.0.2 in
     omega (to, arith)
 
-first_item_in : (e : Bool) (w : Waiting) (bytes : List ℕ) → NoItemIn (length bytes) (first_item e w bytes)
+first_item_in : (e : Bool) (limit : ℕ) (w : Waiting) (bytes : List ℕ) → NoItemIn (length bytes) (first_item e limit w bytes)
 unfolding first_item
-first_item_in e w bytes = item_of_in e w bytes (first_token e bytes) (is_first e bytes)
+first_item_in e limit w bytes = item_of_in e limit w bytes (first_token e limit bytes) (is_first e limit bytes)
 
 item_ending : (size : ℕ) (kind : TokenKind) (start stop after : ℕ) (others : Items) → ((kind ≡ TokenKind.End → ⊥) → EndingIn size others.ending)
     → EndingIn size (with_item kind start stop after others).ending
@@ -86,25 +87,38 @@ item_ending size (TokenKind.Operator o) start stop after others h = h (λ x. cc)
 item_ending size TokenKind.Number start stop after others h = h (λ x. cc)
 item_ending size (TokenKind.Word ms) start stop after others h = h (λ x. cc)
 
-no_item_ending : (at : ℕ) (text : List ℕ) → at ≤ length text → (f : FirstToken) → FirstIn (length (drop at text)) f → EndingIn (length text) (ending_at at f)
-no_item_ending at text l (Found kind start stop) h = tt
-no_item_ending at text l Unfinished h = tt
-no_item_ending at text l (NulAt place) h = let a : length (drop at text) ≡ length text - at = length-drop at text in omega (a, l, h, arith)
-no_item_ending at text l (DeepAt place) h = let a : length (drop at text) ≡ length text - at = length-drop at text in omega (a, l, h, arith)
+-- what is told where the tokens break off
+abbrev pub SomeIn : ℕ → Option PartFault → Type 0
+SomeIn size None = Unit {0}
+SomeIn size (Some f) = FaultIn size f
+
+told_in : (at : ℕ) (text : List ℕ) → at ≤ length text → (first : FirstItem) → NoItemIn (length (drop at text)) first → SomeIn (length text) (told_of at first)
+told_in at text l (FoundItem kind start stop after) h = tt
+told_in at text l (NoItem (Found kind start stop)) h = tt
+told_in at text l (NoItem Unfinished) h = tt
+told_in at text l (NoItem (NulAt place)) h = let a : length (drop at text) ≡ length text - at = length-drop at text in omega (a, l, h, arith)
+told_in at text l (NoItem (DeepAt place)) h = let a : length (drop at text) ≡ length text - at = length-drop at text in omega (a, l, h, arith)
+
+pub cut_fault_in : (left : ℕ) (text : List ℕ) (w : Waiting) (at : ℕ) → at ≤ length text → SomeIn (length text) (cut_fault left text w at)
+unfolding cut_fault
+cut_fault_in left text w at l = told_in at text l (first_item true left w (drop at text)) (first_item_in true left w (drop at text))
+
+cut_short_in : (size : ℕ) (o : Option PartFault) → SomeIn size o → FaultIn size (unwrap_or o (fault.Refused size))
+cut_short_in size None h = omega arith
+cut_short_in size (Some f) h = h
 
 first_ending : (e : Bool) (text : List ℕ) (w : Waiting) (at : ℕ) → at ≤ length text → (others : Waiting → ℕ → Items)
     → ((v : Waiting) (place : ℕ) → place ≤ length text → EndingIn (length text) (others v place).ending)
-    → (first : FirstItem) → first_item e w (drop at text) ≡ first → EndingIn (length text) (with_first others w at first).ending
-first_ending e text w at l others more (NoItem fault) h =
-    no_item_ending at text l fault (subst (λ x. NoItemIn (length (drop at text)) x) h (first_item_in e w (drop at text)))
+    → (first : FirstItem) → first_item e (length text) w (drop at text) ≡ first → EndingIn (length text) (with_first others w at first).ending
+first_ending e text w at l others more (NoItem fault) h = l
 first_ending e text w at l others more (FoundItem kind start stop after) h =
     item_ending (length text) kind (at + start) (at + stop) (at + after) (others (behind_token kind w) (at + after)) (λ k.
     more (behind_token kind w) (at + after) (found_inside e text w at l kind start stop after k h).inside)
 
 ending_from : (n : ℕ) (e : Bool) (text : List ℕ) (w : Waiting) (at : ℕ) → at ≤ length text → EndingIn (length text) (items_from n e text w at).ending
-ending_from zero e text w at l = tt
+ending_from zero e text w at l = l
 ending_from (suc n) e text w at l =
-    first_ending e text w at l (λ v place. items_from n e text v place) (λ v place m. ending_from n e text v place m) (first_item e w (drop at text)) refl
+    first_ending e text w at l (λ v place. items_from n e text v place) (λ v place m. ending_from n e text v place m) (first_item e (length text) w (drop at text)) refl
 
 pub ending_in : (e : Bool) (text : List ℕ) → EndingIn (length text) (items_of e text).ending
 ending_in e text = ending_from (suc (length text)) e text nothing 0 (omega arith)
@@ -141,9 +155,9 @@ first_fault_in g reads tokens f i x =
 end_is_in : (g : Judge) (tokens : List Item) (ending : Ending) (answer : Result Complete PartFault) → EndingIn (length g.text) ending → EndIs g tokens ending answer → FaultsIn (length g.text) answer
 end_is_in g tokens AtEnd answer i (inl (tree, a, h)) = subst (λ x. FaultsIn (length g.text) x) (sym h) tt
 end_is_in g tokens AtEnd answer i (inr (d, h)) = subst (λ x. FaultsIn (length g.text) x) (sym h) (omega arith)
-end_is_in g tokens Cut answer i h = subst (λ x. FaultsIn (length g.text) x) (sym h) (omega arith)
-end_is_in g tokens (Nul place) answer i h = subst (λ x. FaultsIn (length g.text) x) (sym h) i
-end_is_in g tokens (Deep place) answer i h = subst (λ x. FaultsIn (length g.text) x) (sym h) i
+end_is_in g tokens (Cut at) answer i h =
+    subst (λ x. FaultsIn (length g.text) x) (sym h)
+    (cut_short_in (length g.text) (cut_at g tokens at) (cut_fault_in (g.left - opened g tokens) g.text (waiting_behind nothing tokens) at i))
 
 -- the texts of substitutions
 program_told_in : (read : Reader) → ReadsIn read → (left : ℕ) (text : List ℕ) (answer : Result Complete PartFault) → IsProgram read left text answer → FaultsIn (length text) answer

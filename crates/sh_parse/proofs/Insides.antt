@@ -18,17 +18,17 @@ use Rattle.sh_parse_lines.proofs.Defined.{bodies_defined}
 use Rattle.sh_parse.specs.Insides.{AreInside}
 
 -- the first token stands in its text
-first_placed : (e : Bool) (text : List ℕ) (at : ℕ) (kind : TokenKind) (start stop : ℕ) → first_token e (drop at text) ≡ Found kind start stop
+first_placed : (e : Bool) (limit : ℕ) (text : List ℕ) (at : ℕ) (kind : TokenKind) (start stop : ℕ) → first_token e limit (drop at text) ≡ Found kind start stop
     → IsPlaced at (length text) (record { kind = kind; span = record { start = at + start; «end» = at + stop } })
-first_placed e text at kind start stop h =
-    let f : IsFirst e (drop at text) (Found kind start stop) = subst (λ x. IsFirst e (drop at text) x) h (is_first e (drop at text)) in
+first_placed e limit text at kind start stop h =
+    let f : IsFirst e limit (drop at text) (Found kind start stop) = subst (λ x. IsFirst e limit (drop at text) x) h (is_first e limit (drop at text)) in
     let front = f.0.0 in
     let rest = f.0.1.0 in
     let token = f.0.1.1 in
     let from : start + length front ≡ length (drop at text) = f.0.1.2 in
     let to : stop + length rest ≡ length (drop at text) = f.0.1.3 in
-    let c = complete e (drop at text) front rest kind token in
-    placed_shown e text at (drop at text) c.state front rest kind start stop refl c.is (sym c.kind_is) (omega (from, arith)) (omega (to, arith))
+    let c = complete e limit (drop at text) front rest kind token in
+    placed_shown e limit text at (drop at text) c.state front rest kind start stop refl c.is (sym c.kind_is) (omega (from, arith)) (omega (to, arith))
 
 -- and so does its item
 pub record ItemInside (at size start stop after : ℕ) : Type 0 where
@@ -78,15 +78,15 @@ module _ (e : Bool) (text : List ℕ) (w : Waiting) (at : ℕ) (l : at ≤ lengt
       let within : at + (b + n) ≤ length text = i.inside in
       record { ordered = omega (further, first, last, arith); behind = omega (last, same, arith); inside = omega (within, same, arith) }
 
-  by_token : (first : FirstToken) → first_token e (drop at text) ≡ first → item_of e w (drop at text) first ≡ FoundItem kind start stop after → ItemInside at (length text) start stop after
-  by_token (Found kind' a b) f h = by_bodies kind' a b (bodies_size e (due_at kind' w) (drop b (drop at text))) (first_placed e text at kind' a b f) refl h
+  by_token : (first : FirstToken) → first_token e (length text) (drop at text) ≡ first → item_of e w (drop at text) first ≡ FoundItem kind start stop after → ItemInside at (length text) start stop after
+  by_token (Found kind' a b) f h = by_bodies kind' a b (bodies_size e (due_at kind' w) (drop b (drop at text))) (first_placed e (length text) text at kind' a b f) refl h
   by_token Unfinished f h = absurd (cc)
   by_token (NulAt place) f h = absurd (cc)
   by_token (DeepAt place) f h = absurd (cc)
 
-  pub found_inside : first_item e w (drop at text) ≡ FoundItem kind start stop after → ItemInside at (length text) start stop after
+  pub found_inside : first_item e (length text) w (drop at text) ≡ FoundItem kind start stop after → ItemInside at (length text) start stop after
   unfolding first_item
-  found_inside h = by_token (first_token e (drop at text)) refl h
+  found_inside h = by_token (first_token e (length text) (drop at text)) refl h
 
 -- all items
 abbrev Stands : ℕ → ℕ → ℕ → ℕ → ℕ → List Item → Type 0
@@ -107,7 +107,7 @@ stands at size start stop after items i h =
 
 first_inside : (e : Bool) (text : List ℕ) (w : Waiting) (at : ℕ) → at ≤ length text → (others : Waiting → ℕ → Items)
     → ((v : Waiting) (place : ℕ) → place ≤ length text → AreInside place (length text) (others v place).items)
-    → (first : FirstItem) → first_item e w (drop at text) ≡ first → AreInside at (length text) (with_first others w at first).items
+    → (first : FirstItem) → first_item e (length text) w (drop at text) ≡ first → AreInside at (length text) (with_first others w at first).items
 first_inside e text w at l others more (NoItem wrong) h = tt
 first_inside e text w at l others more (FoundItem kind start stop after) h =
     item_inside at (length text) kind (at + start) (at + stop) (at + after) (others (behind_token kind w) (at + after)) (λ k.
@@ -117,7 +117,7 @@ first_inside e text w at l others more (FoundItem kind start stop after) h =
 inside_from : (n : ℕ) (e : Bool) (text : List ℕ) (w : Waiting) (at : ℕ) → at ≤ length text → AreInside at (length text) (items_from n e text w at).items
 inside_from zero e text w at l = tt
 inside_from (suc n) e text w at l =
-    first_inside e text w at l (λ v place. items_from n e text v place) (λ v place m. inside_from n e text v place m) (first_item e w (drop at text)) refl
+    first_inside e text w at l (λ v place. items_from n e text v place) (λ v place m. inside_from n e text v place m) (first_item e (length text) w (drop at text)) refl
 
 pub inside_of : (e : Bool) (text : List ℕ) → AreInside 0 (length text) (items_of e text).items
 inside_of e text = inside_from (suc (length text)) e text nothing 0 (omega arith)

@@ -1,22 +1,23 @@
 -- What is read is of its text, and no text has two readings.
-use Rattle.std.proofs.Common.{◌≡◌, ◌⊎◌, inl, inr, ℕ, ◌<◌, Bool, true, false, List, [], ◌∷◌, ◌++◌, length, Ok, Err, refl, sym, subst, ◌∙◌, arith}
+use Rattle.std.proofs.Common.{◌≡◌, ◌⊎◌, inl, inr, ℕ, ◌<◌, Bool, true, false, List, [], ◌∷◌, ◌++◌, length, Option, Some, None, ◌-◌, Ok, Err, refl, sym, subst, ◌∙◌, arith}
+use Rattle.std.specs.Option.{option_map, unwrap_or}
 use Rattle.sh_parse_lines.specs.declared.item.Item.{Item}
 use Rattle.sh_parse_lines.specs.Waiting.{nothing, due_at}
-use Rattle.sh_parse_lines.specs.Stream.{Ending, AtEnd, Cut, Nul, Deep, items_of}
+use Rattle.sh_parse_lines.specs.Stream.{Ending, AtEnd, Cut, items_of, waiting_behind}
 use Rattle.sh_parse_words.specs.declared.fault.PartFault.{PartFault}
 use Rattle.sh_parse_words.specs.declared.fault.PartFault.TheVariants as fault
 use Rattle.sh_parse_programs.specs.Programs.{read_text}
-use Rattle.sh_parse_programs.specs.Defined.{waiting_behind}
+use Rattle.sh_parse_programs.specs.Defined.{opened, cut_at}
 use Rattle.sh_parse.specs.Aliases.{AliasTable}
 use Rattle.sh_parse.specs.Reading.{Answer, fault_of, reading}
 use Rattle.sh_parse.specs.declared.Reading.TheVariants.{Complete, Blank, More}
-use Rattle.sh_parse.specs.declared.ParseFault.TheVariants.{Refused, Unclosed, TooDeep}
-use Rattle.sh_parse.specs.Defined.{outer, Says, blank_line, faulty_line, whole_line, faulty_bodies, faulty_newline, Ends, blank_text, faulty_text, whole_text, open_text, FaultOr, EndSays, IsReading}
+use Rattle.sh_parse.specs.declared.ParseFault.TheVariants.{Unclosed}
+use Rattle.sh_parse.specs.Defined.{outer, Says, blank_line, faulty_line, whole_line, faulty_bodies, faulty_newline, Ends, blank_text, faulty_text, whole_text, open_text, FaultOr, cut_answer, EndSays, IsReading}
 use Rattle.sh_parse.specs.Insides.{IsInside, AreInside}
 use Rattle.sh_parse.proofs.Decisions.{reading_defined}
 use Rattle.sh_parse.proofs.Insides.{inside_of, one_inside, some_inside}
 use Rattle.sh_parse_programs.proofs.Within.{FaultIn, FaultsIn, bodies_in}
-use Rattle.sh_parse.proofs.Faults.{EndingIn, ending_in, token_in, ReadsIn, has_fault_in, first_fault_in, programs_in}
+use Rattle.sh_parse.proofs.Faults.{SomeIn, cut_fault_in, EndingIn, ending_in, token_in, ReadsIn, has_fault_in, first_fault_in, programs_in}
 
 texts_in : ReadsIn read_text
 texts_in = programs_in 501
@@ -69,15 +70,16 @@ or_inside e text tokens other answer i o (inl (f, x, h)) =
     told e text answer (Err (fault_of f)) h (fault_inside e text f (first_fault_in (outer text) texts_in tokens f i x))
 or_inside e text tokens other answer i o (inr (x, h)) = told e text answer other h o
 
+cut_inside : (text : List ℕ) (o : Option PartFault) → SomeIn (length text) o → IsInside true text (Err (unwrap_or (option_map fault_of o) (Unclosed (length text))))
+cut_inside text None i = refl
+cut_inside text (Some f) i = fault_inside true text f i
+
 end_inside : (e : Bool) (text : List ℕ) (tokens : List Item) (ending : Ending) (answer : Answer) → AreInside 0 (length text) tokens → EndingIn (length text) ending
     → EndSays e text tokens ending answer → IsInside e text answer
 end_inside e text tokens AtEnd answer i o h = text_inside e text tokens answer i h
-end_inside true text tokens Cut answer i o h = or_inside true text tokens (Err (Unclosed (length text))) answer i refl h
-end_inside true text tokens (Nul place) answer i o h = or_inside true text tokens (Err (Refused place)) answer i o h
-end_inside true text tokens (Deep place) answer i o h = or_inside true text tokens (Err (TooDeep place)) answer i o h
-end_inside false text tokens Cut answer i o h = told false text answer (Ok More) h refl
-end_inside false text tokens (Nul place) answer i o h = told false text answer (Ok More) h refl
-end_inside false text tokens (Deep place) answer i o h = told false text answer (Ok More) h refl
+end_inside true text tokens (Cut at) answer i o h =
+    or_inside true text tokens (cut_answer text tokens at) answer i (cut_inside text (cut_at (outer text) tokens at) (cut_fault_in (500 - opened (outer text) tokens) text (waiting_behind nothing tokens) at o)) h
+end_inside false text tokens (Cut at) answer i o h = told false text answer (Ok More) h refl
 
 answer_inside : (table : AliasTable) (e : Bool) (text : List ℕ) (answer : Answer) → IsReading table e text answer → IsInside e text answer
 answer_inside table e text answer (inl n) =

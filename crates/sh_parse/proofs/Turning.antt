@@ -46,12 +46,12 @@ first_found others w at (FoundItem kind start stop after) t e h =
 abbrev behind : ℕ → Bool → List ℕ → Waiting → Item → Items
 behind n e text w t = items_from n e text (behind_token t.token.kind w) t.«end»
 
-next_found : (n : ℕ) (table : AliasTable) (e : Bool) (text : List ℕ) (before : Result Judged PartFault) (w : Waiting) (at : ℕ) (t : Item) → Ok t ≡ item_at at (first_item e w (drop at text)) → (t.token.kind ≡ TokenKind.End → ⊥)
+next_found : (n : ℕ) (table : AliasTable) (e : Bool) (text : List ℕ) (before : Result Judged PartFault) (w : Waiting) (at : ℕ) (t : Item) → Ok t ≡ item_at at (first_item e (length text) w (drop at text)) → (t.token.kind ≡ TokenKind.End → ⊥)
     → read_from (suc n) table e text before w at ≡ decided table e text w before (t ∷ (behind n e text w t).items) (behind n e text w t).ending
 next_found n table e text before w at t a h =
-    ap (λ (x : Items). decided table e text w before x.items x.ending) (first_found (λ v place. items_from n e text v place) w at (first_item e w (drop at text)) t a h)
+    ap (λ (x : Items). decided table e text w before x.items x.ending) (first_found (λ v place. items_from n e text v place) w at (first_item e (length text) w (drop at text)) t a h)
 
-pub taken_turns : (table : AliasTable) (e : Bool) (text : List ℕ) (before : Result Judged PartFault) (w : Waiting) (at : ℕ) (t : Item) (answer : Result Turn ParseFault) → Ok t ≡ item_at at (first_item e w (drop at text)) → (t.token.kind ≡ TokenKind.End → ⊥)
+pub taken_turns : (table : AliasTable) (e : Bool) (text : List ℕ) (before : Result Judged PartFault) (w : Waiting) (at : ℕ) (t : Item) (answer : Result Turn ParseFault) → Ok t ≡ item_at at (first_item e (length text) w (drop at text)) → (t.token.kind ≡ TokenKind.End → ⊥)
     → IsItemPlaced at (length text) t → at ≤ length text → Takes table e text before w t t.«end» answer → Turns table e text before w at answer
 taken_turns table e text before w at t (Ok (Turn.On front v place)) a h p l takes =
     let further : t.token.span.start < t.token.span.«end» = p.token.advances h in

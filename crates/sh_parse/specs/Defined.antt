@@ -1,19 +1,20 @@
 -- What a text reads as, by derivations: which answer it has at its first decision place that says anything (XCU 2.1, 2.3, 2.10).
 use Rattle.std.specs.Prelude.{◌≡◌, ◌⊎◌, ℕ, Bool, true, false, List, [], ◌∷◌, ◌++◌, length, Result, Ok, Err}
+use Rattle.std.specs.Option.{option_map, unwrap_or}
 use Rattle.sh_token_base.specs.Shell.{complete}
 use Rattle.sh_tree.specs.declared.tree.Complete.{Complete as Tree}
 use Rattle.sh_tree.specs.declared.tree.Parts.{Parts}
 use Rattle.sh_parse_lines.specs.declared.item.Item.{Item}
 use Rattle.sh_parse_lines.specs.Waiting.{nothing, due_at}
-use Rattle.sh_parse_lines.specs.Stream.{Ending, AtEnd, Cut, Nul, Deep, items_of}
+use Rattle.sh_parse_lines.specs.Stream.{Ending, AtEnd, Cut, items_of, waiting_behind}
 use Rattle.sh_parse_words.specs.declared.fault.PartFault.{PartFault}
 use Rattle.sh_parse_programs.specs.Documents.{bodies_of}
 use Rattle.sh_parse_programs.specs.Programs.{read_text}
-use Rattle.sh_parse_programs.specs.Defined.{Judge, Derive, waiting_behind, HasFault, AreFaultless, FirstFault, AreTree}
+use Rattle.sh_parse_programs.specs.Defined.{Judge, Derive, HasFault, AreFaultless, FirstFault, AreTree, cut_at}
 use Rattle.sh_parse.specs.Aliases.{AliasTable}
 use Rattle.sh_parse.specs.Reading.{Answer, fault_of, is_newline}
 use Rattle.sh_parse.specs.declared.Reading.TheVariants.{Complete, Blank, More}
-use Rattle.sh_parse.specs.declared.ParseFault.TheVariants.{Refused, Unclosed, TooDeep}
+use Rattle.sh_parse.specs.declared.ParseFault.TheVariants.{Unclosed}
 
 -- how the tokens of a text are judged
 abbrev pub outer : List ℕ → Judge
@@ -62,15 +63,16 @@ abbrev pub FaultOr : List ℕ → List Item → Answer → Answer → Type 0
 FaultOr text tokens other answer =
     ((f : PartFault) × FirstFault (outer text) tokens f × (answer ≡ Err (fault_of f))) ⊎ (AreFaultless (outer text) tokens × (answer ≡ other))
 
+-- what is told where no token begins behind these, from `at` on, at the end of the input: a NUL or a level too many that stands there, or
+-- else that the text is unclosed
+abbrev pub cut_answer : List ℕ → List Item → ℕ → Answer
+cut_answer text tokens at = Err (unwrap_or (option_map fault_of (cut_at (outer text) tokens at)) (Unclosed (length text)))
+
 -- what the end of the text says: it is a decision place where nothing comes behind it
 abbrev pub EndSays : Bool → List ℕ → List Item → Ending → Answer → Type 0
 EndSays e text tokens AtEnd answer = Ends text tokens answer
-EndSays true text tokens Cut answer = FaultOr text tokens (Err (Unclosed (length text))) answer
-EndSays true text tokens (Nul place) answer = FaultOr text tokens (Err (Refused place)) answer
-EndSays true text tokens (Deep place) answer = FaultOr text tokens (Err (TooDeep place)) answer
-EndSays false text tokens Cut answer = answer ≡ Ok More
-EndSays false text tokens (Nul place) answer = answer ≡ Ok More
-EndSays false text tokens (Deep place) answer = answer ≡ Ok More
+EndSays true text tokens (Cut at) answer = FaultOr text tokens (cut_answer text tokens at) answer
+EndSays false text tokens (Cut at) answer = answer ≡ Ok More
 
 -- a newline is the first decision place that says anything
 pub record NewlineDecides (text : List ℕ) (tokens : List Item) (answer : Answer) : Type 0 where

@@ -74,8 +74,9 @@ impl From<AllocError> for ParseFault {
 /// replaced yet.
 ///
 /// The reading is decided at the first newline token behind its bodies, or end of the input, at which the tokens before it are none, are
-/// a complete command, or have a fault, of which the one at the least place is told. Behind a NUL, and behind a word that opens 501
-/// levels by itself, there are no tokens, so that the end of the input alone decides there; a word that isn't finished is none.
+/// a complete command, or have a fault, of which the one at the least place is told. Behind a NUL there are no tokens, so that the end
+/// of the input alone decides there; a word that isn't finished is none, and only a level too many in it is told then, counted from the
+/// command as all levels are.
 ///
 /// After `Complete` or `Blank` the next reading begins `used` bytes further on. After `More` it begins at the same byte, in a longer text
 /// or at the end of the input. Where to go on after a fault is for the caller to say; want of memory leaves it open what the text reads

@@ -1,7 +1,7 @@
 //! One turn of a reading: the next token, and what it decides.
-ghost use Rattle.std.specs.Prelude.{◌≡◌, ◌≤◌, Bool, true, length, Some, IfOk, IfErr};
-ghost use Rattle.sh_parse_lines.specs.Stream.{AtEnd};
-ghost use Rattle.sh_parse_lines.specs.Scanned.{ending_of};
+ghost use Rattle.std.specs.Prelude.{◌≡◌, ◌≤◌, ℕ, Bool, List, true, length, IfOk, IfErr};
+ghost use Rattle.sh_parse_lines.specs.Stream.{AtEnd, Cut};
+ghost use Rattle.sh_parse_lines.specs.Waiting.{Waiting};
 ghost use Rattle.sh_parse_programs.specs.Results.{and_then};
 ghost use Rattle.sh_parse_programs.specs.Documents.{bodies_of};
 ghost use Rattle.sh_parse_programs.specs.Judging.{with_item, are_whole};
@@ -16,6 +16,7 @@ use crate::fault::fault_of;
 use crate::{ParseFault, Reading};
 use sh_parse_lines::item::{Item, next_item};
 use sh_parse_lines::waiting::Waiting;
+use sh_parse_programs::cut::cut_fault;
 use sh_parse_programs::front::Front;
 use sh_parse_programs::program::{bodies_of, judge};
 use sh_parse_words::fault::PartFault;
@@ -51,7 +52,7 @@ pub(crate) fn next_turn(
     requires { at ≤ length text.now }
     ensures { Turns aliases.now at_end text.now judged waiting at result }
 {
-    match next_item(alloc, text, at, at_end, &waiting) {
+    match next_item(alloc, text, at, at_end, text.len(), &waiting) {
         Ok(item) => {
             let TokenKind::End = item.token.kind else {
                 return take(alloc, text, aliases, judged, waiting, item);
@@ -60,8 +61,8 @@ pub(crate) fn next_turn(
             Ok(Turn::Read(reading))
         },
         Err(TokenFault::NoMemory) => Err(ParseFault::NoMemory),
-        Err(fault) => {
-            let reading = cut(text.len(), at_end, judged, fault)?;
+        Err(_) => {
+            let reading = cut(alloc, text, at_end, judged, &waiting, at)?;
             Ok(Turn::Read(reading))
         },
     }
@@ -184,7 +185,7 @@ fn complete(
 
 /// Decides at the end of the input.
 fn end(size: usize, judged: Result<Front, PartFault>) -> Result<Reading, ParseFault>
-    ensures { (e : Bool) → Answers result (at_last e size judged AtEnd) }
+    ensures { (e : Bool) (text : List ℕ) (w : Waiting) → length text ≡ size → Answers result (at_last e text w judged AtEnd) }
 {
     let front = match judged {
         Ok(front) => front,
@@ -199,26 +200,28 @@ fn end(size: usize, judged: Result<Front, PartFault>) -> Result<Reading, ParseFa
     }
 }
 
-/// Decides where no token comes behind these, for this reason.
+/// Decides where no token begins behind these, from this place on.
 fn cut(
-    size: usize,
+    alloc: Global,
+    text: &[u8],
     at_end: bool,
     judged: Result<Front, PartFault>,
-    fault: TokenFault,
+    waiting: &Waiting,
+    at: usize,
 ) -> Result<Reading, ParseFault>
-    ensures { Answers result (at_last at_end size judged (ending_of (Some fault))) }
+    ensures { Answers result (at_last at_end text.now waiting.now judged (Cut at)) }
 {
     if !at_end {
         return Ok(Reading::More);
     }
-    if let Err(fault) = judged {
-        return Err(fault_of(fault));
-    }
-    match fault {
-        TokenFault::Unfinished => Err(ParseFault::Unclosed { at: size }),
-        TokenFault::NulByte { at } => Err(ParseFault::Refused { at }),
-        TokenFault::TooDeep { at } => Err(ParseFault::TooDeep { at }),
-        TokenFault::NoMemory => Err(ParseFault::NoMemory),
+    let front = match judged {
+        Ok(front) => front,
+        Err(fault) => return Err(fault_of(fault)),
+    };
+    let left = LEVELS.saturating_sub(front.open());
+    match cut_fault(alloc, left, text, waiting, at)? {
+        Some(fault) => Err(fault_of(fault)),
+        None => Err(ParseFault::Unclosed { at: text.len() }),
     }
 }
 

@@ -1,3 +1,4 @@
 pub mod Spelled
 pub mod Given
 pub mod Scanned
+pub mod Levels

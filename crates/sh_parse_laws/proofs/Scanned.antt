@@ -474,13 +474,13 @@ no_end : (a b : Bool) → (not a && b) ≡ true → (a ≡ false) × (b ≡ true
 no_end true b h = cc
 no_end false b h = (refl, h)
 
-run : (base : List Context) → Base base → (e : Bool) (ms before done : List Mark) (xs : List Context) (bytes rest : List ℕ) → State base before xs → AreMarks e done xs ms bytes rest → (is_body (top_of base) ≡ false → ends_none done xs ms ≡ true) → State base (before ++ ms) (contexts_behind done xs ms)
-run base b e [] before done xs bytes rest s a g = subst (λ ls. State base ls xs) (sym (append-nil before)) s
-run base b e (m ∷ ms) before done [] bytes rest s a g = absurd a
-run base b e (m ∷ ms) before done (x ∷ xs) bytes rest s a g =
+run : (base : List Context) → Base base → (e : Bool) (limit : ℕ) (ms before done : List Mark) (xs : List Context) (bytes rest : List ℕ) → State base before xs → AreMarks e limit done xs ms bytes rest → (is_body (top_of base) ≡ false → ends_none done xs ms ≡ true) → State base (before ++ ms) (contexts_behind done xs ms)
+run base b e limit [] before done xs bytes rest s a g = subst (λ ls. State base ls xs) (sym (append-nil before)) s
+run base b e limit (m ∷ ms) before done [] bytes rest s a g = absurd a
+run base b e limit (m ∷ ms) before done (x ∷ xs) bytes rest s a g =
     let next = a_piece base b e a.0 done before m x xs (x ∷ xs) refl s a.1.fits (λ h. (no_end (ends_token m (behind done x xs m)) (ends_none (done ++ m ∷ []) (behind done x xs m) ms) (g h)).0) in
     subst (λ ls. State base ls (contexts_behind (done ++ m ∷ []) (behind done x xs m) ms)) (append_assoc before (m ∷ []) ms)
-    (run base b e ms (before ++ m ∷ []) (done ++ m ∷ []) (behind done x xs m) a.0 rest next a.2 (λ h. (no_end (ends_token m (behind done x xs m)) (ends_none (done ++ m ∷ []) (behind done x xs m) ms) (g h)).1))
+    (run base b e limit ms (before ++ m ∷ []) (done ++ m ∷ []) (behind done x xs m) a.0 rest next a.2 (λ h. (no_end (ends_token m (behind done x xs m)) (ends_none (done ++ m ∷ []) (behind done x xs m) ms) (g h)).1))
 
 -- ---- words and bodies
 no_commands_below : (x : Context) (xs inner tail : List Context) (ts : Tokens) → x ∷ xs ≡ inner ++ Commands ts ∷ tail → no_text inner ≡ true → is_word x ≡ true → is_text (top_of xs) ≡ true → ⊥
@@ -523,20 +523,20 @@ kind_by : (number : Bool) (ms : List Mark) → Nested ms → NestedKind (if numb
 kind_by true ms w = tt
 kind_by false ms w = w
 
-token_nested : (e : Bool) (gap : List Mark) (front rest : List ℕ) (kind : TokenKind) → IsToken e gap front rest kind → NestedKind kind
-token_nested e gap front rest kind (tokens.ending a b c) = tt
-token_nested e gap front rest kind (tokens.operator o m) = tt
-token_nested e gap front rest kind (tokens.word ms r x xs middle marks going contexts last text) =
+token_nested : (e : Bool) (limit : ℕ) (gap : List Mark) (front rest : List ℕ) (kind : TokenKind) → IsToken e limit gap front rest kind → NestedKind kind
+token_nested e limit gap front rest kind (tokens.ending a b c) = tt
+token_nested e limit gap front rest kind (tokens.operator o m) = tt
+token_nested e limit gap front rest kind (tokens.word ms r x xs middle marks going contexts last text) =
     let base = Word (length gap) ∷ Top ∷ [] in
-    let s = run base (of_word (length gap)) e ms [] (gap ++ mark.WordOpen ∷ []) base marks.0 middle (in_forms (flat [] spells.none)) marks.2 (λ h. going) in
+    let s = run base (of_word (length gap)) e limit ms [] (gap ++ mark.WordOpen ∷ []) base marks.0 middle (in_forms (flat [] spells.none)) marks.2 (λ h. going) in
     kind_by (is_number r ms) ms (finished_word base ms _ s x xs contexts (both (is_word x) _ last.fits).0 text)
 
-pub word_nested : (e : Bool) (bytes front rest : List ℕ) (ms : List Mark) → HasToken e bytes front rest (TokenKind.Word ms) → Nested ms
-word_nested e bytes front rest ms w = token_nested e w.gap front rest (TokenKind.Word ms) w.token
+pub word_nested : (e : Bool) (limit : ℕ) (bytes front rest : List ℕ) (ms : List Mark) → HasToken e limit bytes front rest (TokenKind.Word ms) → Nested ms
+word_nested e limit bytes front rest ms w = token_nested e limit w.gap front rest (TokenKind.Word ms) w.token
 
-pub body_nested : (bytes : List ℕ) (ms : List Mark) (place : List ℕ) → IsFront bytes ms place → Nested ms
-body_nested bytes ms place w =
-    finished_body (Body ∷ []) ms _ (run (Body ∷ []) of_body true ms [] [] (Body ∷ []) bytes w.last (in_forms (flat [] spells.none)) w.pieces (λ h. absurd (cc))) w.closed
+pub body_nested : (limit : ℕ) (bytes : List ℕ) (ms : List Mark) (place : List ℕ) → IsFront limit bytes ms place → Nested ms
+body_nested limit bytes ms place w =
+    finished_body (Body ∷ []) ms _ (run (Body ∷ []) of_body true limit ms [] [] (Body ∷ []) bytes w.last (in_forms (flat [] spells.none)) w.pieces (λ h. absurd (cc))) w.closed
 
 -- ---- behind bytes at the front
 data Cut (before g : List Mark) (m : Mark) (ms : List Mark) : Type 0 where

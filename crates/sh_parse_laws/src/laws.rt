@@ -1,8 +1,10 @@
 //! Laws on words.
-ghost use Rattle.std.specs.Prelude.{◌≡◌, ℕ, Bool, true, List, ◌++◌, Ok};
+ghost use Rattle.std.specs.Prelude.{◌≡◌, ◌≤◌, ℕ, Bool, true, List, ◌++◌, length, Ok};
 ghost use Rattle.std.specs.List.{list_all};
 ghost use Rattle.sh_scanner_base.specs.Told.{is_byte};
-ghost use Rattle.sh_scanner.specs.Body.{IsFront};
+ghost use Rattle.sh_scanner.specs.Body.{IsFront, TooDeepAt};
+ghost use Rattle.sh_scanner.specs.FirstToken.{DeepAt};
+ghost use Rattle.sh_scanner.specs.Found.{first_token, pieces_of_body};
 ghost use Rattle.sh_scanner.specs.Tokens.{HasToken};
 ghost use Rattle.sh_scanner.specs.declared.token.TokenKind.{TokenKind};
 ghost use Rattle.sh_scanner_base.specs.declared.mark.Mark.{Mark};
@@ -30,7 +32,14 @@ pub fn given_parts_are_spelled()
 /// Law: the pieces of each word of a text, and of each here-document's body, close each form that they open; and so do those behind bytes
 /// at a word's front, as those of an assignment's value behind its name and `=`.
 pub fn words_are_nested()
-    ensures words { (at_end : Bool) (bytes front rest : List ℕ) (pieces : List Mark) → HasToken at_end bytes front rest (TokenKind.Word pieces) → Nested pieces }
+    ensures words { (at_end : Bool) (levels : ℕ) (bytes front rest : List ℕ) (pieces : List Mark) → HasToken at_end levels bytes front rest (TokenKind.Word pieces) → Nested pieces }
     ensures values { (front pieces : List Mark) → list_all is_byte front ≡ true → Nested (front ++ pieces) → Nested pieces }
-    ensures bodies { (bytes : List ℕ) (pieces : List Mark) (place : List ℕ) → IsFront bytes pieces place → Nested pieces }
+    ensures bodies { (levels : ℕ) (bytes : List ℕ) (pieces : List Mark) (place : List ℕ) → IsFront levels bytes pieces place → Nested pieces }
+{}
+
+/// Law: no text opens as many levels as it has bytes. So where that many may be open, as where commands are read, no token and no body
+/// of a here-document is too deep to be found.
+pub fn no_text_opens_a_level_for_each_byte()
+    ensures tokens { (at_end : Bool) (levels : ℕ) (bytes : List ℕ) (place : ℕ) → length bytes ≤ levels → first_token at_end levels bytes ≡ DeepAt place → ⊥ }
+    ensures bodies { (levels : ℕ) (bytes : List ℕ) (place : ℕ) → length bytes ≤ levels → pieces_of_body levels bytes ≡ TooDeepAt place → ⊥ }
 {}

@@ -32,9 +32,9 @@ item_of e w bytes Unfinished = NoItem Unfinished
 item_of e w bytes (NulAt place) = NoItem (NulAt place)
 item_of e w bytes (DeepAt place) = NoItem (DeepAt place)
 
--- the first item of these bytes, where this waits; e: they are the last of the input
-unfoldable pub first_item : Bool → Waiting → List ℕ → FirstItem
-first_item e w bytes = item_of e w bytes (first_token e bytes)
+-- the first item of these bytes, where this waits and so many levels may be open; e: they are the last of the input
+unfoldable pub first_item : Bool → ℕ → Waiting → List ℕ → FirstItem
+first_item e limit w bytes = item_of e w bytes (first_token e limit bytes)
 
 -- the same in a text in which the bytes begin at `at`
 abbrev pub fault_at : ℕ → FirstToken → Result Item TokenFault

@@ -6,7 +6,7 @@ ghost use Rattle.sh_parse_lines.specs.Items.{GivesItem, item_at, first_item};
 
 use crate::bodies::bodies_size;
 use crate::waiting::Waiting;
-use sh_scanner::token::{Token, TokenFault, next_token};
+use sh_scanner::token::{Token, TokenFault, next_token_within};
 use std::alloc::Global;
 
 /// A token, and behind a newline the bodies of the here-documents that were due.
@@ -18,20 +18,22 @@ pub struct Item {
 }
 
 /// The first token of the text from the byte at `at` on, where this waits, with the bodies behind it. `at_end`: the text's
-/// end is that of the input, which cuts off a body that isn't over. The faults are those of a token; `Unfinished` also
-/// where a body isn't over and the input goes on; `NulByte` also for the first NUL in a body.
+/// end is that of the input, which cuts off a body that isn't over. `levels`: how many may be open in the token; no text opens
+/// as many as it has bytes. The faults are those of a token; `Unfinished` also where a body isn't over and the input goes on;
+/// `NulByte` also for the first NUL in a body.
 #[tactic(auto, unfolding(crate::specs::Items::first_item))]
 pub fn next_item(
     alloc: Global,
     text: &[u8],
     at: usize,
     at_end: bool,
+    levels: usize,
     waiting: &Waiting,
 ) -> Result<Item, TokenFault>
-    ensures answers { GivesItem result (item_at at (first_item at_end waiting.now (drop at text.now))) }
+    ensures answers { GivesItem result (item_at at (first_item at_end levels waiting.now (drop at text.now))) }
     ensures placed { IfOk result (λ item. IsItemPlaced at (length text.now) item) }
 {
-    let token = next_token(alloc, text, at, at_end)?;
+    let token = next_token_within(alloc, text, at, at_end, levels)?;
     let bytes = bytes_from(text, token.span.end);
     let due = waiting.due_at(&token.kind);
     let Some(size) = bodies_size(bytes, due, at_end) else {

@@ -13,12 +13,12 @@ use std::alloc::{AllocError, Global};
 pub struct Items {
     /// The tokens, but for the end of the input.
     pub items: Vec<Item>,
-    /// Why no token comes behind the last one; `None` where the end of the input does.
-    pub fault: Option<TokenFault>,
+    /// Where no token begins any more, since what stands there isn't finished or has a NUL; `None` where the end of the input comes.
+    pub cut: Option<usize>,
 }
 
 /// The tokens of a text (XCU 2.3), each newline with the bodies of the here-documents that are due at it (XCU 2.7.4), up to the
-/// end of the input or the first fault. `at_end`: the text's end is that of the input. The only error is want of memory. The time
+/// end of the input or what is no token. `at_end`: the text's end is that of the input. The only error is want of memory. The time
 /// is linear in the text, and so is the memory.
 pub fn scan_items(alloc: Global, text: &[u8], at_end: bool) -> Result<Items, AllocError>
     ensures { IfOk result (λ found. items_of at_end text.now ≡ all_items found) }
@@ -27,20 +27,20 @@ pub fn scan_items(alloc: Global, text: &[u8], at_end: bool) -> Result<Items, All
     let mut waiting = Waiting::new(alloc);
     let mut at = 0;
     loop {
-        match next_item(alloc, text, at, at_end, &waiting) {
+        match next_item(alloc, text, at, at_end, text.len(), &waiting) {
             Ok(item) => {
                 if let TokenKind::End = item.token.kind {
-                    return Ok(Items { items, fault: None });
+                    return Ok(Items { items, cut: None });
                 }
                 waiting.pass(&item.token.kind)?;
                 at = item.end;
                 items.push(item)?;
             },
             Err(TokenFault::NoMemory) => return Err(AllocError),
-            Err(fault) => {
+            Err(_) => {
                 return Ok(Items {
                     items,
-                    fault: Some(fault),
+                    cut: Some(at),
                 });
             },
         }

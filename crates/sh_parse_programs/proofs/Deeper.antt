@@ -1,13 +1,11 @@
 -- Texts nest no deeper than their levels: a substitution in a text has less levels left than the text.
-use Rattle.std.proofs.Common.{◌≡◌, ◌↔◌, ℕ, zero, suc, ◌-◌, ◌<◌, ◌≤◌, nat_eq, nat_lt, Bool, true, false, List, [], ◌∷◌, ◌++◌, length, drop, take, Option, Some, None, Result, Ok, Err, refl, sym, ap, subst, ◌∙◌, arith, if◌then◌else◌}
+use Rattle.std.proofs.Common.{◌≡◌, ◌↔◌, ℕ, zero, suc, ◌-◌, ◌<◌, ◌≤◌, nat_eq, nat_lt, Bool, true, false, List, [], ◌∷◌, ◌++◌, drop, take, Option, Some, None, Result, Ok, Err, refl, sym, ap, subst, ◌∙◌, arith, if◌then◌else◌}
 use Rattle.std.proofs.lemmas.Bool.{eqb-false}
 use Rattle.sh_scanner_base.specs.declared.here.Delimiter.{Delimiter}
 use Rattle.sh_scanner_base.specs.declared.mark.Mark.{Mark}
 use Rattle.sh_scanner_base.specs.declared.mark.Mark.TheVariants as mark
 use Rattle.sh_scanner_base.specs.Told.{literal_front}
 use Rattle.sh_scanner.specs.declared.token.TokenKind.{TokenKind}
-use Rattle.sh_scanner.specs.Body.{body_answer}
-use Rattle.sh_scanner.specs.Found.{pieces_of_body}
 use Rattle.sh_syntax.specs.declared.word.Span.{Span}
 use Rattle.sh_token_base.specs.Shell.{substitution}
 use Rattle.sh_tree.specs.declared.tree.Complete.{Complete}
@@ -17,7 +15,7 @@ use Rattle.sh_parse_documents.specs.declared.document.Document.{Document}
 use Rattle.sh_parse_documents.specs.Documents.{between, documents, place_at}
 use Rattle.sh_parse_lines.specs.declared.item.Item.{Item}
 use Rattle.sh_parse_lines.specs.Waiting.{Waiting, nothing, behind_token, due_at}
-use Rattle.sh_parse_lines.specs.Stream.{items_of}
+use Rattle.sh_parse_lines.specs.Stream.{items_of, waiting_behind}
 use Rattle.sh_parse_words.specs.declared.parameter.Braces.{Braces}
 use Rattle.sh_parse_words.specs.declared.build.Form.{Form}
 use Rattle.sh_parse_words.specs.declared.build.Form.TheVariants as form
@@ -294,7 +292,7 @@ items_same n read other agree text (i ∷ items) w j =
 program_same : (n : ℕ) (read other : Reader) → Agree n read other → (text : List ℕ) → program_in read n text ≡ program_in other n text
 unfolding program_in
 program_same n read other agree text =
-    ap (λ o. and_then o (λ j. ended_by (length text) j (items_of true text).ending)) (items_same n read other agree text (items_of true text).items nothing (none_of substitution))
+    ap (λ o. and_then o (λ j. ended_by n text (waiting_behind nothing (items_of true text).items) j (items_of true text).ending)) (items_same n read other agree text (items_of true text).items nothing (none_of substitution))
 
 -- a text with less levels left than this is the same, however deep texts may nest
 programs_same : (d : ℕ) → Agree d (programs d) (programs (suc d))

@@ -8,7 +8,8 @@ use Rattle.sh_parse_lines.specs.Waiting.{Waiting, nothing, behind_token, due_at}
 use Rattle.sh_parse_words.specs.declared.fault.PartFault.{PartFault}
 use Rattle.sh_parse_programs.specs.Results.{and_then}
 use Rattle.sh_parse_programs.specs.Judging.{IsShell, Judged, none_of, with_item, with_items}
-use Rattle.sh_parse_programs.specs.Defined.{Judge, waiting_behind, IsTaken, HasFault, AreTaken, AreFaultless, FirstFault}
+use Rattle.sh_parse_lines.specs.Stream.{waiting_behind}
+use Rattle.sh_parse_programs.specs.Defined.{Judge, IsTaken, HasFault, AreTaken, AreFaultless, FirstFault}
 use Rattle.sh_parse_programs.proofs.Taking.{behind, judged_next, Told, next_told, next_taken, next_fault}
 
 -- what waits behind one token more

@@ -1,4 +1,5 @@
 pub mod Shells
+pub mod Cutting
 pub mod Steps
 pub mod Fitting
 pub mod Taking

@@ -12,7 +12,7 @@ use Rattle.sh_parse_documents.specs.declared.document.Document.{Document}
 use Rattle.sh_parse_documents.specs.Documents.{between, documents, place_at}
 use Rattle.sh_parse_lines.specs.declared.item.Item.{Item}
 use Rattle.sh_parse_lines.specs.Waiting.{Waiting, nothing, behind_token, due_at}
-use Rattle.sh_parse_lines.specs.Stream.{Items, items_of}
+use Rattle.sh_parse_lines.specs.Stream.{Items, items_of, waiting_behind}
 use Rattle.sh_parse_words.specs.declared.build.Request.{Request}
 use Rattle.sh_parse_words.specs.declared.fault.PartFault.{PartFault}
 use Rattle.sh_parse_words.specs.declared.fault.PartFault.TheVariants as fault
@@ -273,17 +273,18 @@ pub text_fault : (depth left : ℕ) (text : List ℕ) (found : Items) (w : Waiti
 unfolding program_in
 text_fault depth left text found w rest j item others x f h r g =
     subst (λ z. GivesFault x (program_of (programs depth) left text z)) (sym f)
-    (then_fault x (with_items (programs depth) left text nothing found.items (none_of substitution)) (λ k. ended_by (length text) k found.ending)
+    (then_fault x (with_items (programs depth) left text nothing found.items (none_of substitution)) (λ k. ended_by left text (waiting_behind nothing found.items) k found.ending)
     (subst (λ z. GivesFault x z) (sym (ap (λ z. with_items (programs depth) left text w z j) r) ∙ h)
     (then_fault x (with_item (programs depth) left text (due_at item.token.kind w) item j) (λ k. with_items (programs depth) left text (behind_token item.token.kind w) others k) g)))
 
 pub text_ended : (depth left : ℕ) (text : List ℕ) (found : Items) (w : Waiting) (rest : List Item) (j : Judged) (result : Result Complete PartFault)
     → items_of true text ≡ found → with_items (programs depth) left text w rest j ≡ with_items (programs depth) left text nothing found.items (none_of substitution)
-    → rest ≡ [] → Gives result (ended_by (length text) j found.ending) → Gives result (programs (suc depth) left text)
+    → waiting_behind w rest ≡ waiting_behind nothing found.items → rest ≡ [] → Gives result (ended_by left text w j found.ending) → Gives result (programs (suc depth) left text)
 unfolding program_in
-text_ended depth left text found w rest j result f h r g =
+text_ended depth left text found w rest j result f h v r g =
     subst (λ z. Gives result (program_of (programs depth) left text z)) (sym f)
-    (subst (λ z. Gives result (and_then z (λ k. ended_by (length text) k found.ending))) (sym (ap (λ z. with_items (programs depth) left text w z j) r) ∙ h) g)
+    (subst (λ z. Gives result (and_then z (λ k. ended_by left text (waiting_behind nothing found.items) k found.ending))) (sym (ap (λ z. with_items (programs depth) left text w z j) r) ∙ h)
+    (subst (λ z. Gives result (ended_by left text z j found.ending)) (sym (ap (λ z. waiting_behind w z) r) ∙ v) g))
 
 pub none_left : {A : Type 0} → (xs : List A) → length xs ≡ 0 → xs ≡ []
 none_left [] h = refl

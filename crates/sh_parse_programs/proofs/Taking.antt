@@ -13,7 +13,8 @@ use Rattle.sh_parse_words.specs.declared.fault.PartFault.TheVariants as fault
 use Rattle.sh_parse_programs.specs.Inputs.{input_of, inputs_of}
 use Rattle.sh_parse_programs.specs.Results.{and_then}
 use Rattle.sh_parse_programs.specs.Judging.{IsShell, Judged, taken_item, with_item}
-use Rattle.sh_parse_programs.specs.Defined.{Judge, AreFront, opened, waiting_behind, leaf_at, bodies_at, IsTaken, HasFault, refused, too_deep, in_word, in_body}
+use Rattle.sh_parse_lines.specs.Stream.{waiting_behind}
+use Rattle.sh_parse_programs.specs.Defined.{Judge, AreFront, opened, leaf_at, bodies_at, IsTaken, HasFault, refused, too_deep, in_word, in_body}
 use Rattle.sh_parse_programs.proofs.Shells.{shell_predictive}
 
 -- tokens that are taken, with these leaves and bodies

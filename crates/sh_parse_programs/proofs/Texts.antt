@@ -23,7 +23,7 @@ use Rattle.sh_parse_trees.proofs.Fitted.{command_syntax, substitution_syntax}
 use Rattle.sh_parse_lines.specs.declared.item.Item.{Item}
 use Rattle.sh_parse_lines.specs.Waiting.{Waiting, nothing, behind_token}
 use Rattle.sh_parse_lines.specs.Items.{FirstItem, FoundItem, NoItem, first_item}
-use Rattle.sh_parse_lines.specs.Stream.{Ending, AtEnd, Cut, Nul, Deep, Items, with_item, with_first, items_from, items_of}
+use Rattle.sh_parse_lines.specs.Stream.{Ending, AtEnd, Cut, Items, with_item, with_first, items_from, items_of, waiting_behind}
 use Rattle.sh_parse_words.specs.declared.fault.PartFault.{PartFault}
 use Rattle.sh_parse_words.specs.declared.fault.PartFault.TheVariants as fault
 use Rattle.sh_parse_programs.specs.Inputs.{input_of, inputs_of}
@@ -159,7 +159,7 @@ first_tokens others w at (FoundItem kind start stop after) h = item_tokens kind 
 
 tokens_from : (n : ℕ) (e : Bool) (text : List ℕ) (w : Waiting) (at : ℕ) → AreTokens (items_from n e text w at).items
 tokens_from zero e text w at = tt
-tokens_from (suc n) e text w at = first_tokens (λ v place. items_from n e text v place) w at (first_item e w (drop at text)) (λ v place. tokens_from n e text v place)
+tokens_from (suc n) e text w at = first_tokens (λ v place. items_from n e text v place) w at (first_item e (length text) w (drop at text)) (λ v place. tokens_from n e text v place)
 
 pub tokens_of : (e : Bool) (text : List ℕ) → AreTokens (items_of e text).items
 tokens_of e text = tokens_from (suc (length text)) e text nothing 0
@@ -167,7 +167,7 @@ tokens_of e text = tokens_from (suc (length text)) e text nothing 0
 -- what a text is that ends so
 module _ (g : Judge) (s : IsShell g.grammar) (tokens : List Item) where
   abbrev ends : Ending → Result Complete PartFault
-  ends ending = and_then (judged g tokens) (λ j. ended_by (length g.text) j ending)
+  ends ending = and_then (judged g tokens) (λ j. ended_by g.left g.text (waiting_behind nothing tokens) j ending)
 
   abbrev Is : Ending → Result Complete PartFault → Type 0
   Is ending answer = ((f : PartFault) × FirstFault g tokens f × (answer ≡ Err f)) ⊎ (AreFaultless g tokens × EndIs g tokens ending answer)
@@ -177,14 +177,12 @@ module _ (g : Judge) (s : IsShell g.grammar) (tokens : List Item) where
   whole_told x n true h = inl (tree_by (behind g tokens x.leaves x.bodies), tree_alone g s tokens x n h, refl)
   whole_told x n false h = inr (whole_not_derive g s tokens h, refl)
 
-  end_told : (x : AreFaultless g tokens) → AreTokens tokens → (ending : Ending) → EndIs g tokens ending (ended_by (length g.text) (behind g tokens x.leaves x.bodies) ending)
+  end_told : (x : AreFaultless g tokens) → AreTokens tokens → (ending : Ending) → EndIs g tokens ending (ended_by g.left g.text (waiting_behind nothing tokens) (behind g tokens x.leaves x.bodies) ending)
   end_told x n AtEnd = whole_told x n (is_whole g.grammar (inputs_of tokens)) refl
-  end_told x n Cut = refl
-  end_told x n (Nul place) = refl
-  end_told x n (Deep place) = refl
+  end_told x n (Cut at) = refl
 
-  told : AreTokens tokens → (ending : Ending) (r : Result Judged PartFault) → JudgedSo g tokens r → Is ending (and_then r (λ j. ended_by (length g.text) j ending))
-  told n ending (Ok k) (x, e) = subst (λ j. Is ending (ended_by (length g.text) j ending)) (sym e) (inr (x, end_told x n ending))
+  told : AreTokens tokens → (ending : Ending) (r : Result Judged PartFault) → JudgedSo g tokens r → Is ending (and_then r (λ j. ended_by g.left g.text (waiting_behind nothing tokens) j ending))
+  told n ending (Ok k) (x, e) = subst (λ j. Is ending (ended_by g.left g.text (waiting_behind nothing tokens) j ending)) (sym e) (inr (x, end_told x n ending))
   told n ending (Err f) h = inl (f, h, refl)
 
   whole_gives : (b : Bool) (tree : Complete) (wrong : PartFault) → b ≡ true → (if b then Ok tree else Err wrong) ≡ Ok tree
@@ -193,8 +191,8 @@ module _ (g : Judge) (s : IsShell g.grammar) (tokens : List Item) where
   whole_fails : (b : Bool) (tree : Complete) (wrong : PartFault) → b ≡ false → (if b then Ok tree else Err wrong) ≡ Err wrong
   whole_fails b tree wrong e = rw e refl
 
-  with_end : (x : AreFaultless g tokens) (ending : Ending) → ends ending ≡ ended_by (length g.text) (behind g tokens x.leaves x.bodies) ending
-  with_end x ending = ap (λ o. and_then o (λ j. ended_by (length g.text) j ending)) (faultless_judged g s tokens x)
+  with_end : (x : AreFaultless g tokens) (ending : Ending) → ends ending ≡ ended_by g.left g.text (waiting_behind nothing tokens) (behind g tokens x.leaves x.bodies) ending
+  with_end x ending = ap (λ o. and_then o (λ j. ended_by g.left g.text (waiting_behind nothing tokens) j ending)) (faultless_judged g s tokens x)
 
   end_said : (x : AreFaultless g tokens) (ending : Ending) (answer : Result Complete PartFault) → EndIs g tokens ending answer → ends ending ≡ answer
   end_said x AtEnd answer (inl (tree, a, e)) =
@@ -204,12 +202,10 @@ module _ (g : Judge) (s : IsShell g.grammar) (tokens : List Item) where
   end_said x AtEnd answer (inr (d, e)) =
       with_end x AtEnd
       ∙ (whole_fails (is_whole g.grammar (inputs_of tokens)) (tree_by (behind g tokens x.leaves x.bodies)) _ (derive_not_whole g s tokens d) ∙ sym e)
-  end_said x Cut answer h = with_end x Cut ∙ sym h
-  end_said x (Nul place) answer h = with_end x (Nul place) ∙ sym h
-  end_said x (Deep place) answer h = with_end x (Deep place) ∙ sym h
+  end_said x (Cut at) answer h = with_end x (Cut at) ∙ sym h
 
   said : (ending : Ending) (answer : Result Complete PartFault) → Is ending answer → ends ending ≡ answer
-  said ending answer (inl (f, h, e)) = ap (λ o. and_then o (λ j. ended_by (length g.text) j ending)) (fault_judged g s tokens f h) ∙ sym e
+  said ending answer (inl (f, h, e)) = ap (λ o. and_then o (λ j. ended_by g.left g.text (waiting_behind nothing tokens) j ending)) (fault_judged g s tokens f h) ∙ sym e
   said ending answer (inr (x, h)) = end_said x ending answer h
 
 pub program_defined : (read : Reader) (left : ℕ) (text : List ℕ) (answer : Result Complete PartFault) → (program_in read left text ≡ answer) ↔ IsProgram read left text answer

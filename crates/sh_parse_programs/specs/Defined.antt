@@ -1,5 +1,6 @@
 -- Tokens judged one after another, by derivations (XCU 2.10): each is taken, or which is the first that has a fault.
-use Rattle.std.specs.Prelude.{◌≡◌, ◌⊎◌, ℕ, ◌-◌, ◌<◌, ◌≤◌, true, List, [], ◌∷◌, ◌++◌, length, Some, Result, Ok, Err}
+use Rattle.std.specs.Prelude.{◌≡◌, ◌⊎◌, ℕ, ◌-◌, ◌<◌, ◌≤◌, true, List, [], ◌∷◌, ◌++◌, length, Option, Some, Result, Ok, Err}
+use Rattle.std.specs.Option.{unwrap_or}
 use Rattle.sh_grammar.specs.Grammar.{Tree}
 use Rattle.sh_grammar.specs.Tabulation.{Tabulation}
 use Rattle.sh_grammar.specs.Text.{IsText, BeginsText, IsTreeOf}
@@ -10,8 +11,8 @@ use Rattle.sh_scanner.specs.declared.token.TokenKind.{TokenKind}
 use Rattle.sh_parse_trees_base.specs.declared.leaf.Leaf.{Leaf}
 use Rattle.sh_parse_trees.specs.Meaning.{syntax_of}
 use Rattle.sh_parse_lines.specs.declared.item.Item.{Item}
-use Rattle.sh_parse_lines.specs.Waiting.{Waiting, nothing, behind_token, due_at}
-use Rattle.sh_parse_lines.specs.Stream.{Ending, AtEnd, Cut, Nul, Deep, items_of}
+use Rattle.sh_parse_lines.specs.Waiting.{nothing, due_at}
+use Rattle.sh_parse_lines.specs.Stream.{Ending, AtEnd, Cut, items_of, waiting_behind}
 use Rattle.sh_parse_words.specs.declared.fault.PartFault.{PartFault}
 use Rattle.sh_parse_words.specs.declared.fault.PartFault.TheVariants as fault
 use Rattle.sh_parse_programs.specs.Inputs.{inputs_of}
@@ -19,6 +20,7 @@ use Rattle.sh_parse_programs.specs.Levels.{open_compounds}
 use Rattle.sh_parse_programs.specs.Words.{Reader}
 use Rattle.sh_parse_programs.specs.Leaves.{leaf_of}
 use Rattle.sh_parse_programs.specs.Documents.{bodies_of}
+use Rattle.sh_parse_programs.specs.Cuts.{cut_fault}
 use Rattle.sh_parse_programs.specs.Judging.{filled}
 
 -- what tokens are judged by: a grammar, how the texts of substitutions are read, how many levels may open, and the text they stand in
@@ -38,11 +40,6 @@ AreFront g tokens = BeginsText g.grammar (inputs_of tokens)
 -- so many levels are open behind tokens
 abbrev pub opened : Judge → List Item → ℕ
 opened g tokens = open_compounds g.grammar (inputs_of tokens)
-
--- what waits behind tokens, where this waits before them
-abbrev pub waiting_behind : Waiting → List Item → Waiting
-waiting_behind w [] = w
-waiting_behind w (t ∷ tokens) = waiting_behind (behind_token t.token.kind w) tokens
 
 -- what a token behind others is to the tree, and the bodies behind it; the levels that are open there are no longer left
 abbrev pub leaf_at : Judge → List Item → Item → Result Leaf PartFault
@@ -101,13 +98,15 @@ abbrev pub AreTokens : List Item → Type 0
 AreTokens [] = Unit {0}
 AreTokens (t ∷ tokens) = (t.token.kind ≡ TokenKind.End → ⊥) × AreTokens tokens
 
+-- what is told where no token comes behind these, from `at` on: the levels that are open behind them are no longer left
+abbrev pub cut_at : Judge → List Item → ℕ → Option PartFault
+cut_at g tokens at = cut_fault (g.left - opened g tokens) g.text (waiting_behind nothing tokens) at
+
 -- what a text is whose tokens have no fault and end so: a list of commands, where it ends and they derive, or a fault
 abbrev pub EndIs : Judge → List Item → Ending → Result Complete PartFault → Type 0
 EndIs g tokens AtEnd answer =
     ((tree : Complete) × AreTree g tokens [] tree × (answer ≡ Ok tree)) ⊎ ((Derive g tokens → ⊥) × (answer ≡ Err (fault.Refused (length g.text))))
-EndIs g tokens Cut answer = answer ≡ Err (fault.Refused (length g.text))
-EndIs g tokens (Nul place) answer = answer ≡ Err (fault.Refused place)
-EndIs g tokens (Deep place) answer = answer ≡ Err (fault.TooDeep place)
+EndIs g tokens (Cut at) answer = answer ≡ Err (unwrap_or (cut_at g tokens at) (fault.Refused (length g.text)))
 
 -- how the tokens of a substitution are judged
 abbrev pub inner : Reader → ℕ → List ℕ → Judge

@@ -1,5 +1,5 @@
 -- The parts of the bodies of here-documents (XCU 2.7.4).
-use Rattle.std.specs.Prelude.{ℕ, List, [], ◌∷◌, ◌++◌, Option, Some, None, Result, Ok, Err, if◌then◌else◌}
+use Rattle.std.specs.Prelude.{ℕ, List, [], ◌∷◌, ◌++◌, length, Option, Some, None, Result, Ok, Err, if◌then◌else◌}
 use Rattle.sh_scanner_base.specs.declared.here.Delimiter.{Delimiter}
 use Rattle.sh_scanner_base.specs.declared.mark.Mark.{Mark}
 use Rattle.sh_scanner.specs.declared.document.BodyFault.{BodyFault}
@@ -17,19 +17,20 @@ use Rattle.sh_parse_programs.specs.Sources.{text_between}
 use Rattle.sh_parse_programs.specs.Words.{Reader, parts_in}
 use Rattle.sh_parse_programs.specs.declared.document.BodyFront.{BodyFront}
 
--- the pieces of bytes, or of as many of them as stand before the first form that they don't close
+-- the pieces of bytes, or of as many of them as stand before the first form that they don't close. No text opens as many levels as it has
+-- bytes, so none is too deep here: levels are counted where the parts are made
 abbrev pub pieces_or_none : Result (List Mark) BodyFault → List Mark
 pieces_or_none (Ok ms) = ms
 pieces_or_none (Err e) = []
 
 abbrev pub closed_by : List ℕ → Result (List Mark) BodyFault → List Mark
 closed_by bytes (Ok ms) = ms
-closed_by bytes (Err (BodyFault.Open at)) = pieces_or_none (body_answer (pieces_of_body (text_between bytes 0 at)))
+closed_by bytes (Err (BodyFault.Open at)) = pieces_or_none (body_answer (pieces_of_body (length bytes) (text_between bytes 0 at)))
 closed_by bytes (Err (BodyFault.TooDeep at)) = []
 closed_by bytes (Err BodyFault.NoMemory) = []
 
 unfoldable pub closed_pieces : List ℕ → List Mark
-closed_pieces bytes = closed_by bytes (body_answer (pieces_of_body bytes))
+closed_pieces bytes = closed_by bytes (body_answer (pieces_of_body (length bytes) bytes))
 
 -- a body up to where it has a form that it doesn't close, or a level too many, and that fault
 abbrev pub front_by : List ℕ → Result (List Mark) BodyFault → BodyFront
@@ -39,7 +40,7 @@ front_by bytes (Err (BodyFault.TooDeep at)) = record { pieces = closed_pieces (t
 front_by bytes (Err BodyFault.NoMemory) = record { pieces = []; fault = Some fault.NoMemory }
 
 unfoldable pub front_of : List ℕ → BodyFront
-front_of bytes = front_by bytes (body_answer (pieces_of_body bytes))
+front_of bytes = front_by bytes (body_answer (pieces_of_body (length bytes) bytes))
 
 abbrev pub unless : Option PartFault → Parts → Result Parts PartFault
 unless None parts = Ok parts

@@ -6,5 +6,6 @@ pub mod Leaves
 pub mod Documents
 pub mod Levels
 pub mod Judging
+pub mod Cuts
 pub mod Programs
 pub mod Defined

@@ -24,10 +24,10 @@ pub(crate) struct BodyFront {
 }
 
 /// The pieces of bytes, none where these don't close a form.
-fn pieces_or_none(alloc: Global, bytes: &[u8]) -> Result<Sequence<Mark>, AllocError>
-    ensures { IfOk result (λ pieces. pieces ≡ pieces_or_none (body_answer (pieces_of_body bytes.now))) }
+fn pieces_or_none(alloc: Global, bytes: &[u8], levels: usize) -> Result<Sequence<Mark>, AllocError>
+    ensures { IfOk result (λ pieces. pieces ≡ pieces_or_none (body_answer (pieces_of_body levels bytes.now))) }
 {
-    match body_pieces(alloc, bytes) {
+    match body_pieces(alloc, bytes, levels) {
         Ok(pieces) => Ok(pieces),
         Err(BodyFault::NoMemory) => Err(AllocError),
         Err(_) => Ok(Sequence::new(alloc)),
@@ -39,9 +39,13 @@ fn pieces_or_none(alloc: Global, bytes: &[u8]) -> Result<Sequence<Mark>, AllocEr
 fn closed_pieces(alloc: Global, bytes: &[u8]) -> Result<Sequence<Mark>, AllocError>
     ensures { IfOk result (λ pieces. pieces ≡ closed_pieces bytes.now) }
 {
-    match body_pieces(alloc, bytes) {
+    match body_pieces(alloc, bytes, bytes.len()) {
         Ok(pieces) => Ok(pieces),
-        Err(BodyFault::Open { at }) => pieces_or_none(alloc, text_between(bytes, 0, at)),
+        Err(BodyFault::Open { at }) => pieces_or_none(
+            alloc,
+            text_between(bytes, 0, at),
+            bytes.len(),
+        ),
         Err(BodyFault::TooDeep { .. }) => Ok(Sequence::new(alloc)),
         Err(BodyFault::NoMemory) => Err(AllocError),
     }
@@ -52,7 +56,7 @@ fn closed_pieces(alloc: Global, bytes: &[u8]) -> Result<Sequence<Mark>, AllocErr
 pub(crate) fn front_of(alloc: Global, body: &[u8]) -> Result<BodyFront, AllocError>
     ensures { IfOk result (λ front. front ≡ front_of body.now) }
 {
-    match body_pieces(alloc, body) {
+    match body_pieces(alloc, body, body.len()) {
         Ok(pieces) => Ok(BodyFront {
             pieces,
             fault: None,

@@ -76,8 +76,8 @@ impl Front {
         Ok(taken)
     }
 
-    /// How many compound commands are open.
-    pub(crate) fn open(&self) -> usize
+    /// How many compound commands are open behind the last token (XCU 2.9.4). Takes no memory.
+    pub fn open(&self) -> usize
         ensures { result ≡ open_in self.now }
     {
         open_in(&self.recognizer)

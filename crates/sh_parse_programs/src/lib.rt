@@ -2,6 +2,7 @@
 //! commands of its substitutions (XCU 2.6.3), the bodies of here-documents (XCU 2.7.4), and the syntax tree of them all.
 #![tactic(auto)]
 
+pub mod cut;
 mod document;
 pub mod front;
 mod input;

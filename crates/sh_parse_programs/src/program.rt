@@ -10,6 +10,7 @@ ghost use Rattle.sh_parse_programs.specs.Documents.{expanded_body, document_part
 ghost use Rattle.sh_parse_programs.specs.Judging.{with_item};
 ghost use Rattle.sh_parse_programs.specs.Programs.{programs, ended_by};
 
+use crate::cut::cut_fault;
 use crate::document::{fault_at, front_of, literal_parts, unless};
 use crate::front::Front;
 use crate::input::input;
@@ -26,7 +27,7 @@ use sh_parse_trees_base::leaf::Leaf;
 use sh_parse_words::build::{Builder, Request};
 use sh_parse_words::fault::PartFault;
 use sh_parse_words::place::{behind_joins, behind_piece};
-use sh_scanner::token::{TokenFault, TokenKind};
+use sh_scanner::token::TokenKind;
 use sh_scanner_base::here::Delimiter;
 use sh_scanner_base::mark::{Mark, literal_front};
 use sh_syntax::sequence::Sequence;
@@ -300,19 +301,28 @@ pub fn judge(
     }
 }
 
-/// What comes behind the tokens of a text of so many bytes.
-fn ended_by(size: usize, front: Front, fault: Option<TokenFault>) -> Result<Complete, PartFault>
-    ensures { Gives result (ended_by size front (ending_of fault)) }
+/// What comes behind the tokens of a text, in which so many levels may open, where this waits: its end, or at this place no token.
+fn ended_by(
+    alloc: Global,
+    left: usize,
+    text: &[u8],
+    waiting: Waiting,
+    front: Front,
+    cut: Option<usize>,
+) -> Result<Complete, PartFault>
+    ensures { Gives result (ended_by left text.now waiting front (ending_of cut)) }
 {
-    match fault {
-        None => match front.into_tree()? {
+    let size = text.len();
+    let Some(at) = cut else {
+        return match front.into_tree()? {
             Some(tree) => Ok(tree),
             None => Err(PartFault::Refused { at: size }),
-        },
-        Some(TokenFault::Unfinished) => Err(PartFault::Refused { at: size }),
-        Some(TokenFault::NulByte { at }) => Err(PartFault::Refused { at }),
-        Some(TokenFault::TooDeep { at }) => Err(PartFault::TooDeep { at }),
-        Some(TokenFault::NoMemory) => Err(PartFault::NoMemory),
+        };
+    };
+    let left = left.saturating_sub(front.open());
+    match cut_fault(alloc, left, text, &waiting, at)? {
+        Some(fault) => Err(fault),
+        None => Err(PartFault::Refused { at: size }),
     }
 }
 
@@ -337,5 +347,5 @@ pub fn program(alloc: Global, depth: usize, left: usize, text: &[u8]) -> Result<
         waiting.pass(&item.token.kind)?;
         rest = others;
     }
-    ended_by(text.len(), front, found.fault)
+    ended_by(alloc, left, text, waiting, front, found.cut)
 }

@@ -106,7 +106,7 @@ fn pieces(rt: HostRuntime) -> Result<(), Fail> {
         (b"\0$x", b".\0 $x"),
     ] {
         let mut shown = Vec::new(rt.alloc());
-        for mark in body_pieces(rt.alloc(), body)?.as_slice() {
+        for mark in body_pieces(rt.alloc(), body, 500)?.as_slice() {
             put_mark(&mut shown, mark)?;
         }
         assert_eq!(rt; shown.as_slice(), expected);
@@ -136,7 +136,7 @@ fn open_forms(rt: HostRuntime) -> Result<(), Fail> {
         (b"$(a <<F\n)\n", 0),
     ] {
         assert!(rt;
-            matches!(body_pieces(rt.alloc(), body), Err(BodyFault::Open { at: found }) if found == at)
+            matches!(body_pieces(rt.alloc(), body, 500), Err(BodyFault::Open { at: found }) if found == at)
         );
     }
     Ok(())
@@ -182,7 +182,7 @@ fn levels(rt: HostRuntime) -> Result<(), Fail> {
         (b"${a}`b`", 0, b"", Fault::None),
     ] {
         let body = nested(rt, front, count, rest)?;
-        let found = match body_pieces(rt.alloc(), body.as_slice()) {
+        let found = match body_pieces(rt.alloc(), body.as_slice(), 500) {
             Ok(_) => Fault::None,
             Err(BodyFault::Open { at }) => Fault::Open(at),
             Err(BodyFault::TooDeep { at }) => Fault::Deep(at),

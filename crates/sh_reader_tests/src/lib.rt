@@ -7,6 +7,8 @@ mod body_tests;
 #[cfg(test)]
 mod document_tests;
 #[cfg(test)]
+mod level_tests;
+#[cfg(test)]
 mod part_tests;
 #[cfg(test)]
 mod syntax_tree_tests;

@@ -67,59 +67,59 @@ right_stays Body xs a = absurd (cc)
 no_form : (b : ℕ) → is_name_start b ≡ false → is_short_parameter b ≡ false → nat_eq b 123 ≡ false → nat_eq b 40 ≡ false → is_form b ≡ false
 no_form b h i j k = rw (h, i, j, k) refl
 
-module _ (e : Bool) (subject : Subject) (front : List ℕ) (blank : IsBlank subject) (previous : List ℕ) (x : Context) (xs : List Context) (done : List Mark) (mid m : List ℕ)
-    (p : Path e subject front done (x ∷ xs) mid) where
+module _ (e : Bool) (limit : ℕ) (subject : Subject) (front : List ℕ) (blank : IsBlank subject) (previous : List ℕ) (x : Context) (xs : List Context) (done : List Mark) (mid m : List ℕ)
+    (p : Path e limit subject front done (x ∷ xs) mid) where
   abbrev lv : ℕ
   lv = levels (x ∷ xs)
 
   abbrev begin_at : Pending → List ℕ → State
-  begin_at q acc = begun (x ∷ xs) done (pending_levels q lv) q acc
+  begin_at q acc = begun limit (x ∷ xs) done (pending_levels q lv) q acc
 
   abbrev Goes : Stepped → Character → List ℕ → Type 0
-  Goes y c rest = Going e subject front y previous (begin_of c rest) m rest
+  Goes y c rest = Going e limit subject front y previous (begin_of c rest) m rest
 
   -- a piece goes on
-  held_on : (q : Pending) (acc : List ℕ) (c : Character) (rest : List ℕ) → Held e q (x ∷ xs) acc mid rest → Preceded q acc (begin_of c rest) rest → Goes (On (begin_at q acc)) c rest
-  held_on q acc c rest h r = begins_piece e subject front blank previous (x ∷ xs) done q acc mid (begin_of c rest) m rest p h r
+  held_on : (q : Pending) (acc : List ℕ) (c : Character) (rest : List ℕ) → Held e limit q (x ∷ xs) acc mid rest → Preceded q acc (begin_of c rest) rest → Goes (On (begin_at q acc)) c rest
+  held_on q acc c rest h r = begins_piece e limit subject front blank previous (x ∷ xs) done q acc mid (begin_of c rest) m rest p h r
 
   -- it is over with this character
-  ended : (k : Mark) (c : Character) (rest : List ℕ) (t : State) → IsMark e x xs k mid rest → ends_token k (behind done x xs k) ≡ false → t ≡ settled (done ++ k ∷ []) (behind done x xs k) → Goes (On t) c rest
-  ended k c rest t i h w = ends_piece e subject front blank previous x xs done k mid rest (begin_of c rest) m t p i h w
+  ended : (k : Mark) (c : Character) (rest : List ℕ) (t : State) → IsMark e limit x xs k mid rest → ends_token k (behind done x xs k) ≡ false → t ≡ settled limit (done ++ k ∷ []) (behind done x xs k) → Goes (On t) c rest
+  ended k c rest t i h w = ends_piece e limit subject front blank previous x xs done k mid rest (begin_of c rest) m t p i h w
 
   -- it is over before this character
-  over_before : (k : Mark) (c : Character) (rest : List ℕ) (t : State) → IsMark e x xs k mid m → ends_token k (behind done x xs k) ≡ false → is_raw_character c ≡ false → Reads e c m rest
-      → settled (done ++ k ∷ []) (behind done x xs k) ≡ t → Goes (act t c) c rest
-  over_before k c rest t i h r f w = then_sound e subject front blank previous x xs done k mid m rest c t p i h r f w
+  over_before : (k : Mark) (c : Character) (rest : List ℕ) (t : State) → IsMark e limit x xs k mid m → ends_token k (behind done x xs k) ≡ false → is_raw_character c ≡ false → Reads e c m rest
+      → settled limit (done ++ k ∷ []) (behind done x xs k) ≡ t → Goes (act t c) c rest
+  over_before k c rest t i h r f w = then_sound e limit subject front blank previous x xs done k mid m rest c t p i h r f w
 
   -- behind a dollar
-  level_deep : (q : Pending) (c : ℕ) (rest : List ℕ) → in_word x ≡ true → (nat_lt lv 500 ≡ true → Goes (On (begun (x ∷ xs) done (suc lv) q [])) (Plain c) rest) → Written e (Plain 36 ∷ []) mid m → previous ≡ 36 ∷ m
+  level_deep : (q : Pending) (c : ℕ) (rest : List ℕ) → in_word x ≡ true → (nat_lt lv limit ≡ true → Goes (On (begun limit (x ∷ xs) done (suc lv) q [])) (Plain c) rest) → Written e (Plain 36 ∷ []) mid m → previous ≡ 36 ∷ m
       → OpensLevel e (36 ∷ m) → Goes (at_dollar (opens q (begin_at Pending.Dollar []))) (Plain c) rest
-  level_deep q c rest w f v r o = go (nat_lt lv 500) refl
+  level_deep q c rest w f v r o = go (nat_lt lv limit) refl
     where
-      go : (d : Bool) → nat_lt lv 500 ≡ d
-          → Going e subject front (at_dollar (cond d (On (begun (x ∷ xs) done (suc lv) q [])) (TooDeep (begin_at Pending.Dollar [])))) previous (c ∷ rest) m rest
+      go : (d : Bool) → nat_lt lv limit ≡ d
+          → Going e limit subject front (at_dollar (cond d (On (begun limit (x ∷ xs) done (suc lv) q [])) (TooDeep (begin_at Pending.Dollar [])))) previous (c ∷ rest) m rest
       go true h = f h
       go false h =
           record {
-            it = subst (λ z. DeepHere e subject front z) (sym r)
-                (deep_here e subject front done (x ∷ xs) mid (36 ∷ m) p h w (record { lines = v.1.0; is = v.1.1 ∙ ap (λ z. joins v.1.0 ++ 36 ∷ z) v.2; over = no_join_at 36 m refl }) o);
+            it = subst (λ z. DeepHere e limit subject front z) (sym r)
+                (deep_here e limit subject front done (x ∷ xs) mid (36 ∷ m) p h w (record { lines = v.1.0; is = v.1.1 ∙ ap (λ z. joins v.1.0 ++ 36 ∷ z) v.2; over = no_join_at 36 m refl }) o);
           }
 
-  pub dollar_mark : in_word x ≡ true → not (next_is is_form (ahead e m)) ≡ true → Written e (Plain 36 ∷ []) mid m → IsMark e x xs Dollar mid m
+  pub dollar_mark : in_word x ≡ true → not (next_is is_form (ahead e m)) ≡ true → Written e (Plain 36 ∷ []) mid m → IsMark e limit x xs Dollar mid m
   dollar_mark w h v = record { written = v; fits = and_both (in_word x) (not (next_is is_form (ahead e m))) w h; level = refl }
 
   dollar_plain : (b : ℕ) (rest : List ℕ) → in_word x ≡ true → Written e (Plain 36 ∷ []) mid m → previous ≡ 36 ∷ m → Reads e (Plain b) m rest → Goes (form_byte (begin_at Pending.Dollar []) b) (Plain b) rest
   dollar_plain b rest w v r f =
-      either e subject front (is_name_start b) _ _ previous (b ∷ rest) m rest
+      either e limit subject front (is_name_start b) _ _ previous (b ∷ rest) m rest
       (λ h. held_on Pending.Name (b ∷ []) (Plain b) rest (and_both (begins_name b) true h refl, w, written_snoc e (Plain 36 ∷ []) (Plain b) mid m rest v f) tt)
-      (λ hn. either e subject front (is_short_parameter b) _ _ previous (b ∷ rest) m rest
+      (λ hn. either e limit subject front (is_short_parameter b) _ _ previous (b ∷ rest) m rest
       (λ h. ended (Parameter b) (Plain b) rest (same (Parameter b) (begin_at Pending.Dollar []))
       (record { written = written_snoc e (Plain 36 ∷ []) (Plain b) mid m rest v f; fits = and_both (in_word x) (is_short_parameter b) w h; level = refl }) refl refl)
-      (λ hs. either e subject front (nat_eq b 123) _ _ previous (b ∷ rest) m rest
+      (λ hs. either e limit subject front (nat_eq b 123) _ _ previous (b ∷ rest) m rest
       (λ h. let g = plain_at e b 123 m rest h f in
       level_deep (Pending.Head Head.Start) b rest w
       (λ l. held_on (Pending.Head Head.Start) [] (Plain b) rest (refl, w, l, written_snoc e (Plain 36 ∷ []) (Plain 123) mid m rest v g) tt) v r (braces rest (m, (0, refl, inl refl), (rest, g, refl))))
-      (λ hb. either e subject front (nat_eq b 40) _ _ previous (b ∷ rest) m rest
+      (λ hb. either e limit subject front (nat_eq b 40) _ _ previous (b ∷ rest) m rest
       (λ h. let g = plain_at e b 40 m rest h f in
       level_deep Pending.DollarParenthesis b rest w
       (λ l. held_on Pending.DollarParenthesis [] (Plain b) rest (refl, w, l, written_snoc e (Plain 36 ∷ []) (Plain 40) mid m rest v g) tt) v r (parenthesis rest (m, (0, refl, inl refl), (rest, g, refl))))
@@ -133,17 +133,17 @@ module _ (e : Bool) (subject : Subject) (front : List ℕ) (blank : IsBlank subj
       over_before Dollar (Quoted b) rest (same Dollar (begin_at Pending.Dollar [])) (dollar_mark w (not_quoted is_form b (ahead e m) (ahead_quoted e b m rest f)) v) refl refl f refl
   dollar_sound (Raw b) rest k w v r f = absurd (cc)
 
-  opened_level : nat_lt lv 500 ≡ true → (true && not (nat_lt lv 500)) ≡ false
+  opened_level : nat_lt lv limit ≡ true → (true && not (nat_lt lv limit)) ≡ false
   opened_level l = rw l refl
 
-  commands_mark : in_word x ≡ true → nat_lt lv 500 ≡ true → not (next_is (λ z. nat_eq z 40) (ahead e m)) ≡ true → Written e (Plain 36 ∷ Plain 40 ∷ []) mid m → IsMark e x xs CommandsOpen mid m
+  commands_mark : in_word x ≡ true → nat_lt lv limit ≡ true → not (next_is (λ z. nat_eq z 40) (ahead e m)) ≡ true → Written e (Plain 36 ∷ Plain 40 ∷ []) mid m → IsMark e limit x xs CommandsOpen mid m
   commands_mark w l h v = record { written = v; fits = and_both (in_word x) (not (next_is (λ z. nat_eq z 40) (ahead e m))) w h; level = opened_level l }
 
-  parenthesis_sound : (c : Character) (rest : List ℕ) → is_raw_character c ≡ false → in_word x ≡ true → nat_lt lv 500 ≡ true → Written e (Plain 36 ∷ Plain 40 ∷ []) mid m → Reads e c m rest
+  parenthesis_sound : (c : Character) (rest : List ℕ) → is_raw_character c ≡ false → in_word x ≡ true → nat_lt lv limit ≡ true → Written e (Plain 36 ∷ Plain 40 ∷ []) mid m → Reads e c m rest
       → Goes (after_parenthesis (begin_at Pending.DollarParenthesis []) c) c rest
   unfolding after_parenthesis
   parenthesis_sound (Plain b) rest k w l v f =
-      either e subject front (nat_eq b 40) _ _ previous (b ∷ rest) m rest
+      either e limit subject front (nat_eq b 40) _ _ previous (b ∷ rest) m rest
       (λ h. ended ArithmeticOpen (Plain b) rest (into Arithmetic ArithmeticOpen (begin_at Pending.DollarParenthesis []))
       (record { written = written_snoc e (Plain 36 ∷ Plain 40 ∷ []) (Plain 40) mid m rest v (plain_at e b 40 m rest h f); fits = w; level = opened_level l }) refl refl)
       (λ h. over_before CommandsOpen (Plain b) rest (into (Commands none_yet) CommandsOpen (begin_at Pending.DollarParenthesis []))
@@ -153,7 +153,7 @@ module _ (e : Bool) (subject : Subject) (front : List ℕ) (blank : IsBlank subj
       (commands_mark w l (not_quoted (λ z. nat_eq z 40) b (ahead e m) (ahead_quoted e b m rest f)) v) refl refl f refl
   parenthesis_sound (Raw b) rest k w l v f = absurd (cc)
 
-  pub name_mark : (acc : List ℕ) → is_name acc ≡ true → in_word x ≡ true → not (next_is is_name_byte (ahead e m)) ≡ true → Written e (Plain 36 ∷ plain acc) mid m → IsMark e x xs (Variable acc) mid m
+  pub name_mark : (acc : List ℕ) → is_name acc ≡ true → in_word x ≡ true → not (next_is is_name_byte (ahead e m)) ≡ true → Written e (Plain 36 ∷ plain acc) mid m → IsMark e limit x xs (Variable acc) mid m
   name_mark acc n w h v =
       record { written = v; fits = and_both (in_word x) (is_name acc && not (next_is is_name_byte (ahead e m))) w (and_both (is_name acc) (not (next_is is_name_byte (ahead e m))) n h); level = refl }
 
@@ -161,7 +161,7 @@ module _ (e : Bool) (subject : Subject) (front : List ℕ) (blank : IsBlank subj
       → Goes (in_name (begin_at Pending.Name acc) c) c rest
   unfolding in_name
   name_sound acc (Plain b) rest k n w v f =
-      either e subject front (is_name_byte b) _ _ previous (b ∷ rest) m rest
+      either e limit subject front (is_name_byte b) _ _ previous (b ∷ rest) m rest
       (λ h. held_on Pending.Name (acc ++ b ∷ []) (Plain b) rest
       (name_snoc acc b n h, w, subst (λ z. Written e (Plain 36 ∷ z) mid rest) (plain_snoc acc b) (written_snoc e (Plain 36 ∷ plain acc) (Plain b) mid m rest v f)) tt)
       (λ h. over_before (Variable acc) (Plain b) rest (same (Variable acc) (begin_at Pending.Name acc)) (name_mark acc n w (not_next is_name_byte b (ahead e m) h (ahead_plain e b m rest f)) v) refl refl f refl)
@@ -169,19 +169,19 @@ module _ (e : Bool) (subject : Subject) (front : List ℕ) (blank : IsBlank subj
       over_before (Variable acc) (Quoted b) rest (same (Variable acc) (begin_at Pending.Name acc)) (name_mark acc n w (not_quoted is_name_byte b (ahead e m) (ahead_quoted e b m rest f)) v) refl refl f refl
   name_sound acc (Raw b) rest k n w v f = absurd (cc)
 
-  head_mark : (h : Head) (acc : List ℕ) → head_of acc ≡ Some h → in_word x ≡ true → nat_lt lv 500 ≡ true → not (next_is (grows_head h) (ahead e m)) ≡ true → Written e (Plain 36 ∷ Plain 123 ∷ plain acc) mid m
-      → IsMark e x xs (BraceOpen acc) mid m
+  head_mark : (h : Head) (acc : List ℕ) → head_of acc ≡ Some h → in_word x ≡ true → nat_lt lv limit ≡ true → not (next_is (grows_head h) (ahead e m)) ≡ true → Written e (Plain 36 ∷ Plain 123 ∷ plain acc) mid m
+      → IsMark e limit x xs (BraceOpen acc) mid m
   head_mark h acc n w l g v =
       record { written = v; fits = and_both (in_word x) (is_head (head_of acc) (ahead e m)) w (ap (λ z. is_head z (ahead e m)) n ∙ g); level = opened_level l }
 
-  head_over : (h : Head) (acc : List ℕ) (c : Character) (rest : List ℕ) → is_raw_character c ≡ false → head_of acc ≡ Some h → in_word x ≡ true → nat_lt lv 500 ≡ true
+  head_over : (h : Head) (acc : List ℕ) (c : Character) (rest : List ℕ) → is_raw_character c ≡ false → head_of acc ≡ Some h → in_word x ≡ true → nat_lt lv limit ≡ true
       → not (next_is (grows_head h) (ahead e m)) ≡ true → Written e (Plain 36 ∷ Plain 123 ∷ plain acc) mid m → Reads e c m rest
       → Goes (act (into (braces_of (is_quoted x) (Some h)) (BraceOpen acc) (begin_at (Pending.Head h) acc)) c) c rest
   head_over h acc c rest k n w l g v f =
       over_before (BraceOpen acc) c rest (into (braces_of (is_quoted x) (Some h)) (BraceOpen acc) (begin_at (Pending.Head h) acc)) (head_mark h acc n w l g v) refl k f
-      (ap (λ z. settled (done ++ BraceOpen acc ∷ []) (braces_of (is_quoted x) z ∷ x ∷ xs)) n)
+      (ap (λ z. settled limit (done ++ BraceOpen acc ∷ []) (braces_of (is_quoted x) z ∷ x ∷ xs)) n)
 
-  head_sound : (h : Head) (acc : List ℕ) (c : Character) (rest : List ℕ) → is_raw_character c ≡ false → head_of acc ≡ Some h → in_word x ≡ true → nat_lt lv 500 ≡ true
+  head_sound : (h : Head) (acc : List ℕ) (c : Character) (rest : List ℕ) → is_raw_character c ≡ false → head_of acc ≡ Some h → in_word x ≡ true → nat_lt lv limit ≡ true
       → Written e (Plain 36 ∷ Plain 123 ∷ plain acc) mid m → Reads e c m rest → Goes (in_head h (begin_at (Pending.Head h) acc) c) c rest
   unfolding in_head
   head_sound h acc (Plain b) rest k n w l v f = go (grown_head h b) refl
@@ -204,7 +204,7 @@ module _ (e : Bool) (subject : Subject) (front : List ℕ) (blank : IsBlank subj
   single_sound acc (Plain b) rest k n w v f = absurd (cc)
   single_sound acc (Quoted b) rest k n w v f = absurd (cc)
   single_sound acc (Raw b) rest k n w v f =
-      either e subject front (nat_eq b 39) _ _ previous (b ∷ rest) m rest
+      either e limit subject front (nat_eq b 39) _ _ previous (b ∷ rest) m rest
       (λ h. ended (SingleQuoted acc) (Raw b) rest (same (SingleQuoted acc) (begin_at Pending.Single acc))
       (record {
         written = subst (λ z. Written e (Plain 39 ∷ (raw acc ++ Raw z ∷ [])) mid rest) (eqb-true b 39 h) (written_snoc e (Plain 39 ∷ raw acc) (Raw b) mid m rest v f);
@@ -225,51 +225,51 @@ module _ (e : Bool) (subject : Subject) (front : List ℕ) (blank : IsBlank subj
   back_pair : (b c : ℕ) (bs : List ℕ) → nat_eq b 92 ≡ true → is_backquoted (b ∷ c ∷ bs) ≡ is_backquoted bs
   back_pair b c bs h = rw h refl
 
-  back_sound : (acc : List ℕ) (c : Character) (rest : List ℕ) → is_raw_character c ≡ true → ((bs : List ℕ) → is_backquoted (acc ++ bs) ≡ is_backquoted bs) → in_word x ≡ true → nat_lt lv 500 ≡ true
+  back_sound : (acc : List ℕ) (c : Character) (rest : List ℕ) → is_raw_character c ≡ true → ((bs : List ℕ) → is_backquoted (acc ++ bs) ≡ is_backquoted bs) → in_word x ≡ true → nat_lt lv limit ≡ true
       → Written e (Plain 96 ∷ raw acc) mid m → Reads e c m rest → Goes (in_backquotes (begin_at Pending.Backquotes acc) c) c rest
   unfolding in_backquotes
   back_sound acc (Plain b) rest k n w l v f = absurd (cc)
   back_sound acc (Quoted b) rest k n w l v f = absurd (cc)
   back_sound acc (Raw b) rest k n w l v f =
-      either e subject front (nat_eq b 96) _ _ previous (b ∷ rest) m rest
+      either e limit subject front (nat_eq b 96) _ _ previous (b ∷ rest) m rest
       (λ h. ended (Backquoted acc) (Raw b) rest (level_over (Backquoted acc) (begin_at Pending.Backquotes acc))
       (record {
         written = subst (λ z. Written e (Plain 96 ∷ (raw acc ++ Raw z ∷ [])) mid rest) (eqb-true b 96 h) (written_snoc e (Plain 96 ∷ raw acc) (Raw b) mid m rest v f);
         fits = and_both (in_word x) (is_backquoted acc) w (ap is_backquoted (sym (append-nil acc)) ∙ n []);
         level = opened_level l;
-      }) refl (ap (kept (x ∷ xs) (done ++ Backquoted acc ∷ [])) (before lv)))
-      (λ h96. either e subject front (nat_eq b 92) _ _ previous (b ∷ rest) m rest
+      }) refl (ap (kept limit (x ∷ xs) (done ++ Backquoted acc ∷ [])) (before lv)))
+      (λ h96. either e limit subject front (nat_eq b 92) _ _ previous (b ∷ rest) m rest
       (λ h. held_on Pending.BackquotesEscape (acc ++ b ∷ []) (Raw b) rest
       ((λ c bs. ap is_backquoted (append_assoc acc (b ∷ []) (c ∷ bs)) ∙ (n (b ∷ c ∷ bs) ∙ back_pair b c bs h)), w, l, more_raw acc b rest v f) tt)
       (λ h92. held_on Pending.Backquotes (acc ++ b ∷ []) (Raw b) rest
       ((λ bs. ap is_backquoted (append_assoc acc (b ∷ []) bs) ∙ (n (b ∷ bs) ∙ back_more b bs h96 h92)), w, l, more_raw acc b rest v f) (preceded_more acc b (b ∷ rest) rest)))
 
-  pair_sound : (acc : List ℕ) (c : Character) (rest : List ℕ) → is_raw_character c ≡ true → ((b : ℕ) (bs : List ℕ) → is_backquoted (acc ++ b ∷ bs) ≡ is_backquoted bs) → in_word x ≡ true → nat_lt lv 500 ≡ true
+  pair_sound : (acc : List ℕ) (c : Character) (rest : List ℕ) → is_raw_character c ≡ true → ((b : ℕ) (bs : List ℕ) → is_backquoted (acc ++ b ∷ bs) ≡ is_backquoted bs) → in_word x ≡ true → nat_lt lv limit ≡ true
       → Written e (Plain 96 ∷ raw acc) mid m → Reads e c m rest → Goes (in_escape (begin_at Pending.BackquotesEscape acc) c) c rest
   pair_sound acc (Plain b) rest k n w l v f = absurd (cc)
   pair_sound acc (Quoted b) rest k n w l v f = absurd (cc)
   pair_sound acc (Raw b) rest k n w l v f =
       held_on Pending.Backquotes (acc ++ b ∷ []) (Raw b) rest ((λ bs. ap is_backquoted (append_assoc acc (b ∷ []) bs) ∙ n b bs), w, l, more_raw acc b rest v f) (preceded_more acc b (b ∷ rest) rest)
 
-  right_mark : is_arithmetic x ≡ true → not (next_is (λ z. nat_eq z 41) (ahead e m)) ≡ true → Written e (Plain 41 ∷ []) mid m → IsMark e x xs (Byte 41) mid m
+  right_mark : is_arithmetic x ≡ true → not (next_is (λ z. nat_eq z 41) (ahead e m)) ≡ true → Written e (Plain 41 ∷ []) mid m → IsMark e limit x xs (Byte 41) mid m
   right_mark a h v = record { written = v; fits = single_right x (ahead e m) a h; level = refl }
 
   right_sound : (c : Character) (rest : List ℕ) → is_raw_character c ≡ false → is_arithmetic x ≡ true → Written e (Plain 41 ∷ []) mid m → Reads e c m rest
       → Goes (at_parenthesis (begin_at Pending.Parenthesis []) c) c rest
   unfolding at_parenthesis
   right_sound (Plain b) rest k a v f =
-      either e subject front (nat_eq b 41) _ _ previous (b ∷ rest) m rest
+      either e limit subject front (nat_eq b 41) _ _ previous (b ∷ rest) m rest
       (λ h. ended ArithmeticClose (Plain b) rest (out_level ArithmeticClose (begin_at Pending.Parenthesis []))
       (record { written = written_snoc e (Plain 41 ∷ []) (Plain 41) mid m rest v (plain_at e b 41 m rest h f); fits = a; level = refl }) refl
-      (ap (kept xs (done ++ ArithmeticClose ∷ [])) (arithmetic_level x xs a)))
+      (ap (kept limit xs (done ++ ArithmeticClose ∷ [])) (arithmetic_level x xs a)))
       (λ h. over_before (Byte 41) (Plain b) rest (same (Byte 41) (begin_at Pending.Parenthesis [])) (right_mark a (not_next (λ z. nat_eq z 41) b (ahead e m) h (ahead_plain e b m rest f)) v) refl refl f
-      (ap (settled (done ++ Byte 41 ∷ [])) (right_stays x xs a)))
+      (ap (settled limit (done ++ Byte 41 ∷ [])) (right_stays x xs a)))
   right_sound (Quoted b) rest k a v f =
       over_before (Byte 41) (Quoted b) rest (same (Byte 41) (begin_at Pending.Parenthesis [])) (right_mark a (not_quoted (λ z. nat_eq z 41) b (ahead e m) (ahead_quoted e b m rest f)) v) refl refl f
-      (ap (settled (done ++ Byte 41 ∷ [])) (right_stays x xs a))
+      (ap (settled limit (done ++ Byte 41 ∷ [])) (right_stays x xs a))
   right_sound (Raw b) rest k a v f = absurd (cc)
 
-  operator_mark : (o : Operator) → between_tokens x ≡ true → may_grow o ≡ true → ends_operator o (ahead e m) ≡ true → Written e (plain (operator_text o)) mid m → IsMark e x xs (Mark.Operator o) mid m
+  operator_mark : (o : Operator) → between_tokens x ≡ true → may_grow o ≡ true → ends_operator o (ahead e m) ≡ true → Written e (plain (operator_text o)) mid m → IsMark e limit x xs (Mark.Operator o) mid m
   operator_mark o i g h v =
       record {
         written = v;
@@ -285,7 +285,7 @@ module _ (e : Bool) (subject : Subject) (front : List ℕ) (blank : IsBlank subj
       let t : is_text (top_of (with_token (OfOperator o) (x ∷ xs))) ≡ false = text_token (OfOperator o) (x ∷ xs) ∙ p.inside.inner in
       subst (λ z. Goes (cond z (Before (operator_out o (begin_at (Pending.Operator o) []))) (act (operator_out o (begin_at (Pending.Operator o) [])) c)) c rest) (sym t)
       (over_before (Mark.Operator o) c rest (operator_out o (begin_at (Pending.Operator o) [])) (operator_mark o i g h v) t k f
-      (ap (kept (with_token (OfOperator o) (x ∷ xs)) (done ++ Mark.Operator o ∷ [])) (levels_token (OfOperator o) (x ∷ xs))))
+      (ap (kept limit (with_token (OfOperator o) (x ∷ xs)) (done ++ Mark.Operator o ∷ [])) (levels_token (OfOperator o) (x ∷ xs))))
 
   operator_sound : (o : Operator) (c : Character) (rest : List ℕ) → is_raw_character c ≡ false → between_tokens x ≡ true → may_grow o ≡ true → Written e (plain (operator_text o)) mid m → Reads e c m rest
       → Goes (in_operator o (begin_at (Pending.Operator o) []) c) c rest
@@ -294,7 +294,7 @@ module _ (e : Bool) (subject : Subject) (front : List ℕ) (blank : IsBlank subj
     where
       go : (y : Option Operator) → grown o b ≡ y → Goes (grow_to o y (begin_at (Pending.Operator o) []) b) (Plain b) rest
       go (Some longer) h =
-          grow_sound e subject front blank previous x xs done mid p longer rest (b ∷ rest) m p.inside.inner i (more_none longer x (grown_no_right o longer b g h) (grown_no_newline o longer b g h))
+          grow_sound e limit subject front blank previous x xs done mid p longer rest (b ∷ rest) m p.inside.inner i (more_none longer x (grown_no_right o longer b g h) (grown_no_newline o longer b g h))
           (subst (λ z. Written e z mid rest) (plain_snoc (operator_text o) b ∙ ap plain (sym (grown_text o longer b h))) (written_snoc e (plain (operator_text o)) (Plain b) mid m rest v f))
       go None h = operator_before o (Plain b) rest refl i g (ap (ends_operator o) (ahead_plain e b m rest f) ∙ ap (λ z. not (is_some z)) h) v f
   operator_sound o (Quoted b) rest k i g v f = operator_before o (Quoted b) rest refl i g (ap (ends_operator o) (ahead_quoted e b m rest f)) v f
@@ -306,7 +306,7 @@ module _ (e : Bool) (subject : Subject) (front : List ℕ) (blank : IsBlank subj
   comment_sound acc (Plain b) rest k n i v f = absurd (cc)
   comment_sound acc (Quoted b) rest k n i v f = absurd (cc)
   comment_sound acc (Raw b) rest k n i v f =
-      either e subject front (nat_eq b 10) _ _ previous (b ∷ rest) m rest
+      either e limit subject front (nat_eq b 10) _ _ previous (b ∷ rest) m rest
       (λ h. let z = eqb-true b 10 h in
       let g : m ≡ 10 ∷ rest = f ∙ ap (λ y. y ∷ rest) z in
       subst (λ y. Goes (plain_byte (same (Comment acc) (begin_at Pending.Comment acc)) y) (Raw y) rest) (sym z)
@@ -323,12 +323,12 @@ module _ (e : Bool) (subject : Subject) (front : List ℕ) (blank : IsBlank subj
       → Goes (in_body l n j (begin_at (Pending.Body l n j) acc) c) c rest
   body_sound l n j acc (Plain b) rest k r v f = absurd (cc)
   body_sound l n j acc (Quoted b) rest k r v f = absurd (cc)
-  body_sound l n j acc (Raw b) rest k r v f = go (further x xs done lv l n j acc r b)
+  body_sound l n j acc (Raw b) rest k r v f = go (further limit x xs done lv l n j acc r b)
     where
       more : Written e (Plain 10 ∷ raw (acc ++ b ∷ [])) mid rest
       more = subst (λ z. Written e (Plain 10 ∷ z) mid rest) (raw_snoc acc b) (written_snoc e (Plain 10 ∷ raw acc) (Raw b) mid m rest v f)
 
-      go : Further x xs done lv l n j acc b → Goes (in_body l n j (begin_at (Pending.Body l n j) acc) (Raw b)) (Raw b) rest
+      go : Further limit x xs done lv l n j acc b → Goes (in_body l n j (begin_at (Pending.Body l n j) acc) (Raw b)) (Raw b) rest
       go (on i o q s g) = subst (λ z. Goes z (Raw b) rest) (sym g) (held_on (Pending.Body i o q) (acc ++ b ∷ []) (Raw b) rest (s, more) tt)
       go (over t q g) =
           subst (λ z. Goes z (Raw b) rest) (sym g)
@@ -338,17 +338,17 @@ module _ (e : Bool) (subject : Subject) (front : List ℕ) (blank : IsBlank subj
             fits = and_both (has_due x) (are_bodies (due_in x) false (lines [] (acc ++ 10 ∷ []))) (some_dropped n (due_in x) r.awaits)
                 (subst (λ z. are_bodies (due_in x) false (lines [] (acc ++ z ∷ [])) ≡ true) t (q []));
             level = refl;
-          }) refl (ap (kept (with_token OfBodies (x ∷ xs)) (done ++ Bodies (acc ++ 10 ∷ []) ∷ [])) (sym (levels_token OfBodies (x ∷ xs)))))
+          }) refl (ap (kept limit (with_token OfBodies (x ∷ xs)) (done ++ Bodies (acc ++ 10 ∷ []) ∷ [])) (sym (levels_token OfBodies (x ∷ xs)))))
 
-  nothing_sound : (c : Character) (rest : List ℕ) → is_raw_character c ≡ false → mid ≡ m → Reads e c m rest → Goes (act (settled done (x ∷ xs)) c) c rest
+  nothing_sound : (c : Character) (rest : List ℕ) → is_raw_character c ≡ false → mid ≡ m → Reads e c m rest → Goes (act (settled limit done (x ∷ xs)) c) c rest
   nothing_sound (Plain b) rest k w f =
-      subst (λ z. Going e subject front (plain_byte (settled done (x ∷ xs)) b) previous (b ∷ rest) z rest) w (plain_sound e subject front blank previous x xs done mid b rest p (subst (λ z. Reads e (Plain b) z rest) (sym w) f))
+      subst (λ z. Going e limit subject front (plain_byte (settled limit done (x ∷ xs)) b) previous (b ∷ rest) z rest) w (plain_sound e limit subject front blank previous x xs done mid b rest p (subst (λ z. Reads e (Plain b) z rest) (sym w) f))
   nothing_sound (Quoted b) rest k w f =
-      subst (λ z. Going e subject front (quoted_byte (settled done (x ∷ xs)) b) previous (92 ∷ b ∷ rest) z rest) w (quoted_sound e subject front blank previous x xs done mid b rest p (subst (λ z. Reads e (Quoted b) z rest) (sym w) f))
+      subst (λ z. Going e limit subject front (quoted_byte (settled limit done (x ∷ xs)) b) previous (92 ∷ b ∷ rest) z rest) w (quoted_sound e limit subject front blank previous x xs done mid b rest p (subst (λ z. Reads e (Quoted b) z rest) (sym w) f))
   nothing_sound (Raw b) rest k w f = absurd (cc)
 
   -- what each character makes of it
-  pub step_sound : (q : Pending) (acc : List ℕ) (c : Character) (rest : List ℕ) → is_raw q ≡ is_raw_character c → Held e q (x ∷ xs) acc mid m → Preceded q acc previous m → Reads e c m rest → Goes (step (begin_at q acc) c) c rest
+  pub step_sound : (q : Pending) (acc : List ℕ) (c : Character) (rest : List ℕ) → is_raw q ≡ is_raw_character c → Held e limit q (x ∷ xs) acc mid m → Preceded q acc previous m → Reads e c m rest → Goes (step (begin_at q acc) c) c rest
   step_sound Pending.Nothing acc c rest k h r f = subst (λ a. Goes (step (begin_at Pending.Nothing a) c) c rest) (sym h.0) (nothing_sound c rest (sym k) h.1 f)
   step_sound Pending.Dollar acc c rest k h r f = subst (λ a. Goes (step (begin_at Pending.Dollar a) c) c rest) (sym h.0) (dollar_sound c rest (sym k) h.1 h.2 r f)
   step_sound Pending.DollarParenthesis acc c rest k h r f = subst (λ a. Goes (step (begin_at Pending.DollarParenthesis a) c) c rest) (sym h.0) (parenthesis_sound c rest (sym k) h.1 h.2 h.3 f)

@@ -162,18 +162,18 @@ pub between_word : (s : State) (b : ℕ) → is_blank b ≡ false → nat_eq b 3
 unfolding between
 between_word s b h i j k l = rw (h, i, j, and_left (nat_eq b 41) (may_close (top_of s.contexts)) k, and_left (nat_eq b 10) (has_due (top_of s.contexts)) l) refl
 
-module _ (x : Context) (xs : List Context) (done : List Mark) where
+module _ (limit : ℕ) (x : Context) (xs : List Context) (done : List Mark) where
   abbrev base : State
-  base = settled done (x ∷ xs)
+  base = settled limit done (x ∷ xs)
 
   -- what comes first in a word does the same before it as in it
   abbrev pub opened : State
-  opened = settled (done ++ WordOpen ∷ []) (Word (length done) ∷ x ∷ xs)
+  opened = settled limit (done ++ WordOpen ∷ []) (Word (length done) ∷ x ∷ xs)
 
   pub word_plain : (b : ℕ) → between_tokens x ≡ true → begins_word (Next (Plain b)) ≡ true → step base (Plain b) ≡ step opened (Plain b)
   word_plain b h i =
       let t = begins_parts b i in
-      plain_between base b h ∙ (between_word base b t.2 t.1 t.3 t.4 t.5 ∙ sym (byte_in (Word (length done)) (x ∷ xs) (done ++ WordOpen ∷ []) (levels (x ∷ xs)) b refl t.0))
+      plain_between base b h ∙ (between_word base b t.2 t.1 t.3 t.4 t.5 ∙ sym (byte_in limit (Word (length done)) (x ∷ xs) (done ++ WordOpen ∷ []) (levels (x ∷ xs)) b refl t.0))
 
   pub word_quoted : (b : ℕ) → between_tokens x ≡ true → step base (Quoted b) ≡ step opened (Quoted b)
   unfolding quoted_byte
@@ -182,73 +182,73 @@ module _ (x : Context) (xs : List Context) (done : List Mark) where
   pub first_byte : (b : ℕ) (p : Operator) → between_tokens x ≡ true → First b p → (nat_eq b 41 && may_close x) ≡ false → (nat_eq b 10 && has_due x) ≡ false → step base (Plain b) ≡ grow p base
   first_byte b p h f c d = plain_between base b h ∙ (between_operator base b f.blank f.hash c d f.byte ∙ ap (λ q. grow q base) f.is)
 
-  pub next_byte : (p o : Operator) (c : ℕ) → grown p c ≡ Some o → step (begun (x ∷ xs) done (levels (x ∷ xs)) (Pending.Operator p) []) (Plain c) ≡ grow o base
+  pub next_byte : (p o : Operator) (c : ℕ) → grown p c ≡ Some o → step (begun limit (x ∷ xs) done (levels (x ∷ xs)) (Pending.Operator p) []) (Plain c) ≡ grow o base
   unfolding in_operator
-  next_byte p o c h = ap (λ y. grow_to p y (begun (x ∷ xs) done (levels (x ∷ xs)) (Pending.Operator p) []) c) h
+  next_byte p o c h = ap (λ y. grow_to p y (begun limit (x ∷ xs) done (levels (x ∷ xs)) (Pending.Operator p) []) c) h
 
-  pub growing : (o : Operator) → may_grow o ≡ true → grow o base ≡ On (begun (x ∷ xs) done (levels (x ∷ xs)) (Pending.Operator o) [])
+  pub growing : (o : Operator) → may_grow o ≡ true → grow o base ≡ On (begun limit (x ∷ xs) done (levels (x ∷ xs)) (Pending.Operator o) [])
   growing o h = rw h refl
 
-module _ (k e : Bool) (x : Context) (xs : List Context) (done : List Mark) where
+module _ (k e : Bool) (limit : ℕ) (x : Context) (xs : List Context) (done : List Mark) where
   abbrev lv : ℕ
   lv = levels (x ∷ xs)
 
   abbrev at_start : State
-  at_start = settled done (x ∷ xs)
+  at_start = settled limit done (x ∷ xs)
 
   pub blank_leads : (b : ℕ) (m rest : List ℕ) → (k ≡ true → is_text x ≡ false) → between_tokens x ≡ true → is_blank b ≡ true → Written e (Plain b ∷ []) m rest
-      → Leads k e at_start m (settled (done ++ Blank b ∷ []) (x ∷ xs)) rest
-  blank_leads b m rest g h i w = one k e at_start (settled (done ++ Blank b ∷ []) (x ∷ xs)) m rest (Plain b) g refl w (plain_between at_start b h ∙ between_blank at_start b i)
+      → Leads k e at_start m (settled limit (done ++ Blank b ∷ []) (x ∷ xs)) rest
+  blank_leads b m rest g h i w = one k e at_start (settled limit (done ++ Blank b ∷ []) (x ∷ xs)) m rest (Plain b) g refl w (plain_between at_start b h ∙ between_blank at_start b i)
 
-  comment_over : (bs m : List ℕ) → ends_comment e m ≡ true → Leads k e (begun (x ∷ xs) done lv Pending.Comment bs) m (settled (done ++ Comment bs ∷ []) (x ∷ xs)) m
+  comment_over : (bs m : List ℕ) → ends_comment e m ≡ true → Leads k e (begun limit (x ∷ xs) done lv Pending.Comment bs) m (settled limit (done ++ Comment bs ∷ []) (x ∷ xs)) m
   unfolding fed in_comment
-  comment_over bs [] h p n b = record { places = p; next = n; behind = b; front = λ i. refl; same = subst (λ e. run e false (begun (x ∷ xs) done lv Pending.Comment bs) p [] ≡ run e false (settled (done ++ Comment bs ∷ []) (x ∷ xs)) p []) (sym h) refl }
+  comment_over bs [] h p n b = record { places = p; next = n; behind = b; front = λ i. refl; same = subst (λ e. run e false (begun limit (x ∷ xs) done lv Pending.Comment bs) p [] ≡ run e false (settled limit (done ++ Comment bs ∷ []) (x ∷ xs)) p []) (sym h) refl }
   comment_over bs (c ∷ cs) h p n b =
       record {
         places = p;
         next = n;
         behind = b;
         front = λ i. refl;
-        same = subst (λ c. run e false (begun (x ∷ xs) done lv Pending.Comment bs) p (c ∷ cs) ≡ run e false (settled (done ++ Comment bs ∷ []) (x ∷ xs)) p (c ∷ cs)) (sym (eqb-true c 10 h)) refl;
+        same = subst (λ c. run e false (begun limit (x ∷ xs) done lv Pending.Comment bs) p (c ∷ cs) ≡ run e false (settled limit (done ++ Comment bs ∷ []) (x ∷ xs)) p (c ∷ cs)) (sym (eqb-true c 10 h)) refl;
       }
 
   pub comment_leads : (bs m rest : List ℕ) → (k ≡ true → is_text x ≡ false) → between_tokens x ≡ true → list_all is_no_newline bs ≡ true → ends_comment e rest ≡ true
-      → Written e (Plain 35 ∷ raw bs) m rest → Leads k e at_start m (settled (done ++ Comment bs ∷ []) (x ∷ xs)) rest
+      → Written e (Plain 35 ∷ raw bs) m rest → Leads k e at_start m (settled limit (done ++ Comment bs ∷ []) (x ∷ xs)) rest
   unfolding in_comment
   comment_leads bs m rest g h a f w =
-      joined k e at_start (within []) (settled (done ++ Comment bs ∷ []) (x ∷ xs)) m w.0 rest
+      joined k e at_start (within []) (settled limit (done ++ Comment bs ∷ []) (x ∷ xs)) m w.0 rest
       (goes k e at_start (within []) m w.0 (Plain 35) g refl w.1 (plain_between at_start 35 h ∙ between_hash at_start))
-      (joined k e (within []) (within bs) (settled (done ++ Comment bs ∷ []) (x ∷ xs)) w.0 rest rest
-      (raw_keeps k e (x ∷ xs) done lv Pending.Comment is_no_newline g refl keeps bs [] w.0 rest a w.2)
+      (joined k e (within []) (within bs) (settled limit (done ++ Comment bs ∷ []) (x ∷ xs)) w.0 rest rest
+      (raw_keeps k e limit (x ∷ xs) done lv Pending.Comment is_no_newline g refl keeps bs [] w.0 rest a w.2)
       (comment_over bs rest f))
     where
       within : List ℕ → State
-      within acc = begun (x ∷ xs) done lv Pending.Comment acc
+      within acc = begun limit (x ∷ xs) done lv Pending.Comment acc
 
-      keeps : (acc : List ℕ) (b : ℕ) → is_no_newline b ≡ true → step (begun (x ∷ xs) done lv Pending.Comment acc) (Raw b) ≡ On (begun (x ∷ xs) done lv Pending.Comment (acc ++ b ∷ []))
+      keeps : (acc : List ℕ) (b : ℕ) → is_no_newline b ≡ true → step (begun limit (x ∷ xs) done lv Pending.Comment acc) (Raw b) ≡ On (begun limit (x ∷ xs) done lv Pending.Comment (acc ++ b ∷ []))
       keeps acc b h = rw (not_true (nat_eq b 10) h) refl
 
-  pub commands_over : (m rest : List ℕ) → may_close x ≡ true → Written e (Plain 41 ∷ []) m rest → Leads k e at_start m (settled (done ++ CommandsClose ∷ []) xs) rest
+  pub commands_over : (m rest : List ℕ) → may_close x ≡ true → Written e (Plain 41 ∷ []) m rest → Leads k e at_start m (settled limit (done ++ CommandsClose ∷ []) xs) rest
   commands_over m rest h w =
-      subst (λ l. Leads k e at_start m (kept xs (done ++ CommandsClose ∷ []) l) rest) (closes_level x xs h)
-      (one k e at_start (kept xs (done ++ CommandsClose ∷ []) (lv - 1)) m rest (Plain 41) (λ t. closes_no_text x h) refl w (plain_between at_start 41 (closes_between x h) ∙ between_close at_start h))
+      subst (λ l. Leads k e at_start m (kept limit xs (done ++ CommandsClose ∷ []) l) rest) (closes_level x xs h)
+      (one k e at_start (kept limit xs (done ++ CommandsClose ∷ []) (lv - 1)) m rest (Plain 41) (λ t. closes_no_text x h) refl w (plain_between at_start 41 (closes_between x h) ∙ between_close at_start h))
 
   -- a word begins within a substitution
-  pub word_leads : (m : List ℕ) → is_text x ≡ false → between_tokens x ≡ true → begins_word (ahead e m) ≡ true → Leads k e at_start m (settled (done ++ WordOpen ∷ []) (Word (length done) ∷ x ∷ xs)) m
+  pub word_leads : (m : List ℕ) → is_text x ≡ false → between_tokens x ≡ true → begins_word (ahead e m) ≡ true → Leads k e at_start m (settled limit (done ++ WordOpen ∷ []) (Word (length done) ∷ x ∷ xs)) m
   word_leads m t h i =
-      same_ahead k e at_start (settled (done ++ WordOpen ∷ []) (Word (length done) ∷ x ∷ xs)) m (record { left = refl; right = refl; gap = t })
+      same_ahead k e at_start (settled limit (done ++ WordOpen ∷ []) (Word (length done) ∷ x ∷ xs)) m (record { left = refl; right = refl; gap = t })
       (record {
-        plains = λ b j. word_plain x xs done b h (sym (ap begins_word j) ∙ i);
-        quoteds = λ b j. word_quoted x xs done b h;
+        plains = λ b j. word_plain limit x xs done b h (sym (ap begins_word j) ∙ i);
+        quoteds = λ b j. word_quoted limit x xs done b h;
         ends = λ j. let z = sym (ap begins_word j) ∙ i in absurd (cc);
       })
 
   -- an operator within a substitution
   abbrev over_with : Operator → State
-  over_with o = kept (with_token (OfOperator o) (x ∷ xs)) (done ++ Mark.Operator o ∷ []) lv
+  over_with o = kept limit (with_token (OfOperator o) (x ∷ xs)) (done ++ Mark.Operator o ∷ []) lv
 
   operator_alike : (o : Operator) (m : List ℕ) → is_text x ≡ false → between_tokens x ≡ true → ends_operator o (ahead e m) ≡ true
-      → Alike e false (begun (x ∷ xs) done lv (Pending.Operator o) []) (over_with o) m
+      → Alike e false (begun limit (x ∷ xs) done lv (Pending.Operator o) []) (over_with o) m
   unfolding in_operator
   operator_alike o m t h i =
       let c = OfOperator o in
@@ -256,7 +256,7 @@ module _ (k e : Bool) (x : Context) (xs : List Context) (done : List Mark) where
       let v = between_no_word (top_of (with_token c (x ∷ xs))) (between_token c (x ∷ xs) ∙ h) in
       let y = between_no_body (top_of (with_token c (x ∷ xs))) (between_token c (x ∷ xs) ∙ h) in
       record {
-        plains = λ b j. ap (λ y. grow_to o y (begun (x ∷ xs) done lv (Pending.Operator o) []) b) (no_longer o b (ahead e m) i j) ∙ (rw u refl);
+        plains = λ b j. ap (λ y. grow_to o y (begun limit (x ∷ xs) done lv (Pending.Operator o) []) b) (no_longer o b (ahead e m) i j) ∙ (rw u refl);
         quoteds = λ b j. rw u refl;
         ends = λ j. rw (t, u, y, v) refl;
       }
@@ -267,48 +267,48 @@ module _ (k e : Bool) (x : Context) (xs : List Context) (done : List Mark) where
     where
       go : (c : Bool) → may_grow o ≡ c → Leads k e s m (over_with o) rest
       go true j =
-          joined k e s (begun (x ∷ xs) done lv (Pending.Operator o) []) (over_with o) m rest rest
-          (one k e s (begun (x ∷ xs) done lv (Pending.Operator o) []) m rest (Plain b) (λ z. g) r w (f ∙ growing x xs done o j))
-          (same_ahead k e (begun (x ∷ xs) done lv (Pending.Operator o) []) (over_with o) rest (record { left = refl; right = refl; gap = sym (text_token (OfOperator o) (x ∷ xs) ∙ t) }) (operator_alike o rest t h i))
+          joined k e s (begun limit (x ∷ xs) done lv (Pending.Operator o) []) (over_with o) m rest rest
+          (one k e s (begun limit (x ∷ xs) done lv (Pending.Operator o) []) m rest (Plain b) (λ z. g) r w (f ∙ growing limit x xs done o j))
+          (same_ahead k e (begun limit (x ∷ xs) done lv (Pending.Operator o) []) (over_with o) rest (record { left = refl; right = refl; gap = sym (text_token (OfOperator o) (x ∷ xs) ∙ t) }) (operator_alike o rest t h i))
       go false j = one k e s (over_with o) m rest (Plain b) (λ z. g) r w (f ∙ rw (j, text_token (OfOperator o) (x ∷ xs) ∙ t) refl)
 
   -- the byte of an operator that may grow
   to_operator : (b : ℕ) (p : Operator) (m rest : List ℕ) → is_text x ≡ false → between_tokens x ≡ true → First b p → nat_eq b 41 ≡ false → nat_eq b 10 ≡ false → may_grow p ≡ true → Reads e (Plain b) m rest
-      → Leads k e at_start m (begun (x ∷ xs) done lv (Pending.Operator p) []) rest
+      → Leads k e at_start m (begun limit (x ∷ xs) done lv (Pending.Operator p) []) rest
   to_operator b p m rest t h f c d j r =
-      goes k e at_start (begun (x ∷ xs) done lv (Pending.Operator p) []) m rest (Plain b) (λ z. t) refl r
-      (first_byte x xs done b p h f (and_left (nat_eq b 41) (may_close x) c) (and_left (nat_eq b 10) (has_due x) d) ∙ growing x xs done p j)
+      goes k e at_start (begun limit (x ∷ xs) done lv (Pending.Operator p) []) m rest (Plain b) (λ z. t) refl r
+      (first_byte limit x xs done b p h f (and_left (nat_eq b 41) (may_close x) c) (and_left (nat_eq b 10) (has_due x) d) ∙ growing limit x xs done p j)
 
   further : (p q : Operator) (c : ℕ) (m rest : List ℕ) → grown p c ≡ Some q → may_grow q ≡ true → Reads e (Plain c) m rest
-      → Leads k e (begun (x ∷ xs) done lv (Pending.Operator p) []) m (begun (x ∷ xs) done lv (Pending.Operator q) []) rest
+      → Leads k e (begun limit (x ∷ xs) done lv (Pending.Operator p) []) m (begun limit (x ∷ xs) done lv (Pending.Operator q) []) rest
   further p q c m rest h j r =
-      goes k e (begun (x ∷ xs) done lv (Pending.Operator p) []) (begun (x ∷ xs) done lv (Pending.Operator q) []) m rest (Plain c) (λ z. refl) refl r
-      (next_byte x xs done p q c h ∙ growing x xs done q j)
+      goes k e (begun limit (x ∷ xs) done lv (Pending.Operator p) []) (begun limit (x ∷ xs) done lv (Pending.Operator q) []) m rest (Plain c) (λ z. refl) refl r
+      (next_byte limit x xs done p q c h ∙ growing limit x xs done q j)
 
   operator_made : (o : Operator) (m rest : List ℕ) → Made o → is_text x ≡ false → between_tokens x ≡ true → ends_operator o (ahead e rest) ≡ true
       → is_more o x ≡ false → Written e (plain (operator_text o)) m rest → Leads k e at_start m (over_with o) rest
   operator_made o m rest (one_byte b s f y z) t h i c w =
       let u = or_false (is_right_parenthesis o && may_close x) (is_newline o && has_due x) c in
       let v : Written e (Plain b ∷ []) m rest = subst (λ z. Written e (plain z) m rest) s w in
-      last_byte o at_start m rest b t h i t refl v (first_byte x xs done b o h f (ap (λ v. v && may_close x) y ∙ u.0) (ap (λ v. v && has_due x) z ∙ u.1))
+      last_byte o at_start m rest b t h i t refl v (first_byte limit x xs done b o h f (ap (λ v. v && may_close x) y ∙ u.0) (ap (λ v. v && has_due x) z ∙ u.1))
   operator_made o m rest (two_bytes b d p s f y z j l) t h i c w =
       let v : Written e (Plain b ∷ Plain d ∷ []) m rest = subst (λ z. Written e (plain z) m rest) s w in
-      joined k e at_start (begun (x ∷ xs) done lv (Pending.Operator p) []) (over_with o) m v.0 rest
+      joined k e at_start (begun limit (x ∷ xs) done lv (Pending.Operator p) []) (over_with o) m v.0 rest
       (to_operator b p m v.0 t h f y z j v.1)
-      (last_byte o (begun (x ∷ xs) done lv (Pending.Operator p) []) v.0 rest d t h i refl refl v.2 (next_byte x xs done p o d l))
+      (last_byte o (begun limit (x ∷ xs) done lv (Pending.Operator p) []) v.0 rest d t h i refl refl v.2 (next_byte limit x xs done p o d l))
   operator_made o m rest (three_bytes b d a p q s f y z j l n u) t h i c w =
       let v : Written e (Plain b ∷ Plain d ∷ Plain a ∷ []) m rest = subst (λ z. Written e (plain z) m rest) s w in
-      joined k e at_start (begun (x ∷ xs) done lv (Pending.Operator p) []) (over_with o) m v.0 rest
+      joined k e at_start (begun limit (x ∷ xs) done lv (Pending.Operator p) []) (over_with o) m v.0 rest
       (to_operator b p m v.0 t h f y z j v.1)
-      (joined k e (begun (x ∷ xs) done lv (Pending.Operator p) []) (begun (x ∷ xs) done lv (Pending.Operator q) []) (over_with o) v.0 v.2.0 rest
+      (joined k e (begun limit (x ∷ xs) done lv (Pending.Operator p) []) (begun limit (x ∷ xs) done lv (Pending.Operator q) []) (over_with o) v.0 v.2.0 rest
       (further p q d v.0 v.2.0 l n v.2.1)
-      (last_byte o (begun (x ∷ xs) done lv (Pending.Operator q) []) v.2.0 rest a t h i refl refl v.2.2 (next_byte x xs done q o a u)))
+      (last_byte o (begun limit (x ∷ xs) done lv (Pending.Operator q) []) v.2.0 rest a t h i refl refl v.2.2 (next_byte limit x xs done q o a u)))
 
   pub operator_leads : (o : Operator) (m rest : List ℕ) → is_text x ≡ false → between_tokens x ≡ true → ends_operator o (ahead e rest) ≡ true
       → is_more o x ≡ false → Written e (plain (operator_text o)) m rest
-      → Leads k e at_start m (settled (done ++ Mark.Operator o ∷ []) (with_token (OfOperator o) (x ∷ xs))) rest
+      → Leads k e at_start m (settled limit (done ++ Mark.Operator o ∷ []) (with_token (OfOperator o) (x ∷ xs))) rest
   operator_leads o m rest t h i c w =
-      subst (λ l. Leads k e at_start m (kept (with_token (OfOperator o) (x ∷ xs)) (done ++ Mark.Operator o ∷ []) l) rest) (sym (levels_token (OfOperator o) (x ∷ xs)))
+      subst (λ l. Leads k e at_start m (kept limit (with_token (OfOperator o) (x ∷ xs)) (done ++ Mark.Operator o ∷ []) l) rest) (sym (levels_token (OfOperator o) (x ∷ xs)))
       (operator_made o m rest (made o) t h i c w)
 
 -- a newline behind which bodies come
@@ -326,22 +326,22 @@ between_due : (s : State) → has_due (top_of s.contexts) ≡ true → between s
 unfolding between
 between_due s h = rw h refl
 
-pub bodies_leads : (k e : Bool) (x : Context) (xs : List Context) (done : List Mark) (bs m rest : List ℕ) → is_text x ≡ false → has_due x ≡ true → are_bodies (due_in x) false (lines [] bs) ≡ true
-    → Written e (Plain 10 ∷ raw bs) m rest → Leads k e (settled done (x ∷ xs)) m (settled (done ++ Bodies bs ∷ []) (with_token OfBodies (x ∷ xs))) rest
-bodies_leads k e x xs done bs m rest t h a w =
-    let s = settled done (x ∷ xs) in
+pub bodies_leads : (k e : Bool) (limit : ℕ) (x : Context) (xs : List Context) (done : List Mark) (bs m rest : List ℕ) → is_text x ≡ false → has_due x ≡ true → are_bodies (due_in x) false (lines [] bs) ≡ true
+    → Written e (Plain 10 ∷ raw bs) m rest → Leads k e (settled limit done (x ∷ xs)) m (settled limit (done ++ Bodies bs ∷ []) (with_token OfBodies (x ∷ xs))) rest
+bodies_leads k e limit x xs done bs m rest t h a w =
+    let s = settled limit done (x ∷ xs) in
     let lv = levels (x ∷ xs) in
-    let first = within x xs done lv 0 0 false [] in
-    subst (λ l. Leads k e s m (kept (with_token OfBodies (x ∷ xs)) (done ++ Bodies bs ∷ []) l) rest) (sym (levels_token OfBodies (x ∷ xs)))
-    (joined k e s first (ended_at x xs done lv bs) m w.0 rest
+    let first = within limit x xs done lv 0 0 false [] in
+    subst (λ l. Leads k e s m (kept limit (with_token OfBodies (x ∷ xs)) (done ++ Bodies bs ∷ []) l) rest) (sym (levels_token OfBodies (x ∷ xs)))
+    (joined k e s first (ended_at limit x xs done lv bs) m w.0 rest
     (goes k e s first m w.0 (Plain 10) (λ z. t) refl w.1 (plain_between s 10 (due_between x h) ∙ between_due s h))
-    (bodies_keep x xs done lv k e bs 0 0 false [] w.0 rest (at_first (due_in x) h) a w.2))
+    (bodies_keep limit x xs done lv k e bs 0 0 false [] w.0 rest (at_first (due_in x) h) a w.2))
 
 -- the end of a word within a substitution
-pub closing_word : (n : ℕ) (xs : List Context) (done : List Mark) (b : ℕ) → is_end b ≡ true
-    → plain_byte (settled done (Word n ∷ xs)) b ≡ after_word (word_out (is_redirection b) (settled done (Word n ∷ xs))) b
+pub closing_word : (limit : ℕ) (n : ℕ) (xs : List Context) (done : List Mark) (b : ℕ) → is_end b ≡ true
+    → plain_byte (settled limit done (Word n ∷ xs)) b ≡ after_word (word_out (is_redirection b) (settled limit done (Word n ∷ xs))) b
 unfolding plain_byte
-closing_word n xs done b h = rw h refl
+closing_word limit n xs done b h = rw h refl
 
 closed_word : (s : State) (b : ℕ) → is_top s.contexts ≡ false → after_word s b ≡ between s b
 closed_word s b h = rw h refl
@@ -351,15 +351,15 @@ same_is true b h = sym h
 same_is false true h = absurd (cc)
 same_is false false h = refl
 
-module _ (k e : Bool) (n : ℕ) (xs : List Context) (done : List Mark) (r : Bool) (m : List ℕ) where
+module _ (k e : Bool) (limit : ℕ) (n : ℕ) (xs : List Context) (done : List Mark) (r : Bool) (m : List ℕ) where
   abbrev class : Told
   class = OfWord r (drop (suc n) done)
 
   abbrev open_word : State
-  open_word = settled done (Word n ∷ xs)
+  open_word = settled limit done (Word n ∷ xs)
 
   abbrev closed : State
-  closed = kept (with_token class xs) (done ++ WordClose r ∷ []) (levels xs)
+  closed = kept limit (with_token class xs) (done ++ WordClose r ∷ []) (levels xs)
 
   closes_alike : between_tokens (top_of xs) ≡ true → is_text (top_of xs) ≡ false → ends_word (ahead e m) ≡ true → same_as r (next_is is_redirection (ahead e m)) ≡ true
       → Alike e false open_word closed m
@@ -368,7 +368,7 @@ module _ (k e : Bool) (n : ℕ) (xs : List Context) (done : List Mark) (r : Bool
         plains = λ b j.
             let d = sym (ap ends_word j) ∙ i in
             let q = same_is r (is_redirection b) (sym (ap (λ z. same_as r (next_is is_redirection z)) j) ∙ s) in
-            closing_word n xs done b d
+            closing_word limit n xs done b d
             ∙ (ap (λ z. after_word (word_out z open_word) b) (sym q)
             ∙ (closed_word closed b (text_token class xs ∙ t) ∙ sym (plain_between closed b (between_token class xs ∙ h))));
         quoteds = λ b j. let z = sym (ap ends_word j) ∙ i in absurd (cc);
@@ -376,7 +376,7 @@ module _ (k e : Bool) (n : ℕ) (xs : List Context) (done : List Mark) (r : Bool
       }
 
   pub word_over_leads : between_tokens (top_of xs) ≡ true → is_text (top_of xs) ≡ false → ends_word (ahead e m) ≡ true → same_as r (next_is is_redirection (ahead e m)) ≡ true
-      → Leads k e open_word m (settled (done ++ WordClose r ∷ []) (with_token class xs)) m
+      → Leads k e open_word m (settled limit (done ++ WordClose r ∷ []) (with_token class xs)) m
   word_over_leads h t i s =
-      subst (λ l. Leads k e open_word m (kept (with_token class xs) (done ++ WordClose r ∷ []) l) m) (sym (levels_token class xs))
+      subst (λ l. Leads k e open_word m (kept limit (with_token class xs) (done ++ WordClose r ∷ []) l) m) (sym (levels_token class xs))
       (same_ahead k e open_word closed m (record { left = refl; right = refl; gap = sym (text_token class xs ∙ t) }) (closes_alike h t i s))

@@ -81,9 +81,9 @@ pub record Stands (due : List Delimiter) (line bodies : ℕ) (j : Bool) (acc : L
 pub at_first : (due : List Delimiter) → are_some due ≡ true → Stands due 0 0 false []
 at_first due h = record { front = []; current = []; is = refl; begin = refl; awaits = h; same = λ zs. refl }
 
-module _ (x : Context) (xs : List Context) (done : List Mark) (lv : ℕ) where
+module _ (limit : ℕ) (x : Context) (xs : List Context) (done : List Mark) (lv : ℕ) where
   abbrev pub within : ℕ → ℕ → Bool → List ℕ → State
-  within line bodies j acc = begun (x ∷ xs) done lv (Pending.Body line bodies j) acc
+  within line bodies j acc = begun limit (x ∷ xs) done lv (Pending.Body line bodies j) acc
 
   -- what a byte makes of it
   pub data Further (line bodies : ℕ) (j : Bool) (acc : List ℕ) (b : ℕ) : Type 0 where
@@ -160,7 +160,7 @@ module _ (x : Context) (xs : List Context) (done : List Mark) (lv : ℕ) where
         go false h = byte_on b h
 
   abbrev pub ended_at : List ℕ → State
-  ended_at bs = kept (with_token OfBodies (x ∷ xs)) (done ++ Bodies bs ∷ []) lv
+  ended_at bs = kept limit (with_token OfBodies (x ∷ xs)) (done ++ Bodies bs ∷ []) lv
 
   -- no line is unfinished
   unfinished : (ds : List Delimiter) (j : Bool) (line : List ℕ) → are_some ds ≡ true → are_bodies ds j (line ∷ []) ≡ true → ⊥

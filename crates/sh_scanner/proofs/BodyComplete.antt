@@ -45,64 +45,64 @@ top_free : (ys : List Context) → nested ys ≡ true → free is_text ys ≡ tr
 top_free [] n f = absurd (cc)
 top_free (y ∷ ys) n f = not_true (is_text y) (and_true (not (is_text y)) (free is_text ys) f).0
 
-none_end : (e : Bool) (ms done : List Mark) (xs : List Context) (bytes rest : List ℕ) → Inside xs → free is_text xs ≡ true → AreMarks e done xs ms bytes rest → ends_none done xs ms ≡ true
-none_end e [] done xs bytes rest i f a = refl
-none_end e (m ∷ ms) done [] bytes rest i f a = absurd a
-none_end e (m ∷ ms) done (x ∷ xs) bytes rest i f a =
+none_end : (e : Bool) (limit : ℕ) (ms done : List Mark) (xs : List Context) (bytes rest : List ℕ) → Inside xs → free is_text xs ≡ true → AreMarks e limit done xs ms bytes rest → ends_none done xs ms ≡ true
+none_end e limit [] done xs bytes rest i f a = refl
+none_end e limit (m ∷ ms) done [] bytes rest i f a = absurd a
+none_end e limit (m ∷ ms) done (x ∷ xs) bytes rest i f a =
     let ys = behind done x xs m in
     let g = free_behind is_text never_text done x xs m f in
     let t = no_end m ys (top_free ys (nested_behind e done x xs m a.0 i.order a.1.fits) g) in
     and_both (not (ends_token m ys)) (ends_none (done ++ m ∷ []) ys ms) (not_false (ends_token m ys) t)
-    (none_end e ms (done ++ m ∷ []) ys a.0 rest (inside_behind e done x xs m bytes a.0 i a.1 t) g a.2)
+    (none_end e limit ms (done ++ m ∷ []) ys a.0 rest (inside_behind e limit done x xs m bytes a.0 i a.1 t) g a.2)
 
 -- the run behind pieces of a body
-pub record After (bytes : List ℕ) (marks : List Mark) (last : List ℕ) : Type 0 where
+pub record After (limit : ℕ) (bytes : List ℕ) (marks : List Mark) (last : List ℕ) : Type 0 where
   pub places : Places
   pub next : places.next ≡ last
-  pub is : scanned_in Body true bytes ≡ run true false (settled marks (contexts_behind [] (Body ∷ []) marks)) places last
+  pub is : scanned_in Body true limit bytes ≡ run true false (settled limit marks (contexts_behind [] (Body ∷ []) marks)) places last
 
-pub behind_marks : (bytes last : List ℕ) (marks : List Mark) → AreMarks true [] (Body ∷ []) marks bytes last → After bytes marks last
-behind_marks bytes last marks a =
+pub behind_marks : (limit : ℕ) (bytes last : List ℕ) (marks : List Mark) → AreMarks true limit [] (Body ∷ []) marks bytes last → After limit bytes marks last
+behind_marks limit bytes last marks a =
     let i : Inside (Body ∷ []) = record { order = refl; inner = refl } in
-    let l = inner_all true marks [] (Body ∷ []) bytes last i a (none_end true marks [] (Body ∷ []) bytes last i refl a)
+    let l = inner_all true limit marks [] (Body ∷ []) bytes last i a (none_end true limit marks [] (Body ∷ []) bytes last i refl a)
     (record { front = bytes; previous = bytes; behind = bytes; next = bytes; form = bytes }) refl refl in
     record { places = l.places; next = l.next; is = l.same }
 
-abbrev body_state : List Mark → State
-body_state marks = settled marks (Body ∷ [])
+abbrev body_state : ℕ → List Mark → State
+body_state limit marks = settled limit marks (Body ∷ [])
 
 -- and behind joined lines
-pub record Standing (bytes : List ℕ) (marks : List Mark) (place : List ℕ) : Type 0 where
+pub record Standing (limit : ℕ) (bytes : List ℕ) (marks : List Mark) (place : List ℕ) : Type 0 where
   pub places : Places
   pub next : places.next ≡ place
-  pub is : scanned_in Body true bytes ≡ run true false (body_state marks) places place
+  pub is : scanned_in Body true limit bytes ≡ run true false (body_state limit marks) places place
 
-pub standing : (bytes place : List ℕ) (marks : List Mark) → IsFront bytes marks place → Standing bytes marks place
-standing bytes place marks f =
-    let l = behind_marks bytes f.last marks f.pieces in
+pub standing : (limit : ℕ) (bytes place : List ℕ) (marks : List Mark) → IsFront limit bytes marks place → Standing limit bytes marks place
+standing limit bytes place marks f =
+    let l = behind_marks limit bytes f.last marks f.pieces in
     record {
       places = placed place l.places;
       next = refl;
       is = l.is
-          ∙ (ap (λ ys. run true false (settled marks ys) l.places f.last) f.closed
-          ∙ (ap (run true false (body_state marks) l.places) f.joined.is ∙ joins_run true (body_state marks) l.places f.joined.lines place refl (l.next ∙ f.joined.is)));
+          ∙ (ap (λ ys. run true false (settled limit marks ys) l.places f.last) f.closed
+          ∙ (ap (run true false (body_state limit marks) l.places) f.joined.is ∙ joins_run true (body_state limit marks) l.places f.joined.lines place refl (l.next ∙ f.joined.is)));
     }
 
-pub record Pieced (bytes : List ℕ) (marks : List Mark) : Type 0 where
+pub record Pieced (limit : ℕ) (bytes : List ℕ) (marks : List Mark) : Type 0 where
   pub front : List ℕ
   pub rest : List ℕ
-  pub is : scanned_in Body true bytes ≡ Ended (body_state marks) front rest
+  pub is : scanned_in Body true limit bytes ≡ Ended (body_state limit marks) front rest
 
-pub body_complete : (bytes : List ℕ) (marks : List Mark) → IsFront bytes marks [] → Pieced bytes marks
-body_complete bytes marks f = let s = standing bytes [] marks f in record { front = s.places.front; rest = s.places.behind; is = s.is }
+pub body_complete : (limit : ℕ) (bytes : List ℕ) (marks : List Mark) → IsFront limit bytes marks [] → Pieced limit bytes marks
+body_complete limit bytes marks f = let s = standing limit bytes [] marks f in record { front = s.places.front; rest = s.places.behind; is = s.is }
 
-pub body_deep : (bytes place : List ℕ) → IsBodyTooDeep bytes place → scanned_in Body true bytes ≡ Deep place
-body_deep bytes place d =
-    let l = behind_marks bytes d.last d.marks d.before in
-    l.is ∙ in_deep true (contexts_behind [] (Body ∷ []) d.marks) d.marks l.places d.last place d.within l.next d.full d.placed d.opens
+pub body_deep : (limit : ℕ) (bytes place : List ℕ) → IsBodyTooDeep limit bytes place → scanned_in Body true limit bytes ≡ Deep place
+body_deep limit bytes place d =
+    let l = behind_marks limit bytes d.last d.marks d.before in
+    l.is ∙ in_deep true limit (contexts_behind [] (Body ∷ []) d.marks) d.marks l.places d.last place d.within l.next d.full d.placed d.opens
 
 -- the last form begins behind each front
-pub form_behind : (bytes form other : List ℕ) (marks : List Mark) → scanned_in Body true bytes ≡ Open form → IsFront bytes marks other → length form ≤ length other
-form_behind bytes form other marks h f =
-    let s = standing bytes other marks f in
-    loose_run (length other) form other (omega arith) false (body_state marks) s.places refl (omega (arith, ap length s.next)) (sym s.is ∙ h)
+pub form_behind : (limit : ℕ) (bytes form other : List ℕ) (marks : List Mark) → scanned_in Body true limit bytes ≡ Open form → IsFront limit bytes marks other → length form ≤ length other
+form_behind limit bytes form other marks h f =
+    let s = standing limit bytes other marks f in
+    loose_run (length other) form other (omega arith) false (body_state limit marks) s.places refl (omega (arith, ap length s.next)) (sym s.is ∙ h)

@@ -29,9 +29,9 @@ use Rattle.sh_scanner.proofs.Loose.{is_loose_in, is_loose, Tame, step_tame, IsOp
 use Rattle.sh_scanner.proofs.Sound.{plain_at}
 
 -- a front of a body behind which a form begins
-pub record Begins (bytes place : List ℕ) : Type 0 where
+pub record Begins (limit : ℕ) (bytes place : List ℕ) : Type 0 where
   pub marks : List Mark
-  pub front : IsFront bytes marks place
+  pub front : IsFront limit bytes marks place
   pub begins : OpensLevel true place
 
 abbrev pub is_dollar : Pending → Bool
@@ -72,59 +72,59 @@ body_is Arithmetic h = absurd (cc)
 body_is Parenthesis h = absurd (cc)
 body_is Body h = refl
 
-tame_dollar : (x : Context) (xs : List Context) (done : List Mark) (lv : ℕ) (q : Pending) (acc : List ℕ) (c : Character) → is_body x ≡ true → is_dollar q ≡ true → is_raw q ≡ is_raw_character c
-    → DollarTame c (step (begun (x ∷ xs) done lv q acc) c)
-tame_dollar x xs done lv q acc c b d k =
-    subst (λ y. DollarTame c (step (begun (y ∷ xs) done lv q acc) c)) (sym (body_is x b))
-    (subst (λ z. DollarTame c (step (begun (Body ∷ xs) done lv z acc) c)) (sym (dollar_is q d)) (dollar_tame xs done lv acc c (sym k ∙ ap is_raw (dollar_is q d))))
+tame_dollar : (limit : ℕ) (x : Context) (xs : List Context) (done : List Mark) (lv : ℕ) (q : Pending) (acc : List ℕ) (c : Character) → is_body x ≡ true → is_dollar q ≡ true → is_raw q ≡ is_raw_character c
+    → DollarTame c (step (begun limit (x ∷ xs) done lv q acc) c)
+tame_dollar limit x xs done lv q acc c b d k =
+    subst (λ y. DollarTame c (step (begun limit (y ∷ xs) done lv q acc) c)) (sym (body_is x b))
+    (subst (λ z. DollarTame c (step (begun limit (Body ∷ xs) done lv z acc) c)) (sym (dollar_is q d)) (dollar_tame limit xs done lv acc c (sym k ∙ ap is_raw (dollar_is q d))))
 
 -- a `$` behind a front of a body, directly before the text m
-pub record Dollared (bytes : List ℕ) (t : State) (form m : List ℕ) : Type 0 where
+pub record Dollared (limit : ℕ) (bytes : List ℕ) (t : State) (form m : List ℕ) : Type 0 where
   pub marks : List Mark
-  pub front : IsFront bytes marks form
+  pub front : IsFront limit bytes marks form
   pub is : form ≡ 36 ∷ m
   pub body : is_body (top_of t.contexts) ≡ true
   pub dollar : is_dollar t.pending ≡ true
 
-module _ (bytes : List ℕ) where
+module _ (limit : ℕ) (bytes : List ℕ) where
   abbrev BodyPath : List Mark → List Context → List ℕ → Type 0
-  BodyPath done xs mid = Path true WholeBody bytes done xs mid
+  BodyPath done xs mid = Path true limit WholeBody bytes done xs mid
 
   abbrev BodyAt : State → List ℕ → List ℕ → Type 0
-  BodyAt t previous m = At true WholeBody bytes t previous m
+  BodyAt t previous m = At true limit WholeBody bytes t previous m
 
-  deep_shown : (place : List ℕ) → DeepHere true WholeBody bytes place → IsBodyTooDeep bytes place
+  deep_shown : (place : List ℕ) → DeepHere true limit WholeBody bytes place → IsBodyTooDeep limit bytes place
   deep_shown place h = record { marks = h.marks; last = h.last; before = h.before; full = h.full; within = h.within; placed = h.placed; opens = h.opens }
 
   -- where the whole run comes to
   abbrev pub Shown : Scanned → Type 0
-  Shown (Ended k f r) = IsFront bytes k.done []
-  Shown (Deep r) = IsBodyTooDeep bytes r
-  Shown (Open f) = Begins bytes f
+  Shown (Ended k f r) = IsFront limit bytes k.done []
+  Shown (Deep r) = IsBodyTooDeep limit bytes r
+  Shown (Open f) = Begins limit bytes f
 
   -- no form is open, or one may have begun, or it is known where the outermost one begins
   abbrev Formed : State → List ℕ → List ℕ → Type 0
-  Formed t form m = (is_loose t ≡ true) ⊎ Dollared bytes t form m ⊎ Begins bytes form
+  Formed t form m = (is_loose t ≡ true) ⊎ Dollared limit bytes t form m ⊎ Begins limit bytes form
 
   -- pieces that are the body up to here, with nothing open
-  front_at : (done : List Mark) (xs : List Context) (mid place : List ℕ) → BodyPath done xs mid → is_body (top_of xs) ≡ true → Joined mid place → IsFront bytes done place
+  front_at : (done : List Mark) (xs : List Context) (mid place : List ℕ) → BodyPath done xs mid → is_body (top_of xs) ≡ true → Joined mid place → IsFront limit bytes done place
   front_at done xs mid place p b j =
-      subst (λ d. IsFront bytes d place) p.is (record { last = mid; pieces = p.walked; closed = p.contexts ∙ body_alone xs p.inside.order b; joined = j })
+      subst (λ d. IsFront limit bytes d place) p.is (record { last = mid; pieces = p.walked; closed = p.contexts ∙ body_alone xs p.inside.order b; joined = j })
 
   body_free : (done : List Mark) (xs : List Context) (mid : List ℕ) → BodyPath done xs mid → free is_text xs ≡ true
   body_free done xs mid p = subst (λ ys. free is_text ys ≡ true) p.contexts (free_contexts is_text never_text p.inner [] (Body ∷ []) refl)
 
   module _ (form f b : List ℕ) (k : ℕ) (w : b ≡ joins k) where
-    at_end : (done : List Mark) (xs : List Context) (mid : List ℕ) → BodyPath done xs mid → is_body (top_of xs) ≡ true → mid ≡ b → IsFront bytes done []
+    at_end : (done : List Mark) (xs : List Context) (mid : List ℕ) → BodyPath done xs mid → is_body (top_of xs) ≡ true → mid ≡ b → IsFront limit bytes done []
     at_end done xs mid p i v = front_at done xs mid [] p i (record { lines = k; is = v ∙ (w ∙ sym (append-nil (joins k))); over = refl })
 
-    word_ended_shown : (x : Context) (xs : List Context) (done : List Mark) (mid : List ℕ) → BodyPath done (x ∷ xs) mid → mid ≡ b → (is_body x ≡ false → Begins bytes form)
-        → Shown (last_token (word_ended (settled done (x ∷ xs))) f b form)
+    word_ended_shown : (x : Context) (xs : List Context) (done : List Mark) (mid : List ℕ) → BodyPath done (x ∷ xs) mid → mid ≡ b → (is_body x ≡ false → Begins limit bytes form)
+        → Shown (last_token (word_ended (settled limit done (x ∷ xs))) f b form)
     word_ended_shown Top xs done mid p v o = o refl
     word_ended_shown (Commands ts) xs done mid p v o = o refl
     word_ended_shown (Word n) xs done mid p v o = go (is_top (with_token (OfWord false (drop (suc n) done)) xs)) refl
       where
-        go : (c : Bool) → is_top (with_token (OfWord false (drop (suc n) done)) xs) ≡ c → Shown (last_token (cond c (Some (word_out false (settled done (Word n ∷ xs)))) None) f b form)
+        go : (c : Bool) → is_top (with_token (OfWord false (drop (suc n) done)) xs) ≡ c → Shown (last_token (cond c (Some (word_out false (settled limit done (Word n ∷ xs)))) None) f b form)
         go true t = absurd (no_token_over (Word n) xs (body_free done (Word n ∷ xs) mid p) p.inside.order refl (sym (text_token (OfWord false (drop (suc n) done)) xs) ∙ t))
         go false t = o refl
     word_ended_shown Quotes xs done mid p v o = o refl
@@ -135,28 +135,28 @@ module _ (bytes : List ℕ) where
 
     module _ (x : Context) (xs : List Context) (done : List Mark) (mid : List ℕ) (p : BodyPath done (x ∷ xs) mid) where
       abbrev ending : Pending → List ℕ → State
-      ending q acc = begun (x ∷ xs) done (pending_levels q (levels (x ∷ xs))) q acc
+      ending q acc = begun limit (x ∷ xs) done (pending_levels q (levels (x ∷ xs))) q acc
 
-      opened : (q : Pending) (acc : List ℕ) → Formed (ending q acc) form b → (is_body x && is_loose_in q) ≡ false → (is_body x && is_dollar q) ≡ false → Begins bytes form
+      opened : (q : Pending) (acc : List ℕ) → Formed (ending q acc) form b → (is_body x && is_loose_in q) ≡ false → (is_body x && is_dollar q) ≡ false → Begins limit bytes form
       opened q acc (inl l) h g = absurd (cc)
       opened q acc (inr (inl d)) h g = let z = and_both (is_body x) (is_dollar q) d.body d.dollar in absurd (cc)
       opened q acc (inr (inr l)) h g = l
 
       -- the end of the input
-      end_shown : (q : Pending) (acc : List ℕ) → Held true q (x ∷ xs) acc mid b → ahead true b ≡ InputEnd → Formed (ending q acc) form b → Shown (last_token (ended_in q (ending q acc)) f b form)
+      end_shown : (q : Pending) (acc : List ℕ) → Held true limit q (x ∷ xs) acc mid b → ahead true b ≡ InputEnd → Formed (ending q acc) form b → Shown (last_token (ended_in q (ending q acc)) f b form)
       end_shown Pending.Nothing acc h a o =
-          subst (λ z. Shown (last_token (ended_in Pending.Nothing (begun (x ∷ xs) done (levels (x ∷ xs)) Pending.Nothing z)) f b form)) (sym h.0)
-          (subst (λ c. Shown (last_token (cond c (Some (settled done (x ∷ xs))) (word_ended (settled done (x ∷ xs)))) f b form)) (sym p.inside.inner)
+          subst (λ z. Shown (last_token (ended_in Pending.Nothing (begun limit (x ∷ xs) done (levels (x ∷ xs)) Pending.Nothing z)) f b form)) (sym h.0)
+          (subst (λ c. Shown (last_token (cond c (Some (settled limit done (x ∷ xs))) (word_ended (settled limit done (x ∷ xs)))) f b form)) (sym p.inside.inner)
           (word_ended_shown x xs done mid p h.1 (λ i. opened Pending.Nothing acc o (and_left (is_body x) true i) (and_false (is_body x)))))
       end_shown Pending.Dollar acc h a o =
           word_ended_shown x xs (done ++ Dollar ∷ []) b
-          (path_on true WholeBody bytes done x xs Dollar mid b p (dollar_mark true WholeBody bytes tt [] x xs done mid b p h.1 (not_false (next_is is_form (ahead true b)) (ap (next_is is_form) a)) h.2) refl)
+          (path_on true limit WholeBody bytes done x xs Dollar mid b p (dollar_mark true limit WholeBody bytes tt [] x xs done mid b p h.1 (not_false (next_is is_form (ahead true b)) (ap (next_is is_form) a)) h.2) refl)
           refl (λ i. opened Pending.Dollar acc o (and_false (is_body x)) (and_left (is_body x) true i))
       end_shown Pending.DollarParenthesis acc h a o = opened Pending.DollarParenthesis acc o (and_false (is_body x)) (and_false (is_body x))
       end_shown Pending.Name acc h a o =
           word_ended_shown x xs (done ++ Variable acc ∷ []) b
-          (path_on true WholeBody bytes done x xs (Variable acc) mid b p
-          (name_mark true WholeBody bytes tt [] x xs done mid b p acc h.0 h.1 (not_false (next_is is_name_byte (ahead true b)) (ap (next_is is_name_byte) a)) h.2) refl)
+          (path_on true limit WholeBody bytes done x xs (Variable acc) mid b p
+          (name_mark true limit WholeBody bytes tt [] x xs done mid b p acc h.0 h.1 (not_false (next_is is_name_byte (ahead true b)) (ap (next_is is_name_byte) a)) h.2) refl)
           refl (λ i. opened Pending.Name acc o (and_left (is_body x) true i) (and_false (is_body x)))
       end_shown (Pending.Head g) acc h a o = opened (Pending.Head g) acc o (and_false (is_body x)) (and_false (is_body x))
       end_shown Pending.Single acc h a o = opened Pending.Single acc o (and_false (is_body x)) (and_false (is_body x))
@@ -167,22 +167,22 @@ module _ (bytes : List ℕ) where
       end_shown (Pending.Operator u) acc h a o =
           subst (λ c. Shown (last_token (cond c (Some (operator_out u (ending (Pending.Operator u) acc))) None) f b form)) (sym p.inside.inner) (opened (Pending.Operator u) acc o (and_false (is_body x)) (and_false (is_body x)))
       end_shown Pending.Comment acc h a o =
-          let t = settled (done ++ Comment acc ∷ []) (x ∷ xs) in
+          let t = settled limit (done ++ Comment acc ∷ []) (x ∷ xs) in
           subst (λ c. Shown (last_token (cond c (Some t) (word_ended t)) f b form)) (sym p.inside.inner)
           (subst (λ c. Shown (last_token (cond c (Some t) (cond (is_word x && is_top (word_over false (done ++ Comment acc ∷ []) (x ∷ xs))) (Some (word_out false t)) None)) f b form)) (sym (between_no_body x h.1))
           (subst (λ c. Shown (last_token (cond (c && is_top (word_over false (done ++ Comment acc ∷ []) (x ∷ xs))) (Some (word_out false t)) None) f b form)) (sym (between_no_word x h.1))
           (opened Pending.Comment acc o (and_false (is_body x)) (and_false (is_body x)))))
 
   -- where a form may begin with the last character
-  form_at : (xs : List Context) (done : List Mark) (q : Pending) (acc mid previous m : List ℕ) → BodyPath done xs mid → Held true q xs acc mid m → Preceded q acc previous m → is_body (top_of xs) ≡ true
-      → begins_in q acc ≡ true → ((marks : List Mark) × IsFront bytes marks previous × (previous ≡ 36 ∷ m) × (is_dollar q ≡ true)) ⊎ Begins bytes previous
+  form_at : (xs : List Context) (done : List Mark) (q : Pending) (acc mid previous m : List ℕ) → BodyPath done xs mid → Held true limit q xs acc mid m → Preceded q acc previous m → is_body (top_of xs) ≡ true
+      → begins_in q acc ≡ true → ((marks : List Mark) × IsFront limit bytes marks previous × (previous ≡ 36 ∷ m) × (is_dollar q ≡ true)) ⊎ Begins limit bytes previous
   form_at xs done Pending.Dollar acc mid previous m p h r b i =
       let v = h.2 in
       let j : Joined mid (36 ∷ m) = record { lines = v.1.0; is = v.1.1 ∙ ap (λ z. joins v.1.0 ++ 36 ∷ z) v.2; over = no_join_at 36 m refl } in
       inl (done, front_at done xs mid previous p b (subst (Joined mid) (sym r) j), r, refl)
   form_at xs done Pending.Backquotes [] mid previous m p h r b i =
       let v = h.3 in
-      inr (subst (Begins bytes) (sym r)
+      inr (subst (Begins limit bytes) (sym r)
       (record {
         marks = done;
         front = front_at done xs mid (96 ∷ m) p b (record { lines = v.1.0; is = v.1.1 ∙ ap (λ z. joins v.1.0 ++ 96 ∷ z) v.2; over = no_join_at 96 m refl });
@@ -206,14 +206,14 @@ module _ (bytes : List ℕ) where
       let p = and_true (is_body (top_of a.xs)) (begins_in a.pending a.acc) g in
       go p.0 (form_at a.xs a.done a.pending a.acc a.mid previous m a.path a.held a.preceded p.0 p.1)
     where
-      go : is_body (top_of a.xs) ≡ true → ((marks : List Mark) × IsFront bytes marks previous × (previous ≡ 36 ∷ m) × (is_dollar a.pending ≡ true)) ⊎ Begins bytes previous → Formed t previous m
+      go : is_body (top_of a.xs) ≡ true → ((marks : List Mark) × IsFront limit bytes marks previous × (previous ≡ 36 ∷ m) × (is_dollar a.pending ≡ true)) ⊎ Begins limit bytes previous → Formed t previous m
       go b (inl d) =
           inr (inl (record { marks = d.0; front = d.1; is = d.2; body = ap (λ z. is_body (top_of z.contexts)) a.is ∙ b; dollar = ap (λ z. is_dollar z.pending) a.is ∙ d.3 }))
       go b (inr d) = inr (inr d)
 
   -- behind a character, by what came before
   abbrev Onto : Stepped → List ℕ → Type 0
-  Onto (On t) form = (is_loose t ≡ true) ⊎ (begins_form t ≡ true) ⊎ Begins bytes form
+  Onto (On t) form = (is_loose t ≡ true) ⊎ (begins_form t ≡ true) ⊎ Begins limit bytes form
   Onto (Before t) form = Unit {0}
   Onto (After t) form = Unit {0}
   Onto (TooDeep t) form = Unit {0}
@@ -227,7 +227,7 @@ module _ (bytes : List ℕ) where
   onto_tame (TooDeep t) form h = tt
   onto_tame (DollarTooDeep t) form h = tt
 
-  onto_begun : (y : Stepped) (form : List ℕ) → Begins bytes form → Onto y form
+  onto_begun : (y : Stepped) (form : List ℕ) → Begins limit bytes form → Onto y form
   onto_begun (On t) form h = inr (inr h)
   onto_begun (Before t) form h = tt
   onto_begun (After t) form h = tt
@@ -241,7 +241,7 @@ module _ (bytes : List ℕ) where
   opening (Quoted b) m rest r h = absurd h
   opening (Raw b) m rest r h = absurd h
 
-  onto_dollar : (y : Stepped) (c : Character) (t : State) (form m rest : List ℕ) → Dollared bytes t form m → Reads true c m rest → DollarTame c y → Onto y form
+  onto_dollar : (y : Stepped) (c : Character) (t : State) (form m rest : List ℕ) → Dollared limit bytes t form m → Reads true c m rest → DollarTame c y → Onto y form
   onto_dollar (On u) c t form m rest d r (inl h) = inl h
   onto_dollar (On u) c t form m rest d r (inr (inl h)) = inr (inl h)
   onto_dollar (On u) c t form m rest d r (inr (inr h)) = inr (inr (record { marks = d.marks; front = d.front; begins = subst (OpensLevel true) (sym d.is) (opening c m rest r h) }))
@@ -260,7 +260,7 @@ module _ (bytes : List ℕ) where
   abbrev BodyRuns : List ℕ → Type 0
   BodyRuns m = (t : State) (p : Places) → BodyAt t p.previous m → p.next ≡ m → p.behind ≡ m → Formed t p.form m → Shown (run true false t p m)
 
-  onward_shown : (y : Stepped) (p : Places) (begin m rest : List ℕ) → BodyRuns rest → Going true WholeBody bytes y p.previous begin m rest → Onto y p.form → Shown (after true y (placed begin p) rest)
+  onward_shown : (y : Stepped) (p : Places) (begin m rest : List ℕ) → BodyRuns rest → Going true limit WholeBody bytes y p.previous begin m rest → Onto y p.form → Shown (after true y (placed begin p) rest)
   onward_shown (On t) p begin m rest ih g o =
       ih t (moved (begins_form t) rest (placed begin p)) g.it refl refl (still_formed t begin p.form rest g.it o (begins_form t) refl)
   onward_shown (Before t) p begin m rest ih g o = absurd g.it
@@ -268,28 +268,28 @@ module _ (bytes : List ℕ) where
   onward_shown (TooDeep t) p begin m rest ih g o = deep_shown begin g.it
   onward_shown (DollarTooDeep t) p begin m rest ih g o = deep_shown p.previous g.it
 
-  module _ (x : Context) (xs : List Context) (done : List Mark) (mid : List ℕ) (path : BodyPath done (x ∷ xs) mid) (q : Pending) (acc m : List ℕ) (p : Places) (held : Held true q (x ∷ xs) acc mid m)
+  module _ (x : Context) (xs : List Context) (done : List Mark) (mid : List ℕ) (path : BodyPath done (x ∷ xs) mid) (q : Pending) (acc m : List ℕ) (p : Places) (held : Held true limit q (x ∷ xs) acc mid m)
       (preceded : Preceded q acc p.previous m) (n : p.next ≡ m) (b : p.behind ≡ m) where
     abbrev s : State
-    s = begun (x ∷ xs) done (pending_levels q (levels (x ∷ xs))) q acc
+    s = begun limit (x ∷ xs) done (pending_levels q (levels (x ∷ xs))) q acc
 
     no_gap : is_gap_state s ≡ false
     no_gap = and_right (is_gap_pending q) (is_text x) path.inside.inner
 
     onto_now : (c : Character) (rest : List ℕ) → is_raw q ≡ is_raw_character c → Reads true c m rest → Formed s p.form m → Onto (step s c) p.form
     onto_now c rest k r (inl l) = onto_tame (step s c) p.form (step_tame s c l)
-    onto_now c rest k r (inr (inl d)) = onto_dollar (step s c) c s p.form m rest d r (tame_dollar x xs done (pending_levels q (levels (x ∷ xs))) q acc c d.body d.dollar k)
+    onto_now c rest k r (inr (inl d)) = onto_dollar (step s c) c s p.form m rest d r (tame_dollar limit x xs done (pending_levels q (levels (x ∷ xs))) q acc c d.body d.dollar k)
     onto_now c rest k r (inr (inr l)) = onto_begun (step s c) p.form l
 
     got_shown : (c : Character) (rest : List ℕ) → is_raw q ≡ is_raw_character c → Reads true c m rest → BodyRuns rest → Formed s p.form m → Shown (run true false s p m)
     got_shown c rest k r ih o =
         subst Shown (sym (character_run true s p c m rest k r n ∙ ap (λ z. after true (step s c) (fronted z (placed (begin_of c rest) p)) rest) no_gap))
-        (onward_shown (step s c) p (begin_of c rest) m rest ih (step_sound true WholeBody bytes tt p.previous x xs done mid m path q acc c rest k held preceded r) (onto_now c rest k r o))
+        (onward_shown (step s c) p (begin_of c rest) m rest ih (step_sound true limit WholeBody bytes tt p.previous x xs done mid m path q acc c rest k held preceded r) (onto_now c rest k r o))
 
     end_places : (k : ℕ) → m ≡ joins k → Formed s p.form m → Shown (run true false s (placed [] p) [])
     end_places k w o =
         subst (λ z. Shown (last_places s (fronted z (placed [] p)))) (sym no_gap)
-        (end_shown p.form p.front p.behind k (b ∙ w) x xs done mid path q acc (subst (Held true q (x ∷ xs) acc mid) (sym b) held) (ap (ahead true) b ∙ end_ahead k m w) (subst (Formed s p.form) (sym b) o))
+        (end_shown p.form p.front p.behind k (b ∙ w) x xs done mid path q acc (subst (Held true limit q (x ∷ xs) acc mid) (sym b) held) (ap (ahead true) b ∙ end_ahead k m w) (subst (Formed s p.form) (sym b) o))
 
     over_shown : (k : ℕ) → m ≡ joins k → (is_raw q ≡ true → m ≡ []) → Formed s p.form m → (c : Bool) → is_raw q ≡ c → Shown (run true false s p m)
     over_shown k w z o false r = subst Shown (sym (over_run true s p k m r w n)) (end_places k w o)
@@ -302,8 +302,8 @@ module _ (bytes : List ℕ) where
     inner_shown (over k w z) ih o = over_shown k w z o (is_raw q) refl
     inner_shown (cut k w d r) ih o = absurd (cc)
 
-  body_cases : (xs : List Context) (done : List Mark) (q : Pending) (acc mid m : List ℕ) (p : Places) → BodyPath done xs mid → Held true q xs acc mid m → Preceded q acc p.previous m → p.next ≡ m → p.behind ≡ m
-      → Formed (begun xs done (pending_levels q (levels xs)) q acc) p.form m → ((rest : List ℕ) → length rest < length m → BodyRuns rest) → Shown (run true false (begun xs done (pending_levels q (levels xs)) q acc) p m)
+  body_cases : (xs : List Context) (done : List Mark) (q : Pending) (acc mid m : List ℕ) (p : Places) → BodyPath done xs mid → Held true limit q xs acc mid m → Preceded q acc p.previous m → p.next ≡ m → p.behind ≡ m
+      → Formed (begun limit xs done (pending_levels q (levels xs)) q acc) p.form m → ((rest : List ℕ) → length rest < length m → BodyRuns rest) → Shown (run true false (begun limit xs done (pending_levels q (levels xs)) q acc) p m)
   body_cases [] done q acc mid m p path h r n b o ih = let z = path.inside.order in absurd (cc)
   body_cases (x ∷ xs) done q acc mid m p path h r n b o ih = inner_shown x xs done mid path q acc m p h r n b (next_character true (is_raw q) m) ih o
 
@@ -313,7 +313,7 @@ module _ (bytes : List ℕ) where
       subst (λ z. Shown (run true false z p m)) (sym a.is)
       (body_cases a.xs a.done a.pending a.acc a.mid m p a.path a.held a.preceded n b (subst (λ z. Formed z p.form m) a.is o) (λ rest k. body_runs fuel rest (omega arith)))
 
-  first_at : BodyAt (start Body) bytes bytes
+  first_at : BodyAt (start Body limit) bytes bytes
   first_at =
       record {
         xs = Body ∷ [];
@@ -328,6 +328,6 @@ module _ (bytes : List ℕ) where
       }
 
   -- each scanned body is as the definition has it
-  pub body_sound : Shown (scanned_in Body true bytes)
+  pub body_sound : Shown (scanned_in Body true limit bytes)
   body_sound =
-      body_runs (suc (length bytes)) bytes (omega arith) (start Body) (record { front = bytes; previous = bytes; behind = bytes; next = bytes; form = bytes }) first_at refl refl (inl refl)
+      body_runs (suc (length bytes)) bytes (omega arith) (start Body limit) (record { front = bytes; previous = bytes; behind = bytes; next = bytes; form = bytes }) first_at refl refl (inl refl)

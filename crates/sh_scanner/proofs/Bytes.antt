@@ -121,9 +121,9 @@ stood Body b next h =
       going = refl;
     }
 
-module _ (x : Context) (xs : List Context) (done : List Mark) (lv : ℕ) where
+module _ (limit : ℕ) (x : Context) (xs : List Context) (done : List Mark) (lv : ℕ) where
   abbrev pub here : State
-  here = kept (x ∷ xs) done lv
+  here = kept limit (x ∷ xs) done lv
 
   -- a byte of a word or of a part of one
   pub byte_in : (b : ℕ) → between_tokens x ≡ false → (is_word x && is_end b) ≡ false → plain_byte here b ≡ word_byte x here b
@@ -134,13 +134,13 @@ module _ (x : Context) (xs : List Context) (done : List Mark) (lv : ℕ) where
   unfolding plain_byte word_byte
   byte_stood b h = rw (h.within, h.going, h.single, h.double, h.quote, h.brace, h.dollar, h.backquote) refl
 
-  pub inner_on : (b : ℕ) → (nat_eq b 41 && is_arithmetic x) ≡ false → inner_byte x here b ≡ On (kept (parenthesized b x xs) (done ++ Byte b ∷ []) lv)
+  pub inner_on : (b : ℕ) → (nat_eq b 41 && is_arithmetic x) ≡ false → inner_byte x here b ≡ On (kept limit (parenthesized b x xs) (done ++ Byte b ∷ []) lv)
   unfolding inner_byte
   inner_on b h = rw h (go (nat_eq b 41 && is_parenthesis x) (nat_eq b 40 && (is_arithmetic x || is_parenthesis x)) refl refl)
     where
       go : (c d : Bool) → (nat_eq b 41 && is_parenthesis x) ≡ c → (nat_eq b 40 && (is_arithmetic x || is_parenthesis x)) ≡ d
           → cond c (On (out (Byte b) here)) (cond d (On (into Parenthesis (Byte b) here)) (On (same (Byte b) here)))
-          ≡ On (kept (cond d (Parenthesis ∷ x ∷ xs) (cond c xs (x ∷ xs))) (done ++ Byte b ∷ []) lv)
+          ≡ On (kept limit (cond d (Parenthesis ∷ x ∷ xs) (cond c xs (x ∷ xs))) (done ++ Byte b ∷ []) lv)
       go true true i j =
           let p = eqb-true b 41 (and_true (nat_eq b 41) (is_parenthesis x) i).0 in
           let q = (and_true (nat_eq b 40) (is_arithmetic x || is_parenthesis x) j).0 in
@@ -174,7 +174,7 @@ module _ (x : Context) (xs : List Context) (done : List Mark) (lv : ℕ) where
       go false false i = refl
 
   -- a byte behind a backslash
-  pub escaped_in : (b : ℕ) → quotes x b ≡ true → quoted_byte here b ≡ On (kept (x ∷ xs) (done ++ Escaped b ∷ []) lv)
+  pub escaped_in : (b : ℕ) → quotes x b ≡ true → quoted_byte here b ≡ On (kept limit (x ∷ xs) (done ++ Escaped b ∷ []) lv)
   unfolding quoted_byte
   escaped_in b h = rw (within x h, h) refl
     where
@@ -188,66 +188,66 @@ module _ (x : Context) (xs : List Context) (done : List Mark) (lv : ℕ) where
       within Parenthesis h = refl
       within Body h = refl
 
-  pub backslash_in : (b : ℕ) → in_word x ≡ true → quotes x b ≡ false → quoted_byte here b ≡ On (kept (x ∷ xs) (done ++ Backslash b ∷ []) lv)
+  pub backslash_in : (b : ℕ) → in_word x ≡ true → quotes x b ≡ false → quoted_byte here b ≡ On (kept limit (x ∷ xs) (done ++ Backslash b ∷ []) lv)
   unfolding quoted_byte
   backslash_in b w h = rw (word_no_gap x w, h) refl
 
 -- the bytes that open and close forms
-pub single_opens : (x : Context) (xs : List Context) (done : List Mark) (lv : ℕ) → has_single_quotes x ≡ true → plain_byte (kept (x ∷ xs) done lv) 39 ≡ On (begun (x ∷ xs) done lv Pending.Single [])
+pub single_opens : (limit : ℕ) (x : Context) (xs : List Context) (done : List Mark) (lv : ℕ) → has_single_quotes x ≡ true → plain_byte (kept limit (x ∷ xs) done lv) 39 ≡ On (begun limit (x ∷ xs) done lv Pending.Single [])
 unfolding plain_byte word_byte
-single_opens Top xs done lv h = absurd (cc)
-single_opens (Commands ts) xs done lv h = absurd (cc)
-single_opens (Word n) xs done lv h = refl
-single_opens Quotes xs done lv h = absurd (cc)
-single_opens (Braces true) xs done lv h = absurd (cc)
-single_opens (Braces false) xs done lv h = refl
-single_opens Arithmetic xs done lv h = absurd (cc)
-single_opens Parenthesis xs done lv h = absurd (cc)
-single_opens Body xs done lv h = absurd (cc)
+single_opens limit Top xs done lv h = absurd (cc)
+single_opens limit (Commands ts) xs done lv h = absurd (cc)
+single_opens limit (Word n) xs done lv h = refl
+single_opens limit Quotes xs done lv h = absurd (cc)
+single_opens limit (Braces true) xs done lv h = absurd (cc)
+single_opens limit (Braces false) xs done lv h = refl
+single_opens limit Arithmetic xs done lv h = absurd (cc)
+single_opens limit Parenthesis xs done lv h = absurd (cc)
+single_opens limit Body xs done lv h = absurd (cc)
 
-pub double_opens : (x : Context) (xs : List Context) (done : List Mark) (lv : ℕ) → has_double_quotes x ≡ true
-    → plain_byte (kept (x ∷ xs) done lv) 34 ≡ On (kept (Quotes ∷ x ∷ xs) (done ++ DoubleQuotesOpen ∷ []) lv)
+pub double_opens : (limit : ℕ) (x : Context) (xs : List Context) (done : List Mark) (lv : ℕ) → has_double_quotes x ≡ true
+    → plain_byte (kept limit (x ∷ xs) done lv) 34 ≡ On (kept limit (Quotes ∷ x ∷ xs) (done ++ DoubleQuotesOpen ∷ []) lv)
 unfolding plain_byte word_byte
-double_opens Top xs done lv h = absurd (cc)
-double_opens (Commands ts) xs done lv h = absurd (cc)
-double_opens (Word n) xs done lv h = refl
-double_opens Quotes xs done lv h = absurd (cc)
-double_opens (Braces q) xs done lv h = refl
-double_opens Arithmetic xs done lv h = absurd (cc)
-double_opens Parenthesis xs done lv h = absurd (cc)
-double_opens Body xs done lv h = absurd (cc)
+double_opens limit Top xs done lv h = absurd (cc)
+double_opens limit (Commands ts) xs done lv h = absurd (cc)
+double_opens limit (Word n) xs done lv h = refl
+double_opens limit Quotes xs done lv h = absurd (cc)
+double_opens limit (Braces q) xs done lv h = refl
+double_opens limit Arithmetic xs done lv h = absurd (cc)
+double_opens limit Parenthesis xs done lv h = absurd (cc)
+double_opens limit Body xs done lv h = absurd (cc)
 
-pub double_closes : (x : Context) (xs : List Context) (done : List Mark) (lv : ℕ) → is_quotes x ≡ true
-    → plain_byte (kept (x ∷ xs) done lv) 34 ≡ On (kept xs (done ++ DoubleQuotesClose ∷ []) lv)
+pub double_closes : (limit : ℕ) (x : Context) (xs : List Context) (done : List Mark) (lv : ℕ) → is_quotes x ≡ true
+    → plain_byte (kept limit (x ∷ xs) done lv) 34 ≡ On (kept limit xs (done ++ DoubleQuotesClose ∷ []) lv)
 unfolding plain_byte word_byte
-double_closes Top xs done lv h = absurd (cc)
-double_closes (Commands ts) xs done lv h = absurd (cc)
-double_closes (Word n) xs done lv h = absurd (cc)
-double_closes Quotes xs done lv h = refl
-double_closes (Braces q) xs done lv h = absurd (cc)
-double_closes Arithmetic xs done lv h = absurd (cc)
-double_closes Parenthesis xs done lv h = absurd (cc)
-double_closes Body xs done lv h = absurd (cc)
+double_closes limit Top xs done lv h = absurd (cc)
+double_closes limit (Commands ts) xs done lv h = absurd (cc)
+double_closes limit (Word n) xs done lv h = absurd (cc)
+double_closes limit Quotes xs done lv h = refl
+double_closes limit (Braces q) xs done lv h = absurd (cc)
+double_closes limit Arithmetic xs done lv h = absurd (cc)
+double_closes limit Parenthesis xs done lv h = absurd (cc)
+double_closes limit Body xs done lv h = absurd (cc)
 
-pub brace_closes : (x : Context) (xs : List Context) (done : List Mark) (lv : ℕ) → is_braces x ≡ true
-    → plain_byte (kept (x ∷ xs) done lv) 125 ≡ On (out_level BraceClose (kept (x ∷ xs) done lv))
+pub brace_closes : (limit : ℕ) (x : Context) (xs : List Context) (done : List Mark) (lv : ℕ) → is_braces x ≡ true
+    → plain_byte (kept limit (x ∷ xs) done lv) 125 ≡ On (out_level BraceClose (kept limit (x ∷ xs) done lv))
 unfolding plain_byte word_byte
-brace_closes Top xs done lv h = absurd (cc)
-brace_closes (Commands ts) xs done lv h = absurd (cc)
-brace_closes (Word n) xs done lv h = absurd (cc)
-brace_closes Quotes xs done lv h = absurd (cc)
-brace_closes (Braces q) xs done lv h = refl
-brace_closes Arithmetic xs done lv h = absurd (cc)
-brace_closes Parenthesis xs done lv h = absurd (cc)
-brace_closes Body xs done lv h = absurd (cc)
+brace_closes limit Top xs done lv h = absurd (cc)
+brace_closes limit (Commands ts) xs done lv h = absurd (cc)
+brace_closes limit (Word n) xs done lv h = absurd (cc)
+brace_closes limit Quotes xs done lv h = absurd (cc)
+brace_closes limit (Braces q) xs done lv h = refl
+brace_closes limit Arithmetic xs done lv h = absurd (cc)
+brace_closes limit Parenthesis xs done lv h = absurd (cc)
+brace_closes limit Body xs done lv h = absurd (cc)
 
-pub dollar_in : (x : Context) (xs : List Context) (done : List Mark) (lv : ℕ) → in_word x ≡ true → plain_byte (kept (x ∷ xs) done lv) 36 ≡ On (begun (x ∷ xs) done lv Pending.Dollar [])
+pub dollar_in : (limit : ℕ) (x : Context) (xs : List Context) (done : List Mark) (lv : ℕ) → in_word x ≡ true → plain_byte (kept limit (x ∷ xs) done lv) 36 ≡ On (begun limit (x ∷ xs) done lv Pending.Dollar [])
 unfolding plain_byte word_byte
-dollar_in Top xs done lv h = absurd (cc)
-dollar_in (Commands ts) xs done lv h = absurd (cc)
-dollar_in (Word n) xs done lv h = refl
-dollar_in Quotes xs done lv h = refl
-dollar_in (Braces q) xs done lv h = refl
-dollar_in Arithmetic xs done lv h = refl
-dollar_in Parenthesis xs done lv h = refl
-dollar_in Body xs done lv h = refl
+dollar_in limit Top xs done lv h = absurd (cc)
+dollar_in limit (Commands ts) xs done lv h = absurd (cc)
+dollar_in limit (Word n) xs done lv h = refl
+dollar_in limit Quotes xs done lv h = refl
+dollar_in limit (Braces q) xs done lv h = refl
+dollar_in limit Arithmetic xs done lv h = refl
+dollar_in limit Parenthesis xs done lv h = refl
+dollar_in limit Body xs done lv h = refl

@@ -16,42 +16,42 @@ use Rattle.sh_scanner.proofs.Tests.{and_true, and_both}
 use Rattle.sh_scanner.proofs.Leads.{settled, Leads, stay, joined}
 use Rattle.sh_scanner.proofs.Between.{blank_leads, comment_leads}
 
-gap_mark : (e : Bool) (done : List Mark) (m : Mark) (bytes after : List ℕ) → is_gap m ≡ true → IsMark e Top [] m bytes after
-    → Leads false e (settled done (Top ∷ [])) bytes (settled (done ++ m ∷ []) (Top ∷ [])) after × (behind done Top [] m ≡ Top ∷ [])
-gap_mark e done (Byte b) bytes after h i = absurd (cc)
-gap_mark e done (Escaped b) bytes after h i = absurd (cc)
-gap_mark e done (Backslash b) bytes after h i = absurd (cc)
-gap_mark e done (SingleQuoted bs) bytes after h i = absurd (cc)
-gap_mark e done DoubleQuotesOpen bytes after h i = absurd (cc)
-gap_mark e done DoubleQuotesClose bytes after h i = absurd (cc)
-gap_mark e done Dollar bytes after h i = absurd (cc)
-gap_mark e done (Variable bs) bytes after h i = absurd (cc)
-gap_mark e done (Parameter b) bytes after h i = absurd (cc)
-gap_mark e done (BraceOpen bs) bytes after h i = absurd (cc)
-gap_mark e done BraceClose bytes after h i = absurd (cc)
-gap_mark e done ArithmeticOpen bytes after h i = absurd (cc)
-gap_mark e done ArithmeticClose bytes after h i = absurd (cc)
-gap_mark e done CommandsOpen bytes after h i = absurd (cc)
-gap_mark e done CommandsClose bytes after h i = absurd (cc)
-gap_mark e done (Backquoted bs) bytes after h i = absurd (cc)
-gap_mark e done WordOpen bytes after h i = absurd (cc)
-gap_mark e done (WordClose r) bytes after h i = absurd (cc)
-gap_mark e done (Blank b) bytes after h i = (blank_leads false e Top [] done b bytes after (λ z. absurd (cc)) refl i.fits i.written, refl)
-gap_mark e done (Comment bs) bytes after h i =
+gap_mark : (e : Bool) (limit : ℕ) (done : List Mark) (m : Mark) (bytes after : List ℕ) → is_gap m ≡ true → IsMark e limit Top [] m bytes after
+    → Leads false e (settled limit done (Top ∷ [])) bytes (settled limit (done ++ m ∷ []) (Top ∷ [])) after × (behind done Top [] m ≡ Top ∷ [])
+gap_mark e limit done (Byte b) bytes after h i = absurd (cc)
+gap_mark e limit done (Escaped b) bytes after h i = absurd (cc)
+gap_mark e limit done (Backslash b) bytes after h i = absurd (cc)
+gap_mark e limit done (SingleQuoted bs) bytes after h i = absurd (cc)
+gap_mark e limit done DoubleQuotesOpen bytes after h i = absurd (cc)
+gap_mark e limit done DoubleQuotesClose bytes after h i = absurd (cc)
+gap_mark e limit done Dollar bytes after h i = absurd (cc)
+gap_mark e limit done (Variable bs) bytes after h i = absurd (cc)
+gap_mark e limit done (Parameter b) bytes after h i = absurd (cc)
+gap_mark e limit done (BraceOpen bs) bytes after h i = absurd (cc)
+gap_mark e limit done BraceClose bytes after h i = absurd (cc)
+gap_mark e limit done ArithmeticOpen bytes after h i = absurd (cc)
+gap_mark e limit done ArithmeticClose bytes after h i = absurd (cc)
+gap_mark e limit done CommandsOpen bytes after h i = absurd (cc)
+gap_mark e limit done CommandsClose bytes after h i = absurd (cc)
+gap_mark e limit done (Backquoted bs) bytes after h i = absurd (cc)
+gap_mark e limit done WordOpen bytes after h i = absurd (cc)
+gap_mark e limit done (WordClose r) bytes after h i = absurd (cc)
+gap_mark e limit done (Blank b) bytes after h i = (blank_leads false e limit Top [] done b bytes after (λ z. absurd (cc)) refl i.fits i.written, refl)
+gap_mark e limit done (Comment bs) bytes after h i =
     let q = and_true (list_all is_no_newline bs) (ends_comment e after) i.fits in
-    (comment_leads false e Top [] done bs bytes after (λ z. absurd (cc)) refl q.0 q.1 i.written, refl)
-gap_mark e done (Bodies bs) bytes after h i = absurd (cc)
-gap_mark e done (Mark.Operator o) bytes after h i = absurd (cc)
+    (comment_leads false e limit Top [] done bs bytes after (λ z. absurd (cc)) refl q.0 q.1 i.written, refl)
+gap_mark e limit done (Bodies bs) bytes after h i = absurd (cc)
+gap_mark e limit done (Mark.Operator o) bytes after h i = absurd (cc)
 
-pub gap_marks : (e : Bool) (ms done : List Mark) (bytes rest : List ℕ) → list_all is_gap ms ≡ true → AreMarks e done (Top ∷ []) ms bytes rest
-    → Leads false e (settled done (Top ∷ [])) bytes (settled (done ++ ms) (Top ∷ [])) rest
-gap_marks e [] done bytes rest h a = subst (λ z. Leads false e (settled done (Top ∷ [])) bytes (settled z (Top ∷ [])) rest) (sym (append-nil done)) (stay false e (settled done (Top ∷ [])) bytes rest a)
-gap_marks e (m ∷ ms) done bytes rest h a =
+pub gap_marks : (e : Bool) (limit : ℕ) (ms done : List Mark) (bytes rest : List ℕ) → list_all is_gap ms ≡ true → AreMarks e limit done (Top ∷ []) ms bytes rest
+    → Leads false e (settled limit done (Top ∷ [])) bytes (settled limit (done ++ ms) (Top ∷ [])) rest
+gap_marks e limit [] done bytes rest h a = subst (λ z. Leads false e (settled limit done (Top ∷ [])) bytes (settled limit z (Top ∷ [])) rest) (sym (append-nil done)) (stay false e (settled limit done (Top ∷ [])) bytes rest a)
+gap_marks e limit (m ∷ ms) done bytes rest h a =
     let p = and_true (is_gap m) (list_all is_gap ms) h in
-    let g = gap_mark e done m bytes a.0 p.0 a.1 in
-    subst (λ z. Leads false e (settled done (Top ∷ [])) bytes (settled z (Top ∷ [])) rest) (append_assoc done (m ∷ []) ms)
-    (joined false e (settled done (Top ∷ [])) (settled (done ++ m ∷ []) (Top ∷ [])) (settled ((done ++ m ∷ []) ++ ms) (Top ∷ [])) bytes a.0 rest g.0
-    (gap_marks e ms (done ++ m ∷ []) a.0 rest p.1 (subst (λ xs. AreMarks e (done ++ m ∷ []) xs ms a.0 rest) g.1 a.2)))
+    let g = gap_mark e limit done m bytes a.0 p.0 a.1 in
+    subst (λ z. Leads false e (settled limit done (Top ∷ [])) bytes (settled limit z (Top ∷ [])) rest) (append_assoc done (m ∷ []) ms)
+    (joined false e (settled limit done (Top ∷ [])) (settled limit (done ++ m ∷ []) (Top ∷ [])) (settled limit ((done ++ m ∷ []) ++ ms) (Top ∷ [])) bytes a.0 rest g.0
+    (gap_marks e limit ms (done ++ m ∷ []) a.0 rest p.1 (subst (λ xs. AreMarks e limit (done ++ m ∷ []) xs ms a.0 rest) g.1 a.2)))
 
 -- the kind by the last piece
 pub kind_last : (ms : List Mark) (m : Mark) → kind_of (ms ++ m ∷ []) ≡ kind_by m ms

@@ -34,39 +34,39 @@ written_length e (c ∷ cs) m rest h =
     let b = written_length e cs h.0 rest h.2 in
     omega arith
 
-pub marks_length : (e : Bool) (ms done : List Mark) (xs : List Context) (m rest : List ℕ) → AreMarks e done xs ms m rest → length rest ≤ length m
-marks_length e [] done xs m rest h = omega (arith, ap length h)
-marks_length e (k ∷ ms) done [] m rest h = absurd h
-marks_length e (k ∷ ms) done (x ∷ xs) m rest h =
+pub marks_length : (e : Bool) (limit : ℕ) (ms done : List Mark) (xs : List Context) (m rest : List ℕ) → AreMarks e limit done xs ms m rest → length rest ≤ length m
+marks_length e limit [] done xs m rest h = omega (arith, ap length h)
+marks_length e limit (k ∷ ms) done [] m rest h = absurd h
+marks_length e limit (k ∷ ms) done (x ∷ xs) m rest h =
     let a = written_length e (spell_mark k) m h.0 h.1.written in
-    let b = marks_length e ms (done ++ k ∷ []) (behind done x xs k) h.0 rest h.2 in
+    let b = marks_length e limit ms (done ++ k ∷ []) (behind done x xs k) h.0 rest h.2 in
     omega arith
 
 pub joined_length : (m front : List ℕ) → Joined m front → length front ≤ length m
 joined_length m front h = omega (arith, ap length h.is, length-append (joins h.lines) front)
 
-token_length : (e : Bool) (gap : List Mark) (front rest : List ℕ) (k : TokenKind) → IsToken e gap front rest k → length rest ≤ length front
-token_length e gap front rest _ (ending t f r) = omega (arith, ap length f, ap length r)
-token_length e gap front rest _ (operator o i) = written_length e (plain (operator_text o)) front rest i.written
-token_length e gap front rest _ (word ms r x xs middle a n k i t) =
-    let b = marks_length e (WordOpen ∷ ms) gap (Top ∷ []) front middle a in
+token_length : (e : Bool) (limit : ℕ) (gap : List Mark) (front rest : List ℕ) (k : TokenKind) → IsToken e limit gap front rest k → length rest ≤ length front
+token_length e limit gap front rest _ (ending t f r) = omega (arith, ap length f, ap length r)
+token_length e limit gap front rest _ (operator o i) = written_length e (plain (operator_text o)) front rest i.written
+token_length e limit gap front rest _ (word ms r x xs middle a n k i t) =
+    let b = marks_length e limit (WordOpen ∷ ms) gap (Top ∷ []) front middle a in
     omega (arith, ap length i.written)
 
 pub record Ordered (bytes front rest : List ℕ) : Type 0 where
   pub start : length front ≤ length bytes
   pub stop : length rest ≤ length front
 
-pub token_ordered : (e : Bool) (bytes front rest : List ℕ) (k : TokenKind) → HasToken e bytes front rest k → Ordered bytes front rest
-token_ordered e bytes front rest k h =
-    let a = marks_length e h.gap [] (Top ∷ []) bytes h.middle h.between in
+pub token_ordered : (e : Bool) (limit : ℕ) (bytes front rest : List ℕ) (k : TokenKind) → HasToken e limit bytes front rest k → Ordered bytes front rest
+token_ordered e limit bytes front rest k h =
+    let a = marks_length e limit h.gap [] (Top ∷ []) bytes h.middle h.between in
     let b = joined_length h.middle front h.joined in
-    record { start = omega arith; stop = token_length e h.gap front rest k h.token }
+    record { start = omega arith; stop = token_length e limit h.gap front rest k h.token }
 
-pub deep_ordered : (e : Bool) (bytes place : List ℕ) → IsTooDeep e bytes place → length place ≤ length bytes
-deep_ordered e bytes place h =
-    let a = marks_length e h.gap [] (Top ∷ []) bytes h.middle h.between in
+pub deep_ordered : (e : Bool) (limit : ℕ) (bytes place : List ℕ) → IsTooDeep e limit bytes place → length place ≤ length bytes
+deep_ordered e limit bytes place h =
+    let a = marks_length e limit h.gap [] (Top ∷ []) bytes h.middle h.between in
     let b = joined_length h.middle h.front h.joined in
-    let c = marks_length e (WordOpen ∷ h.marks) h.gap (Top ∷ []) h.front h.last h.before in
+    let c = marks_length e limit (WordOpen ∷ h.marks) h.gap (Top ∷ []) h.front h.last h.before in
     let d = joined_length h.last place h.placed in
     omega arith
 
@@ -96,87 +96,87 @@ nul_or : (x : Option ℕ) (G : Type 0) → (x ≡ None → G) → ((i : ℕ) →
 nul_or None G n s = n refl
 nul_or (Some i) G n s = s i refl
 
-module _ (e : Bool) (bytes : List ℕ) where
-  found : (s : Scanned) → scanned e bytes ≡ s → Answered e bytes s
-  found s h = subst (Answered e bytes) h (sound e bytes)
+module _ (e : Bool) (limit : ℕ) (bytes : List ℕ) where
+  found : (s : Scanned) → scanned e limit bytes ≡ s → Answered e limit bytes s
+  found s h = subst (Answered e limit bytes) h (sound e limit bytes)
 
-  ended_first : (k : State) (f r : List ℕ) → scanned e bytes ≡ Ended k f r → IsFirst e bytes (without_nul bytes (Ended k f r))
+  ended_first : (k : State) (f r : List ℕ) → scanned e limit bytes ≡ Ended k f r → IsFirst e limit bytes (without_nul bytes (Ended k f r))
   ended_first k f r h =
       let t = found (Ended k f r) h in
-      let o = token_ordered e bytes f r (kind_of k.done) t in
+      let o = token_ordered e limit bytes f r (kind_of k.done) t in
       let start = o.start in
       let stop = o.stop in
       let n = length bytes - length r in
-      nul_or (nul_in (take n bytes)) (IsFirst e bytes (without_nul bytes (Ended k f r)))
-      (λ z. subst (λ x. IsFirst e bytes (unless_nul x (Found (kind_of k.done) (length bytes - length f) n))) (sym z) ((f, (r, t, omega arith, omega arith)), z))
-      (λ i z. subst (λ x. IsFirst e bytes (unless_nul x (Found (kind_of k.done) (length bytes - length f) n))) (sym z)
+      nul_or (nul_in (take n bytes)) (IsFirst e limit bytes (without_nul bytes (Ended k f r)))
+      (λ z. subst (λ x. IsFirst e limit bytes (unless_nul x (Found (kind_of k.done) (length bytes - length f) n))) (sym z) ((f, (r, t, omega arith, omega arith)), z))
+      (λ i z. subst (λ x. IsFirst e limit bytes (unless_nul x (Found (kind_of k.done) (length bytes - length f) n))) (sym z)
       (let p = nul_of_front n i bytes z in let q = p.1 in (
-        (λ front rest kind u. let c = complete e bytes front rest kind u in let w = ap length (ended_rest k c.state f front r rest (sym h ∙ c.is)) in omega arith),
-        (λ rest u. absurd (not_deep k f r rest (sym h ∙ deep e bytes rest u))),
+        (λ front rest kind u. let c = complete e limit bytes front rest kind u in let w = ap length (ended_rest k c.state f front r rest (sym h ∙ c.is)) in omega arith),
+        (λ rest u. absurd (not_deep k f r rest (sym h ∙ deep e limit bytes rest u))),
         p.0,
       )))
 
-  deep_first : (r : List ℕ) → scanned e bytes ≡ Deep r → IsFirst e bytes (without_nul bytes (Deep r))
+  deep_first : (r : List ℕ) → scanned e limit bytes ≡ Deep r → IsFirst e limit bytes (without_nul bytes (Deep r))
   deep_first r h =
       let t = found (Deep r) h in
-      let o = deep_ordered e bytes r t in
+      let o = deep_ordered e limit bytes r t in
       let n = length bytes - length r in
-      nul_or (nul_in (take n bytes)) (IsFirst e bytes (without_nul bytes (Deep r)))
-      (λ z. subst (λ x. IsFirst e bytes (unless_nul x (DeepAt n))) (sym z) ((r, t, omega arith), z))
-      (λ i z. subst (λ x. IsFirst e bytes (unless_nul x (DeepAt n))) (sym z)
+      nul_or (nul_in (take n bytes)) (IsFirst e limit bytes (without_nul bytes (Deep r)))
+      (λ z. subst (λ x. IsFirst e limit bytes (unless_nul x (DeepAt n))) (sym z) ((r, t, omega arith), z))
+      (λ i z. subst (λ x. IsFirst e limit bytes (unless_nul x (DeepAt n))) (sym z)
       (let p = nul_of_front n i bytes z in let q = p.1 in (
-        (λ front rest kind u. let c = complete e bytes front rest kind u in absurd (not_deep c.state front rest r (sym c.is ∙ h))),
-        (λ rest u. let w = ap length (deep_place r rest (sym h ∙ deep e bytes rest u)) in omega arith),
+        (λ front rest kind u. let c = complete e limit bytes front rest kind u in absurd (not_deep c.state front rest r (sym c.is ∙ h))),
+        (λ rest u. let w = ap length (deep_place r rest (sym h ∙ deep e limit bytes rest u)) in omega arith),
         p.0,
       )))
 
-  no_token : (o : List ℕ) → scanned e bytes ≡ Open o → (front rest : List ℕ) (kind : TokenKind) → HasToken e bytes front rest kind → ⊥
-  no_token o h front rest kind u = let c = complete e bytes front rest kind u in not_open c.state front rest o (sym c.is ∙ h)
+  no_token : (o : List ℕ) → scanned e limit bytes ≡ Open o → (front rest : List ℕ) (kind : TokenKind) → HasToken e limit bytes front rest kind → ⊥
+  no_token o h front rest kind u = let c = complete e limit bytes front rest kind u in not_open c.state front rest o (sym c.is ∙ h)
 
-  no_depth : (o : List ℕ) → scanned e bytes ≡ Open o → (rest : List ℕ) → IsTooDeep e bytes rest → ⊥
-  no_depth o h rest u = deep_not_open rest o (sym (deep e bytes rest u) ∙ h)
+  no_depth : (o : List ℕ) → scanned e limit bytes ≡ Open o → (rest : List ℕ) → IsTooDeep e limit bytes rest → ⊥
+  no_depth o h rest u = deep_not_open rest o (sym (deep e limit bytes rest u) ∙ h)
 
-  open_first : (o : List ℕ) → scanned e bytes ≡ Open o → IsFirst e bytes (without_nul bytes (Open o))
+  open_first : (o : List ℕ) → scanned e limit bytes ≡ Open o → IsFirst e limit bytes (without_nul bytes (Open o))
   open_first o h =
-      nul_or (nul_in bytes) (IsFirst e bytes (without_nul bytes (Open o)))
-      (λ z. subst (λ x. IsFirst e bytes (unless_nul x Unfinished)) (sym z) (no_token o h, no_depth o h, z))
-      (λ i z. subst (λ x. IsFirst e bytes (unless_nul x Unfinished)) (sym z) ((λ front rest kind u. absurd (no_token o h front rest kind u)), (λ rest u. absurd (no_depth o h rest u)), z))
+      nul_or (nul_in bytes) (IsFirst e limit bytes (without_nul bytes (Open o)))
+      (λ z. subst (λ x. IsFirst e limit bytes (unless_nul x Unfinished)) (sym z) (no_token o h, no_depth o h, z))
+      (λ i z. subst (λ x. IsFirst e limit bytes (unless_nul x Unfinished)) (sym z) ((λ front rest kind u. absurd (no_token o h front rest kind u)), (λ rest u. absurd (no_depth o h rest u)), z))
 
-  scanned_first : (s : Scanned) → scanned e bytes ≡ s → IsFirst e bytes (without_nul bytes s)
+  scanned_first : (s : Scanned) → scanned e limit bytes ≡ s → IsFirst e limit bytes (without_nul bytes s)
   scanned_first (Ended k f r) h = ended_first k f r h
   scanned_first (Deep r) h = deep_first r h
   scanned_first (Open o) h = open_first o h
 
-  pub is_first : IsFirst e bytes (first_token e bytes)
+  pub is_first : IsFirst e limit bytes (first_token e limit bytes)
   unfolding first_token
-  is_first = scanned_first (scanned e bytes) refl
+  is_first = scanned_first (scanned e limit bytes) refl
 
   -- the first token is the answer
-  ended_only : (k : TokenKind) (start stop : ℕ) (front rest : List ℕ) (t : HasToken e bytes front rest k) → start + length front ≡ length bytes → stop + length rest ≡ length bytes → nul_in (take stop bytes) ≡ None
-      → first_token e bytes ≡ Found k start stop
+  ended_only : (k : TokenKind) (start stop : ℕ) (front rest : List ℕ) (t : HasToken e limit bytes front rest k) → start + length front ≡ length bytes → stop + length rest ≡ length bytes → nul_in (take stop bytes) ≡ None
+      → first_token e limit bytes ≡ Found k start stop
   unfolding first_token
   ended_only k start stop front rest t s p n =
-      let c = complete e bytes front rest k t in
+      let c = complete e limit bytes front rest k t in
       let x : length bytes - length rest ≡ stop = omega arith in
       let y : length bytes - length front ≡ start = omega arith in
       ap (without_nul bytes) c.is ∙ (ap (λ x. unless_nul (nul_in (take x bytes)) (Found (kind_of c.state.done) (length bytes - length front) x)) x
       ∙ (ap (λ y. unless_nul (nul_in (take stop bytes)) (Found (kind_of c.state.done) y stop)) y
       ∙ (ap (λ z. unless_nul (nul_in (take stop bytes)) (Found z start stop)) c.kind_is ∙ ap (λ x. unless_nul x (Found k start stop)) n)))
 
-  deep_only : (place : ℕ) (rest : List ℕ) → IsTooDeep e bytes rest → place + length rest ≡ length bytes → nul_in (take place bytes) ≡ None → first_token e bytes ≡ DeepAt place
+  deep_only : (place : ℕ) (rest : List ℕ) → IsTooDeep e limit bytes rest → place + length rest ≡ length bytes → nul_in (take place bytes) ≡ None → first_token e limit bytes ≡ DeepAt place
   unfolding first_token
   deep_only place rest t p n =
       let x : length bytes - length rest ≡ place = omega arith in
-      ap (without_nul bytes) (deep e bytes rest t) ∙ (ap (λ x. unless_nul (nul_in (take x bytes)) (DeepAt x)) x ∙ ap (λ x. unless_nul x (DeepAt place)) n)
+      ap (without_nul bytes) (deep e limit bytes rest t) ∙ (ap (λ x. unless_nul (nul_in (take x bytes)) (DeepAt x)) x ∙ ap (λ x. unless_nul x (DeepAt place)) n)
 
-  open_only : (s : Scanned) → scanned e bytes ≡ s → ((front rest : List ℕ) (kind : TokenKind) → HasToken e bytes front rest kind → ⊥) → ((rest : List ℕ) → IsTooDeep e bytes rest → ⊥) → nul_in bytes ≡ None
+  open_only : (s : Scanned) → scanned e limit bytes ≡ s → ((front rest : List ℕ) (kind : TokenKind) → HasToken e limit bytes front rest kind → ⊥) → ((rest : List ℕ) → IsTooDeep e limit bytes rest → ⊥) → nul_in bytes ≡ None
       → without_nul bytes s ≡ Unfinished
   open_only (Ended k f r) h none level n = absurd (none f r (kind_of k.done) (found (Ended k f r) h))
   open_only (Deep r) h none level n = absurd (level r (found (Deep r) h))
   open_only (Open o) h none level n = ap (λ x. unless_nul x Unfinished) n
 
-  nul_only : (s : Scanned) (i : ℕ) → scanned e bytes ≡ s → ((front rest : List ℕ) (kind : TokenKind) → HasToken e bytes front rest kind → i + length rest < length bytes)
-      → ((rest : List ℕ) → IsTooDeep e bytes rest → i + length rest < length bytes) → nul_in bytes ≡ Some i → without_nul bytes s ≡ NulAt i
+  nul_only : (s : Scanned) (i : ℕ) → scanned e limit bytes ≡ s → ((front rest : List ℕ) (kind : TokenKind) → HasToken e limit bytes front rest kind → i + length rest < length bytes)
+      → ((rest : List ℕ) → IsTooDeep e limit bytes rest → i + length rest < length bytes) → nul_in bytes ≡ Some i → without_nul bytes s ≡ NulAt i
   nul_only (Ended k f r) i h behind level n =
       let b = behind f r (kind_of k.done) (found (Ended k f r) h) in
       ap (λ x. unless_nul x (Found (kind_of k.done) (length bytes - length f) (length bytes - length r))) (nul_in_front (length bytes - length r) i bytes n (omega arith))
@@ -185,12 +185,12 @@ module _ (e : Bool) (bytes : List ℕ) where
       ap (λ x. unless_nul x (DeepAt (length bytes - length r))) (nul_in_front (length bytes - length r) i bytes n (omega arith))
   nul_only (Open o) i h behind level n = ap (λ x. unless_nul x Unfinished) n
 
-  pub first_only : (answer : FirstToken) → IsFirst e bytes answer → first_token e bytes ≡ answer
+  pub first_only : (answer : FirstToken) → IsFirst e limit bytes answer → first_token e limit bytes ≡ answer
   unfolding first_token
   first_only (Found k start stop) h = ended_only k start stop h.0.0 h.0.1.0 h.0.1.1 h.0.1.2 h.0.1.3 h.1
   first_only (DeepAt place) h = deep_only place h.0.0 h.0.1 h.0.2 h.1
-  first_only Unfinished h = open_only (scanned e bytes) refl h.0 h.1 h.2
-  first_only (NulAt i) h = nul_only (scanned e bytes) i refl h.0 h.1 h.2
+  first_only Unfinished h = open_only (scanned e limit bytes) refl h.0 h.1 h.2
+  first_only (NulAt i) h = nul_only (scanned e limit bytes) i refl h.0 h.1 h.2
 
-  pub first_law : (answer : FirstToken) → (first_token e bytes ≡ answer) ↔ IsFirst e bytes answer
-  first_law answer = ((λ h. subst (IsFirst e bytes) h is_first), λ h. first_only answer h)
+  pub first_law : (answer : FirstToken) → (first_token e limit bytes ≡ answer) ↔ IsFirst e limit bytes answer
+  first_law answer = ((λ h. subst (IsFirst e limit bytes) h is_first), λ h. first_only answer h)

@@ -18,14 +18,14 @@ use Rattle.sh_scanner.proofs.Running.{placed, after, begin_of, is_raw_character,
 use Rattle.sh_scanner.proofs.Tests.{and_true, not_true}
 
 -- a state with a piece that has begun, and one with none
-abbrev pub begun : List Context → List Mark → ℕ → Pending → List ℕ → State
-begun xs done lv p acc = record { contexts = xs; done = done; pending = p; bytes = acc; levels = lv }
+abbrev pub begun : ℕ → List Context → List Mark → ℕ → Pending → List ℕ → State
+begun limit xs done lv p acc = record { contexts = xs; done = done; pending = p; bytes = acc; levels = lv; limit = limit }
 
-abbrev pub kept : List Context → List Mark → ℕ → State
-kept xs done lv = begun xs done lv Pending.Nothing []
+abbrev pub kept : ℕ → List Context → List Mark → ℕ → State
+kept limit xs done lv = begun limit xs done lv Pending.Nothing []
 
-abbrev pub settled : List Mark → List Context → State
-settled done xs = kept xs done (levels xs)
+abbrev pub settled : ℕ → List Mark → List Context → State
+settled limit done xs = kept limit xs done (levels xs)
 
 -- from these places the run comes to another state, where the text is the rest; k: the front stays
 pub record Lead (k e : Bool) (s : State) (p : Places) (m : List ℕ) (t : State) (rest : List ℕ) : Type 0 where
@@ -66,9 +66,9 @@ module _ (k e : Bool) where
   same_ahead t s m c a p x y = record { places = p; next = x; behind = y; front = λ h. refl; same = alike e false t s p c m a }
 
   -- bytes that a piece which has begun keeps
-  module _ (xs : List Context) (done : List Mark) (lv : ℕ) where
+  module _ (limit : ℕ) (xs : List Context) (done : List Mark) (lv : ℕ) where
     abbrev pub holding : Pending → List ℕ → State
-    holding p acc = begun xs done lv p acc
+    holding p acc = begun limit xs done lv p acc
 
     pub raw_keeps : (p : Pending) (f : ℕ → Bool) → (k ≡ true → (is_gap_pending p && is_text (top_of xs)) ≡ false) → is_raw p ≡ true
         → ((acc : List ℕ) (b : ℕ) → f b ≡ true → step (holding p acc) (Raw b) ≡ On (holding p (acc ++ b ∷ [])))

@@ -47,16 +47,16 @@ tame_if : (c : Bool) (x y : Stepped) → Tame x → Tame y → Tame (cond c x y)
 tame_if true x y h g = h
 tame_if false x y h g = g
 
-module _ (xs : List Context) (done : List Mark) (lv : ℕ) (q : Pending) (acc : List ℕ) where
+module _ (limit : ℕ) (xs : List Context) (done : List Mark) (lv : ℕ) (q : Pending) (acc : List ℕ) where
   abbrev here : State
-  here = begun (Body ∷ xs) done lv q acc
+  here = begun limit (Body ∷ xs) done lv q acc
 
   body_byte : (b : ℕ) → plain_byte here b ≡ cond (nat_eq b 36) (On (pend Pending.Dollar here)) (cond (nat_eq b 96) (opens Pending.Backquotes here) (On (same (Byte b) here)))
   unfolding plain_byte word_byte inner_byte
   body_byte b = rw (and_false (nat_eq b 39), and_false (nat_eq b 34), and_false (nat_eq b 125), and_false (nat_eq b 41), and_false (nat_eq b 40)) refl
 
   tame_opens : Tame (opens Pending.Backquotes here)
-  tame_opens = tame_if (nat_lt lv 500) _ _ (inr refl) tt
+  tame_opens = tame_if (nat_lt lv limit) _ _ (inr refl) tt
 
   pub tame_plain : (b : ℕ) → Tame (plain_byte here b)
   tame_plain b = subst Tame (sym (body_byte b)) (tame_if (nat_eq b 36) _ _ (inr refl) (tame_if (nat_eq b 96) _ _ tame_opens (inl refl)))
@@ -65,38 +65,38 @@ module _ (xs : List Context) (done : List Mark) (lv : ℕ) (q : Pending) (acc : 
   unfolding quoted_byte
   tame_quoted b = inl refl
 
-tame_body : (xs : List Context) (done : List Mark) (lv : ℕ) (q : Pending) (acc : List ℕ) (c : Character) → is_loose_in q ≡ true → Tame (step (begun (Body ∷ xs) done lv q acc) c)
+tame_body : (limit : ℕ) (xs : List Context) (done : List Mark) (lv : ℕ) (q : Pending) (acc : List ℕ) (c : Character) → is_loose_in q ≡ true → Tame (step (begun limit (Body ∷ xs) done lv q acc) c)
 unfolding in_name
-tame_body xs done lv Pending.Nothing acc (Plain b) h = tame_plain xs done lv Pending.Nothing acc b
-tame_body xs done lv Pending.Nothing acc (Quoted b) h = tame_quoted xs done lv Pending.Nothing acc b
-tame_body xs done lv Pending.Nothing acc (Raw b) h = inl refl
-tame_body xs done lv Pending.Name acc (Plain b) h = tame_if (is_name_byte b) _ _ (inl refl) (tame_plain xs (done ++ Variable acc ∷ []) lv Pending.Nothing [] b)
-tame_body xs done lv Pending.Name acc (Quoted b) h = tame_quoted xs (done ++ Variable acc ∷ []) lv Pending.Nothing [] b
-tame_body xs done lv Pending.Name acc (Raw b) h = inl refl
-tame_body xs done lv Pending.Dollar acc c h = absurd (cc)
-tame_body xs done lv Pending.DollarParenthesis acc c h = absurd (cc)
-tame_body xs done lv (Pending.Head g) acc c h = absurd (cc)
-tame_body xs done lv Pending.Single acc c h = absurd (cc)
-tame_body xs done lv Pending.Backquotes acc c h = absurd (cc)
-tame_body xs done lv Pending.BackquotesEscape acc c h = absurd (cc)
-tame_body xs done lv Pending.Parenthesis acc c h = absurd (cc)
-tame_body xs done lv (Pending.Operator o) acc c h = absurd (cc)
-tame_body xs done lv Pending.Comment acc c h = absurd (cc)
-tame_body xs done lv (Pending.Body l n j) acc c h = absurd (cc)
+tame_body limit xs done lv Pending.Nothing acc (Plain b) h = tame_plain limit xs done lv Pending.Nothing acc b
+tame_body limit xs done lv Pending.Nothing acc (Quoted b) h = tame_quoted limit xs done lv Pending.Nothing acc b
+tame_body limit xs done lv Pending.Nothing acc (Raw b) h = inl refl
+tame_body limit xs done lv Pending.Name acc (Plain b) h = tame_if (is_name_byte b) _ _ (inl refl) (tame_plain limit xs (done ++ Variable acc ∷ []) lv Pending.Nothing [] b)
+tame_body limit xs done lv Pending.Name acc (Quoted b) h = tame_quoted limit xs (done ++ Variable acc ∷ []) lv Pending.Nothing [] b
+tame_body limit xs done lv Pending.Name acc (Raw b) h = inl refl
+tame_body limit xs done lv Pending.Dollar acc c h = absurd (cc)
+tame_body limit xs done lv Pending.DollarParenthesis acc c h = absurd (cc)
+tame_body limit xs done lv (Pending.Head g) acc c h = absurd (cc)
+tame_body limit xs done lv Pending.Single acc c h = absurd (cc)
+tame_body limit xs done lv Pending.Backquotes acc c h = absurd (cc)
+tame_body limit xs done lv Pending.BackquotesEscape acc c h = absurd (cc)
+tame_body limit xs done lv Pending.Parenthesis acc c h = absurd (cc)
+tame_body limit xs done lv (Pending.Operator o) acc c h = absurd (cc)
+tame_body limit xs done lv Pending.Comment acc c h = absurd (cc)
+tame_body limit xs done lv (Pending.Body l n j) acc c h = absurd (cc)
 
-tame_in : (xs : List Context) (done : List Mark) (lv : ℕ) (q : Pending) (acc : List ℕ) (c : Character) → is_loose (begun xs done lv q acc) ≡ true → Tame (step (begun xs done lv q acc) c)
-tame_in [] done lv q acc c h = absurd (cc)
-tame_in (Top ∷ xs) done lv q acc c h = absurd (cc)
-tame_in (Commands ts ∷ xs) done lv q acc c h = absurd (cc)
-tame_in (Word n ∷ xs) done lv q acc c h = absurd (cc)
-tame_in (Quotes ∷ xs) done lv q acc c h = absurd (cc)
-tame_in (Braces r ∷ xs) done lv q acc c h = absurd (cc)
-tame_in (Arithmetic ∷ xs) done lv q acc c h = absurd (cc)
-tame_in (Parenthesis ∷ xs) done lv q acc c h = absurd (cc)
-tame_in (Body ∷ xs) done lv q acc c h = tame_body xs done lv q acc c h
+tame_in : (limit : ℕ) (xs : List Context) (done : List Mark) (lv : ℕ) (q : Pending) (acc : List ℕ) (c : Character) → is_loose (begun limit xs done lv q acc) ≡ true → Tame (step (begun limit xs done lv q acc) c)
+tame_in limit [] done lv q acc c h = absurd (cc)
+tame_in limit (Top ∷ xs) done lv q acc c h = absurd (cc)
+tame_in limit (Commands ts ∷ xs) done lv q acc c h = absurd (cc)
+tame_in limit (Word n ∷ xs) done lv q acc c h = absurd (cc)
+tame_in limit (Quotes ∷ xs) done lv q acc c h = absurd (cc)
+tame_in limit (Braces r ∷ xs) done lv q acc c h = absurd (cc)
+tame_in limit (Arithmetic ∷ xs) done lv q acc c h = absurd (cc)
+tame_in limit (Parenthesis ∷ xs) done lv q acc c h = absurd (cc)
+tame_in limit (Body ∷ xs) done lv q acc c h = tame_body limit xs done lv q acc c h
 
 pub step_tame : (s : State) (c : Character) → is_loose s ≡ true → Tame (step s c)
-step_tame s c h = tame_in s.contexts s.done s.levels s.pending s.bytes c h
+step_tame s c h = tame_in s.limit s.contexts s.done s.levels s.pending s.bytes c h
 
 -- behind a `$` so it is too, or a form goes on with the character
 abbrev pub IsOpening : Character → Type 0
@@ -123,23 +123,23 @@ dollar_of c (After t) h = tt
 dollar_of c (TooDeep t) h = tt
 dollar_of c (DollarTooDeep t) h = tt
 
-pub dollar_tame : (xs : List Context) (done : List Mark) (lv : ℕ) (acc : List ℕ) (c : Character) → is_raw_character c ≡ false → DollarTame c (step (begun (Body ∷ xs) done lv Pending.Dollar acc) c)
+pub dollar_tame : (limit : ℕ) (xs : List Context) (done : List Mark) (lv : ℕ) (acc : List ℕ) (c : Character) → is_raw_character c ≡ false → DollarTame c (step (begun limit (Body ∷ xs) done lv Pending.Dollar acc) c)
 unfolding after_dollar
-dollar_tame xs done lv acc (Plain b) k =
+dollar_tame limit xs done lv acc (Plain b) k =
     dollar_if (Plain b) (is_name_start b) _ _ (λ h. inl refl)
     (λ h. dollar_if (Plain b) (is_short_parameter b) _ _ (λ h. inl refl)
     (λ h. dollar_if (Plain b) (nat_eq b 123) _ _ (λ h. opening (Pending.Head Head.Start) (inl h))
     (λ h. dollar_if (Plain b) (nat_eq b 40) _ _ (λ h. opening Pending.DollarParenthesis (inr h))
-    (λ h. dollar_of (Plain b) (plain_byte (begun (Body ∷ xs) (done ++ Dollar ∷ []) lv Pending.Nothing []) b) (tame_plain xs (done ++ Dollar ∷ []) lv Pending.Nothing [] b)))))
+    (λ h. dollar_of (Plain b) (plain_byte (begun limit (Body ∷ xs) (done ++ Dollar ∷ []) lv Pending.Nothing []) b) (tame_plain limit xs (done ++ Dollar ∷ []) lv Pending.Nothing [] b)))))
   where
-    opening : (q : Pending) → IsOpening (Plain b) → DollarTame (Plain b) (at_dollar (opens q (begun (Body ∷ xs) done lv Pending.Dollar acc)))
-    opening q i = go (nat_lt lv 500)
+    opening : (q : Pending) → IsOpening (Plain b) → DollarTame (Plain b) (at_dollar (opens q (begun limit (Body ∷ xs) done lv Pending.Dollar acc)))
+    opening q i = go (nat_lt lv limit)
       where
-        go : (d : Bool) → DollarTame (Plain b) (at_dollar (cond d (On (begun (Body ∷ xs) done (suc lv) q [])) (TooDeep (begun (Body ∷ xs) done lv Pending.Dollar acc))))
+        go : (d : Bool) → DollarTame (Plain b) (at_dollar (cond d (On (begun limit (Body ∷ xs) done (suc lv) q [])) (TooDeep (begun limit (Body ∷ xs) done lv Pending.Dollar acc))))
         go true = inr (inr i)
         go false = tt
-dollar_tame xs done lv acc (Quoted b) k = dollar_of (Quoted b) (quoted_byte (begun (Body ∷ xs) (done ++ Dollar ∷ []) lv Pending.Nothing []) b) (tame_quoted xs (done ++ Dollar ∷ []) lv Pending.Nothing [] b)
-dollar_tame xs done lv acc (Raw b) k = absurd (cc)
+dollar_tame limit xs done lv acc (Quoted b) k = dollar_of (Quoted b) (quoted_byte (begun limit (Body ∷ xs) (done ++ Dollar ∷ []) lv Pending.Nothing []) b) (tame_quoted limit xs (done ++ Dollar ∷ []) lv Pending.Nothing [] b)
+dollar_tame limit xs done lv acc (Raw b) k = absurd (cc)
 
 -- the same of a byte
 abbrev FedTame : Fed → Type 0
@@ -209,33 +209,33 @@ module _ (size : ℕ) (f : List ℕ) where
       follow_form e (fed (record { state = s; held = h }) b) (with_front s p) bs (omega arith) (run_form e bs (omega arith)) (front_next (is_gap_state s) p n) (front_form (is_gap_state s) p g) w
 
   -- a body in which no form is open ends so
-  body_ends : (xs : List Context) (done : List Mark) (lv : ℕ) (q : Pending) (acc : List ℕ) (p : Places) → is_loose_in q ≡ true → last_places (begun (Body ∷ xs) done lv q acc) p ≡ Open f → ⊥
-  body_ends xs done lv Pending.Nothing acc p h w = absurd (cc)
-  body_ends xs done lv Pending.Name acc p h w = absurd (cc)
-  body_ends xs done lv Pending.Dollar acc p h w = absurd (cc)
-  body_ends xs done lv Pending.DollarParenthesis acc p h w = absurd (cc)
-  body_ends xs done lv (Pending.Head g) acc p h w = absurd (cc)
-  body_ends xs done lv Pending.Single acc p h w = absurd (cc)
-  body_ends xs done lv Pending.Backquotes acc p h w = absurd (cc)
-  body_ends xs done lv Pending.BackquotesEscape acc p h w = absurd (cc)
-  body_ends xs done lv Pending.Parenthesis acc p h w = absurd (cc)
-  body_ends xs done lv (Pending.Operator o) acc p h w = absurd (cc)
-  body_ends xs done lv Pending.Comment acc p h w = absurd (cc)
-  body_ends xs done lv (Pending.Body l n j) acc p h w = absurd (cc)
+  body_ends : (limit : ℕ) (xs : List Context) (done : List Mark) (lv : ℕ) (q : Pending) (acc : List ℕ) (p : Places) → is_loose_in q ≡ true → last_places (begun limit (Body ∷ xs) done lv q acc) p ≡ Open f → ⊥
+  body_ends limit xs done lv Pending.Nothing acc p h w = absurd (cc)
+  body_ends limit xs done lv Pending.Name acc p h w = absurd (cc)
+  body_ends limit xs done lv Pending.Dollar acc p h w = absurd (cc)
+  body_ends limit xs done lv Pending.DollarParenthesis acc p h w = absurd (cc)
+  body_ends limit xs done lv (Pending.Head g) acc p h w = absurd (cc)
+  body_ends limit xs done lv Pending.Single acc p h w = absurd (cc)
+  body_ends limit xs done lv Pending.Backquotes acc p h w = absurd (cc)
+  body_ends limit xs done lv Pending.BackquotesEscape acc p h w = absurd (cc)
+  body_ends limit xs done lv Pending.Parenthesis acc p h w = absurd (cc)
+  body_ends limit xs done lv (Pending.Operator o) acc p h w = absurd (cc)
+  body_ends limit xs done lv Pending.Comment acc p h w = absurd (cc)
+  body_ends limit xs done lv (Pending.Body l n j) acc p h w = absurd (cc)
 
-  ends_in : (xs : List Context) (done : List Mark) (lv : ℕ) (q : Pending) (acc : List ℕ) (p : Places) → is_loose (begun xs done lv q acc) ≡ true → last_places (begun xs done lv q acc) p ≡ Open f → ⊥
-  ends_in [] done lv q acc p h w = absurd (cc)
-  ends_in (Top ∷ xs) done lv q acc p h w = absurd (cc)
-  ends_in (Commands ts ∷ xs) done lv q acc p h w = absurd (cc)
-  ends_in (Word n ∷ xs) done lv q acc p h w = absurd (cc)
-  ends_in (Quotes ∷ xs) done lv q acc p h w = absurd (cc)
-  ends_in (Braces r ∷ xs) done lv q acc p h w = absurd (cc)
-  ends_in (Arithmetic ∷ xs) done lv q acc p h w = absurd (cc)
-  ends_in (Parenthesis ∷ xs) done lv q acc p h w = absurd (cc)
-  ends_in (Body ∷ xs) done lv q acc p h w = body_ends xs done lv q acc p h w
+  ends_in : (limit : ℕ) (xs : List Context) (done : List Mark) (lv : ℕ) (q : Pending) (acc : List ℕ) (p : Places) → is_loose (begun limit xs done lv q acc) ≡ true → last_places (begun limit xs done lv q acc) p ≡ Open f → ⊥
+  ends_in limit [] done lv q acc p h w = absurd (cc)
+  ends_in limit (Top ∷ xs) done lv q acc p h w = absurd (cc)
+  ends_in limit (Commands ts ∷ xs) done lv q acc p h w = absurd (cc)
+  ends_in limit (Word n ∷ xs) done lv q acc p h w = absurd (cc)
+  ends_in limit (Quotes ∷ xs) done lv q acc p h w = absurd (cc)
+  ends_in limit (Braces r ∷ xs) done lv q acc p h w = absurd (cc)
+  ends_in limit (Arithmetic ∷ xs) done lv q acc p h w = absurd (cc)
+  ends_in limit (Parenthesis ∷ xs) done lv q acc p h w = absurd (cc)
+  ends_in limit (Body ∷ xs) done lv q acc p h w = body_ends limit xs done lv q acc p h w
 
   loose_ends : (s : State) (p : Places) → is_loose s ≡ true → last_places s p ≡ Open f → ⊥
-  loose_ends s p h w = ends_in s.contexts s.done s.levels s.pending s.bytes p h w
+  loose_ends s p h w = ends_in s.limit s.contexts s.done s.levels s.pending s.bytes p h w
 
   begun_form : (c : Bool) (after : List ℕ) (p : Places) → c ≡ true → length p.next ≤ size → length (moved c after p).form ≤ size
   begun_form true after p h n = n

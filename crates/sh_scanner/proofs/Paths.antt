@@ -27,12 +27,12 @@ use Rattle.sh_scanner.proofs.Inner.{Inside, inside_behind}
 use Rattle.sh_scanner.proofs.Gaps.{word_kind_of}
 
 -- one piece more
-pub marks_snoc : (e : Bool) (ms done : List Mark) (xs : List Context) (x : Context) (ys : List Context) (m : Mark) (bytes mid after : List ℕ) → AreMarks e done xs ms bytes mid
-    → contexts_behind done xs ms ≡ x ∷ ys → IsMark e x ys m mid after → AreMarks e done xs (ms ++ m ∷ []) bytes after
-marks_snoc e [] done xs x ys m bytes mid after a k i =
-    subst (λ z. AreMarks e done z (m ∷ []) bytes after) (sym k) (subst (λ b. AreMarks e done (x ∷ ys) (m ∷ []) b after) (sym a) (after, i, refl))
-marks_snoc e (n ∷ ms) done [] x ys m bytes mid after a k i = absurd a
-marks_snoc e (n ∷ ms) done (z ∷ zs) x ys m bytes mid after a k i = (a.0, a.1, marks_snoc e ms (done ++ n ∷ []) (behind done z zs n) x ys m a.0 mid after a.2 k i)
+pub marks_snoc : (e : Bool) (limit : ℕ) (ms done : List Mark) (xs : List Context) (x : Context) (ys : List Context) (m : Mark) (bytes mid after : List ℕ) → AreMarks e limit done xs ms bytes mid
+    → contexts_behind done xs ms ≡ x ∷ ys → IsMark e limit x ys m mid after → AreMarks e limit done xs (ms ++ m ∷ []) bytes after
+marks_snoc e limit [] done xs x ys m bytes mid after a k i =
+    subst (λ z. AreMarks e limit done z (m ∷ []) bytes after) (sym k) (subst (λ b. AreMarks e limit done (x ∷ ys) (m ∷ []) b after) (sym a) (after, i, refl))
+marks_snoc e limit (n ∷ ms) done [] x ys m bytes mid after a k i = absurd a
+marks_snoc e limit (n ∷ ms) done (z ∷ zs) x ys m bytes mid after a k i = (a.0, a.1, marks_snoc e limit ms (done ++ n ∷ []) (behind done z zs n) x ys m a.0 mid after a.2 k i)
 
 pub contexts_snoc : (ms done : List Mark) (xs : List Context) (x : Context) (ys : List Context) (m : Mark) → contexts_behind done xs ms ≡ x ∷ ys
     → contexts_behind done xs (ms ++ m ∷ []) ≡ behind (done ++ ms) x ys m
@@ -68,21 +68,21 @@ pending_levels Pending.Comment n = n
 pending_levels (Pending.Body l b j) n = n
 
 -- what has been read of a piece that has begun, from `mid` up to `m`
-abbrev pub Held : Bool → Pending → List Context → List ℕ → List ℕ → List ℕ → Type 0
-Held e Pending.Nothing xs acc mid m = (acc ≡ []) × (mid ≡ m)
-Held e Pending.Dollar xs acc mid m = (acc ≡ []) × (in_word (top_of xs) ≡ true) × Written e (Plain 36 ∷ []) mid m
-Held e Pending.DollarParenthesis xs acc mid m = (acc ≡ []) × (in_word (top_of xs) ≡ true) × (nat_lt (levels xs) 500 ≡ true) × Written e (Plain 36 ∷ Plain 40 ∷ []) mid m
-Held e Pending.Name xs acc mid m = (is_name acc ≡ true) × (in_word (top_of xs) ≡ true) × Written e (Plain 36 ∷ plain acc) mid m
-Held e (Pending.Head h) xs acc mid m = (head_of acc ≡ Some h) × (in_word (top_of xs) ≡ true) × (nat_lt (levels xs) 500 ≡ true) × Written e (Plain 36 ∷ Plain 123 ∷ plain acc) mid m
-Held e Pending.Single xs acc mid m = (list_all is_no_quote acc ≡ true) × (has_single_quotes (top_of xs) ≡ true) × Written e (Plain 39 ∷ raw acc) mid m
-Held e Pending.Backquotes xs acc mid m =
-    ((bs : List ℕ) → is_backquoted (acc ++ bs) ≡ is_backquoted bs) × (in_word (top_of xs) ≡ true) × (nat_lt (levels xs) 500 ≡ true) × Written e (Plain 96 ∷ raw acc) mid m
-Held e Pending.BackquotesEscape xs acc mid m =
-    ((b : ℕ) (bs : List ℕ) → is_backquoted (acc ++ b ∷ bs) ≡ is_backquoted bs) × (in_word (top_of xs) ≡ true) × (nat_lt (levels xs) 500 ≡ true) × Written e (Plain 96 ∷ raw acc) mid m
-Held e Pending.Parenthesis xs acc mid m = (acc ≡ []) × (is_arithmetic (top_of xs) ≡ true) × Written e (Plain 41 ∷ []) mid m
-Held e (Pending.Operator o) xs acc mid m = (acc ≡ []) × (between_tokens (top_of xs) ≡ true) × (may_grow o ≡ true) × Written e (plain (operator_text o)) mid m
-Held e Pending.Comment xs acc mid m = (list_all is_no_newline acc ≡ true) × (between_tokens (top_of xs) ≡ true) × Written e (Plain 35 ∷ raw acc) mid m
-Held e (Pending.Body l b j) xs acc mid m = Stands (due_in (top_of xs)) l b j acc × Written e (Plain 10 ∷ raw acc) mid m
+abbrev pub Held : Bool → ℕ → Pending → List Context → List ℕ → List ℕ → List ℕ → Type 0
+Held e limit Pending.Nothing xs acc mid m = (acc ≡ []) × (mid ≡ m)
+Held e limit Pending.Dollar xs acc mid m = (acc ≡ []) × (in_word (top_of xs) ≡ true) × Written e (Plain 36 ∷ []) mid m
+Held e limit Pending.DollarParenthesis xs acc mid m = (acc ≡ []) × (in_word (top_of xs) ≡ true) × (nat_lt (levels xs) limit ≡ true) × Written e (Plain 36 ∷ Plain 40 ∷ []) mid m
+Held e limit Pending.Name xs acc mid m = (is_name acc ≡ true) × (in_word (top_of xs) ≡ true) × Written e (Plain 36 ∷ plain acc) mid m
+Held e limit (Pending.Head h) xs acc mid m = (head_of acc ≡ Some h) × (in_word (top_of xs) ≡ true) × (nat_lt (levels xs) limit ≡ true) × Written e (Plain 36 ∷ Plain 123 ∷ plain acc) mid m
+Held e limit Pending.Single xs acc mid m = (list_all is_no_quote acc ≡ true) × (has_single_quotes (top_of xs) ≡ true) × Written e (Plain 39 ∷ raw acc) mid m
+Held e limit Pending.Backquotes xs acc mid m =
+    ((bs : List ℕ) → is_backquoted (acc ++ bs) ≡ is_backquoted bs) × (in_word (top_of xs) ≡ true) × (nat_lt (levels xs) limit ≡ true) × Written e (Plain 96 ∷ raw acc) mid m
+Held e limit Pending.BackquotesEscape xs acc mid m =
+    ((b : ℕ) (bs : List ℕ) → is_backquoted (acc ++ b ∷ bs) ≡ is_backquoted bs) × (in_word (top_of xs) ≡ true) × (nat_lt (levels xs) limit ≡ true) × Written e (Plain 96 ∷ raw acc) mid m
+Held e limit Pending.Parenthesis xs acc mid m = (acc ≡ []) × (is_arithmetic (top_of xs) ≡ true) × Written e (Plain 41 ∷ []) mid m
+Held e limit (Pending.Operator o) xs acc mid m = (acc ≡ []) × (between_tokens (top_of xs) ≡ true) × (may_grow o ≡ true) × Written e (plain (operator_text o)) mid m
+Held e limit Pending.Comment xs acc mid m = (list_all is_no_newline acc ≡ true) × (between_tokens (top_of xs) ≡ true) × Written e (Plain 35 ∷ raw acc) mid m
+Held e limit (Pending.Body l b j) xs acc mid m = Stands (due_in (top_of xs)) l b j acc × Written e (Plain 10 ∷ raw acc) mid m
 
 -- the `$`, or the backquote, stands directly before
 abbrev pub Preceded : Pending → List ℕ → List ℕ → List ℕ → Type 0
@@ -131,25 +131,25 @@ IsBlank (WordBehind gap) = list_all is_gap gap ≡ true
 IsBlank WholeBody = Unit {0}
 
 -- it is over, these being the pieces; a body is so only at the end of the input
-abbrev pub IsOver : Bool → Subject → List ℕ → List ℕ → List Mark → Type 0
-IsOver e (WordBehind gap) front rest done = IsToken e gap front rest (kind_of done)
-IsOver e WholeBody front rest done = ⊥
+abbrev pub IsOver : Bool → ℕ → Subject → List ℕ → List ℕ → List Mark → Type 0
+IsOver e limit (WordBehind gap) front rest done = IsToken e limit gap front rest (kind_of done)
+IsOver e limit WholeBody front rest done = ⊥
 
 pieces_snoc : (g : Subject) (ms : List Mark) (m : Mark) → pieces_of g (ms ++ m ∷ []) ≡ pieces_of g ms ++ m ∷ []
 pieces_snoc (WordBehind gap) ms m = refl
 pieces_snoc WholeBody ms m = refl
 
-module _ (e : Bool) (subject : Subject) (front : List ℕ) where
+module _ (e : Bool) (limit : ℕ) (subject : Subject) (front : List ℕ) where
   -- the pieces so far
   pub record Path (done : List Mark) (xs : List Context) (mid : List ℕ) : Type 0 where
     pub inner : List Mark
     pub is : gap_of subject ++ pieces_of subject inner ≡ done
-    pub walked : AreMarks e (gap_of subject) (ground_of subject) (pieces_of subject inner) front mid
+    pub walked : AreMarks e limit (gap_of subject) (ground_of subject) (pieces_of subject inner) front mid
     pub going : ends_none (gap_of subject) (ground_of subject) (pieces_of subject inner) ≡ true
     pub contexts : contexts_behind (gap_of subject) (ground_of subject) (pieces_of subject inner) ≡ xs
     pub inside : Inside xs
 
-  pub path_on : (done : List Mark) (x : Context) (xs : List Context) (m : Mark) (mid after : List ℕ) → Path done (x ∷ xs) mid → IsMark e x xs m mid after
+  pub path_on : (done : List Mark) (x : Context) (xs : List Context) (m : Mark) (mid after : List ℕ) → Path done (x ∷ xs) mid → IsMark e limit x xs m mid after
       → ends_token m (behind done x xs m) ≡ false → Path (done ++ m ∷ []) (behind done x xs m) after
   path_on done x xs m mid after p i h =
       let gap = gap_of subject in
@@ -159,10 +159,10 @@ module _ (e : Bool) (subject : Subject) (front : List ℕ) where
       record {
         inner = p.inner ++ m ∷ [];
         is = ap (λ z. gap ++ z) s ∙ (sym (append_assoc gap ms (m ∷ [])) ∙ ap (λ d. d ++ m ∷ []) p.is);
-        walked = subst (λ z. AreMarks e gap ground z front after) (sym s) (marks_snoc e ms gap ground x xs m front mid after p.walked p.contexts i);
+        walked = subst (λ z. AreMarks e limit gap ground z front after) (sym s) (marks_snoc e limit ms gap ground x xs m front mid after p.walked p.contexts i);
         going = subst (λ z. ends_none gap ground z ≡ true) (sym s) (ends_snoc ms gap ground x xs m p.going p.contexts (ap (λ d. ends_token m (behind d x xs m)) p.is ∙ h));
         contexts = ap (contexts_behind gap ground) s ∙ (contexts_snoc ms gap ground x xs m p.contexts ∙ ap (λ d. behind d x xs m) p.is);
-        inside = inside_behind e done x xs m mid after p.inside i h;
+        inside = inside_behind e limit done x xs m mid after p.inside i h;
       }
 
   -- a state within it, where the text is m
@@ -172,23 +172,23 @@ module _ (e : Bool) (subject : Subject) (front : List ℕ) where
     pub pending : Pending
     pub acc : List ℕ
     pub mid : List ℕ
-    pub is : t ≡ begun xs done (pending_levels pending (levels xs)) pending acc
+    pub is : t ≡ begun limit xs done (pending_levels pending (levels xs)) pending acc
     pub path : Path done xs mid
-    pub held : Held e pending xs acc mid m
+    pub held : Held e limit pending xs acc mid m
     pub preceded : Preceded pending acc previous m
 
   -- level 501 opens there
   pub record DeepHere (place : List ℕ) : Type 0 where
     pub marks : List Mark
     pub last : List ℕ
-    pub before : AreMarks e (gap_of subject) (ground_of subject) (pieces_of subject marks) front last
+    pub before : AreMarks e limit (gap_of subject) (ground_of subject) (pieces_of subject marks) front last
     pub going : ends_none (gap_of subject) (ground_of subject) (pieces_of subject marks) ≡ true
-    pub full : nat_lt (levels (contexts_behind (gap_of subject) (ground_of subject) (pieces_of subject marks))) 500 ≡ false
+    pub full : nat_lt (levels (contexts_behind (gap_of subject) (ground_of subject) (pieces_of subject marks))) limit ≡ false
     pub within : in_word (top_of (contexts_behind (gap_of subject) (ground_of subject) (pieces_of subject marks))) ≡ true
     pub placed : Joined last place
     pub opens : OpensLevel e place
 
-  pub deep_here : (done : List Mark) (xs : List Context) (mid place : List ℕ) → Path done xs mid → nat_lt (levels xs) 500 ≡ false → in_word (top_of xs) ≡ true → Joined mid place
+  pub deep_here : (done : List Mark) (xs : List Context) (mid place : List ℕ) → Path done xs mid → nat_lt (levels xs) limit ≡ false → in_word (top_of xs) ≡ true → Joined mid place
       → OpensLevel e place → DeepHere place
   deep_here done xs mid place p f w j o =
       record {
@@ -196,7 +196,7 @@ module _ (e : Bool) (subject : Subject) (front : List ℕ) where
         last = mid;
         before = p.walked;
         going = p.going;
-        full = ap (λ ys. nat_lt (levels ys) 500) p.contexts ∙ f;
+        full = ap (λ ys. nat_lt (levels ys) limit) p.contexts ∙ f;
         within = ap (λ ys. in_word (top_of ys)) p.contexts ∙ w;
         placed = j;
         opens = o;
@@ -205,8 +205,8 @@ module _ (e : Bool) (subject : Subject) (front : List ℕ) where
   -- what a character makes of it: `begin` is where it begins, `m` what it was read of
   abbrev pub Onward : Stepped → List ℕ → List ℕ → List ℕ → List ℕ → Type 0
   Onward (On t) previous begin m rest = At t begin rest
-  Onward (Before t) previous begin m rest = IsOver e subject front m t.done
-  Onward (After t) previous begin m rest = IsOver e subject front rest t.done
+  Onward (Before t) previous begin m rest = IsOver e limit subject front m t.done
+  Onward (After t) previous begin m rest = IsOver e limit subject front rest t.done
   Onward (TooDeep t) previous begin m rest = DeepHere begin
   Onward (DollarTooDeep t) previous begin m rest = DeepHere previous
 
@@ -219,28 +219,28 @@ module _ (e : Bool) (subject : Subject) (front : List ℕ) where
   either false x y previous begin m rest t u = u refl
 
   -- a state with nothing begun
-  pub settled_at : (t : State) (done : List Mark) (xs : List Context) (previous begin m rest : List ℕ) → t ≡ settled done xs → Path done xs rest → Going (On t) previous begin m rest
+  pub settled_at : (t : State) (done : List Mark) (xs : List Context) (previous begin m rest : List ℕ) → t ≡ settled limit done xs → Path done xs rest → Going (On t) previous begin m rest
   settled_at t done xs previous begin m rest w p =
       record { it = record { xs = xs; done = done; pending = Pending.Nothing; acc = []; mid = rest; is = w; path = p; held = (refl, refl); preceded = tt } }
 
 -- the end of a word of the text itself
-pub final_word : (e : Bool) (subject : Subject) (front : List ℕ) (done : List Mark) (x : Context) (xs : List Context) (r : Bool) (mid rest : List ℕ) → IsBlank subject → Path e subject front done (x ∷ xs) mid
-    → IsMark e x xs (WordClose r) mid rest → is_text (top_of xs) ≡ true → IsOver e subject front rest (done ++ WordClose r ∷ [])
-final_word e (WordBehind gap) front done x xs r mid rest h p i t =
-    subst (λ k. IsToken e gap front rest k) (sym (ap (λ d. kind_of (d ++ WordClose r ∷ [])) (sym p.is ∙ sym (append_assoc gap (WordOpen ∷ []) p.inner)) ∙ word_kind_of gap p.inner r h))
+pub final_word : (e : Bool) (limit : ℕ) (subject : Subject) (front : List ℕ) (done : List Mark) (x : Context) (xs : List Context) (r : Bool) (mid rest : List ℕ) → IsBlank subject → Path e limit subject front done (x ∷ xs) mid
+    → IsMark e limit x xs (WordClose r) mid rest → is_text (top_of xs) ≡ true → IsOver e limit subject front rest (done ++ WordClose r ∷ [])
+final_word e limit (WordBehind gap) front done x xs r mid rest h p i t =
+    subst (λ k. IsToken e limit gap front rest k) (sym (ap (λ d. kind_of (d ++ WordClose r ∷ [])) (sym p.is ∙ sym (append_assoc gap (WordOpen ∷ []) p.inner)) ∙ word_kind_of gap p.inner r h))
     (word p.inner r x xs mid p.walked p.going p.contexts i t)
-final_word e WholeBody front done x xs r mid rest h p i t =
+final_word e limit WholeBody front done x xs r mid rest h p i t =
     let f = subst (λ ys. free is_text ys ≡ true) p.contexts (free_contexts is_text never_text p.inner [] (Body ∷ []) refl) in
     absurd (no_token_over x xs f p.inside.order (and_true (is_word x) (ends_word (ahead e rest) && same_as r (next_is is_redirection (ahead e rest))) i.fits).0 t)
 
 -- no body is below a word
-pub no_body : (e : Bool) (gap : List Mark) (front : List ℕ) (done : List Mark) (xs : List Context) (mid : List ℕ) → Path e (WordBehind gap) front done (Body ∷ xs) mid → ⊥
-no_body e gap front done xs mid p =
+pub no_body : (e : Bool) (limit : ℕ) (gap : List Mark) (front : List ℕ) (done : List Mark) (xs : List Context) (mid : List ℕ) → Path e limit (WordBehind gap) front done (Body ∷ xs) mid → ⊥
+no_body e limit gap front done xs mid p =
     let f : free is_body (Body ∷ xs) ≡ true = subst (λ ys. free is_body ys ≡ true) p.contexts (free_contexts is_body never_body (WordOpen ∷ p.inner) gap (Top ∷ []) refl) in
     absurd (cc)
 
 -- where the run of a first word comes to
-abbrev pub Shown : (e : Bool) (gap : List Mark) (front : List ℕ) → Scanned → Type 0
-Shown e gap front (Ended k f r) = (f ≡ front) × IsToken e gap front r (kind_of k.done)
-Shown e gap front (Deep r) = DeepHere e (WordBehind gap) front r
-Shown e gap front (Open f) = Unit {0}
+abbrev pub Shown : (e : Bool) (limit : ℕ) (gap : List Mark) (front : List ℕ) → Scanned → Type 0
+Shown e limit gap front (Ended k f r) = (f ≡ front) × IsToken e limit gap front r (kind_of k.done)
+Shown e limit gap front (Deep r) = DeepHere e limit (WordBehind gap) front r
+Shown e limit gap front (Open f) = Unit {0}

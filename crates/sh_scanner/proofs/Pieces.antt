@@ -69,17 +69,17 @@ quotes_level Arithmetic xs h = absurd (cc)
 quotes_level Parenthesis xs h = absurd (cc)
 quotes_level Body xs h = absurd (cc)
 
-arithmetic_closes : (x : Context) (xs : List Context) (done : List Mark) (lv : ℕ) → is_arithmetic x ≡ true
-    → plain_byte (kept (x ∷ xs) done lv) 41 ≡ On (begun (x ∷ xs) done lv Pending.Parenthesis [])
+arithmetic_closes : (limit : ℕ) (x : Context) (xs : List Context) (done : List Mark) (lv : ℕ) → is_arithmetic x ≡ true
+    → plain_byte (kept limit (x ∷ xs) done lv) 41 ≡ On (begun limit (x ∷ xs) done lv Pending.Parenthesis [])
 unfolding plain_byte word_byte inner_byte
-arithmetic_closes Top xs done lv h = absurd (cc)
-arithmetic_closes (Commands ts) xs done lv h = absurd (cc)
-arithmetic_closes (Word n) xs done lv h = absurd (cc)
-arithmetic_closes Quotes xs done lv h = absurd (cc)
-arithmetic_closes (Braces q) xs done lv h = absurd (cc)
-arithmetic_closes Arithmetic xs done lv h = refl
-arithmetic_closes Parenthesis xs done lv h = absurd (cc)
-arithmetic_closes Body xs done lv h = absurd (cc)
+arithmetic_closes limit Top xs done lv h = absurd (cc)
+arithmetic_closes limit (Commands ts) xs done lv h = absurd (cc)
+arithmetic_closes limit (Word n) xs done lv h = absurd (cc)
+arithmetic_closes limit Quotes xs done lv h = absurd (cc)
+arithmetic_closes limit (Braces q) xs done lv h = absurd (cc)
+arithmetic_closes limit Arithmetic xs done lv h = refl
+arithmetic_closes limit Parenthesis xs done lv h = absurd (cc)
+arithmetic_closes limit Body xs done lv h = absurd (cc)
 
 pub arithmetic_level : (x : Context) (xs : List Context) → is_arithmetic x ≡ true → levels (x ∷ xs) - 1 ≡ levels xs
 arithmetic_level Top xs h = absurd (cc)
@@ -91,16 +91,16 @@ arithmetic_level Arithmetic xs h = before (levels xs)
 arithmetic_level Parenthesis xs h = absurd (cc)
 arithmetic_level Body xs h = absurd (cc)
 
-pub backquote_in : (x : Context) (xs : List Context) (done : List Mark) (lv : ℕ) → in_word x ≡ true → plain_byte (kept (x ∷ xs) done lv) 96 ≡ opens Pending.Backquotes (kept (x ∷ xs) done lv)
+pub backquote_in : (limit : ℕ) (x : Context) (xs : List Context) (done : List Mark) (lv : ℕ) → in_word x ≡ true → plain_byte (kept limit (x ∷ xs) done lv) 96 ≡ opens Pending.Backquotes (kept limit (x ∷ xs) done lv)
 unfolding plain_byte word_byte
-backquote_in Top xs done lv h = absurd (cc)
-backquote_in (Commands ts) xs done lv h = absurd (cc)
-backquote_in (Word n) xs done lv h = refl
-backquote_in Quotes xs done lv h = refl
-backquote_in (Braces q) xs done lv h = refl
-backquote_in Arithmetic xs done lv h = refl
-backquote_in Parenthesis xs done lv h = refl
-backquote_in Body xs done lv h = refl
+backquote_in limit Top xs done lv h = absurd (cc)
+backquote_in limit (Commands ts) xs done lv h = absurd (cc)
+backquote_in limit (Word n) xs done lv h = refl
+backquote_in limit Quotes xs done lv h = refl
+backquote_in limit (Braces q) xs done lv h = refl
+backquote_in limit Arithmetic xs done lv h = refl
+backquote_in limit Parenthesis xs done lv h = refl
+backquote_in limit Body xs done lv h = refl
 
 arithmetic_no_word : (x : Context) → is_arithmetic x ≡ true → is_word x ≡ false
 arithmetic_no_word Top h = refl
@@ -210,15 +210,15 @@ no_name b h = go (is_name_start b) refl
     go false i = refl
     go true i = let l = name_large b i in let s = parameter_small b h in absurd (omega arith)
 
-pub level_open : (lv : ℕ) → (true && not (nat_lt lv 500)) ≡ false → nat_lt lv 500 ≡ true
-level_open lv h = go (nat_lt lv 500) h
+pub level_open : (limit : ℕ) (lv : ℕ) → (true && not (nat_lt lv limit)) ≡ false → nat_lt lv limit ≡ true
+level_open limit lv h = go (nat_lt lv limit) h
   where
     go : (c : Bool) → not c ≡ false → c ≡ true
     go true i = refl
     go false i = absurd (cc)
 
-pub open_on : (p : Pending) (xs : List Context) (done : List Mark) (lv : ℕ) (q : Pending) → nat_lt lv 500 ≡ true → opens p (begun xs done lv q []) ≡ On (begun xs done (suc lv) p [])
-open_on p xs done lv q h = rw h refl
+pub open_on : (limit : ℕ) (p : Pending) (xs : List Context) (done : List Mark) (lv : ℕ) (q : Pending) → nat_lt lv limit ≡ true → opens p (begun limit xs done lv q []) ≡ On (begun limit xs done (suc lv) p [])
+open_on limit p xs done lv q h = rw h refl
 
 module _ (k e : Bool) where
   -- one character
@@ -226,15 +226,15 @@ module _ (k e : Bool) where
       → Leads k e s m t rest
   one s t m rest c g r w h = joined k e s t t m w.0 rest (goes k e s t m w.0 c g r w.1 h) (stay k e t w.0 rest w.2)
 
-module _ (k e : Bool) (x : Context) (xs : List Context) (done : List Mark) where
+module _ (k e : Bool) (limit : ℕ) (x : Context) (xs : List Context) (done : List Mark) where
   abbrev lv : ℕ
   lv = levels (x ∷ xs)
 
   abbrev at_start : State
-  at_start = settled done (x ∷ xs)
+  at_start = settled limit done (x ∷ xs)
 
   pub byte_leads : (b : ℕ) (m rest : List ℕ) → stands x b (ahead e rest) ≡ true → Written e (Plain b ∷ []) m rest
-      → Leads k e at_start m (settled (done ++ Byte b ∷ []) (parenthesized b x xs)) rest
+      → Leads k e at_start m (settled limit (done ++ Byte b ∷ []) (parenthesized b x xs)) rest
   unfolding at_parenthesis
   byte_leads b m rest h w = go (nat_eq b 41 && is_arithmetic x) refl
     where
@@ -248,9 +248,9 @@ module _ (k e : Bool) (x : Context) (xs : List Context) (done : List Mark) where
       text t = word_no_text x word
 
       over : Pending → State
-      over p = begun (x ∷ xs) done lv p []
+      over p = begun limit (x ∷ xs) done lv p []
 
-      parenthesis : nat_eq b 41 ≡ true → is_arithmetic x ≡ true → Alike e false (over Pending.Parenthesis) (kept (x ∷ xs) (done ++ Byte 41 ∷ []) lv) rest
+      parenthesis : nat_eq b 41 ≡ true → is_arithmetic x ≡ true → Alike e false (over Pending.Parenthesis) (kept limit (x ∷ xs) (done ++ Byte 41 ∷ []) lv) rest
       parenthesis i a =
           record {
             plains = λ c j. let z = fails (λ c. nat_eq c 41) (ahead e rest) c (no_close x b (ahead e rest) a i h) j in rw z refl;
@@ -258,19 +258,19 @@ module _ (k e : Bool) (x : Context) (xs : List Context) (done : List Mark) where
             ends = λ j. rw (word_no_text x word, arithmetic_no_body x a, arithmetic_no_word x a) refl;
           }
 
-      go : (c : Bool) → (nat_eq b 41 && is_arithmetic x) ≡ c → Leads k e at_start m (settled (done ++ Byte b ∷ []) (parenthesized b x xs)) rest
+      go : (c : Bool) → (nat_eq b 41 && is_arithmetic x) ≡ c → Leads k e at_start m (settled limit (done ++ Byte b ∷ []) (parenthesized b x xs)) rest
       go false i =
-          subst (λ l. Leads k e at_start m (kept (parenthesized b x xs) (done ++ Byte b ∷ []) l) rest) (sym (levels_parenthesized x xs done lv b))
-          (one k e at_start (kept (parenthesized b x xs) (done ++ Byte b ∷ []) lv) m rest (Plain b) text refl w (byte_stood x xs done lv b s ∙ inner_on x xs done lv b i))
+          subst (λ l. Leads k e at_start m (kept limit (parenthesized b x xs) (done ++ Byte b ∷ []) l) rest) (sym (levels_parenthesized limit x xs done lv b))
+          (one k e at_start (kept limit (parenthesized b x xs) (done ++ Byte b ∷ []) lv) m rest (Plain b) text refl w (byte_stood limit x xs done lv b s ∙ inner_on limit x xs done lv b i))
       go true i =
           let t = and_true (nat_eq b 41) (is_arithmetic x) i in
           let y = eqb-true b 41 t.0 in
           let z : parenthesized 41 x xs ≡ x ∷ xs = no_parenthesis x t.1 in
-          subst (λ b. Leads k e at_start m (settled (done ++ Byte b ∷ []) (parenthesized b x xs)) rest) (sym y)
-          (subst (λ ys. Leads k e at_start m (settled (done ++ Byte 41 ∷ []) ys) rest) (sym z)
-          (joined k e at_start (over Pending.Parenthesis) (kept (x ∷ xs) (done ++ Byte 41 ∷ []) lv) m rest rest
-          (one k e at_start (over Pending.Parenthesis) m rest (Plain b) text refl w (byte_stood x xs done lv b s ∙ inner_parenthesis x xs done lv b i))
-          (same_ahead k e (over Pending.Parenthesis) (kept (x ∷ xs) (done ++ Byte 41 ∷ []) lv) rest (record { left = refl; right = refl; gap = sym (word_no_text x word) })
+          subst (λ b. Leads k e at_start m (settled limit (done ++ Byte b ∷ []) (parenthesized b x xs)) rest) (sym y)
+          (subst (λ ys. Leads k e at_start m (settled limit (done ++ Byte 41 ∷ []) ys) rest) (sym z)
+          (joined k e at_start (over Pending.Parenthesis) (kept limit (x ∷ xs) (done ++ Byte 41 ∷ []) lv) m rest rest
+          (one k e at_start (over Pending.Parenthesis) m rest (Plain b) text refl w (byte_stood limit x xs done lv b s ∙ inner_parenthesis limit x xs done lv b i))
+          (same_ahead k e (over Pending.Parenthesis) (kept limit (x ∷ xs) (done ++ Byte 41 ∷ []) lv) rest (record { left = refl; right = refl; gap = sym (word_no_text x word) })
           (parenthesis t.0 t.1))))
         where
           no_parenthesis : (y : Context) → is_arithmetic y ≡ true → parenthesized 41 y xs ≡ y ∷ xs
@@ -283,8 +283,8 @@ module _ (k e : Bool) (x : Context) (xs : List Context) (done : List Mark) where
           no_parenthesis Parenthesis a = absurd (cc)
           no_parenthesis Body a = absurd (cc)
 
-  pub escaped_leads : (b : ℕ) (m rest : List ℕ) → quotes x b ≡ true → Written e (Quoted b ∷ []) m rest → Leads k e at_start m (settled (done ++ Escaped b ∷ []) (x ∷ xs)) rest
-  escaped_leads b m rest h w = one k e at_start (settled (done ++ Escaped b ∷ []) (x ∷ xs)) m rest (Quoted b) (λ t. quoting_no_text x b h) refl w (escaped_in x xs done lv b h)
+  pub escaped_leads : (b : ℕ) (m rest : List ℕ) → quotes x b ≡ true → Written e (Quoted b ∷ []) m rest → Leads k e at_start m (settled limit (done ++ Escaped b ∷ []) (x ∷ xs)) rest
+  escaped_leads b m rest h w = one k e at_start (settled limit (done ++ Escaped b ∷ []) (x ∷ xs)) m rest (Quoted b) (λ t. quoting_no_text x b h) refl w (escaped_in limit x xs done lv b h)
     where
       quoting_no_text : (y : Context) (b : ℕ) → quotes y b ≡ true → is_text y ≡ false
       quoting_no_text Top b h = absurd (cc)
@@ -297,90 +297,90 @@ module _ (k e : Bool) (x : Context) (xs : List Context) (done : List Mark) where
       quoting_no_text Body b h = refl
 
   pub backslash_leads : (b : ℕ) (m rest : List ℕ) → in_word x ≡ true → quotes x b ≡ false → Written e (Quoted b ∷ []) m rest
-      → Leads k e at_start m (settled (done ++ Backslash b ∷ []) (x ∷ xs)) rest
-  backslash_leads b m rest i h w = one k e at_start (settled (done ++ Backslash b ∷ []) (x ∷ xs)) m rest (Quoted b) (λ t. word_no_text x i) refl w (backslash_in x xs done lv b i h)
+      → Leads k e at_start m (settled limit (done ++ Backslash b ∷ []) (x ∷ xs)) rest
+  backslash_leads b m rest i h w = one k e at_start (settled limit (done ++ Backslash b ∷ []) (x ∷ xs)) m rest (Quoted b) (λ t. word_no_text x i) refl w (backslash_in limit x xs done lv b i h)
 
   pub single_leads : (bs m rest : List ℕ) → has_single_quotes x ≡ true → list_all is_no_quote bs ≡ true → Written e (Plain 39 ∷ (raw bs ++ Raw 39 ∷ [])) m rest
-      → Leads k e at_start m (settled (done ++ SingleQuoted bs ∷ []) (x ∷ xs)) rest
+      → Leads k e at_start m (settled limit (done ++ SingleQuoted bs ∷ []) (x ∷ xs)) rest
   unfolding in_single
   single_leads bs m rest h a w =
       let s = written_split e (raw bs) (Raw 39 ∷ []) w.0 rest w.2 in
-      joined k e at_start (within []) (settled (done ++ SingleQuoted bs ∷ []) (x ∷ xs)) m w.0 rest
-      (goes k e at_start (within []) m w.0 (Plain 39) (λ t. word_no_text x (single_in_word x h)) refl w.1 (single_opens x xs done lv h))
-      (joined k e (within []) (within bs) (settled (done ++ SingleQuoted bs ∷ []) (x ∷ xs)) w.0 s.middle rest
-      (raw_keeps k e (x ∷ xs) done lv Pending.Single is_no_quote (λ t. refl) refl keeps bs [] w.0 s.middle a s.left)
-      (one k e (within bs) (settled (done ++ SingleQuoted bs ∷ []) (x ∷ xs)) s.middle rest (Raw 39) (λ t. refl) refl s.right closes))
+      joined k e at_start (within []) (settled limit (done ++ SingleQuoted bs ∷ []) (x ∷ xs)) m w.0 rest
+      (goes k e at_start (within []) m w.0 (Plain 39) (λ t. word_no_text x (single_in_word x h)) refl w.1 (single_opens limit x xs done lv h))
+      (joined k e (within []) (within bs) (settled limit (done ++ SingleQuoted bs ∷ []) (x ∷ xs)) w.0 s.middle rest
+      (raw_keeps k e limit (x ∷ xs) done lv Pending.Single is_no_quote (λ t. refl) refl keeps bs [] w.0 s.middle a s.left)
+      (one k e (within bs) (settled limit (done ++ SingleQuoted bs ∷ []) (x ∷ xs)) s.middle rest (Raw 39) (λ t. refl) refl s.right closes))
     where
       within : List ℕ → State
-      within acc = begun (x ∷ xs) done lv Pending.Single acc
+      within acc = begun limit (x ∷ xs) done lv Pending.Single acc
 
-      keeps : (acc : List ℕ) (b : ℕ) → is_no_quote b ≡ true → step (begun (x ∷ xs) done lv Pending.Single acc) (Raw b) ≡ On (begun (x ∷ xs) done lv Pending.Single (acc ++ b ∷ []))
+      keeps : (acc : List ℕ) (b : ℕ) → is_no_quote b ≡ true → step (begun limit (x ∷ xs) done lv Pending.Single acc) (Raw b) ≡ On (begun limit (x ∷ xs) done lv Pending.Single (acc ++ b ∷ []))
       keeps acc b h = rw (not_true (nat_eq b 39) h) refl
 
-      closes : step (begun (x ∷ xs) done lv Pending.Single bs) (Raw 39) ≡ On (settled (done ++ SingleQuoted bs ∷ []) (x ∷ xs))
+      closes : step (begun limit (x ∷ xs) done lv Pending.Single bs) (Raw 39) ≡ On (settled limit (done ++ SingleQuoted bs ∷ []) (x ∷ xs))
       closes = refl
 
-  pub open_leads : (m rest : List ℕ) → has_double_quotes x ≡ true → Written e (Plain 34 ∷ []) m rest → Leads k e at_start m (settled (done ++ DoubleQuotesOpen ∷ []) (Quotes ∷ x ∷ xs)) rest
+  pub open_leads : (m rest : List ℕ) → has_double_quotes x ≡ true → Written e (Plain 34 ∷ []) m rest → Leads k e at_start m (settled limit (done ++ DoubleQuotesOpen ∷ []) (Quotes ∷ x ∷ xs)) rest
   open_leads m rest h w =
-      one k e at_start (settled (done ++ DoubleQuotesOpen ∷ []) (Quotes ∷ x ∷ xs)) m rest (Plain 34) (λ t. word_no_text x (double_in_word x h)) refl w (double_opens x xs done lv h)
+      one k e at_start (settled limit (done ++ DoubleQuotesOpen ∷ []) (Quotes ∷ x ∷ xs)) m rest (Plain 34) (λ t. word_no_text x (double_in_word x h)) refl w (double_opens limit x xs done lv h)
 
-  pub close_leads : (m rest : List ℕ) → is_quotes x ≡ true → Written e (Plain 34 ∷ []) m rest → Leads k e at_start m (settled (done ++ DoubleQuotesClose ∷ []) xs) rest
+  pub close_leads : (m rest : List ℕ) → is_quotes x ≡ true → Written e (Plain 34 ∷ []) m rest → Leads k e at_start m (settled limit (done ++ DoubleQuotesClose ∷ []) xs) rest
   close_leads m rest h w =
-      subst (λ l. Leads k e at_start m (kept xs (done ++ DoubleQuotesClose ∷ []) l) rest) (quotes_level x xs h)
-      (one k e at_start (kept xs (done ++ DoubleQuotesClose ∷ []) lv) m rest (Plain 34) (λ t. quotes_left x h) refl w (double_closes x xs done lv h))
+      subst (λ l. Leads k e at_start m (kept limit xs (done ++ DoubleQuotesClose ∷ []) l) rest) (quotes_level x xs h)
+      (one k e at_start (kept limit xs (done ++ DoubleQuotesClose ∷ []) lv) m rest (Plain 34) (λ t. quotes_left x h) refl w (double_closes limit x xs done lv h))
 
-  pub brace_leads : (m rest : List ℕ) → is_braces x ≡ true → Written e (Plain 125 ∷ []) m rest → Leads k e at_start m (settled (done ++ BraceClose ∷ []) xs) rest
+  pub brace_leads : (m rest : List ℕ) → is_braces x ≡ true → Written e (Plain 125 ∷ []) m rest → Leads k e at_start m (settled limit (done ++ BraceClose ∷ []) xs) rest
   brace_leads m rest h w =
-      subst (λ l. Leads k e at_start m (kept xs (done ++ BraceClose ∷ []) l) rest) (brace_level x xs h)
-      (one k e at_start (kept xs (done ++ BraceClose ∷ []) (lv - 1)) m rest (Plain 125) (λ t. braces_left x h) refl w (brace_closes x xs done lv h))
+      subst (λ l. Leads k e at_start m (kept limit xs (done ++ BraceClose ∷ []) l) rest) (brace_level x xs h)
+      (one k e at_start (kept limit xs (done ++ BraceClose ∷ []) (lv - 1)) m rest (Plain 125) (λ t. braces_left x h) refl w (brace_closes limit x xs done lv h))
 
   -- behind a `$`
   abbrev dollar : State
-  dollar = begun (x ∷ xs) done lv Pending.Dollar []
+  dollar = begun limit (x ∷ xs) done lv Pending.Dollar []
 
   pub to_dollar : (m rest : List ℕ) → in_word x ≡ true → Reads e (Plain 36) m rest → Leads k e at_start m dollar rest
-  to_dollar m rest h r = goes k e at_start dollar m rest (Plain 36) (λ t. word_no_text x h) refl r (dollar_in x xs done lv h)
+  to_dollar m rest h r = goes k e at_start dollar m rest (Plain 36) (λ t. word_no_text x h) refl r (dollar_in limit x xs done lv h)
 
   pub dollar_leads : (m rest : List ℕ) → in_word x ≡ true → next_is is_form (ahead e rest) ≡ false → Written e (Plain 36 ∷ []) m rest
-      → Leads k e at_start m (settled (done ++ Dollar ∷ []) (x ∷ xs)) rest
+      → Leads k e at_start m (settled limit (done ++ Dollar ∷ []) (x ∷ xs)) rest
   unfolding after_dollar
   dollar_leads m rest h f w =
-      joined k e at_start dollar (settled (done ++ Dollar ∷ []) (x ∷ xs)) m rest rest
-      (one k e at_start dollar m rest (Plain 36) (λ t. word_no_text x h) refl w (dollar_in x xs done lv h))
-      (same_ahead k e dollar (settled (done ++ Dollar ∷ []) (x ∷ xs)) rest (record { left = refl; right = refl; gap = sym (word_no_text x h) }) alike_dollar)
+      joined k e at_start dollar (settled limit (done ++ Dollar ∷ []) (x ∷ xs)) m rest rest
+      (one k e at_start dollar m rest (Plain 36) (λ t. word_no_text x h) refl w (dollar_in limit x xs done lv h))
+      (same_ahead k e dollar (settled limit (done ++ Dollar ∷ []) (x ∷ xs)) rest (record { left = refl; right = refl; gap = sym (word_no_text x h) }) alike_dollar)
     where
-      alike_dollar : Alike e false (begun (x ∷ xs) done lv Pending.Dollar []) (settled (done ++ Dollar ∷ []) (x ∷ xs)) rest
+      alike_dollar : Alike e false (begun limit (x ∷ xs) done lv Pending.Dollar []) (settled limit (done ++ Dollar ∷ []) (x ∷ xs)) rest
       alike_dollar =
           record {
-            plains = λ b j. form_over (begun (x ∷ xs) done lv Pending.Dollar []) b (fails is_form (ahead e rest) b f j);
+            plains = λ b j. form_over (begun limit (x ∷ xs) done lv Pending.Dollar []) b (fails is_form (ahead e rest) b f j);
             quoteds = λ b j. refl;
             ends = λ j. rw (word_no_text x h) refl;
           }
 
   pub variable_leads : (bs m rest : List ℕ) → in_word x ≡ true → is_name bs ≡ true → next_is is_name_byte (ahead e rest) ≡ false → Written e (Plain 36 ∷ plain bs) m rest
-      → Leads k e at_start m (settled (done ++ Variable bs ∷ []) (x ∷ xs)) rest
+      → Leads k e at_start m (settled limit (done ++ Variable bs ∷ []) (x ∷ xs)) rest
   unfolding after_dollar in_name
   variable_leads [] m rest h i f w = absurd (cc)
   variable_leads (b ∷ bs) m rest h i f w =
       let t = and_true (begins_name b) (list_all continues_name bs) i in
-      joined k e at_start dollar (settled (done ++ Variable (b ∷ bs) ∷ []) (x ∷ xs)) m w.0 rest
+      joined k e at_start dollar (settled limit (done ++ Variable (b ∷ bs) ∷ []) (x ∷ xs)) m w.0 rest
       (to_dollar m w.0 h w.1)
-      (joined k e dollar (within (b ∷ [])) (settled (done ++ Variable (b ∷ bs) ∷ []) (x ∷ xs)) w.0 w.2.0 rest
+      (joined k e dollar (within (b ∷ [])) (settled limit (done ++ Variable (b ∷ bs) ∷ []) (x ∷ xs)) w.0 w.2.0 rest
       (goes k e dollar (within (b ∷ [])) w.0 w.2.0 (Plain b) (λ t. refl) refl w.2.1 (starts t.0))
-      (joined k e (within (b ∷ [])) (within (b ∷ bs)) (settled (done ++ Variable (b ∷ bs) ∷ []) (x ∷ xs)) w.2.0 rest rest
-      (plain_keeps k e (x ∷ xs) done lv Pending.Name is_name_byte (λ t. refl) refl keeps bs (b ∷ []) w.2.0 rest t.1 w.2.2)
-      (same_ahead k e (within (b ∷ bs)) (settled (done ++ Variable (b ∷ bs) ∷ []) (x ∷ xs)) rest (record { left = refl; right = refl; gap = sym (word_no_text x h) }) alike_name)))
+      (joined k e (within (b ∷ [])) (within (b ∷ bs)) (settled limit (done ++ Variable (b ∷ bs) ∷ []) (x ∷ xs)) w.2.0 rest rest
+      (plain_keeps k e limit (x ∷ xs) done lv Pending.Name is_name_byte (λ t. refl) refl keeps bs (b ∷ []) w.2.0 rest t.1 w.2.2)
+      (same_ahead k e (within (b ∷ bs)) (settled limit (done ++ Variable (b ∷ bs) ∷ []) (x ∷ xs)) rest (record { left = refl; right = refl; gap = sym (word_no_text x h) }) alike_name)))
     where
       within : List ℕ → State
-      within acc = begun (x ∷ xs) done lv Pending.Name acc
+      within acc = begun limit (x ∷ xs) done lv Pending.Name acc
 
-      starts : is_name_start b ≡ true → step (begun (x ∷ xs) done lv Pending.Dollar []) (Plain b) ≡ On (begun (x ∷ xs) done lv Pending.Name (b ∷ []))
+      starts : is_name_start b ≡ true → step (begun limit (x ∷ xs) done lv Pending.Dollar []) (Plain b) ≡ On (begun limit (x ∷ xs) done lv Pending.Name (b ∷ []))
       starts h = rw h refl
 
-      keeps : (acc : List ℕ) (b : ℕ) → is_name_byte b ≡ true → step (begun (x ∷ xs) done lv Pending.Name acc) (Plain b) ≡ On (begun (x ∷ xs) done lv Pending.Name (acc ++ b ∷ []))
+      keeps : (acc : List ℕ) (b : ℕ) → is_name_byte b ≡ true → step (begun limit (x ∷ xs) done lv Pending.Name acc) (Plain b) ≡ On (begun limit (x ∷ xs) done lv Pending.Name (acc ++ b ∷ []))
       keeps acc b h = rw h refl
 
-      alike_name : Alike e false (begun (x ∷ xs) done lv Pending.Name (b ∷ bs)) (settled (done ++ Variable (b ∷ bs) ∷ []) (x ∷ xs)) rest
+      alike_name : Alike e false (begun limit (x ∷ xs) done lv Pending.Name (b ∷ bs)) (settled limit (done ++ Variable (b ∷ bs) ∷ []) (x ∷ xs)) rest
       alike_name =
           record {
             plains = λ c j. let z = fails is_name_byte (ahead e rest) c f j in rw z refl;
@@ -389,79 +389,79 @@ module _ (k e : Bool) (x : Context) (xs : List Context) (done : List Mark) where
           }
 
   pub parameter_leads : (b : ℕ) (m rest : List ℕ) → in_word x ≡ true → is_short_parameter b ≡ true → Written e (Plain 36 ∷ Plain b ∷ []) m rest
-      → Leads k e at_start m (settled (done ++ Parameter b ∷ []) (x ∷ xs)) rest
+      → Leads k e at_start m (settled limit (done ++ Parameter b ∷ []) (x ∷ xs)) rest
   unfolding after_dollar
   parameter_leads b m rest h i w =
-      joined k e at_start dollar (settled (done ++ Parameter b ∷ []) (x ∷ xs)) m w.0 rest
+      joined k e at_start dollar (settled limit (done ++ Parameter b ∷ []) (x ∷ xs)) m w.0 rest
       (to_dollar m w.0 h w.1)
-      (one k e dollar (settled (done ++ Parameter b ∷ []) (x ∷ xs)) w.0 rest (Plain b) (λ t. refl) refl w.2 takes)
+      (one k e dollar (settled limit (done ++ Parameter b ∷ []) (x ∷ xs)) w.0 rest (Plain b) (λ t. refl) refl w.2 takes)
     where
-      takes : step (begun (x ∷ xs) done lv Pending.Dollar []) (Plain b) ≡ On (settled (done ++ Parameter b ∷ []) (x ∷ xs))
+      takes : step (begun limit (x ∷ xs) done lv Pending.Dollar []) (Plain b) ≡ On (settled limit (done ++ Parameter b ∷ []) (x ∷ xs))
       takes = rw (no_name b i, i) refl
 
   -- `${`
-  pub to_head : (m rest : List ℕ) → in_word x ≡ true → nat_lt lv 500 ≡ true → Written e (Plain 36 ∷ Plain 123 ∷ []) m rest
-      → Leads k e at_start m (begun (x ∷ xs) done (suc lv) (Pending.Head Head.Start) []) rest
+  pub to_head : (m rest : List ℕ) → in_word x ≡ true → nat_lt lv limit ≡ true → Written e (Plain 36 ∷ Plain 123 ∷ []) m rest
+      → Leads k e at_start m (begun limit (x ∷ xs) done (suc lv) (Pending.Head Head.Start) []) rest
   unfolding after_dollar
   to_head m rest h l w =
-      joined k e at_start dollar (begun (x ∷ xs) done (suc lv) (Pending.Head Head.Start) []) m w.0 rest
+      joined k e at_start dollar (begun limit (x ∷ xs) done (suc lv) (Pending.Head Head.Start) []) m w.0 rest
       (to_dollar m w.0 h w.1)
-      (one k e dollar (begun (x ∷ xs) done (suc lv) (Pending.Head Head.Start) []) w.0 rest (Plain 123) (λ t. refl) refl w.2 takes)
+      (one k e dollar (begun limit (x ∷ xs) done (suc lv) (Pending.Head Head.Start) []) w.0 rest (Plain 123) (λ t. refl) refl w.2 takes)
     where
-      takes : step (begun (x ∷ xs) done lv Pending.Dollar []) (Plain 123) ≡ On (begun (x ∷ xs) done (suc lv) (Pending.Head Head.Start) [])
+      takes : step (begun limit (x ∷ xs) done lv Pending.Dollar []) (Plain 123) ≡ On (begun limit (x ∷ xs) done (suc lv) (Pending.Head Head.Start) [])
       takes = rw l refl
 
-  pub head_leads : (bs : List ℕ) (h : Option Head) (m rest : List ℕ) → head_of bs ≡ h → in_word x ≡ true → nat_lt lv 500 ≡ true → is_head h (ahead e rest) ≡ true
-      → Written e (Plain 36 ∷ Plain 123 ∷ plain bs) m rest → Leads k e at_start m (settled (done ++ BraceOpen bs ∷ []) (braces_of (is_quoted x) h ∷ x ∷ xs)) rest
+  pub head_leads : (bs : List ℕ) (h : Option Head) (m rest : List ℕ) → head_of bs ≡ h → in_word x ≡ true → nat_lt lv limit ≡ true → is_head h (ahead e rest) ≡ true
+      → Written e (Plain 36 ∷ Plain 123 ∷ plain bs) m rest → Leads k e at_start m (settled limit (done ++ BraceOpen bs ∷ []) (braces_of (is_quoted x) h ∷ x ∷ xs)) rest
   unfolding in_head
   head_leads bs None m rest q i l f w = absurd (cc)
   head_leads bs (Some h) m rest q i l f w =
-      joined k e at_start (begun (x ∷ xs) done (suc lv) (Pending.Head Head.Start) []) (settled (done ++ BraceOpen bs ∷ []) (Braces (is_quoted x && not (reads_bare h)) ∷ x ∷ xs)) m w.2.0 rest
+      joined k e at_start (begun limit (x ∷ xs) done (suc lv) (Pending.Head Head.Start) []) (settled limit (done ++ BraceOpen bs ∷ []) (Braces (is_quoted x && not (reads_bare h)) ∷ x ∷ xs)) m w.2.0 rest
       (to_head m w.2.0 i l (w.0, w.1, (w.2.0, w.2.1, refl)))
-      (joined k e (begun (x ∷ xs) done (suc lv) (Pending.Head Head.Start) []) (begun (x ∷ xs) done (suc lv) (Pending.Head h) bs) (settled (done ++ BraceOpen bs ∷ []) (Braces (is_quoted x && not (reads_bare h)) ∷ x ∷ xs)) w.2.0 rest rest
-      (head_keeps k e (x ∷ xs) done (suc lv) bs Head.Start h [] w.2.0 rest q w.2.2)
-      (same_ahead k e (begun (x ∷ xs) done (suc lv) (Pending.Head h) bs) (settled (done ++ BraceOpen bs ∷ []) (Braces (is_quoted x && not (reads_bare h)) ∷ x ∷ xs)) rest (record { left = refl; right = refl; gap = refl }) alike_head))
+      (joined k e (begun limit (x ∷ xs) done (suc lv) (Pending.Head Head.Start) []) (begun limit (x ∷ xs) done (suc lv) (Pending.Head h) bs) (settled limit (done ++ BraceOpen bs ∷ []) (Braces (is_quoted x && not (reads_bare h)) ∷ x ∷ xs)) w.2.0 rest rest
+      (head_keeps k e limit (x ∷ xs) done (suc lv) bs Head.Start h [] w.2.0 rest q w.2.2)
+      (same_ahead k e (begun limit (x ∷ xs) done (suc lv) (Pending.Head h) bs) (settled limit (done ++ BraceOpen bs ∷ []) (Braces (is_quoted x && not (reads_bare h)) ∷ x ∷ xs)) rest (record { left = refl; right = refl; gap = refl }) alike_head))
     where
-      alike_head : Alike e false (begun (x ∷ xs) done (suc lv) (Pending.Head h) bs) (settled (done ++ BraceOpen bs ∷ []) (Braces (is_quoted x && not (reads_bare h)) ∷ x ∷ xs)) rest
+      alike_head : Alike e false (begun limit (x ∷ xs) done (suc lv) (Pending.Head h) bs) (settled limit (done ++ BraceOpen bs ∷ []) (Braces (is_quoted x && not (reads_bare h)) ∷ x ∷ xs)) rest
       alike_head =
           record {
-            plains = λ b j. ap (λ z. headed h (begun (x ∷ xs) done (suc lv) (Pending.Head h) bs) b z) (no_growth h b (fails (grows_head h) (ahead e rest) b (not_true (next_is (grows_head h) (ahead e rest)) f) j));
+            plains = λ b j. ap (λ z. headed h (begun limit (x ∷ xs) done (suc lv) (Pending.Head h) bs) b z) (no_growth h b (fails (grows_head h) (ahead e rest) b (not_true (next_is (grows_head h) (ahead e rest)) f) j));
             quoteds = λ b j. refl;
             ends = λ j. refl;
           }
 
   -- `$(`
-  pub to_parenthesis : (m rest : List ℕ) → in_word x ≡ true → nat_lt lv 500 ≡ true → Written e (Plain 36 ∷ Plain 40 ∷ []) m rest
-      → Leads k e at_start m (begun (x ∷ xs) done (suc lv) Pending.DollarParenthesis []) rest
+  pub to_parenthesis : (m rest : List ℕ) → in_word x ≡ true → nat_lt lv limit ≡ true → Written e (Plain 36 ∷ Plain 40 ∷ []) m rest
+      → Leads k e at_start m (begun limit (x ∷ xs) done (suc lv) Pending.DollarParenthesis []) rest
   unfolding after_dollar
   to_parenthesis m rest h l w =
-      joined k e at_start dollar (begun (x ∷ xs) done (suc lv) Pending.DollarParenthesis []) m w.0 rest
+      joined k e at_start dollar (begun limit (x ∷ xs) done (suc lv) Pending.DollarParenthesis []) m w.0 rest
       (to_dollar m w.0 h w.1)
-      (one k e dollar (begun (x ∷ xs) done (suc lv) Pending.DollarParenthesis []) w.0 rest (Plain 40) (λ t. refl) refl w.2 takes)
+      (one k e dollar (begun limit (x ∷ xs) done (suc lv) Pending.DollarParenthesis []) w.0 rest (Plain 40) (λ t. refl) refl w.2 takes)
     where
-      takes : step (begun (x ∷ xs) done lv Pending.Dollar []) (Plain 40) ≡ On (begun (x ∷ xs) done (suc lv) Pending.DollarParenthesis [])
+      takes : step (begun limit (x ∷ xs) done lv Pending.Dollar []) (Plain 40) ≡ On (begun limit (x ∷ xs) done (suc lv) Pending.DollarParenthesis [])
       takes = rw l refl
 
-  pub arithmetic_leads : (m rest : List ℕ) → in_word x ≡ true → nat_lt lv 500 ≡ true → Written e (Plain 36 ∷ Plain 40 ∷ Plain 40 ∷ []) m rest
-      → Leads k e at_start m (settled (done ++ ArithmeticOpen ∷ []) (Arithmetic ∷ x ∷ xs)) rest
+  pub arithmetic_leads : (m rest : List ℕ) → in_word x ≡ true → nat_lt lv limit ≡ true → Written e (Plain 36 ∷ Plain 40 ∷ Plain 40 ∷ []) m rest
+      → Leads k e at_start m (settled limit (done ++ ArithmeticOpen ∷ []) (Arithmetic ∷ x ∷ xs)) rest
   unfolding after_parenthesis
   arithmetic_leads m rest h l w =
-      joined k e at_start (begun (x ∷ xs) done (suc lv) Pending.DollarParenthesis []) (settled (done ++ ArithmeticOpen ∷ []) (Arithmetic ∷ x ∷ xs)) m w.2.0 rest
+      joined k e at_start (begun limit (x ∷ xs) done (suc lv) Pending.DollarParenthesis []) (settled limit (done ++ ArithmeticOpen ∷ []) (Arithmetic ∷ x ∷ xs)) m w.2.0 rest
       (to_parenthesis m w.2.0 h l (w.0, w.1, (w.2.0, w.2.1, refl)))
-      (one k e (begun (x ∷ xs) done (suc lv) Pending.DollarParenthesis []) (settled (done ++ ArithmeticOpen ∷ []) (Arithmetic ∷ x ∷ xs)) w.2.0 rest (Plain 40) (λ t. refl) refl w.2.2 takes)
+      (one k e (begun limit (x ∷ xs) done (suc lv) Pending.DollarParenthesis []) (settled limit (done ++ ArithmeticOpen ∷ []) (Arithmetic ∷ x ∷ xs)) w.2.0 rest (Plain 40) (λ t. refl) refl w.2.2 takes)
     where
-      takes : step (begun (x ∷ xs) done (suc lv) Pending.DollarParenthesis []) (Plain 40) ≡ On (settled (done ++ ArithmeticOpen ∷ []) (Arithmetic ∷ x ∷ xs))
+      takes : step (begun limit (x ∷ xs) done (suc lv) Pending.DollarParenthesis []) (Plain 40) ≡ On (settled limit (done ++ ArithmeticOpen ∷ []) (Arithmetic ∷ x ∷ xs))
       takes = refl
 
-  pub commands_leads : (m rest : List ℕ) → in_word x ≡ true → nat_lt lv 500 ≡ true → next_is (λ b. nat_eq b 40) (ahead e rest) ≡ false → Written e (Plain 36 ∷ Plain 40 ∷ []) m rest
-      → Leads k e at_start m (settled (done ++ CommandsOpen ∷ []) (Commands none_yet ∷ x ∷ xs)) rest
+  pub commands_leads : (m rest : List ℕ) → in_word x ≡ true → nat_lt lv limit ≡ true → next_is (λ b. nat_eq b 40) (ahead e rest) ≡ false → Written e (Plain 36 ∷ Plain 40 ∷ []) m rest
+      → Leads k e at_start m (settled limit (done ++ CommandsOpen ∷ []) (Commands none_yet ∷ x ∷ xs)) rest
   unfolding after_parenthesis
   commands_leads m rest h l f w =
-      joined k e at_start (begun (x ∷ xs) done (suc lv) Pending.DollarParenthesis []) (settled (done ++ CommandsOpen ∷ []) (Commands none_yet ∷ x ∷ xs)) m rest rest
+      joined k e at_start (begun limit (x ∷ xs) done (suc lv) Pending.DollarParenthesis []) (settled limit (done ++ CommandsOpen ∷ []) (Commands none_yet ∷ x ∷ xs)) m rest rest
       (to_parenthesis m rest h l w)
-      (same_ahead k e (begun (x ∷ xs) done (suc lv) Pending.DollarParenthesis []) (settled (done ++ CommandsOpen ∷ []) (Commands none_yet ∷ x ∷ xs)) rest (record { left = refl; right = refl; gap = refl }) alike_parenthesis)
+      (same_ahead k e (begun limit (x ∷ xs) done (suc lv) Pending.DollarParenthesis []) (settled limit (done ++ CommandsOpen ∷ []) (Commands none_yet ∷ x ∷ xs)) rest (record { left = refl; right = refl; gap = refl }) alike_parenthesis)
     where
-      alike_parenthesis : Alike e false (begun (x ∷ xs) done (suc lv) Pending.DollarParenthesis []) (settled (done ++ CommandsOpen ∷ []) (Commands none_yet ∷ x ∷ xs)) rest
+      alike_parenthesis : Alike e false (begun limit (x ∷ xs) done (suc lv) Pending.DollarParenthesis []) (settled limit (done ++ CommandsOpen ∷ []) (Commands none_yet ∷ x ∷ xs)) rest
       alike_parenthesis =
           record {
             plains = λ b j. let z = fails (λ b. nat_eq b 40) (ahead e rest) b f j in rw z refl;
@@ -469,31 +469,31 @@ module _ (k e : Bool) (x : Context) (xs : List Context) (done : List Mark) where
             ends = λ j. refl;
           }
 
-  pub arithmetic_over : (m rest : List ℕ) → is_arithmetic x ≡ true → Written e (Plain 41 ∷ Plain 41 ∷ []) m rest → Leads k e at_start m (settled (done ++ ArithmeticClose ∷ []) xs) rest
+  pub arithmetic_over : (m rest : List ℕ) → is_arithmetic x ≡ true → Written e (Plain 41 ∷ Plain 41 ∷ []) m rest → Leads k e at_start m (settled limit (done ++ ArithmeticClose ∷ []) xs) rest
   unfolding at_parenthesis
   arithmetic_over m rest h w =
-      subst (λ l. Leads k e at_start m (kept xs (done ++ ArithmeticClose ∷ []) l) rest) (arithmetic_level x xs h)
-      (joined k e at_start (begun (x ∷ xs) done lv Pending.Parenthesis []) (kept xs (done ++ ArithmeticClose ∷ []) (lv - 1)) m w.0 rest
-      (goes k e at_start (begun (x ∷ xs) done lv Pending.Parenthesis []) m w.0 (Plain 41) (λ t. arithmetic_left x h) refl w.1 (arithmetic_closes x xs done lv h))
-      (one k e (begun (x ∷ xs) done lv Pending.Parenthesis []) (kept xs (done ++ ArithmeticClose ∷ []) (lv - 1)) w.0 rest (Plain 41) (λ t. refl) refl w.2 takes))
+      subst (λ l. Leads k e at_start m (kept limit xs (done ++ ArithmeticClose ∷ []) l) rest) (arithmetic_level x xs h)
+      (joined k e at_start (begun limit (x ∷ xs) done lv Pending.Parenthesis []) (kept limit xs (done ++ ArithmeticClose ∷ []) (lv - 1)) m w.0 rest
+      (goes k e at_start (begun limit (x ∷ xs) done lv Pending.Parenthesis []) m w.0 (Plain 41) (λ t. arithmetic_left x h) refl w.1 (arithmetic_closes limit x xs done lv h))
+      (one k e (begun limit (x ∷ xs) done lv Pending.Parenthesis []) (kept limit xs (done ++ ArithmeticClose ∷ []) (lv - 1)) w.0 rest (Plain 41) (λ t. refl) refl w.2 takes))
     where
-      takes : step (begun (x ∷ xs) done lv Pending.Parenthesis []) (Plain 41) ≡ On (kept xs (done ++ ArithmeticClose ∷ []) (lv - 1))
+      takes : step (begun limit (x ∷ xs) done lv Pending.Parenthesis []) (Plain 41) ≡ On (kept limit xs (done ++ ArithmeticClose ∷ []) (lv - 1))
       takes = refl
 
   -- backquotes
-  pub backquoted_leads : (bs m rest : List ℕ) → in_word x ≡ true → nat_lt lv 500 ≡ true → is_backquoted bs ≡ true → Written e (Plain 96 ∷ (raw bs ++ Raw 96 ∷ [])) m rest
-      → Leads k e at_start m (settled (done ++ Backquoted bs ∷ []) (x ∷ xs)) rest
+  pub backquoted_leads : (bs m rest : List ℕ) → in_word x ≡ true → nat_lt lv limit ≡ true → is_backquoted bs ≡ true → Written e (Plain 96 ∷ (raw bs ++ Raw 96 ∷ [])) m rest
+      → Leads k e at_start m (settled limit (done ++ Backquoted bs ∷ []) (x ∷ xs)) rest
   unfolding in_backquotes
   backquoted_leads bs m rest h l a w =
       let s = written_split e (raw bs) (Raw 96 ∷ []) w.0 rest w.2 in
-      joined k e at_start (within []) (settled (done ++ Backquoted bs ∷ []) (x ∷ xs)) m w.0 rest
-      (goes k e at_start (within []) m w.0 (Plain 96) (λ t. word_no_text x h) refl w.1 (backquote_in x xs done lv h ∙ open_on Pending.Backquotes (x ∷ xs) done lv Pending.Nothing l))
-      (joined k e (within []) (within bs) (settled (done ++ Backquoted bs ∷ []) (x ∷ xs)) w.0 s.middle rest
-      (back_keeps k e (x ∷ xs) done (suc lv) bs [] w.0 s.middle a s.left)
-      (one k e (within bs) (settled (done ++ Backquoted bs ∷ []) (x ∷ xs)) s.middle rest (Raw 96) (λ t. refl) refl s.right closes))
+      joined k e at_start (within []) (settled limit (done ++ Backquoted bs ∷ []) (x ∷ xs)) m w.0 rest
+      (goes k e at_start (within []) m w.0 (Plain 96) (λ t. word_no_text x h) refl w.1 (backquote_in limit x xs done lv h ∙ open_on limit Pending.Backquotes (x ∷ xs) done lv Pending.Nothing l))
+      (joined k e (within []) (within bs) (settled limit (done ++ Backquoted bs ∷ []) (x ∷ xs)) w.0 s.middle rest
+      (back_keeps k e limit (x ∷ xs) done (suc lv) bs [] w.0 s.middle a s.left)
+      (one k e (within bs) (settled limit (done ++ Backquoted bs ∷ []) (x ∷ xs)) s.middle rest (Raw 96) (λ t. refl) refl s.right closes))
     where
       within : List ℕ → State
-      within acc = begun (x ∷ xs) done (suc lv) Pending.Backquotes acc
+      within acc = begun limit (x ∷ xs) done (suc lv) Pending.Backquotes acc
 
-      closes : step (begun (x ∷ xs) done (suc lv) Pending.Backquotes bs) (Raw 96) ≡ On (settled (done ++ Backquoted bs ∷ []) (x ∷ xs))
-      closes = ap (λ l. On (kept (x ∷ xs) (done ++ Backquoted bs ∷ []) l)) (before lv)
+      closes : step (begun limit (x ∷ xs) done (suc lv) Pending.Backquotes bs) (Raw 96) ≡ On (settled limit (done ++ Backquoted bs ∷ []) (x ∷ xs))
+      closes = ap (λ l. On (kept limit (x ∷ xs) (done ++ Backquoted bs ∷ []) l)) (before lv)

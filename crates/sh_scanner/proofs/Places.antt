@@ -38,11 +38,11 @@ either_moves m middle rest (inl a) (inr b) = let l = ap length a in inr (omega (
 either_moves m middle rest (inr a) (inl b) = let l = ap length b in inr (omega (l, a, arith))
 either_moves m middle rest (inr a) (inr b) = inr (omega (a, b, arith))
 
-marks_move : (e : Bool) (ms done : List Mark) (xs : List Context) (m rest : List ℕ) → AreMarks e done xs ms m rest → (m ≡ rest) ⊎ (length rest < length m)
-marks_move e [] done xs m rest h = inl h
-marks_move e (k ∷ ms) done [] m rest h = absurd h
-marks_move e (k ∷ ms) done (x ∷ xs) m rest h =
-    either_moves m h.0 rest (written_moves e (spell_mark k) m h.0 h.1.written) (marks_move e ms (done ++ k ∷ []) (behind done x xs k) h.0 rest h.2)
+marks_move : (e : Bool) (limit : ℕ) (ms done : List Mark) (xs : List Context) (m rest : List ℕ) → AreMarks e limit done xs ms m rest → (m ≡ rest) ⊎ (length rest < length m)
+marks_move e limit [] done xs m rest h = inl h
+marks_move e limit (k ∷ ms) done [] m rest h = absurd h
+marks_move e limit (k ∷ ms) done (x ∷ xs) m rest h =
+    either_moves m h.0 rest (written_moves e (spell_mark k) m h.0 h.1.written) (marks_move e limit ms (done ++ k ∷ []) (behind done x xs k) h.0 rest h.2)
 
 -- what begins a word ends none
 begins_or_ends : (y : Ahead) → begins_word y ≡ true → ends_word y ≡ true → ⊥
@@ -68,10 +68,10 @@ operator_moves e o m rest (three_bytes b c d p q s f y z j l n u) w =
     let t = written_length e (plain (c ∷ d ∷ [])) v.0 rest v.2 in
     omega (a, t, arith)
 
-token_moves : (e : Bool) (gap : List Mark) (front rest : List ℕ) (k : TokenKind) → IsToken e gap front rest k → (k ≡ TokenKind.End → ⊥) → length rest < length front
-token_moves e gap front rest _ (ending t f r) n = absurd (n refl)
-token_moves e gap front rest _ (operator o i) n = operator_moves e o front rest (made o) i.written
-token_moves e gap front rest _ (word ms r x xs middle a g k i t) n = go (marks_move e (WordOpen ∷ ms) gap (Top ∷ []) front middle a)
+token_moves : (e : Bool) (limit : ℕ) (gap : List Mark) (front rest : List ℕ) (k : TokenKind) → IsToken e limit gap front rest k → (k ≡ TokenKind.End → ⊥) → length rest < length front
+token_moves e limit gap front rest _ (ending t f r) n = absurd (n refl)
+token_moves e limit gap front rest _ (operator o i) n = operator_moves e o front rest (made o) i.written
+token_moves e limit gap front rest _ (word ms r x xs middle a g k i t) n = go (marks_move e limit (WordOpen ∷ ms) gap (Top ∷ []) front middle a)
   where
     ends : ends_word (ahead e rest) ≡ true
     ends = (and_true (ends_word (ahead e rest)) (same_as r (next_is is_redirection (ahead e rest))) (and_true (is_word x) (ends_word (ahead e rest) && same_as r (next_is is_redirection (ahead e rest))) i.fits).1).0
@@ -84,11 +84,11 @@ token_moves e gap front rest _ (word ms r x xs middle a g k i t) n = go (marks_m
     go (inr l) = let w = ap length i.written in omega (l, w, arith)
 
 -- the token that is scanned
-pub scanned_placed : (e : Bool) (text : List ℕ) (at : ℕ) (k : State) (front rest : List ℕ) → scanned e (drop at text) ≡ Ended k front rest
+pub scanned_placed : (e : Bool) (limit : ℕ) (text : List ℕ) (at : ℕ) (k : State) (front rest : List ℕ) → scanned e limit (drop at text) ≡ Ended k front rest
     → IsPlaced at (length text) (record { kind = kind_of k.done; span = record { start = at + (length (drop at text) - length front); «end» = at + (length (drop at text) - length rest) } })
-scanned_placed e text at k front rest h =
-    let t : HasToken e (drop at text) front rest (kind_of k.done) = subst (Answered e (drop at text)) h (sound e (drop at text)) in
-    let o = token_ordered e (drop at text) front rest (kind_of k.done) t in
+scanned_placed e limit text at k front rest h =
+    let t : HasToken e limit (drop at text) front rest (kind_of k.done) = subst (Answered e limit (drop at text)) h (sound e limit (drop at text)) in
+    let o = token_ordered e limit (drop at text) front rest (kind_of k.done) t in
     let start = o.start in
     let stop = o.stop in
     let l = length-drop at text in
@@ -96,13 +96,13 @@ scanned_placed e text at k front rest h =
       starts = omega arith;
       ordered = omega (start, stop, arith);
       ends = λ i. omega (start, stop, l, i, arith);
-      advances = λ n. let m = token_moves e t.gap front rest (kind_of k.done) t.token n in omega (start, stop, m, arith);
+      advances = λ n. let m = token_moves e limit t.gap front rest (kind_of k.done) t.token n in omega (start, stop, m, arith);
     }
 
-pub placed_shown : (e : Bool) (text : List ℕ) (at : ℕ) (bytes : List ℕ) (k : State) (front rest : List ℕ) (kind : TokenKind) (a b : ℕ) → bytes ≡ drop at text → scanned e bytes ≡ Ended k front rest → kind ≡ kind_of k.done
+pub placed_shown : (e : Bool) (limit : ℕ) (text : List ℕ) (at : ℕ) (bytes : List ℕ) (k : State) (front rest : List ℕ) (kind : TokenKind) (a b : ℕ) → bytes ≡ drop at text → scanned e limit bytes ≡ Ended k front rest → kind ≡ kind_of k.done
     → a ≡ length bytes - length front → b ≡ length bytes - length rest → IsPlaced at (length text) (record { kind = kind; span = record { start = at + a; «end» = at + b } })
-placed_shown e text at bytes k front rest kind a b w s n h i =
-    let p = scanned_placed e text at k front rest (ap (scanned e) (sym w) ∙ s) in
+placed_shown e limit text at bytes k front rest kind a b w s n h i =
+    let p = scanned_placed e limit text at k front rest (ap (scanned e limit) (sym w) ∙ s) in
     let x : length (drop at text) - length front ≡ a = sym (h ∙ ap (λ z. length z - length front) w) in
     let y : length (drop at text) - length rest ≡ b = sym (i ∙ ap (λ z. length z - length rest) w) in
     subst (λ t. IsPlaced at (length text) (record { kind = t; span = record { start = at + a; «end» = at + b } })) (sym n)

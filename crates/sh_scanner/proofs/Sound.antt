@@ -119,82 +119,82 @@ whole_operator o (Next (Raw b)) h = refl
 whole_operator o InputEnd h = refl
 whole_operator o Unknown h = not_false (may_grow o) h
 
-module _ (e : Bool) (subject : Subject) (front : List ℕ) (blank : IsBlank subject) (previous : List ℕ) where
+module _ (e : Bool) (limit : ℕ) (subject : Subject) (front : List ℕ) (blank : IsBlank subject) (previous : List ℕ) where
   -- a piece is over, with nothing begun behind it
-  pub ends_piece : (x : Context) (xs : List Context) (done : List Mark) (m : Mark) (mid rest begin start : List ℕ) (t : State) → Path e subject front done (x ∷ xs) mid → IsMark e x xs m mid rest
-      → ends_token m (behind done x xs m) ≡ false → t ≡ settled (done ++ m ∷ []) (behind done x xs m) → Going e subject front (On t) previous begin start rest
+  pub ends_piece : (x : Context) (xs : List Context) (done : List Mark) (m : Mark) (mid rest begin start : List ℕ) (t : State) → Path e limit subject front done (x ∷ xs) mid → IsMark e limit x xs m mid rest
+      → ends_token m (behind done x xs m) ≡ false → t ≡ settled limit (done ++ m ∷ []) (behind done x xs m) → Going e limit subject front (On t) previous begin start rest
   ends_piece x xs done m mid rest begin start t p i h w =
-      settled_at e subject front t (done ++ m ∷ []) (behind done x xs m) previous begin start rest w (path_on e subject front done x xs m mid rest p i h)
+      settled_at e limit subject front t (done ++ m ∷ []) (behind done x xs m) previous begin start rest w (path_on e limit subject front done x xs m mid rest p i h)
 
   -- a piece begins
-  pub begins_piece : (xs : List Context) (done : List Mark) (q : Pending) (acc mid begin start rest : List ℕ) → Path e subject front done xs mid → Held e q xs acc mid rest
-      → Preceded q acc begin rest → Going e subject front (On (begun xs done (pending_levels q (levels xs)) q acc)) previous begin start rest
+  pub begins_piece : (xs : List Context) (done : List Mark) (q : Pending) (acc mid begin start rest : List ℕ) → Path e limit subject front done xs mid → Held e limit q xs acc mid rest
+      → Preceded q acc begin rest → Going e limit subject front (On (begun limit xs done (pending_levels q (levels xs)) q acc)) previous begin start rest
   begins_piece xs done q acc mid begin start rest p h r = record { it = record { xs = xs; done = done; pending = q; acc = acc; mid = mid; is = refl; path = p; held = h; preceded = r } }
 
   -- what opens a level
-  pub opens_piece : (x : Context) (xs : List Context) (done : List Mark) (q : Pending) (acc mid start rest place : List ℕ) → Path e subject front done (x ∷ xs) mid → in_word x ≡ true
-      → (nat_lt (levels (x ∷ xs)) 500 ≡ true → Going e subject front (On (begun (x ∷ xs) done (suc (levels (x ∷ xs))) q [])) previous place start rest) → Joined mid place → OpensLevel e place
-      → Going e subject front (opens q (settled done (x ∷ xs))) previous place start rest
+  pub opens_piece : (x : Context) (xs : List Context) (done : List Mark) (q : Pending) (acc mid start rest place : List ℕ) → Path e limit subject front done (x ∷ xs) mid → in_word x ≡ true
+      → (nat_lt (levels (x ∷ xs)) limit ≡ true → Going e limit subject front (On (begun limit (x ∷ xs) done (suc (levels (x ∷ xs))) q [])) previous place start rest) → Joined mid place → OpensLevel e place
+      → Going e limit subject front (opens q (settled limit done (x ∷ xs))) previous place start rest
   opens_piece x xs done q acc mid start rest place p w f j o =
-      either e subject front (nat_lt (levels (x ∷ xs)) 500) _ _ previous place start rest f (λ h. record { it = deep_here e subject front done (x ∷ xs) mid place p h w j o })
+      either e limit subject front (nat_lt (levels (x ∷ xs)) limit) _ _ previous place start rest f (λ h. record { it = deep_here e limit subject front done (x ∷ xs) mid place p h w j o })
 
-  module _ (x : Context) (xs : List Context) (done : List Mark) (mid : List ℕ) (p : Path e subject front done (x ∷ xs) mid) where
+  module _ (x : Context) (xs : List Context) (done : List Mark) (mid : List ℕ) (p : Path e limit subject front done (x ∷ xs) mid) where
     abbrev s : State
-    s = settled done (x ∷ xs)
+    s = settled limit done (x ∷ xs)
 
-    byte_sound : (b : ℕ) (rest : List ℕ) → Reads e (Plain b) mid rest → stands x b (ahead e rest) ≡ true → (nat_eq b 41 && is_arithmetic x) ≡ false → Going e subject front (inner_byte x s b) previous (b ∷ rest) mid rest
+    byte_sound : (b : ℕ) (rest : List ℕ) → Reads e (Plain b) mid rest → stands x b (ahead e rest) ≡ true → (nat_eq b 41 && is_arithmetic x) ≡ false → Going e limit subject front (inner_byte x s b) previous (b ∷ rest) mid rest
     byte_sound b rest r i h =
-        subst (λ z. Going e subject front z previous (b ∷ rest) mid rest) (sym (inner_on x xs done (levels (x ∷ xs)) b h))
-        (ends_piece x xs done (Byte b) mid rest (b ∷ rest) mid (kept (parenthesized b x xs) (done ++ Byte b ∷ []) (levels (x ∷ xs))) p
+        subst (λ z. Going e limit subject front z previous (b ∷ rest) mid rest) (sym (inner_on limit x xs done (levels (x ∷ xs)) b h))
+        (ends_piece x xs done (Byte b) mid rest (b ∷ rest) mid (kept limit (parenthesized b x xs) (done ++ Byte b ∷ []) (levels (x ∷ xs))) p
         (record { written = one_of e (Plain b) mid rest r; fits = i; level = refl }) refl
-        (ap (kept (parenthesized b x xs) (done ++ Byte b ∷ [])) (sym (levels_parenthesized x xs done (levels (x ∷ xs)) b))))
+        (ap (kept limit (parenthesized b x xs) (done ++ Byte b ∷ [])) (sym (levels_parenthesized limit x xs done (levels (x ∷ xs)) b))))
 
-    inner_sound : (b : ℕ) (rest : List ℕ) → Reads e (Plain b) mid rest → ((nat_eq b 41 && is_arithmetic x) ≡ false → stands x b (ahead e rest) ≡ true) → Going e subject front (inner_byte x s b) previous (b ∷ rest) mid rest
+    inner_sound : (b : ℕ) (rest : List ℕ) → Reads e (Plain b) mid rest → ((nat_eq b 41 && is_arithmetic x) ≡ false → stands x b (ahead e rest) ≡ true) → Going e limit subject front (inner_byte x s b) previous (b ∷ rest) mid rest
     inner_sound b rest r i = go (nat_eq b 41 && is_arithmetic x) refl
       where
-        go : (c : Bool) → (nat_eq b 41 && is_arithmetic x) ≡ c → Going e subject front (inner_byte x s b) previous (b ∷ rest) mid rest
+        go : (c : Bool) → (nat_eq b 41 && is_arithmetic x) ≡ c → Going e limit subject front (inner_byte x s b) previous (b ∷ rest) mid rest
         go false h = byte_sound b rest r (i h) h
         go true h =
             let t = and_true (nat_eq b 41) (is_arithmetic x) h in
-            subst (λ z. Going e subject front z previous (b ∷ rest) mid rest) (sym (inner_parenthesis x xs done (levels (x ∷ xs)) b h))
+            subst (λ z. Going e limit subject front z previous (b ∷ rest) mid rest) (sym (inner_parenthesis limit x xs done (levels (x ∷ xs)) b h))
             (begins_piece (x ∷ xs) done Pending.Parenthesis [] mid (b ∷ rest) mid rest p (refl, t.1, one_of e (Plain 41) mid rest (plain_at e b 41 mid rest t.0 r)) tt)
 
-    pub word_byte_sound : (b : ℕ) (rest : List ℕ) → in_word x ≡ true → (is_word x && is_end b) ≡ false → Reads e (Plain b) mid rest → Going e subject front (word_byte x s b) previous (b ∷ rest) mid rest
+    pub word_byte_sound : (b : ℕ) (rest : List ℕ) → in_word x ≡ true → (is_word x && is_end b) ≡ false → Reads e (Plain b) mid rest → Going e limit subject front (word_byte x s b) previous (b ∷ rest) mid rest
     unfolding word_byte
     word_byte_sound b rest w n r =
-        either e subject front (nat_eq b 39 && has_single_quotes x) _ _ previous (b ∷ rest) mid rest
+        either e limit subject front (nat_eq b 39 && has_single_quotes x) _ _ previous (b ∷ rest) mid rest
         (λ h. let t = and_true (nat_eq b 39) (has_single_quotes x) h in
         begins_piece (x ∷ xs) done Pending.Single [] mid (b ∷ rest) mid rest p (refl, t.1, one_of e (Plain 39) mid rest (plain_at e b 39 mid rest t.0 r)) tt)
-        (λ h39. either e subject front (nat_eq b 34 && has_double_quotes x) _ _ previous (b ∷ rest) mid rest
+        (λ h39. either e limit subject front (nat_eq b 34 && has_double_quotes x) _ _ previous (b ∷ rest) mid rest
         (λ h. let t = and_true (nat_eq b 34) (has_double_quotes x) h in
         ends_piece x xs done DoubleQuotesOpen mid rest (b ∷ rest) mid (into Quotes DoubleQuotesOpen s) p
         (record { written = one_of e (Plain 34) mid rest (plain_at e b 34 mid rest t.0 r); fits = t.1; level = refl }) refl refl)
-        (λ h34. either e subject front (nat_eq b 34 && is_quotes x) _ _ previous (b ∷ rest) mid rest
+        (λ h34. either e limit subject front (nat_eq b 34 && is_quotes x) _ _ previous (b ∷ rest) mid rest
         (λ h. let t = and_true (nat_eq b 34) (is_quotes x) h in
         ends_piece x xs done DoubleQuotesClose mid rest (b ∷ rest) mid (out DoubleQuotesClose s) p
         (record { written = one_of e (Plain 34) mid rest (plain_at e b 34 mid rest t.0 r); fits = t.1; level = refl }) refl
-        (ap (kept xs (done ++ DoubleQuotesClose ∷ [])) (quotes_level x xs t.1)))
-        (λ hq. either e subject front (nat_eq b 125 && is_braces x) _ _ previous (b ∷ rest) mid rest
+        (ap (kept limit xs (done ++ DoubleQuotesClose ∷ [])) (quotes_level x xs t.1)))
+        (λ hq. either e limit subject front (nat_eq b 125 && is_braces x) _ _ previous (b ∷ rest) mid rest
         (λ h. let t = and_true (nat_eq b 125) (is_braces x) h in
         ends_piece x xs done BraceClose mid rest (b ∷ rest) mid (out_level BraceClose s) p
         (record { written = one_of e (Plain 125) mid rest (plain_at e b 125 mid rest t.0 r); fits = t.1; level = refl }) refl
-        (ap (kept xs (done ++ BraceClose ∷ [])) (brace_level x xs t.1)))
-        (λ h125. either e subject front (nat_eq b 36) _ _ previous (b ∷ rest) mid rest
+        (ap (kept limit xs (done ++ BraceClose ∷ [])) (brace_level x xs t.1)))
+        (λ h125. either e limit subject front (nat_eq b 36) _ _ previous (b ∷ rest) mid rest
         (λ h. begins_piece (x ∷ xs) done Pending.Dollar [] mid (b ∷ rest) mid rest p (refl, w, one_of e (Plain 36) mid rest (plain_at e b 36 mid rest h r)) (ap (λ z. z ∷ rest) (eqb-true b 36 h)))
-        (λ h36. either e subject front (nat_eq b 96) _ _ previous (b ∷ rest) mid rest
-        (λ h. subst (λ z. Going e subject front (opens Pending.Backquotes s) previous (z ∷ rest) mid rest) (sym (eqb-true b 96 h)) (back_sound rest w (plain_at e b 96 mid rest h r)))
+        (λ h36. either e limit subject front (nat_eq b 96) _ _ previous (b ∷ rest) mid rest
+        (λ h. subst (λ z. Going e limit subject front (opens Pending.Backquotes s) previous (z ∷ rest) mid rest) (sym (eqb-true b 96 h)) (back_sound rest w (plain_at e b 96 mid rest h r)))
         (λ h96. inner_sound b rest r (λ h41. stands_so x b (ahead e rest) w n h39 h34 hq h125 h36 h96 h41)))))))
       where
-        back_sound : (rest : List ℕ) → in_word x ≡ true → Reads e (Plain 96) mid rest → Going e subject front (opens Pending.Backquotes s) previous (96 ∷ rest) mid rest
+        back_sound : (rest : List ℕ) → in_word x ≡ true → Reads e (Plain 96) mid rest → Going e limit subject front (opens Pending.Backquotes s) previous (96 ∷ rest) mid rest
         back_sound rest w r =
             opens_piece x xs done Pending.Backquotes [] mid mid rest (96 ∷ rest) p w
             (λ l. begins_piece (x ∷ xs) done Pending.Backquotes [] mid (96 ∷ rest) mid rest p ((λ bs. refl), w, l, one_of e (Plain 96) mid rest r) refl)
             (record { lines = r.0; is = r.1; over = no_join_at 96 rest refl }) (backquote rest (rest, (0, refl, inl refl), refl))
 
-    pub escape_sound : (b : ℕ) (rest : List ℕ) → in_word x ≡ true → Reads e (Quoted b) mid rest → Going e subject front (escape x s b) previous (92 ∷ b ∷ rest) mid rest
+    pub escape_sound : (b : ℕ) (rest : List ℕ) → in_word x ≡ true → Reads e (Quoted b) mid rest → Going e limit subject front (escape x s b) previous (92 ∷ b ∷ rest) mid rest
     escape_sound b rest w r = go (quotes x b) refl
       where
-        go : (c : Bool) → quotes x b ≡ c → Going e subject front (On (same (cond c (Escaped b) (Backslash b)) s)) previous (92 ∷ b ∷ rest) mid rest
+        go : (c : Bool) → quotes x b ≡ c → Going e limit subject front (On (same (cond c (Escaped b) (Backslash b)) s)) previous (92 ∷ b ∷ rest) mid rest
         go true h =
             ends_piece x xs done (Escaped b) mid rest (92 ∷ b ∷ rest) mid (same (Escaped b) s) p (record { written = one_of e (Quoted b) mid rest r; fits = h; level = refl }) refl refl
         go false h =
@@ -203,9 +203,9 @@ module _ (e : Bool) (subject : Subject) (front : List ℕ) (blank : IsBlank subj
 
     -- an operator, in a substitution
     pub operator_over : (o : Operator) (rest begin start : List ℕ) → is_text x ≡ false → between_tokens x ≡ true → may_grow o ≡ false → is_more o x ≡ false → Written e (plain (operator_text o)) mid rest
-        → Going e subject front (over After (operator_out o s)) previous begin start rest
+        → Going e limit subject front (over After (operator_out o s)) previous begin start rest
     operator_over o rest begin start t b g c w =
-        subst (λ z. Going e subject front (cond z (After (operator_out o s)) (On (operator_out o s))) previous begin start rest) (sym (text_token (OfOperator o) (x ∷ xs) ∙ t))
+        subst (λ z. Going e limit subject front (cond z (After (operator_out o s)) (On (operator_out o s))) previous begin start rest) (sym (text_token (OfOperator o) (x ∷ xs) ∙ t))
         (ends_piece x xs done (Mark.Operator o) mid rest begin start (operator_out o s) p
         (record {
           written = w;
@@ -213,11 +213,11 @@ module _ (e : Bool) (subject : Subject) (front : List ℕ) (blank : IsBlank subj
               (and_both (ends_operator o (ahead e rest)) (not (is_more o x)) (whole_operator o (ahead e rest) g) (not_false (is_more o x) c));
           level = refl;
         }) (text_token (OfOperator o) (x ∷ xs) ∙ t)
-        (ap (kept (with_token (OfOperator o) (x ∷ xs)) (done ++ Mark.Operator o ∷ [])) (sym (levels_token (OfOperator o) (x ∷ xs)))))
+        (ap (kept limit (with_token (OfOperator o) (x ∷ xs)) (done ++ Mark.Operator o ∷ [])) (sym (levels_token (OfOperator o) (x ∷ xs)))))
 
     pub grow_sound : (o : Operator) (rest begin start : List ℕ) → is_text x ≡ false → between_tokens x ≡ true → is_more o x ≡ false → Written e (plain (operator_text o)) mid rest
-        → Going e subject front (grow o s) previous begin start rest
+        → Going e limit subject front (grow o s) previous begin start rest
     grow_sound o rest begin start t b c w =
-        either e subject front (may_grow o) _ _ previous begin start rest
+        either e limit subject front (may_grow o) _ _ previous begin start rest
         (λ h. begins_piece (x ∷ xs) done (Pending.Operator o) [] mid begin start rest p (refl, b, h, w) tt)
         (λ h. operator_over o rest begin start t b h c w)

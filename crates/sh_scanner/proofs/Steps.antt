@@ -55,31 +55,31 @@ head_snoc h (c ∷ bs) b = head_snoc (head_step h c) bs b
 pub no_more : (h : Head) (b : ℕ) → grown_head h b ≡ None → grows_head h b ≡ false
 no_more h b w = ap is_some_head w
 
-module _ (e : Bool) (subject : Subject) (front : List ℕ) (blank : IsBlank subject) (previous : List ℕ) where
+module _ (e : Bool) (limit : ℕ) (subject : Subject) (front : List ℕ) (blank : IsBlank subject) (previous : List ℕ) where
   -- between tokens of a substitution
-  between_sound : (x : Context) (xs : List Context) (done : List Mark) (mid : List ℕ) (b : ℕ) (rest : List ℕ) → Path e subject front done (x ∷ xs) mid → is_text x ≡ false → between_tokens x ≡ true
-      → Reads e (Plain b) mid rest → Going e subject front (between (settled done (x ∷ xs)) b) previous (b ∷ rest) mid rest
+  between_sound : (x : Context) (xs : List Context) (done : List Mark) (mid : List ℕ) (b : ℕ) (rest : List ℕ) → Path e limit subject front done (x ∷ xs) mid → is_text x ≡ false → between_tokens x ≡ true
+      → Reads e (Plain b) mid rest → Going e limit subject front (between (settled limit done (x ∷ xs)) b) previous (b ∷ rest) mid rest
   unfolding between
   between_sound x xs done mid b rest p t i r =
-      either e subject front (is_blank b) _ _ previous (b ∷ rest) mid rest
-      (λ h. ends_piece e subject front blank previous x xs done (Blank b) mid rest (b ∷ rest) mid (same (Blank b) s) p
+      either e limit subject front (is_blank b) _ _ previous (b ∷ rest) mid rest
+      (λ h. ends_piece e limit subject front blank previous x xs done (Blank b) mid rest (b ∷ rest) mid (same (Blank b) s) p
       (record { written = one_of e (Plain b) mid rest r; fits = and_both (between_tokens x) (is_blank b) i h; level = refl }) refl refl)
-      (λ h32. either e subject front (nat_eq b 35) _ _ previous (b ∷ rest) mid rest
-      (λ h. begins_piece e subject front blank previous (x ∷ xs) done Pending.Comment [] mid (b ∷ rest) mid rest p (refl, i, one_of e (Plain 35) mid rest (plain_at e b 35 mid rest h r)) tt)
-      (λ h35. either e subject front (nat_eq b 41 && may_close x) _ _ previous (b ∷ rest) mid rest
+      (λ h32. either e limit subject front (nat_eq b 35) _ _ previous (b ∷ rest) mid rest
+      (λ h. begins_piece e limit subject front blank previous (x ∷ xs) done Pending.Comment [] mid (b ∷ rest) mid rest p (refl, i, one_of e (Plain 35) mid rest (plain_at e b 35 mid rest h r)) tt)
+      (λ h35. either e limit subject front (nat_eq b 41 && may_close x) _ _ previous (b ∷ rest) mid rest
       (λ h. let u = and_true (nat_eq b 41) (may_close x) h in
-      ends_piece e subject front blank previous x xs done CommandsClose mid rest (b ∷ rest) mid (out_level CommandsClose s) p
+      ends_piece e limit subject front blank previous x xs done CommandsClose mid rest (b ∷ rest) mid (out_level CommandsClose s) p
       (record { written = one_of e (Plain 41) mid rest (plain_at e b 41 mid rest u.0 r); fits = u.1; level = refl }) refl
-      (ap (kept xs (done ++ CommandsClose ∷ [])) (closes_level x xs u.1)))
-      (λ h41. either e subject front (nat_eq b 10 && has_due x) _ _ previous (b ∷ rest) mid rest
+      (ap (kept limit xs (done ++ CommandsClose ∷ [])) (closes_level x xs u.1)))
+      (λ h41. either e limit subject front (nat_eq b 10 && has_due x) _ _ previous (b ∷ rest) mid rest
       (λ h. let u = and_true (nat_eq b 10) (has_due x) h in
-      begins_piece e subject front blank previous (x ∷ xs) done (Pending.Body 0 0 false) [] mid (b ∷ rest) mid rest p (at_first (due_in x) u.1, one_of e (Plain 10) mid rest (plain_at e b 10 mid rest u.0 r)) tt)
-      (λ h10. either e subject front (is_operator_byte b) _ _ previous (b ∷ rest) mid rest
-      (λ h. grow_sound e subject front blank previous x xs done mid p (operator_of b) rest (b ∷ rest) mid t i (no_more_than h h41 h10) (subst (λ z. Written e (plain z) mid rest) (sym (operator_of_text b h)) (one_of e (Plain b) mid rest r)))
-      (λ hop. word_byte_sound e subject front blank previous (Word (length done)) (x ∷ xs) (done ++ WordOpen ∷ []) mid (opened h32 h35 hop) b rest refl (rw (h32, hop) refl) r)))))
+      begins_piece e limit subject front blank previous (x ∷ xs) done (Pending.Body 0 0 false) [] mid (b ∷ rest) mid rest p (at_first (due_in x) u.1, one_of e (Plain 10) mid rest (plain_at e b 10 mid rest u.0 r)) tt)
+      (λ h10. either e limit subject front (is_operator_byte b) _ _ previous (b ∷ rest) mid rest
+      (λ h. grow_sound e limit subject front blank previous x xs done mid p (operator_of b) rest (b ∷ rest) mid t i (no_more_than h h41 h10) (subst (λ z. Written e (plain z) mid rest) (sym (operator_of_text b h)) (one_of e (Plain b) mid rest r)))
+      (λ hop. word_byte_sound e limit subject front blank previous (Word (length done)) (x ∷ xs) (done ++ WordOpen ∷ []) mid (opened h32 h35 hop) b rest refl (rw (h32, hop) refl) r)))))
     where
       s : State
-      s = settled done (x ∷ xs)
+      s = settled limit done (x ∷ xs)
 
       closing : is_operator_byte b ≡ true → (nat_eq b 41 && may_close x) ≡ false → (is_right_parenthesis (operator_of b) && may_close x) ≡ false
       closing h g = go (nat_eq b 41) refl g
@@ -98,9 +98,9 @@ module _ (e : Bool) (subject : Subject) (front : List ℕ) (blank : IsBlank subj
       no_more_than : is_operator_byte b ≡ true → (nat_eq b 41 && may_close x) ≡ false → (nat_eq b 10 && has_due x) ≡ false → is_more (operator_of b) x ≡ false
       no_more_than h g k = or_none (is_right_parenthesis (operator_of b) && may_close x) (is_newline (operator_of b) && has_due x) (closing h g) (starting h k)
 
-      opened : is_blank b ≡ false → nat_eq b 35 ≡ false → is_operator_byte b ≡ false → Path e subject front (done ++ WordOpen ∷ []) (Word (length done) ∷ x ∷ xs) mid
+      opened : is_blank b ≡ false → nat_eq b 35 ≡ false → is_operator_byte b ≡ false → Path e limit subject front (done ++ WordOpen ∷ []) (Word (length done) ∷ x ∷ xs) mid
       opened h32 h35 hop =
-          path_on e subject front done x xs WordOpen mid mid p
+          path_on e limit subject front done x xs WordOpen mid mid p
           (record {
             written = refl;
             fits = and_both (between_tokens x) (begins_word (ahead e mid)) i (ap begins_word (ahead_plain e b mid rest r) ∙ rw (h32, hop, h35) refl);
@@ -108,11 +108,11 @@ module _ (e : Bool) (subject : Subject) (front : List ℕ) (blank : IsBlank subj
           }) refl
 
   -- the end of a word
-  module _ (n : ℕ) (xs : List Context) (done : List Mark) (mid : List ℕ) (p : Path e subject front done (Word n ∷ xs) mid) where
+  module _ (n : ℕ) (xs : List Context) (done : List Mark) (mid : List ℕ) (p : Path e limit subject front done (Word n ∷ xs) mid) where
     abbrev class : Bool → Told
     class r = OfWord r (drop (suc n) done)
 
-    close_mark : (b : ℕ) (rest : List ℕ) → is_end b ≡ true → Reads e (Plain b) mid rest → IsMark e (Word n) xs (WordClose (is_redirection b)) mid mid
+    close_mark : (b : ℕ) (rest : List ℕ) → is_end b ≡ true → Reads e (Plain b) mid rest → IsMark e limit (Word n) xs (WordClose (is_redirection b)) mid mid
     close_mark b rest h r =
         record {
           written = refl;
@@ -124,18 +124,18 @@ module _ (e : Bool) (subject : Subject) (front : List ℕ) (blank : IsBlank subj
         same_itself true = refl
         same_itself false = refl
 
-    closed_nonempty : (ys : List Context) (c : Told) (b : ℕ) (rest : List ℕ) (d : List Mark) → Path e subject front d (with_token c ys) mid → between_tokens (top_of ys) ≡ true → is_text (top_of (with_token c ys)) ≡ false
-        → Reads e (Plain b) mid rest → Going e subject front (between (kept (with_token c ys) d (levels (with_token c ys))) b) previous (b ∷ rest) mid rest
+    closed_nonempty : (ys : List Context) (c : Told) (b : ℕ) (rest : List ℕ) (d : List Mark) → Path e limit subject front d (with_token c ys) mid → between_tokens (top_of ys) ≡ true → is_text (top_of (with_token c ys)) ≡ false
+        → Reads e (Plain b) mid rest → Going e limit subject front (between (kept limit (with_token c ys) d (levels (with_token c ys))) b) previous (b ∷ rest) mid rest
     closed_nonempty [] c b rest d q i t r = absurd (cc)
     closed_nonempty (y ∷ ys) c b rest d q i t r = between_sound (with_class c y) ys d mid b rest q t (between_token c (y ∷ ys) ∙ i) r
 
-    close_sound : (b : ℕ) (rest : List ℕ) → is_end b ≡ true → Reads e (Plain b) mid rest → Going e subject front (after_word (word_out (is_redirection b) (settled done (Word n ∷ xs))) b) previous (b ∷ rest) mid rest
+    close_sound : (b : ℕ) (rest : List ℕ) → is_end b ≡ true → Reads e (Plain b) mid rest → Going e limit subject front (after_word (word_out (is_redirection b) (settled limit done (Word n ∷ xs))) b) previous (b ∷ rest) mid rest
     close_sound b rest h r =
-        either e subject front (is_top (with_token (class (is_redirection b)) xs)) _ _ previous (b ∷ rest) mid rest
-        (λ t. record { it = final_word e subject front done (Word n) xs (is_redirection b) mid mid blank p (close_mark b rest h r) (sym (text_token (class (is_redirection b)) xs) ∙ t) })
-        (λ t. subst (λ l. Going e subject front (between (kept (with_token (class (is_redirection b)) xs) (done ++ WordClose (is_redirection b) ∷ []) l) b) previous (b ∷ rest) mid rest) (levels_token (class (is_redirection b)) xs)
+        either e limit subject front (is_top (with_token (class (is_redirection b)) xs)) _ _ previous (b ∷ rest) mid rest
+        (λ t. record { it = final_word e limit subject front done (Word n) xs (is_redirection b) mid mid blank p (close_mark b rest h r) (sym (text_token (class (is_redirection b)) xs) ∙ t) })
+        (λ t. subst (λ l. Going e limit subject front (between (kept limit (with_token (class (is_redirection b)) xs) (done ++ WordClose (is_redirection b) ∷ []) l) b) previous (b ∷ rest) mid rest) (levels_token (class (is_redirection b)) xs)
         (closed_nonempty xs (class (is_redirection b)) b rest (done ++ WordClose (is_redirection b) ∷ [])
-        (path_on e subject front done (Word n) xs (WordClose (is_redirection b)) mid mid p (close_mark b rest h r) t) (below_word n xs p.inside.order) t r))
+        (path_on e limit subject front done (Word n) xs (WordClose (is_redirection b)) mid mid p (close_mark b rest h r) t) (below_word n xs p.inside.order) t r))
 
   not_between : (x : Context) → between_tokens x ≡ false → in_word x ≡ true
   not_between Top h = absurd (cc)
@@ -147,8 +147,8 @@ module _ (e : Bool) (subject : Subject) (front : List ℕ) (blank : IsBlank subj
   not_between Parenthesis h = refl
   not_between Body h = refl
 
-  word_end_sound : (x : Context) (xs : List Context) (done : List Mark) (mid : List ℕ) (b : ℕ) (rest : List ℕ) → Path e subject front done (x ∷ xs) mid → (is_word x && is_end b) ≡ true → Reads e (Plain b) mid rest
-      → Going e subject front (after_word (word_out (is_redirection b) (settled done (x ∷ xs))) b) previous (b ∷ rest) mid rest
+  word_end_sound : (x : Context) (xs : List Context) (done : List Mark) (mid : List ℕ) (b : ℕ) (rest : List ℕ) → Path e limit subject front done (x ∷ xs) mid → (is_word x && is_end b) ≡ true → Reads e (Plain b) mid rest
+      → Going e limit subject front (after_word (word_out (is_redirection b) (settled limit done (x ∷ xs))) b) previous (b ∷ rest) mid rest
   word_end_sound Top xs done mid b rest p h r = absurd (cc)
   word_end_sound (Commands ts) xs done mid b rest p h r = absurd (cc)
   word_end_sound (Word n) xs done mid b rest p h r = close_sound n xs done mid p b rest h r
@@ -159,32 +159,32 @@ module _ (e : Bool) (subject : Subject) (front : List ℕ) (blank : IsBlank subj
   word_end_sound Body xs done mid b rest p h r = absurd (cc)
 
   -- a byte where nothing has begun
-  pub plain_sound : (x : Context) (xs : List Context) (done : List Mark) (mid : List ℕ) (b : ℕ) (rest : List ℕ) → Path e subject front done (x ∷ xs) mid → Reads e (Plain b) mid rest
-      → Going e subject front (plain_byte (settled done (x ∷ xs)) b) previous (b ∷ rest) mid rest
+  pub plain_sound : (x : Context) (xs : List Context) (done : List Mark) (mid : List ℕ) (b : ℕ) (rest : List ℕ) → Path e limit subject front done (x ∷ xs) mid → Reads e (Plain b) mid rest
+      → Going e limit subject front (plain_byte (settled limit done (x ∷ xs)) b) previous (b ∷ rest) mid rest
   unfolding plain_byte
   plain_sound x xs done mid b rest p r =
-      either e subject front (between_tokens x) _ _ previous (b ∷ rest) mid rest
+      either e limit subject front (between_tokens x) _ _ previous (b ∷ rest) mid rest
       (λ i. between_sound x xs done mid b rest p p.inside.inner i r)
-      (λ i. either e subject front (is_word x && is_end b) _ _ previous (b ∷ rest) mid rest
+      (λ i. either e limit subject front (is_word x && is_end b) _ _ previous (b ∷ rest) mid rest
       (λ h. word_end_sound x xs done mid b rest p h r)
-      (λ h. word_byte_sound e subject front blank previous x xs done mid p b rest (not_between x i) h r))
+      (λ h. word_byte_sound e limit subject front blank previous x xs done mid p b rest (not_between x i) h r))
 
-  pub quoted_sound : (x : Context) (xs : List Context) (done : List Mark) (mid : List ℕ) (b : ℕ) (rest : List ℕ) → Path e subject front done (x ∷ xs) mid → Reads e (Quoted b) mid rest
-      → Going e subject front (quoted_byte (settled done (x ∷ xs)) b) previous (92 ∷ b ∷ rest) mid rest
+  pub quoted_sound : (x : Context) (xs : List Context) (done : List Mark) (mid : List ℕ) (b : ℕ) (rest : List ℕ) → Path e limit subject front done (x ∷ xs) mid → Reads e (Quoted b) mid rest
+      → Going e limit subject front (quoted_byte (settled limit done (x ∷ xs)) b) previous (92 ∷ b ∷ rest) mid rest
   unfolding quoted_byte
   quoted_sound x xs done mid b rest p r =
-      either e subject front (between_tokens x) _ _ previous (92 ∷ b ∷ rest) mid rest
-      (λ i. escape_sound e subject front blank previous (Word (length done)) (x ∷ xs) (done ++ WordOpen ∷ []) mid
-      (path_on e subject front done x xs WordOpen mid mid p (record { written = refl; fits = and_both (between_tokens x) (begins_word (ahead e mid)) i (ap begins_word (ahead_quoted e b mid rest r)); level = refl }) refl) b rest refl r)
-      (λ i. escape_sound e subject front blank previous x xs done mid p b rest (not_between x i) r)
+      either e limit subject front (between_tokens x) _ _ previous (92 ∷ b ∷ rest) mid rest
+      (λ i. escape_sound e limit subject front blank previous (Word (length done)) (x ∷ xs) (done ++ WordOpen ∷ []) mid
+      (path_on e limit subject front done x xs WordOpen mid mid p (record { written = refl; fits = and_both (between_tokens x) (begins_word (ahead e mid)) i (ap begins_word (ahead_quoted e b mid rest r)); level = refl }) refl) b rest refl r)
+      (λ i. escape_sound e limit subject front blank previous x xs done mid p b rest (not_between x i) r)
 
   -- after a piece that the next character ends
-  pub then_sound : (x : Context) (xs : List Context) (done : List Mark) (m : Mark) (mid start rest : List ℕ) (c : Character) (t : State) → Path e subject front done (x ∷ xs) mid → IsMark e x xs m mid start
-      → ends_token m (behind done x xs m) ≡ false → is_raw_character c ≡ false → Reads e c start rest → settled (done ++ m ∷ []) (behind done x xs m) ≡ t
-      → Going e subject front (act t c) previous (begin_of c rest) start rest
-  then_sound x xs done m mid start rest c t p i h k r w = subst (λ z. Going e subject front (act z c) previous (begin_of c rest) start rest) w (go (behind done x xs m) c k r (path_on e subject front done x xs m mid start p i h))
+  pub then_sound : (x : Context) (xs : List Context) (done : List Mark) (m : Mark) (mid start rest : List ℕ) (c : Character) (t : State) → Path e limit subject front done (x ∷ xs) mid → IsMark e limit x xs m mid start
+      → ends_token m (behind done x xs m) ≡ false → is_raw_character c ≡ false → Reads e c start rest → settled limit (done ++ m ∷ []) (behind done x xs m) ≡ t
+      → Going e limit subject front (act t c) previous (begin_of c rest) start rest
+  then_sound x xs done m mid start rest c t p i h k r w = subst (λ z. Going e limit subject front (act z c) previous (begin_of c rest) start rest) w (go (behind done x xs m) c k r (path_on e limit subject front done x xs m mid start p i h))
     where
-      go : (ys : List Context) (c : Character) → is_raw_character c ≡ false → Reads e c start rest → Path e subject front (done ++ m ∷ []) ys start → Going e subject front (act (settled (done ++ m ∷ []) ys) c) previous (begin_of c rest) start rest
+      go : (ys : List Context) (c : Character) → is_raw_character c ≡ false → Reads e c start rest → Path e limit subject front (done ++ m ∷ []) ys start → Going e limit subject front (act (settled limit (done ++ m ∷ []) ys) c) previous (begin_of c rest) start rest
       go [] c k r q = let z = q.inside.order in absurd (cc)
       go (y ∷ ys) (Plain b) k r q = plain_sound y ys (done ++ m ∷ []) start b rest q r
       go (y ∷ ys) (Quoted b) k r q = quoted_sound y ys (done ++ m ∷ []) start b rest q r

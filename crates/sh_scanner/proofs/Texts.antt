@@ -27,15 +27,15 @@ use Rattle.sh_scanner.proofs.Steps.{written_snoc, raw_snoc, all_snoc}
 use Rattle.sh_scanner.proofs.Whole.{NextCharacter, got, over, cut, next_cooked, next_character, over_run, cut_run, onward_shown, inner, grown_shown, top_operator}
 
 -- what a scanned text says of its first token
-abbrev pub Answered : Bool → List ℕ → Scanned → Type 0
-Answered e bytes (Ended k f r) = HasToken e bytes f r (kind_of k.done)
-Answered e bytes (Deep r) = IsTooDeep e bytes r
-Answered e bytes (Open f) = Unit {0}
+abbrev pub Answered : Bool → ℕ → List ℕ → Scanned → Type 0
+Answered e limit bytes (Ended k f r) = HasToken e limit bytes f r (kind_of k.done)
+Answered e limit bytes (Deep r) = IsTooDeep e limit bytes r
+Answered e limit bytes (Open f) = Unit {0}
 
-answered : (e : Bool) (bytes middle front : List ℕ) (gap : List Mark) → list_all is_gap gap ≡ true → AreMarks e [] (Top ∷ []) gap bytes middle → Joined middle front → (s : Scanned) → Shown e gap front s → Answered e bytes s
-answered e bytes middle front gap b a j (Ended k f r) h =
-    subst (λ z. HasToken e bytes z r (kind_of k.done)) (sym h.0) (record { gap = gap; middle = middle; blank = b; between = a; joined = j; token = h.1 })
-answered e bytes middle front gap b a j (Deep r) h =
+answered : (e : Bool) (limit : ℕ) (bytes middle front : List ℕ) (gap : List Mark) → list_all is_gap gap ≡ true → AreMarks e limit [] (Top ∷ []) gap bytes middle → Joined middle front → (s : Scanned) → Shown e limit gap front s → Answered e limit bytes s
+answered e limit bytes middle front gap b a j (Ended k f r) h =
+    subst (λ z. HasToken e limit bytes z r (kind_of k.done)) (sym h.0) (record { gap = gap; middle = middle; blank = b; between = a; joined = j; token = h.1 })
+answered e limit bytes middle front gap b a j (Deep r) h =
     record {
       gap = gap;
       middle = middle;
@@ -52,7 +52,7 @@ answered e bytes middle front gap b a j (Deep r) h =
       placed = h.placed;
       opens = h.opens;
     }
-answered e bytes middle front gap b a j (Open f) h = tt
+answered e limit bytes middle front gap b a j (Open f) h = tt
 
 -- a gap with one piece more
 gap_behind : (m : Mark) (done : List Mark) → is_gap m ≡ true → behind done Top [] m ≡ Top ∷ []
@@ -96,26 +96,26 @@ abbrev GapHeld : Bool → Bool → List ℕ → List ℕ → List ℕ → Type 0
 GapHeld e false acc mid m = (acc ≡ []) × (mid ≡ m)
 GapHeld e true acc mid m = (list_all is_no_newline acc ≡ true) × Written e (Plain 35 ∷ raw acc) mid m
 
-module _ (e : Bool) (bytes : List ℕ) where
+module _ (e : Bool) (limit : ℕ) (bytes : List ℕ) where
   abbrev GapSound : List ℕ → Type 0
-  GapSound m = (done : List Mark) (mid acc : List ℕ) (c : Bool) (p : Places) → list_all is_gap done ≡ true → AreMarks e [] (Top ∷ []) done bytes mid → GapHeld e c acc mid m → p.next ≡ m
-      → Answered e bytes (run e false (begun (Top ∷ []) done 0 (gap_pending c) acc) p m)
+  GapSound m = (done : List Mark) (mid acc : List ℕ) (c : Bool) (p : Places) → list_all is_gap done ≡ true → AreMarks e limit [] (Top ∷ []) done bytes mid → GapHeld e c acc mid m → p.next ≡ m
+      → Answered e limit bytes (run e false (begun limit (Top ∷ []) done 0 (gap_pending c) acc) p m)
 
-  module _ (done : List Mark) (mid : List ℕ) (blank : list_all is_gap done ≡ true) (walked : AreMarks e [] (Top ∷ []) done bytes mid) where
+  module _ (done : List Mark) (mid : List ℕ) (blank : list_all is_gap done ≡ true) (walked : AreMarks e limit [] (Top ∷ []) done bytes mid) where
     abbrev s : State
-    s = settled done (Top ∷ [])
+    s = settled limit done (Top ∷ [])
 
-    more_gap : (m : Mark) (after : List ℕ) → IsMark e Top [] m mid after → AreMarks e [] (Top ∷ []) (done ++ m ∷ []) bytes after
-    more_gap m after i = marks_snoc e done [] (Top ∷ []) Top [] m bytes mid after walked (gap_contexts done [] blank) i
+    more_gap : (m : Mark) (after : List ℕ) → IsMark e limit Top [] m mid after → AreMarks e limit [] (Top ∷ []) (done ++ m ∷ []) bytes after
+    more_gap m after i = marks_snoc e limit done [] (Top ∷ []) Top [] m bytes mid after walked (gap_contexts done [] blank) i
 
     -- the end of the input behind a gap
-    at_the_end : (n : ℕ) → mid ≡ joins n → e ≡ true → Answered e bytes (Ended s [] [])
+    at_the_end : (n : ℕ) → mid ≡ joins n → e ≡ true → Answered e limit bytes (Ended s [] [])
     at_the_end n w v =
-        subst (HasToken e bytes [] []) (sym (gap_kind done blank))
+        subst (HasToken e limit bytes [] []) (sym (gap_kind done blank))
         (record { gap = done; middle = mid; blank = blank; between = walked; joined = record { lines = n; is = w ∙ sym (append-nil (joins n)); over = refl }; token = ending v refl refl })
 
     -- a word begins with this character
-    first_path : (front : List ℕ) → begins_word (ahead e front) ≡ true → Path e (WordBehind done) front (done ++ WordOpen ∷ []) (Word (length done) ∷ Top ∷ []) front
+    first_path : (front : List ℕ) → begins_word (ahead e front) ≡ true → Path e limit (WordBehind done) front (done ++ WordOpen ∷ []) (Word (length done) ∷ Top ∷ []) front
     first_path front h =
         record {
           inner = [];
@@ -126,8 +126,8 @@ module _ (e : Bool) (bytes : List ℕ) where
           inside = record { order = refl; inner = refl };
         }
 
-    word_shown : (front rest : List ℕ) (y : Stepped) (p : Places) → Joined mid front → Going e (WordBehind done) front y p.previous front front rest → p.behind ≡ front → p.front ≡ front → Answered e bytes (after e y (placed front p) rest)
-    word_shown front rest y p j g b f = answered e bytes mid front done blank walked j (after e y (placed front p) rest) (onward_shown e done front blank y p front front rest (inner e done front blank rest) g b f)
+    word_shown : (front rest : List ℕ) (y : Stepped) (p : Places) → Joined mid front → Going e limit (WordBehind done) front y p.previous front front rest → p.behind ≡ front → p.front ≡ front → Answered e limit bytes (after e y (placed front p) rest)
+    word_shown front rest y p j g b f = answered e limit bytes mid front done blank walked j (after e y (placed front p) rest) (onward_shown e limit done front blank y p front front rest (inner e limit done front blank rest) g b f)
 
     module _ (c : ℕ) (rest : List ℕ) (p : Places) (r : Reads e (Plain c) mid rest) where
       abbrev front : List ℕ
@@ -146,9 +146,9 @@ module _ (e : Bool) (bytes : List ℕ) where
       here : Reads e (Plain c) front rest
       here = (0, refl, r.2)
 
-      plain_word : is_blank c ≡ false → nat_eq c 35 ≡ false → is_operator_byte c ≡ false → Going e (WordBehind done) front (word_byte (Word (length done)) (settled (done ++ WordOpen ∷ []) (Word (length done) ∷ Top ∷ [])) c) p.previous front front rest
+      plain_word : is_blank c ≡ false → nat_eq c 35 ≡ false → is_operator_byte c ≡ false → Going e limit (WordBehind done) front (word_byte (Word (length done)) (settled limit (done ++ WordOpen ∷ []) (Word (length done) ∷ Top ∷ [])) c) p.previous front front rest
       plain_word h i k =
-          word_byte_sound e (WordBehind done) front blank p.previous (Word (length done)) (Top ∷ []) (done ++ WordOpen ∷ []) front
+          word_byte_sound e limit (WordBehind done) front blank p.previous (Word (length done)) (Top ∷ []) (done ++ WordOpen ∷ []) front
           (first_path front (ap begins_word (ahead_plain e c front rest here) ∙ rw (h, k, i) refl)) c rest refl (rw (h, k) refl) here
 
       no_close : is_operator_byte c ≡ false → nat_eq c 41 ≡ false
@@ -166,71 +166,71 @@ module _ (e : Bool) (bytes : List ℕ) where
           go true i = let z = ap is_operator_byte (eqb-true c 10 i) in absurd (cc)
 
       -- a byte before a token
-      plain_gap : GapSound rest → Answered e bytes (after e (plain_byte s c) q rest)
-      plain_gap ih = subst (λ y. Answered e bytes (after e y q rest)) (sym (plain_between s c refl)) (blank_case (is_blank c) refl)
+      plain_gap : GapSound rest → Answered e limit bytes (after e (plain_byte s c) q rest)
+      plain_gap ih = subst (λ y. Answered e limit bytes (after e y q rest)) (sym (plain_between s c refl)) (blank_case (is_blank c) refl)
         where
-          operator_case : (d : Bool) → is_operator_byte c ≡ d → is_blank c ≡ false → nat_eq c 35 ≡ false → Answered e bytes (after e (between s c) q rest)
+          operator_case : (d : Bool) → is_operator_byte c ≡ d → is_blank c ≡ false → nat_eq c 35 ≡ false → Answered e limit bytes (after e (between s c) q rest)
           operator_case true h i k =
-              subst (λ y. Answered e bytes (after e y q rest)) (sym (between_operator s c i k (and_false (nat_eq c 41)) (and_false (nat_eq c 10)) h))
-              (answered e bytes mid front done blank walked joined (after e (grow (operator_of c) s) q rest)
-              (grown_shown e done front blank (operator_of c) q rest (top_operator e done front blank rest) (subst (λ z. Written e (plain z) front rest) (sym (operator_of_text c h)) (one_of e (Plain c) front rest here)) refl))
+              subst (λ y. Answered e limit bytes (after e y q rest)) (sym (between_operator s c i k (and_false (nat_eq c 41)) (and_false (nat_eq c 10)) h))
+              (answered e limit bytes mid front done blank walked joined (after e (grow (operator_of c) s) q rest)
+              (grown_shown e limit done front blank (operator_of c) q rest (top_operator e limit done front blank rest) (subst (λ z. Written e (plain z) front rest) (sym (operator_of_text c h)) (one_of e (Plain c) front rest here)) refl))
           operator_case false h i k =
-              subst (λ y. Answered e bytes (after e y q rest)) (sym (between_word s c i k h (no_close h) (no_line h))) (word_shown front rest (word_byte (Word (length done)) (settled (done ++ WordOpen ∷ []) (Word (length done) ∷ Top ∷ [])) c) q joined (plain_word i k h) refl refl)
+              subst (λ y. Answered e limit bytes (after e y q rest)) (sym (between_word s c i k h (no_close h) (no_line h))) (word_shown front rest (word_byte (Word (length done)) (settled limit (done ++ WordOpen ∷ []) (Word (length done) ∷ Top ∷ [])) c) q joined (plain_word i k h) refl refl)
 
-          comment_case : (d : Bool) → nat_eq c 35 ≡ d → is_blank c ≡ false → Answered e bytes (after e (between s c) q rest)
+          comment_case : (d : Bool) → nat_eq c 35 ≡ d → is_blank c ≡ false → Answered e limit bytes (after e (between s c) q rest)
           comment_case true h i =
-              subst (λ z. Answered e bytes (after e (between s z) (fronted true (placed (z ∷ rest) p)) rest)) (sym (eqb-true c 35 h))
-              (subst (λ y. Answered e bytes (after e y (fronted true (placed (35 ∷ rest) p)) rest)) (sym (between_hash s))
+              subst (λ z. Answered e limit bytes (after e (between s z) (fronted true (placed (z ∷ rest) p)) rest)) (sym (eqb-true c 35 h))
+              (subst (λ y. Answered e limit bytes (after e y (fronted true (placed (35 ∷ rest) p)) rest)) (sym (between_hash s))
               (ih done mid [] true (moved false rest (fronted true (placed (35 ∷ rest) p))) blank walked (refl, one_of e (Plain 35) mid rest (plain_at e c 35 mid rest h r)) refl))
           comment_case false h i = operator_case (is_operator_byte c) refl i h
 
-          blank_case : (d : Bool) → is_blank c ≡ d → Answered e bytes (after e (between s c) q rest)
+          blank_case : (d : Bool) → is_blank c ≡ d → Answered e limit bytes (after e (between s c) q rest)
           blank_case true h =
-              subst (λ y. Answered e bytes (after e y q rest)) (sym (between_blank s c h))
+              subst (λ y. Answered e limit bytes (after e y q rest)) (sym (between_blank s c h))
               (ih (done ++ Blank c ∷ []) rest [] false (moved false rest q) (all_gap_snoc done (Blank c) blank refl) (more_gap (Blank c) rest (record { written = one_of e (Plain c) mid rest r; fits = h; level = refl })) (refl, refl) refl)
           blank_case false h = comment_case (nat_eq c 35) refl h
 
-    quoted_gap : (c : ℕ) (rest : List ℕ) (p : Places) → Reads e (Quoted c) mid rest → Answered e bytes (after e (quoted_byte s c) (fronted true (placed (92 ∷ c ∷ rest) p)) rest)
+    quoted_gap : (c : ℕ) (rest : List ℕ) (p : Places) → Reads e (Quoted c) mid rest → Answered e limit bytes (after e (quoted_byte s c) (fronted true (placed (92 ∷ c ∷ rest) p)) rest)
     unfolding quoted_byte
     quoted_gap c rest p r =
         let front : List ℕ = 92 ∷ c ∷ rest in
         let here : Reads e (Quoted c) front rest = (0, refl, r.2) in
-        word_shown front rest (escape (Word (length done)) (settled (done ++ WordOpen ∷ []) (Word (length done) ∷ Top ∷ [])) c) (fronted true (placed front p)) (record { lines = r.0; is = r.1; over = r.2 })
-        (escape_sound e (WordBehind done) front blank p.previous (Word (length done)) (Top ∷ []) (done ++ WordOpen ∷ []) front (first_path front (ap begins_word (ahead_quoted e c front rest here))) c rest refl here) refl refl
+        word_shown front rest (escape (Word (length done)) (settled limit (done ++ WordOpen ∷ []) (Word (length done) ∷ Top ∷ [])) c) (fronted true (placed front p)) (record { lines = r.0; is = r.1; over = r.2 })
+        (escape_sound e limit (WordBehind done) front blank p.previous (Word (length done)) (Top ∷ []) (done ++ WordOpen ∷ []) front (first_path front (ap begins_word (ahead_quoted e c front rest here))) c rest refl here) refl refl
 
-  nothing_gap : (done : List Mark) (mid m : List ℕ) (p : Places) → list_all is_gap done ≡ true → AreMarks e [] (Top ∷ []) done bytes mid → mid ≡ m → p.next ≡ m → NextCharacter e false m
-      → ((rest : List ℕ) → length rest < length m → GapSound rest) → Answered e bytes (run e false (settled done (Top ∷ [])) p m)
+  nothing_gap : (done : List Mark) (mid m : List ℕ) (p : Places) → list_all is_gap done ≡ true → AreMarks e limit [] (Top ∷ []) done bytes mid → mid ≡ m → p.next ≡ m → NextCharacter e false m
+      → ((rest : List ℕ) → length rest < length m → GapSound rest) → Answered e limit bytes (run e false (settled limit done (Top ∷ [])) p m)
   nothing_gap done mid m p b a w n (got (Plain c) rest k r l) ih =
-      subst (Answered e bytes) (sym (character_run e (settled done (Top ∷ [])) p (Plain c) m rest k r n)) (plain_gap done mid b a c rest p (subst (λ z. Reads e (Plain c) z rest) (sym w) r) (ih rest l))
+      subst (Answered e limit bytes) (sym (character_run e (settled limit done (Top ∷ [])) p (Plain c) m rest k r n)) (plain_gap done mid b a c rest p (subst (λ z. Reads e (Plain c) z rest) (sym w) r) (ih rest l))
   nothing_gap done mid m p b a w n (got (Quoted c) rest k r l) ih =
-      subst (Answered e bytes) (sym (character_run e (settled done (Top ∷ [])) p (Quoted c) m rest k r n)) (quoted_gap done mid b a c rest p (subst (λ z. Reads e (Quoted c) z rest) (sym w) r))
+      subst (Answered e limit bytes) (sym (character_run e (settled limit done (Top ∷ [])) p (Quoted c) m rest k r n)) (quoted_gap done mid b a c rest p (subst (λ z. Reads e (Quoted c) z rest) (sym w) r))
   nothing_gap done mid m p b a w n (got (Raw c) rest k r l) ih = absurd (cc)
-  nothing_gap done mid m p b a w n (over i v z) ih = subst (Answered e bytes) (sym (over_run e (settled done (Top ∷ [])) p i m refl v n)) (go e refl)
+  nothing_gap done mid m p b a w n (over i v z) ih = subst (Answered e limit bytes) (sym (over_run e (settled limit done (Top ∷ [])) p i m refl v n)) (go e refl)
     where
-      go : (d : Bool) → e ≡ d → Answered e bytes (run d false (settled done (Top ∷ [])) (placed [] p) [])
+      go : (d : Bool) → e ≡ d → Answered e limit bytes (run d false (settled limit done (Top ∷ [])) (placed [] p) [])
       go false h = tt
       go true h = at_the_end done mid b a i (w ∙ v) h
-  nothing_gap done mid m p b a w n (cut i v d r) ih = subst (Answered e bytes) (sym (cut_run e (settled done (Top ∷ [])) p i m refl v n d)) tt
+  nothing_gap done mid m p b a w n (cut i v d r) ih = subst (Answered e limit bytes) (sym (cut_run e (settled limit done (Top ∷ [])) p i m refl v n d)) tt
 
   -- in a comment before a token
-  comment_gap : (done : List Mark) (mid acc m : List ℕ) (p : Places) → list_all is_gap done ≡ true → AreMarks e [] (Top ∷ []) done bytes mid → list_all is_no_newline acc ≡ true
+  comment_gap : (done : List Mark) (mid acc m : List ℕ) (p : Places) → list_all is_gap done ≡ true → AreMarks e limit [] (Top ∷ []) done bytes mid → list_all is_no_newline acc ≡ true
       → Written e (Plain 35 ∷ raw acc) mid m → p.next ≡ m → NextCharacter e true m → ((rest : List ℕ) → length rest < length m → GapSound rest)
-      → Answered e bytes (run e false (begun (Top ∷ []) done 0 Pending.Comment acc) p m)
+      → Answered e limit bytes (run e false (begun limit (Top ∷ []) done 0 Pending.Comment acc) p m)
   unfolding in_comment
   comment_gap done mid acc m p b a h w n (got (Plain c) rest k r l) ih = absurd (cc)
   comment_gap done mid acc m p b a h w n (got (Quoted c) rest k r l) ih = absurd (cc)
   comment_gap done mid acc m p b a h w n (got (Raw c) rest k r l) ih =
-      subst (Answered e bytes) (sym (character_run e (begun (Top ∷ []) done 0 Pending.Comment acc) p (Raw c) m rest k r n)) (go (nat_eq c 10) refl)
+      subst (Answered e limit bytes) (sym (character_run e (begun limit (Top ∷ []) done 0 Pending.Comment acc) p (Raw c) m rest k r n)) (go (nat_eq c 10) refl)
     where
       q : Places
       q = fronted true (placed (c ∷ rest) p)
 
       go : (d : Bool) → nat_eq c 10 ≡ d
-          → Answered e bytes (after e (cond d (plain_byte (settled (done ++ Comment acc ∷ []) (Top ∷ [])) c) (On (begun (Top ∷ []) done 0 Pending.Comment (acc ++ c ∷ [])))) (fronted true (placed (c ∷ rest) p)) rest)
+          → Answered e limit bytes (after e (cond d (plain_byte (settled limit (done ++ Comment acc ∷ []) (Top ∷ [])) c) (On (begun limit (Top ∷ []) done 0 Pending.Comment (acc ++ c ∷ [])))) (fronted true (placed (c ∷ rest) p)) rest)
       go true i =
           let z = eqb-true c 10 i in
           let g : m ≡ 10 ∷ rest = r ∙ ap (λ y. y ∷ rest) z in
-          subst (λ y. Answered e bytes (after e (plain_byte (settled (done ++ Comment acc ∷ []) (Top ∷ [])) y) (fronted true (placed (y ∷ rest) p)) rest)) (sym z)
+          subst (λ y. Answered e limit bytes (after e (plain_byte (settled limit (done ++ Comment acc ∷ []) (Top ∷ [])) y) (fronted true (placed (y ∷ rest) p)) rest)) (sym z)
           (plain_gap (done ++ Comment acc ∷ []) m (all_gap_snoc done (Comment acc) b refl)
           (more_gap done mid b a (Comment acc) m (record { written = w; fits = and_both (list_all is_no_newline acc) (ends_comment e m) h (ap (ends_comment e) g); level = refl })) 10 rest p (0, g, inl refl) (ih rest l))
       go false i =
@@ -238,13 +238,13 @@ module _ (e : Bool) (bytes : List ℕ) where
           (all_snoc is_no_newline acc c h (not_false (nat_eq c 10) i), subst (λ z. Written e (Plain 35 ∷ z) mid rest) (raw_snoc acc c) (written_snoc e (Plain 35 ∷ raw acc) (Raw c) mid m rest w r)) refl
   comment_gap done mid acc m p b a h w n (over i v z) ih =
       let y = z refl in
-      subst (λ t. Answered e bytes (run e false (begun (Top ∷ []) done 0 Pending.Comment acc) p t)) (sym y) (go e refl)
+      subst (λ t. Answered e limit bytes (run e false (begun limit (Top ∷ []) done 0 Pending.Comment acc) p t)) (sym y) (go e refl)
     where
-      go : (d : Bool) → e ≡ d → Answered e bytes (run d false (begun (Top ∷ []) done 0 Pending.Comment acc) p [])
+      go : (d : Bool) → e ≡ d → Answered e limit bytes (run d false (begun limit (Top ∷ []) done 0 Pending.Comment acc) p [])
       go false k = tt
       go true k =
           let y = z refl in
-          subst (λ t. Answered e bytes (Ended (settled (done ++ Comment acc ∷ []) (Top ∷ [])) t t)) (sym (n ∙ y))
+          subst (λ t. Answered e limit bytes (Ended (settled limit (done ++ Comment acc ∷ []) (Top ∷ [])) t t)) (sym (n ∙ y))
           (at_the_end (done ++ Comment acc ∷ []) m (all_gap_snoc done (Comment acc) b refl)
           (more_gap done mid b a (Comment acc) m (record { written = w; fits = and_both (list_all is_no_newline acc) (ends_comment e m) h (ap (ends_comment e) y ∙ k); level = refl })) 0 y k)
   comment_gap done mid acc m p b a h w n (cut i v d r) ih = absurd (cc)
@@ -252,9 +252,9 @@ module _ (e : Bool) (bytes : List ℕ) where
   gap_sound : (fuel : ℕ) (m : List ℕ) → length m < fuel → GapSound m
   gap_sound zero m l done mid acc c p b a h n = absurd (omega arith)
   gap_sound (suc fuel) m l done mid acc false p b a h n =
-      subst (λ z. Answered e bytes (run e false (begun (Top ∷ []) done 0 Pending.Nothing z) p m)) (sym h.0) (nothing_gap done mid m p b a h.1 n (next_cooked e m) (λ rest k. gap_sound fuel rest (omega arith)))
+      subst (λ z. Answered e limit bytes (run e false (begun limit (Top ∷ []) done 0 Pending.Nothing z) p m)) (sym h.0) (nothing_gap done mid m p b a h.1 n (next_cooked e m) (λ rest k. gap_sound fuel rest (omega arith)))
   gap_sound (suc fuel) m l done mid acc true p b a h n = comment_gap done mid acc m p b a h.0 h.1 n (next_character e true m) (λ rest k. gap_sound fuel rest (omega arith))
 
 -- each scanned text is as the definition has it
-pub sound : (e : Bool) (bytes : List ℕ) → Answered e bytes (scanned e bytes)
-sound e bytes = gap_sound e bytes (suc (length bytes)) bytes (omega arith) [] bytes [] false (record { front = bytes; previous = bytes; behind = bytes; next = bytes; form = bytes }) refl refl (refl, refl) refl
+pub sound : (e : Bool) (limit : ℕ) (bytes : List ℕ) → Answered e limit bytes (scanned e limit bytes)
+sound e limit bytes = gap_sound e limit bytes (suc (length bytes)) bytes (omega arith) [] bytes [] false (record { front = bytes; previous = bytes; behind = bytes; next = bytes; form = bytes }) refl refl (refl, refl) refl

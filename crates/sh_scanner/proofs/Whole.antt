@@ -86,41 +86,41 @@ cut_run e s p n m r w x d =
 pub end_ahead : (n : ℕ) (m : List ℕ) → m ≡ joins n → ahead true m ≡ InputEnd
 end_ahead n m w = ap (ahead true) (w ∙ sym (append-nil (joins n))) ∙ ahead_joins true n []
 
-module _ (e : Bool) (gap : List Mark) (front : List ℕ) (blank : list_all is_gap gap ≡ true) where
+module _ (e : Bool) (limit : ℕ) (gap : List Mark) (front : List ℕ) (blank : list_all is_gap gap ≡ true) where
   -- the end of the input behind a word
-  word_ended_shown : (x : Context) (xs : List Context) (done : List Mark) (mid f b form : List ℕ) → Path e (WordBehind gap) front done (x ∷ xs) mid → f ≡ front → mid ≡ b → ahead e b ≡ InputEnd
-      → Shown e gap front (last_token (word_ended (settled done (x ∷ xs))) f b form)
+  word_ended_shown : (x : Context) (xs : List Context) (done : List Mark) (mid f b form : List ℕ) → Path e limit (WordBehind gap) front done (x ∷ xs) mid → f ≡ front → mid ≡ b → ahead e b ≡ InputEnd
+      → Shown e limit gap front (last_token (word_ended (settled limit done (x ∷ xs))) f b form)
   word_ended_shown Top xs done mid f b form p w v a = tt
   word_ended_shown (Commands ts) xs done mid f b form p w v a = tt
   word_ended_shown (Word n) xs done mid f b form p w v a = go (is_top (with_token (OfWord false (drop (suc n) done)) xs)) refl
     where
-      mark : IsMark e (Word n) xs (WordClose false) mid b
+      mark : IsMark e limit (Word n) xs (WordClose false) mid b
       mark = record { written = v; fits = subst (λ z. (ends_word z && same_as false (next_is is_redirection z)) ≡ true) (sym a) refl; level = refl }
 
-      go : (c : Bool) → is_top (with_token (OfWord false (drop (suc n) done)) xs) ≡ c → Shown e gap front (last_token (cond c (Some (word_out false (settled done (Word n ∷ xs)))) None) f b form)
-      go true t = (w, final_word e (WordBehind gap) front done (Word n) xs false mid b blank p mark (sym (text_token (OfWord false (drop (suc n) done)) xs) ∙ t))
+      go : (c : Bool) → is_top (with_token (OfWord false (drop (suc n) done)) xs) ≡ c → Shown e limit gap front (last_token (cond c (Some (word_out false (settled limit done (Word n ∷ xs)))) None) f b form)
+      go true t = (w, final_word e limit (WordBehind gap) front done (Word n) xs false mid b blank p mark (sym (text_token (OfWord false (drop (suc n) done)) xs) ∙ t))
       go false t = tt
   word_ended_shown Quotes xs done mid f b form p w v a = tt
   word_ended_shown (Braces q) xs done mid f b form p w v a = tt
   word_ended_shown Arithmetic xs done mid f b form p w v a = tt
   word_ended_shown Parenthesis xs done mid f b form p w v a = tt
-  word_ended_shown Body xs done mid f b form p w v a = absurd (no_body e gap front done xs mid p)
+  word_ended_shown Body xs done mid f b form p w v a = absurd (no_body e limit gap front done xs mid p)
 
-  module _ (x : Context) (xs : List Context) (done : List Mark) (mid : List ℕ) (p : Path e (WordBehind gap) front done (x ∷ xs) mid) where
+  module _ (x : Context) (xs : List Context) (done : List Mark) (mid : List ℕ) (p : Path e limit (WordBehind gap) front done (x ∷ xs) mid) where
     -- the end of the input
-    end_shown : (q : Pending) (acc f b form : List ℕ) → Held e q (x ∷ xs) acc mid b → f ≡ front → ahead e b ≡ InputEnd
-        → Shown e gap front (last_token (ended_in q (begun (x ∷ xs) done (pending_levels q (levels (x ∷ xs))) q acc)) f b form)
+    end_shown : (q : Pending) (acc f b form : List ℕ) → Held e limit q (x ∷ xs) acc mid b → f ≡ front → ahead e b ≡ InputEnd
+        → Shown e limit gap front (last_token (ended_in q (begun limit (x ∷ xs) done (pending_levels q (levels (x ∷ xs))) q acc)) f b form)
     end_shown Pending.Nothing acc f b form h w a =
-        subst (λ z. Shown e gap front (last_token (ended_in Pending.Nothing (begun (x ∷ xs) done (levels (x ∷ xs)) Pending.Nothing z)) f b form)) (sym h.0)
-        (subst (λ c. Shown e gap front (last_token (cond c (Some (settled done (x ∷ xs))) (word_ended (settled done (x ∷ xs)))) f b form)) (sym p.inside.inner)
+        subst (λ z. Shown e limit gap front (last_token (ended_in Pending.Nothing (begun limit (x ∷ xs) done (levels (x ∷ xs)) Pending.Nothing z)) f b form)) (sym h.0)
+        (subst (λ c. Shown e limit gap front (last_token (cond c (Some (settled limit done (x ∷ xs))) (word_ended (settled limit done (x ∷ xs)))) f b form)) (sym p.inside.inner)
         (word_ended_shown x xs done mid f b form p w h.1 a))
     end_shown Pending.Dollar acc f b form h w a =
         word_ended_shown x xs (done ++ Dollar ∷ []) b f b form
-        (path_on e (WordBehind gap) front done x xs Dollar mid b p (dollar_mark e (WordBehind gap) front blank [] x xs done mid b p h.1 (not_false (next_is is_form (ahead e b)) (ap (next_is is_form) a)) h.2) refl) w refl a
+        (path_on e limit (WordBehind gap) front done x xs Dollar mid b p (dollar_mark e limit (WordBehind gap) front blank [] x xs done mid b p h.1 (not_false (next_is is_form (ahead e b)) (ap (next_is is_form) a)) h.2) refl) w refl a
     end_shown Pending.DollarParenthesis acc f b form h w a = tt
     end_shown Pending.Name acc f b form h w a =
         word_ended_shown x xs (done ++ Variable acc ∷ []) b f b form
-        (path_on e (WordBehind gap) front done x xs (Variable acc) mid b p (name_mark e (WordBehind gap) front blank [] x xs done mid b p acc h.0 h.1 (not_false (next_is is_name_byte (ahead e b)) (ap (next_is is_name_byte) a)) h.2) refl) w refl a
+        (path_on e limit (WordBehind gap) front done x xs (Variable acc) mid b p (name_mark e limit (WordBehind gap) front blank [] x xs done mid b p acc h.0 h.1 (not_false (next_is is_name_byte (ahead e b)) (ap (next_is is_name_byte) a)) h.2) refl) w refl a
     end_shown (Pending.Head g) acc f b form h w a = tt
     end_shown Pending.Single acc f b form h w a = tt
     end_shown Pending.Backquotes acc f b form h w a = tt
@@ -128,68 +128,68 @@ module _ (e : Bool) (gap : List Mark) (front : List ℕ) (blank : list_all is_ga
     end_shown Pending.Parenthesis acc f b form h w a = tt
     end_shown (Pending.Body l n j) acc f b form h w a = tt
     end_shown (Pending.Operator o) acc f b form h w a =
-        subst (λ c. Shown e gap front (last_token (cond c (Some (operator_out o (begun (x ∷ xs) done (levels (x ∷ xs)) (Pending.Operator o) acc))) None) f b form)) (sym p.inside.inner) tt
+        subst (λ c. Shown e limit gap front (last_token (cond c (Some (operator_out o (begun limit (x ∷ xs) done (levels (x ∷ xs)) (Pending.Operator o) acc))) None) f b form)) (sym p.inside.inner) tt
     end_shown Pending.Comment acc f b form h w a =
-        subst (λ c. Shown e gap front (last_token (cond c (Some (settled (done ++ Comment acc ∷ []) (x ∷ xs))) (word_ended (settled (done ++ Comment acc ∷ []) (x ∷ xs)))) f b form)) (sym p.inside.inner)
-        (subst (λ c. Shown e gap front (last_token (cond c (Some (settled (done ++ Comment acc ∷ []) (x ∷ xs)))
-        (cond (is_word x && is_top (word_over false (done ++ Comment acc ∷ []) (x ∷ xs))) (Some (word_out false (settled (done ++ Comment acc ∷ []) (x ∷ xs)))) None)) f b form)) (sym (between_no_body x h.1))
-        (subst (λ c. Shown e gap front (last_token (cond (c && is_top (word_over false (done ++ Comment acc ∷ []) (x ∷ xs))) (Some (word_out false (settled (done ++ Comment acc ∷ []) (x ∷ xs)))) None) f b form))
+        subst (λ c. Shown e limit gap front (last_token (cond c (Some (settled limit (done ++ Comment acc ∷ []) (x ∷ xs))) (word_ended (settled limit (done ++ Comment acc ∷ []) (x ∷ xs)))) f b form)) (sym p.inside.inner)
+        (subst (λ c. Shown e limit gap front (last_token (cond c (Some (settled limit (done ++ Comment acc ∷ []) (x ∷ xs)))
+        (cond (is_word x && is_top (word_over false (done ++ Comment acc ∷ []) (x ∷ xs))) (Some (word_out false (settled limit (done ++ Comment acc ∷ []) (x ∷ xs)))) None)) f b form)) (sym (between_no_body x h.1))
+        (subst (λ c. Shown e limit gap front (last_token (cond (c && is_top (word_over false (done ++ Comment acc ∷ []) (x ∷ xs))) (Some (word_out false (settled limit (done ++ Comment acc ∷ []) (x ∷ xs)))) None) f b form))
         (sym (between_no_word x h.1)) tt))
 
   -- a run within the first word
   abbrev InnerSound : List ℕ → Type 0
-  InnerSound m = (t : State) (p : Places) → At e (WordBehind gap) front t p.previous m → p.next ≡ m → p.behind ≡ m → p.front ≡ front → Shown e gap front (run e false t p m)
+  InnerSound m = (t : State) (p : Places) → At e limit (WordBehind gap) front t p.previous m → p.next ≡ m → p.behind ≡ m → p.front ≡ front → Shown e limit gap front (run e false t p m)
 
-  pub onward_shown : (y : Stepped) (p : Places) (begin m rest : List ℕ) → InnerSound rest → Going e (WordBehind gap) front y p.previous begin m rest → p.behind ≡ m → p.front ≡ front → Shown e gap front (after e y (placed begin p) rest)
+  pub onward_shown : (y : Stepped) (p : Places) (begin m rest : List ℕ) → InnerSound rest → Going e limit (WordBehind gap) front y p.previous begin m rest → p.behind ≡ m → p.front ≡ front → Shown e limit gap front (after e y (placed begin p) rest)
   onward_shown (On t) p begin m rest ih g b f = ih t (moved (begins_form t) rest (placed begin p)) g.it refl refl f
-  onward_shown (Before t) p begin m rest ih g b f = (f, subst (λ z. IsToken e gap front z (kind_of t.done)) (sym b) g.it)
+  onward_shown (Before t) p begin m rest ih g b f = (f, subst (λ z. IsToken e limit gap front z (kind_of t.done)) (sym b) g.it)
   onward_shown (After t) p begin m rest ih g b f = (f, g.it)
   onward_shown (TooDeep t) p begin m rest ih g b f = g.it
   onward_shown (DollarTooDeep t) p begin m rest ih g b f = g.it
 
-  module _ (x : Context) (xs : List Context) (done : List Mark) (mid : List ℕ) (path : Path e (WordBehind gap) front done (x ∷ xs) mid) (q : Pending) (acc m : List ℕ) (p : Places) (held : Held e q (x ∷ xs) acc mid m)
+  module _ (x : Context) (xs : List Context) (done : List Mark) (mid : List ℕ) (path : Path e limit (WordBehind gap) front done (x ∷ xs) mid) (q : Pending) (acc m : List ℕ) (p : Places) (held : Held e limit q (x ∷ xs) acc mid m)
       (preceded : Preceded q acc p.previous m) (n : p.next ≡ m) (b : p.behind ≡ m) (f : p.front ≡ front) where
     abbrev s : State
-    s = begun (x ∷ xs) done (pending_levels q (levels (x ∷ xs))) q acc
+    s = begun limit (x ∷ xs) done (pending_levels q (levels (x ∷ xs))) q acc
 
     no_gap : is_gap_state s ≡ false
     no_gap = and_right (is_gap_pending q) (is_text x) path.inside.inner
 
-    got_shown : (c : Character) (rest : List ℕ) → is_raw q ≡ is_raw_character c → Reads e c m rest → InnerSound rest → Shown e gap front (run e false s p m)
+    got_shown : (c : Character) (rest : List ℕ) → is_raw q ≡ is_raw_character c → Reads e c m rest → InnerSound rest → Shown e limit gap front (run e false s p m)
     got_shown c rest k r ih =
-        subst (Shown e gap front) (sym (character_run e s p c m rest k r n ∙ ap (λ z. after e (step s c) (fronted z (placed (begin_of c rest) p)) rest) no_gap))
-        (onward_shown (step s c) p (begin_of c rest) m rest ih (step_sound e (WordBehind gap) front blank p.previous x xs done mid m path q acc c rest k held preceded r) b f)
+        subst (Shown e limit gap front) (sym (character_run e s p c m rest k r n ∙ ap (λ z. after e (step s c) (fronted z (placed (begin_of c rest) p)) rest) no_gap))
+        (onward_shown (step s c) p (begin_of c rest) m rest ih (step_sound e limit (WordBehind gap) front blank p.previous x xs done mid m path q acc c rest k held preceded r) b f)
 
-    end_places : ahead true m ≡ InputEnd → (d : Bool) → e ≡ d → Shown e gap front (run d false s (placed [] p) [])
+    end_places : ahead true m ≡ InputEnd → (d : Bool) → e ≡ d → Shown e limit gap front (run d false s (placed [] p) [])
     end_places a false w = tt
     end_places a true w =
-        subst (λ z. Shown e gap front (last_places s (fronted z (placed [] p)))) (sym no_gap)
-        (end_shown x xs done mid path q acc p.front p.behind p.form (subst (Held e q (x ∷ xs) acc mid) (sym b) held) f (ap (ahead e) b ∙ (ap (λ z. ahead z m) w ∙ a)))
+        subst (λ z. Shown e limit gap front (last_places s (fronted z (placed [] p)))) (sym no_gap)
+        (end_shown x xs done mid path q acc p.front p.behind p.form (subst (Held e limit q (x ∷ xs) acc mid) (sym b) held) f (ap (ahead e) b ∙ (ap (λ z. ahead z m) w ∙ a)))
 
-    over_shown : (k : ℕ) → m ≡ joins k → (is_raw q ≡ true → m ≡ []) → (c : Bool) → is_raw q ≡ c → Shown e gap front (run e false s p m)
-    over_shown k w z false r = subst (Shown e gap front) (sym (over_run e s p k m r w n)) (end_places (end_ahead k m w) e refl)
+    over_shown : (k : ℕ) → m ≡ joins k → (is_raw q ≡ true → m ≡ []) → (c : Bool) → is_raw q ≡ c → Shown e limit gap front (run e false s p m)
+    over_shown k w z false r = subst (Shown e limit gap front) (sym (over_run e s p k m r w n)) (end_places (end_ahead k m w) e refl)
     over_shown k w z true r =
         let v = z r in
-        subst (λ y. Shown e gap front (run e false s p y)) (sym v)
-        (subst (λ y. Shown e gap front (run e false s y [])) (empty_next v) (end_places (end_ahead k m w) e refl))
+        subst (λ y. Shown e limit gap front (run e false s p y)) (sym v)
+        (subst (λ y. Shown e limit gap front (run e false s y [])) (empty_next v) (end_places (end_ahead k m w) e refl))
       where
         empty_next : m ≡ [] → placed [] p ≡ p
         empty_next v = ap (λ z. placed z p) (sym v ∙ sym n)
 
-    inner_shown : NextCharacter e (is_raw q) m → ((rest : List ℕ) → length rest < length m → InnerSound rest) → Shown e gap front (run e false s p m)
+    inner_shown : NextCharacter e (is_raw q) m → ((rest : List ℕ) → length rest < length m → InnerSound rest) → Shown e limit gap front (run e false s p m)
     inner_shown (got c rest k r l) ih = got_shown c rest k r (ih rest l)
     inner_shown (over k w z) ih = over_shown k w z (is_raw q) refl
-    inner_shown (cut k w d r) ih = subst (Shown e gap front) (sym (cut_run e s p k m r w n d)) tt
+    inner_shown (cut k w d r) ih = subst (Shown e limit gap front) (sym (cut_run e s p k m r w n d)) tt
 
-  inner_cases : (xs : List Context) (done : List Mark) (q : Pending) (acc mid m : List ℕ) (p : Places) → Path e (WordBehind gap) front done xs mid → Held e q xs acc mid m → Preceded q acc p.previous m → p.next ≡ m → p.behind ≡ m
-      → p.front ≡ front → ((rest : List ℕ) → length rest < length m → InnerSound rest) → Shown e gap front (run e false (begun xs done (pending_levels q (levels xs)) q acc) p m)
+  inner_cases : (xs : List Context) (done : List Mark) (q : Pending) (acc mid m : List ℕ) (p : Places) → Path e limit (WordBehind gap) front done xs mid → Held e limit q xs acc mid m → Preceded q acc p.previous m → p.next ≡ m → p.behind ≡ m
+      → p.front ≡ front → ((rest : List ℕ) → length rest < length m → InnerSound rest) → Shown e limit gap front (run e false (begun limit xs done (pending_levels q (levels xs)) q acc) p m)
   inner_cases [] done q acc mid m p path h r n b f ih = let z = path.inside.order in absurd (cc)
   inner_cases (x ∷ xs) done q acc mid m p path h r n b f ih = inner_shown x xs done mid path q acc m p h r n b f (next_character e (is_raw q) m) ih
 
   inner_sound : (fuel : ℕ) (m : List ℕ) → length m < fuel → InnerSound m
   inner_sound zero m l t p a n b f = absurd (omega arith)
   inner_sound (suc fuel) m l t p a n b f =
-      subst (λ z. Shown e gap front (run e false z p m)) (sym a.is)
+      subst (λ z. Shown e limit gap front (run e false z p m)) (sym a.is)
       (inner_cases a.xs a.done a.pending a.acc a.mid m p a.path a.held a.preceded n b f (λ rest k. inner_sound fuel rest (omega arith)))
 
   pub inner : (m : List ℕ) → InnerSound m
@@ -198,14 +198,14 @@ module _ (e : Bool) (gap : List Mark) (front : List ℕ) (blank : list_all is_ga
   -- an operator of the text itself
   abbrev OperatorSound : List ℕ → Type 0
   OperatorSound m = (o : Operator) (p : Places) → may_grow o ≡ true → Written e (plain (operator_text o)) front m → p.next ≡ m → p.behind ≡ m → p.front ≡ front
-      → Shown e gap front (run e false (begun (Top ∷ []) gap 0 (Pending.Operator o) []) p m)
+      → Shown e limit gap front (run e false (begun limit (Top ∷ []) gap 0 (Pending.Operator o) []) p m)
 
   more_top : (o : Operator) → is_more o Top ≡ false
   more_top o = rw (and_false (is_right_parenthesis o), and_false (is_newline o)) refl
 
-  operator_token : (o : Operator) (rest : List ℕ) → ends_operator o (ahead e rest) ≡ true → Written e (plain (operator_text o)) front rest → IsToken e gap front rest (kind_of (gap ++ Mark.Operator o ∷ []))
+  operator_token : (o : Operator) (rest : List ℕ) → ends_operator o (ahead e rest) ≡ true → Written e (plain (operator_text o)) front rest → IsToken e limit gap front rest (kind_of (gap ++ Mark.Operator o ∷ []))
   operator_token o rest h w =
-      subst (IsToken e gap front rest) (sym (kind_last gap (Mark.Operator o)))
+      subst (IsToken e limit gap front rest) (sym (kind_last gap (Mark.Operator o)))
       (operator o (record {
         written = w;
         fits = and_both (ends_operator o (ahead e rest)) (not (is_more o Top)) h (not_false (is_more o Top) (more_top o));
@@ -213,25 +213,25 @@ module _ (e : Bool) (gap : List Mark) (front : List ℕ) (blank : list_all is_ga
       }))
 
   pub grown_shown : (o : Operator) (p : Places) (rest : List ℕ) → OperatorSound rest → Written e (plain (operator_text o)) front rest → p.front ≡ front
-      → Shown e gap front (after e (grow o (settled gap (Top ∷ []))) p rest)
+      → Shown e limit gap front (after e (grow o (settled limit gap (Top ∷ []))) p rest)
   grown_shown o p rest ih w f = go (may_grow o) refl
     where
-      go : (c : Bool) → may_grow o ≡ c → Shown e gap front (after e (cond c (On (begun (Top ∷ []) gap 0 (Pending.Operator o) [])) (After (operator_out o (settled gap (Top ∷ []))))) p rest)
+      go : (c : Bool) → may_grow o ≡ c → Shown e limit gap front (after e (cond c (On (begun limit (Top ∷ []) gap 0 (Pending.Operator o) [])) (After (operator_out o (settled limit gap (Top ∷ []))))) p rest)
       go true g = ih o (moved false rest p) g w refl refl f
       go false g = (f, operator_token o rest (whole_operator o (ahead e rest) g) w)
 
   module _ (o : Operator) (p : Places) (m : List ℕ) (g : may_grow o ≡ true) (w : Written e (plain (operator_text o)) front m) (n : p.next ≡ m) (b : p.behind ≡ m) (f : p.front ≡ front) where
     abbrev in_it : State
-    in_it = begun (Top ∷ []) gap 0 (Pending.Operator o) []
+    in_it = begun limit (Top ∷ []) gap 0 (Pending.Operator o) []
 
-    ended_before : ends_operator o (ahead e m) ≡ true → (p.front ≡ front) × IsToken e gap front p.behind (kind_of (gap ++ Mark.Operator o ∷ []))
-    ended_before h = (f, subst (λ z. IsToken e gap front z (kind_of (gap ++ Mark.Operator o ∷ []))) (sym b) (operator_token o m h w))
+    ended_before : ends_operator o (ahead e m) ≡ true → (p.front ≡ front) × IsToken e limit gap front p.behind (kind_of (gap ++ Mark.Operator o ∷ []))
+    ended_before h = (f, subst (λ z. IsToken e limit gap front z (kind_of (gap ++ Mark.Operator o ∷ []))) (sym b) (operator_token o m h w))
 
-    operator_step : (c : Character) (rest : List ℕ) → false ≡ is_raw_character c → Reads e c m rest → OperatorSound rest → Shown e gap front (after e (step in_it c) (placed (begin_of c rest) p) rest)
+    operator_step : (c : Character) (rest : List ℕ) → false ≡ is_raw_character c → Reads e c m rest → OperatorSound rest → Shown e limit gap front (after e (step in_it c) (placed (begin_of c rest) p) rest)
     unfolding in_operator
     operator_step (Plain c) rest k r ih = go (grown o c) refl
       where
-        go : (y : Option Operator) → grown o c ≡ y → Shown e gap front (after e (grow_to o y in_it c) (placed (c ∷ rest) p) rest)
+        go : (y : Option Operator) → grown o c ≡ y → Shown e limit gap front (after e (grow_to o y in_it c) (placed (c ∷ rest) p) rest)
         go (Some longer) h =
             grown_shown longer (placed (c ∷ rest) p) rest ih
             (subst (λ z. Written e z front rest) (plain_snoc (operator_text o) c ∙ ap plain (sym (grown_text o longer c h))) (written_snoc e (plain (operator_text o)) (Plain c) front m rest w r)) f
@@ -239,14 +239,14 @@ module _ (e : Bool) (gap : List Mark) (front : List ℕ) (blank : list_all is_ga
     operator_step (Quoted c) rest k r ih = ended_before (ap (ends_operator o) (ahead_quoted e c m rest r))
     operator_step (Raw c) rest k r ih = absurd (cc)
 
-    operator_end : ahead true m ≡ InputEnd → (d : Bool) → e ≡ d → Shown e gap front (run d false in_it (placed [] p) [])
+    operator_end : ahead true m ≡ InputEnd → (d : Bool) → e ≡ d → Shown e limit gap front (run d false in_it (placed [] p) [])
     operator_end a false v = tt
     operator_end a true v = ended_before (ap (ends_operator o) (ap (λ z. ahead z m) v ∙ a))
 
-    operator_cases : NextCharacter e false m → ((rest : List ℕ) → length rest < length m → OperatorSound rest) → Shown e gap front (run e false in_it p m)
-    operator_cases (got c rest k r l) ih = subst (Shown e gap front) (sym (character_run e in_it p c m rest k r n)) (operator_step c rest k r (ih rest l))
-    operator_cases (over i v z) ih = subst (Shown e gap front) (sym (over_run e in_it p i m refl v n)) (operator_end (end_ahead i m v) e refl)
-    operator_cases (cut i v d r) ih = subst (Shown e gap front) (sym (cut_run e in_it p i m refl v n d)) tt
+    operator_cases : NextCharacter e false m → ((rest : List ℕ) → length rest < length m → OperatorSound rest) → Shown e limit gap front (run e false in_it p m)
+    operator_cases (got c rest k r l) ih = subst (Shown e limit gap front) (sym (character_run e in_it p c m rest k r n)) (operator_step c rest k r (ih rest l))
+    operator_cases (over i v z) ih = subst (Shown e limit gap front) (sym (over_run e in_it p i m refl v n)) (operator_end (end_ahead i m v) e refl)
+    operator_cases (cut i v d r) ih = subst (Shown e limit gap front) (sym (cut_run e in_it p i m refl v n d)) tt
 
   operator_sound : (fuel : ℕ) (m : List ℕ) → length m < fuel → OperatorSound m
   operator_sound zero m l o p g w n b f = absurd (omega arith)

@@ -7,41 +7,41 @@ use Rattle.sh_scanner.specs.declared.document.BodyFault.{BodyFault}
 use Rattle.sh_scanner.specs.Tokens.{Joined, OpensLevel}
 
 -- the body up to `place` is these pieces, with joined lines behind them, and no form is open there
-pub record IsFront (bytes : List ℕ) (marks : List Mark) (place : List ℕ) : Type 0 where
+pub record IsFront (limit : ℕ) (bytes : List ℕ) (marks : List Mark) (place : List ℕ) : Type 0 where
   pub last : List ℕ
-  pub pieces : AreMarks true [] (Body ∷ []) marks bytes last
+  pub pieces : AreMarks true limit [] (Body ∷ []) marks bytes last
   pub closed : contexts_behind [] (Body ∷ []) marks ≡ Body ∷ []
   pub joined : Joined last place
 
--- the body has 500 open levels, and from `place` on a piece that opens one more
-pub record IsBodyTooDeep (bytes place : List ℕ) : Type 0 where
+-- the body has so many open levels, and from `place` on a piece that opens one more
+pub record IsBodyTooDeep (limit : ℕ) (bytes place : List ℕ) : Type 0 where
   pub marks : List Mark
   pub last : List ℕ
-  pub before : AreMarks true [] (Body ∷ []) marks bytes last
-  pub full : nat_lt (levels (contexts_behind [] (Body ∷ []) marks)) 500 ≡ false
+  pub before : AreMarks true limit [] (Body ∷ []) marks bytes last
+  pub full : nat_lt (levels (contexts_behind [] (Body ∷ []) marks)) limit ≡ false
   pub within : in_word (top_of (contexts_behind [] (Body ∷ []) marks)) ≡ true
   pub placed : Joined last place
   pub opens : OpensLevel true place
 
 -- a form begins at `place`, and is open at the end of the body: no front without open forms goes further
-pub record IsBodyOpen (bytes place : List ℕ) : Type 0 where
+pub record IsBodyOpen (limit : ℕ) (bytes place : List ℕ) : Type 0 where
   pub marks : List Mark
-  pub front : IsFront bytes marks place
+  pub front : IsFront limit bytes marks place
   pub begins : OpensLevel true place
-  pub furthest : (others : List Mark) (other : List ℕ) → IsFront bytes others other → length place ≤ length other
-  pub level : (deep : List ℕ) → IsBodyTooDeep bytes deep → ⊥
+  pub furthest : (others : List Mark) (other : List ℕ) → IsFront limit bytes others other → length place ≤ length other
+  pub level : (deep : List ℕ) → IsBodyTooDeep limit bytes deep → ⊥
 
--- a body's pieces; or where the form begins that it doesn't close, or the piece that opens level 501
+-- a body's pieces; or where the form begins that it doesn't close, or the piece that opens a level too many
 pub data BodyPieces : Type 0 where
   AllOf : (marks : List Mark) → BodyPieces
   OpenAt : (place : ℕ) → BodyPieces
   TooDeepAt : (place : ℕ) → BodyPieces
 
--- what the pieces of this body are
-abbrev pub IsBody : List ℕ → BodyPieces → Type 0
-IsBody bytes (AllOf marks) = IsFront bytes marks []
-IsBody bytes (OpenAt place) = (rest : List ℕ) × IsBodyOpen bytes rest × (place + length rest ≡ length bytes)
-IsBody bytes (TooDeepAt place) = (rest : List ℕ) × IsBodyTooDeep bytes rest × (place + length rest ≡ length bytes)
+-- what the pieces of this body are, in which so many levels may be open
+abbrev pub IsBody : ℕ → List ℕ → BodyPieces → Type 0
+IsBody limit bytes (AllOf marks) = IsFront limit bytes marks []
+IsBody limit bytes (OpenAt place) = (rest : List ℕ) × IsBodyOpen limit bytes rest × (place + length rest ≡ length bytes)
+IsBody limit bytes (TooDeepAt place) = (rest : List ℕ) × IsBodyTooDeep limit bytes rest × (place + length rest ≡ length bytes)
 
 abbrev pub body_answer : BodyPieces → Result (List Mark) BodyFault
 body_answer (AllOf marks) = Ok marks

@@ -16,18 +16,18 @@ pub data FirstToken : Type 0 where
 abbrev pub nul_in : List ℕ → Option ℕ
 nul_in bytes = position (λ b. nat_eq b 0) bytes
 
--- what the first token of these bytes is; e: they are the last of the input.
+-- what the first token of these bytes is, in which so many levels may be open; e: they are the last of the input.
 -- A token with a NUL, or with one before it, is no token; nor is a level behind a NUL one too many
-abbrev pub IsFirst : Bool → List ℕ → FirstToken → Type 0
-IsFirst e bytes (Found kind start stop) =
-    ((front : List ℕ) × ((rest : List ℕ) × HasToken e bytes front rest kind × (start + length front ≡ length bytes) × (stop + length rest ≡ length bytes)))
+abbrev pub IsFirst : Bool → ℕ → List ℕ → FirstToken → Type 0
+IsFirst e limit bytes (Found kind start stop) =
+    ((front : List ℕ) × ((rest : List ℕ) × HasToken e limit bytes front rest kind × (start + length front ≡ length bytes) × (stop + length rest ≡ length bytes)))
     × (nul_in (take stop bytes) ≡ None)
-IsFirst e bytes (DeepAt place) = ((rest : List ℕ) × IsTooDeep e bytes rest × (place + length rest ≡ length bytes)) × (nul_in (take place bytes) ≡ None)
-IsFirst e bytes Unfinished =
-    ((front rest : List ℕ) (kind : TokenKind) → HasToken e bytes front rest kind → ⊥) × ((rest : List ℕ) → IsTooDeep e bytes rest → ⊥) × (nul_in bytes ≡ None)
-IsFirst e bytes (NulAt place) =
-    ((front rest : List ℕ) (kind : TokenKind) → HasToken e bytes front rest kind → place + length rest < length bytes)
-    × ((rest : List ℕ) → IsTooDeep e bytes rest → place + length rest < length bytes) × (nul_in bytes ≡ Some place)
+IsFirst e limit bytes (DeepAt place) = ((rest : List ℕ) × IsTooDeep e limit bytes rest × (place + length rest ≡ length bytes)) × (nul_in (take place bytes) ≡ None)
+IsFirst e limit bytes Unfinished =
+    ((front rest : List ℕ) (kind : TokenKind) → HasToken e limit bytes front rest kind → ⊥) × ((rest : List ℕ) → IsTooDeep e limit bytes rest → ⊥) × (nul_in bytes ≡ None)
+IsFirst e limit bytes (NulAt place) =
+    ((front rest : List ℕ) (kind : TokenKind) → HasToken e limit bytes front rest kind → place + length rest < length bytes)
+    × ((rest : List ℕ) → IsTooDeep e limit bytes rest → place + length rest < length bytes) × (nul_in bytes ≡ Some place)
 
 -- the same in a text in which the bytes begin at `at`
 abbrev pub answer_at : ℕ → FirstToken → Result Token TokenFault

@@ -64,9 +64,9 @@ without_nul bytes (Ended s front rest) =
 without_nul bytes (Deep rest) = unless_nul (nul_in (take (length bytes - length rest) bytes)) (DeepAt (length bytes - length rest))
 without_nul bytes (Open form) = unless_nul (nul_in bytes) Unfinished
 
--- the first token of these bytes
-unfoldable pub first_token : Bool → List ℕ → FirstToken
-first_token e bytes = without_nul bytes (scanned e bytes)
+-- the first token of these bytes, in which so many levels may be open
+unfoldable pub first_token : Bool → ℕ → List ℕ → FirstToken
+first_token e limit bytes = without_nul bytes (scanned e limit bytes)
 
 -- the pieces of a body with these bytes
 abbrev pub of_body : List ℕ → Scanned → BodyPieces
@@ -74,5 +74,5 @@ of_body bytes (Ended s front rest) = AllOf s.done
 of_body bytes (Deep rest) = TooDeepAt (length bytes - length rest)
 of_body bytes (Open form) = OpenAt (length bytes - length form)
 
-unfoldable pub pieces_of_body : List ℕ → BodyPieces
-pieces_of_body bytes = of_body bytes (scanned_in Body true bytes)
+unfoldable pub pieces_of_body : ℕ → List ℕ → BodyPieces
+pieces_of_body limit bytes = of_body bytes (scanned_in Body true limit bytes)

@@ -26,6 +26,8 @@ pub record State : Type 0 where
   pub bytes : List ℕ
   -- how many levels are open, that of the piece that has begun included
   pub levels : ℕ
+  -- and how many may be
+  pub limit : ℕ
 
 -- what a character makes of it
 pub data Stepped : Type 0 where
@@ -33,55 +35,55 @@ pub data Stepped : Type 0 where
   -- a token of the text itself ended before the character, or ends with it
   Before : (s : State) → Stepped
   After : (s : State) → Stepped
-  -- level 501 would open with the character, or with the `$` before it
+  -- a level too many would open with the character, or with the `$` before it
   TooDeep : (s : State) → Stepped
   DollarTooDeep : (s : State) → Stepped
 
 -- a piece is over that leaves the contexts as they were, that goes into a context, or that leaves one
 abbrev pub same : Mark → State → State
-same m s = record { contexts = s.contexts; done = s.done ++ m ∷ []; pending = Pending.Nothing; bytes = []; levels = s.levels }
+same m s = record { contexts = s.contexts; done = s.done ++ m ∷ []; pending = Pending.Nothing; bytes = []; levels = s.levels; limit = s.limit }
 
 abbrev pub into : Context → Mark → State → State
-into x m s = record { contexts = x ∷ s.contexts; done = s.done ++ m ∷ []; pending = Pending.Nothing; bytes = []; levels = s.levels }
+into x m s = record { contexts = x ∷ s.contexts; done = s.done ++ m ∷ []; pending = Pending.Nothing; bytes = []; levels = s.levels; limit = s.limit }
 
 abbrev pub outer : List Context → List Context
 outer [] = []
 outer (x ∷ xs) = xs
 
 abbrev pub out : Mark → State → State
-out m s = record { contexts = outer s.contexts; done = s.done ++ m ∷ []; pending = Pending.Nothing; bytes = []; levels = s.levels }
+out m s = record { contexts = outer s.contexts; done = s.done ++ m ∷ []; pending = Pending.Nothing; bytes = []; levels = s.levels; limit = s.limit }
 
 -- one that leaves a level
 abbrev pub out_level : Mark → State → State
-out_level m s = record { contexts = outer s.contexts; done = s.done ++ m ∷ []; pending = Pending.Nothing; bytes = []; levels = s.levels - 1 }
+out_level m s = record { contexts = outer s.contexts; done = s.done ++ m ∷ []; pending = Pending.Nothing; bytes = []; levels = s.levels - 1; limit = s.limit }
 
 abbrev pub level_over : Mark → State → State
-level_over m s = record { contexts = s.contexts; done = s.done ++ m ∷ []; pending = Pending.Nothing; bytes = []; levels = s.levels - 1 }
+level_over m s = record { contexts = s.contexts; done = s.done ++ m ∷ []; pending = Pending.Nothing; bytes = []; levels = s.levels - 1; limit = s.limit }
 
 -- a word is over; r: < or > follows it
 abbrev pub word_out : Bool → State → State
-word_out r s = record { contexts = word_over r s.done s.contexts; done = s.done ++ WordClose r ∷ []; pending = Pending.Nothing; bytes = []; levels = s.levels }
+word_out r s = record { contexts = word_over r s.done s.contexts; done = s.done ++ WordClose r ∷ []; pending = Pending.Nothing; bytes = []; levels = s.levels; limit = s.limit }
 
 abbrev pub operator_out : Operator → State → State
 operator_out o s =
-    record { contexts = with_token (OfOperator o) s.contexts; done = s.done ++ Mark.Operator o ∷ []; pending = Pending.Nothing; bytes = []; levels = s.levels }
+    record { contexts = with_token (OfOperator o) s.contexts; done = s.done ++ Mark.Operator o ∷ []; pending = Pending.Nothing; bytes = []; levels = s.levels; limit = s.limit }
 
 -- the bodies of the here-documents that were due are over
 abbrev pub bodies_out : State → State
 bodies_out s =
-    record { contexts = with_token OfBodies s.contexts; done = s.done ++ Bodies (s.bytes ++ 10 ∷ []) ∷ []; pending = Pending.Nothing; bytes = []; levels = s.levels }
+    record { contexts = with_token OfBodies s.contexts; done = s.done ++ Bodies (s.bytes ++ 10 ∷ []) ∷ []; pending = Pending.Nothing; bytes = []; levels = s.levels; limit = s.limit }
 
 abbrev pub pend : Pending → State → State
-pend p s = record { contexts = s.contexts; done = s.done; pending = p; bytes = []; levels = s.levels }
+pend p s = record { contexts = s.contexts; done = s.done; pending = p; bytes = []; levels = s.levels; limit = s.limit }
 
 abbrev pub keep : Pending → ℕ → State → State
-keep p b s = record { contexts = s.contexts; done = s.done; pending = p; bytes = s.bytes ++ b ∷ []; levels = s.levels }
+keep p b s = record { contexts = s.contexts; done = s.done; pending = p; bytes = s.bytes ++ b ∷ []; levels = s.levels; limit = s.limit }
 
 -- a piece begins that opens a level
 abbrev pub opens : Pending → State → Stepped
 opens p s =
-    if nat_lt s.levels 500
-    then On (record { contexts = s.contexts; done = s.done; pending = p; bytes = []; levels = suc s.levels })
+    if nat_lt s.levels s.limit
+    then On (record { contexts = s.contexts; done = s.done; pending = p; bytes = []; levels = suc s.levels; limit = s.limit })
     else TooDeep s
 
 -- where the piece began with a `$` that came before

@@ -26,7 +26,7 @@ fed s b =
     else if nat_eq b 92 then Waits true s.state
     else Takes (step s.state (Plain b))
 
--- how a text goes: a token of it, the text from its first byte on, and the text behind it; or the text from where level 501 opens;
+-- how a text goes: a token of it, the text from its first byte on, and the text behind it; or the text from where a level too many opens;
 -- or, where its end comes first, the text from where a form of a body began last
 pub data Scanned : Type 0 where
   Ended : (state : State) → (front rest : List ℕ) → Scanned
@@ -145,12 +145,12 @@ run e h s p (b ∷ bs) =
     (Deep q.next)
     (Deep q.previous)
 
-abbrev pub start : Context → State
-start x = record { contexts = x ∷ []; done = []; pending = Pending.Nothing; bytes = []; levels = 0 }
+abbrev pub start : Context → ℕ → State
+start x limit = record { contexts = x ∷ []; done = []; pending = Pending.Nothing; bytes = []; levels = 0; limit = limit }
 
--- a text that begins in this context
-abbrev pub scanned_in : Context → Bool → List ℕ → Scanned
-scanned_in x e bytes = run e false (start x) (record { front = bytes; previous = bytes; behind = bytes; next = bytes; form = bytes }) bytes
+-- a text that begins in this context, and in which so many levels may be open
+abbrev pub scanned_in : Context → Bool → ℕ → List ℕ → Scanned
+scanned_in x e limit bytes = run e false (start x limit) (record { front = bytes; previous = bytes; behind = bytes; next = bytes; form = bytes }) bytes
 
-abbrev pub scanned : Bool → List ℕ → Scanned
-scanned e bytes = scanned_in Top e bytes
+abbrev pub scanned : Bool → ℕ → List ℕ → Scanned
+scanned e limit bytes = scanned_in Top e limit bytes

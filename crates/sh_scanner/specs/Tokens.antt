@@ -32,23 +32,24 @@ pub record Joined (bytes front : List ℕ) : Type 0 where
   pub is : bytes ≡ joins lines ++ front
   pub over : begins_join front ≡ false
 
--- the bytes begin with a token of this kind, and the rest is left; e: they are the last of the input; the gap is what lies before
-pub data IsToken (e : Bool) (gap : List Mark) (front rest : List ℕ) : TokenKind → Type 0 where
-  ending : e ≡ true → front ≡ [] → rest ≡ [] → IsToken e gap front rest TokenKind.End
-  operator : (o : Operator) → IsMark e Top [] (Mark.Operator o) front rest → IsToken e gap front rest (TokenKind.Operator o)
+-- the bytes begin with a token of this kind, and the rest is left; e: they are the last of the input; limit: how many levels may be open; the
+-- gap is what lies before
+pub data IsToken (e : Bool) (limit : ℕ) (gap : List Mark) (front rest : List ℕ) : TokenKind → Type 0 where
+  ending : e ≡ true → front ≡ [] → rest ≡ [] → IsToken e limit gap front rest TokenKind.End
+  operator : (o : Operator) → IsMark e limit Top [] (Mark.Operator o) front rest → IsToken e limit gap front rest (TokenKind.Operator o)
   -- the word's pieces, none of which comes back to the text itself
-  word : (ms : List Mark) → (r : Bool) → (x : Context) → (xs : List Context) → (middle : List ℕ) → AreMarks e gap (Top ∷ []) (WordOpen ∷ ms) front middle
-      → ends_none gap (Top ∷ []) (WordOpen ∷ ms) ≡ true → contexts_behind gap (Top ∷ []) (WordOpen ∷ ms) ≡ x ∷ xs → IsMark e x xs (WordClose r) middle rest
-      → is_text (top_of xs) ≡ true → IsToken e gap front rest (word_kind r ms)
+  word : (ms : List Mark) → (r : Bool) → (x : Context) → (xs : List Context) → (middle : List ℕ) → AreMarks e limit gap (Top ∷ []) (WordOpen ∷ ms) front middle
+      → ends_none gap (Top ∷ []) (WordOpen ∷ ms) ≡ true → contexts_behind gap (Top ∷ []) (WordOpen ∷ ms) ≡ x ∷ xs → IsMark e limit x xs (WordClose r) middle rest
+      → is_text (top_of xs) ≡ true → IsToken e limit gap front rest (word_kind r ms)
 
 -- the bytes have blanks, comments and joined lines, then from the front on a token of this kind, and then the rest
-pub record HasToken (e : Bool) (bytes front rest : List ℕ) (kind : TokenKind) : Type 0 where
+pub record HasToken (e : Bool) (limit : ℕ) (bytes front rest : List ℕ) (kind : TokenKind) : Type 0 where
   pub gap : List Mark
   pub middle : List ℕ
   pub blank : list_all is_gap gap ≡ true
-  pub between : AreMarks e [] (Top ∷ []) gap bytes middle
+  pub between : AreMarks e limit [] (Top ∷ []) gap bytes middle
   pub joined : Joined middle front
-  pub token : IsToken e gap front rest kind
+  pub token : IsToken e limit gap front rest kind
 
 -- `${`, `$(` or a backquote comes first
 pub data OpensLevel (e : Bool) (bytes : List ℕ) : Type 0 where
@@ -56,19 +57,19 @@ pub data OpensLevel (e : Bool) (bytes : List ℕ) : Type 0 where
   parenthesis : (after : List ℕ) → Written e (Plain 36 ∷ Plain 40 ∷ []) bytes after → OpensLevel e bytes
   backquote : (after : List ℕ) → Written e (Plain 96 ∷ []) bytes after → OpensLevel e bytes
 
--- in its first token the text has 500 open levels, and from `place` on a piece that opens one more
-pub record IsTooDeep (e : Bool) (bytes place : List ℕ) : Type 0 where
+-- in its first token the text has so many open levels, and from `place` on a piece that opens one more
+pub record IsTooDeep (e : Bool) (limit : ℕ) (bytes place : List ℕ) : Type 0 where
   pub gap : List Mark
   pub middle : List ℕ
   pub front : List ℕ
   pub blank : list_all is_gap gap ≡ true
-  pub between : AreMarks e [] (Top ∷ []) gap bytes middle
+  pub between : AreMarks e limit [] (Top ∷ []) gap bytes middle
   pub joined : Joined middle front
   pub marks : List Mark
   pub last : List ℕ
-  pub before : AreMarks e gap (Top ∷ []) (WordOpen ∷ marks) front last
+  pub before : AreMarks e limit gap (Top ∷ []) (WordOpen ∷ marks) front last
   pub going : ends_none gap (Top ∷ []) (WordOpen ∷ marks) ≡ true
-  pub full : nat_lt (levels (contexts_behind gap (Top ∷ []) (WordOpen ∷ marks))) 500 ≡ false
+  pub full : nat_lt (levels (contexts_behind gap (Top ∷ []) (WordOpen ∷ marks))) limit ≡ false
   pub within : in_word (top_of (contexts_behind gap (Top ∷ []) (WordOpen ∷ marks))) ≡ true
   pub placed : Joined last place
   pub opens : OpensLevel e place

@@ -17,7 +17,7 @@ pub enum BodyFault {
     /// The form that begins with the `$` or the backquote at `at` is open at the end of the body, and lies in no other.
     #[error("unfinished expansion at byte {at}")]
     Open { at: usize },
-    /// More than 500 levels, counted from the body: the piece at `at` opens one too many.
+    /// More levels than may be open, counted from the body: the piece at `at` opens one too many.
     #[error("too deep at byte {at}")]
     TooDeep { at: usize },
     /// There was not enough memory.
@@ -38,13 +38,13 @@ impl From<AllocError> for BodyFault {
 
 /// The pieces of a body, joined lines left out: parameter, command and arithmetic expansions, and what a backslash
 /// quotes, which is `$`, a backquote and a backslash (XCU 2.7.4). Quotes outside of the expansions are bytes like any
-/// others, and so are NULs. Where a place is given, it is in the body.
+/// others, and so are NULs. `levels`: how many may be open. Where a place is given, it is in the body.
 #[tactic(auto, unfolding(crate::specs::Found::pieces_of_body))]
-pub fn body_pieces(alloc: Global, body: &[u8]) -> Result<Sequence<Mark>, BodyFault>
+pub fn body_pieces(alloc: Global, body: &[u8], levels: usize) -> Result<Sequence<Mark>, BodyFault>
     // The answer is the one of `pieces_of_body`, or memory ran out.
-    ensures { GivesPieces result (body_answer (pieces_of_body body.now)) }
+    ensures { GivesPieces result (body_answer (pieces_of_body levels body.now)) }
 {
-    match scan(alloc, Context::Body, body, true)? {
+    match scan(alloc, Context::Body, body, true, levels)? {
         Outcome::Ended(state, _, _) => Ok(Sequence::from_vec(state.into_pieces())),
         Outcome::Deep(rest) => Err(BodyFault::TooDeep {
             at: body.len().saturating_sub(rest.len()),
@@ -58,5 +58,5 @@ pub fn body_pieces(alloc: Global, body: &[u8]) -> Result<Sequence<Mark>, BodyFau
 /// `pieces_of_body` gives an answer exactly when the body has it by the definition: each body has its pieces, or a form that
 /// it doesn't close, or a level too many.
 pub fn body_is_the_defined_one()
-    ensures { (bytes : List ℕ) (answer : BodyPieces) → (pieces_of_body bytes ≡ answer) ↔ IsBody bytes answer }
+    ensures { (levels : ℕ) (bytes : List ℕ) (answer : BodyPieces) → (pieces_of_body levels bytes ≡ answer) ↔ IsBody levels bytes answer }
 {}

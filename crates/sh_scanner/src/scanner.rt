@@ -27,7 +27,7 @@ pub(crate) enum Event {
 pub(crate) enum Outcome<'a> {
     /// A token, with the text from its first byte on and the text behind it.
     Ended(State, &'a [u8], &'a [u8]),
-    /// The text from where level 501 opens.
+    /// The text from where a level too many opens.
     Deep(&'a [u8]),
     /// The text from where a form of a body began last.
     Open(&'a [u8]),
@@ -233,16 +233,17 @@ impl<'a> Marked<'a> {
     }
 }
 
-/// Feeds a scanner with a text that begins in this context, up to the end of its first token.
+/// Feeds a scanner with a text that begins in this context, up to the end of its first token; so many levels may be open.
 pub(crate) fn scan<'a>(
     alloc: Global,
     ground: Context,
     text: &'a [u8],
     at_end: bool,
+    limit: usize,
 ) -> Result<Outcome<'a>, AllocError>
-    ensures { IfOk result (λ r. scanned_in ground at_end text.now ≡ outcome r) }
+    ensures { IfOk result (λ r. scanned_in ground at_end limit text.now ≡ outcome r) }
 {
-    let mut state = State::new(alloc, ground)?;
+    let mut state = State::new(alloc, ground, limit)?;
     let mut held = false;
     let mut at = Marked {
         front: text,

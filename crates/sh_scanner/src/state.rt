@@ -22,10 +22,7 @@ use std::alloc::{AllocError, Global};
 use std::marker::Model;
 use std::mem;
 
-/// How many levels may be open.
-const LEVELS: usize = 500;
-
-/// The open contexts, the pieces so far, a piece that has begun and its bytes.
+/// The open contexts, the pieces so far, a piece that has begun and its bytes; how many levels are open, and how many may be.
 #[derive(Drop)]
 pub(crate) struct State {
     alloc: Global,
@@ -34,6 +31,7 @@ pub(crate) struct State {
     pending: Pending,
     bytes: Vec<u8>,
     levels: usize,
+    limit: usize,
 }
 
 impl Model for State {
@@ -41,13 +39,13 @@ impl Model for State {
 
     ghost Value = { State };
 
-    ghost view = { λ s. record { contexts = s.contexts; done = s.done.items; pending = s.pending; bytes = s.bytes.items; levels = s.levels } };
+    ghost view = { λ s. record { contexts = s.contexts; done = s.done.items; pending = s.pending; bytes = s.bytes.items; levels = s.levels; limit = s.limit } };
 }
 
 impl State {
-    /// At the beginning of a text, in this context.
-    pub(crate) fn new(alloc: Global, ground: Context) -> Result<Self, AllocError>
-        ensures { IfOk result (λ s. s ≡ start ground) }
+    /// At the beginning of a text, in this context, where so many levels may be open.
+    pub(crate) fn new(alloc: Global, ground: Context, limit: usize) -> Result<Self, AllocError>
+        ensures { IfOk result (λ s. s ≡ start ground limit) }
     {
         let contexts = Contexts::new(alloc, ground)?;
         Ok(State {
@@ -57,6 +55,7 @@ impl State {
             pending: Pending::Nothing,
             bytes: Vec::new(alloc),
             levels: 0,
+            limit,
         })
     }
 
@@ -175,7 +174,7 @@ impl State {
     pub(crate) fn open(&mut self, pending: Pending) -> Step
         ensures { opens pending self.old ≡ stepped result self.new }
     {
-        if self.levels >= LEVELS {
+        if self.levels >= self.limit {
             return Step::TooDeep;
         }
         self.levels += 1;

@@ -26,9 +26,9 @@ pub(crate) enum Step {
     Before,
     /// It ends with the character.
     After,
-    /// Level 501 would open with the character.
+    /// A level too many would open with the character.
     TooDeep,
-    /// Level 501 would open with the `$` before it.
+    /// A level too many would open with the `$` before it.
     DollarTooDeep,
 }
 

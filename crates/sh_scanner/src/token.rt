@@ -42,7 +42,7 @@ pub enum TokenFault {
     /// The token, or what lies before it, has a NUL; the first stands at `at` in the text.
     #[error("NUL at byte {at}")]
     NulByte { at: usize },
-    /// More than 500 levels: the piece at `at` opens one too many.
+    /// More levels than may be open: the piece at `at` opens one too many.
     #[error("too deep at byte {at}")]
     TooDeep { at: usize },
     /// There was not enough memory.
@@ -61,19 +61,36 @@ impl From<AllocError> for TokenFault {
     }
 }
 
+/// How many levels a token may have.
+const LEVELS: usize = 500;
+
 /// The first token of the text from the byte at `at` on (XCU 2.3), and why there is none. `at_end`: the
 /// text's end is that of the input. Behind the text nothing stands, so that an `at` there gives `End`, or
 /// `Unfinished` where the input goes on. The bodies of here-documents inside a command substitution belong to the
 /// word (XCU 2.7.4); one that is due where the substitution ends is empty. Bodies of here-documents of the text itself
-/// are for the caller to take.
-#[tactic(auto, unfolding(crate::specs::Found::first_token))]
+/// are for the caller to take. In the token 500 levels may be open.
 pub fn next_token(alloc: Global, text: &[u8], at: usize, at_end: bool) -> Result<Token, TokenFault>
     // The answer is the first token's, by `first_token`, or memory ran out.
-    ensures answers { Gives result (answer_at at (first_token at_end (drop at text.now))) }
+    ensures answers { Gives result (answer_at at (first_token at_end 500 (drop at text.now))) }
+    ensures placed { IfOk result (λ token. IsPlaced at (length text.now) token) }
+{
+    next_token_within(alloc, text, at, at_end, LEVELS)
+}
+
+/// The same where `levels` may be open in the token. No text opens as many levels as it has bytes.
+#[tactic(auto, unfolding(crate::specs::Found::first_token))]
+pub fn next_token_within(
+    alloc: Global,
+    text: &[u8],
+    at: usize,
+    at_end: bool,
+    levels: usize,
+) -> Result<Token, TokenFault>
+    ensures answers { Gives result (answer_at at (first_token at_end levels (drop at text.now))) }
     ensures placed { IfOk result (λ token. IsPlaced at (length text.now) token) }
 {
     let bytes = bytes_from(text, at);
-    match scan(alloc, Context::Top, bytes, at_end)? {
+    match scan(alloc, Context::Top, bytes, at_end, levels)? {
         Outcome::Ended(state, front, rest) => {
             let start = bytes.len().saturating_sub(front.len());
             let end = bytes.len().saturating_sub(rest.len());
@@ -128,5 +145,5 @@ fn first_nul(bytes: &[u8]) -> Option<usize>
 /// `first_token` gives an answer exactly when the text has it by the definition of tokens: each text has one token, or the end
 /// of the input, or one of the faults.
 pub fn first_token_is_the_defined_one()
-    ensures { (e : Bool) (bytes : List ℕ) (answer : FirstToken) → (first_token e bytes ≡ answer) ↔ IsFirst e bytes answer }
+    ensures { (e : Bool) (levels : ℕ) (bytes : List ℕ) (answer : FirstToken) → (first_token e levels bytes ≡ answer) ↔ IsFirst e levels bytes answer }
 {}

@@ -378,18 +378,18 @@ opens_level CommandsOpen = true
 opens_level (Backquoted bs) = true
 opens_level m = false
 
--- the bytes begin with the piece, and may do so in these contexts, there being at most 500 levels
-pub record IsMark (e : Bool) (x : Context) (xs : List Context) (m : Mark) (bytes after : List ℕ) : Type 0 where
+-- the bytes begin with the piece, and may do so in these contexts, of which so many may be levels
+pub record IsMark (e : Bool) (limit : ℕ) (x : Context) (xs : List Context) (m : Mark) (bytes after : List ℕ) : Type 0 where
   pub written : Written e (spell_mark m) bytes after
   pub fits : fits e x m after ≡ true
-  pub level : (opens_level m && not (nat_lt (levels (x ∷ xs)) 500)) ≡ false
+  pub level : (opens_level m && not (nat_lt (levels (x ∷ xs)) limit)) ≡ false
 
 -- the bytes are these pieces, one behind another, and then the rest; `done` and the contexts are what came before
-abbrev pub AreMarks : Bool → List Mark → List Context → List Mark → List ℕ → List ℕ → Type 0
-AreMarks e done xs [] bytes rest = bytes ≡ rest
-AreMarks e done [] (m ∷ ms) bytes rest = ⊥
-AreMarks e done (x ∷ xs) (m ∷ ms) bytes rest =
-    (after : List ℕ) × (IsMark e x xs m bytes after) × AreMarks e (done ++ m ∷ []) (behind done x xs m) ms after rest
+abbrev pub AreMarks : Bool → ℕ → List Mark → List Context → List Mark → List ℕ → List ℕ → Type 0
+AreMarks e limit done xs [] bytes rest = bytes ≡ rest
+AreMarks e limit done [] (m ∷ ms) bytes rest = ⊥
+AreMarks e limit done (x ∷ xs) (m ∷ ms) bytes rest =
+    (after : List ℕ) × (IsMark e limit x xs m bytes after) × AreMarks e limit (done ++ m ∷ []) (behind done x xs m) ms after rest
 
 -- the contexts behind them
 abbrev pub contexts_behind : List Mark → List Context → List Mark → List Context

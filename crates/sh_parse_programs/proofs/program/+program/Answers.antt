@@ -2,6 +2,7 @@ use Rattle.std.proofs.Common.{◌≡◌, suc, ◌-◌, true, Some, None, sym, ap
 use Rattle.std.proofs.lemmas.Grind.{common_steps}
 use Rattle.sh_token_base.specs.Shell.{substitution}
 use Rattle.sh_parse_lines.specs.Waiting.{nothing}
+use Rattle.sh_parse_lines.specs.Stream.{waiting_behind}
 use Rattle.sh_parse_lines.specs.Scanned.{all_items}
 use Rattle.sh_parse_programs.specs.Results.{Gives, GivesFault}
 use Rattle.sh_parse_programs.specs.Leaves.{name_size, assignment_leaf}
@@ -38,7 +39,7 @@ program-returns-in-Err t c =
     subst (λ z. GivesFault c.in-Err.fault (programs z c.args.left c.args.text.now)) n (
     text_fault (c.args.depth - 1) c.args.left c.args.text.now (all_items c.in_ok-found.found) c.loop-item.waiting c.loop-item.rest.now c.loop-item.front c.in-Some.item.now c.in-Some.others.now c.in-Err.fault
     c.in_ok-found.ensures
-    (c.loop-item.invariant ∙ ap (λ z. with_items (programs (c.args.depth - 1)) c.args.left c.args.text.now nothing z (none_of substitution)) c.as_slice-rest.ensures.value)
+    (c.loop-item.invariant.0 ∙ ap (λ z. with_items (programs (c.args.depth - 1)) c.args.left c.args.text.now nothing z (none_of substitution)) c.as_slice-rest.ensures.value)
     (let h = c.in-Some.ensures.cases.0 in cc)
     (subst (λ z. GivesFault c.in-Err.fault (with_item (programs (c.args.depth - 1)) c.args.left c.args.text.now z c.in-Some.item.now c.loop-item.front)) c.due_at-due.ensures c.in-Err.ensures)
     )
@@ -49,7 +50,8 @@ program-returns t c =
     subst (λ z. Gives c.ended_by.result (programs z c.args.left c.args.text.now)) n (
     text_ended (c.args.depth - 1) c.args.left c.args.text.now (all_items c.in_ok-found.found) c.loop-item.waiting c.loop-item.rest.now c.loop-item.front c.ended_by.result
     c.in_ok-found.ensures
-    (c.loop-item.invariant ∙ ap (λ z. with_items (programs (c.args.depth - 1)) c.args.left c.args.text.now nothing z (none_of substitution)) c.as_slice-rest.ensures.value)
+    (c.loop-item.invariant.0 ∙ ap (λ z. with_items (programs (c.args.depth - 1)) c.args.left c.args.text.now nothing z (none_of substitution)) c.as_slice-rest.ensures.value)
+    (c.loop-item.invariant.1 ∙ ap (λ z. waiting_behind nothing z) c.as_slice-rest.ensures.value)
     (none_left c.loop-item.rest.now c.in_default.ensures.cases)
     c.ended_by.ensures
     )

@@ -1,6 +1,7 @@
 use Rattle.std.proofs.Common.{◌≡◌, ◌+◌, ◌-◌, ◌*◌, length}
 use Rattle.sh_token_base.specs.Shell.{substitution}
 use Rattle.sh_parse_lines.specs.Waiting.{nothing}
+use Rattle.sh_parse_lines.specs.Stream.{waiting_behind}
 use Rattle.sh_parse_words.specs.Building.{begun}
 use Rattle.sh_parse_programs.specs.Words.{with_pieces}
 use Rattle.sh_parse_programs.specs.Documents.{with_documents}
@@ -54,7 +55,8 @@ decreases-bodies_of-loop-document l = length l.rest
 
 abbrev pub invariant-program-loop-item : goal.invariant-program-loop-item
 invariant-program-loop-item l =
-    with_items (programs (l.depth - 1)) l.left l.text l.waiting l.rest l.front ≡ with_items (programs (l.depth - 1)) l.left l.text nothing l.initial.rest (none_of substitution)
+    (with_items (programs (l.depth - 1)) l.left l.text l.waiting l.rest l.front ≡ with_items (programs (l.depth - 1)) l.left l.text nothing l.initial.rest (none_of substitution))
+    × (waiting_behind l.waiting l.rest ≡ waiting_behind nothing l.initial.rest)
 
 abbrev pub decreases-program-loop-item : goal.decreases-program-loop-item
 decreases-program-loop-item l = length l.rest
