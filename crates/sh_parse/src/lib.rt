@@ -80,7 +80,8 @@ impl From<AllocError> for ParseFault {
 ///
 /// After `Complete` or `Blank` the next reading begins `used` bytes further on. After `More` it begins at the same byte, in a longer text
 /// or at the end of the input. Where to go on after a fault is for the caller to say; want of memory leaves it open what the text reads
-/// as. The time is linear in the text for each level of its substitutions, and so is the memory.
+/// as. The time is linear in the text for each of the 500 levels that substitutions may have, and so is the memory; delimiters of
+/// here-documents that hold substitutions with such delimiters cost as much once more for each that is around another.
 #[tactic(auto, using(crate::proofs::Turning::fails))]
 pub fn read_command(
     alloc: Global,
