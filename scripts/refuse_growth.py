@@ -52,6 +52,9 @@ ROWS = [
     ("x=1 y=$(cat <in) nosuch 2>f; echo $? >>f; cat <f", 50),
     ("! two a 'b c' | having b", 50),
     ("echo a >/bin; echo $?", 8),
+    ("echo ok\n( echo \"${a-$(b\"", 6),
+    ("echo ok\necho `echo ${a-$(b`", 6),
+    ("echo ok\ncat <<E\n$x${a-$(b\nE\n", 6),
 ]
 
 # scripts of the image that the shell runs, and their turns
