@@ -13,8 +13,8 @@ use Rattle.sh_scanner_base.specs.Heads.{head_of}
 use Rattle.sh_scanner_base.specs.Told.{OfBodies, OfOperator, OfWord}
 use Rattle.sh_scanner_base.specs.Spelling.{spell_mark}
 use Rattle.sh_scanner_base.specs.Marks.{AreMarks, IsMark, behind, braces_of, contexts_behind, is_quoted, levels, parenthesized, with_token, word_over}
-use Rattle.sh_scanner.specs.Body.{BodyPieces, TooDeepAt, IsBody, IsBodyTooDeep}
-use Rattle.sh_scanner.specs.FirstToken.{FirstToken, DeepAt, IsFirst}
+use Rattle.sh_scanner.specs.Body.{TooDeepAt, IsBodyTooDeep}
+use Rattle.sh_scanner.specs.FirstToken.{DeepAt, IsFirst}
 use Rattle.sh_scanner.specs.Found.{first_token, pieces_of_body}
 use Rattle.sh_scanner.specs.Tokens.{IsTooDeep, OpensLevel, braces, parenthesis, backquote}
 use Rattle.sh_scanner.proofs.BodyLaws.{body_law}
