@@ -378,7 +378,7 @@ opens_level CommandsOpen = true
 opens_level (Backquoted bs) = true
 opens_level m = false
 
--- the bytes begin with the piece, and may do so in these contexts, of which so many may be levels
+-- the bytes begin with the piece, and may do so in these contexts, there being at most so many levels (limit)
 pub record IsMark (e : Bool) (limit : ℕ) (x : Context) (xs : List Context) (m : Mark) (bytes after : List ℕ) : Type 0 where
   pub written : Written e (spell_mark m) bytes after
   pub fits : fits e x m after ≡ true
