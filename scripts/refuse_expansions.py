@@ -4,10 +4,10 @@
 In the built program: scripts on the image of the stock programs. A run that a refusal changes must end with 3, the line
 `psh: out of memory` on standard error and, as output, the terminal's bytes after some of the events.
 
-In the test `want_of_memory` of sh_expand, which writes a letter for each case that doesn't come to what it comes to with
+In the test `want_of_memory` of sh_expand_tests, which writes a letter for each case that doesn't come to what it comes to with
 ample memory: `r` for a call that was refused, `u` where memory was wanting beside it; any other is bad.
 
-Needs a C compiler. Build first: ./psh --help, and rt test in crates/sh_expand. The words `program` and `expand` choose one
+Needs a C compiler. Build first: ./psh --help, and rt test in crates/sh_expand_tests. The words `program` and `expand` choose one
 of the two.
 """
 import os
@@ -151,7 +151,7 @@ def main():
         if "program" in chosen:
             bad += refuse_in_program(folder, shim)
         if "expand" in chosen:
-            bad += refuse_in_test("sh_expand", "tests::want_of_memory", shim)
+            bad += refuse_in_test("sh_expand_tests", "tests::want_of_memory", shim)
     return 1 if bad else 0
 
 

@@ -5,6 +5,3 @@ mod conditional;
 mod number;
 
 pub use conditional::{Verdict, evaluate};
-
-#[cfg(test)]
-mod tests;

@@ -3,8 +3,6 @@
 
 mod fork;
 mod redirecting;
-#[cfg(test)]
-mod tests;
 mod transfer;
 mod undo;
 mod undone;

@@ -10,14 +10,8 @@
 //! the line, needs a call beside `split`.
 #![tactic(auto)]
 
-#[cfg(test)]
-mod cases;
 mod expansion;
 mod fields;
-#[cfg(test)]
-mod reading;
-#[cfg(test)]
-mod tests;
 
 pub use expansion::{Expansion, Step};
 pub use sh_expand_parts::{ArithmeticError, Context, Fault};

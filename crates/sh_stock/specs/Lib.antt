@@ -11,5 +11,3 @@ pub mod LineLaws
 pub mod Lines
 pub mod ProgramLaws
 pub mod Programs
-pub mod Twice
-pub mod TwiceLaws

@@ -15,11 +15,7 @@ mod name;
 mod program;
 mod start;
 mod stock;
-#[cfg(test)]
-mod tests;
 mod text;
-#[cfg(test)]
-mod twice;
 
 pub use asking::{Answer, Ask, Turn};
 pub use laws::laws_of_lines;

@@ -1,7 +1,7 @@
 //! The stock programs, turn by turn: over small inputs in reads of one to three bytes, with wrong operands, and with a
 //! read or a write that fails. What each filter writes is also what cat, head, grep -F and wc -c write.
 use crate::twice::WithTwice;
-use crate::{Answer, Ask, NoMemory, Program, Stock, Text};
+use sh_stock::{Answer, Ask, NoMemory, Program, Stock, Text};
 use std::alloc::Global;
 use std::test::Fail;
 
@@ -103,11 +103,11 @@ fn plain_byte(byte: u8) -> u8 {
 
 /// The bytes that are written with `~` for a newline.
 fn plain(alloc: Global, written: &[u8]) -> Result<Text, NoMemory> {
-    let mut text = Text::new(alloc);
+    let mut bytes = Vec::new(alloc);
     for byte in written {
-        text.push(plain_byte(*byte))?;
+        bytes.extend_from_slice(&[plain_byte(*byte)])?;
     }
-    Ok(text)
+    Ok(Text::from(bytes))
 }
 
 /// A command's words, which have commas between them.

@@ -1,9 +1,9 @@
 use Rattle.std.proofs.Common.{◌≡◌, ◌++◌, length}
-use Rattle.sh_stock.specs.Twice.{twice}
-use Rattle.sh_stock.proofs.twice.twice.Given as goal
+use Rattle.sh_process_tests.specs.Twice.{twice}
+use Rattle.sh_process_tests.proofs.twice.twice.Given as goal
 
 abbrev pub invariant-bytes : goal.invariant-bytes
-invariant-bytes l = l.text ++ twice l.rest ≡ twice l.bytes
+invariant-bytes l = l.doubled.items ++ twice l.rest ≡ twice l.bytes
 
 abbrev pub decreases-bytes : goal.decreases-bytes
 decreases-bytes l = length l.rest

@@ -1,6 +1,6 @@
 //! Fields and faults worked out from the standard (XCU 2.6), each also asked of dash and yash.
-use crate::reading::Reader;
-use crate::{ArithmeticError, Context, Expansion, Fault, Step, Wanted, cases};
+use crate::{cases, words};
+use sh_expand::{ArithmeticError, Context, Expansion, Fault, Step, Wanted};
 use sh_files::Files;
 use sh_pattern::Mark;
 use sh_syntax::sequence::Sequence;
@@ -84,9 +84,13 @@ fn operands_of(alloc: Global, column: &[u8]) -> Result<Vec<Text>, AllocError> {
     Ok(operands)
 }
 
-/// A shell with positional parameters.
-fn shell(alloc: Global, ifs: Option<&[u8]>, operands: &[u8]) -> Result<Vars, VarsFault> {
-    let mut vars = Vars::new(alloc)?;
+/// Sets what a shell has before a case.
+fn furnish(
+    alloc: Global,
+    vars: &mut Vars,
+    ifs: Option<&[u8]>,
+    operands: &[u8],
+) -> Result<(), VarsFault> {
     for (name, value) in &VARIABLES {
         vars.set(name, value)?;
     }
@@ -97,7 +101,19 @@ fn shell(alloc: Global, ifs: Option<&[u8]>, operands: &[u8]) -> Result<Vars, Var
         None => vars.unset(b"IFS")?,
     }
     vars.set_positional(operands_of(alloc, operands)?);
-    Ok(vars)
+    Ok(())
+}
+
+/// A shell with positional parameters.
+fn shell(alloc: Global, ifs: Option<&[u8]>, operands: &[u8]) -> Result<Vars, VarsFault> {
+    let mut vars = Vars::new(alloc)?;
+    match furnish(alloc, &mut vars, ifs, operands) {
+        Ok(()) => Ok(vars),
+        Err(fault) => {
+            drop(vars);
+            Err(fault)
+        },
+    }
 }
 
 fn prepare(alloc: Global, case: &Case) -> Result<Ready, VarsFault> {
@@ -108,7 +124,7 @@ fn prepare(alloc: Global, case: &Case) -> Result<Ready, VarsFault> {
     let Ok(files) = Files::from_image(alloc, IMAGE) else {
         return Err(VarsFault::NoMemory);
     };
-    let words = Reader::read(alloc, case.context, case.words)?;
+    let words = words::read(alloc, case.context, case.words)?;
     Ok(Ready { words, vars, files })
 }
 
@@ -195,6 +211,20 @@ fn is_shown_as(alloc: Global, step: &Step, expected: &[u8]) -> Result<bool, Allo
     Ok(text.as_slice() == expected)
 }
 
+/// What a case comes to whose expansion ended so.
+fn outcome_of(alloc: Global, step: Result<Step, AllocError>, expected: &[u8]) -> Outcome {
+    let Ok(step) = step else {
+        return Outcome::Refused;
+    };
+    let shown = is_shown_as(alloc, &step, expected);
+    drop(step);
+    match shown {
+        Ok(true) => Outcome::Right,
+        Ok(false) => Outcome::Wrong,
+        Err(_) => Outcome::Unready,
+    }
+}
+
 fn judged(alloc: Global, case: &Case) -> Outcome {
     let Ok(ready) = prepare(alloc, case) else {
         return Outcome::Unready;
@@ -204,14 +234,10 @@ fn judged(alloc: Global, case: &Case) -> Outcome {
         mut vars,
         files,
     } = ready;
-    let Ok(step) = expanded(alloc, words, &mut vars, &files, case.answer) else {
-        return Outcome::Refused;
-    };
-    match is_shown_as(alloc, &step, case.expected) {
-        Ok(true) => Outcome::Right,
-        Ok(false) => Outcome::Wrong,
-        Err(_) => Outcome::Unready,
-    }
+    let step = expanded(alloc, words, &mut vars, &files, case.answer);
+    drop(vars);
+    drop(files);
+    outcome_of(alloc, step, case.expected)
 }
 
 /// Whether a variable has this value.
@@ -254,9 +280,9 @@ const TEXTS: [(Context, &[u8], &[u8]); 29] = [
     (
         Context::QuotedSingle,
         b"$x-~-*.c-\\$x-${u-w}-$((1+1))-$@",
-        b"[a b-~-*.c-$x-w-2-a b  c]",
+        b"[a b-~-*.c-$x-w-2-a b  c\n]",
     ),
-    (Context::QuotedSingle, b"$*", b"[a b::c]"),
+    (Context::QuotedSingle, b"$*", b"[a b::c\n]"),
 ];
 
 /// Words, the answer to each substitution, and what they come to.
@@ -466,11 +492,16 @@ fn what_was_assigned_before_a_fault_stays(rt: HostRuntime) -> Result<(), Fail> {
         mut vars,
         files,
     } = prepare(alloc, &case)?;
-    let step = expanded(alloc, words, &mut vars, &files, b"")?;
-    assert!(rt; is_shown_as(alloc, &step, case.expected)?);
-    assert!(rt; has(&vars, b"v", b"1"));
-    assert!(rt; has(&vars, b"w", b"2"));
-    assert!(rt; !has(&vars, b"z", b"3"));
+    let step = expanded(alloc, words, &mut vars, &files, b"");
+    let set = [
+        has(&vars, b"v", b"1"),
+        has(&vars, b"w", b"2"),
+        has(&vars, b"z", b"3"),
+    ];
+    drop(vars);
+    drop(files);
+    assert_eq!(rt; outcome_of(alloc, step, case.expected), Outcome::Right);
+    assert_eq!(rt; set, [true, true, false]);
     Ok(())
 }
 
@@ -486,21 +517,41 @@ fn no_pathnames_under_an_option(rt: HostRuntime) -> Result<(), Fail> {
     let mut options = vars.options();
     options.no_glob = true;
     vars.set_options(options);
-    let step = expanded(alloc, words, &mut vars, &files, b"")?;
-    assert!(rt; is_shown_as(alloc, &step, case.expected)?);
+    let step = expanded(alloc, words, &mut vars, &files, b"");
+    drop(vars);
+    drop(files);
+    assert_eq!(rt; outcome_of(alloc, step, case.expected), Outcome::Right);
     Ok(())
+}
+
+/// The pattern that words are.
+fn pattern_of(
+    alloc: Global,
+    words: Sequence<Wanted>,
+    vars: &mut Vars,
+    files: &Files,
+) -> Result<Vec<Mark>, AllocError> {
+    let (expansion, step) = Expansion::start(alloc, words, vars, files)?;
+    drop(step);
+    let pattern = expansion.pattern(alloc);
+    drop(expansion);
+    pattern
 }
 
 /// A word as a pattern, a literal byte behind a `\\`.
 fn pattern(alloc: Global, word: &[u8]) -> Result<Vec<u8>, VarsFault> {
-    let mut vars = shell(alloc, Some(b":"), b"")?;
-    let Ok(files) = Files::from_image(alloc, IMAGE) else {
-        return Err(VarsFault::NoMemory);
-    };
+    let mut case = command(word, b"");
+    case.context = Context::Single;
+    let Ready {
+        words,
+        mut vars,
+        files,
+    } = prepare(alloc, &case)?;
+    let marks = pattern_of(alloc, words, &mut vars, &files);
+    drop(vars);
+    drop(files);
     let mut text = Vec::new(alloc);
-    let words = Reader::read(alloc, Context::Single, word)?;
-    let (expansion, _) = Expansion::start(alloc, words, &mut vars, &files)?;
-    put_pattern(&mut text, expansion.pattern(alloc)?.as_slice())?;
+    put_pattern(&mut text, marks?.as_slice())?;
     Ok(text)
 }
 

@@ -1,5 +1,5 @@
 //! Conditions of `test`, worked out from the standard; those that ask nothing of files were also put to dash.
-use crate::{Verdict, evaluate};
+use sh_builtin_base::{Verdict, evaluate};
 use sh_files::Files;
 use sh_syntax::memory::NoMemory;
 use sh_syntax::sequence::{Sequence, Text};

@@ -1,8 +1,8 @@
 // `twice`, beside the programs of another kind: a kind of program that has a filter of its own, by the laws alone.
 ghost use Rattle.std.specs.Prelude.{◌≡◌, IfOk, Option};
-ghost use Rattle.sh_stock.specs.Twice.{twice, twice_ask};
+ghost use Rattle.sh_process_tests.specs.Twice.{twice, twice_ask};
 
-use crate::{Answer, Ask, Filter, NoMemory, Stock, Text};
+use sh_stock::{Answer, Ask, Filter, NoMemory, Stock, Text};
 use std::alloc::Global;
 use std::marker::Model;
 
@@ -21,8 +21,8 @@ impl<S> Model for WithTwice<S> {
 }
 
 impl<S: Stock> Stock for WithTwice<S> {
-    ghost use Rattle.sh_stock.specs.Twice.{with_twice};
-    ghost use Rattle.sh_stock.specs.TwiceLaws.{with_twice-laws};
+    ghost use Rattle.sh_process_tests.specs.Twice.{with_twice};
+    ghost use Rattle.sh_process_tests.specs.TwiceLaws.{with_twice-laws};
 
     ghost meaning = { with_twice S.meaning };
 
@@ -51,8 +51,8 @@ impl<S: Stock> Stock for WithTwice<S> {
 }
 
 impl<S: Filter> Filter for WithTwice<S> {
-    ghost use Rattle.sh_stock.specs.Twice.{with_twice_filtering};
-    ghost use Rattle.sh_stock.specs.TwiceLaws.{with_twice-filter_laws};
+    ghost use Rattle.sh_process_tests.specs.Twice.{with_twice_filtering};
+    ghost use Rattle.sh_process_tests.specs.TwiceLaws.{with_twice-filter_laws};
 
     ghost filtering = { with_twice_filtering S.filtering };
 
@@ -63,14 +63,13 @@ impl<S: Filter> Filter for WithTwice<S> {
 fn twice(alloc: Global, bytes: &[u8]) -> Result<Text, NoMemory>
     ensures { IfOk result (λ text. text ≡ twice bytes.now) }
 {
-    let mut text = Text::new(alloc);
+    let mut doubled = Vec::new(alloc);
     let mut rest = bytes;
     'bytes: while let Some((byte, others)) = rest.split_first() {
-        text.push(*byte)?;
-        text.push(*byte)?;
+        doubled.extend_from_slice(&[*byte, *byte])?;
         rest = others;
     }
-    Ok(text)
+    Ok(Text::from(doubled))
 }
 
 /// What `twice` asks next.
@@ -80,7 +79,7 @@ fn twice_ask(alloc: Global, answer: Answer) -> Result<Ask, NoMemory>
     match answer {
         Answer::Started => Ok(Ask::Read(1024)),
         Answer::Bytes(bytes) => {
-            if bytes.is_empty() {
+            if bytes.as_bytes().is_empty() {
                 return Ok(Ask::End(0));
             }
             Ok(Ask::Write(twice(alloc, bytes.as_bytes())?))

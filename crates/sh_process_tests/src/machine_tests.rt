@@ -1,6 +1,6 @@
 //! Processes between pipes, and a redirection that is undone, with ample memory.
-use crate::{fork_process, redirect, restore_all};
 use sh_exec_base::redirection::{Action, Redirection};
+use sh_exec_machine::{fork_process, redirect, restore_all};
 use sh_files::{Files, Opening};
 use sh_kernel::{Kernel, KernelFault, Name};
 use sh_syntax::sequence::Sequence;
