@@ -100,7 +100,7 @@ all_pieces e limit (m ∷ ms) done (x ∷ xs) bytes rest a =
     omega (one, others, arith)
 
 -- where a level opens there is a byte
-opens_some : (e : Bool) (place : List ℕ) → OpensLevel e place → 0 < length place
+pub opens_some : (e : Bool) (place : List ℕ) → OpensLevel e place → 0 < length place
 opens_some e place (braces after w) = let a = written_some e (Plain 36) (Plain 123 ∷ []) place after w in omega (a, arith)
 opens_some e place (parenthesis after w) = let a = written_some e (Plain 36) (Plain 40 ∷ []) place after w in omega (a, arith)
 opens_some e place (backquote after w) = let a = written_some e (Plain 96) [] place after w in omega (a, arith)

@@ -1,5 +1,5 @@
 //! Laws on words.
-ghost use Rattle.std.specs.Prelude.{◌≡◌, ◌≤◌, ℕ, Bool, true, List, ◌++◌, length, Ok};
+ghost use Rattle.std.specs.Prelude.{◌≡◌, ◌≤◌, ◌<◌, ◌^◌, ℕ, Bool, true, List, ◌∷◌, ◌++◌, length, Ok, Err};
 ghost use Rattle.std.specs.List.{list_all};
 ghost use Rattle.sh_scanner_base.specs.Told.{is_byte};
 ghost use Rattle.sh_scanner.specs.Body.{IsFront, TooDeepAt};
@@ -7,11 +7,19 @@ ghost use Rattle.sh_scanner.specs.FirstToken.{DeepAt};
 ghost use Rattle.sh_scanner.specs.Found.{first_token, pieces_of_body};
 ghost use Rattle.sh_scanner.specs.Tokens.{HasToken};
 ghost use Rattle.sh_scanner.specs.declared.token.TokenKind.{TokenKind};
+ghost use Rattle.sh_scanner_base.specs.declared.here.Delimiter.{Delimiter};
 ghost use Rattle.sh_scanner_base.specs.declared.mark.Mark.{Mark};
 ghost use Rattle.sh_tree.specs.declared.tree.Part.{Part};
-ghost use Rattle.sh_parse_programs.specs.Words.{Reader, parts_in};
+ghost use Rattle.sh_parse_lines.specs.declared.item.Item.{Item};
+ghost use Rattle.sh_parse_lines.specs.Stream.{items_of};
+ghost use Rattle.sh_parse_words.specs.declared.fault.PartFault.{PartFault};
 ghost use Rattle.sh_parse_words.specs.Building.{parts_of};
+ghost use Rattle.sh_parse_programs.specs.Documents.{bodies_of};
+ghost use Rattle.sh_parse_programs.specs.Leaves.{leaf_of};
+ghost use Rattle.sh_parse_programs.specs.Programs.{read_text};
+ghost use Rattle.sh_parse_programs.specs.Words.{Reader, parts_in};
 ghost use Rattle.sh_parse_laws.specs.Spelled.{AreSpelled, Nested};
+ghost use Rattle.sh_parse_laws.specs.Standing.{Stands};
 
 /// Law: where the pieces of a word, or of a here-document's body, spell some parts, the reader gives these parts and no others (XCU 2.2,
 /// 2.6).
@@ -42,4 +50,12 @@ pub fn words_are_nested()
 pub fn no_text_opens_a_level_for_each_byte()
     ensures tokens { (at_end : Bool) (levels : ℕ) (bytes : List ℕ) (place : ℕ) → length bytes ≤ levels → first_token at_end levels bytes ≡ DeepAt place → ⊥ }
     ensures bodies { (levels : ℕ) (bytes : List ℕ) (place : ℕ) → length bytes ≤ levels → pieces_of_body levels bytes ≡ TooDeepAt place → ⊥ }
+{}
+
+/// Law: a fault in a word stands in that word, also one in the commands of a substitution there, and a fault in the bodies of here-documents
+/// behind a token stands in these bodies. So no fault of a token stands before one of a token that comes earlier, and the first that is
+/// found is the one at the least place. A text is shorter than what a place can tell.
+pub fn faults_stand_in_their_words()
+    ensures words { (at_end : Bool) (text : List ℕ) → length text < 2 ^ 64 → (before : List Item) (t : Item) (after : List Item) → (items_of at_end text).items ≡ before ++ t ∷ after → (left : ℕ) (f : PartFault) → leaf_of read_text left text t.token.kind t.token.span ≡ Err f → Stands t.token.span.start t.token.span.«end» f }
+    ensures bodies { (left : ℕ) (text : List ℕ) (due : List Delimiter) (t : Item) (f : PartFault) → t.token.span.«end» ≤ t.«end» → bodies_of read_text left text due t ≡ Err f → Stands t.token.span.«end» t.«end» f }
 {}
