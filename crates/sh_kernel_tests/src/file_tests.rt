@@ -77,6 +77,10 @@ pub(crate) fn holds(
 }
 
 /// Whether a path names a file of these bytes.
+fn finds_nothing(files: &Files, directory: &[u8], path: &[u8]) -> bool {
+    matches!(files.find(directory, path), Ok(None))
+}
+
 fn finds(files: &Files, directory: &[u8], path: &[u8], bytes: &[u8]) -> bool {
     match files.find(directory, path) {
         Ok(Some(Node::File(file))) => file.bytes() == bytes,
@@ -176,28 +180,25 @@ fn opening(rt: HostRuntime) {
         assert!(rt; false);
         return;
     };
-    assert_eq!(rt;
-        open(&mut files, b"/", b"x/", WRITE),
-        Err(FileFault::NoEntry)
-    );
-    assert_eq!(rt;
-        open(&mut files, b"/", b"e/", WRITE),
-        Err(FileFault::NotDirectory)
-    );
-    assert_eq!(rt;
-        open(&mut files, b"/", b"../..", WRITE),
-        Err(FileFault::IsDirectory)
-    );
-    assert_eq!(rt;
-        open(&mut files, b"/", b"e", NO_CLOBBER),
-        Err(FileFault::Exists)
-    );
-    assert_eq!(rt;
-        open(&mut files, b"/dev", b"x", WRITE),
-        Err(FileFault::NoAccess)
-    );
-    assert_eq!(rt; open(&mut files, b"/", b"dev/null", NO_CLOBBER), Ok(2));
-    assert_eq!(rt; open(&mut files, b"/d", b"new", NO_CLOBBER), Ok(7));
+    for (directory, path, how, expected) in [
+        (
+            b"/".as_slice(),
+            b"x/".as_slice(),
+            WRITE,
+            Err(FileFault::NoEntry),
+        ),
+        (b"/", b"e/", WRITE, Err(FileFault::NotDirectory)),
+        (b"/", b"../..", WRITE, Err(FileFault::IsDirectory)),
+        (b"/", b"e", NO_CLOBBER, Err(FileFault::Exists)),
+        (b"/dev", b"x", WRITE, Err(FileFault::NoAccess)),
+        (b"/", b"dev/null", NO_CLOBBER, Ok(2)),
+        (b"/d", b"new", NO_CLOBBER, Ok(7)),
+    ] {
+        assert_eq!(rt;
+            (path, open(&mut files, directory, path, how)),
+            (path, expected)
+        );
+    }
 }
 
 #[test]
@@ -221,11 +222,15 @@ fn writing(rt: HostRuntime) {
 #[test]
 fn finding(rt: HostRuntime) -> Result<(), Fail> {
     let files = image(rt, SMALL)?;
-    assert!(rt; finds(&files, b"/d", b"a b", b"x\ny"));
-    assert!(rt; finds(&files, b"/d", b"../e", b""));
-    assert!(rt; files.find(b"/", b"a b")?.is_none());
-    assert!(rt; files.find(b"/", b"e/")?.is_none());
-    assert!(rt; matches!(files.find(b"/d", b"..")?, Some(Node::Directory)));
+    let found = [
+        finds(&files, b"/d", b"a b", b"x\ny"),
+        finds(&files, b"/d", b"../e", b""),
+        finds_nothing(&files, b"/", b"a b"),
+        finds_nothing(&files, b"/", b"e/"),
+        matches!(files.find(b"/d", b".."), Ok(Some(Node::Directory))),
+    ];
+    drop(files);
+    assert_eq!(rt; found, [true, true, true, true, true]);
     Ok(())
 }
 

@@ -8,15 +8,14 @@ fn marks(alloc: Global, pattern: &[u8]) -> Result<Vec<Mark>, AllocError> {
     let mut all = Vec::new(alloc);
     let mut literal = false;
     for byte in pattern {
-        if *byte == b'\\' && !literal {
-            literal = true;
-        } else {
+        let escapes = *byte == b'\\' && !literal;
+        if !escapes {
             all.push(Mark {
                 byte: *byte,
                 literal,
             })?;
-            literal = false;
         }
+        literal = escapes;
     }
     Ok(all)
 }

@@ -24,13 +24,28 @@ fn a_small_pipe(rt: HostRuntime) -> Result<(), Fail> {
     let bytes = vec![in alloc; b'x'; 600]?;
     let mut most = [0u8; 87];
     let mut one_more = [0u8; 1];
-    assert_eq!(rt; pipe.write(&bytes, true), Ok(512));
-    assert_eq!(rt; pipe.read_into(&mut most, true), Ok(87));
-    assert_eq!(rt; pipe.write(&bytes[..88], true), Err(WouldWait));
-    assert_eq!(rt; pipe.read_into(&mut one_more, true), Ok(1));
-    assert_eq!(rt; pipe.write(&bytes[..88], true), Ok(88));
-    assert_eq!(rt; pipe.write(&bytes, true), Err(WouldWait));
-    assert_eq!(rt; pipe.write(&bytes[..0], true), Ok(0));
+    let taken = [
+        pipe.write(&bytes, true),
+        pipe.read_into(&mut most, true),
+        pipe.write(&bytes[..88], true),
+        pipe.read_into(&mut one_more, true),
+        pipe.write(&bytes[..88], true),
+        pipe.write(&bytes, true),
+        pipe.write(&bytes[..0], true),
+    ];
+    drop(pipe);
+    assert_eq!(rt;
+        taken,
+        [
+            Ok(512),
+            Ok(87),
+            Err(WouldWait),
+            Ok(1),
+            Ok(88),
+            Err(WouldWait),
+            Ok(0)
+        ]
+    );
     Ok(())
 }
 
