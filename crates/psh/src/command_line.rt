@@ -2,14 +2,26 @@
 use crate::usage;
 use crate::usage::UsageFault;
 use clap::error::ErrorKind;
-use clap::{Arg, ArgAction, Command, Error};
+use clap::{Arg, ArgAction, ArgMatches, Command, Error};
 use sh_syntax::sequence::Sequence;
 use sh_vars::{Options, Text};
 use sh_world::{Settings, Source};
 use std::alloc::{AllocError, Global};
 
-/// The options and operands of psh.
-fn command<'a>(alloc: Global) -> Result<Command<'a>, AllocError> {
+/// The operands behind the two files.
+fn words_operand<'a>(alloc: Global) -> Result<Arg<'a>, AllocError> {
+    Ok(
+        Arg::new(alloc, "words")
+            .value_name("WORDS")
+            .help("The script's path in the image, or with -c $0; and the positional parameters")
+            .required_unless_present("text")?
+            .num_args(0..)
+            .action(ArgAction::Append),
+    )
+}
+
+/// The options and operands of psh but for its words.
+fn command_without_words<'a>(alloc: Global) -> Result<Command<'a>, AllocError> {
     Command::new(alloc, "psh")
         .about("Runs a shell script over a modelled machine, by stated turns of its processes")
         .arg(
@@ -33,17 +45,19 @@ fn command<'a>(alloc: Global) -> Result<Command<'a>, AllocError> {
                 .help("The file with the events, a line each")
                 .required(true)
                 .action(ArgAction::Set),
-        )?
-        .arg(
-            Arg::new(alloc, "words")
-                .value_name("WORDS")
-                .help(
-                    "The script's path in the image, or with -c $0; and the positional parameters",
-                )
-                .required_unless_present("text")?
-                .num_args(0..)
-                .action(ArgAction::Append),
         )
+}
+
+/// The options and operands of psh.
+fn command<'a>(alloc: Global) -> Result<Command<'a>, AllocError> {
+    let command = command_without_words(alloc)?;
+    match words_operand(alloc) {
+        Ok(words) => command.arg(words),
+        Err(error) => {
+            drop(command);
+            Err(error)
+        },
+    }
 }
 
 /// What clap says of words that are not in order.
@@ -81,6 +95,20 @@ fn settings(alloc: Global, text: Option<&str>, words: &[&str]) -> Result<Setting
     })
 }
 
+/// What a command line that is in order asks for.
+fn asked_by(alloc: Global, matches: &ArgMatches) -> Result<usage::Asked, UsageFault> {
+    let image = String::from_str(alloc, matches.get_str("image").unwrap_or(""))?;
+    let events = String::from_str(alloc, matches.get_str("events").unwrap_or(""))?;
+    let words = matches.get_strs("words").unwrap_or(&[]);
+    let settings = settings(alloc, matches.get_str("text"), words)?;
+    Ok(usage::Asked {
+        settings,
+        report: false,
+        image,
+        events,
+    })
+}
+
 /// What the words behind the program's name ask for.
 pub fn asked(alloc: Global, words: &[String]) -> Result<usage::Asked, UsageFault> {
     let mut all = Vec::new(alloc);
@@ -92,14 +120,7 @@ pub fn asked(alloc: Global, words: &[String]) -> Result<usage::Asked, UsageFault
         Ok(matches) => matches,
         Err(error) => return Err(fault_of(alloc, &error)),
     };
-    let text = matches.get_str("text");
-    let words = matches.get_strs("words").unwrap_or(&[]);
-    let image = matches.get_str("image").unwrap_or("");
-    let events = matches.get_str("events").unwrap_or("");
-    Ok(usage::Asked {
-        settings: settings(alloc, text, words)?,
-        report: false,
-        image: String::from_str(alloc, image)?,
-        events: String::from_str(alloc, events)?,
-    })
+    let asked = asked_by(alloc, &matches);
+    drop(matches);
+    asked
 }

@@ -1,6 +1,6 @@
 //! One run of the program, over what its files hold.
 use crate::events::{EventFault, Turns, read_events};
-use sh_files::{FaultKind, Files};
+use sh_files::{FaultKind, Files, ImageFault};
 use sh_stock::Program;
 use sh_syntax::memory::NoMemory;
 use sh_world::{Settings, World};
@@ -30,6 +30,22 @@ fn refuse(alloc: Global, err: &mut Vec<u8>, fault: impl Display + Drop) -> u8 {
     }
 }
 
+/// The same of an image.
+fn refuse_image(alloc: Global, err: &mut Vec<u8>, fault: ImageFault) -> u8 {
+    match fault.kind {
+        FaultKind::NoMemory => lack(alloc, err),
+        _ => refuse(alloc, err, fault),
+    }
+}
+
+/// The same of events.
+fn refuse_events(alloc: Global, err: &mut Vec<u8>, fault: EventFault) -> u8 {
+    match fault {
+        EventFault::NoMemory => lack(alloc, err),
+        EventFault::BadEvent { .. } => refuse(alloc, err, fault),
+    }
+}
+
 /// Gives a world its turns.
 fn drive(world: &mut World<Program>, all: &[Turns]) -> Result<(), NoMemory> {
     for turns in all {
@@ -38,6 +54,27 @@ fn drive(world: &mut World<Program>, all: &[Turns]) -> Result<(), NoMemory> {
         }
     }
     Ok(())
+}
+
+/// Runs a shell on these files by these turns.
+fn run(
+    alloc: Global,
+    settings: Settings,
+    files: Files,
+    all: &[Turns],
+    out: &mut Vec<u8>,
+    err: &mut Vec<u8>,
+) -> u8 {
+    let Ok(mut world) = World::<Program>::new(alloc, files, settings) else {
+        return lack(alloc, err);
+    };
+    let driven = drive(&mut world, all);
+    let shown = out.extend_from_slice(world.terminal());
+    drop(world);
+    if shown.is_err() || driven.is_err() {
+        return lack(alloc, err);
+    }
+    0
 }
 
 /// Runs a shell on the files of `image` by the turns of `events`, both given whole. The image is checked
@@ -60,27 +97,16 @@ pub fn serve(
     let files = match Files::from_image(alloc, image) {
         Ok(files) => files,
         Err(fault) => {
-            if fault.kind == FaultKind::NoMemory {
-                return lack(alloc, err);
-            }
-            return refuse(alloc, err, fault);
+            drop(settings);
+            return refuse_image(alloc, err, fault);
         },
     };
-    let all = match read_events(alloc, events) {
-        Ok(all) => all,
+    match read_events(alloc, events) {
+        Ok(all) => run(alloc, settings, files, &all, out, err),
         Err(fault) => {
-            if fault == EventFault::NoMemory {
-                return lack(alloc, err);
-            }
-            return refuse(alloc, err, fault);
+            drop(settings);
+            drop(files);
+            refuse_events(alloc, err, fault)
         },
-    };
-    let Ok(mut world) = World::<Program>::new(alloc, files, settings) else {
-        return lack(alloc, err);
-    };
-    let driven = drive(&mut world, &all);
-    if out.extend_from_slice(world.terminal()).is_err() || driven.is_err() {
-        return lack(alloc, err);
     }
-    0
 }
