@@ -177,7 +177,7 @@ const MIXED: [Case; 26] = [
 
 #[test]
 fn lines(rt: HostRuntime) -> Result<(), Fail> {
-    for (typed, echo, raised, got) in LINES {
+    for (typed, echo, raised, got) in &LINES {
         assert!(rt; acts(rt.alloc(), typed, echo, raised, got)?, "{typed:?}");
     }
     Ok(())
@@ -193,7 +193,7 @@ fn signal_keys(rt: HostRuntime) -> Result<(), Fail> {
 
 #[test]
 fn mixed(rt: HostRuntime) -> Result<(), Fail> {
-    for (typed, echo, raised, got) in MIXED {
+    for (typed, echo, raised, got) in &MIXED {
         assert!(rt; acts(rt.alloc(), typed, echo, raised, got)?, "{typed:?}");
     }
     Ok(())
