@@ -273,17 +273,23 @@ fn paths_of(
 }
 
 /// The place of the first case with other paths.
-fn first_wrong_path(rt: HostRuntime) -> Result<Option<usize>, AllocError> {
-    let Ok(files) = Files::from_image(rt.alloc(), IMAGE) else {
-        return Ok(Some(PATHS.len()));
-    };
+fn wrong_path_among(alloc: Global, files: &Files) -> Result<Option<usize>, AllocError> {
     for (i, (directory, word, expected)) in PATHS.iter().enumerate() {
-        let text = paths_of(rt.alloc(), &files, directory, word)?;
+        let text = paths_of(alloc, files, directory, word)?;
         if text.as_slice() != *expected {
             return Ok(Some(i));
         }
     }
     Ok(None)
+}
+
+fn first_wrong_path(rt: HostRuntime) -> Result<Option<usize>, AllocError> {
+    let Ok(files) = Files::from_image(rt.alloc(), IMAGE) else {
+        return Ok(Some(PATHS.len()));
+    };
+    let wrong = wrong_path_among(rt.alloc(), &files);
+    drop(files);
+    wrong
 }
 
 #[test]

@@ -54,16 +54,23 @@ fn ends(rt: HostRuntime) -> Result<(), Fail> {
     let alloc = rt.alloc();
     let mut pipe = Pipe::new(alloc, 4096)?;
     let mut buf = [b'.'; 4];
-    assert_eq!(rt; pipe.read_into(&mut buf, true), Err(WouldWait));
-    assert_eq!(rt; pipe.read_into(&mut buf, false), Ok(0));
-    assert_eq!(rt; pipe.write(b"abcdef", false), Err(NoReader));
-    assert_eq!(rt; pipe.write(b"abcdef", true), Ok(6));
-    assert_eq!(rt; pipe.read_into(&mut buf, false), Ok(4));
-    assert_eq!(rt; buf, *b"abcd");
-    assert_eq!(rt; pipe.read_into(&mut buf, true), Ok(2));
-    assert_eq!(rt; buf, *b"efcd");
-    assert_eq!(rt; pipe.read_into(&mut buf, false), Ok(0));
-    assert_eq!(rt; pipe.read_into(&mut buf, true), Err(WouldWait));
+    let begun = [
+        pipe.read_into(&mut buf, true),
+        pipe.read_into(&mut buf, false),
+        pipe.write(b"abcdef", false),
+        pipe.write(b"abcdef", true),
+        pipe.read_into(&mut buf, false),
+    ];
+    let four = buf;
+    let ended = [
+        pipe.read_into(&mut buf, true),
+        pipe.read_into(&mut buf, false),
+        pipe.read_into(&mut buf, true),
+    ];
+    drop(pipe);
+    assert_eq!(rt; begun, [Err(WouldWait), Ok(0), Err(NoReader), Ok(6), Ok(4)]);
+    assert_eq!(rt; (four, buf), (*b"abcd", *b"efcd"));
+    assert_eq!(rt; ended, [Ok(2), Ok(0), Err(WouldWait)]);
     Ok(())
 }
 

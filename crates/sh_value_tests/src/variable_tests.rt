@@ -1,6 +1,7 @@
 // Values from the standard, and from what dash and bash answer.
 
 use sh_vars::{Entry, Options, ShellOption, Text, Vars, VarsFault, is_name};
+use std::alloc::Global;
 use std::process::Abort;
 use std::test::Fail;
 
@@ -117,19 +118,31 @@ fn assign_for_a_time(vars: &mut Vars) -> Result<(), VarsFault> {
     vars.make_readonly(b"PATH")
 }
 
+/// Assigns for a time, and undoes it.
+fn undo(alloc: Global, vars: &mut Vars) -> Result<(), VarsFault> {
+    let Some(entry) = vars.variable(b"PATH") else {
+        return Err(VarsFault::NoMemory);
+    };
+    let before = entry.copy(alloc)?;
+    if let Err(fault) = assign_for_a_time(vars) {
+        drop(before);
+        return Err(fault);
+    }
+    vars.put(before)?;
+    Ok(())
+}
+
 /// What a built-in was given for its time is undone, attributes included.
 #[test]
 fn undone_assignment(rt: HostRuntime) -> Result<(), Fail> {
     let mut vars = Vars::new(rt.alloc())?;
-    let before = match vars.variable(b"PATH") {
-        Some(entry) => entry.copy(rt.alloc())?,
-        None => return Ok(()),
-    };
-    assign_for_a_time(&mut vars)?;
-    vars.put(before)?;
+    let undone = undo(rt.alloc(), &mut vars);
     has_starting_variables(&rt, &vars);
     vars.forget(b"PATH");
-    assert!(rt; vars.get(b"PATH").is_none());
+    let is_gone = vars.get(b"PATH").is_none();
+    drop(vars);
+    assert_eq!(rt; undone, Ok(()));
+    assert!(rt; is_gone);
     Ok(())
 }
 
