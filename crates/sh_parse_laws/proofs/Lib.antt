@@ -6,3 +6,4 @@ pub mod Pieces
 pub mod Standing
 pub mod Words
 pub mod Bodies
+pub mod Faults

@@ -14,6 +14,7 @@ ghost use Rattle.sh_parse_lines.specs.declared.item.Item.{Item};
 ghost use Rattle.sh_parse_lines.specs.Stream.{items_of};
 ghost use Rattle.sh_parse_words.specs.declared.fault.PartFault.{PartFault};
 ghost use Rattle.sh_parse_words.specs.Building.{parts_of};
+ghost use Rattle.sh_parse_programs.specs.Defined.{FirstFault, Judge};
 ghost use Rattle.sh_parse_programs.specs.Documents.{bodies_of};
 ghost use Rattle.sh_parse_programs.specs.Leaves.{leaf_of};
 ghost use Rattle.sh_parse_programs.specs.Programs.{read_text};
@@ -53,9 +54,11 @@ pub fn no_text_opens_a_level_for_each_byte()
 {}
 
 /// Law: a fault in a word stands in that word, also one in the commands of a substitution there, and a fault in the bodies of here-documents
-/// behind a token stands in these bodies. So no fault of a token stands before one of a token that comes earlier, and the first that is
-/// found is the one at the least place. A text is shorter than what a place can tell.
+/// behind a token stands in these bodies. So the first fault of a text's tokens, however they are judged, stands between the first byte of
+/// the token that has it and the end of the bodies behind that: before it all tokens are taken, and no later one can have a fault at a
+/// lesser place. A text is shorter than what a place can tell.
 pub fn faults_stand_in_their_words()
     ensures words { (at_end : Bool) (text : List ℕ) → length text < 2 ^ 64 → (before : List Item) (t : Item) (after : List Item) → (items_of at_end text).items ≡ before ++ t ∷ after → (left : ℕ) (f : PartFault) → leaf_of read_text left text t.token.kind t.token.span ≡ Err f → Stands t.token.span.start t.token.span.«end» f }
     ensures bodies { (left : ℕ) (text : List ℕ) (due : List Delimiter) (t : Item) (f : PartFault) → t.token.span.«end» ≤ t.«end» → bodies_of read_text left text due t ≡ Err f → Stands t.token.span.«end» t.«end» f }
+    ensures first { (at_end : Bool) (text : List ℕ) → length text < 2 ^ 64 → (judge : Judge) → judge.read ≡ read_text → judge.text ≡ text → (f : PartFault) (first : FirstFault judge (items_of at_end text).items f) → Stands first.token.token.span.start first.token.«end» f }
 {}

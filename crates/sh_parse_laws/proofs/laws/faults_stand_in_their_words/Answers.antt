@@ -1,4 +1,5 @@
 use Rattle.sh_parse_laws.proofs.Bodies.{bodies_stand}
+use Rattle.sh_parse_laws.proofs.Faults.{first_stands}
 use Rattle.sh_parse_laws.proofs.Words.{faults_stand}
 use Rattle.sh_parse_laws.proofs.laws.faults_stand_in_their_words.Goals as goal
 
@@ -7,3 +8,6 @@ returns-clause-words c = faults_stand
 
 pub returns-clause-bodies : goal.returns-clause-bodies
 returns-clause-bodies c = bodies_stand
+
+pub returns-clause-first : goal.returns-clause-first
+returns-clause-first c = first_stands
