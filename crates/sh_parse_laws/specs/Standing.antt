@@ -1,4 +1,4 @@
--- Where a fault stands: in the bytes from a place up to, not including, another.
+-- Where a fault stands: in the bytes from a place up to, not including, another. Want of memory has no place, and nothing is said of it.
 use Rattle.std.specs.Prelude.{ℕ, ◌≤◌, ◌<◌}
 use Rattle.sh_parse_words.specs.declared.fault.PartFault.{PartFault}
 use Rattle.sh_parse_words.specs.declared.fault.PartFault.TheVariants as fault

@@ -55,8 +55,7 @@ pub fn no_text_opens_a_level_for_each_byte()
 
 /// Law: a fault in a word stands in that word, also one in the commands of a substitution there, and a fault in the bodies of here-documents
 /// behind a token stands in these bodies. So the first fault of a text's tokens, however they are judged, stands between the first byte of
-/// the token that has it and the end of the bodies behind that: before it all tokens are taken, and no later one can have a fault at a
-/// lesser place. A text is shorter than what a place can tell.
+/// the token that has it and the end of the bodies behind that. A text is shorter than what a place can tell. Want of memory has no place.
 pub fn faults_stand_in_their_words()
     ensures words { (at_end : Bool) (text : List ℕ) → length text < 2 ^ 64 → (before : List Item) (t : Item) (after : List Item) → (items_of at_end text).items ≡ before ++ t ∷ after → (left : ℕ) (f : PartFault) → leaf_of read_text left text t.token.kind t.token.span ≡ Err f → Stands t.token.span.start t.token.span.«end» f }
     ensures bodies { (left : ℕ) (text : List ℕ) (due : List Delimiter) (t : Item) (f : PartFault) → t.token.span.«end» ≤ t.«end» → bodies_of read_text left text due t ≡ Err f → Stands t.token.span.«end» t.«end» f }
