@@ -220,13 +220,19 @@ fn faults(rt: HostRuntime) -> Result<(), Fail> {
 
 const NOT_SERVED: [Row; 8] = [
     ("echo a; echo $(b &)", "psh: syntax error\n"),
-    ("echo a; echo \"${x-\"$(b && c)\"}\"", "psh: syntax error\n"),
-    ("echo a; x=${y%$(b || c)}", "psh: syntax error\n"),
-    ("echo a; echo $((1+$( (b) )))", "psh: syntax error\n"),
+    (
+        "echo a; echo \"${x-\"$(b && c &)\"}\"",
+        "psh: syntax error\n",
+    ),
+    (
+        "echo a; x=${y%$(case b in b) c;; esac)}",
+        "psh: syntax error\n",
+    ),
+    ("echo a; echo $((1+$( (b) >f )))", "psh: syntax error\n"),
     ("echo a\necho b &", "a\npsh: syntax error\n"),
-    ("echo a | (echo b)", "psh: syntax error\n"),
-    ("! { echo a; }", "psh: syntax error\n"),
-    ("if echo a; then echo b; fi", "psh: syntax error\n"),
+    ("echo a | (echo b) >f", "psh: syntax error\n"),
+    ("! { echo a; } >f", "psh: syntax error\n"),
+    ("if echo a; then f() { b; }; fi", "psh: syntax error\n"),
 ];
 
 #[test]

@@ -158,7 +158,7 @@ const REFUSED: [Run; 6] = [
     ("echo 'a", "psh: syntax error\n", 2),
     ("echo a\necho \"", "a\npsh: syntax error\n", 2),
     ("echo ok\necho `a &`", "ok\npsh: syntax error\n", 2),
-    ("echo a && echo b", "psh: syntax error\n", 2),
+    ("echo a && echo b &", "psh: syntax error\n", 2),
 ];
 
 #[test]

@@ -5,8 +5,8 @@ use Rattle.sh_exec.specs.declared.process.Process.TheVariants.{Runs, Asks}
 use Rattle.sh_exec_command.specs.declared.running.Active.{Active}
 use Rattle.sh_exec_command.specs.declared.running.Active.TheVariants.{Next, Done, Leaving}
 use Rattle.sh_exec_command.specs.declared.running.Place.{Place}
-use Rattle.sh_exec_command.specs.declared.running.Place.TheVariants.{Reading, Expanding, Collecting, Answering, Redirecting, Forking, Starting, Staging, Waiting, Writing, Ending}
-use Rattle.sh_exec_shell.specs.Running.{active_of}
+use Rattle.sh_exec_command.specs.declared.running.Place.TheVariants.{Reading, Expanding, Collecting, Answering, Redirecting, Forking, Starting, Staging, Giving, Waiting, Writing, Ending}
+use Rattle.sh_exec_shell_base.specs.Running.{active_of}
 use Rattle.sh_kernel.specs.Calls.{read_call, write_call}
 use Rattle.sh_kernel.specs.State.{KernelState}
 use Rattle.sh_kernel_base.specs.Machine.{wait_answer}
@@ -41,6 +41,7 @@ place_waits s pid (Redirecting p) = false
 place_waits s pid (Forking p) = false
 place_waits s pid (Starting fields) = false
 place_waits s pid (Staging stages) = false
+place_waits s pid (Giving series) = false
 place_waits s pid (Waiting children) = children_wait s pid children
 place_waits s pid (Writing piece finish) = write_waits s pid piece.descriptor (length piece.bytes)
 place_waits s pid (Ending status) = false

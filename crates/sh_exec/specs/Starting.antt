@@ -12,8 +12,8 @@ use Rattle.sh_exec_command.specs.declared.running.Active.{Active}
 use Rattle.sh_exec_command.specs.declared.running.Active.TheVariants.{Next, Done, Leaving}
 use Rattle.sh_exec_command.specs.declared.running.Finish.TheVariants.{Leave}
 use Rattle.sh_exec_command.specs.declared.running.Place.{Place}
-use Rattle.sh_exec_command.specs.declared.running.Place.TheVariants.{Reading, Expanding, Collecting, Answering, Redirecting, Forking, Starting, Staging, Waiting, Writing, Ending}
-use Rattle.sh_exec_shell.specs.Running.{At}
+use Rattle.sh_exec_command.specs.declared.running.Place.TheVariants.{Reading, Expanding, Collecting, Answering, Redirecting, Forking, Starting, Staging, Giving, Waiting, Writing, Ending}
+use Rattle.sh_exec_shell_base.specs.Running.{At}
 use Rattle.sh_kernel.specs.Calls.{start_call}
 use Rattle.sh_kernel.specs.State.{KernelState}
 use Rattle.sh_kernel_base.specs.Processes.{parent_at}
@@ -67,6 +67,7 @@ starting_at (Redirecting p) = None
 starting_at (Forking p) = None
 starting_at (Starting fields) = Some fields
 starting_at (Staging stages) = None
+starting_at (Giving series) = None
 starting_at (Waiting children) = None
 starting_at (Writing piece finish) = None
 starting_at (Ending status) = None

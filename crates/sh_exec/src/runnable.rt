@@ -64,6 +64,7 @@ fn place_runnable(kernel: &Kernel, pid: u32, place: &Place) -> bool
         Place::Forking(_) => can_act(kernel, pid),
         Place::Starting(_) => can_act(kernel, pid),
         Place::Staging(_) => can_act(kernel, pid),
+        Place::Giving(_) => can_act(kernel, pid),
         Place::Waiting(children) => can_wait(kernel, pid, children.as_slice()),
         Place::Writing(piece, _) => can_write(kernel, pid, piece.descriptor, piece.bytes.len()),
         Place::Ending(_) => can_act(kernel, pid),

@@ -20,6 +20,7 @@ fn starting_at(place: &Place) -> Option<&Sequence<Text>>
         Place::Forking(_) => None,
         Place::Starting(fields) => Some(fields),
         Place::Staging(_) => None,
+        Place::Giving(_) => None,
         Place::Waiting(_) => None,
         Place::Writing(_, _) => None,
         Place::Ending(_) => None,

@@ -4,5 +4,4 @@ pub mod Numbers
 pub mod Pipelines
 pub mod Redirections
 pub mod Scripts
-pub mod Served
 pub mod Simple

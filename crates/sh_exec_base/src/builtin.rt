@@ -1,8 +1,8 @@
 //! Built-in utilities (XCU 2.14, 2.15).
 ghost use Rattle.std.specs.Prelude.{◌≡◌, ◌++◌, ◌∷◌, [], IfOk};
-ghost use Rattle.sh_exec_base.specs.Builtins.{built_in, builtin_of, echo_text, exit_by, exit_status, exit_with, is_number, is_special, name_of, operands_of};
+ghost use Rattle.sh_exec_base.specs.Builtins.{built_in, builtin_of, echo_text, exit_by, exit_status, exit_with, greatest, inside_of, is_number, is_special, loop_by, loop_of, loop_with, name_of, operands_of};
 
-use crate::number::{all_digits, small_value};
+use crate::number::{all_digits, limited_value, small_value};
 use sh_syntax::memory::NoMemory;
 use sh_syntax::sequence::{Sequence, Text};
 use std::alloc::Global;
@@ -10,17 +10,36 @@ use std::alloc::Global;
 /// A built-in utility.
 #[derive(Clone, Copy, Debug, PartialEq, Eq)]
 pub enum Builtin {
+    Break,
+    /// `:`
+    Colon,
+    Continue,
     Echo,
     Exit,
+    False,
+    True,
+}
+
+/// How commands are left before their end.
+#[derive(Clone, Copy, Debug, PartialEq, Eq)]
+pub enum Leave {
+    /// The shell is left with this status.
+    Shell(u8),
+    /// A loop is left, inside which there are so many others around the place.
+    Break(u64),
+    /// The run of a loop's body is left, and the loop goes on; inside it there are so many others.
+    Continue(u64),
 }
 
 /// What a built-in does with its arguments.
 #[derive(Debug, Drop)]
 pub enum Act {
+    /// It is done with this status.
+    Finish(u8),
     /// It writes this.
     Write(Text),
-    /// The shell is left with this status.
-    Leave(u8),
+    /// Commands are left.
+    Leave(Leave),
     /// Its operands are wrong.
     Usage,
 }
@@ -30,11 +49,26 @@ impl Builtin {
     pub fn of(name: &[u8]) -> Option<Self>
         ensures { result ≡ builtin_of name.now }
     {
+        if name == b":".as_slice() {
+            return Some(Builtin::Colon);
+        }
+        if name == b"break".as_slice() {
+            return Some(Builtin::Break);
+        }
+        if name == b"continue".as_slice() {
+            return Some(Builtin::Continue);
+        }
         if name == b"echo".as_slice() {
             return Some(Builtin::Echo);
         }
         if name == b"exit".as_slice() {
             return Some(Builtin::Exit);
+        }
+        if name == b"false".as_slice() {
+            return Some(Builtin::False);
+        }
+        if name == b"true".as_slice() {
+            return Some(Builtin::True);
         }
         None
     }
@@ -44,8 +78,13 @@ impl Builtin {
         ensures { result.now ≡ name_of self }
     {
         match self {
+            Builtin::Break => b"break",
+            Builtin::Colon => b":",
+            Builtin::Continue => b"continue",
             Builtin::Echo => b"echo",
             Builtin::Exit => b"exit",
+            Builtin::False => b"false",
+            Builtin::True => b"true",
         }
     }
 
@@ -54,8 +93,13 @@ impl Builtin {
         ensures { result ≡ is_special self }
     {
         match self {
+            Builtin::Break => true,
+            Builtin::Colon => true,
+            Builtin::Continue => true,
             Builtin::Echo => false,
             Builtin::Exit => true,
+            Builtin::False => false,
+            Builtin::True => false,
         }
     }
 
@@ -65,11 +109,16 @@ impl Builtin {
         ensures { IfOk result (λ done. done ≡ built_in last self arguments.now) }
     {
         match self {
+            Builtin::Break => Ok(break_with(operands_of(arguments))),
+            Builtin::Colon => Ok(Act::Finish(0)),
+            Builtin::Continue => Ok(continue_with(operands_of(arguments))),
             Builtin::Echo => {
                 let text = echo_text(alloc, arguments)?;
                 Ok(Act::Write(text))
             },
             Builtin::Exit => Ok(exit_with(last, operands_of(arguments))),
+            Builtin::False => Ok(Act::Finish(1)),
+            Builtin::True => Ok(Act::Finish(0)),
         }
     }
 }
@@ -128,7 +177,7 @@ fn exit_by(status: Option<u8>) -> Act
     ensures { result ≡ exit_by status }
 {
     match status {
-        Some(status) => Act::Leave(status),
+        Some(status) => Act::Leave(Leave::Shell(status)),
         None => Act::Usage,
     }
 }
@@ -138,8 +187,60 @@ fn exit_with(last: u8, operands: &[Text]) -> Act
     ensures { result ≡ exit_with last operands.now }
 {
     match operands {
-        [] => Act::Leave(last),
+        [] => Act::Leave(Leave::Shell(last)),
         [operand] => exit_by(exit_status(operand.as_slice())),
+        _ => Act::Usage,
+    }
+}
+
+/// The greatest number of 18 digits.
+const GREATEST: u64 = 999_999_999_999_999_999;
+
+/// How many loops stand inside the loop of this number.
+fn inside_of(number: Option<u64>) -> Option<u64>
+    ensures { result ≡ inside_of number }
+{
+    match number {
+        Some(0) => None,
+        Some(number) => Some(number - 1),
+        None => None,
+    }
+}
+
+/// How many loops stand inside the loop that an operand names.
+fn loop_of(operand: &[u8]) -> Option<u64>
+    ensures { result ≡ loop_of operand.now }
+{
+    if !is_number(operand) {
+        return None;
+    }
+    inside_of(limited_value(operand, GREATEST))
+}
+
+/// break, with its operands.
+fn break_with(operands: &[Text]) -> Act
+    ensures { result ≡ loop_with Leave.Break operands.now }
+{
+    match operands {
+        [] => Act::Leave(Leave::Break(0)),
+        [operand] => match loop_of(operand.as_slice()) {
+            Some(inside) => Act::Leave(Leave::Break(inside)),
+            None => Act::Usage,
+        },
+        _ => Act::Usage,
+    }
+}
+
+/// continue, with its operands.
+fn continue_with(operands: &[Text]) -> Act
+    ensures { result ≡ loop_with Leave.Continue operands.now }
+{
+    match operands {
+        [] => Act::Leave(Leave::Continue(0)),
+        [operand] => match loop_of(operand.as_slice()) {
+            Some(inside) => Act::Leave(Leave::Continue(inside)),
+            None => Act::Usage,
+        },
         _ => Act::Usage,
     }
 }

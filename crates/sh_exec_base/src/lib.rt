@@ -10,11 +10,9 @@ mod pipeline;
 mod queue;
 pub mod redirection;
 mod rest;
-mod served;
 pub mod simple;
 
 pub use environment::script_environment;
-pub use pipeline::{commands_of, first_pipeline, is_negated};
+pub use pipeline::{commands_of, is_negated};
 pub use queue::Queue;
 pub use rest::Rest;
-pub use served::is_served;

@@ -12,16 +12,24 @@ pub(crate) fn all_digits(text: &[u8]) -> bool
 }
 
 /// The value of decimal digits, if it is at most the limit.
+pub(crate) fn limited_value(digits: &[u8], limit: u64) -> Option<u64>
+    ensures { result ≡ at_most limit (value_of digits.now) }
+{
+    let mut value = 0u64;
+    'digits: for digit in digits {
+        let next = 10 * u128::from(value) + u128::from(digit.saturating_sub(b'0'));
+        if next > u128::from(limit) {
+            return None;
+        }
+        value = next as u64;
+    }
+    Some(value)
+}
+
+/// The value of decimal digits, if it is at most the small limit.
 pub(crate) fn small_value(digits: &[u8], limit: u8) -> Option<u8>
     ensures { result ≡ at_most limit (value_of digits.now) }
 {
-    let mut value = 0u8;
-    'digits: for digit in digits {
-        let next = 10 * u32::from(value) + u32::from(digit.saturating_sub(b'0'));
-        if next > u32::from(limit) {
-            return None;
-        }
-        value = next as u8;
-    }
-    Some(value)
+    let value = limited_value(digits, u64::from(limit))?;
+    Some(value as u8)
 }

@@ -1,19 +1,12 @@
-//! The pipelines and commands of a list (XCU 2.9.2, 2.9.3).
+//! Pipelines and their commands (XCU 2.9.2).
 ghost use Rattle.std.specs.Prelude.{◌≡◌, ◌++◌, ◌∷◌, IfOk};
-ghost use Rattle.sh_exec_base.specs.Pipelines.{commands_of, first_pipeline, is_negated};
+ghost use Rattle.sh_exec_base.specs.Pipelines.{commands_of, is_negated};
 
 use sh_syntax::memory::NoMemory;
 use sh_syntax::sequence::Sequence;
 use sh_syntax::shared::Shared;
-use sh_tree::tree::{Command, ListItem, Pipeline};
+use sh_tree::tree::{Command, Pipeline};
 use std::alloc::Global;
-
-/// The first pipeline of an AND-OR list.
-pub fn first_pipeline(item: &ListItem) -> &Shared<Pipeline>
-    ensures { result.now ≡ first_pipeline item.now }
-{
-    &item.list.get().first
-}
 
 /// Whether a `!` stands before a pipeline.
 pub fn is_negated(pipeline: &Pipeline) -> bool

@@ -85,8 +85,9 @@ failing_of (role.Builtin builtin) = failing (is_special builtin)
 failing_of role.Program = Leave 2
 
 abbrev pub acted : Builtin → Act → Active
+acted builtin (act.Finish status) = Done status
 acted builtin (act.Write text) = Next (Writing (record { descriptor = 1; bytes = text }) (Output builtin))
-acted builtin (act.Leave status) = Leaving status
+acted builtin (act.Leave leave) = Leaving leave
 acted builtin act.Usage = Next (Writing (message (usage (name_of builtin))) (failing (is_special builtin)))
 
 abbrev pub performed_by : ℕ → Prepared → Role → Move

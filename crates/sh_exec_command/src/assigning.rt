@@ -3,6 +3,7 @@ ghost use Rattle.std.specs.Prelude.{◌≡◌, ◌∷◌, [], IfOk, IsTrue, OnOk
 ghost use Rattle.sh_exec_command.specs.Answers.{expanded, result_of};
 ghost use Rattle.sh_exec_command.specs.Assigning.{assign_turn, assigned, assigned_by, assigned_one, is_passing, is_undone, may_set, noted, stopped, text_of, undo_with, value_of, value_wanted, valued, with_assigned};
 ghost use Rattle.sh_exec_command.specs.Expanding.{start_of};
+ghost use Rattle.sh_vars.specs.Environment.{with_value};
 
 use crate::answers::expand;
 use crate::expanding::{fatal_message, start};
@@ -53,7 +54,7 @@ fn is_undone(role: Role) -> bool
 }
 
 /// Whether a variable may be set.
-fn may_set(vars: &Vars, name: &[u8]) -> bool
+pub(crate) fn may_set(vars: &Vars, name: &[u8]) -> bool
     ensures { result ≡ may_set vars.now name.now }
 {
     if !is_name(name) {
@@ -66,15 +67,23 @@ fn may_set(vars: &Vars, name: &[u8]) -> bool
 }
 
 /// Sets a variable that may be set.
+pub(crate) fn set_plain(vars: &mut Vars, name: &[u8], value: &[u8]) -> Result<(), NoMemory>
+    requires { IsTrue (may_set vars.old name.now) }
+    ensures { OnOk result (vars.new ≡ with_value vars.old name.now value.now) }
+{
+    match vars.set(name, value) {
+        Ok(()) => Ok(()),
+        Err(_) => Err(NoMemory),
+    }
+}
+
+/// Sets a variable that may be set, for a command.
 #[tactic(auto, unfolding(crate::specs::Assigning::with_assigned))]
 fn set(vars: &mut Vars, role: Role, name: &[u8], value: &[u8]) -> Result<(), NoMemory>
     requires { IsTrue (may_set vars.old name.now) }
     ensures { OnOk result (vars.new ≡ with_assigned role vars.old name.now value.now) }
 {
-    match vars.set(name, value) {
-        Ok(()) => {},
-        Err(_) => return Err(NoMemory),
-    }
+    set_plain(vars, name, value)?;
     if is_passing(role) {
         return match vars.export(name) {
             Ok(()) => Ok(()),

@@ -9,6 +9,7 @@ mod found;
 mod preparing;
 mod reading;
 mod running;
+mod series;
 mod undo;
 
 pub use assigning::assign_turn;
@@ -17,7 +18,8 @@ pub use found::Found;
 pub use preparing::{copies_of, first_place, go_ahead, not_done};
 pub use reading::find_command;
 pub use running::{
-    Active, Expanded, Finish, Move, Pending, Place, Prepared, Role, Saved, Stages, Substitution,
-    Undo, Wants,
+    Active, Expanded, Finish, Move, Pending, Place, Prepared, Role, Saved, Series, Stages,
+    Substitution, Undo, Wants,
 };
+pub use series::{Round, give_turn, series_turn};
 pub use undo::restore_variables;

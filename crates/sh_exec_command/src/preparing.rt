@@ -93,6 +93,15 @@ fn role_of(fields: &[Text]) -> Role
     }
 }
 
+/// A copy of a text.
+pub(crate) fn copy_of(alloc: Global, text: &[u8]) -> Result<Text, NoMemory>
+    ensures { IfOk result (λ copy. copy ≡ text.now) }
+{
+    let mut copy = Text::new(alloc);
+    copy.extend_from_slice(text)?;
+    Ok(copy)
+}
+
 /// Copies of texts, in their order. The only error is want of memory.
 pub fn copies_of(alloc: Global, texts: &[Text]) -> Result<Sequence<Text>, NoMemory>
     ensures { IfOk result (λ copies. copies ≡ texts.now) }
@@ -100,9 +109,7 @@ pub fn copies_of(alloc: Global, texts: &[Text]) -> Result<Sequence<Text>, NoMemo
     let mut copies = Sequence::new(alloc);
     let mut rest = texts;
     'texts: while let Some((text, others)) = rest.split_first() {
-        let mut copy = Text::new(alloc);
-        copy.extend_from_slice(text.as_slice())?;
-        copies.push(copy)?;
+        copies.push(copy_of(alloc, text.as_slice())?)?;
         rest = others;
     }
     Ok(copies)
@@ -158,6 +165,7 @@ fn acted(alloc: Global, builtin: Builtin, act: Act) -> Result<Active, NoMemory>
     ensures { IfOk result (λ active. active ≡ acted builtin act) }
 {
     match act {
+        Act::Finish(status) => Ok(Active::Done(status)),
         Act::Write(bytes) => {
             let piece = Piece {
                 descriptor: 1,
@@ -165,7 +173,7 @@ fn acted(alloc: Global, builtin: Builtin, act: Act) -> Result<Active, NoMemory>
             };
             Ok(Active::Next(Place::Writing(piece, Finish::Output(builtin))))
         },
-        Act::Leave(status) => Ok(Active::Leaving(status)),
+        Act::Leave(leave) => Ok(Active::Leaving(leave)),
         Act::Usage => {
             let piece = usage(alloc, builtin.name())?;
             Ok(Active::Next(Place::Writing(piece, failing(builtin.is_special()))))

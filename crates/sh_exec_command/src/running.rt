@@ -1,5 +1,5 @@
 //! Where a shell stands before its next action.
-use sh_exec_base::builtin::Builtin;
+use sh_exec_base::builtin::{Builtin, Leave};
 use sh_exec_base::message::Piece;
 use sh_exec_base::redirection::Redirection;
 use sh_exec_base::simple::Assignment;
@@ -52,6 +52,16 @@ pub struct Prepared {
     pub status: u8,
 }
 
+/// A `for` loop (2.9.4.2) whose words are expanded.
+#[derive(Drop)]
+pub struct Series {
+    /// Its variable.
+    pub name: Text,
+    /// The values that the variable is still to have.
+    pub values: Queue<Text>,
+    pub body: Shared<Complete>,
+}
+
 /// What is expanded.
 #[derive(Drop)]
 pub enum Wants {
@@ -64,6 +74,8 @@ pub enum Wants {
     },
     /// The values of its assignments, one after another.
     Values(Prepared),
+    /// The words of a `for`.
+    Series(Shared<Command>),
 }
 
 /// An expansion that needs answers: the shell's variables at its start, and the answers so far.
@@ -128,6 +140,8 @@ pub enum Place {
     Starting(Sequence<Text>),
     /// Make the process of the next command of a pipeline.
     Staging(Stages),
+    /// Give the variable of a `for` its next value.
+    Giving(Series),
     /// Wait for the end of these processes, the last of which gives the status.
     Waiting(Sequence<u32>),
     /// Write.
@@ -143,8 +157,8 @@ pub enum Active {
     Next(Place),
     /// What ran here is done, with this status.
     Done(u8),
-    /// The shell is left with this status.
-    Leaving(u8),
+    /// What ran here is left before its end.
+    Leaving(Leave),
 }
 
 /// Where a command goes on.

@@ -1,5 +1,5 @@
 -- The terminal's bytes stay, or go on.
-use Rattle.std.proofs.Common.{◌≡◌, ◌++◌, ℕ, List, [], sym, ap, ◌∙◌, append-nil}
+use Rattle.std.proofs.Common.{◌≡◌, ℕ, List, [], sym, ◌∙◌, append-nil}
 use Rattle.sh_tty.specs.Kept.{Extends}
 
 pub unchanged : (old new : List ℕ) → new ≡ old → Extends old new

@@ -1,12 +1,15 @@
 -- The actions of a shell that make no process.
-use Rattle.std.specs.Prelude.{◌≡◌, ℕ, List, [], ◌∷◌, ◌++◌, Bool, true, false, drop, length, nat_eq, Option, Some, None, Result, Ok, Err, if◌then◌else◌}
+use Rattle.std.specs.Prelude.{ℕ, List, [], ◌∷◌, ◌++◌, Bool, true, false, drop, length, nat_eq, Option, Some, None, Result, Ok, Err, if◌then◌else◌}
 use Rattle.sh_exec_base.specs.Builtins.{name_of}
 use Rattle.sh_exec_base.specs.Messages.{message, refusal_text, write_error}
+use Rattle.sh_exec_base.specs.declared.builtin.Leave.TheVariants as leave
 use Rattle.sh_exec_base.specs.declared.message.Piece.{Piece}
 use Rattle.sh_exec_base.specs.declared.redirection.Redirection.{Redirection}
 use Rattle.sh_exec_command.specs.Assigning.{assign_turn}
 use Rattle.sh_exec_command.specs.Expanding.{Turn, fatal, words_turn}
 use Rattle.sh_exec_command.specs.Preparing.{ahead, not_done}
+use Rattle.sh_exec_command.specs.Series as series
+use Rattle.sh_exec_command.specs.Series.{series_turn}
 use Rattle.sh_exec_command.specs.declared.found.Found.{Found}
 use Rattle.sh_exec_command.specs.declared.found.Found.TheVariants as found
 use Rattle.sh_exec_command.specs.declared.running.Active.{Active}
@@ -21,7 +24,9 @@ use Rattle.sh_exec_command.specs.declared.running.Role.{Role}
 use Rattle.sh_exec_command.specs.declared.running.Role.TheVariants as role
 use Rattle.sh_exec_command.specs.declared.running.Substitution.{Substitution}
 use Rattle.sh_exec_command.specs.declared.running.Wants.{Wants}
-use Rattle.sh_exec_command.specs.declared.running.Wants.TheVariants.{Words, Values}
+use Rattle.sh_exec_command.specs.declared.running.Wants.TheVariants.{Words, Values, Series}
+use Rattle.sh_exec_command.specs.declared.series.Round.{Round}
+use Rattle.sh_exec_command.specs.declared.series.Round.TheVariants as round
 use Rattle.sh_exec_machine.specs.Redirecting.{redirected}
 use Rattle.sh_exec_machine.specs.Transfers.{give_bytes, take_bytes}
 use Rattle.sh_exec_machine.specs.declared.transfer.Given.{Given}
@@ -29,13 +34,14 @@ use Rattle.sh_exec_machine.specs.declared.transfer.Given.TheVariants as given
 use Rattle.sh_exec_machine.specs.declared.transfer.Taken.{Taken}
 use Rattle.sh_exec_machine.specs.declared.transfer.Taken.TheVariants as taken
 use Rattle.sh_exec_machine.specs.declared.undone.Undone.{Undone}
-use Rattle.sh_exec_shell.specs.Forms.{Acted, acted}
-use Rattle.sh_exec_shell.specs.Running.{Run, At, In, entered, moved}
+use Rattle.sh_exec_shell_base.specs.Forms.{Acted, acted}
+use Rattle.sh_exec_shell_base.specs.Entering.{entered, list_run}
+use Rattle.sh_exec_shell_base.specs.Running.{Run, At, In, moved}
 use Rattle.sh_exec_shell.specs.Waits.{waited}
-use Rattle.sh_exec_shell.specs.declared.form.Form.TheVariants.{Text}
+use Rattle.sh_exec_shell_base.specs.declared.form.Form.TheVariants.{Text, Each}
 use Rattle.sh_files.specs.Nodes.{FileMap}
 use Rattle.sh_kernel.specs.Calls.{close_call, end_call}
-use Rattle.sh_kernel.specs.State.{KernelKept, KernelState, StandsAt}
+use Rattle.sh_kernel.specs.State.{KernelState}
 use Rattle.sh_kernel_base.specs.declared.descriptor.Name.TheVariants.{Aside}
 use Rattle.sh_kernel_base.specs.declared.fault.KernelFault.{KernelFault}
 use Rattle.sh_tree.specs.declared.tree.Command.TheViews as view
@@ -43,7 +49,7 @@ use Rattle.sh_vars.specs.Environment.{Environment}
 
 -- ---- reading (2.1): where no command follows the shell is left with the last status
 abbrev pub read_turn : Environment → Found → Run
-read_turn env found.Nothing = At (Leaving env.special.status)
+read_turn env found.Nothing = At (Leaving (leave.Shell env.special.status))
 read_turn env (found.Command tree rest) = In (Text rest) (entered (view.out-Complete tree).items env.special.status)
 read_turn env (found.Fault refusal) = At (fatal (refusal_text refusal))
 
@@ -51,6 +57,7 @@ read_turn env (found.Fault refusal) = At (fatal (refusal_text refusal))
 abbrev pub expand_turn : FileMap → Environment → Wants → Option Pending → Turn
 expand_turn files env (Words command in_place status) pending = words_turn files env command in_place status pending
 expand_turn files env (Values p) pending = assign_turn files env p pending
+expand_turn files env (Series command) pending = series_turn files env command pending
 
 -- ---- reading what a substitution's process writes, 1024 bytes at a time; a read that fails counts as end of file
 abbrev pub next : Place → Run
@@ -86,6 +93,7 @@ collect_turn s pid env substitution = collect_end s pid env substitution substit
 abbrev pub with_substitution : Wants → ℕ → Wants
 with_substitution (Words command in_place before) status = Words command in_place status
 with_substitution (Values p) status = Values (record p { status = status })
+with_substitution (Series command) status = Series command
 
 abbrev pub answered : Pending → List ℕ → Pending
 answered pending answer = record pending { answers = pending.answers ++ answer ∷ [] }
@@ -137,13 +145,13 @@ redirect_turn s pid env p = redirect_from s pid env p p.redirections
 -- ---- writing
 abbrev pub finished : Finish → Active
 finished (Status status) = Done status
-finished (Leave status) = Leaving status
+finished (Leave status) = Leaving (leave.Shell status)
 finished (Output builtin) = Done 0
 
 -- a message that can't be written is dropped; a built-in has 1 then, and a message
 abbrev pub unwritten : Finish → Active
 unwritten (Status status) = Done status
-unwritten (Leave status) = Leaving status
+unwritten (Leave status) = Leaving (leave.Shell status)
 unwritten (Output builtin) = Next (Writing (message (write_error (name_of builtin))) (Status 1))
 
 -- what is left stands to be written; a process that a signal ended acts no more
@@ -158,12 +166,14 @@ unfoldable pub write_turn : KernelState → ℕ → Environment → Piece → Fi
 write_turn s pid env piece finish =
     let g = give_bytes s pid piece.descriptor piece.bytes in acted g.after env (At (written_by piece finish g.told))
 
+-- ---- a for: its variable has the next value, and its body is entered (2.9.4.2)
+abbrev pub round_run : Round → Run
+round_run (round.Body series) = In (Each series) (list_run series.body)
+round_run (round.Over active) = At active
+
+abbrev pub given_round : KernelState → series.Given → Acted
+given_round s g = acted s g.environment (round_run g.round)
+
 -- ---- the end of the process
 unfoldable pub end_turn : KernelState → ℕ → Environment → ℕ → Acted
 end_turn s pid env status = acted (end_call s pid status).after env (next (Ending status))
-
--- a kernel and a shell stand at what an action leaves
-pub record IsActed (kernel : KernelKept) (env : Environment) (ran : Run) (a : Acted) : Type 0 where
-  pub state : StandsAt kernel a.machine
-  pub environment : env ≡ a.environment
-  pub run : ran ≡ a.run

@@ -2,7 +2,7 @@
 use Rattle.std.specs.Prelude.{◌≡◌, ℕ, List, [], ◌∷◌, ◌++◌, Bool, true, false, length, nat_eq, not, Option, Some, None}
 use Rattle.sh_exec_base.specs.Messages.{cannot_fork}
 use Rattle.sh_exec_command.specs.Expanding.{fatal}
-use Rattle.sh_exec_command.specs.Preparing.{ahead, first_place}
+use Rattle.sh_exec_command.specs.Preparing.{ahead}
 use Rattle.sh_exec_command.specs.declared.running.Active.TheVariants.{Next}
 use Rattle.sh_exec_command.specs.declared.running.Move.{Move}
 use Rattle.sh_exec_command.specs.declared.running.Move.TheVariants as move
@@ -12,10 +12,11 @@ use Rattle.sh_exec_command.specs.declared.running.Place.TheVariants.{Collecting,
 use Rattle.sh_exec_command.specs.declared.running.Prepared.{Prepared}
 use Rattle.sh_exec_command.specs.declared.running.Stages.{Stages}
 use Rattle.sh_exec_command.specs.declared.running.Wants.{Wants}
-use Rattle.sh_exec_command.specs.declared.running.Wants.TheVariants.{Words, Values}
+use Rattle.sh_exec_command.specs.declared.running.Wants.TheVariants.{Words, Values, Series}
 use Rattle.sh_exec_machine.specs.Forking.{forked}
-use Rattle.sh_exec_shell.specs.Forms.{Acted, acted}
-use Rattle.sh_exec_shell.specs.Running.{Run, At, ShellState, body_of, moved}
+use Rattle.sh_exec_shell_base.specs.Forms.{Acted, acted}
+use Rattle.sh_exec_shell_base.specs.Entering.{body_of, stage_run}
+use Rattle.sh_exec_shell_base.specs.Running.{Run, At, moved}
 use Rattle.sh_exec_shell.specs.declared.shell.Child.{Child}
 use Rattle.sh_kernel.specs.State.{KernelKept, KernelState, StandsAt}
 use Rattle.sh_tree.specs.declared.tree.Command.{Command}
@@ -42,7 +43,7 @@ program_by s env p None = turned s env (At (fatal cannot_fork)) None
 unfoldable pub fork_turn : KernelState → ℕ → Environment → Prepared → Turned
 fork_turn s pid env p = let f = forked s pid None false in program_by f.after env p f.child
 
--- ---- a stage (2.9.2): the shell waits once all have a process
+-- ---- a stage (2.9.2), or a subshell: the shell waits once all have a process
 abbrev pub staged : List Command → Option ℕ → List ℕ → Place
 staged [] aside children = Waiting children
 staged (command ∷ commands) aside children =
@@ -53,7 +54,7 @@ is_more commands = not (nat_eq (length commands) 0)
 
 abbrev pub stage_by : KernelState → Environment → Command → List Command → Option ℕ → List ℕ → Option ℕ → Turned
 stage_by s env command commands aside children (Some pid) =
-    turned s env (At (Next (staged commands aside (children ++ pid ∷ [])))) (child_of pid env (At (Next (first_place true command))))
+    turned s env (At (Next (staged commands aside (children ++ pid ∷ [])))) (child_of pid env (stage_run command))
 stage_by s env command commands aside children None = turned s env (At (fatal cannot_fork)) None
 
 unfoldable pub stage_one : KernelState → ℕ → Environment → Command → List Command → Option ℕ → List ℕ → Turned
@@ -72,11 +73,12 @@ stage_turn s pid env stages = stage_from s pid env stages.commands stages.aside 
 abbrev pub unforked : Wants → Move
 unforked (Words command in_place status) = move.At (fatal cannot_fork)
 unforked (Values p) = move.Held p.undo (fatal cannot_fork)
+unforked (Series command) = move.At (fatal cannot_fork)
 
 abbrev pub substitution_by : KernelState → Environment → Complete → Wants → Pending → Option ℕ → Option ℕ → Turned
 substitution_by s env program wants pending aside (Some pid) =
     turned s env (At (Next (Collecting (record { wants = wants; pending = pending; written = []; aside = aside; children = pid ∷ [] }))))
-    (child_of pid env (body_of program env.special.status))
+    (child_of pid env (body_of program))
 substitution_by s env program wants pending aside None = turned s env (moved (unforked wants)) None
 
 unfoldable pub substitute_turn : KernelState → ℕ → Environment → Complete → Wants → Pending → Turned

@@ -1,17 +1,19 @@
 -- One turn of a shell: inward to its active place, the action there, and outward again.
-use Rattle.std.specs.Prelude.{ℕ, Option, Some, None}
+use Rattle.std.specs.Prelude.{ℕ, ◌||◌, Bool, false, None}
 use Rattle.sh_exec_command.specs.Expanding.{Turn}
+use Rattle.sh_exec_base.specs.declared.builtin.Leave.TheVariants as leave
 use Rattle.sh_exec_command.specs.Reading.{next_command}
+use Rattle.sh_exec_command.specs.Series.{give_turn}
 use Rattle.sh_exec_command.specs.declared.running.Active.{Active}
 use Rattle.sh_exec_command.specs.declared.running.Active.TheVariants.{Next, Done, Leaving}
 use Rattle.sh_exec_command.specs.declared.running.Expanded.{Expanded}
 use Rattle.sh_exec_command.specs.declared.running.Expanded.TheVariants as expanded
 use Rattle.sh_exec_command.specs.declared.running.Place.{Place}
-use Rattle.sh_exec_command.specs.declared.running.Place.TheVariants.{Reading, Expanding, Collecting, Answering, Redirecting, Forking, Starting, Staging, Waiting, Writing, Ending}
-use Rattle.sh_exec_shell.specs.Acting.{answer_turn, collect_turn, end_turn, expand_turn, next, read_turn, redirect_turn, wait_turn, write_turn}
+use Rattle.sh_exec_command.specs.declared.running.Place.TheVariants.{Reading, Expanding, Collecting, Answering, Redirecting, Forking, Starting, Staging, Giving, Waiting, Writing, Ending}
+use Rattle.sh_exec_shell.specs.Acting.{answer_turn, collect_turn, end_turn, expand_turn, given_round, next, read_turn, redirect_turn, wait_turn, write_turn}
 use Rattle.sh_exec_shell.specs.Forks.{Turned, fork_turn, stage_turn, substitute_turn}
-use Rattle.sh_exec_shell.specs.Forms.{Acted, acted, after, settled}
-use Rattle.sh_exec_shell.specs.Running.{Run, At, In, ShellState, moved}
+use Rattle.sh_exec_shell_base.specs.Forms.{Acted, acted, after, is_loop, settled}
+use Rattle.sh_exec_shell_base.specs.Running.{Run, At, In, ShellState, moved}
 use Rattle.sh_kernel.specs.State.{KernelState}
 use Rattle.sh_vars.specs.Environment.{Environment}
 
@@ -36,6 +38,7 @@ act_place s pid env (Redirecting p) = plain (redirect_turn s pid env p)
 act_place s pid env (Forking p) = fork_turn s pid env p
 act_place s pid env (Starting fields) = plain (acted s env (next (Starting fields)))
 act_place s pid env (Staging stages) = stage_turn s pid env stages
+act_place s pid env (Giving series) = plain (given_round s (give_turn env series))
 act_place s pid env (Waiting children) = plain (acted s env (At (wait_turn s pid children)))
 act_place s pid env (Writing piece finish) = plain (write_turn s pid env piece finish)
 act_place s pid env (Ending status) = plain (end_turn s pid env status)
@@ -43,19 +46,22 @@ act_place s pid env (Ending status) = plain (end_turn s pid env status)
 abbrev pub act_at : KernelState → ℕ → Environment → Active → Turned
 act_at s pid env (Next place) = act_place s pid env place
 act_at s pid env (Done status) = plain (acted s env (At (Done status)))
-act_at s pid env (Leaving status) = plain (acted s env (At (Leaving status)))
+act_at s pid env (Leaving leave) = plain (acted s env (At (Leaving leave)))
 
--- statuses go outward from what the action left
-abbrev pub settled_turn : ℕ → Turned → Turned
-settled_turn pid t = record { left = settled pid t.left.machine t.left.environment t.left.run; child = t.child }
+-- statuses go outward from what the action left; looped: whether a loop stands around
+abbrev pub settled_turn : ℕ → (looped : Bool) → Turned → Turned
+settled_turn pid looped t = record { left = settled pid looped t.left.machine t.left.environment t.left.run; child = t.child }
 
-abbrev pub reduce : KernelState → ℕ → Environment → Run → Turned
-reduce s pid env (At active) = settled_turn pid (act_at s pid env active)
-reduce s pid env (In form run) = let t = reduce s pid env run in record { left = after pid form t.left; child = t.child }
+abbrev pub reduce : KernelState → ℕ → Environment → (looped : Bool) → Run → Turned
+reduce s pid env looped (At active) = settled_turn pid looped (act_at s pid env active)
+reduce s pid env looped (In form run) =
+    let t = reduce s pid env (is_loop form || looped) run in record { left = after pid looped form t.left; child = t.child }
 
 -- at the root what leaves the shell, or is done, comes to the end of the process
 abbrev pub rooted : Run → Run
-rooted (At (Leaving status)) = At (Next (Ending status))
+rooted (At (Leaving (leave.Shell status))) = At (Next (Ending status))
+rooted (At (Leaving (leave.Break inside))) = At (Next (Ending 0))
+rooted (At (Leaving (leave.Continue inside))) = At (Next (Ending 0))
 rooted (At (Done status)) = At (Next (Ending status))
 rooted (At (Next place)) = At (Next place)
 rooted (In form run) = In form run
@@ -64,4 +70,4 @@ abbrev pub with_root : Turned → Turned
 with_root t = record { left = acted t.left.machine t.left.environment (rooted t.left.run); child = t.child }
 
 unfoldable pub shell_turn : KernelState → ℕ → ShellState → Turned
-shell_turn s pid shell = with_root (reduce s pid shell.environment shell.run)
+shell_turn s pid shell = with_root (reduce s pid shell.environment false shell.run)

@@ -1,30 +1,31 @@
 //! One turn: inward to the active place, the action there, and outward again.
-ghost use Rattle.std.specs.Prelude.{◌≡◌, IfOk};
+ghost use Rattle.std.specs.Prelude.{◌≡◌, ◌||◌, IfOk};
 ghost use Rattle.sh_kernel.specs.State.{KernelState, StandsAt};
 ghost use Rattle.sh_tty.specs.Kept.{Extends};
 ghost use Rattle.sh_exec_command.specs.Expanding as expanding;
 ghost use Rattle.sh_exec_command.specs.Reading.{next_command};
-ghost use Rattle.sh_exec_shell.specs.Acting.{IsActed, expand_turn, read_turn};
+ghost use Rattle.sh_exec_shell_base.specs.Forms.{IsActed};
+ghost use Rattle.sh_exec_command.specs.Series.{give_turn};
+ghost use Rattle.sh_exec_shell.specs.Acting.{expand_turn, given_round, read_turn, round_run};
 ghost use Rattle.sh_exec_shell.specs.Forks.{IsTurned};
 ghost use Rattle.sh_exec_shell.specs.Reduction.{act_at, act_place, expanded_by, expansion, plain, reduce, settled_turn};
-ghost use Rattle.sh_exec_shell.specs.Running.{Run};
-ghost use Rattle.sh_exec_shell.specs.Tree.{run_of};
+ghost use Rattle.sh_exec_shell_base.specs.Running.{Run};
+ghost use Rattle.sh_exec_shell_base.specs.Tree.{run_of};
 
-use crate::entering::{enter, go, next, within};
 use crate::forks::{fork_turn, stage_turn, substitute_turn};
-use crate::form::Form;
-use crate::forms::{settle, wrap};
 use crate::input::collect_turn;
 use crate::output::{end_turn, write_turn};
 use crate::redirecting::redirect_turn;
 use crate::shell::Child;
-use crate::tree::Tree;
 use crate::waits::{answer_turn, wait_turn};
+use sh_exec_base::builtin::Leave;
 use sh_exec_base::message::refused;
 use sh_exec_base::{Queue, Rest};
 use sh_exec_command::{
-    Active, Expanded, Finish, Found, Pending, Place, Wants, assign_turn, find_command, words_turn,
+    Active, Expanded, Finish, Found, Pending, Place, Round, Series, Wants, assign_turn,
+    find_command, give_turn, series_turn, words_turn,
 };
+use sh_exec_shell_base::{Form, Tree, enter, enter_list, settle, wrap};
 use sh_files::Files;
 use sh_kernel::Kernel;
 use sh_syntax::memory::NoMemory;
@@ -36,15 +37,15 @@ fn read(alloc: Global, rest: Rest, vars: &Vars) -> Result<Tree, NoMemory>
     ensures { IfOk result (λ tree. run_of tree ≡ read_turn vars.now (next_command rest)) }
 {
     match find_command(alloc, rest)? {
-        Found::Nothing => Ok(Tree::At(Active::Leaving(vars.status()))),
+        Found::Nothing => Ok(Tree::At(Active::Leaving(Leave::Shell(vars.status())))),
         Found::Command(tree, rest) => {
             let items = Queue::new(tree.into_items());
             let inner = enter(alloc, items, vars.status())?;
-            within(alloc, Form::Text(rest), inner)
+            inner.within(alloc, Form::Text(rest))
         },
         Found::Fault(refusal) => {
             let piece = refused(alloc, refusal)?;
-            Ok(next(Place::Writing(piece, Finish::Leave(2))))
+            Ok(Tree::next(Place::Writing(piece, Finish::Leave(2))))
         },
     }
 }
@@ -66,6 +67,7 @@ fn expand(
             status,
         } => words_turn(alloc, command, in_place, status, pending, vars, files),
         Wants::Values(prepared) => assign_turn(alloc, prepared, pending, vars, files),
+        Wants::Series(command) => series_turn(alloc, command, pending, vars, files),
     }
 }
 
@@ -90,7 +92,7 @@ fn expanded(
             Ok((tree, child))
         },
         Expanded::Go(to) => {
-            let tree = go(alloc, to)?;
+            let tree = Tree::moved(alloc, to)?;
             Ok((tree, None))
         },
     }
@@ -111,6 +113,31 @@ fn expand_place(
     let outcome = expand(alloc, wants, pending, vars, kernel.files())?;
     let (tree, child) = expanded(alloc, kernel, pid, vars, outcome)?;
     Ok((tree, child))
+}
+
+/// What follows where a `for` gives its variable a value.
+fn round_tree(alloc: Global, round: Round) -> Result<Tree, NoMemory>
+    ensures { IfOk result (λ tree. run_of tree ≡ round_run round) }
+{
+    match round {
+        Round::Body(series) => match enter_list(alloc, series.body.get()) {
+            Ok(inner) => inner.within(alloc, Form::Each(series)),
+            Err(refusal) => {
+                drop(series);
+                Err(refusal)
+            },
+        },
+        Round::Over(active) => Ok(Tree::At(active)),
+    }
+}
+
+/// The turn in which the variable of a `for` has its next value (XCU 2.9.4.2).
+fn give(alloc: Global, kernel: &Kernel, vars: &mut Vars, series: Series) -> Result<Tree, NoMemory>
+    ensures { (s : KernelState) → StandsAt kernel.now s → IfOk result (λ tree. IsActed kernel.now vars.new (run_of tree) (given_round s (give_turn vars.old series))) }
+{
+    let round = give_turn(alloc, series, vars)?;
+    let tree = round_tree(alloc, round)?;
+    Ok(tree)
 }
 
 /// The action at a place.
@@ -139,7 +166,7 @@ fn act_place(
         },
         Place::Answering(substitution) => {
             let place = answer_turn(kernel, pid, substitution)?;
-            Ok((next(place), None))
+            Ok((Tree::next(place), None))
         },
         Place::Redirecting(prepared) => {
             let tree = redirect_turn(alloc, kernel, pid, vars, prepared)?;
@@ -149,10 +176,14 @@ fn act_place(
             let (tree, child) = fork_turn(alloc, kernel, pid, vars, prepared)?;
             Ok((tree, child))
         },
-        Place::Starting(fields) => Ok((next(Place::Starting(fields)), None)),
+        Place::Starting(fields) => Ok((Tree::next(Place::Starting(fields)), None)),
         Place::Staging(stages) => {
             let (tree, child) = stage_turn(alloc, kernel, pid, vars, stages)?;
             Ok((tree, child))
+        },
+        Place::Giving(series) => {
+            let tree = give(alloc, kernel, vars, series)?;
+            Ok((tree, None))
         },
         Place::Waiting(children) => Ok((Tree::At(wait_turn(kernel, pid, children)), None)),
         Place::Writing(piece, finish) => {
@@ -180,23 +211,24 @@ fn act(
             Ok((tree, child))
         },
         Active::Done(status) => Ok((Tree::At(Active::Done(status)), None)),
-        Active::Leaving(status) => Ok((Tree::At(Active::Leaving(status)), None)),
+        Active::Leaving(leave) => Ok((Tree::At(Active::Leaving(leave)), None)),
     }
 }
 
-/// The action, and statuses outward from what it left.
+/// The action, and statuses outward from what it left; `looped` tells whether a loop stands around.
 fn act_and_settle(
     alloc: Global,
     kernel: &mut Kernel,
     pid: u32,
     vars: &mut Vars,
+    looped: bool,
     active: Active,
 ) -> Result<(Tree, Option<Child>), NoMemory>
-    ensures state { (s : KernelState) → StandsAt kernel.old s → IfOk result (λ r. IsTurned kernel.new vars.new (run_of r.0) r.1 (settled_turn pid (act_at s pid vars.old active))) }
+    ensures state { (s : KernelState) → StandsAt kernel.old s → IfOk result (λ r. IsTurned kernel.new vars.new (run_of r.0) r.1 (settled_turn pid looped (act_at s pid vars.old active))) }
     ensures terminal { Extends kernel.old.terminal.bytes kernel.new.terminal.bytes }
 {
     let (tree, child) = act(alloc, kernel, pid, vars, active)?;
-    match settle(alloc, kernel, pid, vars, tree) {
+    match settle(alloc, kernel, pid, vars, looped, tree) {
         Ok(tree) => Ok((tree, child)),
         Err(refusal) => {
             drop(child);
@@ -205,32 +237,34 @@ fn act_and_settle(
     }
 }
 
-/// Inward to the active place, the action there, and outward again.
+/// Inward to the active place, the action there, and outward again; `looped` tells whether a loop stands around.
 pub(crate) fn reduce(
     alloc: Global,
     kernel: &mut Kernel,
     pid: u32,
     vars: &mut Vars,
+    looped: bool,
     tree: Tree,
 ) -> Result<(Tree, Option<Child>), NoMemory>
-    ensures state { (s : KernelState) → StandsAt kernel.old s → IfOk result (λ r. IsTurned kernel.new vars.new (run_of r.0) r.1 (reduce s pid vars.old (run_of tree))) }
+    ensures state { (s : KernelState) → StandsAt kernel.old s → IfOk result (λ r. IsTurned kernel.new vars.new (run_of r.0) r.1 (reduce s pid vars.old looped (run_of tree))) }
     ensures terminal { Extends kernel.old.terminal.bytes kernel.new.terminal.bytes }
 {
     match tree {
         Tree::At(active) => {
-            let (tree, child) = act_and_settle(alloc, kernel, pid, vars, active)?;
+            let (tree, child) = act_and_settle(alloc, kernel, pid, vars, looped, active)?;
             Ok((tree, child))
         },
         Tree::In(form, inner) => {
             let inner = Box::into_inner(inner);
-            let (inner, child) = match reduce(alloc, kernel, pid, vars, inner) {
+            let within = form.is_looped(looped);
+            let (inner, child) = match reduce(alloc, kernel, pid, vars, within, inner) {
                 Ok(reduced) => reduced,
                 Err(refusal) => {
                     drop(form);
                     return Err(refusal);
                 },
             };
-            match wrap(alloc, kernel, pid, vars, form, inner) {
+            match wrap(alloc, kernel, pid, vars, looped, form, inner) {
                 Ok(tree) => Ok((tree, child)),
                 Err(refusal) => {
                     drop(child);

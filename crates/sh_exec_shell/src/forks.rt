@@ -3,22 +3,21 @@ ghost use Rattle.std.specs.Prelude.{◌≡◌, ◌++◌, ◌∷◌, [], IfOk, tr
 ghost use Rattle.sh_kernel.specs.State.{KernelState, StandsAt};
 ghost use Rattle.sh_exec_base.specs.Messages as messages;
 ghost use Rattle.sh_exec_command.specs.Expanding as expanding;
-ghost use Rattle.sh_exec_command.specs.Preparing.{ahead, first_place};
+ghost use Rattle.sh_exec_command.specs.Preparing.{ahead};
 ghost use Rattle.sh_exec_machine.specs.Forking.{HasForked};
 ghost use Rattle.sh_exec_shell.specs.Forks.{IsTurned, child_of, fork_turn, is_more, program_by, stage_by, stage_from, stage_one, stage_turn, staged, substitute_turn, substitution_by, turned, unforked};
-ghost use Rattle.sh_exec_shell.specs.Running.{Run, body_of, moved};
-ghost use Rattle.sh_exec_shell.specs.Tree.{run_of};
+ghost use Rattle.sh_exec_shell_base.specs.Entering.{body_of, stage_run};
+ghost use Rattle.sh_exec_shell_base.specs.Running.{Run, moved};
+ghost use Rattle.sh_exec_shell_base.specs.Tree.{run_of};
 
-use crate::entering::{body_of, go, next};
 use crate::shell::{Child, child_of};
-use crate::tree::Tree;
 use sh_exec_base::Queue;
 use sh_exec_base::message::cannot_fork;
 use sh_exec_command::{
-    Active, Finish, Move, Pending, Place, Prepared, Stages, Substitution, Wants, first_place,
-    go_ahead,
+    Active, Finish, Move, Pending, Place, Prepared, Stages, Substitution, Wants, go_ahead,
 };
 use sh_exec_machine::{Forked, fork_process};
+use sh_exec_shell_base::{Tree, body_of, stage};
 use sh_kernel::Kernel;
 use sh_syntax::memory::NoMemory;
 use sh_syntax::sequence::{Sequence, Text};
@@ -55,7 +54,7 @@ fn put_program(
 {
     let copy = vars.copy()?;
     let to = go_ahead(alloc, vars.status(), prepared)?;
-    let tree = go(alloc, to)?;
+    let tree = Tree::moved(alloc, to)?;
     Ok(child_of(child, copy, tree))
 }
 
@@ -76,7 +75,7 @@ pub(crate) fn fork_turn(
         Some(child) => {
             let made = put_program(alloc, vars, prepared, child)?;
             match one_more(Sequence::new(alloc), child) {
-                Ok(children) => Ok((next(Place::Waiting(children)), Some(made))),
+                Ok(children) => Ok((Tree::next(Place::Waiting(children)), Some(made))),
                 Err(refusal) => {
                     drop(made);
                     Err(refusal)
@@ -130,11 +129,11 @@ fn put_stage(
     command: Shared<Command>,
     child: u32,
 ) -> Result<Child, NoMemory>
-    ensures { IfOk result (λ made. made ≡ record { pid = child; shell = record { environment = vars.now; run = Run.At (Active.Next (first_place true command)) } }) }
+    ensures { IfOk result (λ made. made ≡ record { pid = child; shell = record { environment = vars.now; run = stage_run command } }) }
 {
     let copy = vars.copy()?;
-    let place = first_place(alloc, true, command)?;
-    Ok(child_of(child, copy, next(place)))
+    let tree = stage(alloc, &command)?;
+    Ok(child_of(child, copy, tree))
 }
 
 /// The process of the next stage.
@@ -167,7 +166,7 @@ fn stage_one(
                 },
             };
             match next_stage(commands, forked.aside, children, child) {
-                Ok(place) => Ok((next(place), Some(made))),
+                Ok(place) => Ok((Tree::next(place), Some(made))),
                 Err(refusal) => {
                     drop(made);
                     Err(refusal)
@@ -198,7 +197,7 @@ pub(crate) fn stage_turn(
 {
     let mut stages = stages;
     let Some(command) = stages.commands.take() else {
-        return Ok((next(Place::Waiting(stages.children)), None));
+        return Ok((Tree::next(Place::Waiting(stages.children)), None));
     };
     let (tree, child) = stage_one(alloc, kernel, pid, vars, command, stages)?;
     Ok((tree, child))
@@ -212,6 +211,7 @@ fn unforked(alloc: Global, wants: Wants) -> Result<Move, NoMemory>
     match wants {
         Wants::Words { .. } => Ok(Move::At(active)),
         Wants::Values(prepared) => Ok(Move::Held(prepared.undo, active)),
+        Wants::Series(_) => Ok(Move::At(active)),
     }
 }
 
@@ -222,10 +222,10 @@ fn put_substitution(
     program: &Complete,
     child: u32,
 ) -> Result<Child, NoMemory>
-    ensures { IfOk result (λ made. made ≡ record { pid = child; shell = record { environment = vars.now; run = body_of program.now vars.now.special.status } }) }
+    ensures { IfOk result (λ made. made ≡ record { pid = child; shell = record { environment = vars.now; run = body_of program.now } }) }
 {
     let copy = vars.copy()?;
-    let tree = body_of(alloc, program, vars.status())?;
+    let tree = body_of(alloc, program)?;
     Ok(child_of(child, copy, tree))
 }
 
@@ -275,7 +275,7 @@ pub(crate) fn substitute_turn(
                 },
             };
             match collecting(alloc, wants, pending, forked.aside, child) {
-                Ok(place) => Ok((next(place), Some(made))),
+                Ok(place) => Ok((Tree::next(place), Some(made))),
                 Err(refusal) => {
                     drop(made);
                     Err(refusal)
@@ -285,7 +285,7 @@ pub(crate) fn substitute_turn(
         None => {
             drop(pending);
             let to = unforked(alloc, wants)?;
-            let tree = go(alloc, to)?;
+            let tree = Tree::moved(alloc, to)?;
             Ok((tree, None))
         },
     }

@@ -1,13 +1,13 @@
 //! Reading what a command substitution's process writes.
 ghost use Rattle.std.specs.Prelude.{◌≡◌, IfOk};
 ghost use Rattle.sh_kernel.specs.State.{KernelState, StandsAt};
-ghost use Rattle.sh_exec_shell.specs.Acting.{IsActed, collect_by, collect_end, collect_from, collect_turn, collected, with_written};
-ghost use Rattle.sh_exec_shell.specs.Tree.{run_of};
+ghost use Rattle.sh_exec_shell_base.specs.Forms.{IsActed};
+ghost use Rattle.sh_exec_shell.specs.Acting.{collect_by, collect_end, collect_from, collect_turn, collected, with_written};
+ghost use Rattle.sh_exec_shell_base.specs.Tree.{run_of};
 
-use crate::entering::next;
-use crate::tree::Tree;
 use sh_exec_command::{Place, Substitution};
 use sh_exec_machine::{Taken, take_bytes};
+use sh_exec_shell_base::Tree;
 use sh_kernel::{Kernel, Name};
 use sh_syntax::memory::NoMemory;
 use sh_vars::Vars;
@@ -38,7 +38,7 @@ fn collected(
     ensures terminal { kernel.new.terminal.bytes ≡ kernel.old.terminal.bytes }
 {
     let _closed = kernel.close(pid, Name::Aside(aside));
-    next(Place::Answering(substitution))
+    Tree::next(Place::Answering(substitution))
 }
 
 /// A read from its pipe.
@@ -60,9 +60,9 @@ fn collect_from(
                 return Ok(collected(kernel, pid, vars, substitution, aside));
             }
             let substitution = with_written(substitution, bytes.as_slice())?;
-            Ok(next(Place::Collecting(substitution)))
+            Ok(Tree::next(Place::Collecting(substitution)))
         },
-        Taken::Wait => Ok(next(Place::Collecting(substitution))),
+        Taken::Wait => Ok(Tree::next(Place::Collecting(substitution))),
         Taken::Failed => Ok(collected(kernel, pid, vars, substitution, aside)),
     }
 }
@@ -80,7 +80,7 @@ pub(crate) fn collect_turn(
     ensures terminal { kernel.new.terminal.bytes ≡ kernel.old.terminal.bytes }
 {
     let Some(aside) = substitution.aside else {
-        return Ok(next(Place::Answering(substitution)));
+        return Ok(Tree::next(Place::Answering(substitution)));
     };
     let tree = collect_from(alloc, kernel, pid, vars, substitution, aside)?;
     Ok(tree)

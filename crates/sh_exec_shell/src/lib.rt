@@ -2,16 +2,11 @@
 #![tactic(auto)]
 
 mod act;
-mod entering;
 mod forks;
-mod form;
-mod forms;
 mod input;
 mod output;
 mod redirecting;
 mod shell;
-mod tree;
 mod waits;
 
-pub use form::Form;
 pub use shell::{Child, Shell};

@@ -2,14 +2,15 @@
 ghost use Rattle.std.specs.Prelude.{◌≡◌, IfOk, drop};
 ghost use Rattle.sh_kernel.specs.State.{KernelState, StandsAt};
 ghost use Rattle.sh_tty.specs.Kept.{Extends};
-ghost use Rattle.sh_exec_shell.specs.Acting.{IsActed, end_turn, finished, unwritten, write_turn, written_by};
-ghost use Rattle.sh_exec_shell.specs.Tree.{run_of};
+ghost use Rattle.sh_exec_shell_base.specs.Forms.{IsActed};
+ghost use Rattle.sh_exec_shell.specs.Acting.{end_turn, finished, unwritten, write_turn, written_by};
+ghost use Rattle.sh_exec_shell_base.specs.Tree.{run_of};
 
-use crate::entering::next;
-use crate::tree::Tree;
+use sh_exec_base::builtin::Leave;
 use sh_exec_base::message::{Piece, write_error};
 use sh_exec_command::{Active, Finish, Place};
 use sh_exec_machine::{Given, give_bytes};
+use sh_exec_shell_base::Tree;
 use sh_kernel::Kernel;
 use sh_syntax::memory::NoMemory;
 use sh_syntax::sequence::Text;
@@ -22,7 +23,7 @@ fn finished(finish: Finish) -> Active
 {
     match finish {
         Finish::Status(status) => Active::Done(status),
-        Finish::Leave(status) => Active::Leaving(status),
+        Finish::Leave(status) => Active::Leaving(Leave::Shell(status)),
         Finish::Output(_) => Active::Done(0),
     }
 }
@@ -33,7 +34,7 @@ fn unwritten(alloc: Global, finish: Finish) -> Result<Active, NoMemory>
 {
     match finish {
         Finish::Status(status) => Ok(Active::Done(status)),
-        Finish::Leave(status) => Ok(Active::Leaving(status)),
+        Finish::Leave(status) => Ok(Active::Leaving(Leave::Shell(status))),
         Finish::Output(builtin) => {
             let piece = write_error(alloc, builtin.name())?;
             Ok(Active::Next(Place::Writing(piece, Finish::Status(1))))
@@ -95,5 +96,5 @@ pub(crate) fn end_turn(kernel: &mut Kernel, pid: u32, vars: &Vars, status: u8) -
     ensures terminal { kernel.new.terminal.bytes ≡ kernel.old.terminal.bytes }
 {
     let _ended = kernel.end(pid, status);
-    next(Place::Ending(status))
+    Tree::next(Place::Ending(status))
 }

@@ -1,15 +1,15 @@
 //! The redirection turns of a command.
 ghost use Rattle.std.specs.Prelude.{◌≡◌, IfOk};
 ghost use Rattle.sh_kernel.specs.State.{KernelState, StandsAt};
-ghost use Rattle.sh_exec_shell.specs.Acting.{IsActed, keeps, noted, redirect_by, redirect_from, redirect_one, redirect_turn, undone_by};
-ghost use Rattle.sh_exec_shell.specs.Running.{Run};
-ghost use Rattle.sh_exec_shell.specs.Tree.{run_of};
+ghost use Rattle.sh_exec_shell_base.specs.Forms.{IsActed};
+ghost use Rattle.sh_exec_shell.specs.Acting.{keeps, noted, redirect_by, redirect_from, redirect_one, redirect_turn, undone_by};
+ghost use Rattle.sh_exec_shell_base.specs.Running.{Run};
+ghost use Rattle.sh_exec_shell_base.specs.Tree.{run_of};
 
-use crate::entering::go;
-use crate::tree::Tree;
 use sh_exec_base::redirection::Redirection;
 use sh_exec_command::{Prepared, Role, go_ahead, not_done};
 use sh_exec_machine::{Redirected, Undone, redirect};
+use sh_exec_shell_base::Tree;
 use sh_kernel::{Kernel, KernelFault};
 use sh_syntax::memory::NoMemory;
 use sh_vars::Vars;
@@ -53,11 +53,11 @@ fn go_on(
         Ok(()) => {
             let prepared = note(prepared, one)?;
             let to = go_ahead(alloc, last, prepared)?;
-            go(alloc, to)
+            Tree::moved(alloc, to)
         },
         Err(fault) => {
             let to = not_done(alloc, prepared, word, fault)?;
-            go(alloc, to)
+            Tree::moved(alloc, to)
         },
     }
 }
@@ -108,7 +108,7 @@ pub(crate) fn redirect_turn(
     let mut prepared = prepared;
     let Some(redirection) = prepared.redirections.take() else {
         let to = go_ahead(alloc, vars.status(), prepared)?;
-        let tree = go(alloc, to)?;
+        let tree = Tree::moved(alloc, to)?;
         return Ok(tree);
     };
     let tree = redirect_one(alloc, kernel, pid, vars, prepared, redirection)?;

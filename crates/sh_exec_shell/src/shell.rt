@@ -4,13 +4,14 @@ ghost use Rattle.sh_kernel.specs.State.{KernelState, StandsAt};
 ghost use Rattle.sh_tty.specs.Kept.{Extends};
 ghost use Rattle.sh_exec_shell.specs.Forks.{IsTurned};
 ghost use Rattle.sh_exec_shell.specs.Reduction.{reduce, rooted, shell_turn, with_root};
-ghost use Rattle.sh_exec_shell.specs.Running.{Run, active_of};
-ghost use Rattle.sh_exec_shell.specs.Tree.{run_of};
+ghost use Rattle.sh_exec_shell_base.specs.Running.{Run, active_of};
+ghost use Rattle.sh_exec_shell_base.specs.Tree.{run_of};
 
 use crate::act::reduce;
-use crate::tree::Tree;
 use sh_exec_base::Rest;
+use sh_exec_base::builtin::Leave;
 use sh_exec_command::{Active, Place};
+use sh_exec_shell_base::Tree;
 use sh_kernel::Kernel;
 use sh_syntax::memory::NoMemory;
 use sh_syntax::sequence::Text;
@@ -29,9 +30,9 @@ pub struct Shell {
 impl Model for Shell {
     ghost use Rattle.std.specs.Coded.{codes};
     ghost use Rattle.sh_vars.specs.Codes.{map_code};
-    ghost use Rattle.sh_exec_shell.specs.Codes.{run_code};
-    ghost use Rattle.sh_exec_shell.specs.Running.{ShellState};
-    ghost use Rattle.sh_exec_shell.specs.Tree.{run_of};
+    ghost use Rattle.sh_exec_shell_base.specs.Codes.{run_code};
+    ghost use Rattle.sh_exec_shell_base.specs.Running.{ShellState};
+    ghost use Rattle.sh_exec_shell_base.specs.Tree.{run_of};
 
     ghost Value = { ShellState };
 
@@ -47,27 +48,28 @@ pub struct Child {
     pub shell: Shell,
 }
 
+/// The status of a shell that is left.
+fn status_of(leave: Leave) -> u8
+    ensures { rooted (Run.At (Active.Leaving leave)) ≡ Run.At (Active.Next (Place.Ending result)) }
+{
+    match leave {
+        Leave::Shell(status) => status,
+        Leave::Break(_) => 0,
+        Leave::Continue(_) => 0,
+    }
+}
+
 /// At the root what leaves the shell comes to the end of the process.
 fn root(tree: Tree) -> Tree
     ensures { run_of result ≡ rooted (run_of tree) }
 {
     match tree {
         Tree::At(active) => match active {
-            Active::Leaving(status) => Tree::At(Active::Next(Place::Ending(status))),
+            Active::Leaving(leave) => Tree::At(Active::Next(Place::Ending(status_of(leave)))),
             Active::Done(status) => Tree::At(Active::Next(Place::Ending(status))),
             Active::Next(place) => Tree::At(Active::Next(place)),
         },
         Tree::In(form, inner) => Tree::In(form, inner),
-    }
-}
-
-/// The active place of a tree.
-fn active_of(tree: &Tree) -> &Active
-    ensures { result.now ≡ active_of (run_of tree.now) }
-{
-    match tree {
-        Tree::At(active) => active,
-        Tree::In(_, inner) => active_of(inner),
     }
 }
 
@@ -117,7 +119,7 @@ impl Shell {
     pub fn active(&self) -> &Active
         ensures { result.now ≡ active_of self.now.run }
     {
-        active_of(&self.tree)
+        self.tree.active()
     }
 
     /// One turn of a shell in the process `pid`, and the process that it made, if it made one. The only error is want of
@@ -133,7 +135,7 @@ impl Shell {
         ensures terminal { Extends kernel.old.terminal.bytes kernel.new.terminal.bytes }
     {
         let tree = mem::replace(&mut self.tree, Tree::At(Active::Done(0)));
-        let (next, child) = reduce(alloc, kernel, pid, &mut self.vars, tree)?;
+        let (next, child) = reduce(alloc, kernel, pid, &mut self.vars, false, tree)?;
         drop(mem::replace(&mut self.tree, root(next)));
         Ok(child)
     }

@@ -75,6 +75,7 @@ fn with_substitution(wants: Wants, status: u8) -> Wants
             prepared.status = status;
             Wants::Values(prepared)
         },
+        Wants::Series(command) => Wants::Series(command),
     }
 }
 

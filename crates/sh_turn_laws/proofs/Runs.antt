@@ -9,7 +9,7 @@ use Rattle.sh_exec.specs.declared.process.Process.TheVariants.{Runs, Asks}
 use Rattle.sh_exec_search.specs.Search.{located_of}
 use Rattle.sh_exec_search.specs.declared.search.Located.{Located}
 use Rattle.sh_exec_search.specs.declared.search.Located.TheVariants as located
-use Rattle.sh_exec_shell.specs.Running.{ShellState, active_of}
+use Rattle.sh_exec_shell_base.specs.Running.{ShellState, active_of}
 use Rattle.sh_kernel_base.specs.declared.descriptor.Name.TheVariants.{Number}
 use Rattle.sh_kernel.specs.Requests.{Request, End, StartProgram, after_request}
 use Rattle.sh_kernel.specs.State.{KernelState}

@@ -1,8 +1,11 @@
 -- Turns of a shell.
-use Rattle.std.proofs.Common.{◌≡◌, ℕ, List, [], ◌∷◌, ◌++◌, Bool, true, false, length, Option, Some, None, refl, sym, ap, ◌∙◌}
-use Rattle.std.specs.Prelude.{nat_eq, if◌then◌else◌}
+use Rattle.std.proofs.Common.{◌≡◌, ℕ, zero, suc, List, [], ◌∷◌, ◌++◌, Bool, true, false, length, Option, Some, None, refl, sym, ap, ◌∙◌}
+use Rattle.std.specs.Prelude.{◌||◌, nat_eq, if◌then◌else◌}
 use Rattle.sh_exec_base.specs.declared.message.Piece.{Piece}
 use Rattle.sh_exec_base.specs.declared.redirection.Redirection.{Redirection}
+use Rattle.sh_exec_base.specs.declared.builtin.Leave.{Leave}
+use Rattle.sh_exec_base.specs.declared.builtin.Leave.TheVariants as leave
+use Rattle.sh_exec_command.specs.Series.{given}
 use Rattle.sh_exec_command.specs.declared.running.Active.{Active}
 use Rattle.sh_exec_command.specs.declared.running.Active.TheVariants.{Next, Done, Leaving}
 use Rattle.sh_exec_command.specs.declared.running.Expanded.{Expanded}
@@ -10,7 +13,7 @@ use Rattle.sh_exec_command.specs.declared.running.Expanded.TheVariants as expand
 use Rattle.sh_exec_command.specs.declared.running.Finish.{Finish}
 use Rattle.sh_exec_command.specs.declared.running.Pending.{Pending}
 use Rattle.sh_exec_command.specs.declared.running.Place.{Place}
-use Rattle.sh_exec_command.specs.declared.running.Place.TheVariants.{Reading, Expanding, Collecting, Answering, Redirecting, Forking, Starting, Staging, Waiting, Writing, Ending}
+use Rattle.sh_exec_command.specs.declared.running.Place.TheVariants.{Reading, Expanding, Collecting, Answering, Redirecting, Forking, Starting, Staging, Giving, Waiting, Writing, Ending}
 use Rattle.sh_exec_command.specs.declared.running.Prepared.{Prepared}
 use Rattle.sh_exec_command.specs.declared.running.Stages.{Stages}
 use Rattle.sh_exec_command.specs.declared.running.Substitution.{Substitution}
@@ -22,11 +25,11 @@ use Rattle.sh_exec_machine.specs.declared.transfer.Taken.{Taken}
 use Rattle.sh_exec_machine.specs.declared.transfer.Taken.TheVariants as taken
 use Rattle.sh_exec_shell.specs.Acting.{collect_by, collect_end, collect_from, collect_turn, collected, end_turn, expand_turn, keeps, next, redirect_from, redirect_one, redirect_turn, with_written, write_turn}
 use Rattle.sh_exec_shell.specs.Forks.{fork_turn, is_more, program_by, stage_by, stage_from, stage_one, stage_turn, substitute_turn, substitution_by}
-use Rattle.sh_exec_shell.specs.Forms.{Acted, acted, after, after_by, ended, left, settled, undone}
+use Rattle.sh_exec_shell_base.specs.Forms.{Acted, acted, after, after_by, ended, is_loop, left, loop_left, onward, repeated, settled, undone}
 use Rattle.sh_exec_shell.specs.Reduction.{act_at, act_place, expanded_by, reduce, shell_turn}
-use Rattle.sh_exec_shell.specs.Running.{Run, At, In, ShellState}
-use Rattle.sh_exec_shell.specs.declared.form.Form.{Form}
-use Rattle.sh_exec_shell.specs.declared.form.Form.TheVariants.{Text, Commands, Negated, Restoring}
+use Rattle.sh_exec_shell_base.specs.Running.{Run, At, In, ShellState}
+use Rattle.sh_exec_shell_base.specs.declared.form.Form.{Form}
+use Rattle.sh_exec_shell_base.specs.declared.form.Form.TheVariants.{Text, Commands, Joined, Negated, Restoring, If, Condition, Body, Each}
 use Rattle.sh_kernel_base.specs.declared.descriptor.Name.TheVariants.{Aside}
 use Rattle.sh_kernel.specs.Requests.{Close, End, Request, after_request}
 use Rattle.sh_kernel.specs.State.{KernelState}
@@ -45,28 +48,48 @@ module _ (directory : List ℕ) (P : KernelState → Type 0) (kept : IsKept dire
   ended_keeps : (pid : ℕ) (form : Form) (s : KernelState) (env : Environment) (status : ℕ) → P s → P (ended pid form s env status).machine
   ended_keeps pid (Text rest) s env status p = p
   ended_keeps pid (Commands items) s env status p = p
+  ended_keeps pid (Joined others) s env status p = p
   ended_keeps pid Negated s env status p = p
   ended_keeps pid (Restoring undo) s env status p = undone_keeps pid undo s env (At (Done status)) p
+  ended_keeps pid (If branches) s env status p = p
+  ended_keeps pid (Condition loop last) s env status p = p
+  ended_keeps pid (Body loop) s env status p = p
+  ended_keeps pid (Each series) s env status p = p
 
-  left_keeps : (pid : ℕ) (form : Form) (s : KernelState) (env : Environment) (status : ℕ) → P s → P (left pid form s env status).machine
-  left_keeps pid (Text rest) s env status p = p
-  left_keeps pid (Commands items) s env status p = p
-  left_keeps pid Negated s env status p = p
-  left_keeps pid (Restoring undo) s env status p = undone_keeps pid undo s env (At (Leaving status)) p
+  loop_left_keeps : (looped : Bool) (leave : Leave) (s : KernelState) (env : Environment) (next : Run) → P s → P (loop_left s env next (onward looped leave)).machine
+  loop_left_keeps looped (leave.Shell status) s env next p = p
+  loop_left_keeps looped (leave.Break zero) s env next p = p
+  loop_left_keeps false (leave.Break (suc inside)) s env next p = p
+  loop_left_keeps true (leave.Break (suc inside)) s env next p = p
+  loop_left_keeps looped (leave.Continue zero) s env next p = p
+  loop_left_keeps false (leave.Continue (suc inside)) s env next p = p
+  loop_left_keeps true (leave.Continue (suc inside)) s env next p = p
 
-  after_by_keeps : (pid : ℕ) (form : Form) (s : KernelState) (env : Environment) (run : Run) → P s → P (after_by pid form s env run).machine
-  after_by_keeps pid form s env (At (Done status)) p = ended_keeps pid form s env status p
-  after_by_keeps pid form s env (At (Leaving status)) p = left_keeps pid form s env status p
-  after_by_keeps pid form s env (At (Next place)) p = p
-  after_by_keeps pid form s env (In inner run) p = p
+  left_keeps : (pid : ℕ) (looped : Bool) (form : Form) (s : KernelState) (env : Environment) (leave : Leave) → P s → P (left pid looped form s env leave).machine
+  left_keeps pid looped (Text rest) s env leave p = p
+  left_keeps pid looped (Commands items) s env leave p = p
+  left_keeps pid looped (Joined others) s env leave p = p
+  left_keeps pid looped Negated s env leave p = p
+  left_keeps pid looped (Restoring undo) s env leave p = undone_keeps pid undo s env (At (Leaving leave)) p
+  left_keeps pid looped (If branches) s env leave p = p
+  left_keeps pid looped (Condition loop last) s env leave p = loop_left_keeps looped leave s env (repeated loop last) p
+  left_keeps pid looped (Body loop) s env leave p = loop_left_keeps looped leave s env (repeated loop 0) p
+  left_keeps pid looped (Each series) s env leave p = loop_left_keeps looped leave s env (At (given series 0)) p
 
-  after_keeps : (pid : ℕ) (form : Form) (a : Acted) → P a.machine → P (after pid form a).machine
+  after_by_keeps : (pid : ℕ) (looped : Bool) (form : Form) (s : KernelState) (env : Environment) (run : Run) → P s → P (after_by pid looped form s env run).machine
+  after_by_keeps pid looped form s env (At (Done status)) p = ended_keeps pid form s env status p
+  after_by_keeps pid looped form s env (At (Leaving leave)) p = left_keeps pid looped form s env leave p
+  after_by_keeps pid looped form s env (At (Next place)) p = p
+  after_by_keeps pid looped form s env (In inner run) p = p
+
+  after_keeps : (pid : ℕ) (looped : Bool) (form : Form) (a : Acted) → P a.machine → P (after pid looped form a).machine
   unfolding after
-  after_keeps pid form a p = after_by_keeps pid form a.machine a.environment a.run p
+  after_keeps pid looped form a p = after_by_keeps pid looped form a.machine a.environment a.run p
 
-  settled_keeps : (pid : ℕ) (s : KernelState) (env : Environment) (run : Run) → P s → P (settled pid s env run).machine
-  settled_keeps pid s env (At active) p = p
-  settled_keeps pid s env (In form run) p = after_keeps pid form (settled pid s env run) (settled_keeps pid s env run p)
+  settled_keeps : (pid : ℕ) (looped : Bool) (s : KernelState) (env : Environment) (run : Run) → P s → P (settled pid looped s env run).machine
+  settled_keeps pid looped s env (At active) p = p
+  settled_keeps pid looped s env (In form run) p =
+      after_keeps pid looped form (settled pid (is_loop form || looped) s env run) (settled_keeps pid (is_loop form || looped) s env run p)
 
   -- ---- what a substitution's process writes
   collected_keeps : (s : KernelState) (pid : ℕ) (env : Environment) (substitution : Substitution) (aside : ℕ) → P s → P (collected s pid env substitution aside).machine
@@ -158,6 +181,7 @@ module _ (directory : List ℕ) (P : KernelState → Type 0) (kept : IsKept dire
   place_keeps s pid env (Forking prepared) e p = fork_turn_keeps s pid env prepared p
   place_keeps s pid env (Starting fields) e p = p
   place_keeps s pid env (Staging stages) e p = stage_turn_keeps s pid env stages p
+  place_keeps s pid env (Giving series) e p = p
   place_keeps s pid env (Waiting children) e p = p
   place_keeps s pid env (Writing piece finish) e p = write_keeps s pid env piece finish p
   place_keeps s pid env (Ending status) e p = end_keeps s pid env status p
@@ -165,12 +189,13 @@ module _ (directory : List ℕ) (P : KernelState → Type 0) (kept : IsKept dire
   active_keeps : (s : KernelState) (pid : ℕ) (env : Environment) (active : Active) → env.directory ≡ directory → P s → P (act_at s pid env active).left.machine
   active_keeps s pid env (Next place) e p = place_keeps s pid env place e p
   active_keeps s pid env (Done status) e p = p
-  active_keeps s pid env (Leaving status) e p = p
+  active_keeps s pid env (Leaving leave) e p = p
 
-  reduce_keeps : (s : KernelState) (pid : ℕ) (env : Environment) (run : Run) → env.directory ≡ directory → P s → P (reduce s pid env run).left.machine
-  reduce_keeps s pid env (At active) e p =
-      let t = act_at s pid env active in settled_keeps pid t.left.machine t.left.environment t.left.run (active_keeps s pid env active e p)
-  reduce_keeps s pid env (In form run) e p = after_keeps pid form (reduce s pid env run).left (reduce_keeps s pid env run e p)
+  reduce_keeps : (s : KernelState) (pid : ℕ) (env : Environment) (looped : Bool) (run : Run) → env.directory ≡ directory → P s → P (reduce s pid env looped run).left.machine
+  reduce_keeps s pid env looped (At active) e p =
+      let t = act_at s pid env active in settled_keeps pid looped t.left.machine t.left.environment t.left.run (active_keeps s pid env active e p)
+  reduce_keeps s pid env looped (In form run) e p =
+      after_keeps pid looped form (reduce s pid env (is_loop form || looped) run).left (reduce_keeps s pid env (is_loop form || looped) run e p)
 
 -- ---- as requests
 all_from : (directory : List ℕ) (rs : List (ℕ × Request)) (q : ℕ × Request) → AllFrom directory rs → IsFrom directory q.1 → AllFrom directory (rs ++ q ∷ [])
@@ -188,7 +213,7 @@ one_more directory s t pid r f b =
 
 pub shell_keeps : (P : KernelState → Type 0) (s : KernelState) (pid : ℕ) (shell : ShellState) → IsKept shell.environment.directory P → P s → P (shell_turn s pid shell).left.machine
 unfolding shell_turn
-shell_keeps P s pid shell kept p = reduce_keeps shell.environment.directory P kept s pid shell.environment shell.run refl p
+shell_keeps P s pid shell kept p = reduce_keeps shell.environment.directory P kept s pid shell.environment false shell.run refl p
 
 pub turns : (s : KernelState) (pid : ℕ) (shell : ShellState) → ByRequests shell.environment.directory s (shell_turn s pid shell).left.machine
 turns s pid shell =

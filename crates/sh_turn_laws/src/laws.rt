@@ -1,7 +1,7 @@
 //! The laws.
 ghost use Rattle.std.specs.Prelude.{ℕ, List};
 ghost use Rattle.sh_exec_shell.specs.Reduction.{shell_turn};
-ghost use Rattle.sh_exec_shell.specs.Running.{ShellState};
+ghost use Rattle.sh_exec_shell_base.specs.Running.{ShellState};
 ghost use Rattle.sh_kernel.specs.Laws.{OnlyGrows};
 ghost use Rattle.sh_kernel.specs.State.{KernelState};
 ghost use Rattle.sh_turn_laws.specs.Requests.{ByRequests, ComesByRequests, Shows};

@@ -4,7 +4,7 @@ use Rattle.sh_exec.specs.declared.process.Process.TheVariants.{Runs}
 use Rattle.sh_exec_command.specs.declared.running.Active.TheVariants.{Next}
 use Rattle.sh_exec_command.specs.declared.running.Place.{Place}
 use Rattle.sh_exec_command.specs.declared.running.Place.TheVariants.{Reading}
-use Rattle.sh_exec_shell.specs.Running.{At}
+use Rattle.sh_exec_shell_base.specs.Running.{At}
 use Rattle.sh_files.specs.Nodes.{FileMap}
 use Rattle.sh_kernel.specs.State as kernel
 use Rattle.sh_kernel.specs.State.{KernelState}

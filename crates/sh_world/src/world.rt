@@ -43,7 +43,7 @@ impl<S: Stock> Model for World<S> {
     ghost use Rattle.std.specs.Coded.{codes};
     ghost use Rattle.sh_files_base.specs.Codes as paths;
     ghost use Rattle.sh_vars.specs.Codes as variables;
-    ghost use Rattle.sh_exec_shell.specs.Codes.{run_code};
+    ghost use Rattle.sh_exec_shell_base.specs.Codes.{run_code};
     ghost use Rattle.sh_world.specs.Kept.{WorldKept};
 
     ghost Value = { WorldKept S };

@@ -1,5 +1,5 @@
 //! Simple commands: their turns, assignments, words and `exit`.
-use crate::harness::{Row, come_to};
+use sh_world_harness::{Row, wrong_rows};
 use std::test::Fail;
 
 /// Commands of one kind of action each.
@@ -19,8 +19,8 @@ const SMALL_COMMANDS: [Row; 20] = [
     ("x=1 cat </dev/null", 11, "", 0),
     ("exit | exit", 10, "", 0),
     ("! exit | exit", 10, "", 1),
-    ("true | true", 12, "", 0),
-    ("true", 8, "", 0),
+    ("/bin/true | /bin/true", 12, "", 0),
+    ("/bin/true", 8, "", 0),
     ("echo $(echo a)", 12, "a\n", 0),
     ("x=$(exit) y=$(exit)", 14, "", 0),
     ("x=1\nx=1", 6, "", 0),
@@ -28,7 +28,9 @@ const SMALL_COMMANDS: [Row; 20] = [
 
 #[test]
 fn small_commands(rt: HostRuntime) -> Result<(), Fail> {
-    come_to(&rt, rt.alloc(), &SMALL_COMMANDS)
+    let wrong = wrong_rows(rt.alloc(), &SMALL_COMMANDS)?;
+    assert_eq!(rt; wrong.as_str(), "");
+    Ok(())
 }
 
 /// Assignments, by themselves and before commands.
@@ -40,7 +42,7 @@ const ASSIGNMENTS: [Row; 20] = [
     ("x=1; /d/vars", 13, "[] []\n", 0),
     ("x=1 /d/vars; /d/vars", 22, "[1] []\n[] []\n", 0),
     ("x=5; x=1 y=${x}2 /d/vars", 14, "[1] [12]\n", 0),
-    ("x=1; x=2 true; echo $x", 12, "1\n", 0),
+    ("x=1; x=2 /bin/true; echo $x", 12, "1\n", 0),
     ("x=1 $none; echo $x", 7, "1\n", 0),
     (
         "x=1 $none y=2 >f; echo $x $y.",
@@ -62,7 +64,9 @@ const ASSIGNMENTS: [Row; 20] = [
 
 #[test]
 fn assignments(rt: HostRuntime) -> Result<(), Fail> {
-    come_to(&rt, rt.alloc(), &ASSIGNMENTS)
+    let wrong = wrong_rows(rt.alloc(), &ASSIGNMENTS)?;
+    assert_eq!(rt; wrong.as_str(), "");
+    Ok(())
 }
 
 /// Words with quotes, parameters, patterns and substitutions.
@@ -97,14 +101,16 @@ const WORDS: [Row; 16] = [
 
 #[test]
 fn words(rt: HostRuntime) -> Result<(), Fail> {
-    come_to(&rt, rt.alloc(), &WORDS)
+    let wrong = wrong_rows(rt.alloc(), &WORDS)?;
+    assert_eq!(rt; wrong.as_str(), "");
+    Ok(())
 }
 
 /// `exit`, in the shell, in stages and in substitutions.
 const EXITS: [Row; 20] = [
     ("exit", 3, "", 0),
     ("exit 3", 3, "", 3),
-    ("false; exit", 8, "", 1),
+    ("/bin/false; exit", 8, "", 1),
     ("nosuch; exit", 9, "psh: nosuch: not found\n", 127),
     ("exit 256", 4, "psh: exit: usage\n", 2),
     ("exit a; echo no", 4, "psh: exit: usage\n", 2),
@@ -116,7 +122,7 @@ const EXITS: [Row; 20] = [
     ("exit 3 | echo a; echo $?", 13, "a\n0\n", 0),
     ("x=$(echo a; exit 3; echo b); echo $x $?", 14, "a 3\n", 0),
     ("exit $(exit 3)", 8, "", 0),
-    ("false; exit $(exit 3)", 13, "", 1),
+    ("/bin/false; exit $(exit 3)", 13, "", 1),
     ("x=$(exit 3); exit", 9, "", 3),
     ("echo a | exit a; echo $?", 14, "psh: exit: usage\n2\n", 0),
     ("! exit 0", 3, "", 0),
@@ -126,7 +132,9 @@ const EXITS: [Row; 20] = [
 
 #[test]
 fn exits(rt: HostRuntime) -> Result<(), Fail> {
-    come_to(&rt, rt.alloc(), &EXITS)
+    let wrong = wrong_rows(rt.alloc(), &EXITS)?;
+    assert_eq!(rt; wrong.as_str(), "");
+    Ok(())
 }
 
 /// Texts outside the grammar: nothing of the command runs, and all before it has run.
@@ -144,7 +152,7 @@ const REFUSED_TEXTS: [Row; 20] = [
     ("echo a ;; echo b", 3, "psh: syntax error\n", 2),
     ("; echo a", 3, "psh: syntax error\n", 2),
     ("echo a > > f", 3, "psh: syntax error\n", 2),
-    ("! ! true", 3, "psh: syntax error\n", 2),
+    ("! ! /bin/true", 3, "psh: syntax error\n", 2),
     ("echo a | ! cat", 3, "psh: syntax error\n", 2),
     ("echo ${x!}", 3, "psh: bad substitution\n", 2),
     ("echo $(fi)", 3, "psh: syntax error\n", 2),
@@ -155,5 +163,7 @@ const REFUSED_TEXTS: [Row; 20] = [
 
 #[test]
 fn refused_texts(rt: HostRuntime) -> Result<(), Fail> {
-    come_to(&rt, rt.alloc(), &REFUSED_TEXTS)
+    let wrong = wrong_rows(rt.alloc(), &REFUSED_TEXTS)?;
+    assert_eq!(rt; wrong.as_str(), "");
+    Ok(())
 }

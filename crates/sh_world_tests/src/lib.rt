@@ -4,8 +4,6 @@
 #[cfg(test)]
 mod command_rows;
 #[cfg(test)]
-mod harness;
-#[cfg(test)]
 mod pipeline_rows;
 #[cfg(test)]
 mod program_rows;

@@ -1,5 +1,5 @@
 //! Pipelines, their statuses, and what goes through their pipes.
-use crate::harness::{Row, come_to};
+use sh_world_harness::{Row, wrong_rows};
 use std::test::Fail;
 
 /// Pipelines of up to five stages, and `!`.
@@ -10,11 +10,11 @@ const PIPELINES: [Row; 20] = [
     ("echo a | cat | cat | cat | cat", 36, "a\n", 0),
     ("cat <in | having z; echo $?", 20, "1\n", 0),
     ("cat <in | head -n 2 | count", 25, "5\n", 0),
-    ("true | false; echo $?", 14, "1\n", 0),
-    ("false | true; echo $?", 14, "0\n", 0),
-    ("! false | true; echo $?", 14, "1\n", 0),
-    ("! true; echo $?", 10, "1\n", 0),
-    ("! false; echo $?", 10, "0\n", 0),
+    ("/bin/true | /bin/false; echo $?", 14, "1\n", 0),
+    ("/bin/false | /bin/true; echo $?", 14, "0\n", 0),
+    ("! /bin/false | /bin/true; echo $?", 14, "1\n", 0),
+    ("! /bin/true; echo $?", 10, "1\n", 0),
+    ("! /bin/false; echo $?", 10, "0\n", 0),
     ("! nosuch; echo $?", 11, "psh: nosuch: not found\n0\n", 0),
     ("! x=1; echo $? $x", 6, "1 1\n", 0),
     ("echo a |\n\n cat", 15, "a\n", 0),
@@ -38,7 +38,9 @@ const PIPELINES: [Row; 20] = [
 
 #[test]
 fn pipelines(rt: HostRuntime) -> Result<(), Fail> {
-    come_to(&rt, rt.alloc(), &PIPELINES)
+    let wrong = wrong_rows(rt.alloc(), &PIPELINES)?;
+    assert_eq!(rt; wrong.as_str(), "");
+    Ok(())
 }
 
 /// Stages with redirections, assignments and faults.
@@ -50,7 +52,7 @@ const STAGES: [Row; 20] = [
     ("cat <in | cat >f | cat; cat <f", 34, "a\nbb\nccc\n", 0),
     ("x=$(echo a | cat); echo $x", 23, "a\n", 0),
     ("echo $(echo a | count) | cat", 32, "2\n", 0),
-    ("echo $? | cat; false; echo $? | cat", 32, "0\n1\n", 0),
+    ("echo $? | cat; /bin/false; echo $? | cat", 32, "0\n1\n", 0),
     (
         "cat </none | cat; echo $?",
         16,
@@ -82,7 +84,9 @@ const STAGES: [Row; 20] = [
 
 #[test]
 fn stages(rt: HostRuntime) -> Result<(), Fail> {
-    come_to(&rt, rt.alloc(), &STAGES)
+    let wrong = wrong_rows(rt.alloc(), &STAGES)?;
+    assert_eq!(rt; wrong.as_str(), "");
+    Ok(())
 }
 
 /// Much that goes through pipes, and stages that leave early.
@@ -90,14 +94,14 @@ const SIZES: [Row; 20] = [
     ("yes | head -n 1; echo $?", 20, "y\n0\n", 0),
     ("yes | head -n 3", 22, "y\ny\ny\n", 0),
     ("yes | head -n 0; echo $?", 16, "0\n", 0),
-    ("yes | true", 14, "", 0),
+    ("yes | /bin/true", 14, "", 0),
     ("yes | nosuch", 16, "psh: nosuch: not found\n", 127),
     ("cat <f600 | count", 19, "600\n", 0),
     ("cat <f5000 | count", 31, "5000\n", 0),
     ("cat <z5000 | count", 31, "5000\n", 0),
     ("cat <f5000 | cat | cat | count", 61, "5000\n", 0),
     ("cat <f5000 | head -n 2", 20, "abcdefghi\nabcdefghi\n", 0),
-    ("cat <f5000 | true; echo $?", 16, "0\n", 0),
+    ("cat <f5000 | /bin/true; echo $?", 16, "0\n", 0),
     ("x=$(cat <f600); echo ${#x}", 17, "599\n", 0),
     ("x=$(cat <f5000); echo $x | count", 44, "5000\n", 0),
     ("x=$(cat <z5000); echo $x | cat | count", 59, "5001\n", 0),
@@ -116,5 +120,7 @@ const SIZES: [Row; 20] = [
 
 #[test]
 fn sizes(rt: HostRuntime) -> Result<(), Fail> {
-    come_to(&rt, rt.alloc(), &SIZES)
+    let wrong = wrong_rows(rt.alloc(), &SIZES)?;
+    assert_eq!(rt; wrong.as_str(), "");
+    Ok(())
 }

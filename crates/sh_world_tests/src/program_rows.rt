@@ -1,5 +1,5 @@
 //! The search for programs, and scripts that are started as programs.
-use crate::harness::{Row, come_to, run_scripts};
+use sh_world_harness::{Row, wrong_rows, wrong_scripts};
 use std::test::Fail;
 
 /// Names with a slash, and files that are no programs.
@@ -35,13 +35,15 @@ const PATHS_AND_NAMES: [Row; 18] = [
     ("''; echo $?", 11, "psh: : not found\n127\n", 0),
     ("\"echo\" a", 5, "a\n", 0),
     ("x=\"echo a\"; $x b", 6, "a b\n", 0),
-    ("true x; echo $?", 10, "2\n", 0),
+    ("/bin/true x; echo $?", 10, "2\n", 0),
     ("cat in; echo $?", 10, "2\n", 0),
 ];
 
 #[test]
 fn paths_and_names(rt: HostRuntime) -> Result<(), Fail> {
-    come_to(&rt, rt.alloc(), &PATHS_AND_NAMES)
+    let wrong = wrong_rows(rt.alloc(), &PATHS_AND_NAMES)?;
+    assert_eq!(rt; wrong.as_str(), "");
+    Ok(())
 }
 
 /// The search by `PATH`.
@@ -82,7 +84,9 @@ const SEARCHES: [Row; 17] = [
 
 #[test]
 fn searches(rt: HostRuntime) -> Result<(), Fail> {
-    come_to(&rt, rt.alloc(), &SEARCHES)
+    let wrong = wrong_rows(rt.alloc(), &SEARCHES)?;
+    assert_eq!(rt; wrong.as_str(), "");
+    Ok(())
 }
 
 /// Scripts as programs: their parameters, variables and statuses.
@@ -121,7 +125,9 @@ const SCRIPTS: [Row; 20] = [
 
 #[test]
 fn scripts(rt: HostRuntime) -> Result<(), Fail> {
-    come_to(&rt, rt.alloc(), &SCRIPTS)
+    let wrong = wrong_rows(rt.alloc(), &SCRIPTS)?;
+    assert_eq!(rt; wrong.as_str(), "");
+    Ok(())
 }
 
 /// Process numbers, and scripts among redirections and pipelines.
@@ -157,7 +163,9 @@ const PROCESS_NUMBERS: [Row; 12] = [
 
 #[test]
 fn process_numbers(rt: HostRuntime) -> Result<(), Fail> {
-    come_to(&rt, rt.alloc(), &PROCESS_NUMBERS)
+    let wrong = wrong_rows(rt.alloc(), &PROCESS_NUMBERS)?;
+    assert_eq!(rt; wrong.as_str(), "");
+    Ok(())
 }
 
 /// First shells that run a file of the image, and such as can not.
@@ -182,5 +190,7 @@ const SCRIPT_OPERANDS: [Row; 16] = [
 
 #[test]
 fn script_operands(rt: HostRuntime) -> Result<(), Fail> {
-    run_scripts(&rt, rt.alloc(), &SCRIPT_OPERANDS)
+    let wrong = wrong_scripts(rt.alloc(), &SCRIPT_OPERANDS)?;
+    assert_eq!(rt; wrong.as_str(), "");
+    Ok(())
 }

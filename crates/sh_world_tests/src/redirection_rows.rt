@@ -1,5 +1,5 @@
 //! Redirections, descriptors and the offsets of open files.
-use crate::harness::{Row, come_to, come_to_by_next};
+use sh_world_harness::{Row, wrong_races, wrong_rows};
 use std::test::Fail;
 
 /// Files that are written and read, and the words that name them.
@@ -33,7 +33,9 @@ const FILES_AND_WORDS: [Row; 20] = [
 
 #[test]
 fn files_and_words(rt: HostRuntime) -> Result<(), Fail> {
-    come_to(&rt, rt.alloc(), &FILES_AND_WORDS)
+    let wrong = wrong_rows(rt.alloc(), &FILES_AND_WORDS)?;
+    assert_eq!(rt; wrong.as_str(), "");
+    Ok(())
 }
 
 /// Descriptors that are doubled and closed, in their order.
@@ -72,7 +74,9 @@ const DESCRIPTORS: [Row; 20] = [
 
 #[test]
 fn descriptors(rt: HostRuntime) -> Result<(), Fail> {
-    come_to(&rt, rt.alloc(), &DESCRIPTORS)
+    let wrong = wrong_rows(rt.alloc(), &DESCRIPTORS)?;
+    assert_eq!(rt; wrong.as_str(), "");
+    Ok(())
 }
 
 /// Redirections that fail.
@@ -141,7 +145,9 @@ const REDIRECTION_FAULTS: [Row; 25] = [
 
 #[test]
 fn redirection_faults(rt: HostRuntime) -> Result<(), Fail> {
-    come_to(&rt, rt.alloc(), &REDIRECTION_FAULTS)
+    let wrong = wrong_rows(rt.alloc(), &REDIRECTION_FAULTS)?;
+    assert_eq!(rt; wrong.as_str(), "");
+    Ok(())
 }
 
 /// Descriptors that share an offset, and such that do not.
@@ -175,7 +181,9 @@ const OFFSETS: [Row; 10] = [
 
 #[test]
 fn offsets(rt: HostRuntime) -> Result<(), Fail> {
-    come_to(&rt, rt.alloc(), &OFFSETS)
+    let wrong = wrong_rows(rt.alloc(), &OFFSETS)?;
+    assert_eq!(rt; wrong.as_str(), "");
+    Ok(())
 }
 
 /// Stages that write to one file, whose order shows.
@@ -186,7 +194,9 @@ const RACES: [Row; 2] = [
 
 #[test]
 fn races(rt: HostRuntime) -> Result<(), Fail> {
-    come_to_by_next(&rt, rt.alloc(), &RACES)
+    let wrong = wrong_races(rt.alloc(), &RACES)?;
+    assert_eq!(rt; wrong.as_str(), "");
+    Ok(())
 }
 
 /// Here-documents.
@@ -246,5 +256,7 @@ const HERE_DOCUMENTS: [Row; 21] = [
 
 #[test]
 fn here_documents(rt: HostRuntime) -> Result<(), Fail> {
-    come_to(&rt, rt.alloc(), &HERE_DOCUMENTS)
+    let wrong = wrong_rows(rt.alloc(), &HERE_DOCUMENTS)?;
+    assert_eq!(rt; wrong.as_str(), "");
+    Ok(())
 }

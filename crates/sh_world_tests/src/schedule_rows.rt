@@ -1,5 +1,5 @@
 //! Pipelines whose stages take their turns in other orders.
-use crate::harness::{Schedules, follow};
+use sh_world_harness::{Schedules, wrong_schedules};
 use std::test::Fail;
 
 /// Pipelines of filters.
@@ -48,7 +48,9 @@ const FIRST_SCHEDULES: [Schedules; 4] = [
 
 #[test]
 fn first_schedules(rt: HostRuntime) -> Result<(), Fail> {
-    follow(&rt, rt.alloc(), &FIRST_SCHEDULES)
+    let wrong = wrong_schedules(rt.alloc(), &FIRST_SCHEDULES)?;
+    assert_eq!(rt; wrong.as_str(), "");
+    Ok(())
 }
 
 /// Long pipelines, and a substitution.
@@ -109,7 +111,9 @@ const SECOND_SCHEDULES: [Schedules; 4] = [
 
 #[test]
 fn second_schedules(rt: HostRuntime) -> Result<(), Fail> {
-    follow(&rt, rt.alloc(), &SECOND_SCHEDULES)
+    let wrong = wrong_schedules(rt.alloc(), &SECOND_SCHEDULES)?;
+    assert_eq!(rt; wrong.as_str(), "");
+    Ok(())
 }
 
 /// Scripts, and stages whose order shows.
@@ -176,5 +180,7 @@ const THIRD_SCHEDULES: [Schedules; 4] = [
 
 #[test]
 fn third_schedules(rt: HostRuntime) -> Result<(), Fail> {
-    follow(&rt, rt.alloc(), &THIRD_SCHEDULES)
+    let wrong = wrong_schedules(rt.alloc(), &THIRD_SCHEDULES)?;
+    assert_eq!(rt; wrong.as_str(), "");
+    Ok(())
 }

@@ -1,5 +1,5 @@
 //! Command substitutions, and expansions that fail.
-use crate::harness::{Row, come_to};
+use sh_world_harness::{Row, wrong_rows};
 use std::test::Fail;
 
 /// Substitutions, nested ones, and the status that they leave.
@@ -14,13 +14,13 @@ const SUBSTITUTIONS: [Row; 26] = [
     ("echo \"`echo \\\"a  b\\\"`\"", 12, "a  b\n", 0),
     ("x=$(exit 3); echo $?", 11, "3\n", 0),
     ("$(exit 3); echo $?", 11, "3\n", 0),
-    ("false; x=$(); echo $?", 15, "0\n", 0),
-    ("false; x=$(exit); echo $?", 16, "1\n", 0),
+    ("/bin/false; x=$(); echo $?", 15, "0\n", 0),
+    ("/bin/false; x=$(exit); echo $?", 16, "1\n", 0),
     ("x=$(exit 3) y=$(exit 4); echo $?", 16, "4\n", 0),
     ("x=$(exit 3) y=2; echo $?", 11, "3\n", 0),
-    ("false; x=1; echo $?", 11, "0\n", 0),
-    ("false; x=$(exit 3) y=$?; echo $? $y", 16, "3 1\n", 0),
-    ("false; x=$(echo $?); echo $x", 18, "1\n", 0),
+    ("/bin/false; x=1; echo $?", 11, "0\n", 0),
+    ("/bin/false; x=$(exit 3) y=$?; echo $? $y", 16, "3 1\n", 0),
+    ("/bin/false; x=$(echo $?); echo $x", 18, "1\n", 0),
     (">f$(exit 3); echo $?", 12, "3\n", 0),
     ("x=$(exit 4) >f$(exit 3); echo $?", 18, "4\n", 0),
     ("x=1 $(exit 3); echo $? $x", 12, "3 1\n", 0),
@@ -39,7 +39,9 @@ const SUBSTITUTIONS: [Row; 26] = [
 
 #[test]
 fn substitutions(rt: HostRuntime) -> Result<(), Fail> {
-    come_to(&rt, rt.alloc(), &SUBSTITUTIONS)
+    let wrong = wrong_rows(rt.alloc(), &SUBSTITUTIONS)?;
+    assert_eq!(rt; wrong.as_str(), "");
+    Ok(())
 }
 
 /// Substitutions among other expansions.
@@ -51,7 +53,7 @@ const ANSWERS: [Row; 20] = [
     ("echo $(($(echo 1)+$(echo 2)))", 19, "3\n", 0),
     ("x=$(echo a) echo b; echo $x.", 15, "b\n.\n", 0),
     ("x=$(echo a) /d/vars", 20, "[a] []\n", 0),
-    ("echo $(! true) $?", 14, "0\n", 0),
+    ("echo $(! /bin/true) $?", 14, "0\n", 0),
     ("echo $(exit 3; echo a); echo $?", 12, "\n0\n", 0),
     (
         "x=$(cat <in); echo $x; echo \"$x\"",
@@ -93,7 +95,9 @@ const ANSWERS: [Row; 20] = [
 
 #[test]
 fn answers(rt: HostRuntime) -> Result<(), Fail> {
-    come_to(&rt, rt.alloc(), &ANSWERS)
+    let wrong = wrong_rows(rt.alloc(), &ANSWERS)?;
+    assert_eq!(rt; wrong.as_str(), "");
+    Ok(())
 }
 
 /// Expansions that fail, which end the shell or the process of a stage or program.
@@ -177,5 +181,7 @@ const EXPANSION_FAULTS: [Row; 20] = [
 
 #[test]
 fn expansion_faults(rt: HostRuntime) -> Result<(), Fail> {
-    come_to(&rt, rt.alloc(), &EXPANSION_FAULTS)
+    let wrong = wrong_rows(rt.alloc(), &EXPANSION_FAULTS)?;
+    assert_eq!(rt; wrong.as_str(), "");
+    Ok(())
 }

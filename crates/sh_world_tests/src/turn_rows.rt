@@ -1,6 +1,6 @@
 //! The turns at which the terminal grows, how processes end, and shells that go on.
-use crate::harness::{Growth, Lasting, State, end_so, grow_then, last};
 use sh_world::Status;
+use sh_world_harness::{Growth, Lasting, State, wrong_growths, wrong_lasting, wrong_states};
 use std::test::Fail;
 
 /// The turns of some scripts that write to the terminal.
@@ -30,23 +30,25 @@ const GROWTHS: [Growth; 16] = [
 
 #[test]
 fn growths(rt: HostRuntime) -> Result<(), Fail> {
-    grow_then(&rt, rt.alloc(), &GROWTHS)
+    let wrong = wrong_growths(rt.alloc(), &GROWTHS)?;
+    assert_eq!(rt; wrong.as_str(), "");
+    Ok(())
 }
 
 /// How the processes of some scripts end.
 const STATES: [State; 21] = [
     ("yes | head -n 1; echo $?", 101, Status::Signaled(13)),
     ("yes | head -n 1; echo $?", 102, Status::Exited(0)),
-    ("yes | true", 101, Status::Signaled(13)),
-    ("yes | true", 102, Status::Exited(0)),
+    ("yes | /bin/true", 101, Status::Signaled(13)),
+    ("yes | /bin/true", 102, Status::Exited(0)),
     ("cat <f5000 | head -n 2", 101, Status::Signaled(13)),
     ("cat <f5000 | head -n 2", 102, Status::Exited(0)),
     ("exit 3 | exit 4; echo $?", 101, Status::Exited(3)),
     ("exit 3 | exit 4; echo $?", 102, Status::Exited(4)),
     ("nosuch | cat", 101, Status::Exited(127)),
     ("nosuch | cat", 102, Status::Exited(0)),
-    ("cat </none | false", 101, Status::Exited(2)),
-    ("cat </none | false", 102, Status::Exited(1)),
+    ("cat </none | /bin/false", 101, Status::Exited(2)),
+    ("cat </none | /bin/false", 102, Status::Exited(1)),
     ("/d/exit | cat", 101, Status::Exited(7)),
     ("/d/exit | cat", 102, Status::Exited(0)),
     ("x=$(exit 3)", 101, Status::Exited(3)),
@@ -54,13 +56,15 @@ const STATES: [State; 21] = [
     ("cat <in | having z", 102, Status::Exited(1)),
     ("/d/nosuch | /d/odd", 101, Status::Exited(127)),
     ("/d/nosuch | /d/odd", 102, Status::Exited(126)),
-    ("true x | cat in", 101, Status::Exited(2)),
-    ("true x | cat in", 102, Status::Exited(2)),
+    ("/bin/true x | cat in", 101, Status::Exited(2)),
+    ("/bin/true x | cat in", 102, Status::Exited(2)),
 ];
 
 #[test]
 fn states(rt: HostRuntime) -> Result<(), Fail> {
-    end_so(&rt, rt.alloc(), &STATES)
+    let wrong = wrong_states(rt.alloc(), &STATES)?;
+    assert_eq!(rt; wrong.as_str(), "");
+    Ok(())
 }
 
 /// Shells that wait for the terminal, or for a process that goes on for ever.
@@ -78,10 +82,12 @@ const LASTING: [Lasting; 14] = [
     ("echo a >f; cat <f >>f", ""),
     ("having a | exit", ""),
     ("cat </dev/tty", ""),
-    ("spin | true; echo a", ""),
+    ("spin | /bin/true; echo a", ""),
 ];
 
 #[test]
 fn lasting(rt: HostRuntime) -> Result<(), Fail> {
-    last(&rt, rt.alloc(), &LASTING)
+    let wrong = wrong_lasting(rt.alloc(), &LASTING)?;
+    assert_eq!(rt; wrong.as_str(), "");
+    Ok(())
 }

@@ -1,0 +1,229 @@
+//! The values of a `for`.
+ghost use Rattle.std.specs.Prelude.{◌≡◌, IfOk, map};
+ghost use Rattle.sh_exec_command.specs.Answers.{expanded, result_of};
+ghost use Rattle.sh_exec_command.specs.Expanding.{start_of};
+ghost use Rattle.sh_tree.specs.declared.tree.Command.TheViews as view;
+ghost use Rattle.sh_exec_command.specs.Series.{begun_with, give_by, give_turn, given, header_in, header_of, header_turn, series_by, series_turn, values_turn, word_of_series};
+
+use crate::answers::expand;
+use crate::assigning::{may_set, set_plain};
+use crate::expanding::{fatal_message, start};
+use crate::preparing::copy_of;
+use crate::running::{Active, Expanded, Move, Pending, Place, Series, Wants};
+use sh_exec_base::Queue;
+use sh_exec_base::message::{not_expanded, read_only};
+use sh_expand::{Context, Step};
+use sh_expand_words::Wanted;
+use sh_files::Files;
+use sh_syntax::memory::NoMemory;
+use sh_syntax::sequence::{Sequence, Text};
+use sh_syntax::shared::Shared;
+use sh_tree::tree::{Command, Complete, CompoundForm, Name, Word};
+use sh_vars::Vars;
+use std::alloc::Global;
+
+/// What the values of a `for` are.
+#[derive(Drop)]
+pub(crate) enum Values {
+    /// What these words come to.
+    Words(Sequence<Wanted>),
+    /// The positional parameters.
+    Parameters,
+}
+
+/// A `for` before its body.
+#[derive(Drop)]
+pub(crate) struct Header {
+    name: Text,
+    values: Values,
+    body: Shared<Complete>,
+}
+
+/// The words of a `for`, to be expanded.
+fn words_wanted(alloc: Global, words: &[Word]) -> Result<Sequence<Wanted>, NoMemory>
+    ensures { IfOk result (λ wanted. wanted ≡ map word_of_series words.now) }
+{
+    let mut wanted = Sequence::new(alloc);
+    let mut rest = words;
+    'words: while let Some((word, others)) = rest.split_first() {
+        wanted.push(Wanted {
+            parts: word.parts.share()?,
+            context: Context::Fields,
+        })?;
+        rest = others;
+    }
+    Ok(wanted)
+}
+
+/// A header with these values.
+fn with_header(
+    alloc: Global,
+    name: &Name,
+    values: Values,
+    body: &Shared<Complete>,
+) -> Result<Header, NoMemory>
+    ensures { IfOk result (λ h. h ≡ record { name = name.now.name; values = values; body = body.now }) }
+{
+    let name = copy_of(alloc, name.name.as_slice())?;
+    let body = body.share()?;
+    Ok(Header { name, values, body })
+}
+
+/// The header of a compound command, if that is a `for`.
+fn header_in(alloc: Global, form: &CompoundForm) -> Result<Option<Header>, NoMemory>
+    ensures { IfOk result (λ h. h ≡ header_in (view.out-CompoundForm form.now)) }
+{
+    match form {
+        CompoundForm::Group(_) => Ok(None),
+        CompoundForm::Subshell(_) => Ok(None),
+        CompoundForm::If { .. } => Ok(None),
+        CompoundForm::Loop { .. } => Ok(None),
+        CompoundForm::For { name, words, body } => {
+            let wanted = words_wanted(alloc, words.as_slice())?;
+            let found = with_header(alloc, name, Values::Words(wanted), body)?;
+            Ok(Some(found))
+        },
+        CompoundForm::ForParameters { name, body, .. } => {
+            let found = with_header(alloc, name, Values::Parameters, body)?;
+            Ok(Some(found))
+        },
+        CompoundForm::Case { .. } => Ok(None),
+    }
+}
+
+/// The header of a command, if that is a `for`.
+#[tactic(auto, unfolding(crate::specs::Series::header_of))]
+fn header_of(alloc: Global, command: &Command) -> Result<Option<Header>, NoMemory>
+    ensures { IfOk result (λ h. h ≡ header_of command.now) }
+{
+    match command {
+        Command::Simple(_) => Ok(None),
+        Command::Compound(compound) => header_in(alloc, &compound.get().form),
+        Command::Function { .. } => Ok(None),
+    }
+}
+
+/// Copies of the positional parameters, in their order.
+fn parameters_of(alloc: Global, parameters: &[sh_vars::Text]) -> Result<Sequence<Text>, NoMemory>
+    ensures { IfOk result (λ copies. copies ≡ parameters.now) }
+{
+    let mut copies = Sequence::new(alloc);
+    let mut rest = parameters;
+    'parameters: while let Some((parameter, others)) = rest.split_first() {
+        copies.push(copy_of(alloc, parameter.as_bytes())?)?;
+        rest = others;
+    }
+    Ok(copies)
+}
+
+impl Series {
+    /// What a `for` goes on with: its next value, or its end with this status where none is left. Takes no memory.
+    pub fn go_on(self, status: u8) -> Active
+        ensures { result ≡ given self status }
+    {
+        if self.values.is_empty() {
+            return Active::Done(status);
+        }
+        Active::Next(Place::Giving(self))
+    }
+}
+
+/// The words of a `for` are expanded.
+fn expand_words(
+    alloc: Global,
+    command: Shared<Command>,
+    pending: Pending,
+    series: Series,
+    wanted: Sequence<Wanted>,
+    vars: &mut Vars,
+    files: &Files,
+) -> Result<Expanded, NoMemory>
+    ensures { IfOk result (λ e. record { environment = vars.new; outcome = e } ≡ series_by command pending series.name series.body (expanded files.now wanted pending.start pending.answers)) }
+{
+    *vars = pending.start.copy()?;
+    match expand(alloc, wanted, vars, files, pending.answers.as_slice())? {
+        Step::Need(program) => Ok(Expanded::Need {
+            program,
+            wants: Wants::Series(command),
+            pending,
+        }),
+        Step::Fields(fields) => {
+            let Series { name, body, .. } = series;
+            let series = Series {
+                name,
+                values: Queue::new(fields),
+                body,
+            };
+            Ok(Expanded::Go(Move::At(series.go_on(0))))
+        },
+        Step::Fault(fault) => {
+            let piece = not_expanded(alloc, fault)?;
+            Ok(Expanded::Go(Move::At(fatal_message(piece))))
+        },
+    }
+}
+
+/// The turn of the words of a `for` (XCU 2.9.4.2), from the first one on, with the answers so far; without `in` its values are the
+/// positional parameters. The only error is want of memory; what the variables are then is left open.
+#[tactic(auto, unfolding(crate::specs::Series::series_turn))]
+pub fn series_turn(
+    alloc: Global,
+    command: Shared<Command>,
+    pending: Option<Pending>,
+    vars: &mut Vars,
+    files: &Files,
+) -> Result<Expanded, NoMemory>
+    ensures { IfOk result (λ e. record { environment = vars.new; outcome = e } ≡ series_turn files.now vars.old command pending) }
+{
+    let Some(Header { name, values, body }) = header_of(alloc, command.get())? else {
+        return Ok(Expanded::Go(Move::At(Active::Done(0))));
+    };
+    match values {
+        Values::Words(wanted) => {
+            let pending = start(alloc, vars, pending)?;
+            let series = Series {
+                name,
+                values: Queue::new(Sequence::new(alloc)),
+                body,
+            };
+            expand_words(alloc, command, pending, series, wanted, vars, files)
+        },
+        Values::Parameters => {
+            let values = parameters_of(alloc, vars.positional())?;
+            let series = Series {
+                name,
+                values: Queue::new(values),
+                body,
+            };
+            Ok(Expanded::Go(Move::At(series.go_on(0))))
+        },
+    }
+}
+
+/// What follows where a `for` gives its variable a value.
+#[derive(Drop)]
+pub enum Round {
+    /// Its body is run.
+    Body(Series),
+    /// It goes on here.
+    Over(Active),
+}
+
+/// The turn in which the variable of a `for` has its next value. The only error is want of memory; what the variables are then is
+/// left open.
+#[tactic(auto, unfolding(crate::specs::Series::give_turn))]
+pub fn give_turn(alloc: Global, series: Series, vars: &mut Vars) -> Result<Round, NoMemory>
+    ensures { IfOk result (λ r. record { environment = vars.new; round = r } ≡ give_turn vars.old series) }
+{
+    let Series { name, values, body } = series;
+    let mut values = values;
+    let Some(value) = values.take() else {
+        return Ok(Round::Over(Active::Done(0)));
+    };
+    if !may_set(vars, name.as_slice()) {
+        let piece = read_only(alloc, name.as_slice())?;
+        return Ok(Round::Over(fatal_message(piece)));
+    }
+    set_plain(vars, name.as_slice(), value.as_slice())?;
+    Ok(Round::Body(Series { name, values, body }))
+}

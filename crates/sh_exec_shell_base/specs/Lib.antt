@@ -1,0 +1,5 @@
+pub mod Codes
+pub mod Entering
+pub mod Forms
+pub mod Running
+pub mod Tree

@@ -1,0 +1,310 @@
+//! Commands are entered.
+ghost use Rattle.std.specs.Prelude.{◌≡◌, ◌∷◌, [], IfOk, None, option_map};
+ghost use Rattle.sh_exec_shell_base.specs.Entering.{and_or_run, command_run, commands_run, entered, form_in, items_run, joined, list_run, list_within, pipeline_run, staging};
+ghost use Rattle.sh_exec_shell_base.specs.Running.{Run};
+ghost use Rattle.sh_exec_shell_base.specs.Tree.{run_of};
+ghost use Rattle.sh_tree.specs.declared.tree.Command.TheViews as view;
+
+use crate::form::{Branches, Form, Loop};
+use crate::share::share_all;
+use crate::tree::Tree;
+use sh_exec_base::{Queue, commands_of, is_negated};
+use sh_exec_command::{Active, Place, Stages, Wants, first_place};
+use sh_syntax::memory::NoMemory;
+use sh_syntax::sequence::Sequence;
+use sh_syntax::shared::Shared;
+use sh_tree::tree::{
+    AndOr, Command, Complete, Compound, CompoundForm, Connected, ElseIf, ListItem, LoopKind,
+    Pipeline,
+};
+use std::alloc::Global;
+
+/// How many lists of commands may stand inside one another: a text that nests more than 500 levels is too deep.
+pub(crate) const NESTING: usize = 501;
+
+/// Processes are to be made for these commands.
+fn staging(alloc: Global, commands: Sequence<Shared<Command>>) -> Place
+    ensures { result ≡ staging commands }
+{
+    Place::Staging(Stages {
+        commands: Queue::new(commands),
+        aside: None,
+        children: Sequence::new(alloc),
+    })
+}
+
+/// A subshell, for which a process is to be made.
+fn subshell_tree(alloc: Global, command: &Shared<Command>) -> Result<Tree, NoMemory>
+    ensures { IfOk result (λ tree. run_of tree ≡ Run.At (Active.Next (staging (command.now ∷ [])))) }
+{
+    let mut commands = Sequence::new(alloc);
+    commands.push(command.share()?)?;
+    Ok(Tree::next(staging(alloc, commands)))
+}
+
+/// What an `if` runs behind its condition.
+fn branches_of(
+    alloc: Global,
+    body: &Shared<Complete>,
+    else_ifs: &[ElseIf],
+    else_body: Option<&Shared<Complete>>,
+) -> Result<Branches, NoMemory>
+    ensures { IfOk result (λ branches. branches ≡ record { body = body.now; else_ifs = else_ifs.now; else_body = option_map (λ list. list.now) else_body.entry }) }
+{
+    let else_body = match else_body {
+        Some(list) => Some(list.share()?),
+        None => None,
+    };
+    let body = body.share()?;
+    let else_ifs = share_all(alloc, else_ifs)?;
+    Ok(Branches {
+        body,
+        else_ifs,
+        else_body,
+    })
+}
+
+/// An `if` whose condition is entered.
+fn if_tree(
+    alloc: Global,
+    body: &Shared<Complete>,
+    else_ifs: &[ElseIf],
+    else_body: Option<&Shared<Complete>>,
+    inner: Tree,
+) -> Result<Tree, NoMemory>
+    ensures { IfOk result (λ tree. run_of tree ≡ Run.In (Form.If (record { body = body.now; else_ifs = else_ifs.now; else_body = option_map (λ list. list.now) else_body.entry })) (run_of inner)) }
+{
+    match branches_of(alloc, body, else_ifs, else_body) {
+        Ok(branches) => inner.within(alloc, Form::If(branches)),
+        Err(refusal) => {
+            drop(inner);
+            Err(refusal)
+        },
+    }
+}
+
+/// A loop.
+fn loop_of(
+    kind: LoopKind,
+    condition: &Shared<Complete>,
+    body: &Shared<Complete>,
+) -> Result<Loop, NoMemory>
+    ensures { IfOk result (λ looping. looping ≡ record { kind = kind; condition = condition.now; body = body.now }) }
+{
+    let condition = condition.share()?;
+    let body = body.share()?;
+    Ok(Loop {
+        kind,
+        condition,
+        body,
+    })
+}
+
+/// A loop whose condition is entered.
+fn loop_tree(
+    alloc: Global,
+    kind: LoopKind,
+    condition: &Shared<Complete>,
+    body: &Shared<Complete>,
+    inner: Tree,
+) -> Result<Tree, NoMemory>
+    ensures { IfOk result (λ tree. run_of tree ≡ Run.In (Form.Condition (record { kind = kind; condition = condition.now; body = body.now }) 0) (run_of inner)) }
+{
+    match loop_of(kind, condition, body) {
+        Ok(looping) => inner.within(alloc, Form::Condition(looping, 0)),
+        Err(refusal) => {
+            drop(inner);
+            Err(refusal)
+        },
+    }
+}
+
+/// A `for`, whose words are to be expanded.
+fn series_tree(command: &Shared<Command>) -> Result<Tree, NoMemory>
+    ensures { IfOk result (λ tree. run_of tree ≡ Run.At (Active.Next (Place.Expanding (Wants.Series command.now) None))) }
+{
+    let command = command.share()?;
+    Ok(Tree::next(Place::Expanding(Wants::Series(command), None)))
+}
+
+/// A compound command, in which lists may nest `levels` deep.
+#[cycle(entering)]
+fn compound_tree(
+    alloc: Global,
+    levels: usize,
+    command: &Shared<Command>,
+    compound: &Compound,
+) -> Result<Tree, NoMemory>
+    ensures { IfOk result (λ tree. run_of tree ≡ form_in (list_within levels) command.now (view.out-CompoundForm (view.out-Compound compound.now).form)) }
+{
+    match &compound.form {
+        CompoundForm::Group(list) => list_tree(alloc, levels, list.get()),
+        CompoundForm::Subshell(_) => subshell_tree(alloc, command),
+        CompoundForm::If {
+            condition,
+            body,
+            else_ifs,
+            else_body,
+        } => {
+            let inner = list_tree(alloc, levels, condition.get())?;
+            if_tree(alloc, body, else_ifs.as_slice(), else_body.as_ref(), inner)
+        },
+        CompoundForm::Loop {
+            kind,
+            condition,
+            body,
+        } => {
+            let inner = list_tree(alloc, levels, condition.get())?;
+            loop_tree(alloc, *kind, condition, body, inner)
+        },
+        CompoundForm::For { .. } => series_tree(command),
+        CompoundForm::ForParameters { .. } => series_tree(command),
+        CompoundForm::Case { .. } => Ok(Tree::At(Active::Done(0))),
+    }
+}
+
+/// A command.
+#[cycle(entering)]
+fn command_tree(alloc: Global, levels: usize, command: &Shared<Command>) -> Result<Tree, NoMemory>
+    ensures { IfOk result (λ tree. run_of tree ≡ command_run (list_within levels) command.now) }
+{
+    match command.get() {
+        Command::Simple(_) => {
+            let place = first_place(alloc, false, command.share()?)?;
+            Ok(Tree::next(place))
+        },
+        Command::Compound(compound) => compound_tree(alloc, levels, command, compound.get()),
+        Command::Function { .. } => Ok(Tree::At(Active::Done(0))),
+    }
+}
+
+/// The commands of a pipeline.
+#[cycle(entering)]
+fn commands_tree(
+    alloc: Global,
+    levels: usize,
+    commands: Sequence<Shared<Command>>,
+) -> Result<Tree, NoMemory>
+    ensures { IfOk result (λ tree. run_of tree ≡ commands_run (list_within levels) commands) }
+{
+    if let [command] = commands.as_slice() {
+        return command_tree(alloc, levels, command);
+    }
+    Ok(Tree::next(staging(alloc, commands)))
+}
+
+/// A pipeline.
+#[cycle(entering)]
+#[tactic(auto, unfolding(crate::specs::Entering::pipeline_run))]
+fn pipeline_tree(alloc: Global, levels: usize, pipeline: &Pipeline) -> Result<Tree, NoMemory>
+    ensures { IfOk result (λ tree. run_of tree ≡ pipeline_run (list_within levels) pipeline.now) }
+{
+    let commands = commands_of(alloc, pipeline)?;
+    let inner = commands_tree(alloc, levels, commands)?;
+    if is_negated(pipeline) {
+        return inner.within(alloc, Form::Negated);
+    }
+    Ok(inner)
+}
+
+/// A pipeline, and those behind it that are joined to it.
+pub(crate) fn join(alloc: Global, others: Queue<Connected>, inner: Tree) -> Result<Tree, NoMemory>
+    ensures { IfOk result (λ tree. run_of tree ≡ joined others (run_of inner)) }
+{
+    if others.is_empty() {
+        return Ok(inner);
+    }
+    inner.within(alloc, Form::Joined(others))
+}
+
+/// A pipeline, and copies of those behind it that are joined to it.
+fn join_copies(alloc: Global, others: &[Connected], inner: Tree) -> Result<Tree, NoMemory>
+    ensures { IfOk result (λ tree. run_of tree ≡ joined others.now (run_of inner)) }
+{
+    match share_all(alloc, others) {
+        Ok(others) => join(alloc, others, inner),
+        Err(refusal) => {
+            drop(inner);
+            Err(refusal)
+        },
+    }
+}
+
+/// An AND-OR list.
+#[cycle(entering)]
+#[tactic(auto, unfolding(crate::specs::Entering::and_or_run))]
+fn and_or_tree(alloc: Global, levels: usize, list: &AndOr) -> Result<Tree, NoMemory>
+    ensures { IfOk result (λ tree. run_of tree ≡ and_or_run (list_within levels) list.now) }
+{
+    let inner = pipeline_tree(alloc, levels, list.first.get())?;
+    join_copies(alloc, list.rest.as_slice(), inner)
+}
+
+/// AND-OR lists one after another, behind a status.
+#[cycle(entering)]
+fn items_tree(
+    alloc: Global,
+    levels: usize,
+    items: Queue<ListItem>,
+    status: u8,
+) -> Result<Tree, NoMemory>
+    ensures { IfOk result (λ tree. run_of tree ≡ items_run (list_within levels) items status) }
+{
+    let mut items = items;
+    let Some(item) = items.take() else {
+        return Ok(Tree::At(Active::Done(status)));
+    };
+    let entered = and_or_tree(alloc, levels, item.list.get());
+    drop(item);
+    match entered {
+        Ok(inner) => inner.within(alloc, Form::Commands(items)),
+        Err(refusal) => {
+            drop(items);
+            Err(refusal)
+        },
+    }
+}
+
+/// A list of commands.
+#[cycle(entering)]
+fn list_tree(alloc: Global, levels: usize, list: &Complete) -> Result<Tree, NoMemory>
+    ensures { IfOk result (λ tree. run_of tree ≡ list_within levels list.now) }
+{
+    if levels == 0 {
+        return Ok(Tree::At(Active::Done(0)));
+    }
+    let items = share_all(alloc, list.items.as_slice())?;
+    items_tree(alloc, levels - 1, items, 0)
+}
+
+/// A list of commands that stands inside a command. The only error is want of memory.
+#[tactic(auto, unfolding(crate::specs::Entering::list_run))]
+pub fn enter_list(alloc: Global, list: &Complete) -> Result<Tree, NoMemory>
+    ensures { IfOk result (λ tree. run_of tree ≡ list_run list.now) }
+{
+    list_tree(alloc, NESTING, list)
+}
+
+/// A pipeline behind others.
+#[tactic(auto, unfolding(crate::specs::Entering::list_run))]
+pub(crate) fn enter_pipeline(alloc: Global, pipeline: &Pipeline) -> Result<Tree, NoMemory>
+    ensures { IfOk result (λ tree. run_of tree ≡ pipeline_run list_run pipeline.now) }
+{
+    pipeline_tree(alloc, NESTING, pipeline)
+}
+
+/// A command that stands alone in its process.
+#[tactic(auto, unfolding(crate::specs::Entering::list_run))]
+pub(crate) fn enter_command(alloc: Global, command: &Shared<Command>) -> Result<Tree, NoMemory>
+    ensures { IfOk result (λ tree. run_of tree ≡ command_run list_run command.now) }
+{
+    command_tree(alloc, NESTING, command)
+}
+
+/// AND-OR lists one after another, entered behind a command that had this status. The only error is want of memory.
+#[tactic(auto, unfolding(crate::specs::Entering::list_run))]
+pub fn enter(alloc: Global, items: Queue<ListItem>, status: u8) -> Result<Tree, NoMemory>
+    ensures { IfOk result (λ tree. run_of tree ≡ entered items status) }
+{
+    items_tree(alloc, NESTING, items, status)
+}

@@ -1,0 +1,17 @@
+//! What a shell's process runs, as a tree of running forms: how commands are entered, and what a form becomes when what runs inside
+//! it is done.
+#![tactic(auto)]
+
+mod bodies;
+mod entering;
+mod form;
+mod forms;
+mod loops;
+mod share;
+mod tree;
+
+pub use bodies::{body_of, stage};
+pub use entering::{enter, enter_list};
+pub use form::{Branches, Form, Loop};
+pub use forms::{settle, wrap};
+pub use tree::Tree;
