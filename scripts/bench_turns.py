@@ -61,7 +61,7 @@ def main():
         write_image(large, [("/big", b"x" * (10 << 20))])
         filtered = "yes | head -n {} >/dev/null"
         copied = "cat <big | cat | cat >out"
-        behind = "true\n" * 900
+        behind = "/bin/true\n" * 900
         # a program in a line of its own takes six turns: reading, expansion, fork, start, end and wait
         ended = 900 * 6
         ratios = []

@@ -1,11 +1,13 @@
 #!/usr/bin/env python3
 """Runs scripts made at random by psh and by real shells, and shows those in which psh stands alone.
 
-usage: compare_shells.py words|documents|processes [COUNT [SEED]]
+usage: compare_shells.py words|documents|processes|lists [COUNT [SEED]]
 
 `words` expands words of every form, nested, with several IFS and positional parameters, into the fields that a program
-then shows. `documents` does so in bodies of here-documents and in assignments. `processes` runs pipelines, redirections, here-documents, assignments and command substitutions over a few
-files, and shows these at the end. Scripts do nothing whose result depends on the order of turns.
+then shows. `documents` does so in bodies of here-documents and in assignments. `processes` runs pipelines, redirections,
+here-documents, assignments and command substitutions over a few files, and shows these at the end. `lists` runs such
+commands in AND-OR lists, groups, subshells, conditions and loops, some of which are left by break and continue. Scripts do
+nothing whose result depends on the order of turns.
 
 Shown is a script where no real shell gives what psh gives, and one where four or more agree with one another and not with
 psh; diagnostics are left out, since their texts differ. The shells are those of dash, bash, yash, mksh and busybox that are
@@ -182,6 +184,67 @@ class Processes:
         return "\n".join([*lines, *(f"echo {file}: ; cat <{file}" for file in self.made), ""])
 
 
+class Lists(Processes):
+    """Lists and compound commands of such commands."""
+
+    def __init__(self, seed):
+        super().__init__(seed)
+        self.loops = 0
+
+    def simple(self, loops):
+        if loops and self.chance() < 0.2:
+            return self.pick(["break", "continue", "break 1", "continue 2", "break 3", "x=1 && break", "false || continue"])
+        text = self.pick(["true", "false", ":", "exit 3", "echo $?", "echo $x$i"]) if self.chance() < 0.4 else self.command()
+        return "(exit 4)" if "\n" in text or text == "exit 3" and loops is not None else text
+
+    def piece(self, depth, loops):
+        """A command, or a pipeline, in whose processes no loop is seen."""
+        if depth and self.chance() < 0.5:
+            text = self.compound(depth - 1, loops)
+            # (a filter that leaves early would end what writes to it, and the turns would say where)
+            reader = self.pick(["cat", "having p", "count", "sub"])
+            return f"{self.compound(depth - 1, 0)} | {reader}" if self.chance() < 0.2 else text
+        text = self.simple(loops)
+        return f"! {text}" if self.chance() < 0.1 and text[:5] not in ("break", "conti", "x=1 &", "false") and text[0] != "!" else text
+
+    def and_or(self, depth, loops):
+        text = self.piece(depth, loops)
+        while self.chance() < 0.35:
+            text += self.pick([" && ", " || ", " &&\n", " ||\n"]) + self.piece(depth, loops)
+        return text
+
+    def list(self, depth, loops):
+        return "\n".join(self.and_or(depth, loops) for _ in range(self.pick([1, 1, 2, 3])))
+
+    def loop(self, depth, loops):
+        self.loops += 1
+        count, body = f"k{self.loops}", self.list(depth, (loops or 0) + 1)
+        last = self.pick(["a", "aa"])
+        return self.pick([
+            f"for i in {self.pick(['a b', 'a', '', '$x', 'p $y q'])}; do\n{body}\ndone",
+            f"{{ {count}=\nuntil echo x${count} | having x{last} >/dev/null; do {count}=a${count}\n{body}\ndone; }}",
+            f"{{ {count}=\nwhile ! echo x${count} | having x{last} >/dev/null; do {count}=a${count}\n{body}\ndone; }}",
+        ])
+
+    def compound(self, depth, loops):
+        kind = self.pick(["group", "subshell", "if", "if", "loop", "loop"])
+        if kind == "group":
+            return f"{{ {self.list(depth, loops)}\n}}"
+        if kind == "subshell":
+            return f"( {self.list(depth, None)} )"
+        if kind == "loop":
+            return self.loop(depth, loops)
+        text = f"if {self.list(depth, loops)}\nthen {self.list(depth, loops)}\n"
+        text += f"elif {self.list(depth, loops)}\nthen {self.list(depth, loops)}\n" if self.chance() < 0.3 else ""
+        return text + (f"else {self.list(depth, loops)}\n" if self.chance() < 0.5 else "") + "fi"
+
+    def script(self):
+        lines = []
+        for _ in range(self.pick([1, 2, 3])):
+            lines += [self.and_or(3, 0), 'echo $? "$x" "$y" $i']
+        return "\n".join([*lines, *(f"echo {file}: ; cat <{file}" for file in self.made), ""])
+
+
 def image():
     """The image of files for psh."""
     entries = [(f"/bin/{name}", "r-x", f"#!stock {name}\n") for name in STOCK]
@@ -220,7 +283,7 @@ def by_shell(room, shell, script, operands):
     return subprocess.run([*NOBODY, *shell, "-c", script, "psh", *operands], timeout=20, **how).stdout
 
 
-SOURCES = {"words": Words, "documents": Documents, "processes": Processes}
+SOURCES = {"words": Words, "documents": Documents, "processes": Processes, "lists": Lists}
 
 
 def main(kind, count=200, seed=1):

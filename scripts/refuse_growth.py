@@ -55,6 +55,9 @@ ROWS = [
     ("echo ok\n( echo \"${a-$(b\"", 6),
     ("echo ok\necho `echo ${a-$(b`", 6),
     ("echo ok\ncat <<E\n$x${a-$(b\nE\n", 6),
+    ("false && echo a || { echo b; (echo c; exit 3); } && ! : || echo $?", 30),
+    ("for i in a b; do if (exit 1); then :; elif false; then :; else echo $i; fi; until :; do :; done; continue; done", 60),
+    ("x=; while ! echo $x | having aa; do x=a$x; for i do break 2; done; while :; do break; done; done", 120),
 ]
 
 # scripts of the image that the shell runs, and their turns
