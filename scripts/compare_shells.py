@@ -268,7 +268,8 @@ def by_psh(room, script, operands):
     return subprocess.run(words, stdin=subprocess.DEVNULL, stdout=subprocess.PIPE, check=True).stdout
 
 
-def by_shell(room, shell, script, operands):
+def lay(room):
+    """The files on which a real shell runs a script, in a folder of its own."""
     folder = f"{room}/cwd"
     shutil.rmtree(folder, ignore_errors=True)
     for name in ("bin", "dev", "w"):
@@ -278,8 +279,12 @@ def by_shell(room, shell, script, operands):
             it.write(text)
         os.chmod(f"{folder}/{name}", 0o666)
     os.chmod(folder, 0o777)
+
+
+def by_shell(room, shell, script, operands):
+    lay(room)
     how = {"stdin": subprocess.DEVNULL, "stdout": subprocess.PIPE, "stderr": subprocess.DEVNULL}
-    how |= {"cwd": folder, "env": {"PATH": f"{room}/bin:/usr/bin:/bin", "LC_ALL": "C"}}
+    how |= {"cwd": f"{room}/cwd", "env": {"PATH": f"{room}/bin:/usr/bin:/bin", "LC_ALL": "C"}}
     return subprocess.run([*NOBODY, *shell, "-c", script, "psh", *operands], timeout=20, **how).stdout
 
 

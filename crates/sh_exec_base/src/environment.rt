@@ -1,6 +1,7 @@
 //! The environment of a shell that a script begins (XCU 2.9.1.6, 2.5.3).
 ghost use Rattle.std.specs.Prelude.{◌≡◌, ◌++◌, decimal, option_map, IfOk, OnOk};
-ghost use Rattle.sh_vars.specs.Environment.{with_export};
+ghost use Rattle.std.specs.FinMap.{entries};
+ghost use Rattle.sh_vars.specs.Environment.{with_directory, with_export, with_positional, with_process, with_zero};
 ghost use Rattle.sh_exec_base.specs.Scripts.{all_inherited, exported, given, inherited, is_own, own_variables, script_environment, valued};
 
 use itoa::Buffer;
@@ -105,6 +106,25 @@ fn copies_of(alloc: Global, operands: &[Text]) -> Result<Vec<sh_vars::Text>, NoM
     Ok(copies)
 }
 
+/// Gives a shell what it is handed: variables, its name, its operands, its process and its directory.
+fn hand_over(
+    alloc: Global,
+    vars: &mut Vars,
+    old: &Vars,
+    path: &[u8],
+    operands: &[Text],
+    pid: u32,
+) -> Result<(), NoMemory>
+    ensures { OnOk result (vars.new ≡ with_directory (with_process (with_positional (with_zero (all_inherited vars.old (entries old.now.variables)) path.now) operands.now) pid) old.now.directory) }
+{
+    inherit_all(vars, old.variables())?;
+    vars.set_zero(sh_vars::Text::copy_of(alloc, path)?);
+    vars.set_positional(copies_of(alloc, operands)?);
+    vars.set_process(pid);
+    vars.set_directory(sh_vars::Text::copy_of(alloc, old.directory())?);
+    Ok(())
+}
+
 /// The environment of a shell that runs a script in place of the process `pid`, whose parent is `parent`: of the variables those
 /// that are exported and its own, no options, `$0` the script's path, and the operands.
 #[tactic(auto, unfolding(crate::specs::Scripts::script_environment))]
@@ -119,10 +139,11 @@ pub fn script_environment(
     ensures { IfOk result (λ vars. vars ≡ script_environment old.now path.now operands.now pid parent) }
 {
     let mut vars = own_variables(alloc, old.directory(), parent)?;
-    inherit_all(&mut vars, old.variables())?;
-    vars.set_zero(sh_vars::Text::copy_of(alloc, path)?);
-    vars.set_positional(copies_of(alloc, operands)?);
-    vars.set_process(pid);
-    vars.set_directory(sh_vars::Text::copy_of(alloc, old.directory())?);
-    Ok(vars)
+    match hand_over(alloc, &mut vars, old, path, operands, pid) {
+        Ok(()) => Ok(vars),
+        Err(NoMemory) => {
+            drop(vars);
+            Err(NoMemory)
+        },
+    }
 }

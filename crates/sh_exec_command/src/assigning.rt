@@ -2,7 +2,8 @@
 ghost use Rattle.std.specs.Prelude.{◌≡◌, ◌∷◌, [], IfOk, IsTrue, OnOk};
 ghost use Rattle.sh_exec_command.specs.Answers.{expanded, result_of};
 ghost use Rattle.sh_exec_command.specs.Assigning.{assign_turn, assigned, assigned_by, assigned_one, is_passing, is_undone, may_set, noted, stopped, text_of, undo_with, value_of, value_wanted, valued, with_assigned};
-ghost use Rattle.sh_exec_command.specs.Expanding.{start_of};
+ghost use Rattle.sh_exec_base.specs.Messages.{fault_text};
+ghost use Rattle.sh_exec_command.specs.Expanding.{fatal, start_of};
 ghost use Rattle.sh_vars.specs.Environment.{with_value};
 
 use crate::answers::expand;
@@ -12,13 +13,13 @@ use crate::running::{Active, Expanded, Finish, Move, Pending, Place, Prepared, R
 use crate::undo::save;
 use sh_exec_base::message::{Piece, not_expanded, read_only};
 use sh_exec_base::simple::Assignment;
-use sh_expand::{Context, Step};
+use sh_expand::{Context, Fault, Step};
 use sh_expand_words::Wanted;
 use sh_files::Files;
 use sh_syntax::memory::NoMemory;
 use sh_syntax::sequence::{Sequence, Text};
 use sh_syntax::shared::Shared;
-use sh_tree::tree::Parts;
+use sh_tree::tree::{Complete, Parts};
 use sh_vars::{Vars, is_name};
 use std::alloc::Global;
 
@@ -155,13 +156,21 @@ fn assign(
     ensures { IfOk result (λ a. record { environment = vars.new; outcome = a } ≡ valued prepared vars.old name.now value.now) }
 {
     if !may_set(vars, name) {
-        let piece = read_only(alloc, name)?;
+        let Ok(piece) = read_only(alloc, name) else {
+            drop(prepared);
+            return Err(NoMemory);
+        };
         return Ok(stop(prepared, piece));
     }
     let role = prepared.role;
     let prepared = note(alloc, prepared, vars, name)?;
-    set(vars, role, name, value)?;
-    Ok(Assigned::On(prepared))
+    match set(vars, role, name, value) {
+        Ok(()) => Ok(Assigned::On(prepared)),
+        Err(NoMemory) => {
+            drop(prepared);
+            Err(NoMemory)
+        },
+    }
 }
 
 /// The one text that a value comes to.
@@ -202,6 +211,55 @@ fn put_again(prepared: Prepared, assignment: Assignment) -> Result<Prepared, NoM
     Ok(prepared)
 }
 
+/// An assignment whose value needs a program first is the next one again.
+fn wait(
+    prepared: Prepared,
+    assignment: Assignment,
+    program: Shared<Complete>,
+    pending: Pending,
+) -> Result<Assigned, NoMemory>
+    ensures { IfOk result (λ next. next ≡ Assigned.Over (Expanded.Need program (Wants.Values (record prepared { assignments = assignment ∷ prepared.assignments })) pending)) }
+{
+    let Ok(again) = put_again(prepared, assignment) else {
+        drop(program);
+        drop(pending);
+        return Err(NoMemory);
+    };
+    Ok(Assigned::Over(Expanded::Need {
+        program,
+        wants: Wants::Values(again),
+        pending,
+    }))
+}
+
+/// The assignment of what its value came to.
+fn assign_fields(
+    alloc: Global,
+    prepared: Prepared,
+    assignment: Assignment,
+    fields: Sequence<Text>,
+    vars: &mut Vars,
+) -> Result<Assigned, NoMemory>
+    ensures { IfOk result (λ a. record { environment = vars.new; outcome = a } ≡ valued prepared vars.old assignment.name (text_of fields)) }
+{
+    let name = assignment.name.as_slice();
+    let next = assign(alloc, prepared, name, text_of(fields.as_slice()), vars);
+    drop(fields);
+    drop(assignment);
+    next
+}
+
+/// The turn is over with the fault of a value.
+fn fail(alloc: Global, prepared: Prepared, fault: Fault) -> Result<Assigned, NoMemory>
+    ensures { IfOk result (λ a. a ≡ Assigned.Over (Expanded.Go (Move.Held prepared.undo (fatal (fault_text fault))))) }
+{
+    let Ok(piece) = not_expanded(alloc, fault) else {
+        drop(prepared);
+        return Err(NoMemory);
+    };
+    Ok(stop(prepared, piece))
+}
+
 /// The next assignment of a command, which has those behind it.
 #[tactic(auto, unfolding(crate::specs::Assigning::assigned_one))]
 fn assign_one(
@@ -214,24 +272,27 @@ fn assign_one(
 ) -> Result<Assigned, NoMemory>
     ensures { IfOk result (λ a. record { environment = vars.new; outcome = a } ≡ assigned_one files.now vars.old prepared assignment pending) }
 {
-    let pending = start(alloc, vars, pending)?;
-    match expand_value(alloc, &assignment.value, &pending, vars, files)? {
-        Step::Need(program) => {
-            let prepared = put_again(prepared, assignment)?;
-            Ok(Assigned::Over(Expanded::Need {
-                program,
-                wants: Wants::Values(prepared),
-                pending,
-            }))
+    let Ok(pending) = start(alloc, vars, pending) else {
+        drop(assignment);
+        drop(prepared);
+        return Err(NoMemory);
+    };
+    match expand_value(alloc, &assignment.value, &pending, vars, files) {
+        Ok(Step::Need(program)) => wait(prepared, assignment, program, pending),
+        Ok(Step::Fields(fields)) => {
+            drop(pending);
+            assign_fields(alloc, prepared, assignment, fields, vars)
         },
-        Step::Fields(fields) => {
-            let value = text_of(fields.as_slice());
-            let next = assign(alloc, prepared, assignment.name.as_slice(), value, vars)?;
-            Ok(next)
+        Ok(Step::Fault(fault)) => {
+            drop(pending);
+            drop(assignment);
+            fail(alloc, prepared, fault)
         },
-        Step::Fault(fault) => {
-            let piece = not_expanded(alloc, fault)?;
-            Ok(stop(prepared, piece))
+        Err(NoMemory) => {
+            drop(pending);
+            drop(assignment);
+            drop(prepared);
+            Err(NoMemory)
         },
     }
 }

@@ -1,7 +1,10 @@
 //! The expansion turn of a simple command's words.
 ghost use Rattle.std.specs.Prelude.{◌≡◌, IfOk};
 ghost use Rattle.sh_exec_command.specs.Answers.{expanded, result_of};
-ghost use Rattle.sh_exec_command.specs.Expanding.{start_of, words_by, words_turn};
+ghost use Rattle.sh_exec_base.specs.Messages.{fault_text};
+ghost use Rattle.sh_exec_base.specs.Simple.{items_of, wanted_of};
+ghost use Rattle.sh_exec_command.specs.Expanding.{fatal, start_of, words_by, words_turn};
+ghost use Rattle.sh_exec_command.specs.Preparing.{begun, prepared_of};
 ghost use Rattle.sh_expand.specs.Expanding as expanding;
 
 use crate::answers::expand;
@@ -9,10 +12,10 @@ use crate::preparing::{begin_command, prepare};
 use crate::running::{Active, Expanded, Finish, Move, Pending, Place, Wants};
 use sh_exec_base::message::{Piece, not_expanded};
 use sh_exec_base::simple::{items_of, wanted_of};
-use sh_expand::Step;
+use sh_expand::{Fault, Step};
 use sh_files::Files;
 use sh_syntax::memory::NoMemory;
-use sh_syntax::sequence::Sequence;
+use sh_syntax::sequence::{Sequence, Text};
 use sh_syntax::shared::Shared;
 use sh_tree::tree::Command;
 use sh_vars::Vars;
@@ -42,6 +45,52 @@ pub(crate) fn fatal_message(piece: Piece) -> Active
     Active::Next(Place::Writing(piece, Finish::Leave(2)))
 }
 
+/// What the words of a command and of its redirections come to, from the first one on, with the answers so far.
+fn expand_words(
+    alloc: Global,
+    command: &Command,
+    pending: &Pending,
+    vars: &mut Vars,
+    files: &Files,
+) -> Result<Step, NoMemory>
+    ensures { IfOk result (λ step. result_of step vars.new ≡ expanded files.now (wanted_of (items_of command.now)) pending.now.start pending.now.answers) }
+{
+    let wanted = wanted_of(alloc, items_of(command))?;
+    let Ok(start) = pending.start.copy() else {
+        drop(wanted);
+        return Err(NoMemory);
+    };
+    *vars = start;
+    expand(alloc, wanted, vars, files, pending.answers.as_slice())
+}
+
+/// What follows the fields that the words came to.
+fn begin(
+    alloc: Global,
+    command: Shared<Command>,
+    in_place: bool,
+    status: u8,
+    fields: Sequence<Text>,
+    vars: &Vars,
+) -> Result<Expanded, NoMemory>
+    ensures { IfOk result (λ e. e ≡ Expanded.Go (begun vars.now.special.status in_place (prepared_of vars.now (items_of command) fields status))) }
+{
+    let items = items_of(command.get());
+    let prepared = prepare(alloc, vars, items, fields.as_slice(), status);
+    drop(fields);
+    drop(command);
+    let next = begin_command(alloc, vars.status(), in_place, prepared?)?;
+    Ok(Expanded::Go(next))
+}
+
+/// The turn is over with a fault of the words.
+fn fail(alloc: Global, fault: Fault) -> Result<Expanded, NoMemory>
+    ensures { IfOk result (λ e. e ≡ Expanded.Go (Move.At (fatal (fault_text fault)))) }
+{
+    let piece = not_expanded(alloc, fault)?;
+    Ok(Expanded::Go(Move::At(fatal_message(piece))))
+}
+
 /// The expansion turn of the words of a simple command and of its redirections (XCU 2.9.1.1), from the first one on, with the
 /// answers so far. The only error is want of memory; what the variables are then is left open.
 #[tactic(auto, unfolding(crate::specs::Expanding::words_turn))]
@@ -56,11 +105,12 @@ pub fn words_turn(
 ) -> Result<Expanded, NoMemory>
     ensures { IfOk result (λ e. record { environment = vars.new; outcome = e } ≡ words_turn files.now vars.old command in_place status pending) }
 {
-    let pending = start(alloc, vars, pending)?;
-    let wanted = wanted_of(alloc, items_of(command.get()))?;
-    *vars = pending.start.copy()?;
-    match expand(alloc, wanted, vars, files, pending.answers.as_slice())? {
-        Step::Need(program) => Ok(Expanded::Need {
+    let Ok(pending) = start(alloc, vars, pending) else {
+        drop(command);
+        return Err(NoMemory);
+    };
+    match expand_words(alloc, command.get(), &pending, vars, files) {
+        Ok(Step::Need(program)) => Ok(Expanded::Need {
             program,
             wants: Wants::Words {
                 command,
@@ -69,15 +119,19 @@ pub fn words_turn(
             },
             pending,
         }),
-        Step::Fields(fields) => {
-            let items = items_of(command.get());
-            let prepared = prepare(alloc, vars, items, fields.as_slice(), status)?;
-            let next = begin_command(alloc, vars.status(), in_place, prepared)?;
-            Ok(Expanded::Go(next))
+        Ok(Step::Fields(fields)) => {
+            drop(pending);
+            begin(alloc, command, in_place, status, fields, vars)
         },
-        Step::Fault(fault) => {
-            let piece = not_expanded(alloc, fault)?;
-            Ok(Expanded::Go(Move::At(fatal_message(piece))))
+        Ok(Step::Fault(fault)) => {
+            drop(pending);
+            drop(command);
+            fail(alloc, fault)
+        },
+        Err(NoMemory) => {
+            drop(pending);
+            drop(command);
+            Err(NoMemory)
         },
     }
 }

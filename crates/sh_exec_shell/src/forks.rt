@@ -52,10 +52,15 @@ fn put_program(
 ) -> Result<Child, NoMemory>
     ensures { IfOk result (λ made. made ≡ record { pid = child; shell = record { environment = vars.now; run = moved (ahead vars.now.special.status prepared) } }) }
 {
-    let copy = vars.copy()?;
     let to = go_ahead(alloc, vars.status(), prepared)?;
     let tree = Tree::moved(alloc, to)?;
-    Ok(child_of(child, copy, tree))
+    match vars.copy() {
+        Ok(copy) => Ok(child_of(child, copy, tree)),
+        Err(_) => {
+            drop(tree);
+            Err(NoMemory)
+        },
+    }
 }
 
 /// The turn in which a program's process is made (XCU 2.9.1.6).
@@ -70,8 +75,14 @@ pub(crate) fn fork_turn(
     ensures state { (s : KernelState) → StandsAt kernel.old s → IfOk result (λ r. IsTurned kernel.new vars.now (run_of r.0) r.1 (fork_turn s pid vars.now prepared)) }
     ensures terminal { kernel.new.terminal ≡ kernel.old.terminal }
 {
-    let Forked { child, .. } = fork_process(kernel, pid, None, false)?;
-    match child {
+    let forked = match fork_process(kernel, pid, None, false) {
+        Ok(forked) => forked,
+        Err(NoMemory) => {
+            drop(prepared);
+            return Err(NoMemory);
+        },
+    };
+    match forked.child {
         Some(child) => {
             let made = put_program(alloc, vars, prepared, child)?;
             match one_more(Sequence::new(alloc), child) {
@@ -131,9 +142,16 @@ fn put_stage(
 ) -> Result<Child, NoMemory>
     ensures { IfOk result (λ made. made ≡ record { pid = child; shell = record { environment = vars.now; run = stage_run command } }) }
 {
-    let copy = vars.copy()?;
-    let tree = stage(alloc, &command)?;
-    Ok(child_of(child, copy, tree))
+    let tree = stage(alloc, &command);
+    drop(command);
+    let tree = tree?;
+    match vars.copy() {
+        Ok(copy) => Ok(child_of(child, copy, tree)),
+        Err(_) => {
+            drop(tree);
+            Err(NoMemory)
+        },
+    }
 }
 
 /// The process of the next stage.
@@ -154,7 +172,15 @@ fn stage_one(
         aside,
         children,
     } = stages;
-    let forked = fork_process(kernel, pid, aside, !commands.is_empty())?;
+    let forked = match fork_process(kernel, pid, aside, !commands.is_empty()) {
+        Ok(forked) => forked,
+        Err(NoMemory) => {
+            drop(command);
+            drop(commands);
+            drop(children);
+            return Err(NoMemory);
+        },
+    };
     match forked.child {
         Some(child) => {
             let made = match put_stage(alloc, vars, command, child) {
@@ -207,7 +233,10 @@ pub(crate) fn stage_turn(
 fn unforked(alloc: Global, wants: Wants) -> Result<Move, NoMemory>
     ensures { IfOk result (λ to. to ≡ unforked wants) }
 {
-    let active = refused(alloc)?;
+    let Ok(active) = refused(alloc) else {
+        drop(wants);
+        return Err(NoMemory);
+    };
     match wants {
         Wants::Words { .. } => Ok(Move::At(active)),
         Wants::Values(prepared) => Ok(Move::Held(prepared.undo, active)),
@@ -224,9 +253,14 @@ fn put_substitution(
 ) -> Result<Child, NoMemory>
     ensures { IfOk result (λ made. made ≡ record { pid = child; shell = record { environment = vars.now; run = body_of program.now } }) }
 {
-    let copy = vars.copy()?;
     let tree = body_of(alloc, program)?;
-    Ok(child_of(child, copy, tree))
+    match vars.copy() {
+        Ok(copy) => Ok(child_of(child, copy, tree)),
+        Err(_) => {
+            drop(tree);
+            Err(NoMemory)
+        },
+    }
 }
 
 /// A command waits for what a process writes.
@@ -239,7 +273,11 @@ fn collecting(
 ) -> Result<Place, NoMemory>
     ensures { IfOk result (λ place. place ≡ Place.Collecting (record { wants = wants; pending = pending; written = []; aside = aside; children = child ∷ [] })) }
 {
-    let children = one_more(Sequence::new(alloc), child)?;
+    let Ok(children) = one_more(Sequence::new(alloc), child) else {
+        drop(wants);
+        drop(pending);
+        return Err(NoMemory);
+    };
     Ok(Place::Collecting(Substitution {
         wants,
         pending,
@@ -263,10 +301,20 @@ pub(crate) fn substitute_turn(
     ensures state { (s : KernelState) → StandsAt kernel.old s → IfOk result (λ r. IsTurned kernel.new vars.now (run_of r.0) r.1 (substitute_turn s pid vars.now program wants pending)) }
     ensures terminal { kernel.new.terminal ≡ kernel.old.terminal }
 {
-    let forked = fork_process(kernel, pid, None, true)?;
+    let forked = match fork_process(kernel, pid, None, true) {
+        Ok(forked) => forked,
+        Err(NoMemory) => {
+            drop(program);
+            drop(wants);
+            drop(pending);
+            return Err(NoMemory);
+        },
+    };
     match forked.child {
         Some(child) => {
-            let made = match put_substitution(alloc, vars, program.get(), child) {
+            let made = put_substitution(alloc, vars, program.get(), child);
+            drop(program);
+            let made = match made {
                 Ok(made) => made,
                 Err(refusal) => {
                     drop(wants);
@@ -283,6 +331,7 @@ pub(crate) fn substitute_turn(
             }
         },
         None => {
+            drop(program);
             drop(pending);
             let to = unforked(alloc, wants)?;
             let tree = Tree::moved(alloc, to)?;

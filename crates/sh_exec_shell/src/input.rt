@@ -3,9 +3,10 @@ ghost use Rattle.std.specs.Prelude.{◌≡◌, IfOk};
 ghost use Rattle.sh_kernel.specs.State.{KernelState, StandsAt};
 ghost use Rattle.sh_exec_shell_base.specs.Forms.{IsActed};
 ghost use Rattle.sh_exec_shell.specs.Acting.{collect_by, collect_end, collect_from, collect_turn, collected, with_written};
+ghost use Rattle.sh_exec_shell_base.specs.Running.{Run};
 ghost use Rattle.sh_exec_shell_base.specs.Tree.{run_of};
 
-use sh_exec_command::{Place, Substitution};
+use sh_exec_command::{Active, Place, Substitution};
 use sh_exec_machine::{Taken, take_bytes};
 use sh_exec_shell_base::Tree;
 use sh_kernel::{Kernel, Name};
@@ -21,8 +22,13 @@ fn with_written(substitution: Substitution, bytes: &[u8]) -> Result<Substitution
     ensures { IfOk result (λ next. next ≡ with_written substitution bytes.now) }
 {
     let mut substitution = substitution;
-    substitution.written.extend_from_slice(bytes)?;
-    Ok(substitution)
+    match substitution.written.extend_from_slice(bytes) {
+        Ok(()) => Ok(substitution),
+        Err(_) => {
+            drop(substitution);
+            Err(NoMemory)
+        },
+    }
 }
 
 /// All that it writes is there.
@@ -41,6 +47,14 @@ fn collected(
     Tree::next(Place::Answering(substitution))
 }
 
+/// It goes on with what was read.
+fn gathered(substitution: Substitution, bytes: &[u8]) -> Result<Tree, NoMemory>
+    ensures { IfOk result (λ tree. run_of tree ≡ Run.At (Active.Next (Place.Collecting (with_written substitution bytes.now)))) }
+{
+    let next = with_written(substitution, bytes)?;
+    Ok(Tree::next(Place::Collecting(next)))
+}
+
 /// A read from its pipe.
 #[tactic(auto, unfolding(crate::specs::Acting::collect_from))]
 fn collect_from(
@@ -54,16 +68,22 @@ fn collect_from(
     ensures state { (s : KernelState) → StandsAt kernel.old s → IfOk result (λ tree. IsActed kernel.new vars.now (run_of tree) (collect_from s pid vars.now substitution aside)) }
     ensures terminal { kernel.new.terminal.bytes ≡ kernel.old.terminal.bytes }
 {
-    match take_bytes(alloc, kernel, pid, Name::Aside(aside), READ)? {
-        Taken::Bytes(bytes) => {
+    match take_bytes(alloc, kernel, pid, Name::Aside(aside), READ) {
+        Ok(Taken::Bytes(bytes)) => {
             if bytes.len() == 0 {
+                drop(bytes);
                 return Ok(collected(kernel, pid, vars, substitution, aside));
             }
-            let substitution = with_written(substitution, bytes.as_slice())?;
-            Ok(Tree::next(Place::Collecting(substitution)))
+            let tree = gathered(substitution, bytes.as_slice());
+            drop(bytes);
+            tree
         },
-        Taken::Wait => Ok(Tree::next(Place::Collecting(substitution))),
-        Taken::Failed => Ok(collected(kernel, pid, vars, substitution, aside)),
+        Ok(Taken::Wait) => Ok(Tree::next(Place::Collecting(substitution))),
+        Ok(Taken::Failed) => Ok(collected(kernel, pid, vars, substitution, aside)),
+        Err(NoMemory) => {
+            drop(substitution);
+            Err(NoMemory)
+        },
     }
 }
 

@@ -34,8 +34,13 @@ fn note(prepared: Prepared, one: Option<Undone>) -> Result<Prepared, NoMemory>
         return Ok(prepared);
     };
     let mut prepared = prepared;
-    prepared.undo.descriptors.push(one)?;
-    Ok(prepared)
+    match prepared.undo.descriptors.push(one) {
+        Ok(()) => Ok(prepared),
+        Err(_) => {
+            drop(prepared);
+            Err(NoMemory)
+        },
+    }
 }
 
 /// Where a command goes on behind a redirection.
@@ -75,22 +80,20 @@ fn redirect_one(
     ensures state { (s : KernelState) → StandsAt kernel.old s → IfOk result (λ tree. IsActed kernel.new vars.now (run_of tree) (redirect_one s pid vars.now prepared redirection)) }
     ensures terminal { kernel.new.terminal ≡ kernel.old.terminal }
 {
-    let Redirected { answer, undone } = redirect(
-        kernel,
-        pid,
-        vars.directory(),
-        &redirection,
-        keeps(prepared.role),
-    )?;
-    let tree = go_on(
-        alloc,
-        vars.status(),
-        prepared,
-        redirection.word.as_slice(),
-        answer,
-        undone,
-    )?;
-    Ok(tree)
+    let kept = keeps(prepared.role);
+    match redirect(kernel, pid, vars.directory(), &redirection, kept) {
+        Ok(Redirected { answer, undone }) => {
+            let word = redirection.word.as_slice();
+            let tree = go_on(alloc, vars.status(), prepared, word, answer, undone);
+            drop(redirection);
+            tree
+        },
+        Err(NoMemory) => {
+            drop(redirection);
+            drop(prepared);
+            Err(NoMemory)
+        },
+    }
 }
 
 /// A redirection turn of a command.

@@ -84,8 +84,13 @@ fn with_answer(pending: Pending, answer: Text) -> Result<Pending, NoMemory>
     ensures { IfOk result (λ next. next ≡ answered pending answer) }
 {
     let mut pending = pending;
-    pending.answers.push(answer)?;
-    Ok(pending)
+    match pending.answers.push(answer) {
+        Ok(()) => Ok(pending),
+        Err(_) => {
+            drop(pending);
+            Err(NoMemory)
+        },
+    }
 }
 
 /// The turn of waiting for a command substitution's process.
@@ -106,8 +111,13 @@ pub(crate) fn answer_turn(
         written,
         ..
     } = substitution;
-    let pending = with_answer(pending, written)?;
-    Ok(Place::Expanding(with_substitution(wants, status), Some(pending)))
+    match with_answer(pending, written) {
+        Ok(pending) => Ok(Place::Expanding(with_substitution(wants, status), Some(pending))),
+        Err(NoMemory) => {
+            drop(wants);
+            Err(NoMemory)
+        },
+    }
 }
 
 /// The turn of waiting for processes.

@@ -8,7 +8,7 @@ ghost use Rattle.sh_arith.specs.Outcome.{Gives, Stops};
 ghost use Rattle.sh_arith_base.specs.Lexical.{word_at};
 ghost use Rattle.sh_expand_base.specs.Text.{marks_of, text_of};
 ghost use Rattle.sh_expand_parts.specs.Closings.{Closing, assigned, behind, closed, closing, computed, fault_of, removed};
-ghost use Rattle.sh_expand_parts.specs.Drafts.{joined, plain, text_items};
+ghost use Rattle.sh_expand_parts.specs.Drafts.{joined, plain, quoted, text_items};
 ghost use Rattle.sh_expand_parts.specs.Removals.{without_match};
 
 use crate::context::Context;
@@ -216,6 +216,46 @@ fn remove(
     Ok(closed)
 }
 
+/// The text of what stands inside a form, which is let go.
+fn inner_text(alloc: Global, inner: Draft) -> Result<Text, AllocError>
+    ensures { IfOk result (λ text. text ≡ text_of inner.items) }
+{
+    let text = text_of(alloc, &inner.items);
+    drop(inner);
+    text
+}
+
+/// What stands inside a form, behind what stood before it.
+fn joined(saved: Draft, inner: Draft) -> Result<Closed, AllocError>
+    ensures { IfOk result (λ r. r ≡ Closed.Goes (joined saved inner)) }
+{
+    let mut all = saved;
+    let appended = all.append(&inner);
+    drop(inner);
+    match appended {
+        Ok(()) => Ok(Closed::Goes(all)),
+        Err(error) => {
+            drop(all);
+            Err(error)
+        },
+    }
+}
+
+/// What stands between double quotes, behind what stood before them.
+fn quote(alloc: Global, saved: Draft, inner: Draft) -> Result<Closed, AllocError>
+    ensures { IfOk result (λ r. r ≡ Closed.Goes (joined saved (quoted inner))) }
+{
+    let quoted = inner.quoted(alloc);
+    drop(inner);
+    match quoted {
+        Ok(quoted) => joined(saved, quoted),
+        Err(error) => {
+            drop(saved);
+            Err(error)
+        },
+    }
+}
+
 /// What a word comes to once it is expanded, behind what stood before it.
 ///
 /// `${x=w}` sets the variable; it fails where that is read-only. `$((w))` evaluates, with its assignments, which stay
@@ -230,54 +270,58 @@ pub fn close(
     ensures { IfOk result (λ r. closing r vars.new ≡ closed purpose saved inner vars.old) }
 {
     match purpose {
-        Purpose::Word { context } => Ok(Closed::Ends(ExpandedWord {
-            context,
-            items: inner.items,
-        })),
-        Purpose::Default => {
-            let mut all = saved;
-            all.append(&inner)?;
-            Ok(Closed::Goes(all))
-        }
-        Purpose::Quotes => {
-            let mut all = saved;
-            all.append(&inner.quoted(alloc)?)?;
-            Ok(Closed::Goes(all))
-        }
-        Purpose::Assign { name, context } => {
-            let text = text_of(alloc, &inner.items)?;
-            let closed = assign(alloc, vars, name, context, saved, text)?;
-            Ok(closed)
-        }
-        Purpose::Report { name } => {
-            let text = text_of(alloc, &inner.items)?;
-            Ok(Closed::Fails(Fault::Unset {
-                name,
-                message: Some(text),
+        Purpose::Word { context } => {
+            drop(saved);
+            Ok(Closed::Ends(ExpandedWord {
+                context,
+                items: inner.items,
             }))
-        }
+        },
+        Purpose::Default => joined(saved, inner),
+        Purpose::Quotes => quote(alloc, saved, inner),
+        Purpose::Assign { name, context } => match inner_text(alloc, inner) {
+            Ok(text) => assign(alloc, vars, name, context, saved, text),
+            Err(error) => {
+                drop(name);
+                drop(saved);
+                Err(error)
+            },
+        },
+        Purpose::Report { name } => {
+            drop(saved);
+            match inner_text(alloc, inner) {
+                Ok(text) => Ok(Closed::Fails(Fault::Unset {
+                    name,
+                    message: Some(text),
+                })),
+                Err(error) => {
+                    drop(name);
+                    Err(error)
+                },
+            }
+        },
         Purpose::Remove {
             value,
             affix,
             extent,
             context,
         } => {
-            let closed = remove(
-                alloc,
-                vars,
-                &value,
-                affix,
-                extent,
-                context,
-                saved,
-                &inner.items,
-            )?;
-            Ok(closed)
-        }
-        Purpose::Compute { context } => {
-            let text = text_of(alloc, &inner.items)?;
-            let closed = compute(alloc, vars, context, saved, text.as_slice())?;
-            Ok(closed)
-        }
+            let pattern = &inner.items;
+            let closed = remove(alloc, vars, &value, affix, extent, context, saved, pattern);
+            drop(inner);
+            drop(value);
+            closed
+        },
+        Purpose::Compute { context } => match inner_text(alloc, inner) {
+            Ok(text) => {
+                let closed = compute(alloc, vars, context, saved, text.as_slice());
+                drop(text);
+                closed
+            },
+            Err(error) => {
+                drop(saved);
+                Err(error)
+            },
+        },
     }
 }
