@@ -1,13 +1,14 @@
 #!/usr/bin/env python3
 """Runs scripts made at random by psh and by real shells, and shows those in which psh stands alone.
 
-usage: compare_shells.py words|documents|processes|lists [COUNT [SEED]]
+usage: compare_shells.py words|documents|processes|lists|builtins [COUNT [SEED]]
 
 `words` expands words of every form, nested, with several IFS and positional parameters, into the fields that a program
 then shows. `documents` does so in bodies of here-documents and in assignments. `processes` runs pipelines, redirections,
 here-documents, assignments and command substitutions over a few files, and shows these at the end. `lists` runs such
-commands in AND-OR lists, groups, subshells, conditions and loops, some of which are left by break and continue. Scripts do
-nothing whose result depends on the order of turns.
+commands in AND-OR lists, groups, subshells, conditions and loops, some of which are left by break and continue. `builtins`
+adds built-ins that act on variables, options, parameters and the directory, and conditions. Scripts do nothing whose result
+depends on the order of turns.
 
 Shown is a script where no real shell gives what psh gives, and one where four or more agree with one another and not with
 psh; diagnostics are left out, since their texts differ. The shells are those of dash, bash, yash, mksh and busybox that are
@@ -245,6 +246,28 @@ class Lists(Processes):
         return "\n".join([*lines, *(f"echo {file}: ; cat <{file}" for file in self.made), ""])
 
 
+class Builtins(Lists):
+    """Built-ins that act on variables, options, parameters and the directory, and conditions, in such lists."""
+
+    conditions = ['-n "$x"', '-z "$y"', '"$x" = a', '"$x" != "$y"', "-f in", "-d w", "-d in", "-e none", "-s a", "-r in", "! -f w",
+                  "$# -gt 1", "2 -le $#", "-1 -lt 0", "a", "''", "! a = b", "! = !", "-n = -n", "a -eq a", "1 2", "-f", "! ''"]
+    options = ["-f", "+f", "-C", "+C", "-a", "+a", "-o noglob", "+o noglob", "-fC", "+fC", "-af", "-o noclobber -f", "-z"]
+
+    def built_in(self):
+        word, condition = self.pick(self.values), self.pick(self.conditions)
+        return self.pick([
+            f"[ {condition} ]", f"test {condition}", f"if [ {condition} ]; then echo yes; else echo no; fi",
+            f"set -- {word} {self.pick(self.values)}", "set a b c", "set --", "set -- *", f"set {self.pick(self.options)}",
+            "shift", "[ $# -gt 1 ] && shift 2", "shift 0", "unset x", "unset -v x y", "unset none", "echo $# $*",
+            "(cd w && echo ${PWD##*/} && cd .. && cat <a)", "(cd ./w/../w; cd - >/dev/null; cat <a)", "cd none", "cd in",
+            f"(cd w; {self.pipeline()}\n)", "(HOME=w cd; echo ${PWD##*/})", "cd . && cat <a", "(unset HOME; cd; echo $?)",
+        ])
+
+    def simple(self, loops):
+        text = self.built_in() if self.chance() < 0.6 else super().simple(loops)
+        return "(exit 4)" if "<<" in text else text
+
+
 def image():
     """The image of files for psh."""
     entries = [(f"/bin/{name}", "r-x", f"#!stock {name}\n") for name in STOCK]
@@ -274,6 +297,7 @@ def lay(room):
     shutil.rmtree(folder, ignore_errors=True)
     for name in ("bin", "dev", "w"):
         os.makedirs(f"{folder}/{name}")
+        os.chmod(f"{folder}/{name}", 0o777)
     for name, text in FILES.items():
         with open(f"{folder}/{name}", "w", encoding="ascii") as it:
             it.write(text)
@@ -288,7 +312,7 @@ def by_shell(room, shell, script, operands):
     return subprocess.run([*NOBODY, *shell, "-c", script, "psh", *operands], timeout=20, **how).stdout
 
 
-SOURCES = {"words": Words, "documents": Documents, "processes": Processes, "lists": Lists}
+SOURCES = {"words": Words, "documents": Documents, "processes": Processes, "lists": Lists, "builtins": Builtins}
 
 
 def main(kind, count=200, seed=1):

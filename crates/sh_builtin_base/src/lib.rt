@@ -5,3 +5,4 @@ mod conditional;
 mod number;
 
 pub use conditional::{Verdict, evaluate};
+pub use number::number_of;

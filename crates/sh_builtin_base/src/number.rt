@@ -92,8 +92,8 @@ fn value_of(digits: &[u8]) -> Option<u64>
     Some(value)
 }
 
-/// The number of an operand of one to 18 digits.
-pub(crate) fn number_of(operand: &[u8]) -> Option<u64>
+/// The number of an operand of a built-in, which has one to 18 decimal digits; `None` of any other operand.
+pub fn number_of(operand: &[u8]) -> Option<u64>
     ensures { result ≡ number_of operand.now }
 {
     if !is_number(operand) {

@@ -3,7 +3,7 @@ use Rattle.std.specs.Prelude.{ℕ, List, length, not, ◌&&◌, replicate, Bool,
 use Rattle.sh_exec.specs.declared.process.Process.{Process}
 use Rattle.sh_exec.specs.declared.process.Process.TheVariants.{Runs, Asks}
 use Rattle.sh_exec_command.specs.declared.running.Active.{Active}
-use Rattle.sh_exec_command.specs.declared.running.Active.TheVariants.{Next, Done, Leaving}
+use Rattle.sh_exec_command.specs.declared.running.Active.TheVariants.{Acting, Next, Done, Leaving}
 use Rattle.sh_exec_command.specs.declared.running.Place.{Place}
 use Rattle.sh_exec_command.specs.declared.running.Place.TheVariants.{Reading, Expanding, Collecting, Answering, Redirecting, Forking, Starting, Staging, Giving, Waiting, Writing, Ending}
 use Rattle.sh_exec_shell_base.specs.Running.{active_of}
@@ -48,6 +48,7 @@ place_waits s pid (Ending status) = false
 
 abbrev pub active_waits : KernelState → ℕ → Active → Bool
 active_waits s pid (Next place) = place_waits s pid place
+active_waits s pid (Acting builtin fields) = false
 active_waits s pid (Done status) = false
 active_waits s pid (Leaving status) = false
 

@@ -9,7 +9,7 @@ use Rattle.sh_exec_search.specs.Search.{located_of}
 use Rattle.sh_exec_search.specs.declared.search.Located.{Located}
 use Rattle.sh_exec_search.specs.declared.search.Located.TheVariants as located
 use Rattle.sh_exec_command.specs.declared.running.Active.{Active}
-use Rattle.sh_exec_command.specs.declared.running.Active.TheVariants.{Next, Done, Leaving}
+use Rattle.sh_exec_command.specs.declared.running.Active.TheVariants.{Acting, Next, Done, Leaving}
 use Rattle.sh_exec_command.specs.declared.running.Finish.TheVariants.{Leave}
 use Rattle.sh_exec_command.specs.declared.running.Place.{Place}
 use Rattle.sh_exec_command.specs.declared.running.Place.TheVariants.{Reading, Expanding, Collecting, Answering, Redirecting, Forking, Starting, Staging, Giving, Waiting, Writing, Ending}
@@ -74,5 +74,6 @@ starting_at (Ending status) = None
 
 abbrev pub starting_in : Active → Option (List (List ℕ))
 starting_in (Next place) = starting_at place
+starting_in (Acting builtin fields) = None
 starting_in (Done status) = None
 starting_in (Leaving status) = None

@@ -77,6 +77,7 @@ pub(crate) fn shell_runnable(kernel: &Kernel, pid: u32, active: &Active) -> bool
 {
     match active {
         Active::Next(place) => place_runnable(kernel, pid, place),
+        Active::Acting(_, _) => can_act(kernel, pid),
         Active::Done(_) => can_act(kernel, pid),
         Active::Leaving(_) => can_act(kernel, pid),
     }

@@ -33,6 +33,7 @@ fn starting_in(active: &Active) -> Option<&Sequence<Text>>
 {
     match active {
         Active::Next(place) => starting_at(place),
+        Active::Acting(_, _) => None,
         Active::Done(_) => None,
         Active::Leaving(_) => None,
     }

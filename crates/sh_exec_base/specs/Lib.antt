@@ -1,4 +1,3 @@
-pub mod Builtins
 pub mod Messages
 pub mod Numbers
 pub mod Pipelines

@@ -1,8 +1,7 @@
-//! What a shell's process stands on: single functions over the commands of a script, the redirections and built-ins that it
-//! does, and what it writes of them. Nothing here knows of processes.
+//! What a shell's process stands on: single functions over the commands of a script, the redirections that it does, and what it
+//! writes of them. Nothing here knows of processes.
 #![tactic(auto)]
 
-pub mod builtin;
 mod environment;
 pub mod message;
 mod number;

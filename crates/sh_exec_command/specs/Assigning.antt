@@ -1,6 +1,6 @@
 -- The assignments of a simple command (XCU 2.9.1.2), from left to right, each seeing those before it.
 use Rattle.std.specs.Prelude.{ℕ, List, [], ◌∷◌, ◌++◌, not, ◌&&◌, Bool, true, false, Option, None, slice_get, unwrap_or, if◌then◌else◌}
-use Rattle.sh_exec_base.specs.Builtins.{is_special}
+use Rattle.sh_builtin.specs.Builtins.{is_special}
 use Rattle.sh_exec_base.specs.Messages.{fault_text, read_only}
 use Rattle.sh_exec_base.specs.declared.simple.Assignment.{Assignment}
 use Rattle.sh_exec_command.specs.Answers.{expanded}
@@ -95,7 +95,7 @@ behind env (Over outcome) next = record { environment = env; outcome = outcome }
 
 -- these assignments; the answers so far are for the first of them
 abbrev pub assigned : FileMap → List Assignment → Environment → Prepared → Option Pending → Turn
-assigned files [] env p pending = record { environment = env; outcome = expanded_as.Go (performed env.special.status p) }
+assigned files [] env p pending = record { environment = env; outcome = expanded_as.Go (performed p) }
 assigned files (assignment ∷ others) env p pending =
     let step = assigned_one files env (record p { assignments = others }) assignment pending in
     behind step.environment step.outcome (λ after command. assigned files others after command None)

@@ -38,7 +38,7 @@ abbrev pub words_by : Command → (in_place : Bool) → (status : ℕ) → Pendi
 words_by command in_place status pending (expanding.Need program env) =
     record { environment = env; outcome = Need program (Words command in_place status) pending }
 words_by command in_place status pending (expanding.Fields fields env) =
-    record { environment = env; outcome = Go (begun env.special.status in_place (prepared_of env (items_of command) fields status)) }
+    record { environment = env; outcome = Go (begun in_place (prepared_of env (items_of command) fields status)) }
 words_by command in_place status pending (expanding.Stops fault env) =
     record { environment = env; outcome = Go (At (fatal (fault_text fault))) }
 

@@ -1,19 +1,17 @@
 -- A simple command (XCU 2.9.1) from its tree to the place of its first action, and from its expanded words to what it does.
-use Rattle.std.specs.Prelude.{ℕ, List, [], ◌∷◌, ◌||◌, not, Bool, true, false, Option, Some, None, drop, length, if◌then◌else◌}
+use Rattle.std.specs.Prelude.{ℕ, List, [], ◌∷◌, ◌||◌, not, Bool, true, false, Option, Some, None, length, if◌then◌else◌}
 use Rattle.std.specs.List.{list_any}
-use Rattle.sh_exec_base.specs.Builtins.{builtin_of, built_in, is_special, name_of}
-use Rattle.sh_exec_base.specs.Messages.{message, not_redirected, usage}
+use Rattle.sh_builtin.specs.Builtins.{builtin_of, is_special}
+use Rattle.sh_builtin.specs.declared.builtin.Builtin.{Builtin}
+use Rattle.sh_exec_base.specs.Messages.{message, not_redirected}
 use Rattle.sh_exec_base.specs.Redirections.{prepared}
 use Rattle.sh_exec_base.specs.Simple.{assignments_of, is_redirect, is_word, items_of, redirect_fields, redirects_of, word_fields}
-use Rattle.sh_exec_base.specs.declared.builtin.Act.{Act}
-use Rattle.sh_exec_base.specs.declared.builtin.Act.TheVariants as act
-use Rattle.sh_exec_base.specs.declared.builtin.Builtin.{Builtin}
 use Rattle.sh_exec_base.specs.declared.redirection.Redirection.{Redirection}
 use Rattle.sh_exec_base.specs.declared.simple.Assignment.{Assignment}
 use Rattle.sh_exec_command.specs.declared.running.Active.{Active}
-use Rattle.sh_exec_command.specs.declared.running.Active.TheVariants.{Next, Done, Leaving}
+use Rattle.sh_exec_command.specs.declared.running.Active.TheVariants.{Acting, Next, Done}
 use Rattle.sh_exec_command.specs.declared.running.Finish.{Finish}
-use Rattle.sh_exec_command.specs.declared.running.Finish.TheVariants.{Status, Leave, Output}
+use Rattle.sh_exec_command.specs.declared.running.Finish.TheVariants.{Status, Leave}
 use Rattle.sh_exec_command.specs.declared.running.Move.{Move}
 use Rattle.sh_exec_command.specs.declared.running.Move.TheVariants.{At, Held}
 use Rattle.sh_exec_command.specs.declared.running.Place.{Place}
@@ -84,29 +82,23 @@ failing_of role.Nameless = Status 2
 failing_of (role.Builtin builtin) = failing (is_special builtin)
 failing_of role.Program = Leave 2
 
-abbrev pub acted : Builtin → Act → Active
-acted builtin (act.Finish status) = Done status
-acted builtin (act.Write text) = Next (Writing (record { descriptor = 1; bytes = text }) (Output builtin))
-acted builtin (act.Leave leave) = Leaving leave
-acted builtin act.Usage = Next (Writing (message (usage (name_of builtin))) (failing (is_special builtin)))
+abbrev pub performed_by : Prepared → Role → Move
+performed_by p role.Nameless = Held p.undo (Done p.status)
+performed_by p (role.Builtin builtin) = Held p.undo (Acting builtin p.fields)
+performed_by p role.Program = At (Next (Starting p.fields))
 
-abbrev pub performed_by : ℕ → Prepared → Role → Move
-performed_by last p role.Nameless = Held p.undo (Done p.status)
-performed_by last p (role.Builtin builtin) = Held p.undo (acted builtin (built_in last builtin (drop 1 p.fields)))
-performed_by last p role.Program = At (Next (Starting p.fields))
-
--- a command without a name has the status of its last substitution; a built-in acts at once; a program is started; `last` is `$?`
-unfoldable pub performed : ℕ → Prepared → Move
-performed last p = performed_by last p p.role
+-- a command without a name has the status of its last substitution; a built-in acts in the same turn; a program is started
+unfoldable pub performed : Prepared → Move
+performed p = performed_by p p.role
 
 -- first the redirections, then the assignments (2.9.1.1)
-abbrev pub ahead_by : ℕ → Prepared → List Redirection → List Assignment → Move
-ahead_by last p (redirection ∷ redirections) assignments = At (Next (Redirecting p))
-ahead_by last p [] (assignment ∷ assignments) = At (Next (Expanding (Values p) None))
-ahead_by last p [] [] = performed last p
+abbrev pub ahead_by : Prepared → List Redirection → List Assignment → Move
+ahead_by p (redirection ∷ redirections) assignments = At (Next (Redirecting p))
+ahead_by p [] (assignment ∷ assignments) = At (Next (Expanding (Values p) None))
+ahead_by p [] [] = performed p
 
-unfoldable pub ahead : ℕ → Prepared → Move
-ahead last p = ahead_by last p p.redirections p.assignments
+unfoldable pub ahead : Prepared → Move
+ahead p = ahead_by p p.redirections p.assignments
 
 -- a program runs in a process of its own, unless the shell's process is there for it alone
 abbrev pub forks : Role → (in_place : Bool) → Bool
@@ -114,8 +106,8 @@ forks role.Nameless in_place = false
 forks (role.Builtin builtin) in_place = false
 forks role.Program in_place = not in_place
 
-unfoldable pub begun : ℕ → (in_place : Bool) → Prepared → Move
-begun last in_place p = if forks p.role in_place then At (Next (Forking p)) else ahead last p
+unfoldable pub begun : (in_place : Bool) → Prepared → Move
+begun in_place p = if forks p.role in_place then At (Next (Forking p)) else ahead p
 
 -- a redirection that can't be done (2.8.1): its message is written while those before it still stand
 unfoldable pub not_done : Prepared → List ℕ → KernelFault → Move

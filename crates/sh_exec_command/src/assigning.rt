@@ -320,6 +320,6 @@ pub fn assign_turn(
             Assigned::Over(expanded) => return Ok(expanded),
         }
     }
-    let next = perform(alloc, vars.status(), prepared)?;
+    let next = perform(prepared);
     Ok(Expanded::Go(next))
 }

@@ -73,13 +73,13 @@ fn begin(
     fields: Sequence<Text>,
     vars: &Vars,
 ) -> Result<Expanded, NoMemory>
-    ensures { IfOk result (λ e. e ≡ Expanded.Go (begun vars.now.special.status in_place (prepared_of vars.now (items_of command) fields status))) }
+    ensures { IfOk result (λ e. e ≡ Expanded.Go (begun in_place (prepared_of vars.now (items_of command) fields status))) }
 {
     let items = items_of(command.get());
     let prepared = prepare(alloc, vars, items, fields.as_slice(), status);
     drop(fields);
     drop(command);
-    let next = begin_command(alloc, vars.status(), in_place, prepared?)?;
+    let next = begin_command(in_place, prepared?);
     Ok(Expanded::Go(next))
 }
 

@@ -1,12 +1,11 @@
 //! A simple command from its tree to its first place, and from its expanded words to what it does.
-ghost use Rattle.std.specs.Prelude.{◌≡◌, IfOk, drop};
-ghost use Rattle.sh_exec_base.specs.Builtins.{built_in};
-ghost use Rattle.sh_exec_command.specs.Preparing.{acted, ahead, begun, failing, failing_of, first_place, forks, nameless, no_undo, not_done, performed, prepared_of, role_by, role_of, wants_of};
+ghost use Rattle.std.specs.Prelude.{◌≡◌, IfOk};
+ghost use Rattle.sh_exec_command.specs.Preparing.{ahead, begun, failing, failing_of, first_place, forks, nameless, no_undo, not_done, performed, prepared_of, role_by, role_of, wants_of};
 
 use crate::running::{Active, Finish, Move, Place, Prepared, Role, Undo, Wants};
+use sh_builtin::Builtin;
 use sh_exec_base::Queue;
-use sh_exec_base::builtin::{Act, Builtin};
-use sh_exec_base::message::{Piece, not_redirected, usage};
+use sh_exec_base::message::not_redirected;
 use sh_exec_base::redirection::prepared_redirections;
 use sh_exec_base::simple::{
     assignments_of, has_redirects, has_words, items_of, redirect_count, split_fields,
@@ -160,49 +159,10 @@ fn failing_of(role: Role) -> Finish
     }
 }
 
-/// What follows when a built-in has acted.
-fn acted(alloc: Global, builtin: Builtin, act: Act) -> Result<Active, NoMemory>
-    ensures { IfOk result (λ active. active ≡ acted builtin act) }
-{
-    match act {
-        Act::Finish(status) => Ok(Active::Done(status)),
-        Act::Write(bytes) => {
-            let piece = Piece {
-                descriptor: 1,
-                bytes,
-            };
-            Ok(Active::Next(Place::Writing(piece, Finish::Output(builtin))))
-        },
-        Act::Leave(leave) => Ok(Active::Leaving(leave)),
-        Act::Usage => {
-            let piece = usage(alloc, builtin.name())?;
-            Ok(Active::Next(Place::Writing(piece, failing(builtin.is_special()))))
-        },
-    }
-}
-
-/// The arguments behind a command's name.
-fn arguments_of(fields: &[Text]) -> &[Text]
-    ensures { result.now ≡ drop 1 fields.now }
-{
-    match fields.split_first() {
-        Some((_, arguments)) => arguments,
-        None => fields,
-    }
-}
-
-/// A built-in acts.
-fn act(alloc: Global, last: u8, builtin: Builtin, fields: &[Text]) -> Result<Active, NoMemory>
-    ensures { IfOk result (λ active. active ≡ acted builtin (built_in last builtin (drop 1 fields.now))) }
-{
-    let act = builtin.run(alloc, last, arguments_of(fields))?;
-    acted(alloc, builtin, act)
-}
-
-/// What a command does, once all else is done; `last` is `$?`.
+/// What a command does, once all else is done.
 #[tactic(auto, unfolding(crate::specs::Preparing::performed))]
-pub(crate) fn perform(alloc: Global, last: u8, prepared: Prepared) -> Result<Move, NoMemory>
-    ensures { IfOk result (λ m. m ≡ performed last prepared) }
+pub(crate) fn perform(prepared: Prepared) -> Move
+    ensures { result ≡ performed prepared }
 {
     let Prepared {
         role,
@@ -212,29 +172,26 @@ pub(crate) fn perform(alloc: Global, last: u8, prepared: Prepared) -> Result<Mov
         ..
     } = prepared;
     match role {
-        Role::Nameless => Ok(Move::Held(undo, Active::Done(status))),
-        Role::Builtin(builtin) => {
-            let active = act(alloc, last, builtin, fields.as_slice())?;
-            Ok(Move::Held(undo, active))
-        },
-        Role::Program => Ok(Move::At(Active::Next(Place::Starting(fields)))),
+        Role::Nameless => Move::Held(undo, Active::Done(status)),
+        Role::Builtin(builtin) => Move::Held(undo, Active::Acting(builtin, fields)),
+        Role::Program => Move::At(Active::Next(Place::Starting(fields))),
     }
 }
 
 /// Where a command whose words are expanded, or of which a redirection is done, goes on: first its redirections, then its
-/// assignments. `last` is `$?`. The only error is want of memory.
+/// assignments. Takes no memory.
 #[tactic(auto, unfolding(crate::specs::Preparing::ahead))]
-pub fn go_ahead(alloc: Global, last: u8, prepared: Prepared) -> Result<Move, NoMemory>
-    ensures { IfOk result (λ m. m ≡ ahead last prepared) }
+pub fn go_ahead(prepared: Prepared) -> Move
+    ensures { result ≡ ahead prepared }
 {
     if !prepared.redirections.is_empty() {
-        return Ok(Move::At(Active::Next(Place::Redirecting(prepared))));
+        return Move::At(Active::Next(Place::Redirecting(prepared)));
     }
     if !prepared.assignments.is_empty() {
         let wants = Wants::Values(prepared);
-        return Ok(Move::At(Active::Next(Place::Expanding(wants, None))));
+        return Move::At(Active::Next(Place::Expanding(wants, None)));
     }
-    perform(alloc, last, prepared)
+    perform(prepared)
 }
 
 /// Whether a command runs in a process that is made for it.
@@ -250,18 +207,13 @@ fn forks(role: Role, in_place: bool) -> bool
 
 /// Where a command whose words are expanded goes on.
 #[tactic(auto, unfolding(crate::specs::Preparing::begun))]
-pub(crate) fn begin_command(
-    alloc: Global,
-    last: u8,
-    in_place: bool,
-    prepared: Prepared,
-) -> Result<Move, NoMemory>
-    ensures { IfOk result (λ m. m ≡ begun last in_place prepared) }
+pub(crate) fn begin_command(in_place: bool, prepared: Prepared) -> Move
+    ensures { result ≡ begun in_place prepared }
 {
     if forks(prepared.role, in_place) {
-        return Ok(Move::At(Active::Next(Place::Forking(prepared))));
+        return Move::At(Active::Next(Place::Forking(prepared)));
     }
-    go_ahead(alloc, last, prepared)
+    go_ahead(prepared)
 }
 
 /// Where a command goes on of which a redirection can't be done, which a message names by this word.

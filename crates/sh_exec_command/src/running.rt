@@ -1,5 +1,5 @@
 //! Where a shell stands before its next action.
-use sh_exec_base::builtin::{Builtin, Leave};
+use sh_builtin::{Builtin, Leave};
 use sh_exec_base::message::Piece;
 use sh_exec_base::redirection::Redirection;
 use sh_exec_base::simple::Assignment;
@@ -155,6 +155,8 @@ pub enum Place {
 pub enum Active {
     /// An action comes next.
     Next(Place),
+    /// A built-in acts, in the same turn; its name and arguments.
+    Acting(Builtin, Sequence<Text>),
     /// What ran here is done, with this status.
     Done(u8),
     /// What ran here is left before its end.

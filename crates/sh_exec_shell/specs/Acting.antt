@@ -1,8 +1,8 @@
 -- The actions of a shell that make no process.
 use Rattle.std.specs.Prelude.{ℕ, List, [], ◌∷◌, ◌++◌, Bool, true, false, drop, length, nat_eq, Option, Some, None, Result, Ok, Err, if◌then◌else◌}
-use Rattle.sh_exec_base.specs.Builtins.{name_of}
+use Rattle.sh_builtin.specs.Builtins.{name_of}
 use Rattle.sh_exec_base.specs.Messages.{message, refusal_text, write_error}
-use Rattle.sh_exec_base.specs.declared.builtin.Leave.TheVariants as leave
+use Rattle.sh_builtin.specs.declared.act.Leave.TheVariants as leave
 use Rattle.sh_exec_base.specs.declared.message.Piece.{Piece}
 use Rattle.sh_exec_base.specs.declared.redirection.Redirection.{Redirection}
 use Rattle.sh_exec_command.specs.Assigning.{assign_turn}
@@ -126,17 +126,17 @@ undone_by undo (Some one) = undo ++ one ∷ []
 abbrev pub noted : Prepared → Option Undone → Prepared
 noted p one = record p { undo = record p.undo { descriptors = undone_by p.undo.descriptors one } }
 
-abbrev pub redirect_by : ℕ → Prepared → List ℕ → Result (Unit {0}) KernelFault → Option Undone → Run
-redirect_by last p word (Ok _) one = moved (ahead last (noted p one))
-redirect_by last p word (Err f) one = moved (not_done p word f)
+abbrev pub redirect_by : Prepared → List ℕ → Result (Unit {0}) KernelFault → Option Undone → Run
+redirect_by p word (Ok _) one = moved (ahead (noted p one))
+redirect_by p word (Err f) one = moved (not_done p word f)
 
 unfoldable pub redirect_one : KernelState → ℕ → Environment → Prepared → Redirection → Acted
 redirect_one s pid env p redirection =
     let r = redirected (keeps p.role) s pid env.directory redirection in
-    acted r.after env (redirect_by env.special.status p redirection.word r.answer r.undone)
+    acted r.after env (redirect_by p redirection.word r.answer r.undone)
 
 abbrev pub redirect_from : KernelState → ℕ → Environment → Prepared → List Redirection → Acted
-redirect_from s pid env p [] = acted s env (moved (ahead env.special.status p))
+redirect_from s pid env p [] = acted s env (moved (ahead p))
 redirect_from s pid env p (redirection ∷ redirections) = redirect_one s pid env (record p { redirections = redirections }) redirection
 
 unfoldable pub redirect_turn : KernelState → ℕ → Environment → Prepared → Acted

@@ -37,7 +37,7 @@ child_of pid env run = Some (record { pid = pid; shell = record { environment = 
 
 -- ---- a program (2.9.1.6)
 abbrev pub program_by : KernelState → Environment → Prepared → Option ℕ → Turned
-program_by s env p (Some pid) = turned s env (At (Next (Waiting (pid ∷ [])))) (child_of pid env (moved (ahead env.special.status p)))
+program_by s env p (Some pid) = turned s env (At (Next (Waiting (pid ∷ [])))) (child_of pid env (moved (ahead p)))
 program_by s env p None = turned s env (At (fatal cannot_fork)) None
 
 unfoldable pub fork_turn : KernelState → ℕ → Environment → Prepared → Turned

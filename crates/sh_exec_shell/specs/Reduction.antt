@@ -1,11 +1,11 @@
 -- One turn of a shell: inward to its active place, the action there, and outward again.
 use Rattle.std.specs.Prelude.{ℕ, ◌||◌, Bool, false, None}
 use Rattle.sh_exec_command.specs.Expanding.{Turn}
-use Rattle.sh_exec_base.specs.declared.builtin.Leave.TheVariants as leave
+use Rattle.sh_builtin.specs.declared.act.Leave.TheVariants as leave
 use Rattle.sh_exec_command.specs.Reading.{next_command}
 use Rattle.sh_exec_command.specs.Series.{give_turn}
 use Rattle.sh_exec_command.specs.declared.running.Active.{Active}
-use Rattle.sh_exec_command.specs.declared.running.Active.TheVariants.{Next, Done, Leaving}
+use Rattle.sh_exec_command.specs.declared.running.Active.TheVariants.{Acting, Next, Done, Leaving}
 use Rattle.sh_exec_command.specs.declared.running.Expanded.{Expanded}
 use Rattle.sh_exec_command.specs.declared.running.Expanded.TheVariants as expanded
 use Rattle.sh_exec_command.specs.declared.running.Place.{Place}
@@ -44,6 +44,7 @@ act_place s pid env (Writing piece finish) = plain (write_turn s pid env piece f
 act_place s pid env (Ending status) = plain (end_turn s pid env status)
 
 abbrev pub act_at : KernelState → ℕ → Environment → Active → Turned
+act_at s pid env (Acting builtin fields) = plain (acted s env (At (Acting builtin fields)))
 act_at s pid env (Next place) = act_place s pid env place
 act_at s pid env (Done status) = plain (acted s env (At (Done status)))
 act_at s pid env (Leaving leave) = plain (acted s env (At (Leaving leave)))
@@ -63,6 +64,7 @@ rooted (At (Leaving (leave.Shell status))) = At (Next (Ending status))
 rooted (At (Leaving (leave.Break inside))) = At (Next (Ending 0))
 rooted (At (Leaving (leave.Continue inside))) = At (Next (Ending 0))
 rooted (At (Done status)) = At (Next (Ending status))
+rooted (At (Acting builtin fields)) = At (Acting builtin fields)
 rooted (At (Next place)) = At (Next place)
 rooted (In form run) = In form run
 

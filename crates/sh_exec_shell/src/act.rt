@@ -18,7 +18,7 @@ use crate::output::{end_turn, write_turn};
 use crate::redirecting::redirect_turn;
 use crate::shell::Child;
 use crate::waits::{answer_turn, wait_turn};
-use sh_exec_base::builtin::Leave;
+use sh_builtin::Leave;
 use sh_exec_base::message::refused;
 use sh_exec_base::{Queue, Rest};
 use sh_exec_command::{
@@ -209,6 +209,9 @@ fn act(
         Active::Next(place) => {
             let (tree, child) = act_place(alloc, kernel, pid, vars, place)?;
             Ok((tree, child))
+        },
+        Active::Acting(builtin, fields) => {
+            Ok((Tree::At(Active::Acting(builtin, fields)), None))
         },
         Active::Done(status) => Ok((Tree::At(Active::Done(status)), None)),
         Active::Leaving(leave) => Ok((Tree::At(Active::Leaving(leave)), None)),

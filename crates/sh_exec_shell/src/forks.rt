@@ -50,9 +50,9 @@ fn put_program(
     prepared: Prepared,
     child: u32,
 ) -> Result<Child, NoMemory>
-    ensures { IfOk result (λ made. made ≡ record { pid = child; shell = record { environment = vars.now; run = moved (ahead vars.now.special.status prepared) } }) }
+    ensures { IfOk result (λ made. made ≡ record { pid = child; shell = record { environment = vars.now; run = moved (ahead prepared) } }) }
 {
-    let to = go_ahead(alloc, vars.status(), prepared)?;
+    let to = go_ahead(prepared);
     let tree = Tree::moved(alloc, to)?;
     match vars.copy() {
         Ok(copy) => Ok(child_of(child, copy, tree)),

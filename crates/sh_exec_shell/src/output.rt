@@ -6,7 +6,7 @@ ghost use Rattle.sh_exec_shell_base.specs.Forms.{IsActed};
 ghost use Rattle.sh_exec_shell.specs.Acting.{end_turn, finished, unwritten, write_turn, written_by};
 ghost use Rattle.sh_exec_shell_base.specs.Tree.{run_of};
 
-use sh_exec_base::builtin::Leave;
+use sh_builtin::Leave;
 use sh_exec_base::message::{Piece, write_error};
 use sh_exec_command::{Active, Finish, Place};
 use sh_exec_machine::{Given, give_bytes};

@@ -46,18 +46,17 @@ fn note(prepared: Prepared, one: Option<Undone>) -> Result<Prepared, NoMemory>
 /// Where a command goes on behind a redirection.
 fn go_on(
     alloc: Global,
-    last: u8,
     prepared: Prepared,
     word: &[u8],
     answer: Result<(), KernelFault>,
     one: Option<Undone>,
 ) -> Result<Tree, NoMemory>
-    ensures { IfOk result (λ tree. run_of tree ≡ redirect_by last prepared word.now answer one) }
+    ensures { IfOk result (λ tree. run_of tree ≡ redirect_by prepared word.now answer one) }
 {
     match answer {
         Ok(()) => {
             let prepared = note(prepared, one)?;
-            let to = go_ahead(alloc, last, prepared)?;
+            let to = go_ahead(prepared);
             Tree::moved(alloc, to)
         },
         Err(fault) => {
@@ -84,7 +83,7 @@ fn redirect_one(
     match redirect(kernel, pid, vars.directory(), &redirection, kept) {
         Ok(Redirected { answer, undone }) => {
             let word = redirection.word.as_slice();
-            let tree = go_on(alloc, vars.status(), prepared, word, answer, undone);
+            let tree = go_on(alloc, prepared, word, answer, undone);
             drop(redirection);
             tree
         },
@@ -110,7 +109,7 @@ pub(crate) fn redirect_turn(
 {
     let mut prepared = prepared;
     let Some(redirection) = prepared.redirections.take() else {
-        let to = go_ahead(alloc, vars.status(), prepared)?;
+        let to = go_ahead(prepared);
         let tree = Tree::moved(alloc, to)?;
         return Ok(tree);
     };

@@ -8,8 +8,8 @@ ghost use Rattle.sh_exec_shell_base.specs.Running.{Run, active_of};
 ghost use Rattle.sh_exec_shell_base.specs.Tree.{run_of};
 
 use crate::act::reduce;
+use sh_builtin::Leave;
 use sh_exec_base::Rest;
-use sh_exec_base::builtin::Leave;
 use sh_exec_command::{Active, Place};
 use sh_exec_shell_base::Tree;
 use sh_kernel::Kernel;
@@ -68,6 +68,7 @@ fn root(tree: Tree) -> Tree
             Active::Leaving(leave) => Tree::At(Active::Next(Place::Ending(status_of(leave)))),
             Active::Done(status) => Tree::At(Active::Next(Place::Ending(status))),
             Active::Next(place) => Tree::At(Active::Next(place)),
+            Active::Acting(builtin, fields) => Tree::At(Active::Acting(builtin, fields)),
         },
         Tree::In(form, inner) => Tree::In(form, inner),
     }

@@ -1,14 +1,15 @@
 -- What a form becomes when what runs inside it is done, or leaves it.
 use Rattle.std.specs.Prelude.{◌≡◌, ℕ, zero, suc, List, [], ◌∷◌, ◌||◌, Bool, true, false, Option, Some, None, if◌then◌else◌}
-use Rattle.sh_exec_base.specs.declared.builtin.Leave.{Leave}
-use Rattle.sh_exec_base.specs.declared.builtin.Leave.TheVariants as leave
+use Rattle.sh_builtin.specs.declared.act.Leave.{Leave}
+use Rattle.sh_builtin.specs.declared.act.Leave.TheVariants as leave
 use Rattle.sh_exec_command.specs.Series.{given}
 use Rattle.sh_exec_command.specs.Undoing as variables
 use Rattle.sh_exec_command.specs.declared.running.Active.{Active}
-use Rattle.sh_exec_command.specs.declared.running.Active.TheVariants.{Next, Done, Leaving}
+use Rattle.sh_exec_command.specs.declared.running.Active.TheVariants.{Acting, Next, Done, Leaving}
 use Rattle.sh_exec_command.specs.declared.running.Place.TheVariants.{Reading}
 use Rattle.sh_exec_command.specs.declared.running.Undo.{Undo}
 use Rattle.sh_exec_machine.specs.Undoing as descriptors
+use Rattle.sh_exec_shell_base.specs.Builtins.{placed}
 use Rattle.sh_exec_shell_base.specs.Entering.{entered, joined, list_run, pipeline_run}
 use Rattle.sh_exec_shell_base.specs.Running.{Run, At, In}
 use Rattle.sh_exec_shell_base.specs.declared.form.Branches.{Branches}
@@ -94,6 +95,7 @@ is_loop (Each series) = true
 
 -- ---- break and continue (2.15): they are done with 0, and do nothing where no loop stands around
 abbrev pub bounded : (looped : Bool) → Active → Active
+bounded looped (Acting builtin fields) = Acting builtin fields
 bounded looped (Next place) = Next place
 bounded looped (Done status) = Done status
 bounded looped (Leaving (leave.Shell status)) = Leaving (leave.Shell status)
@@ -155,6 +157,7 @@ left pid looped (Each series) s env leave = loop_left s env (At (given series 0)
 abbrev pub after_by : ℕ → (looped : Bool) → Form → KernelState → Environment → Run → Acted
 after_by pid looped form s env (At (Done status)) = ended pid form s env status
 after_by pid looped form s env (At (Leaving leave)) = left pid looped form s env leave
+after_by pid looped form s env (At (Acting builtin fields)) = acted s env (In form (At (Acting builtin fields)))
 after_by pid looped form s env (At (Next place)) = acted s env (In form (At (Next place)))
 after_by pid looped form s env (In inner run) = acted s env (In form (In inner run))
 
@@ -162,9 +165,10 @@ after_by pid looped form s env (In inner run) = acted s env (In form (In inner r
 unfoldable pub after : ℕ → (looped : Bool) → Form → Acted → Acted
 after pid looped form a = after_by pid looped form a.machine a.environment a.run
 
--- statuses go outward until the place is an action
+-- a built-in acts, and statuses go outward until the place is an action
 abbrev pub settled : ℕ → (looped : Bool) → KernelState → Environment → Run → Acted
-settled pid looped s env (At active) = acted s env (At (bounded looped active))
+settled pid looped s env (At active) =
+    let p = placed s pid env active in acted s p.environment (At (bounded looped p.active))
 settled pid looped s env (In form run) = after pid looped form (settled pid (is_loop form || looped) s env run)
 
 -- a kernel and a shell stand at what an action leaves

@@ -1,3 +1,4 @@
+pub mod Builtins
 pub mod Codes
 pub mod Entering
 pub mod Forms

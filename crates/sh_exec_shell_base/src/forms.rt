@@ -7,12 +7,13 @@ ghost use Rattle.sh_exec_shell_base.specs.Forms.{Acted, IsActed, acted, after, a
 ghost use Rattle.sh_exec_shell_base.specs.Running.{Run};
 ghost use Rattle.sh_exec_shell_base.specs.Tree.{run_of};
 
+use crate::acting::perform;
 use crate::entering::{enter, enter_list, enter_pipeline, join};
 use crate::form::{Branches, Form};
 use crate::loops::{bound, leave_loop, leave_series, repeat, test};
 use crate::tree::Tree;
+use sh_builtin::Leave;
 use sh_exec_base::Queue;
-use sh_exec_base::builtin::Leave;
 use sh_exec_command::{Active, Place, Undo, restore_variables};
 use sh_exec_machine::restore_all;
 use sh_kernel::Kernel;
@@ -263,6 +264,10 @@ pub fn wrap(
                 let tree = leave_form(alloc, kernel, pid, vars, looped, form, leave)?;
                 Ok(tree)
             },
+            Active::Acting(builtin, fields) => {
+                let tree = Tree::At(Active::Acting(builtin, fields)).within(alloc, form)?;
+                Ok(tree)
+            },
             Active::Next(place) => {
                 let tree = Tree::next(place).within(alloc, form)?;
                 Ok(tree)
@@ -277,7 +282,7 @@ pub fn wrap(
     }
 }
 
-/// Statuses go outward until the place is an action; `looped` tells whether a loop stands around. The only error is want of memory,
+/// A built-in acts where one is to, and statuses go outward until the place is an action; `looped` tells whether a loop stands around. The only error is want of memory,
 /// after which the tree is gone.
 pub fn settle(
     alloc: Global,
@@ -291,7 +296,10 @@ pub fn settle(
     ensures terminal { kernel.new.terminal ≡ kernel.old.terminal }
 {
     match tree {
-        Tree::At(active) => Ok(Tree::At(bound(looped, active))),
+        Tree::At(active) => {
+            let active = perform(alloc, kernel, pid, vars, active)?;
+            Ok(Tree::At(bound(looped, active)))
+        },
         Tree::In(form, inner) => {
             let within = form.is_looped(looped);
             let inner = settle(alloc, kernel, pid, vars, within, Box::into_inner(inner))?;

@@ -2,6 +2,7 @@
 //! it is done.
 #![tactic(auto)]
 
+mod acting;
 mod bodies;
 mod entering;
 mod form;

@@ -10,7 +10,7 @@ ghost use Rattle.sh_kernel.specs.State.{KernelState};
 use crate::entering::enter_list;
 use crate::form::{Form, Loop};
 use crate::tree::Tree;
-use sh_exec_base::builtin::Leave;
+use sh_builtin::Leave;
 use sh_exec_command::{Active, Series};
 use sh_syntax::memory::NoMemory;
 use sh_tree::tree::LoopKind;
@@ -58,6 +58,7 @@ pub(crate) fn bound(looped: bool, active: Active) -> Active
     ensures { result ≡ bounded looped active }
 {
     match active {
+        Active::Acting(builtin, fields) => Active::Acting(builtin, fields),
         Active::Next(place) => Active::Next(place),
         Active::Done(status) => Active::Done(status),
         Active::Leaving(leave) => match leave {

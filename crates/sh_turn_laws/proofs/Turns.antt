@@ -3,11 +3,11 @@ use Rattle.std.proofs.Common.{◌≡◌, ℕ, zero, suc, List, [], ◌∷◌, �
 use Rattle.std.specs.Prelude.{◌||◌, nat_eq, if◌then◌else◌}
 use Rattle.sh_exec_base.specs.declared.message.Piece.{Piece}
 use Rattle.sh_exec_base.specs.declared.redirection.Redirection.{Redirection}
-use Rattle.sh_exec_base.specs.declared.builtin.Leave.{Leave}
-use Rattle.sh_exec_base.specs.declared.builtin.Leave.TheVariants as leave
+use Rattle.sh_builtin.specs.declared.act.Leave.{Leave}
+use Rattle.sh_builtin.specs.declared.act.Leave.TheVariants as leave
 use Rattle.sh_exec_command.specs.Series.{given}
 use Rattle.sh_exec_command.specs.declared.running.Active.{Active}
-use Rattle.sh_exec_command.specs.declared.running.Active.TheVariants.{Next, Done, Leaving}
+use Rattle.sh_exec_command.specs.declared.running.Active.TheVariants.{Acting, Next, Done, Leaving}
 use Rattle.sh_exec_command.specs.declared.running.Expanded.{Expanded}
 use Rattle.sh_exec_command.specs.declared.running.Expanded.TheVariants as expanded
 use Rattle.sh_exec_command.specs.declared.running.Finish.{Finish}
@@ -79,6 +79,7 @@ module _ (directory : List ℕ) (P : KernelState → Type 0) (kept : IsKept dire
   after_by_keeps : (pid : ℕ) (looped : Bool) (form : Form) (s : KernelState) (env : Environment) (run : Run) → P s → P (after_by pid looped form s env run).machine
   after_by_keeps pid looped form s env (At (Done status)) p = ended_keeps pid form s env status p
   after_by_keeps pid looped form s env (At (Leaving leave)) p = left_keeps pid looped form s env leave p
+  after_by_keeps pid looped form s env (At (Acting builtin fields)) p = p
   after_by_keeps pid looped form s env (At (Next place)) p = p
   after_by_keeps pid looped form s env (In inner run) p = p
 
@@ -187,6 +188,7 @@ module _ (directory : List ℕ) (P : KernelState → Type 0) (kept : IsKept dire
   place_keeps s pid env (Ending status) e p = end_keeps s pid env status p
 
   active_keeps : (s : KernelState) (pid : ℕ) (env : Environment) (active : Active) → env.directory ≡ directory → P s → P (act_at s pid env active).left.machine
+  active_keeps s pid env (Acting builtin fields) e p = p
   active_keeps s pid env (Next place) e p = place_keeps s pid env place e p
   active_keeps s pid env (Done status) e p = p
   active_keeps s pid env (Leaving leave) e p = p

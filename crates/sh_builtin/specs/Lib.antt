@@ -1,0 +1,3 @@
+pub mod Builtins
+pub mod Loops
+pub mod Running

@@ -1,0 +1,27 @@
+//! What built-ins do.
+use sh_builtin_vars::BuiltinFault;
+use sh_syntax::sequence::Text;
+
+/// How commands are left before their end.
+#[derive(Clone, Copy, Debug, PartialEq, Eq)]
+pub enum Leave {
+    /// The shell is left with this status.
+    Shell(u8),
+    /// A loop is left, inside which there are so many others around the place.
+    Break(u64),
+    /// The run of a loop's body is left, and the loop goes on; inside it there are so many others.
+    Continue(u64),
+}
+
+/// What a built-in does with its arguments, beside what it changes of the shell.
+#[derive(Debug, Drop)]
+pub enum Act {
+    /// It is done with this status.
+    Finish(u8),
+    /// It writes this.
+    Write(Text),
+    /// Commands are left.
+    Leave(Leave),
+    /// It is refused.
+    Fault(BuiltinFault),
+}

@@ -1,0 +1,10 @@
+//! Built-in utilities (XCU 1.6, 2.15).
+#![tactic(auto)]
+
+mod act;
+mod builtin;
+mod leaving;
+mod testing;
+
+pub use act::{Act, Leave};
+pub use builtin::Builtin;

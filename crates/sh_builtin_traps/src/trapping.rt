@@ -1,0 +1,109 @@
+//! The built-in trap (XCU 2.15).
+ghost use Rattle.std.specs.Prelude.{◌≡◌, IfOk, option_map};
+ghost use Rattle.sh_builtin_traps.specs.Trapping.{action_in, set_all, set_behind, trap_ran, trap_with, trapped};
+
+use crate::condition::Condition;
+use crate::traps::Traps;
+use sh_builtin_base::number_of;
+use sh_builtin_vars::{BuiltinFault, Outcome, parse_options};
+use sh_syntax::memory::NoMemory;
+use sh_syntax::sequence::{Sequence, Text};
+use std::alloc::Global;
+
+/// A copy of a text.
+fn copy_of(alloc: Global, text: &[u8]) -> Result<Text, NoMemory>
+    ensures { IfOk result (λ copy. copy ≡ text.now) }
+{
+    let mut copy = Sequence::new(alloc);
+    copy.extend_from_slice(text)?;
+    Ok(copy)
+}
+
+/// A copy of an action, if there is one.
+fn copy_action(alloc: Global, action: Option<&[u8]>) -> Result<Option<Text>, NoMemory>
+    ensures { IfOk result (λ copy. copy ≡ option_map (λ action. action.now) action.entry) }
+{
+    match action {
+        Some(action) => {
+            let copy = copy_of(alloc, action)?;
+            Ok(Some(copy))
+        },
+        None => Ok(None),
+    }
+}
+
+/// Conditions, up to one that is none.
+fn set_all(
+    alloc: Global,
+    traps: &mut Traps,
+    action: Option<&[u8]>,
+    words: &[Text],
+) -> Result<Outcome, NoMemory>
+    ensures { IfOk result (λ outcome. trapped traps.new outcome ≡ set_all traps.old (option_map (λ action. action.now) action.entry) words.now) }
+{
+    let mut rest = words;
+    'words: while let Some((word, others)) = rest.split_first() {
+        let Some(condition) = Condition::of(word.as_slice()) else {
+            let word = copy_of(alloc, word.as_slice())?;
+            return Ok(Outcome::Fault(BuiltinFault::BadName(word)));
+        };
+        let copy = copy_action(alloc, action)?;
+        traps.set(condition, copy);
+        rest = others;
+    }
+    Ok(Outcome::Done(0))
+}
+
+/// The action that a word is.
+fn action_in(word: &[u8]) -> Option<&[u8]>
+    ensures { option_map (λ action. action.now) result ≡ action_in word.now }
+{
+    if word == b"-".as_slice() {
+        return None;
+    }
+    Some(word)
+}
+
+/// An action, and conditions.
+fn set_behind(
+    alloc: Global,
+    traps: &mut Traps,
+    action: &[u8],
+    words: &[Text],
+) -> Result<Outcome, NoMemory>
+    ensures { IfOk result (λ outcome. trapped traps.new outcome ≡ set_behind traps.old action.now words.now) }
+{
+    if words.is_empty() {
+        return Ok(Outcome::Fault(BuiltinFault::Usage));
+    }
+    set_all(alloc, traps, action_in(action), words)
+}
+
+/// trap with its operands.
+fn trap_with(alloc: Global, traps: &mut Traps, operands: &[Text]) -> Result<Outcome, NoMemory>
+    ensures { IfOk result (λ outcome. trapped traps.new outcome ≡ trap_with traps.old operands.now) }
+{
+    let Some((first, others)) = operands.split_first() else {
+        let text = traps.list(alloc)?;
+        return Ok(Outcome::Output(text));
+    };
+    if number_of(first.as_slice()).is_some() {
+        return set_all(alloc, traps, None, operands);
+    }
+    set_behind(alloc, traps, first.as_slice(), others)
+}
+
+/// trap with its arguments (XCU 2.15): the first operand becomes the action of the conditions behind it, from left to right; `-` brings
+/// back the default, an empty one ignores a signal. Where the first operand is a number, all are conditions, and have the default. A
+/// condition is `EXIT` or a signal's name without SIG, in capital letters, or its number, 0 for the exit; one on KILL or STOP is kept and
+/// never taken. Without operands the traps are listed. Refused are options, an action alone, and a word that is no condition; conditions
+/// before that have the action. The only error is want of memory; what the traps are then is left open.
+#[tactic(auto, unfolding(crate::specs::Trapping::trap_ran))]
+pub fn trap(alloc: Global, traps: &mut Traps, arguments: &[Text]) -> Result<Outcome, NoMemory>
+    ensures { IfOk result (λ outcome. trapped traps.new outcome ≡ trap_ran traps.old arguments.now) }
+{
+    let Some((_, operands)) = parse_options(b"", arguments) else {
+        return Ok(Outcome::Fault(BuiltinFault::Usage));
+    };
+    trap_with(alloc, traps, operands)
+}

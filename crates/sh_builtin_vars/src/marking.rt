@@ -1,0 +1,154 @@
+//! The built-ins export and readonly (XCU 2.15).
+ghost use Rattle.std.specs.Prelude.{◌≡◌, ◌<◌, IfOk, IfSome, IsTrue, OnOk, length, option_map};
+ghost use Rattle.sh_builtin_vars.specs.Marking.{equals_in, mark_listed, mark_ran, marked, marked_all, marked_one, marked_with, name_in, value_in};
+ghost use Rattle.sh_builtin_vars.specs.Outcomes.{ran, stepped};
+ghost use Rattle.sh_vars.specs.Names as names;
+
+use crate::listing::{Listing, list};
+use crate::marks::Mark;
+use crate::options::parse_options;
+use crate::outcome::{BuiltinFault, Outcome};
+use crate::variables::{copy_of, is_read_only, set_value};
+use sh_syntax::memory::NoMemory;
+use sh_syntax::sequence::Text;
+use sh_vars::{Vars, is_name};
+use std::alloc::Global;
+
+/// Where the first `=` of an operand stands.
+fn equals_in(operand: &[u8]) -> Option<usize>
+    ensures place { result ≡ equals_in operand.now }
+    ensures within { IfSome result (λ i. i < length operand.now) }
+{
+    operand.iter().position(|byte| *byte == b'=')
+}
+
+/// The name in an operand.
+fn name_in(operand: &[u8]) -> &[u8]
+    ensures { result.now ≡ name_in operand.now }
+{
+    match equals_in(operand) {
+        Some(i) => &operand[..i],
+        None => operand,
+    }
+}
+
+/// The value in an operand, if it has one.
+fn value_in(operand: &[u8]) -> Option<&[u8]>
+    ensures { option_map (λ value. value.now) result ≡ value_in operand.now }
+{
+    match equals_in(operand) {
+        Some(i) => Some(&operand[i + 1..]),
+        None => None,
+    }
+}
+
+/// Marks a variable.
+fn mark_name(mark: Mark, vars: &mut Vars, name: &[u8]) -> Result<(), NoMemory>
+    requires { IsTrue (names.is_name name.now) }
+    ensures { OnOk result (vars.new ≡ marked mark vars.old name.now) }
+{
+    match mark {
+        Mark::Export => match vars.export(name) {
+            Ok(()) => Ok(()),
+            Err(_) => Err(NoMemory),
+        },
+        Mark::ReadOnly => match vars.make_readonly(name) {
+            Ok(()) => Ok(()),
+            Err(_) => Err(NoMemory),
+        },
+    }
+}
+
+/// Gives a variable a value, if there is one, and marks it.
+fn mark_with(
+    alloc: Global,
+    mark: Mark,
+    vars: &mut Vars,
+    name: &[u8],
+    value: Option<&[u8]>,
+) -> Result<Option<BuiltinFault>, NoMemory>
+    requires { IsTrue (names.is_name name.now) }
+    ensures { IfOk result (λ why. stepped vars.new why ≡ marked_with mark vars.old name.now (option_map (λ value. value.now) value.entry)) }
+{
+    let Some(value) = value else {
+        mark_name(mark, vars, name)?;
+        return Ok(None);
+    };
+    if is_read_only(vars, name) {
+        let name = copy_of(alloc, name)?;
+        return Ok(Some(BuiltinFault::ReadOnly(name)));
+    }
+    set_value(vars, name, value)?;
+    mark_name(mark, vars, name)?;
+    Ok(None)
+}
+
+/// One operand.
+#[tactic(auto, unfolding(crate::specs::Marking::marked_one))]
+fn mark_one(
+    alloc: Global,
+    mark: Mark,
+    vars: &mut Vars,
+    operand: &[u8],
+) -> Result<Option<BuiltinFault>, NoMemory>
+    ensures { IfOk result (λ why. stepped vars.new why ≡ marked_one mark vars.old operand.now) }
+{
+    let name = name_in(operand);
+    if !is_name(name) {
+        let operand = copy_of(alloc, operand)?;
+        return Ok(Some(BuiltinFault::BadName(operand)));
+    }
+    mark_with(alloc, mark, vars, name, value_in(operand))
+}
+
+/// Operands, up to one that is refused.
+fn mark_all(
+    alloc: Global,
+    mark: Mark,
+    vars: &mut Vars,
+    operands: &[Text],
+) -> Result<Outcome, NoMemory>
+    ensures { IfOk result (λ outcome. ran vars.new outcome ≡ marked_all mark vars.old operands.now) }
+{
+    let mut rest = operands;
+    'operands: while let Some((operand, others)) = rest.split_first() {
+        if let Some(fault) = mark_one(alloc, mark, vars, operand.as_slice())? {
+            return Ok(Outcome::Fault(fault));
+        }
+        rest = others;
+    }
+    Ok(Outcome::Done(0))
+}
+
+/// The variables that are marked.
+fn list_marked(alloc: Global, mark: Mark, vars: &Vars) -> Result<Outcome, NoMemory>
+    ensures { IfOk result (λ outcome. ran vars.now outcome ≡ mark_listed mark vars.now) }
+{
+    let text = list(alloc, Listing::Marked(mark), vars)?;
+    Ok(Outcome::Output(text))
+}
+
+/// export and readonly with their arguments (XCU 2.15): the variables of operands `NAME` and `NAME=VALUE` are marked, from left to
+/// right, the latter once they have the value; `-p`, and no operand, lists those that are marked. An operand whose name is none, or
+/// whose value would change a read-only variable, is refused, as are operands behind `-p` and other options; those before it are
+/// done. The only error is want of memory; what the variables are then is left open.
+#[tactic(auto, unfolding(crate::specs::Marking::mark_ran))]
+pub fn mark(
+    alloc: Global,
+    mark: Mark,
+    vars: &mut Vars,
+    arguments: &[Text],
+) -> Result<Outcome, NoMemory>
+    ensures { IfOk result (λ outcome. ran vars.new outcome ≡ mark_ran mark vars.old arguments.now) }
+{
+    let Some((last, operands)) = parse_options(b"p", arguments) else {
+        return Ok(Outcome::Fault(BuiltinFault::Usage));
+    };
+    if operands.is_empty() {
+        return list_marked(alloc, mark, vars);
+    }
+    if last.is_some() {
+        return Ok(Outcome::Fault(BuiltinFault::Usage));
+    }
+    mark_all(alloc, mark, vars, operands)
+}

@@ -1,0 +1,95 @@
+//! The built-in unset (XCU 2.15).
+ghost use Rattle.std.specs.Prelude.{◌≡◌, IfOk};
+ghost use Rattle.sh_builtin_vars.specs.Outcomes.{ran, stepped};
+ghost use Rattle.sh_builtin_vars.specs.Unsetting.{kind_unset, names_functions, unset_all, unset_one, unset_ran};
+
+use crate::options::parse_options;
+use crate::outcome::{BuiltinFault, Outcome};
+use crate::variables::{copy_of, is_read_only};
+use sh_syntax::memory::NoMemory;
+use sh_syntax::sequence::Text;
+use sh_vars::{Vars, is_name};
+use std::alloc::Global;
+
+/// A variable, or a function, goes.
+fn unset_kind(
+    alloc: Global,
+    functions: bool,
+    vars: &mut Vars,
+    name: &[u8],
+) -> Result<Option<BuiltinFault>, NoMemory>
+    ensures { IfOk result (λ why. stepped vars.new why ≡ kind_unset functions vars.old name.now) }
+{
+    if functions {
+        return Ok(None);
+    }
+    if is_read_only(vars, name) {
+        let name = copy_of(alloc, name)?;
+        return Ok(Some(BuiltinFault::ReadOnly(name)));
+    }
+    vars.forget(name);
+    Ok(None)
+}
+
+/// One operand.
+#[tactic(auto, unfolding(crate::specs::Unsetting::unset_one))]
+fn unset_one(
+    alloc: Global,
+    functions: bool,
+    vars: &mut Vars,
+    name: &[u8],
+) -> Result<Option<BuiltinFault>, NoMemory>
+    ensures { IfOk result (λ why. stepped vars.new why ≡ unset_one functions vars.old name.now) }
+{
+    if !is_name(name) {
+        let name = copy_of(alloc, name)?;
+        return Ok(Some(BuiltinFault::BadName(name)));
+    }
+    unset_kind(alloc, functions, vars, name)
+}
+
+/// Operands, up to one that is refused.
+fn unset_all(
+    alloc: Global,
+    functions: bool,
+    vars: &mut Vars,
+    names: &[Text],
+) -> Result<Outcome, NoMemory>
+    ensures { IfOk result (λ outcome. ran vars.new outcome ≡ unset_all functions vars.old names.now) }
+{
+    let mut rest = names;
+    'names: while let Some((name, others)) = rest.split_first() {
+        if let Some(fault) = unset_one(alloc, functions, vars, name.as_slice())? {
+            return Ok(Outcome::Fault(fault));
+        }
+        rest = others;
+    }
+    Ok(Outcome::Done(0))
+}
+
+/// Whether functions are meant, by the last of the options.
+fn names_functions(last: Option<u8>) -> bool
+    ensures { result ≡ names_functions last }
+{
+    match last {
+        Some(letter) => letter == b'f',
+        None => false,
+    }
+}
+
+/// unset with its arguments (XCU 2.15): the variables of these names go, from left to right, with value and attributes; one that isn't
+/// there stays so. Under `-f` functions are meant, of which there is none yet; of `-f` and `-v` the last counts. An operand that is no
+/// name, or names a read-only variable, is refused, as are other options, and no operand; those before it are gone. The only error is
+/// want of memory; what the variables are then is left open.
+#[tactic(auto, unfolding(crate::specs::Unsetting::unset_ran))]
+pub fn unset(alloc: Global, vars: &mut Vars, arguments: &[Text]) -> Result<Outcome, NoMemory>
+    ensures { IfOk result (λ outcome. ran vars.new outcome ≡ unset_ran vars.old arguments.now) }
+{
+    let Some((last, operands)) = parse_options(b"fv", arguments) else {
+        return Ok(Outcome::Fault(BuiltinFault::Usage));
+    };
+    if operands.is_empty() {
+        return Ok(Outcome::Fault(BuiltinFault::Usage));
+    }
+    unset_all(alloc, names_functions(last), vars, operands)
+}

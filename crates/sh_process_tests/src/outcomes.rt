@@ -1,0 +1,44 @@
+//! Commands of rows as words, and what built-ins come to as a text: a status, what is written, with `;` for a newline, or why it is refused.
+use sh_builtin_vars::{BuiltinFault, Outcome};
+use sh_syntax::memory::NoMemory;
+use sh_syntax::sequence::{Sequence, Text};
+use std::alloc::Global;
+
+/// The words of a command.
+pub(crate) fn words_of(alloc: Global, command: &str) -> Result<Vec<Text>, NoMemory> {
+    let mut words = Vec::new(alloc);
+    for word in command.split(' ') {
+        let bytes = if word == "_" { "" } else { word };
+        words.push(Sequence::from_vec(bytes.as_bytes().to_vec(alloc)?))?;
+    }
+    Ok(words)
+}
+
+/// Puts a text behind another, with `;` for each newline.
+fn put(text: &mut Text, bytes: &[u8]) -> Result<(), NoMemory> {
+    for byte in bytes {
+        text.push(if *byte == b'\n' { b';' } else { *byte })?;
+    }
+    Ok(())
+}
+
+/// Puts why a built-in is refused behind a text.
+fn put_fault(text: &mut Text, fault: &BuiltinFault) -> Result<(), NoMemory> {
+    let (why, word): (&str, &[u8]) = match fault {
+        BuiltinFault::Usage => ("usage", b""),
+        BuiltinFault::BadName(word) => ("bad ", word.as_slice()),
+        BuiltinFault::ReadOnly(name) => ("ro ", name.as_slice()),
+        BuiltinFault::CannotOpen(path) => ("open ", path.as_slice()),
+    };
+    put(text, why.as_bytes())?;
+    put(text, word)
+}
+
+/// Puts what a command came to behind a text.
+pub(crate) fn put_outcome(text: &mut Text, outcome: &Outcome) -> Result<(), NoMemory> {
+    match outcome {
+        Outcome::Done(status) => put(text, &[b'0'.saturating_add(*status)]),
+        Outcome::Output(bytes) => put(text, bytes.as_slice()),
+        Outcome::Fault(fault) => put_fault(text, fault),
+    }
+}

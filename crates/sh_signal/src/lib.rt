@@ -1,0 +1,6 @@
+//! The signals that processes know.
+#![tactic(auto)]
+
+mod signal;
+
+pub use signal::{DefaultAction, Signal};
