@@ -1,0 +1,105 @@
+//! What is said of rows.
+use crate::row::{Row, RowFault, read_rows};
+use std::alloc::Global;
+use std::process::ExitCode;
+use std::{env, fs, io};
+
+/// What is found of a row.
+#[derive(Drop)]
+pub enum Verdict {
+    /// It comes to what it should.
+    Well,
+    /// It comes to something else.
+    Wrong {
+        /// What it comes to.
+        found: Vec<u8>,
+    },
+}
+
+impl Verdict {
+    /// Whether what was found is what has to come.
+    pub fn of(found: Vec<u8>, wanted: &[u8]) -> Self {
+        if found.as_slice() == wanted {
+            return Verdict::Well;
+        }
+        Verdict::Wrong { found }
+    }
+}
+
+/// What judges the rows of a file.
+pub trait Judge {
+    /// Tells whether a row comes to what it should.
+    ///
+    /// # Errors
+    ///
+    /// [`RowFault::NoRow`] where the row is of no kind that is known, and [`RowFault::NoMemory`].
+    fn judge(&self, alloc: Global, row: &Row) -> Result<Verdict, RowFault>;
+}
+
+/// Says what a row came to in place of what it should.
+fn tell(rt: &HostRuntime, file: &str, line: usize, found: &[u8]) {
+    let found = found.escape_ascii();
+    let _ = println!(rt; "{file}: line {line} comes to {found}");
+}
+
+/// Judges the rows of a file, and counts those that come to something else, each with a line that says so.
+fn count_wrong(
+    rt: &HostRuntime,
+    judge: &impl Judge,
+    file: &str,
+    rows: &[Row],
+) -> Result<usize, RowFault> {
+    let mut wrong = 0usize;
+    for row in rows {
+        if let Verdict::Wrong { found } = judge.judge(rt.alloc(), row)? {
+            wrong = wrong.saturating_add(1);
+            tell(rt, file, row.line, &found);
+        }
+    }
+    Ok(wrong)
+}
+
+/// Judges a file, and says how many rows it has. Answers whether all are well.
+fn judge_file(rt: &HostRuntime, judge: &impl Judge, file: &str) -> Result<bool, RowFault> {
+    let Ok(bytes) = fs::read(rt, file) else {
+        return Err(RowFault::NoFile);
+    };
+    let rows = read_rows(rt.alloc(), &bytes)?;
+    let wrong = count_wrong(rt, judge, file, &rows);
+    let all = rows.len();
+    drop(rows);
+    let wrong = wrong?;
+    let _ = println!(rt; "{file}: {all} rows, {wrong} wrong");
+    Ok(wrong == 0)
+}
+
+/// The words of the command line behind the program's name.
+fn words(rt: &HostRuntime) -> io::Result<Vec<String>> {
+    let mut words = Vec::new(rt.alloc());
+    for word in env::args(rt)?.skip(1) {
+        words.push(word)?;
+    }
+    Ok(words)
+}
+
+/// Judges the rows of the files that the command line names, in their order, and says which come to something else.
+///
+/// The exit status is 0 where all are well, 1 where some aren't, and 3 where a file can't be read, a line is no row or memory is wanting,
+/// with a line on standard error.
+pub fn judge_files(rt: &HostRuntime, judge: &impl Judge) -> ExitCode {
+    let Ok(files) = words(rt) else {
+        let _ = eprintln!(rt; "out of memory");
+        return ExitCode::from(3);
+    };
+    let mut are_well = true;
+    for file in &files {
+        match judge_file(rt, judge, file.as_str()) {
+            Ok(is_well) => are_well = are_well && is_well,
+            Err(fault) => {
+                let _ = eprintln!(rt; "{file}: {fault}");
+                return ExitCode::from(3);
+            },
+        }
+    }
+    ExitCode::from(if are_well { 0 } else { 1 })
+}
