@@ -5,7 +5,7 @@ use Rattle.std.proofs.Common.{ap, sym, subst, append-nil, arith}
 use Rattle.sh_stock.specs.Asking.{KeepsLaws, Meaning}
 use Rattle.sh_stock.specs.Courses.{is_filter}
 use Rattle.sh_stock.specs.Filtering.{AllFit, Course, Filtering, Fits, Holds, IsFilter, KeepsFilterLaws, KeepsParts, after, course}
-use Rattle.sh_process_tests.specs.Twice.{twice, twice_ask, twice_filter, with_twice, with_twice_filtering}
+use Rattle.sh_process_rows.specs.Twice.{twice, twice_ask, twice_filter, with_twice, with_twice_filtering}
 use Rattle.sh_stock.specs.declared.asking.Answer.{Answer}
 use Rattle.sh_stock.specs.declared.asking.Answer.TheVariants.{Started, Bytes, Done, Failed}
 use Rattle.sh_stock.specs.declared.asking.Ask.TheVariants.{Read, Write, End}

@@ -1,6 +1,6 @@
 // `twice`, beside the programs of another kind: a kind of program that has a filter of its own, by the laws alone.
 ghost use Rattle.std.specs.Prelude.{◌≡◌, IfOk, Option};
-ghost use Rattle.sh_process_tests.specs.Twice.{twice, twice_ask};
+ghost use Rattle.sh_process_rows.specs.Twice.{twice, twice_ask};
 
 use sh_stock::{Answer, Ask, Filter, NoMemory, Stock, Text};
 use std::alloc::Global;
@@ -21,8 +21,8 @@ impl<S> Model for WithTwice<S> {
 }
 
 impl<S: Stock> Stock for WithTwice<S> {
-    ghost use Rattle.sh_process_tests.specs.Twice.{with_twice};
-    ghost use Rattle.sh_process_tests.specs.TwiceLaws.{with_twice-laws};
+    ghost use Rattle.sh_process_rows.specs.Twice.{with_twice};
+    ghost use Rattle.sh_process_rows.specs.TwiceLaws.{with_twice-laws};
 
     ghost meaning = { with_twice S.meaning };
 
@@ -51,8 +51,8 @@ impl<S: Stock> Stock for WithTwice<S> {
 }
 
 impl<S: Filter> Filter for WithTwice<S> {
-    ghost use Rattle.sh_process_tests.specs.Twice.{with_twice_filtering};
-    ghost use Rattle.sh_process_tests.specs.TwiceLaws.{with_twice-filter_laws};
+    ghost use Rattle.sh_process_rows.specs.Twice.{with_twice_filtering};
+    ghost use Rattle.sh_process_rows.specs.TwiceLaws.{with_twice-filter_laws};
 
     ghost filtering = { with_twice_filtering S.filtering };
 

@@ -1,6 +1,6 @@
 use Rattle.std.proofs.Common.{◌≡◌, ◌++◌, length}
-use Rattle.sh_process_tests.specs.Twice.{twice}
-use Rattle.sh_process_tests.proofs.twice.twice.Given as goal
+use Rattle.sh_process_rows.specs.Twice.{twice}
+use Rattle.sh_process_rows.proofs.twice.twice.Given as goal
 
 abbrev pub invariant-bytes : goal.invariant-bytes
 invariant-bytes l = l.doubled.items ++ twice l.rest ≡ twice l.bytes

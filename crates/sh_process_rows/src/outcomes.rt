@@ -4,18 +4,18 @@ use sh_syntax::memory::NoMemory;
 use sh_syntax::sequence::{Sequence, Text};
 use std::alloc::Global;
 
-/// The words of a command.
-pub(crate) fn words_of(alloc: Global, command: &str) -> Result<Vec<Text>, NoMemory> {
+/// The words of a command. `_` is an empty one.
+pub(crate) fn words_of(alloc: Global, command: &[u8]) -> Result<Vec<Text>, NoMemory> {
     let mut words = Vec::new(alloc);
-    for word in command.split(' ') {
-        let bytes = if word == "_" { "" } else { word };
-        words.push(Sequence::from_vec(bytes.as_bytes().to_vec(alloc)?))?;
+    for word in command.split(|byte| *byte == b' ') {
+        let bytes = if word == b"_".as_slice() { b"" } else { word };
+        words.push(Sequence::from_vec(bytes.to_vec(alloc)?))?;
     }
     Ok(words)
 }
 
 /// Puts a text behind another, with `;` for each newline.
-fn put(text: &mut Text, bytes: &[u8]) -> Result<(), NoMemory> {
+fn put(text: &mut Vec<u8>, bytes: &[u8]) -> Result<(), NoMemory> {
     for byte in bytes {
         text.push(if *byte == b'\n' { b';' } else { *byte })?;
     }
@@ -23,7 +23,7 @@ fn put(text: &mut Text, bytes: &[u8]) -> Result<(), NoMemory> {
 }
 
 /// Puts why a built-in is refused behind a text.
-fn put_fault(text: &mut Text, fault: &BuiltinFault) -> Result<(), NoMemory> {
+fn put_fault(text: &mut Vec<u8>, fault: &BuiltinFault) -> Result<(), NoMemory> {
     let (why, word): (&str, &[u8]) = match fault {
         BuiltinFault::Usage => ("usage", b""),
         BuiltinFault::BadName(word) => ("bad ", word.as_slice()),
@@ -35,10 +35,20 @@ fn put_fault(text: &mut Text, fault: &BuiltinFault) -> Result<(), NoMemory> {
 }
 
 /// Puts what a command came to behind a text.
-pub(crate) fn put_outcome(text: &mut Text, outcome: &Outcome) -> Result<(), NoMemory> {
+fn put_outcome(text: &mut Vec<u8>, outcome: &Outcome) -> Result<(), NoMemory> {
     match outcome {
         Outcome::Done(status) => put(text, &[b'0'.saturating_add(*status)]),
         Outcome::Output(bytes) => put(text, bytes.as_slice()),
         Outcome::Fault(fault) => put_fault(text, fault),
     }
+}
+
+/// Puts what a command came to behind a text, with `|` behind what stands there, and lets it go.
+pub(crate) fn put_next(text: &mut Vec<u8>, place: usize, outcome: Outcome) -> Result<(), NoMemory> {
+    if place > 0 {
+        text.push(b'|')?;
+    }
+    let put = put_outcome(text, &outcome);
+    drop(outcome);
+    put
 }
