@@ -4,13 +4,14 @@
 In the built program: scripts on the image of the stock programs. A run that a refusal changes must end with 3, the line
 `psh: out of memory` on standard error and, as output, the terminal's bytes after some of the events.
 
-In the test `want_of_memory` of sh_expand_tests, which writes a letter for each case that doesn't come to what it comes to with
-ample memory: `r` for a call that was refused, `u` where memory was wanting beside it; any other is bad.
+In sh_value_rows, which judges the rows of its file `expansions`. A run that a refusal changes must end with 1, one row coming to
+`refused`, where a call was refused, or with 3 and a line on standard error where memory was wanting beside the calls; any other is bad.
 
-Needs a C compiler. Build first: ./psh --help, and rt test in crates/sh_expand_tests. The words `program` and `expand` choose one
-of the two.
+Needs a C compiler. Build first: ./psh --help, and rt run in crates/sh_value_rows. The words `program` and `expand` choose one of the
+two.
 """
 import os
+import re
 import subprocess
 import sys
 import tempfile
@@ -62,19 +63,19 @@ def image_of(files):
     return "\n".join(lines + ["end", ""])
 
 
-def run(words, shim=None, refused=0):
+def run(words, shim=None, refused=0, folder=None):
     env = {"LD_PRELOAD": shim, "REFUSE": str(refused)} if refused else {}
-    done = subprocess.run(words, capture_output=True, env=env, timeout=60)
+    done = subprocess.run(words, capture_output=True, cwd=folder, env=env, timeout=60)
     return done.returncode, done.stdout, done.stderr
 
 
-def refuse_all(name, words, shim, judge):
+def refuse_all(name, words, shim, judge, folder=None):
     """Refuses the 1st, 2nd .. growth until 100 in a row change nothing; the number of refusals, and of bad ones."""
-    whole = run(words)
+    whole = run(words, folder=folder)
     refusals = bad = quiet = n = 0
     while quiet < 100:
         n += 1
-        got = run(words, shim, n)
+        got = run(words, shim, n, folder)
         quiet = quiet + 1 if got == whole else 0
         if got == whole:
             continue
@@ -126,19 +127,27 @@ def refuse_in_program(folder, shim):
     return bad
 
 
-def refuse_in_test(crate, name, shim):
-    program = os.path.join(TOP, "crates", crate, "out", crate + "_tests")
-    counts = {"r": 0, "u": 0}
+def refuse_in_rows(shim):
+    crate = os.path.join(TOP, "crates", "sh_value_rows")
+    words, data = [os.path.join(crate, "out", "sh_value_rows"), "expansions"], os.path.join(crate, "data")
+    ample = run(words, folder=data)
+    told = re.fullmatch(rb"expansions: (\d+) rows, 0 wrong\n", ample[1])
+    if not told or ample != (0, ample[1], b""):
+        print("expansions with ample memory: %r" % (ample,))
+        return 1
+    refused = re.compile(rb"expansions: line \d+ comes to refused\nexpansions: %s rows, 1 wrong\n" % told[1])
+    wanting = {b"out of memory\n", b"expansions: out of memory\n", b"expansions: a file can't be read\n"}
+    in_calls = 0
 
     def judge(got):
-        letters = got[1].decode().split("\n")[0].rstrip(".")
-        if got[0] == 0 and letters in counts:
-            counts[letters] += 1
+        nonlocal in_calls
+        if got[0] == 1 and refused.fullmatch(got[1]) and not got[2]:
+            in_calls += 1
             return True
-        return False
+        return got[0] == 3 and not got[1] and got[2] in wanting
 
-    refusals, bad = refuse_all(crate, [program, name], shim, judge)
-    print("%s: %d refusals, %d of them in its calls, %d bad" % (crate, refusals, counts["r"], bad))
+    refusals, bad = refuse_all("expansions", words, shim, judge, data)
+    print("expansions: %d refusals, %d of them in the calls, %d bad" % (refusals, in_calls, bad))
     return bad
 
 
@@ -151,7 +160,7 @@ def main():
         if "program" in chosen:
             bad += refuse_in_program(folder, shim)
         if "expand" in chosen:
-            bad += refuse_in_test("sh_expand_tests", "tests::want_of_memory", shim)
+            bad += refuse_in_rows(shim)
     return 1 if bad else 0
 
 

@@ -6,9 +6,9 @@
 //! - `files IMAGE STEPS ANSWERS`: calls, one after another. Of no image these are the files of a new machine.
 //! - `many NUMBER ANSWERS`: what so many files in a directory are written and listed as, and what one of them holds.
 use crate::calls::opening;
-use crate::steps::{bytes_of, count, is, say, truth, word};
+use crate::steps::{bytes_of, count, is, number_of, say, truth, word};
 use sh_files::{FileFault, Files, ImageFault, MAX_IMAGE, Node};
-use sh_rows::{RowFault, number_of};
+use sh_rows::RowFault;
 use std::alloc::{AllocError, Global};
 
 /// Files of an image, or why it is refused.

@@ -2,9 +2,9 @@
 //! bytes that a read gives; `r` or `w` and the number of the read or write that fails, or `.`; and what it asks for: `R` and `r` for a
 //! read of 1024 bytes and of one, `S` for a stop, `I` for an idle turn, the bytes of a write in brackets, `E` and the status for the
 //! end, `..` behind 20 turns. `twice` is the same of programs with one more beside them. `name WORD` is a word that names no program.
-use crate::steps::truth;
+use crate::steps::{number_of, truth};
 use crate::twice::WithTwice;
-use sh_rows::{Row, RowFault, number_of};
+use sh_rows::{Row, RowFault};
 use sh_stock::{Answer, Ask, NoMemory, Program, Stock, Text};
 use std::alloc::Global;
 

@@ -1,6 +1,6 @@
 //! Steps of a row: `;` stands between them, and a space between the words of one. In a word `_` stands for a space.
-use sh_rows::number_of;
 use std::alloc::{AllocError, Global};
+use std::str;
 
 /// The word of a step at a place; none where it has fewer.
 pub(crate) fn word(step: &[u8], place: usize) -> &[u8] {
@@ -21,6 +21,11 @@ pub(crate) fn bytes_of(alloc: Global, word: &[u8]) -> Result<Vec<u8>, AllocError
         }
     }
     Ok(bytes)
+}
+
+/// The number that decimal digits write.
+pub(crate) fn number_of(digits: &[u8]) -> Option<usize> {
+    str::from_utf8(digits).ok()?.parse().ok()
 }
 
 /// The number that a word of a step is; 0 where it is none.

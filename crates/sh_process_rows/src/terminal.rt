@@ -5,8 +5,8 @@
 //! - `long KEYS ANSWER`: the length of the terminal behind so many keys and a newline, and of the line that is read.
 //! - `terminal STEPS ANSWERS`: `write BYTES`, `key BYTES` (answers the signals), `read SIZE` (answers the bytes), `reads SIZE`,
 //!   `ready`, `group`, `group NUMBER`, `shown`, one after another.
-use crate::steps::{bytes_of, count, is, process, say, truth, word};
-use sh_rows::{RowFault, number_of};
+use crate::steps::{bytes_of, count, is, number_of, process, say, truth, word};
+use sh_rows::RowFault;
 use sh_tty::{Signal, Tty, TtyFault};
 use std::alloc::Global;
 

@@ -7,4 +7,4 @@ mod report;
 mod row;
 
 pub use crate::report::{Judge, Verdict, judge_files};
-pub use crate::row::{Row, RowFault, number_of, read_rows};
+pub use crate::row::{Row, RowFault, read_rows};

@@ -21,14 +21,6 @@ impl Row {
         }
     }
 
-    /// The bytes of the last field; none where the row has none.
-    pub fn last(&self) -> &[u8] {
-        match self.fields.last() {
-            Some(field) => field.as_slice(),
-            None => &[],
-        }
-    }
-
     /// Whether the row is of a kind, with so many fields behind it.
     pub fn is(&self, kind: &str, fields: usize) -> bool {
         self.field(0) == kind.as_bytes() && self.fields.len().saturating_sub(1) == fields
@@ -59,22 +51,6 @@ impl<T: Drop> From<AllocFailed<T>> for RowFault {
     fn from(_error: AllocFailed<T>) -> Self {
         RowFault::NoMemory
     }
-}
-
-/// The number that decimal digits write; `None` of other bytes, of none, and of a number that no `usize` is.
-pub fn number_of(digits: &[u8]) -> Option<usize> {
-    if digits.is_empty() {
-        return None;
-    }
-    let mut value = 0usize;
-    for digit in digits {
-        if !digit.is_ascii_digit() {
-            return None;
-        }
-        value = value.checked_mul(10)?;
-        value = value.checked_add(usize::from(digit.saturating_sub(b'0')))?;
-    }
-    Some(value)
 }
 
 /// The bytes up to the first one that is `separator`, and those behind it; all and none where none is.
