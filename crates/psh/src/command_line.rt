@@ -1,60 +1,78 @@
 //! The command line.
-use crate::usage;
-use crate::usage::UsageFault;
+use crate::usage::{Asked, UsageFault};
 use clap::error::ErrorKind;
-use clap::{Arg, ArgAction, ArgMatches, Command, Error};
+use clap::{Arg, ArgMatches, Command, Error};
 use sh_syntax::sequence::Sequence;
 use sh_vars::{Options, Text};
 use sh_world::{Settings, Source};
 use std::alloc::{AllocError, Global};
 
+/// The text in which clap reads a word: a word may be any bytes, and each is the character of its number, as in ISO 8859-1.
+fn text_of(alloc: Global, word: &[u8]) -> Result<String, AllocError> {
+    let mut text = String::new(alloc);
+    for byte in word {
+        text.push(char::from(*byte))?;
+    }
+    Ok(text)
+}
+
+/// The bytes of such a text. A character that stands for none becomes a question mark.
+fn bytes_of(alloc: Global, text: &str) -> Result<Vec<u8>, AllocError> {
+    let mut bytes = Vec::new(alloc);
+    for character in text.chars() {
+        bytes.push(u8::try_from(character).unwrap_or(b'?'))?;
+    }
+    Ok(bytes)
+}
+
+/// The option with the commands.
+fn text_option<'a>(alloc: Global) -> Arg<'a> {
+    Arg::new(alloc, "text")
+        .short('c')
+        .value_name("TEXT")
+        .help("The commands to run, in place of a script's")
+        .allow_hyphen_values(true)
+}
+
+/// An operand that names a file.
+fn file_operand<'a>(alloc: Global, id: &'a str, shown: &'a str, help: &'a str) -> Arg<'a> {
+    Arg::new(alloc, id)
+        .value_name(shown)
+        .help(help)
+        .required(true)
+}
+
 /// The operands behind the two files.
 fn words_operand<'a>(alloc: Global) -> Result<Arg<'a>, AllocError> {
-    Ok(
-        Arg::new(alloc, "words")
-            .value_name("WORDS")
-            .help("The script's path in the image, or with -c $0; and the positional parameters")
-            .required_unless_present("text")?
-            .num_args(0..)
-            .action(ArgAction::Append),
-    )
+    Arg::new(alloc, "words")
+        .value_name("WORDS")
+        .help("The script's path in the image, or with -c $0; and the positional parameters")
+        .num_args(0..)
+        .required_unless_present("text")
 }
 
 /// The options and operands of psh but for its words.
 fn command_without_words<'a>(alloc: Global) -> Result<Command<'a>, AllocError> {
     Command::new(alloc, "psh")
         .about("Runs a shell script over a modelled machine, by stated turns of its processes")
-        .arg(
-            Arg::new(alloc, "text")
-                .short('c')
-                .value_name("TEXT")
-                .help("The commands to run, in place of a script's")
-                .allow_hyphen_values(true)
-                .action(ArgAction::Set),
-        )?
-        .arg(
-            Arg::new(alloc, "image")
-                .value_name("IMAGE")
-                .help("The file with the image of files")
-                .required(true)
-                .action(ArgAction::Set),
-        )?
-        .arg(
-            Arg::new(alloc, "events")
-                .value_name("EVENTS")
-                .help("The file with the events, a line each")
-                .required(true)
-                .action(ArgAction::Set),
-        )
+        .no_binary_name(true)
+        .arg(text_option(alloc))?
+        .arg(file_operand(alloc, "image", "IMAGE", "The file with the image of files"))?
+        .arg(file_operand(
+            alloc,
+            "events",
+            "EVENTS",
+            "The file with the events, a line each",
+        ))
 }
 
 /// The options and operands of psh.
 fn command<'a>(alloc: Global) -> Result<Command<'a>, AllocError> {
-    let command = command_without_words(alloc)?;
-    match words_operand(alloc) {
-        Ok(words) => command.arg(words),
+    let words = words_operand(alloc)?;
+    match command_without_words(alloc) {
+        Ok(command) => command.arg(words),
         Err(error) => {
-            drop(command);
+            drop(words);
             Err(error)
         },
     }
@@ -62,46 +80,71 @@ fn command<'a>(alloc: Global) -> Result<Command<'a>, AllocError> {
 
 /// What clap says of words that are not in order.
 fn fault_of(alloc: Global, error: &Error) -> UsageFault {
-    let Ok(text) = error.to_string(alloc) else {
-        return UsageFault::NoMemory;
+    let text = match error.to_string(alloc) {
+        Ok(text) => bytes_of(alloc, text.as_str()),
+        Err(_) => return UsageFault::NoMemory,
     };
-    match error.kind() {
-        ErrorKind::OutOfMemory => UsageFault::NoMemory,
-        ErrorKind::DisplayHelp => UsageFault::Help { text },
-        _ => UsageFault::Usage { text },
+    match (error.kind(), text) {
+        (ErrorKind::OutOfMemory, _) | (_, Err(_)) => UsageFault::NoMemory,
+        (ErrorKind::DisplayHelp, Ok(text)) => UsageFault::Help { text },
+        (_, Ok(text)) => UsageFault::Usage { text },
     }
 }
 
 /// Where the commands come from: of a text, or of the script that the first word names.
-fn source(alloc: Global, text: Option<&str>, zero: &str) -> Result<Source, AllocError> {
+fn source_of(alloc: Global, text: Option<&str>, zero: &str) -> Result<Source, AllocError> {
     match text {
-        Some(text) => Ok(Source::Text(Sequence::from_vec(text.as_bytes().to_vec(alloc)?))),
-        None => Ok(Source::Script(Sequence::from_vec(zero.as_bytes().to_vec(alloc)?))),
+        Some(text) => Ok(Source::Text(Sequence::from_vec(bytes_of(alloc, text)?))),
+        None => Ok(Source::Script(Sequence::from_vec(bytes_of(alloc, zero)?))),
     }
 }
 
-/// How a shell is started that runs a text or a script: the first word is `$0`, the others are `$1` and so on.
-fn settings(alloc: Global, text: Option<&str>, words: &[&str]) -> Result<Settings, AllocError> {
+/// The positional parameters.
+fn parameters(alloc: Global, words: &[&str]) -> Result<Sequence<Text>, AllocError> {
     let mut args = Vec::new(alloc);
-    for word in words.iter().skip(1) {
-        args.push(Text::copy_of(alloc, word.as_bytes())?)?;
+    for word in words {
+        args.push(Text::from(bytes_of(alloc, word)?))?;
     }
-    let zero = words.first().copied().unwrap_or("psh");
+    Ok(Sequence::from_vec(args))
+}
+
+/// How a shell is started that runs a text or a script: the first word is `$0`, the others are `$1` and so on.
+fn settings_of(alloc: Global, text: Option<&str>, words: &[&str]) -> Result<Settings, AllocError> {
+    let (first, rest) = match words {
+        [first, rest @ ..] => (*first, rest),
+        [] => ("psh", words),
+    };
+    let zero = Text::from(bytes_of(alloc, first)?);
+    let args = parameters(alloc, rest)?;
+    let source = source_of(alloc, text, first)?;
     Ok(Settings {
-        source: source(alloc, text, zero)?,
-        zero: Text::copy_of(alloc, zero.as_bytes())?,
-        args: Sequence::from_vec(args),
+        source,
+        zero,
+        args,
         options: Options::default(),
     })
 }
 
+/// The path of a file, which is UTF-8, since the standard library opens no others; else a fault that says so.
+fn path_of(alloc: Global, text: Option<&str>, fault: &[u8]) -> Result<String, UsageFault> {
+    let bytes = bytes_of(alloc, text.unwrap_or(""))?;
+    match String::from_utf8(bytes) {
+        Ok(path) => Ok(path),
+        Err(_) => Err(UsageFault::Usage {
+            text: fault.to_vec(alloc)?,
+        }),
+    }
+}
+
 /// What a command line that is in order asks for.
-fn asked_by(alloc: Global, matches: &ArgMatches) -> Result<usage::Asked, UsageFault> {
-    let image = String::from_str(alloc, matches.get_str("image").unwrap_or(""))?;
-    let events = String::from_str(alloc, matches.get_str("events").unwrap_or(""))?;
+fn asked_by(alloc: Global, matches: &ArgMatches) -> Result<Asked, UsageFault> {
+    let image = matches.get_str("image");
+    let image = path_of(alloc, image, b"psh: the path of the image is not UTF-8\n")?;
+    let events = matches.get_str("events");
+    let events = path_of(alloc, events, b"psh: the path of the events is not UTF-8\n")?;
     let words = matches.get_strs("words").unwrap_or(&[]);
-    let settings = settings(alloc, matches.get_str("text"), words)?;
-    Ok(usage::Asked {
+    let settings = settings_of(alloc, matches.get_str("text"), words)?;
+    Ok(Asked {
         settings,
         report: false,
         image,
@@ -109,18 +152,22 @@ fn asked_by(alloc: Global, matches: &ArgMatches) -> Result<usage::Asked, UsageFa
     })
 }
 
-/// What the words behind the program's name ask for.
-pub fn asked(alloc: Global, words: &[String]) -> Result<usage::Asked, UsageFault> {
-    let mut all = Vec::new(alloc);
-    all.push("psh")?;
+/// What the words behind the program's name ask for. They may be any bytes, but for the two paths, which are UTF-8.
+pub fn asked(alloc: Global, words: &[Vec<u8>]) -> Result<Asked, UsageFault> {
+    let mut texts = Vec::new(alloc);
     for word in words {
-        all.push(word.as_str())?;
+        texts.push(text_of(alloc, word)?)?;
     }
-    let matches = match command(alloc)?.try_get_matches_from(all.as_slice()) {
-        Ok(matches) => matches,
-        Err(error) => return Err(fault_of(alloc, &error)),
-    };
-    let asked = asked_by(alloc, &matches);
-    drop(matches);
-    asked
+    match command(alloc)?.try_get_matches_from(texts.as_slice()) {
+        Ok(matches) => {
+            let asked = asked_by(alloc, &matches);
+            drop(matches);
+            asked
+        },
+        Err(error) => {
+            let fault = fault_of(alloc, &error);
+            drop(error);
+            Err(fault)
+        },
+    }
 }

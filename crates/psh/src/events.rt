@@ -15,14 +15,14 @@ const MOST_TIMES: u64 = 1_000_000;
 const MOST_PLACE: u64 = 2_147_483_647;
 
 /// One event, so many times in a row.
-#[derive(Clone, Copy, Debug, PartialEq, Eq)]
+#[derive(Clone, Copy)]
 pub struct Turns {
     pub event: Event,
     pub times: u32,
 }
 
 /// Why events are refused.
-#[derive(Clone, Copy, Debug, PartialEq, Eq, Error)]
+#[derive(Debug, Drop, Error)]
 pub enum EventFault {
     /// A line is no event. Lines count from 1.
     #[error("BadEvent: line {line}")]

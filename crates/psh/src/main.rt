@@ -6,90 +6,133 @@
 
 mod command_line;
 mod events;
-#[cfg(test)]
-mod expansion_tests;
 mod serving;
-#[cfg(test)]
-mod tests;
 mod usage;
 
 use crate::command_line::asked;
 use crate::serving::serve;
-use crate::usage::UsageFault;
+use crate::usage::{Asked, UsageFault};
+use sh_syntax::memory::NoMemory;
+use sh_world::Settings;
+use std::env::{Env, FillError};
 use std::io::Write;
 use std::process::ExitCode;
-use std::{env, fs, io};
+use std::{fs, io};
+
+/// The first size of the space that an argument is read into, in bytes.
+const FIRST_SIZE: usize = 4096;
+
+/// An argument of the program, the first being its name; none where there are fewer. It may be any bytes.
+fn argument(rt: &HostRuntime, place: usize) -> Result<Option<Vec<u8>>, NoMemory> {
+    let mut size = FIRST_SIZE;
+    for _ in 0..usize::BITS {
+        let mut bytes = Vec::new(rt.alloc());
+        bytes.resize(size, 0u8)?;
+        match rt.arg(place, &mut bytes) {
+            Ok(length) => {
+                bytes.truncate(length);
+                return Ok(Some(bytes));
+            },
+            Err(FillError::NotPresent) => return Ok(None),
+            Err(FillError::TooLong) => size = size.saturating_mul(2),
+        }
+    }
+    Err(NoMemory)
+}
 
 /// The words of the command line behind the program's name.
-fn words(rt: &HostRuntime) -> io::Result<Vec<String>> {
+fn words(rt: &HostRuntime) -> Result<Vec<Vec<u8>>, NoMemory> {
     let mut words = Vec::new(rt.alloc());
-    for word in env::args(rt)?.skip(1) {
-        words.push(word)?;
+    for place in 1..usize::MAX {
+        match argument(rt, place)? {
+            Some(word) => words.push(word)?,
+            None => break,
+        }
     }
     Ok(words)
 }
 
-/// Says why a file couldn't be read, and answers the program's exit status.
-fn unread(rt: &HostRuntime, error: &io::Error) -> u8 {
-    if error.kind() == io::ErrorKind::OutOfMemory {
-        let _ = eprintln!(rt; "psh: out of memory");
-        return 3;
-    }
-    let _ = eprintln!(rt; "psh: cannot read");
-    4
+/// Says that memory is wanting, and answers the program's exit status.
+fn lack(rt: &HostRuntime) -> u8 {
+    let _ = eprintln!(rt; "psh: out of memory");
+    3
 }
 
-/// Opens and reads both files, runs, and writes what comes of it.
-fn run(rt: &HostRuntime, asked: usage::Asked) -> u8 {
-    let image = match fs::read(rt, asked.image.as_str()) {
-        Ok(image) => image,
-        Err(error) => return unread(rt, &error),
-    };
-    let events = match fs::read(rt, asked.events.as_str()) {
-        Ok(events) => events,
-        Err(error) => return unread(rt, &error),
-    };
-    let mut out = Vec::new(rt.alloc());
-    let mut err = Vec::new(rt.alloc());
-    let status = serve(
-        rt.alloc(),
-        asked.settings,
-        asked.report,
-        &image,
-        &events,
-        &mut out,
-        &mut err,
-    );
-    let _ = rt.stderr().write_all(&err);
-    if rt.stdout().write_all(&out).is_err() {
+/// Writes to standard output, and answers the program's exit status: `status`, or what stands for bytes that can't be written.
+fn write(rt: &HostRuntime, bytes: &[u8], status: u8) -> u8 {
+    if rt.stdout().write_all(bytes).is_err() {
         let _ = eprintln!(rt; "psh: cannot write");
         return 4;
     }
     status
 }
 
+/// The bytes of a file. After an `Err`, which is the program's exit status, it is said why there are none.
+fn read(rt: &HostRuntime, name: &str) -> Result<Vec<u8>, u8> {
+    match fs::read(rt, name) {
+        Ok(bytes) => Ok(bytes),
+        Err(error) if error.kind() == io::ErrorKind::OutOfMemory => Err(lack(rt)),
+        Err(_) => {
+            let _ = eprintln!(rt; "psh: {name}: cannot read");
+            Err(4)
+        },
+    }
+}
+
+/// The bytes of the image and of the events. After an `Err`, which is the program's exit status, it is said why there are none.
+fn read_both(rt: &HostRuntime, image: &str, events: &str) -> Result<(Vec<u8>, Vec<u8>), u8> {
+    let image = read(rt, image)?;
+    let events = read(rt, events)?;
+    Ok((image, events))
+}
+
+/// Runs a shell, writes what comes of it, and answers the program's exit status.
+fn serve_to(rt: &HostRuntime, settings: Settings, report: bool, image: &[u8], events: &[u8]) -> u8 {
+    let mut out = Vec::new(rt.alloc());
+    let mut err = Vec::new(rt.alloc());
+    let status = serve(
+        rt.alloc(),
+        settings,
+        report,
+        image,
+        events,
+        &mut out,
+        &mut err,
+    );
+    let _ = rt.stderr().write_all(&err);
+    write(rt, &out, status)
+}
+
+/// Does what a command line that is in order asks for, and answers the program's exit status.
+fn run(rt: &HostRuntime, asked: Asked) -> u8 {
+    match read_both(rt, asked.image.as_str(), asked.events.as_str()) {
+        Ok((image, events)) => serve_to(rt, asked.settings, asked.report, &image, &events),
+        Err(status) => {
+            drop(asked);
+            status
+        },
+    }
+}
+
+/// Says why there is nothing to run, and answers the program's exit status.
+fn tell(rt: &HostRuntime, fault: UsageFault) -> u8 {
+    match fault {
+        UsageFault::Help { text } => write(rt, &text, 0),
+        UsageFault::Usage { text } => {
+            let _ = rt.stderr().write_all(&text);
+            2
+        },
+        UsageFault::NoMemory => lack(rt),
+    }
+}
+
 /// Reads the command line, and does what it asks.
 fn main(rt: HostRuntime) -> ExitCode {
     let Ok(words) = words(&rt) else {
-        let _ = eprintln!(rt; "psh: out of memory");
-        return ExitCode::from(3);
+        return ExitCode::from(lack(&rt));
     };
     match asked(rt.alloc(), &words) {
         Ok(asked) => ExitCode::from(run(&rt, asked)),
-        Err(UsageFault::Help { text }) => {
-            if print!(rt; "{text}").is_err() {
-                let _ = eprintln!(rt; "psh: cannot write");
-                return ExitCode::from(4);
-            }
-            ExitCode::from(0)
-        },
-        Err(UsageFault::Usage { text }) => {
-            let _ = eprint!(rt; "{text}");
-            ExitCode::from(2)
-        },
-        Err(UsageFault::NoMemory) => {
-            let _ = eprintln!(rt; "psh: out of memory");
-            ExitCode::from(3)
-        },
+        Err(fault) => ExitCode::from(tell(&rt, fault)),
     }
 }

@@ -56,6 +56,23 @@ fn drive(world: &mut World<Program>, all: &[Turns]) -> Result<(), NoMemory> {
     Ok(())
 }
 
+/// Gives a world its turns, and shows its terminal.
+fn lead(
+    alloc: Global,
+    mut world: World<Program>,
+    all: &[Turns],
+    out: &mut Vec<u8>,
+    err: &mut Vec<u8>,
+) -> u8 {
+    let driven = drive(&mut world, all);
+    let shown = out.extend_from_slice(world.terminal());
+    drop(world);
+    if shown.is_err() || driven.is_err() {
+        return lack(alloc, err);
+    }
+    0
+}
+
 /// Runs a shell on these files by these turns.
 fn run(
     alloc: Global,
@@ -65,16 +82,10 @@ fn run(
     out: &mut Vec<u8>,
     err: &mut Vec<u8>,
 ) -> u8 {
-    let Ok(mut world) = World::<Program>::new(alloc, files, settings) else {
-        return lack(alloc, err);
-    };
-    let driven = drive(&mut world, all);
-    let shown = out.extend_from_slice(world.terminal());
-    drop(world);
-    if shown.is_err() || driven.is_err() {
-        return lack(alloc, err);
+    match World::new(alloc, files, settings) {
+        Ok(world) => lead(alloc, world, all, out, err),
+        Err(_) => lack(alloc, err),
     }
-    0
 }
 
 /// Runs a shell on the files of `image` by the turns of `events`, both given whole. The image is checked

@@ -16,12 +16,12 @@ pub struct Asked {
 }
 
 /// Why there is nothing to run.
-#[derive(Debug, Drop)]
+#[derive(Drop)]
 pub enum UsageFault {
     /// The words are not in order; the text says how they should be.
-    Usage { text: String },
+    Usage { text: Vec<u8> },
     /// Help is asked for; this is its text.
-    Help { text: String },
+    Help { text: Vec<u8> },
     /// No memory was found.
     NoMemory,
 }
