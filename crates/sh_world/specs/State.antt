@@ -8,8 +8,7 @@ use Rattle.sh_exec_shell_base.specs.Running.{At}
 use Rattle.sh_files.specs.Nodes.{FileMap}
 use Rattle.sh_kernel.specs.State as kernel
 use Rattle.sh_kernel.specs.State.{KernelState}
-use Rattle.sh_kernel_base.specs.Processes.{status_at}
-use Rattle.sh_kernel_base.specs.Waiting.{is_running}
+use Rattle.sh_kernel_base.specs.Processes.{lives, status_at}
 use Rattle.sh_kernel_base.specs.declared.process.Status.{Status}
 use Rattle.sh_kernel_base.specs.declared.process.Status.TheVariants.{Running, Stopped, Exited, Signaled}
 use Rattle.sh_stock.specs.Asking.{Meaning}
@@ -64,12 +63,9 @@ start image settings = record {
 abbrev pub status_of : {S : Type 0} → State S → ℕ → Option Status
 status_of s pid = status_at s.machine.machine.processes pid
 
-abbrev pub first_runs : KernelState → Bool
-first_runs s = is_running (status_at s.machine.processes first_pid)
-
--- after the first shell's end no process takes a turn
+-- after the first shell's end no process takes a turn; while it is stopped others go on
 abbrev pub runnables : {S : Type 0} → State S → List ℕ
-runnables s = if first_runs s.machine then runnable_pids s.machine s.tasks else []
+runnables s = if lives s.machine.machine.processes first_pid then runnable_pids s.machine s.tasks else []
 
 -- the processes that live after a turn
 abbrev pub with_tasks : {S : Type 0} → State S → ℕ → TasksTurned S → State S

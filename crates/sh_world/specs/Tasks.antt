@@ -1,5 +1,5 @@
 -- The processes of a machine that live, in order of pid: which of them can take a turn, and what a turn of one leaves.
-use Rattle.std.specs.Prelude.{◌≡◌, ℕ, List, [], ◌∷◌, ◌++◌, nat_eq, Bool, Option, Some, None, if◌then◌else◌}
+use Rattle.std.specs.Prelude.{◌≡◌, ℕ, suc, List, [], ◌∷◌, ◌++◌, nat_eq, Bool, Option, Some, None, if◌then◌else◌}
 use Rattle.std.specs.List.{filter}
 use Rattle.sh_exec.specs.Runnable.{is_runnable}
 use Rattle.sh_exec.specs.Turns.{Turned, turn}
@@ -29,6 +29,11 @@ turned_first task tasks t = record { machine = t.machine; tasks = record task { 
 
 abbrev pub behind : {S : Type 0} → Task S → TasksTurned S → TasksTurned S
 behind task t = record t { tasks = task ∷ t.tasks }
+
+-- how many processes stand before the one of this pid, or all
+abbrev pub place_of : {S : Type 0} → ℕ → List (Task S) → ℕ
+place_of pid [] = 0
+place_of pid (task ∷ tasks) = if nat_eq task.pid pid then 0 else suc (place_of pid tasks)
 
 -- a turn of the process of this pid
 abbrev pub turn_among : {S : Type 0} → Meaning S → KernelState → ℕ → List (Task S) → TasksTurned S

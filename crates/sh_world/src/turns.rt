@@ -5,7 +5,7 @@ ghost use Rattle.sh_kernel_base.specs.Processes.{lives};
 ghost use Rattle.sh_tty.specs.Kept.{Extends};
 ghost use Rattle.sh_exec.specs.Runnable.{is_runnable};
 ghost use Rattle.sh_exec.specs.Turns as processes;
-ghost use Rattle.sh_world.specs.Tasks.{HaveTurned, living, pid_before, runnable_pids, turn_among, with_child};
+ghost use Rattle.sh_world.specs.Tasks.{HaveTurned, living, pid_before, place_of, runnable_pids, turn_among, with_child};
 
 use crate::task::Task;
 use sh_exec::Process;
@@ -34,6 +34,22 @@ pub(crate) fn runnable_pids<S: Stock>(
     Ok(pids)
 }
 
+/// How many processes stand before the one of this pid; all where there is none.
+fn place_of<S: Stock>(pid: u32, tasks: &[Task<S>]) -> usize
+    ensures { result ≡ place_of pid tasks.now }
+{
+    let mut place = 0usize;
+    let mut rest = tasks;
+    'tasks: while let Some((task, others)) = rest.split_first() {
+        if task.pid == pid {
+            return place;
+        }
+        place += 1;
+        rest = others;
+    }
+    place
+}
+
 /// A turn of the process of this pid.
 pub(crate) fn turn_among<S: Stock>(
     alloc: Global,
@@ -44,14 +60,11 @@ pub(crate) fn turn_among<S: Stock>(
     ensures state { (s : KernelState) → StandsAt kernel.old s → IfOk result (λ child. HaveTurned kernel.new tasks.new child (turn_among S.meaning s pid tasks.old)) }
     ensures terminal { Extends kernel.old.terminal.bytes kernel.new.terminal.bytes }
 {
-    let Some((task, others)) = tasks.split_first_mut() else {
+    let place = place_of(pid, tasks);
+    if place >= tasks.len() {
         return Ok(None);
-    };
-    if task.pid == pid {
-        let child = task.process.turn(alloc, kernel, pid)?;
-        return Ok(child);
     }
-    let child = turn_among(alloc, kernel, pid, others)?;
+    let child = tasks[place].process.turn(alloc, kernel, pid)?;
     Ok(child)
 }
 
@@ -73,7 +86,7 @@ pub(crate) fn put_child<S: Stock>(
 }
 
 /// Whether a process has not ended.
-fn is_living(kernel: &Kernel, pid: u32) -> bool
+pub(crate) fn is_living(kernel: &Kernel, pid: u32) -> bool
     ensures { (s : KernelState) → StandsAt kernel.now s → result ≡ lives s.machine.processes pid }
 {
     match kernel.status(pid) {

@@ -4,14 +4,14 @@ ghost use Rattle.sh_kernel.specs.State.{KernelState, StandsAt};
 ghost use Rattle.sh_tty.specs.Kept.{Extends};
 ghost use Rattle.sh_world.specs.Choice.{chosen};
 ghost use Rattle.sh_world.specs.Kept.{IsSpent, PartsStand, WorldKept, WorldStands, shown_of};
-ghost use Rattle.sh_world.specs.State.{State, end_of, ended_of, files_of, first_place, first_runs, first_task, run, runnables, start, status_of, step, terminal_of, turn_of, turned};
+ghost use Rattle.sh_world.specs.State.{State, end_of, ended_of, files_of, first_place, first_task, run, runnables, start, status_of, step, terminal_of, turn_of, turned};
 
 use crate::event::{Event, choose};
 use crate::jobs::Jobs;
 use crate::script::script_place;
 use crate::settings::{Settings, Source};
 use crate::task::Task;
-use crate::turns::{keep_living, put_child, runnable_pids, turn_among};
+use crate::turns::{is_living, keep_living, put_child, runnable_pids, turn_among};
 use sh_exec::Process;
 use sh_exec_base::Rest;
 use sh_exec_command::Place;
@@ -90,19 +90,6 @@ fn first_task<S: Stock>(
     })
 }
 
-/// Whether the first shell runs.
-fn is_running(kernel: &Kernel) -> bool
-    ensures { (s : KernelState) → StandsAt kernel.now s → result ≡ first_runs s }
-{
-    match kernel.status(FIRST_PID) {
-        Some(Status::Running) => true,
-        Some(Status::Stopped(_)) => false,
-        Some(Status::Exited(_)) => false,
-        Some(Status::Signaled(_)) => false,
-        None => false,
-    }
-}
-
 /// The process that an event gives a turn to.
 fn chosen_by<S: Stock>(
     alloc: Global,
@@ -113,7 +100,7 @@ fn chosen_by<S: Stock>(
 ) -> Result<Option<u32>, NoMemory>
     ensures { (s : State S) → PartsStand kernel.now tasks.now last s → IfOk result (λ pid. pid ≡ chosen event s.last (runnables s)) }
 {
-    if !is_running(kernel) {
+    if !is_living(kernel, FIRST_PID) {
         return Ok(choose(event, last, &[]));
     }
     let pids = runnable_pids(alloc, kernel, tasks)?;

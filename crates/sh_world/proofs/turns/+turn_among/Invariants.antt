@@ -1,5 +1,0 @@
-use Rattle.std.proofs.Common.{length}
-use Rattle.sh_world.proofs.turns.+turn_among.Given as goal
-
-abbrev pub decreases-turn_among : goal.decreases-turn_among
-decreases-turn_among g l = length l.tasks.now
