@@ -92,6 +92,25 @@ def call_each(checks, lines, when, said):
         checks.check(f"{when}, {what}: whether it complains", bool(rest), bool(complaint))
 
 
+def examples(copy):
+    """The commands of the README's examples, each with the lines that it says they write."""
+    with open(f"{copy}/README.md", encoding="utf-8") as it:
+        text = it.read()
+    for block, said in re.findall(r"^((?:    \.\./psh .*\n)+)\nwrites ((?:`[^`]*`|[^`.])*)", text, re.M):
+        lines = "".join(f"{line}\n" for line in re.findall(r"`([^`]*)`", said))
+        for command in block.strip().split("\n"):
+            yield command.strip(), lines.encode()
+
+
+def try_examples(checks, copy):
+    """Runs the README's examples."""
+    found = list(examples(copy))
+    checks.check("examples of the README", len(found) >= 8, True)
+    for command, lines in found:
+        ran = run(["sh", "-c", command], f"{copy}/examples")
+        checks.check(command, (ran[0], ran[1]), (0, lines))
+
+
 def build(checks, copy, when, status, last, words=()):
     """Runs ./build, and gives what it wrote."""
     began = time.time()
@@ -121,6 +140,7 @@ def build_and_change(checks, copy, lines):
     progress = re.findall(r"^(\d+) of (\d+)  \w+ (?:proved in \d+ s|was proved before)", said, re.M)
     checks.check("a line of progress for each crate", progress, [(str(it + 1), progress[-1][1]) for it in range(int(progress[-1][1]))] if progress else None)
     call_each(checks, lines, "built", rb"")
+    try_examples(checks, copy)
     with open(f"{copy}/{DEFINITION}", "a", encoding="utf-8") as it:
         it.write("\n")
     call_each(checks, lines[:1], "changed", CHANGED)
