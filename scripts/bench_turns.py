@@ -3,7 +3,7 @@
 
 Runs scripts under valgrind's callgrind, each with two numbers of turns, and prints the instructions for one turn between
 the two: of `yes | head -n N >/dev/null` and of `cat <big | cat | cat >out`, then of ten times the work, and of the first
-behind 900 processes that have ended. The last line is the greatest ratio. Needs valgrind, and psh built (./psh --help).
+behind 900 processes that have ended. The last line is the greatest ratio. Needs valgrind, and psh built (./build).
 """
 
 import os
@@ -12,7 +12,7 @@ import sys
 import tempfile
 
 TOP = os.path.dirname(os.path.dirname(os.path.abspath(__file__)))
-PROGRAM = f"{TOP}/crates/psh/out/psh"
+PROGRAM = f"{TOP}/out/psh"
 
 
 def write_image(path, files):

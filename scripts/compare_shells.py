@@ -12,7 +12,7 @@ depends on the order of turns.
 
 Shown is a script where no real shell gives what psh gives, and one where four or more agree with one another and not with
 psh; diagnostics are left out, since their texts differ. The shells are those of dash, bash, yash, mksh and busybox that are
-installed. They run as nobody, in folders of their own. Needs what ./psh builds: run ./psh --help once before.
+installed. They run as nobody, in folders of their own. Needs what ./build builds.
 """
 import os
 import random
@@ -23,7 +23,7 @@ import sys
 import tempfile
 
 TOP = os.path.dirname(os.path.dirname(os.path.abspath(__file__)))
-PSH = f"{TOP}/crates/psh/out/psh"
+PSH = f"{TOP}/out/psh"
 SHELLS = [["dash"], ["bash", "--posix"], ["yash", "-o", "posixly-correct"], ["mksh"], ["busybox", "ash"]]
 # (another user runs the shells as itself)
 NOBODY = [] if os.geteuid() else ["setpriv", "--reuid=65534", "--regid=65534", "--clear-groups", "--no-new-privs"]

@@ -7,7 +7,7 @@ In the built program: scripts on the image of the stock programs. A run that a r
 In sh_value_rows, which judges the rows of its file `expansions`. A run that a refusal changes must end with 1, one row coming to
 `refused`, where a call was refused, or with 3 and a line on standard error where memory was wanting beside the calls; any other is bad.
 
-Needs a C compiler. Build first: ./psh --help, and rt run in crates/sh_value_rows. The words `program` and `expand` choose one of the
+Needs a C compiler. Build first: ./build, and rt run in crates/sh_value_rows. The words `program` and `expand` choose one of the
 two.
 """
 import os
@@ -87,7 +87,7 @@ def refuse_all(name, words, shim, judge, folder=None):
 
 
 def refuse_in_program(folder, shim):
-    program = os.path.join(TOP, "crates", "psh", "out", "psh")
+    program = os.path.join(TOP, "out", "psh")
     image, events = os.path.join(folder, "image"), os.path.join(folder, "events")
 
     def turns(count):

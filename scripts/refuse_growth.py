@@ -1,8 +1,8 @@
 #!/usr/bin/env python3
 """Refuses each growth of memory in turn in the built program, for some scripts.
 
-Each run must answer as with ample memory, or with 3 and the terminal's bytes after some of the events. Needs a C
-compiler; build psh first (./psh --help).
+Each run must answer as with ample memory, or with 3, `psh: out of memory` and the terminal's bytes after some of the events. Needs a C
+compiler; build psh first (./build).
 """
 import os
 import subprocess
@@ -72,6 +72,9 @@ FILES = [
     ("/tabs", "rw-", b"x=1; cat <<-E\n\t$x\n\tE\n"),
 ]
 
+# what is said where memory is wanting
+WANTING = b"psh: out of memory\n"
+
 # so many growths in a row that change nothing are taken for the end of them
 QUIET = 40
 
@@ -90,7 +93,7 @@ def write_image(path):
 
 def main():
     top = os.path.dirname(os.path.dirname(os.path.abspath(__file__)))
-    program = os.path.join(top, "crates", "psh", "out", "psh")
+    program = os.path.join(top, "out", "psh")
     bad = all_refusals = 0
     with tempfile.TemporaryDirectory() as folder:
         shim = os.path.join(folder, "shim.so")
@@ -103,7 +106,7 @@ def main():
                 file.write("next %d\n" % turns if turns else "")
             env = {"LD_PRELOAD": shim, "REFUSE": str(refused)} if refused else {}
             done = subprocess.run([program, *words], capture_output=True, env=env)
-            return done.returncode, done.stdout
+            return done.returncode, done.stdout, done.stderr
 
         texts = [(["-c", text, image, events], text, turns) for text, turns in ROWS]
         scripts = [([image, events, path], path, turns) for path, turns in SCRIPTS]
@@ -113,15 +116,15 @@ def main():
             refusals = growth = quiet = 0
             while quiet < QUIET:
                 growth += 1
-                status, out = run(words, turns, growth)
-                if (status, out) == whole:
+                status, out, said = run(words, turns, growth)
+                if (status, out, said) == whole:
                     quiet += 1
                     continue
                 quiet = 0
                 refusals += 1
-                if not (status == 3 and out in fronts):
+                if not (status == 3 and out in fronts and said == WANTING):
                     bad += 1
-                    print("growth %d of %r: status %d, %r" % (growth, text, status, out))
+                    print("growth %d of %r: status %d, %r, %r" % (growth, text, status, out, said))
             all_refusals += refusals
             print("%r: %d refusals" % (text, refusals))
     print("%d refusals, %d bad" % (all_refusals, bad))
