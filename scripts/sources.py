@@ -1,8 +1,11 @@
 """Which files psh is made of, and their checksums: what ./build and scripts/compile_unproved.py share."""
 import hashlib
 import os
+import shutil
 
 TOP = os.path.dirname(os.path.dirname(os.path.abspath(__file__)))
+# The parts of a crate that are proved and compiled.
+PARTS = ["src", "specs", "proofs"]
 # Where the programs stand that ./psh runs, each with the checksums of what it was made of.
 OUT = f"{TOP}/out"
 
@@ -24,6 +27,15 @@ def crates_below(name):
     return sorted(found)
 
 
+def put_names(crates, to):
+    """Puts what names the crates into a folder: these of crates.txt, and what handles are allowed."""
+    shutil.copy(f"{TOP}/HANDLES", to)
+    with open(f"{TOP}/crates.txt", encoding="utf-8") as it:
+        lines = [line for line in it if line.partition(":")[0] in crates]
+    with open(f"{to}/crates.txt", "w", encoding="utf-8") as it:
+        it.writelines(lines)
+
+
 def files_of(crates, parts):
     """The files in these folders of crates, by their paths in the repository, and what names the crates."""
     found = ["HANDLES", "crates.txt"]
@@ -43,15 +55,15 @@ def sums_of(files, top=TOP):
     return "".join(lines)
 
 
-def put(program, name, sums):
-    """Puts a program into OUT, and what it was made of behind it, so that no half of it is ever run."""
-    os.makedirs(OUT, exist_ok=True)
+def put(program, name, sums, out=OUT):
+    """Puts a program into a folder, and what it was made of behind it, so that no half of it is ever run."""
+    os.makedirs(out, exist_ok=True)
     with open(program, "rb") as it:
         code = it.read()
-    if os.path.exists(f"{OUT}/{name}.sums"):
-        os.remove(f"{OUT}/{name}.sums")
+    if os.path.exists(f"{out}/{name}.sums"):
+        os.remove(f"{out}/{name}.sums")
     for file, data, mode in ((name, code, 0o755), (f"{name}.sums", sums.encode(), 0o644)):
-        with open(f"{OUT}/{file}.new", "wb") as it:
+        with open(f"{out}/{file}.new", "wb") as it:
             it.write(data)
-        os.chmod(f"{OUT}/{file}.new", mode)
-        os.replace(f"{OUT}/{file}.new", f"{OUT}/{file}")
+        os.chmod(f"{out}/{file}.new", mode)
+        os.replace(f"{out}/{file}.new", f"{out}/{file}")

@@ -1,10 +1,11 @@
 #!/usr/bin/env python3
 """Does in a copy of the repository what somebody does who has just cloned it: runs ./psh, builds, and runs it again.
 
-usage: try_first_contact.py
+usage: try_first_contact.py [--build]
 
 Says what comes to something else than it should, and last how many checks passed and failed; ends with 1 where one failed. It takes
-one compilation of the unproved program, and what ./build has to prove that rt ci hasn't proved before.
+one compilation of the unproved program, and a run of ./build. Where the toolchain's rt ci keeps nothing of what it passed, such a run
+proves all of psh once more; so the program that rt ci has built in the repository takes its place there, unless --build asks for it.
 """
 import os
 import re
@@ -14,6 +15,9 @@ import sys
 import tempfile
 import time
 
+import proving
+import sources
+
 TOP = os.path.dirname(os.path.dirname(os.path.abspath(__file__)))
 FIRST = "echo 'a  b'; x=1; echo $x $?"
 # What ./psh says of itself as long as it runs the unproved program, and where that isn't for want of a build.
@@ -21,7 +25,8 @@ UNPROVED = rb"psh: not built: this is the unproved program[^\n]*\n"
 CHANGED = rb"psh: the sources have changed since \./build: this is the unproved program[^\n]*\n"
 # A file that no part of the unproved program is made of, and one of a crate on which psh stands, with a wrong body for it.
 DEFINITION = "crates/sh_pipe/specs/Lib.antt"
-WRONG_BODY = "crates/sh_pipe/must-fail/end_of_file_with_a_writer.edit"
+WRONG_CRATE = "sh_syntax"
+WRONG_BODY = f"wrong-bodies/{WRONG_CRATE}/len_is_half.edit"
 
 
 class Checks:
@@ -126,7 +131,7 @@ def put_wrong_body(copy):
     """Puts a wrong body into the copy, and gives what takes it out again."""
     with open(f"{copy}/{WRONG_BODY}", encoding="utf-8") as it:
         edit = dict(line.rstrip("\n").split(": ", 1) for line in it)
-    path = f"{copy}/crates/sh_pipe/{edit['file']}"
+    path = f"{copy}/crates/{WRONG_CRATE}/{edit['file']}"
     with open(path, encoding="utf-8") as it:
         text = it.read()
     with open(path, "w", encoding="utf-8") as it:
@@ -134,18 +139,32 @@ def put_wrong_body(copy):
     return path, text
 
 
-def build_and_change(checks, copy, lines):
-    """What comes of builds, and of files that change behind one."""
+def build_whole(checks, copy):
+    """Builds, and looks at the lines of progress."""
     said = build(checks, copy, "the first time", 0, r"psh is proved and built")
     progress = re.findall(r"^(\d+) of (\d+)  \w+ (?:proved in \d+ s|was proved before)", said, re.M)
     checks.check("a line of progress for each crate", progress, [(str(it + 1), progress[-1][1]) for it in range(int(progress[-1][1]))] if progress else None)
+
+
+def put_built(copy):
+    """Puts the program that rt ci has built in the repository into the copy, as ./build does."""
+    files = sources.files_of(sources.crates_below("psh"), sources.PARTS)
+    sources.put(f"{TOP}/crates/psh/out/psh", "psh", sources.sums_of(files), f"{copy}/out")
+
+
+def build_and_change(checks, copy, lines, is_whole):
+    """What comes of builds, and of files that change behind one."""
+    if is_whole:
+        build_whole(checks, copy)
+    else:
+        put_built(copy)
     call_each(checks, lines, "built", rb"")
     try_examples(checks, copy)
     with open(f"{copy}/{DEFINITION}", "a", encoding="utf-8") as it:
         it.write("\n")
     call_each(checks, lines[:1], "changed", CHANGED)
     path, text = put_wrong_body(copy)
-    build(checks, copy, "with a wrong body", 1, r"build: sh_pipe isn't proved: .*\w")
+    build(checks, copy, "with a wrong body", 1, rf"build: {WRONG_CRATE} isn't proved: .*\w")
     with open(path, "w", encoding="utf-8") as it:
         it.write(text)
     shutil.copy(f"{TOP}/{DEFINITION}", f"{copy}/{DEFINITION}")
@@ -153,9 +172,11 @@ def build_and_change(checks, copy, lines):
     build(checks, copy, "of too many words", 1, r"usage: build", ["1", "2"])
 
 
-def main():
+def main(words):
     checks = Checks()
+    is_whole = "--build" in words or proving.gate_keeps()
     with tempfile.TemporaryDirectory(prefix="first-contact-") as room:
+        os.environ["XDG_CACHE_HOME"] = f"{room}/cache"
         copy = f"{room}/copy"
         copy_to(copy)
         lines = command_lines(copy, room)
@@ -163,10 +184,10 @@ def main():
         call_each(checks, lines[:1], "at first", UNPROVED)
         print(f"the first answer: {time.time() - began:.0f} s", flush=True)
         call_each(checks, lines, "unproved", UNPROVED)
-        build_and_change(checks, copy, lines)
+        build_and_change(checks, copy, lines, is_whole)
     print(f"contact: {checks.passed} passed, {checks.failed} failed", flush=True)
     return 1 if checks.failed else 0
 
 
 if __name__ == "__main__":
-    sys.exit(main())
+    sys.exit(main(sys.argv[1:]))

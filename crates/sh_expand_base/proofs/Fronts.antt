@@ -104,24 +104,40 @@ record Base (directory f : List ℕ) : Type 0 where
   within : (r : List ℕ) → 0 < length r → length (or_here f) ≤ length (f ++ r)
 
 abbrev chosen : Bool → List ℕ → List ℕ → List ℕ
-chosen b directory path = if b then path else directory ++ 47 ∷ path
+chosen b directory path = if b then path else joined directory path
+
+-- what stands before the slash between a directory and a name in it: nothing where the directory is the root
+abbrev stem_by : Bool → List ℕ → List ℕ
+stem_by true directory = []
+stem_by false directory = directory
+
+abbrev stem : List ℕ → List ℕ
+stem directory = stem_by (bytes_eq directory (codes "/")) directory
+
+joined_stem : (directory name : List ℕ) → joined directory name ≡ stem directory ++ 47 ∷ name
+joined_stem directory name = by (bytes_eq directory (codes "/"))
+  where
+    by : (b : Bool) → (if b then 47 ∷ name else directory ++ 47 ∷ name) ≡ stem_by b directory ++ 47 ∷ name
+    by true = refl
+    by false = refl
 
 based : (b : Bool) (directory g : List ℕ) → (base : List ℕ) × ((r : List ℕ) → chosen b directory (g ++ 47 ∷ r) ≡ base ++ 47 ∷ r)
 based true directory g = (g, λ r. refl)
-based false directory g = (directory ++ 47 ∷ g, λ r. sym (append_assoc directory (47 ∷ g) (47 ∷ r)))
+based false directory g =
+    (stem directory ++ 47 ∷ g, λ r. joined_stem directory (g ++ 47 ∷ r) ∙ sym (append_assoc (stem directory) (47 ∷ g) (47 ∷ r)))
 
 longer : (f r : List ℕ) → length f ≤ length (f ++ r)
 longer f r = let a : length (f ++ r) ≡ length f + length r = length-append f r in omega arith
 
 base_here : (directory : List ℕ) → Base directory []
 base_here directory = record {
-  base = directory;
+  base = stem directory;
   end = codes ".";
   stays = λ place. refl;
   single = refl;
   small = omega arith;
-  here = refl;
-  further = λ r n. ap (λ b. if b then r else directory ++ 47 ∷ r) (n refl);
+  here = joined_stem directory (codes ".");
+  further = λ r n. ap (λ b. if b then r else joined directory r) (n refl) ∙ joined_stem directory r;
   short = omega arith;
   filled = refl;
   within = λ r h. omega arith;

@@ -21,7 +21,7 @@ low t n i (x ∷ xs) h =
       | false ↦ λ k. let l = low t (n + 1) i xs k in omega arith
     ] h
 
-first_from : (t : Test) (n i : ℕ) (xs : List ℕ) → position_from t n xs ≡ Some i → slice_split t xs ≡ take (i - n) xs ∷ slice_split t (drop (suc (i - n)) xs)
+pub first_from : (t : Test) (n i : ℕ) (xs : List ℕ) → position_from t n xs ≡ Some i → slice_split t xs ≡ take (i - n) xs ∷ slice_split t (drop (suc (i - n)) xs)
 first_from t n i [] h = cc
 first_from t n i (x ∷ xs) h =
     elim (t x) as (λ b. cond b (Some n) (position_from t (n + 1) xs) ≡ Some i → cond b ([] ∷ slice_split t xs) (onto_first x (slice_split t xs)) ≡ take (i - n) (x ∷ xs) ∷ slice_split t (drop (suc (i - n)) (x ∷ xs))) [
@@ -50,7 +50,7 @@ found_at (Some i) xs p h e =
 pub first_part : (xs : List ℕ) (p : List ℕ × List ℕ) → Some p ≡ parted xs → components xs ≡ p.0 ∷ components p.1
 first_part xs p h = found_at (position slash xs) xs p h (sym (position_from-zero slash xs))
 
-only_from : (t : Test) (n : ℕ) (xs : List ℕ) → position_from t n xs ≡ None → slice_split t xs ≡ xs ∷ []
+pub only_from : (t : Test) (n : ℕ) (xs : List ℕ) → position_from t n xs ≡ None → slice_split t xs ≡ xs ∷ []
 only_from t n [] h = refl
 only_from t n (x ∷ xs) h =
     elim (t x) as (λ b. cond b (Some n) (position_from t (n + 1) xs) ≡ None → cond b ([] ∷ slice_split t xs) (onto_first x (slice_split t xs)) ≡ (x ∷ xs) ∷ []) [

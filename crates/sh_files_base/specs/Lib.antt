@@ -1,5 +1,6 @@
 pub mod Codes
 pub mod Contents
+pub mod Faults
 pub mod Fields
 pub mod Paths
 pub mod Places

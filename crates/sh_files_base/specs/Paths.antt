@@ -22,20 +22,6 @@ abbrev pub begins_at_root : List ℕ → Bool
 begins_at_root [] = false
 begins_at_root (b ∷ bs) = b == 47
 
--- a path that doesn't begin with a slash is one from the working directory
-abbrev pub absolute : List ℕ → List ℕ → List ℕ
-absolute directory path = if begins_at_root path then path else directory ++ 47 ∷ path
-
--- names of at most NAME_MAX (255) bytes
-abbrev pub names_fit : List (List ℕ) → Bool
-names_fit [] = true
-names_fit (name ∷ names) = nat_le (length name) 255 && names_fit names
-
--- the path, as it was given and as an absolute one, has at most PATH_MAX (1024) bytes, its names at most NAME_MAX
-abbrev pub fits : List ℕ → List ℕ → Bool
-fits directory path =
-    nat_le (length path) 1024 && (nat_le (length (absolute directory path)) 1024 && names_fit (components (absolute directory path)))
-
 abbrev pub has_slash : List ℕ → Bool
 has_slash [] = false
 has_slash (b ∷ bs) = (b == 47) || has_slash bs
@@ -52,6 +38,20 @@ parent place = take (max 1 (last_slash place)) place
 -- the path of a name in a directory
 abbrev pub joined : List ℕ → List ℕ → List ℕ
 joined place name = if bytes_eq place (codes "/") then 47 ∷ name else place ++ 47 ∷ name
+
+-- a path that doesn't begin with a slash is one from the working directory: `p` is `/p` in `/`, and `/d/p` in `/d`
+abbrev pub absolute : List ℕ → List ℕ → List ℕ
+absolute directory path = if begins_at_root path then path else joined directory path
+
+-- names of at most NAME_MAX (255) bytes
+abbrev pub names_fit : List (List ℕ) → Bool
+names_fit [] = true
+names_fit (name ∷ names) = nat_le (length name) 255 && names_fit names
+
+-- the path, as it was given and as an absolute one, has at most PATH_MAX (1024) bytes, its names at most NAME_MAX
+abbrev pub fits : List ℕ → List ℕ → Bool
+fits directory path =
+    nat_le (length path) 1024 && (nat_le (length (absolute directory path)) 1024 && names_fit (components (absolute directory path)))
 
 -- where a component leads from a directory: dot and an empty one stay, dot-dot goes up
 abbrev pub stepped : List ℕ → List ℕ → List ℕ

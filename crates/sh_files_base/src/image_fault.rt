@@ -2,38 +2,57 @@
 ghost use Rattle.std.specs.Prelude.{◌≡◌};
 
 use std::alloc::AllocError;
+use std::fmt;
 use thiserror::Error;
 
 /// What is wrong with an image.
-#[derive(Clone, Copy, Debug, PartialEq, Eq, Error)]
+#[derive(Clone, Copy, Debug, PartialEq, Eq)]
 pub enum FaultKind {
     /// The first line isn't `psh image 1`.
-    #[error("BadHeader")]
     BadHeader,
     /// The line is none of an image, or no newline follows a file's bytes.
-    #[error("BadLine")]
     BadLine,
     /// The path isn't one that an image may name.
-    #[error("BadPath")]
     BadPath,
     /// No directory was named before that holds it.
-    #[error("NoParent")]
     NoParent,
     /// The path was named before.
-    #[error("Duplicate")]
     Duplicate,
     /// The image ends before the line `end` and its newline.
-    #[error("Truncated")]
     Truncated,
     /// The file, or the image, is too long.
-    #[error("TooLarge")]
     TooLarge,
     /// Bytes follow the line `end`.
-    #[error("Trailing")]
     Trailing,
     /// There was no memory.
-    #[error("NoMemory")]
     NoMemory,
+}
+
+impl FaultKind {
+    ghost use Rattle.sh_files_base.specs.Faults.{name_of};
+
+    /// The name by which it is told.
+    pub fn name(self) -> &'static str
+        ensures { result.now ≡ name_of self }
+    {
+        match self {
+            FaultKind::BadHeader => "BadHeader",
+            FaultKind::BadLine => "BadLine",
+            FaultKind::BadPath => "BadPath",
+            FaultKind::NoParent => "NoParent",
+            FaultKind::Duplicate => "Duplicate",
+            FaultKind::Truncated => "Truncated",
+            FaultKind::TooLarge => "TooLarge",
+            FaultKind::Trailing => "Trailing",
+            FaultKind::NoMemory => "NoMemory",
+        }
+    }
+}
+
+impl fmt::Display for FaultKind {
+    fn fmt<W: fmt::Write>(&self, f: &mut fmt::Formatter<W>) -> fmt::Result {
+        f.write_str(self.name())
+    }
 }
 
 impl From<AllocError> for FaultKind {

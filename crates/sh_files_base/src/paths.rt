@@ -29,7 +29,8 @@ pub fn split_slash(path: &[u8]) -> Option<(&[u8], &[u8])>
     }
 }
 
-/// The path from the root that a path stands for in a directory.
+/// The path from the root that a path stands for in a directory, which is a path from the root: `p` is `/p` in `/`, and `/d/p`
+/// in `/d`. A path that begins with a slash stands for itself.
 pub fn absolute(alloc: Global, directory: &[u8], path: &[u8]) -> Result<Vec<u8>, AllocError>
     ensures { IfOk result (λ whole. whole.items ≡ absolute directory.now path.now) }
 {
@@ -37,8 +38,7 @@ pub fn absolute(alloc: Global, directory: &[u8], path: &[u8]) -> Result<Vec<u8>,
         return Vec::from_slice(alloc, path);
     }
     let mut whole = Vec::from_slice(alloc, directory)?;
-    whole.push(b'/')?;
-    whole.extend_from_slice(path)?;
+    join(&mut whole, path)?;
     Ok(whole)
 }
 

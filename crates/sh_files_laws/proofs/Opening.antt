@@ -40,9 +40,13 @@ rooted (b ∷ bs) h = (bs, ap (λ c. c ∷ bs) (eqb-true b 47 h))
 absolute_rooted : (directory path : List ℕ) → begins_at_root directory ≡ true → (rest : List ℕ) × (absolute directory path ≡ 47 ∷ rest)
 absolute_rooted directory path h = at (begins_at_root path) refl
   where
-    at : (b : Bool) → begins_at_root path ≡ b → (rest : List ℕ) × ((if b then path else directory ++ 47 ∷ path) ≡ 47 ∷ rest)
+    in_it : (b : Bool) → (rest : List ℕ) × ((if b then 47 ∷ path else directory ++ 47 ∷ path) ≡ 47 ∷ rest)
+    in_it true = (path, refl)
+    in_it false = let r = rooted directory h in (r.0 ++ 47 ∷ path, ap (λ xs. xs ++ 47 ∷ path) r.1)
+
+    at : (b : Bool) → begins_at_root path ≡ b → (rest : List ℕ) × ((if b then path else joined directory path) ≡ 47 ∷ rest)
     at true e = rooted path e
-    at false e = let r = rooted directory h in (r.0 ++ 47 ∷ path, ap (λ xs. xs ++ 47 ∷ path) r.1)
+    at false e = in_it (bytes_eq directory (codes "/"))
 
 parts_are : (n : ℕ) (l : List (List ℕ)) → Good n l → NoSlash l × (total l ≡ suc n)
 parts_are n [] g = absurd g

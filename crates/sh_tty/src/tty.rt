@@ -1,8 +1,9 @@
 //! The terminal.
-ghost use Rattle.std.specs.Prelude.{◌≡◌, ◌++◌, ◌∷◌, [], ℕ, List, Some, None, is_some, IfOk, OnOk, OnErr, MatchResult, drop, length, take};
+ghost use Rattle.std.specs.Prelude.{◌≡◌, ◌++◌, ◌∷◌, [], ℕ, List, Some, None, is_some, IfOk, OnOk, OnErr, IfErr, MatchResult, drop, length, take};
 ghost use Rattle.sh_tty.specs.Happenings.{Happening, after_key, bytes_of};
 ghost use Rattle.sh_tty.specs.Keys.{echo, key_of, read_of, signal_of};
-ghost use Rattle.sh_tty.specs.Kept.{StandsAt, kept_entries, kept_line};
+ghost use Rattle.sh_tty.specs.Kept.{Extends, StandsAt, kept_entries, kept_line};
+ghost use Rattle.sh_tty.specs.declared.tty.TtyFault.TheVariants as fault;
 
 use crate::entry::{Entry, Line, copy_first, take_first};
 use crate::key::{Key, Signal};
@@ -27,12 +28,16 @@ pub enum TtyFault {
 }
 
 impl From<AllocError> for TtyFault {
+    ghost from_gives = { λ _ e. e ≡ fault.NoMemory };
+
     fn from(_error: AllocError) -> Self {
         TtyFault::NoMemory
     }
 }
 
 impl<T: Drop> From<AllocFailed<T>> for TtyFault {
+    ghost from_gives = { λ _ e. e ≡ fault.NoMemory };
+
     fn from(_error: AllocFailed<T>) -> Self {
         TtyFault::NoMemory
     }
@@ -69,6 +74,7 @@ fn end_line(
     ensures entries { OnOk result (entries.new.items ≡ kept_entries Key.Newline entries.old.items line.old.items) }
     ensures line { OnOk result (line.new.items ≡ kept_line Key.Newline line.old.items) }
     ensures kept { OnErr result ((bytes.new.items ≡ bytes.old.items) × (entries.new.items ≡ entries.old.items) × (line.new.items ≡ line.old.items)) }
+    ensures fault { IfErr result (λ fault. fault ≡ TtyFault.NoMemory) }
 {
     bytes.reserve(1)?;
     entries.reserve(1)?;
@@ -88,6 +94,7 @@ fn hand_over(
     ensures entries { OnOk result (entries.new.items ≡ kept_entries Key.EndOfFile entries.old.items line.old.items) }
     ensures line { OnOk result (line.new.items ≡ kept_line Key.EndOfFile line.old.items) }
     ensures kept { OnErr result ((entries.new.items ≡ entries.old.items) × (line.new.items ≡ line.old.items)) }
+    ensures fault { IfErr result (λ fault. fault ≡ TtyFault.NoMemory) }
 {
     if line.len() == 0 {
         entries.push_back(Entry::EndOfFile)?;
@@ -104,6 +111,7 @@ fn erase(bytes: &mut Vec<u8>, line: &mut Vec<u8>) -> Result<(), TtyFault>
     ensures bytes { OnOk result (bytes.new.items ≡ bytes.old.items ++ echo Key.Erase line.old.items) }
     ensures line { OnOk result (line.new.items ≡ kept_line Key.Erase line.old.items) }
     ensures kept { OnErr result ((bytes.new.items ≡ bytes.old.items) × (line.new.items ≡ line.old.items)) }
+    ensures fault { IfErr result (λ fault. fault ≡ TtyFault.NoMemory) }
 {
     if line.is_empty() {
         return Ok(());
@@ -118,6 +126,7 @@ fn put(byte: u8, bytes: &mut Vec<u8>, line: &mut Vec<u8>) -> Result<(), TtyFault
     ensures bytes { OnOk result (bytes.new.items ≡ bytes.old.items ++ echo (Key.Text byte) line.old.items) }
     ensures line { OnOk result (line.new.items ≡ kept_line (Key.Text byte) line.old.items) }
     ensures kept { OnErr result ((bytes.new.items ≡ bytes.old.items) × (line.new.items ≡ line.old.items)) }
+    ensures fault { IfErr result (λ fault. fault ≡ TtyFault.NoMemory) }
 {
     if line.len() >= LINE_LIMIT {
         return Ok(());
@@ -139,6 +148,7 @@ fn raise(
     ensures entries { OnOk result (entries.new.items ≡ []) }
     ensures line { OnOk result (line.new.items ≡ []) }
     ensures kept { OnErr result ((bytes.new.items ≡ bytes.old.items) × (entries.new.items ≡ entries.old.items) × (line.new.items ≡ line.old.items)) }
+    ensures fault { IfErr result (λ fault. fault ≡ TtyFault.NoMemory) }
 {
     bytes.extend_from_slice(&signal.echo())?;
     entries.clear();
@@ -158,6 +168,7 @@ fn press(
     ensures entries { OnOk result (entries.new.items ≡ kept_entries key entries.old.items line.old.items) }
     ensures line { OnOk result (line.new.items ≡ kept_line key line.old.items) }
     ensures kept { OnErr result ((bytes.new.items ≡ bytes.old.items) × (entries.new.items ≡ entries.old.items) × (line.new.items ≡ line.old.items)) }
+    ensures fault { IfErr result (λ fault. fault ≡ TtyFault.NoMemory) }
 {
     match key {
         Key::Newline => end_line(alloc, bytes, entries, line),
@@ -194,6 +205,8 @@ impl Tty {
         ensures signal { IfOk result (λ signal. signal ≡ signal_of (key_of byte)) }
         ensures foreground { self.new.foreground ≡ self.old.foreground }
         ensures unchanged { OnErr result (self.new ≡ self.old) }
+        ensures extends { Extends self.old.bytes self.new.bytes }
+        ensures fault { IfErr result (λ fault. fault ≡ TtyFault.NoMemory) }
     {
         let key = Key::of(byte);
         press(
@@ -231,6 +244,7 @@ impl Tty {
         ensures terminal { OnOk result (self.new.bytes ≡ self.old.bytes ++ bytes.now) }
         ensures foreground { self.new.foreground ≡ self.old.foreground }
         ensures unchanged { OnErr result (self.new ≡ self.old) }
+        ensures fault { IfErr result (λ fault. fault ≡ TtyFault.NoMemory) }
     {
         self.bytes.extend_from_slice(bytes)?;
         Ok(())

@@ -163,6 +163,13 @@ impl<S: Stock> World<S> {
         })
     }
 
+    /// Whether memory was wanting.
+    fn is_spent(&self) -> bool
+        ensures { result ≡ self.now.spent }
+    {
+        self.spent
+    }
+
     /// One event: what it does is one step of the shell machine. After `NoMemory` the world is spent.
     pub fn apply(&mut self, event: Event) -> Result<(), NoMemory>
         ensures step { (s : State S) → WorldStands self.old s → OnOk result (WorldStands self.new (step S.meaning s event)) }
@@ -186,15 +193,16 @@ impl<S: Stock> World<S> {
         Ok(())
     }
 
-    /// Each event in turn, up to the first for which there is no memory.
+    /// Each event in turn, up to the first for which there is no memory. A world that is spent stays as it was.
     pub fn run(&mut self, events: &[Event]) -> Result<(), NoMemory>
         ensures run { (s : State S) → WorldStands self.old s → OnOk result (WorldStands self.new (run S.meaning s events.now)) }
         ensures spent { OnErr result (IsSpent self.new) }
         ensures shown { (s : State S) → WorldStands self.old s → OnErr result
             ((j : ℕ) × (j < length events.now) × (shown_of self.new ≡ terminal_of (run S.meaning s (take j events.now)))) }
         ensures still { IsSpent self.old → IsErr result }
+        ensures kept { IsSpent self.old → shown_of self.new ≡ shown_of self.old }
     {
-        if self.spent {
+        if self.is_spent() {
             return Err(NoMemory);
         }
         for event in events {
