@@ -7,6 +7,7 @@ use Rattle.sh_grammar.specs.Grammar.{Node, Empty}
 use Rattle.sh_grammar.specs.Tabulation.{Tabulation}
 use Rattle.sh_grammar.specs.Text.{BeginsText}
 use Rattle.sh_arith_base.specs.Grammar.{arithmetic}
+use Rattle.sh_arith_base.specs.Productions.{productions}
 use Rattle.sh_arith_base.specs.Levels.{Open, are_shallow, is_deep, none_open, open_after, open_behind}
 use Rattle.sh_arith.specs.declared.faults.ArithFault.{ArithFault}
 use Rattle.sh_arith.specs.declared.faults.ArithFault.TheVariants.{NoMemory, Syntax, TooDeep}
@@ -14,7 +15,7 @@ use Rattle.sh_arith.specs.Evaluation.{GoesOn, IsRefusedWithin}
 use Rattle.sh_arith.specs.Taking.{Reached, Stopped}
 
 empty_begins : BeginsText arithmetic []
-unfolding arithmetic
+unfolding arithmetic productions
 empty_begins = ([], Node 0 Empty, record { shape = ([], record { there = refl }, refl, tt); text = refl })
 
 pub starts : (d : Tabulation) (tokens : List Token) (o : Open) → d ≡ arithmetic → tokens ≡ [] → o ≡ none_open → Reached d tokens o

@@ -5,4 +5,5 @@ pub mod Nested
 pub mod Passes
 pub mod Shape
 pub mod Sig
+pub mod Tied
 pub mod Wrapping

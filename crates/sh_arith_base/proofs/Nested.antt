@@ -8,13 +8,13 @@ use Rattle.sh_grammar.specs.declared.Symbol.TheVariants.{Terminal, Nonterminal}
 use Rattle.sh_grammar.specs.Grammar.{Rule, IsRule, Tree, Forest, Leaf, Node, Empty, And, IsTree, AreTrees, leaves, all_leaves}
 use Rattle.sh_grammar.specs.Text.{IsTreeOf}
 use Rattle.sh_arith_base.specs.declared.grammar.Kind.TheVariants as kind
-use Rattle.sh_arith_base.specs.declared.grammar.TheConstants.{KINDS}
+use Rattle.sh_arith_base.specs.Productions.{productions}
 use Rattle.sh_arith_base.specs.declared.operators.Role.{Role}
 use Rattle.sh_arith_base.specs.declared.operators.Role.TheVariants as role
 use Rattle.sh_arith_base.specs.Grammar.{arithmetic, arithmetic_grammar}
 use Rattle.sh_arith_base.specs.Levels.{Open, are_shallow, is_deep, none_open, open_behind, opened}
 use Rattle.sh_arith_base.specs.Nesting.{are_few, is_few, is_level}
-use Rattle.sh_arith_base.specs.Roles.{nth, kind_of, role_of}
+use Rattle.sh_arith_base.specs.Roles.{nth, kind_of, kinds, role_of}
 use Rattle.sh_arith_base.proofs.Forms.{Sort, Expression, Closed, Operand, Trail, Chain, Mark, Shown, Form, Blank, Same, NameTrail, OperandTrail, ClosedTrail, Assigns, LoadTrail, Tail, NoTrail, Chooses, ClosedChain, OperandChain, NoChain, LogicChain, BinaryChain, FactorChain, NameOperand, SameOperand, NumberOperand, Within, Prefix, NoMark, chains, head_of, body_of, opening_of, FORMS, LEVEL_SORTS}
 use Rattle.sh_arith_base.proofs.Shape.{role_known}
 use Rattle.sh_arith_base.proofs.Sig.{Sig, Value, After, Target, DoMark, TurnMark, DecideMark, JoinMark, StoreMark, Shows, TERMINAL_SORTS}
@@ -293,15 +293,15 @@ abbrev rule_body : Rule → List Sort
 rule_body r = sorts r.body
 
 heads_agree : map head_of FORMS ≡ map rule_sort arithmetic_grammar.rules
-unfolding arithmetic_grammar arithmetic FORMS LEVEL_SORTS TERMINAL_SORTS
+unfolding arithmetic_grammar arithmetic productions FORMS LEVEL_SORTS TERMINAL_SORTS
 heads_agree = refl
 
 bodies_agree : map body_of FORMS ≡ map rule_body arithmetic_grammar.rules
-unfolding arithmetic_grammar arithmetic FORMS LEVEL_SORTS TERMINAL_SORTS
+unfolding arithmetic_grammar arithmetic productions FORMS LEVEL_SORTS TERMINAL_SORTS
 bodies_agree = refl
 
-levels_agree : map opening_of FORMS ≡ map is_level KINDS
-unfolding FORMS
+levels_agree : map opening_of FORMS ≡ map is_level kinds
+unfolding FORMS kinds productions
 levels_agree = refl
 
 agree_at : {A B C : Type 0} (f : A → C) (g : B → C) (d : A) (xs : List A) (ys : List B) (p : ℕ) (y : B) → map f xs ≡ map g ys → slice_get ys p ≡ Some y → f (nth d xs p) ≡ g y
@@ -324,8 +324,8 @@ node_case p n body r c h =
     let f = nth NoTrail FORMS p in
     let i = agree_at head_of rule_sort NoTrail FORMS arithmetic_grammar.rules p (record { head = n; body = body }) heads_agree r.there in
     let j = agree_at body_of rule_body NoTrail FORMS arithmetic_grammar.rules p (record { head = n; body = body }) bodies_agree r.there in
-    let k = agree_with opening_of is_level NoTrail kind.Rest FORMS KINDS p levels_agree refl in
-    subst (λ s. PN s (is_level (nth kind.Rest KINDS p)) c) i
+    let k = agree_with opening_of is_level NoTrail kind.Rest FORMS kinds p levels_agree refl in
+    subst (λ s. PN s (is_level (nth kind.Rest kinds p)) c) i
     (subst (λ x. PN (head_of f) x c) k (form_case f c (subst (λ y. AllQ y c) (sym j) h)))
 
 leaf_case : (t : Token) → P (Shown (role_of t.class)) (Leaf t)
@@ -333,7 +333,7 @@ unfolding open_behind
 leaf_case t = λ o n more. (refl, refl)
 
 mutual
-  unfolding arithmetic_grammar arithmetic
+  unfolding arithmetic_grammar arithmetic productions
 
   formed : (e : ℕ) (s : Symbol) (t : Tree) → IsTree arithmetic_grammar e s t → P (sort s) t
   formed e (Terminal k) (Leaf t) h = subst (λ y. P (Shown y) (Leaf t)) (ap role_in (role_known k t.class h)) (leaf_case t)

@@ -1,9 +1,10 @@
 -- The table of the arithmetic grammar passes: one token of lookahead decides.
-use Rattle.std.proofs.Common.{[], ◌∷◌, refl}
+use Rattle.std.proofs.Common.{[], ◌∷◌, refl, subst}
 use Rattle.sh_grammar.specs.declared.Action.TheVariants.{Expand, Shift}
 use Rattle.sh_grammar.specs.Table.{weight_by}
 use Rattle.sh_grammar.specs.Passes.{Witness, Passes, IsPredictive}
 use Rattle.sh_arith_base.specs.Grammar.{arithmetic}
+use Rattle.sh_arith_base.proofs.Tied.{arithmetic_is, tabled}
 
 unfoldable witness : Witness
 witness =
@@ -47,12 +48,12 @@ witness =
           (Expand 50 ∷ []) ∷
           [];
       safes = 549755813887 ∷ 549755813887 ∷ 549755813887 ∷ 549755813887 ∷ 549755813887 ∷ 549755813887 ∷ 549755813887 ∷ 549755813887 ∷ 549755813887 ∷ 549755813887 ∷ 549755813887 ∷ 549755813887 ∷ 549755813887 ∷ 549755813887 ∷ 549755813887 ∷ 549755813887 ∷ 549755813887 ∷ 549755813887 ∷ 549755813887 ∷ 549755813887 ∷ 549755813887 ∷ 549755813887 ∷ 549755813887 ∷ 549755813887 ∷ 549755813887 ∷ 549755813887 ∷ 549755813887 ∷ 549755813887 ∷ 549755813887 ∷ 549755813887 ∷ 549755813887 ∷ 549755813887 ∷ 549755813887 ∷ 549755813887 ∷ [];
-      kinds = 0 ∷ 1 ∷ 20 ∷ 24 ∷ 20 ∷ 4 ∷ 27 ∷ 8 ∷ 29 ∷ 30 ∷ 31 ∷ 10 ∷ 11 ∷ 32 ∷ 33 ∷ 34 ∷ 35 ∷ 36 ∷ [];
+      kinds = 0 ∷ 1 ∷ 20 ∷ 24 ∷ 20 ∷ 4 ∷ 27 ∷ 8 ∷ 29 ∷ 30 ∷ 31 ∷ 10 ∷ 11 ∷ 32 ∷ 34 ∷ 33 ∷ 35 ∷ 36 ∷ [];
     }
 
-passes : Passes arithmetic witness
-unfolding arithmetic witness weight_by
+passes : Passes tabled witness
+unfolding tabled witness weight_by
 passes = record { rules = refl; names = refl; nullables = refl; safes = refl; start = refl; start_ends = refl }
 
 pub arithmetic_predictive : IsPredictive arithmetic
-arithmetic_predictive = (witness, passes)
+arithmetic_predictive = subst IsPredictive arithmetic_is (witness, passes)

@@ -17,7 +17,10 @@ use Rattle.sh_arith_base.proofs.Sig.{Sig, Value, After, Target, DoMark, TurnMark
 use Rattle.sh_arith_base.specs.declared.operators.Role.{Role}
 use Rattle.sh_arith_base.specs.declared.operators.Role.TheVariants as role
 use Rattle.sh_arith_base.specs.declared.operators.TheConstants.{ROLES}
-use Rattle.sh_arith_base.specs.Roles.{nth, kind_of, role_of}
+use Rattle.sh_arith_base.specs.Classes.{roles}
+use Rattle.sh_arith_base.specs.Productions.{productions}
+use Rattle.sh_arith_base.specs.Roles.{nth, kind_of, kinds, role_of}
+use Rattle.sh_arith_base.proofs.Tied.{kinds_are, roles_are}
 
 abbrev pub sig : Symbol → Sig
 sig (Terminal k) = nth (Shows role.Nothing) TERMINAL_SORTS k
@@ -100,7 +103,7 @@ paired_at (k ∷ ks) (q ∷ rules) zero r h e = let same : q ≡ r = cc in subst
 paired_at (k ∷ ks) (q ∷ rules) (suc p) r h e = paired_at ks rules p r h.1 e
 
 all_paired : Paired KINDS arithmetic_grammar.rules
-unfolding arithmetic_grammar arithmetic SORTS TERMINAL_SORTS
+unfolding arithmetic_grammar arithmetic productions SORTS TERMINAL_SORTS
 all_paired = (
   (refl, refl),
   (
@@ -258,7 +261,7 @@ all_paired = (
 
 kinded : (p n : ℕ) (body : List Symbol) → IsRule arithmetic_grammar p n body → Kinded (kind_of p) (sig (Nonterminal n)) (sigs body)
 unfolding kind_of
-kinded p n body r = paired_at KINDS arithmetic_grammar.rules p (record { head = n; body = body }) all_paired r.there
+kinded p n body r = subst (λ ks. Kinded (nth kind.Rest ks p) (sig (Nonterminal n)) (sigs body)) kinds_are (paired_at KINDS arithmetic_grammar.rules p (record { head = n; body = body }) all_paired r.there)
 
 -- ---- the tokens of a terminal have its role
 
@@ -320,10 +323,10 @@ roles_pass = refl
 
 pub role_known : (k c : ℕ) → has ENDING TERMINALS k c ≡ true → Shows (role_of c) ≡ sig (Terminal k)
 unfolding role_of
-role_known k c h = same_sig (nth role.Nothing ROLES c) (nth (Shows role.Nothing) TERMINAL_SORTS k) (token_at k TERMINAL_SORTS terminals_are) (then_true _ _ (below_at (role_at c) 18 k (below_at (λ x. all_below (role_at x) 18) (suc ENDING) c roles_pass (has_class ENDING TERMINALS k c h)) (has_name ENDING TERMINALS k c h)) h)
+role_known k c h = ap (λ rs. Shows (nth role.Nothing rs c)) (sym roles_are) ∙ same_sig (nth role.Nothing ROLES c) (nth (Shows role.Nothing) TERMINAL_SORTS k) (token_at k TERMINAL_SORTS terminals_are) (then_true _ _ (below_at (role_at c) 18 k (below_at (λ x. all_below (role_at x) 18) (suc ENDING) c roles_pass (has_class ENDING TERMINALS k c h)) (has_name ENDING TERMINALS k c h)) h)
 
 mutual
-  unfolding arithmetic_grammar arithmetic
+  unfolding arithmetic_grammar arithmetic productions
 
   pub shaped : (e : ℕ) (s : Symbol) (t : Tree) → IsTree arithmetic_grammar e s t → Shaped (sig s) t
   shaped e (Terminal k) (Leaf t) h = (token_at k TERMINAL_SORTS terminals_are, role_known k t.class h)

@@ -20,4 +20,4 @@ SORTS = Value ∷ Value ∷ Target ∷ After ∷ Value ∷ After ∷ Value ∷ A
 
 -- of each terminal
 unfoldable pub TERMINAL_SORTS : List Sig
-TERMINAL_SORTS = Shows Number ∷ Shows Name ∷ Shows Operator ∷ Shows Operator ∷ Shows Operator ∷ Shows Operator ∷ Shows Operator ∷ Shows Operator ∷ Shows Operator ∷ Shows Operator ∷ Shows Operator ∷ Shows Logic ∷ Shows Logic ∷ Shows Question ∷ Shows Colon ∷ Shows Assign ∷ Shows Opening ∷ Shows Closing ∷ []
+TERMINAL_SORTS = Shows Number ∷ Shows Name ∷ Shows Operator ∷ Shows Operator ∷ Shows Operator ∷ Shows Operator ∷ Shows Operator ∷ Shows Operator ∷ Shows Operator ∷ Shows Operator ∷ Shows Operator ∷ Shows Logic ∷ Shows Logic ∷ Shows Question ∷ Shows Assign ∷ Shows Colon ∷ Shows Opening ∷ Shows Closing ∷ []

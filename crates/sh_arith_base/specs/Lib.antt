@@ -1,3 +1,4 @@
+pub mod Classes
 pub mod Constants
 pub mod Grammar
 pub mod Integers
@@ -6,5 +7,7 @@ pub mod Lexical
 pub mod Nesting
 pub mod Numbers
 pub mod Operators
+pub mod Precedence
+pub mod Productions
 pub mod Roles
 pub mod Stack

@@ -122,7 +122,7 @@ const BODIES: [&[Symbol]; 51] = [
     // Assign -> Other Tail
     &[Nonterminal(27), Nonterminal(3)],
     // AfterName -> assign Assign Store
-    &[Terminal(15), Nonterminal(1), Nonterminal(28)],
+    &[Terminal(14), Nonterminal(1), Nonterminal(28)],
     // AfterName -> Load Tail
     &[Nonterminal(29), Nonterminal(3)],
     // Tail -> MulRest AddRest ShiftRest RelRest EqRest AmpRest CaretRest BarRest AndRest OrRest CondRest
@@ -147,7 +147,7 @@ const BODIES: [&[Symbol]; 51] = [
     &[
         Terminal(13),
         Nonterminal(1),
-        Terminal(14),
+        Terminal(15),
         Nonterminal(4),
         Nonterminal(30),
     ],
@@ -301,8 +301,8 @@ const TERMINALS: [u64; 18] = [
     1024,
     2048,
     4294967296,
-    8589934592,
     17180913676,
+    8589934592,
     34359738368,
     68719476736,
 ];
@@ -521,7 +521,7 @@ fn kind_in(kinds: &[Kind], place: usize) -> Kind
 }
 
 /// What a production means, by its number. Past the last production it is `Rest`.
-#[tactic(auto, unfolding(crate::specs::Roles::kind_of))]
+#[tactic(auto, using(crate::proofs::Tied::kind_is))]
 pub fn kind_of(rule: u8) -> Kind
     ensures { result ≡ kind_of rule }
 {

@@ -76,88 +76,88 @@ pub enum Role {
 
 /// The role of each class of tokens.
 const ROLES: [Role; 39] = [
-    Role::Number,
-    Role::Name,
-    Role::Assign,
-    Role::Assign,
-    Role::Operator,
-    Role::Operator,
-    Role::Operator,
-    Role::Operator,
-    Role::Operator,
-    Role::Operator,
-    Role::Logic,
-    Role::Logic,
-    Role::Assign,
-    Role::Assign,
-    Role::Assign,
-    Role::Assign,
-    Role::Assign,
-    Role::Assign,
-    Role::Assign,
-    Role::Assign,
-    Role::Operator,
-    Role::Operator,
-    Role::Operator,
-    Role::Operator,
-    Role::Operator,
-    Role::Operator,
-    Role::Operator,
-    Role::Operator,
-    Role::Operator,
-    Role::Operator,
-    Role::Operator,
-    Role::Operator,
-    Role::Question,
-    Role::Colon,
-    Role::Assign,
-    Role::Opening,
-    Role::Closing,
-    Role::Nothing,
-    Role::Nothing,
+    Role::Number, // a constant
+    Role::Name, // a name
+    Role::Assign, // `<<=`
+    Role::Assign, // `>>=`
+    Role::Operator, // `<<`
+    Role::Operator, // `>>`
+    Role::Operator, // `<=`
+    Role::Operator, // `>=`
+    Role::Operator, // `==`
+    Role::Operator, // `!=`
+    Role::Logic, // `&&`
+    Role::Logic, // `||`
+    Role::Assign, // `+=`
+    Role::Assign, // `-=`
+    Role::Assign, // `*=`
+    Role::Assign, // `/=`
+    Role::Assign, // `%=`
+    Role::Assign, // `&=`
+    Role::Assign, // `^=`
+    Role::Assign, // `|=`
+    Role::Operator, // `+`
+    Role::Operator, // `-`
+    Role::Operator, // `~`
+    Role::Operator, // `!`
+    Role::Operator, // `*`
+    Role::Operator, // `/`
+    Role::Operator, // `%`
+    Role::Operator, // `<`
+    Role::Operator, // `>`
+    Role::Operator, // `&`
+    Role::Operator, // `^`
+    Role::Operator, // `|`
+    Role::Question, // `?`
+    Role::Colon, // `:`
+    Role::Assign, // `=`
+    Role::Opening, // `(`
+    Role::Closing, // `)`
+    Role::Nothing, // no token
+    Role::Nothing, // the end
 ];
 
 /// The operator of each class of tokens; of `+=` it is `+`.
 const OPERATORS: [Operator; 39] = [
-    Operator::Assign,
-    Operator::Assign,
-    Operator::ShiftLeft,
-    Operator::ShiftRight,
-    Operator::ShiftLeft,
-    Operator::ShiftRight,
-    Operator::LessOrEqual,
-    Operator::GreaterOrEqual,
-    Operator::Equal,
-    Operator::Unequal,
-    Operator::BothTrue,
-    Operator::EitherTrue,
-    Operator::Plus,
-    Operator::Minus,
-    Operator::Times,
-    Operator::Divide,
-    Operator::Remainder,
-    Operator::And,
-    Operator::Xor,
-    Operator::Or,
-    Operator::Plus,
-    Operator::Minus,
-    Operator::Complement,
-    Operator::Not,
-    Operator::Times,
-    Operator::Divide,
-    Operator::Remainder,
-    Operator::Less,
-    Operator::Greater,
-    Operator::And,
-    Operator::Xor,
-    Operator::Or,
-    Operator::Assign,
-    Operator::Assign,
-    Operator::Assign,
-    Operator::Assign,
-    Operator::Assign,
-    Operator::Assign,
-    Operator::Assign,
+    Operator::Assign, // a constant
+    Operator::Assign, // a name
+    Operator::ShiftLeft, // `<<=`
+    Operator::ShiftRight, // `>>=`
+    Operator::ShiftLeft, // `<<`
+    Operator::ShiftRight, // `>>`
+    Operator::LessOrEqual, // `<=`
+    Operator::GreaterOrEqual, // `>=`
+    Operator::Equal, // `==`
+    Operator::Unequal, // `!=`
+    Operator::BothTrue, // `&&`
+    Operator::EitherTrue, // `||`
+    Operator::Plus, // `+=`
+    Operator::Minus, // `-=`
+    Operator::Times, // `*=`
+    Operator::Divide, // `/=`
+    Operator::Remainder, // `%=`
+    Operator::And, // `&=`
+    Operator::Xor, // `^=`
+    Operator::Or, // `|=`
+    Operator::Plus, // `+`
+    Operator::Minus, // `-`
+    Operator::Complement, // `~`
+    Operator::Not, // `!`
+    Operator::Times, // `*`
+    Operator::Divide, // `/`
+    Operator::Remainder, // `%`
+    Operator::Less, // `<`
+    Operator::Greater, // `>`
+    Operator::And, // `&`
+    Operator::Xor, // `^`
+    Operator::Or, // `|`
+    Operator::Assign, // `?`
+    Operator::Assign, // `:`
+    Operator::Assign, // `=`
+    Operator::Assign, // `(`
+    Operator::Assign, // `)`
+    Operator::Assign, // no token
+    Operator::Assign, // the end
 ];
 
 fn role_in(roles: &[Role], place: usize) -> Role
@@ -170,7 +170,7 @@ fn role_in(roles: &[Role], place: usize) -> Role
 }
 
 /// The role of a class of tokens. Past the last class it is `Nothing`.
-#[tactic(auto, unfolding(crate::specs::Roles::role_of))]
+#[tactic(auto, using(crate::proofs::Tied::role_is))]
 pub fn role_of(class: u8) -> Role
     ensures { result ≡ role_of class }
 {
@@ -187,7 +187,7 @@ fn operator_in(operators: &[Operator], place: usize) -> Operator
 }
 
 /// The operator of a class of tokens; `Assign` where the class is no operator's.
-#[tactic(auto, unfolding(crate::specs::Roles::operator_of))]
+#[tactic(auto, using(crate::proofs::Tied::operator_is))]
 pub fn operator_of(class: u8) -> Operator
     ensures { result ≡ operator_of class }
 {

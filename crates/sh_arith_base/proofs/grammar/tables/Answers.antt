@@ -1,12 +1,13 @@
-use Rattle.std.proofs.Common.{refl}
-use Rattle.sh_arith_base.specs.Grammar.{arithmetic}
+use Rattle.std.proofs.Common.{subst, sym}
+use Rattle.sh_grammar.specs.Passes.{IsPredictive}
 use Rattle.sh_arith_base.proofs.Passes.{arithmetic_predictive}
+use Rattle.sh_arith_base.proofs.Tied.{arithmetic_is, tabled}
 use Rattle.sh_arith_base.proofs.grammar.tables.Goals as goal
 
 pub returns-clause-grammar : goal.returns-clause-grammar
-unfolding arithmetic
-returns-clause-grammar c = refl
+unfolding tabled
+returns-clause-grammar c = arithmetic_is
 
 pub returns-clause-passes : goal.returns-clause-passes
-unfolding arithmetic
-returns-clause-passes c = arithmetic_predictive
+unfolding tabled
+returns-clause-passes c = subst IsPredictive (sym arithmetic_is) arithmetic_predictive
