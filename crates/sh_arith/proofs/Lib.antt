@@ -3,4 +3,5 @@ pub mod Computing
 pub mod Running
 pub mod Starting
 pub mod Telling
+pub mod Exemplified
 pub mod Whole

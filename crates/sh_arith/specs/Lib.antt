@@ -3,6 +3,7 @@ pub mod Evaluation
 pub mod Expression
 pub mod Outcome
 pub mod Reading
+pub mod Shown
 pub mod State
 pub mod Steps
 pub mod Taking

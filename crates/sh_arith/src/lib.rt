@@ -14,11 +14,15 @@ ghost use Rattle.sh_arith.specs.Expression.{Expression};
 ghost use Rattle.sh_arith.specs.Outcome.{Gives, Stops};
 ghost use Rattle.sh_arith.specs.Value.{value};
 
+mod examples;
 mod faults;
 mod machine;
 mod read;
 mod values;
 
+pub use examples::{
+    operators_are_spelled_as_in_c, operators_bind_as_in_c, operators_group_as_in_c,
+};
 pub use faults::ArithFault;
 use sh_vars::Vars;
 use std::alloc::Global;
