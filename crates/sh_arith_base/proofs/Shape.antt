@@ -17,9 +17,8 @@ use Rattle.sh_arith_base.proofs.Sig.{Sig, Value, After, Target, DoMark, TurnMark
 use Rattle.sh_arith_base.specs.declared.operators.Role.{Role}
 use Rattle.sh_arith_base.specs.declared.operators.Role.TheVariants as role
 use Rattle.sh_arith_base.specs.declared.operators.TheConstants.{ROLES}
-use Rattle.sh_arith_base.specs.Classes.{roles}
 use Rattle.sh_arith_base.specs.Productions.{productions}
-use Rattle.sh_arith_base.specs.Roles.{nth, kind_of, kinds, role_of}
+use Rattle.sh_arith_base.specs.Roles.{nth, kind_of, role_of}
 use Rattle.sh_arith_base.proofs.Tied.{kinds_are, roles_are}
 
 abbrev pub sig : Symbol → Sig

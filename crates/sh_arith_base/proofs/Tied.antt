@@ -1,5 +1,5 @@
 -- The program's constants are what the definitions say.
-use Rattle.std.proofs.Common.{◌≡◌, ℕ, List, refl, map, ap, slice_index_or}
+use Rattle.std.proofs.Common.{◌≡◌, ℕ, refl, map, ap, slice_index_or}
 use Rattle.sh_grammar.specs.Tabulation.{Tabulation}
 use Rattle.sh_arith_base.specs.declared.grammar.TheConstants.{HEADS, BODIES, GUARDS, TERMINALS, ENDING, START, FIRSTS, NULLABLES, PREDICTS, KINDS}
 use Rattle.sh_arith_base.specs.declared.operators.TheConstants.{ROLES, OPERATORS}

@@ -1,5 +1,5 @@
 -- Classes of tokens: constants, names, each operator, what stands in no expression, and the end.
-use Rattle.std.specs.Prelude.{ℕ, suc, ◌+◌, ◌^◌, codes, List, [], ◌∷◌, ◌++◌, length, map, Option, Some, None, unwrap_or, if◌then◌else◌}
+use Rattle.std.specs.Prelude.{ℕ, ◌+◌, ◌^◌, codes, List, [], ◌∷◌, ◌++◌, length, map, Option, Some, None, unwrap_or, if◌then◌else◌}
 use Rattle.std.specs.Str.{bytes_eq}
 use Rattle.sh_arith_base.specs.declared.operators.Role.{Role}
 use Rattle.sh_arith_base.specs.declared.operators.Role.TheVariants as role
