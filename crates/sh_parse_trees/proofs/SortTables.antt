@@ -14,7 +14,7 @@ use Rattle.sh_parse_trees_base.specs.declared.leaf.Leaf.TheVariants as leaf
 use Rattle.sh_parse_trees_base.specs.declared.value.Value.TheVariants as value
 use Rattle.sh_parse_trees_base.specs.Values.{and_or_in, body_in, case_items_in, command_in, commands_in, complete_in, else_in, form_in, item_body_in, item_end_in, item_in, items_in, leaf_in, list_in, loop_in, name_in, number_in, parameters_in, patterns_in, pipeline_in, pipelines_in, redirect_in, redirects_in, tail_in, values_in, word_in}
 use Rattle.sh_parse_trees.specs.Fitting.{fits}
-use Rattle.sh_parse_trees.specs.Productions.{Production, kept_symbols, kinds, productions}
+use Rattle.sh_parse_trees.specs.Productions.{Production, kept_of, kept_symbols, kinds, productions}
 use Rattle.sh_parse_trees.proofs.Bools.{left_true, right_true}
 use Rattle.sh_parse_trees.proofs.Sorts.{Has, checked, tests}
 
@@ -42,7 +42,7 @@ passes rule kept kind = checked kind (kept_sorts kept (map symbol_sort rule.body
 abbrev all_pass : List Rule → List Production → Bool
 all_pass [] table = true
 all_pass (rule ∷ rules) [] = false
-all_pass (rule ∷ rules) (p ∷ table) = passes rule p.kept p.kind && all_pass rules table
+all_pass (rule ∷ rules) (p ∷ table) = passes rule (kept_of p) p.kind && all_pass rules table
 
 pub record Passes (rule : Rule) (kept : List Bool) (found : Option Kind) : Type 0 where
   pub kind : Kind
@@ -50,13 +50,13 @@ pub record Passes (rule : Rule) (kept : List Bool) (found : Option Kind) : Type 
   pub passed : checked kind (kept_sorts kept (map symbol_sort rule.body)) (symbol_sort (Nonterminal rule.head)) ≡ true
 
 pass_at : (rules : List Rule) (table : List Production) (p : ℕ) (rule : Rule) → all_pass rules table ≡ true → slice_get rules p ≡ Some rule
-    → Passes rule (slice_index_or (map (λ (q : Production). q.kept) table) p []) (slice_get (map (λ (q : Production). q.kind) table) p)
+    → Passes rule (slice_index_or (map kept_of table) p []) (slice_get (map (λ (q : Production). q.kind) table) p)
 pass_at [] table p rule e h = absurd (cc)
 pass_at (r ∷ rules) [] p rule e h = absurd (cc)
 pass_at (r ∷ rules) (q ∷ table) zero rule e h =
     let is : r ≡ rule = cc in
-    record { kind = q.kind; is_kind = refl; passed = subst (λ (s : Rule). passes s q.kept q.kind ≡ true) is (left_true (passes r q.kept q.kind) _ e) }
-pass_at (r ∷ rules) (q ∷ table) (suc p) rule e h = pass_at rules table p rule (right_true (passes r q.kept q.kind) _ e) h
+    record { kind = q.kind; is_kind = refl; passed = subst (λ (s : Rule). passes s (kept_of q) q.kind ≡ true) is (left_true (passes r (kept_of q) q.kind) _ e) }
+pass_at (r ∷ rules) (q ∷ table) (suc p) rule e h = pass_at rules table p rule (right_true (passes r (kept_of q) q.kind) _ e) h
 
 rules_pass : all_pass (grammar_of complete).rules productions ≡ true
 unfolding complete productions tail_in else_in redirects_in items_in commands_in pipelines_in list_in patterns_in case_items_in item_end_in

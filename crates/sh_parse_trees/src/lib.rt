@@ -7,5 +7,5 @@ mod productions;
 mod stack;
 mod syntax;
 
-pub use laws::fitting_leaves_have_syntax;
+pub use laws::{fitting_leaves_have_syntax, kinds_stand_beside_their_productions};
 pub use syntax::syntax_tree;

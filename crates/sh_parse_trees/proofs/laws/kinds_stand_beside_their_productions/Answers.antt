@@ -1,0 +1,12 @@
+use Rattle.std.proofs.Common.{refl}
+use Rattle.sh_token_base.specs.Shell.{complete, substitution}
+use Rattle.sh_parse_trees.specs.Productions.{productions}
+use Rattle.sh_parse_trees.proofs.laws.kinds_stand_beside_their_productions.Goals as goal
+
+pub returns-clause-command : goal.returns-clause-command
+unfolding complete productions
+returns-clause-command c = refl
+
+pub returns-clause-substitution : goal.returns-clause-substitution
+unfolding substitution productions
+returns-clause-substitution c = refl
