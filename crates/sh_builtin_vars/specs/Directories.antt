@@ -50,23 +50,27 @@ directory_by files (Ok place) = if is_directory (node_at files place) then Some 
 abbrev pub directory_at : FileMap → List ℕ → List ℕ → Option (List ℕ)
 directory_at files directory path = directory_by files (resolved files directory path)
 
-abbrev pub gone_to : (shows : Bool) → Environment → List ℕ → Option (List ℕ) → Ran
-gone_to shows env path None = refused env (fault.CannotOpen path)
-gone_to shows env path (Some place) = arrived shows env place
+-- where it leads to none, the word is named by which the path was asked for
+abbrev pub gone_to : (shows : Bool) → Environment → (word : List ℕ) → Option (List ℕ) → Ran
+gone_to shows env word None = refused env (fault.CannotOpen word)
+gone_to shows env word (Some place) = arrived shows env place
 
-unfoldable pub gone : (shows : Bool) → FileMap → Environment → List ℕ → Ran
-gone shows files env path = gone_to shows env path (directory_at files env.directory path)
+unfoldable pub gone : (shows : Bool) → FileMap → Environment → (word path : List ℕ) → Ran
+gone shows files env word path = gone_to shows env word (directory_at files env.directory path)
 
--- ---- `-` leads back, and shows where to
+-- ---- `-` leads back, and shows where to; a refusal names `-` itself
 abbrev pub back : FileMap → Environment → Option (List ℕ) → Ran
 back files env None = refused env (fault.CannotOpen (codes "-"))
-back files env (Some path) = if is_empty path then refused env (fault.CannotOpen (codes "-")) else gone true files env path
+back files env (Some path) = if is_empty path then refused env (fault.CannotOpen (codes "-")) else gone true files env (codes "-") path
 
--- ---- without an operand to HOME
+-- ---- without an operand to HOME, whose value is then named
+abbrev pub home_of : Environment → List ℕ
+home_of env = unwrap_or (value_of env (codes "HOME")) []
+
 abbrev pub cd_with : FileMap → Environment → List (List ℕ) → Ran
-cd_with files env [] = gone false files env (unwrap_or (value_of env (codes "HOME")) [])
+cd_with files env [] = gone false files env (home_of env) (home_of env)
 cd_with files env (operand ∷ []) =
-    if bytes_eq operand (codes "-") then back files env (value_of env old_name) else gone false files env operand
+    if bytes_eq operand (codes "-") then back files env (value_of env old_name) else gone false files env operand operand
 cd_with files env (operand ∷ next ∷ others) = misused env
 
 -- ---- there are no symbolic links, so -L and -P come to the same

@@ -73,12 +73,12 @@ fn read_only(alloc: Global, name: &[u8]) -> Result<Outcome, NoMemory>
     Ok(Outcome::Fault(BuiltinFault::ReadOnly(name)))
 }
 
-/// A refusal that names a path.
-fn cannot_open(alloc: Global, path: &[u8]) -> Result<Outcome, NoMemory>
-    ensures { IfOk result (λ outcome. outcome ≡ Outcome.Fault (BuiltinFault.CannotOpen path.now)) }
+/// A refusal that names the word by which a path was asked for.
+fn cannot_open(alloc: Global, word: &[u8]) -> Result<Outcome, NoMemory>
+    ensures { IfOk result (λ outcome. outcome ≡ Outcome.Fault (BuiltinFault.CannotOpen word.now)) }
 {
-    let path = copy_of(alloc, path)?;
-    Ok(Outcome::Fault(BuiltinFault::CannotOpen(path)))
+    let word = copy_of(alloc, word)?;
+    Ok(Outcome::Fault(BuiltinFault::CannotOpen(word)))
 }
 
 /// At a directory.
@@ -133,20 +133,21 @@ fn find_directory(
     Ok(Some(place))
 }
 
-/// To where a path leads.
+/// To where a path leads that was asked for by a word.
 #[tactic(auto, unfolding(crate::specs::Directories::gone))]
 fn go(
     alloc: Global,
     shows: bool,
     files: &Files,
     vars: &mut Vars,
+    word: &[u8],
     path: &[u8],
 ) -> Result<Outcome, NoMemory>
-    ensures { IfOk result (λ outcome. ran vars.new outcome ≡ gone shows files.now vars.old path.now) }
+    ensures { IfOk result (λ outcome. ran vars.new outcome ≡ gone shows files.now vars.old word.now path.now) }
 {
     match find_directory(alloc, files, vars.directory(), path)? {
         Some(place) => arrive(alloc, shows, vars, place.as_slice()),
-        None => cannot_open(alloc, path),
+        None => cannot_open(alloc, word),
     }
 }
 
@@ -173,7 +174,7 @@ fn go_back(alloc: Global, files: &Files, vars: &mut Vars) -> Result<Outcome, NoM
     if path.is_empty() {
         return cannot_open(alloc, b"-");
     }
-    go(alloc, true, files, vars, path.as_slice())
+    go(alloc, true, files, vars, b"-", path.as_slice())
 }
 
 /// To the user's own directory.
@@ -181,8 +182,8 @@ fn go_home(alloc: Global, files: &Files, vars: &mut Vars) -> Result<Outcome, NoM
     ensures { IfOk result (λ outcome. ran vars.new outcome ≡ cd_with files.now vars.old []) }
 {
     match value_of(alloc, vars, b"HOME")? {
-        Some(home) => go(alloc, false, files, vars, home.as_slice()),
-        None => go(alloc, false, files, vars, b""),
+        Some(home) => go(alloc, false, files, vars, home.as_slice(), home.as_slice()),
+        None => go(alloc, false, files, vars, b"", b""),
     }
 }
 
@@ -201,7 +202,7 @@ fn cd_with(
             if operand.as_slice() == b"-".as_slice() {
                 return go_back(alloc, files, vars);
             }
-            go(alloc, false, files, vars, operand.as_slice())
+            go(alloc, false, files, vars, operand.as_slice(), operand.as_slice())
         },
         _ => Ok(Outcome::Fault(BuiltinFault::Usage)),
     }
@@ -210,8 +211,8 @@ fn cd_with(
 /// cd with its arguments (XCU cd): the working directory is the one that its operand leads to from there, without an operand that of
 /// HOME; `-` leads to that of OLDPWD, which is written. OLDPWD and PWD have the directory before and the one now. Dot and dot-dot are
 /// taken by the path's text, and each part has to be a directory; `-L` and `-P` come to the same, as there are no symbolic links.
-/// Refused are other options, two operands, a path to no directory, and a change of OLDPWD or PWD where that is read-only; all is then as
-/// before. The only error is want of memory; what the variables are then is left open.
+/// Refused are other options, two operands, a path to no directory (the operand is named, also where it is `-`, or else HOME's value), and
+/// a change of OLDPWD or PWD where that is read-only; all is then as before. The only error is want of memory; what the variables are then is left open.
 #[tactic(auto, unfolding(crate::specs::Directories::cd_ran))]
 pub fn cd(
     alloc: Global,

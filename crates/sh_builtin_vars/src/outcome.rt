@@ -10,7 +10,7 @@ pub enum BuiltinFault {
     BadName(Text),
     /// The variable of this name is read-only.
     ReadOnly(Text),
-    /// This path doesn't lead to a directory.
+    /// This word doesn't lead to a directory.
     CannotOpen(Text),
 }
 
@@ -19,7 +19,7 @@ pub enum BuiltinFault {
 pub enum Outcome {
     /// It is done with this status, and writes nothing.
     Done(u8),
-    /// It writes this, and is done with 0.
+    /// It writes this, and is done with 0. Where this is empty it writes nothing, also to a closed descriptor.
     Output(Text),
     /// It is refused. What it did before stands.
     Fault(BuiltinFault),
