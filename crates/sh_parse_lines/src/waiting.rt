@@ -1,5 +1,5 @@
 //! Here-documents between their operator and their body (XCU 2.7.4).
-ghost use Rattle.std.specs.Prelude.{◌≡◌, [], OnOk};
+ghost use Rattle.std.specs.Prelude.{◌≡◌, [], OnErr, OnOk};
 ghost use Rattle.sh_scanner_base.specs.Told.{with_delimiter};
 ghost use Rattle.sh_parse_lines.specs.Waiting.{nothing, behind_token, due_at};
 
@@ -52,6 +52,7 @@ impl Waiting {
     /// everything as it was.
     pub fn pass(&mut self, kind: &TokenKind) -> Result<(), AllocError>
         ensures passed { OnOk result (self.new ≡ behind_token kind.now self.old) }
+        ensures kept { OnErr result (self.new ≡ self.old) }
     {
         match kind {
             TokenKind::Operator(Operator::Newline) => {
@@ -77,14 +78,16 @@ impl Waiting {
     }
 }
 
-/// A word is the delimiter of a here-document that is due, if one is expected.
+/// A word is the delimiter of a here-document that is due, if one is expected. The one error is want of memory, which leaves all as
+/// it was.
 fn add_delimiter(
     alloc: Global,
     due: &mut Vec<Delimiter>,
     expected: Option<Tabs>,
     pieces: &[Mark],
 ) -> Result<(), AllocError>
-    ensures { OnOk result (due.new.items ≡ with_delimiter expected pieces.now due.old.items) }
+    ensures added { OnOk result (due.new.items ≡ with_delimiter expected pieces.now due.old.items) }
+    ensures kept { OnErr result (due.new.items ≡ due.old.items) }
 {
     let Some(tabs) = expected else {
         return Ok(());
