@@ -1,7 +1,9 @@
 pub mod Answering
 pub mod Computing
 pub mod Running
+pub mod Sorts
 pub mod Starting
 pub mod Telling
 pub mod Exemplified
 pub mod Whole
+pub mod Writing

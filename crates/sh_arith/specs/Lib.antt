@@ -8,3 +8,4 @@ pub mod State
 pub mod Steps
 pub mod Taking
 pub mod Value
+pub mod Written

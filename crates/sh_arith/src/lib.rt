@@ -13,6 +13,8 @@ ghost use Rattle.sh_arith.specs.Evaluation.{HasFault, Says};
 ghost use Rattle.sh_arith.specs.Expression.{Expression};
 ghost use Rattle.sh_arith.specs.Outcome.{Gives, Stops};
 ghost use Rattle.sh_arith.specs.Value.{value};
+ghost use Rattle.sh_arith.specs.Written.{IsWritten};
+ghost use Rattle.sh_arith_base.specs.Lexical.{tokens_of};
 
 mod examples;
 mod faults;
@@ -33,6 +35,12 @@ pub fn says_one_expression()
 {
     sh_grammar::one_tree();
 }
+
+/// Law: what a text says is what C's grammar has its tokens write, by the table of operators with their precedence and
+/// grouping; a blank text says 0.
+pub fn texts_are_read_as_in_c()
+    ensures { (text : List ℕ) (e : Expression) → Says text e → IsWritten (tokens_of text) e }
+{}
 
 /// Law: the function `evaluated` gives the value of what a text says, and the fault of a text that has none, and nothing
 /// else.
