@@ -1,6 +1,10 @@
+pub mod Accepting
 pub mod Answering
+pub mod Building
 pub mod Computing
+pub mod Constructing
 pub mod Running
+pub mod Saying
 pub mod Sorts
 pub mod Starting
 pub mod Telling

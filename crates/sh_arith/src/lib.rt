@@ -5,7 +5,7 @@
 //! `--`, `sizeof` and the comma, with C's precedences, in at most 500 levels.
 #![tactic(auto)]
 
-ghost use Rattle.std.specs.Prelude.{◌≡◌, ◌≢◌, ◌↔◌, ℕ, ℤ, List, IfOk, IfErr};
+ghost use Rattle.std.specs.Prelude.{◌≡◌, ◌≢◌, ◌↔◌, ℕ, ℤ, List, true, IfOk, IfErr};
 ghost use Rattle.sh_arith.specs.declared.faults.ArithFault.{ArithFault};
 ghost use Rattle.sh_vars.specs.Environment.{Environment};
 ghost use Rattle.sh_arith.specs.Evaluated.{evaluated};
@@ -14,6 +14,7 @@ ghost use Rattle.sh_arith.specs.Expression.{Expression};
 ghost use Rattle.sh_arith.specs.Outcome.{Gives, Stops};
 ghost use Rattle.sh_arith.specs.Value.{value};
 ghost use Rattle.sh_arith.specs.Written.{IsWritten};
+ghost use Rattle.sh_arith_base.specs.Levels.{are_shallow, none_open};
 ghost use Rattle.sh_arith_base.specs.Lexical.{tokens_of};
 
 mod examples;
@@ -36,10 +37,10 @@ pub fn says_one_expression()
     sh_grammar::one_tree();
 }
 
-/// Law: what a text says is what C's grammar has its tokens write, by the table of operators with their precedence and
-/// grouping; a blank text says 0.
+/// Law: what a text says is what C's grammar has its tokens write, in at most 500 levels, by the table of operators with
+/// their precedence and grouping; a blank text says 0.
 pub fn texts_are_read_as_in_c()
-    ensures { (text : List ℕ) (e : Expression) → Says text e → IsWritten (tokens_of text) e }
+    ensures { (text : List ℕ) (e : Expression) → Says text e ↔ (IsWritten (tokens_of text) e × (are_shallow none_open (tokens_of text) ≡ true)) }
 {}
 
 /// Law: the function `evaluated` gives the value of what a text says, and the fault of a text that has none, and nothing
