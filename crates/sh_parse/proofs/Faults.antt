@@ -18,7 +18,7 @@ use Rattle.sh_parse_words.specs.declared.fault.PartFault.{PartFault}
 use Rattle.sh_parse_programs.specs.Words.{Reader}
 use Rattle.sh_parse_words.specs.declared.fault.PartFault.TheVariants as fault
 use Rattle.sh_parse_programs.specs.Cuts.{told_of, cut_fault}
-use Rattle.sh_parse_programs.specs.Programs.{program_in, programs}
+use Rattle.sh_parse_programs.specs.Programs.{program_in, programs, read_text}
 use Rattle.sh_parse_programs.specs.Defined.{Judge, opened, cut_at, HasFault, refused, too_deep, in_word, in_body, FirstFault, EndIs, inner, IsProgram}
 use Rattle.sh_parse_programs.proofs.Texts.{program_defined}
 use Rattle.sh_parse.specs.Insides.{AreInside}
@@ -171,3 +171,6 @@ programs_in zero left text = omega arith
 programs_in (suc d) left text =
     program_told_in (programs d) (programs_in d) left text (program_in (programs d) left text)
     ((program_defined (programs d) left text (program_in (programs d) left text)).0 refl)
+
+pub texts_in : ReadsIn read_text
+texts_in left text = programs_in (suc (left + length text)) left text

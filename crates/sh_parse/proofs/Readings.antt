@@ -17,10 +17,7 @@ use Rattle.sh_parse.specs.Insides.{IsInside, AreInside}
 use Rattle.sh_parse.proofs.Decisions.{reading_defined}
 use Rattle.sh_parse.proofs.Insides.{inside_of, one_inside, some_inside}
 use Rattle.sh_parse_programs.proofs.Within.{FaultIn, FaultsIn, bodies_in}
-use Rattle.sh_parse.proofs.Faults.{SomeIn, cut_fault_in, EndingIn, ending_in, token_in, ReadsIn, has_fault_in, first_fault_in, programs_in}
-
-texts_in : ReadsIn read_text
-texts_in = programs_in 501
+use Rattle.sh_parse.proofs.Faults.{SomeIn, cut_fault_in, EndingIn, ending_in, token_in, has_fault_in, first_fault_in, texts_in}
 
 front_inside : (at size : ℕ) (before after : List Item) → AreInside at size (before ++ after) → AreInside at size before
 front_inside at size [] after h = tt

@@ -35,7 +35,8 @@ pub enum Reading {
     More,
 }
 
-/// Why a text is refused. A place is the number of bytes before it.
+/// Why a text is refused. A place is the number of bytes before it. Of two faults at one place `Refused` is told before `TooDeep`,
+/// and that before `BadSubstitution`.
 #[derive(Clone, Copy, Debug, PartialEq, Eq, Error)]
 pub enum ParseFault {
     /// The token at `at` can't stand there, whatever comes behind it (XCU 2.10); or the byte at `at` is a NUL, which no text of a script

@@ -18,16 +18,14 @@ use sh_parse_lines::item::{Item, next_item};
 use sh_parse_lines::waiting::Waiting;
 use sh_parse_programs::cut::cut_fault;
 use sh_parse_programs::front::Front;
-use sh_parse_programs::program::{bodies_of, judge};
+use sh_parse_programs::text::{bodies_of, judge};
 use sh_parse_words::fault::PartFault;
 use sh_scanner::token::{TokenFault, TokenKind};
 use sh_scanner_base::here::Delimiter;
 use sh_scanner_base::operator::Operator;
 use std::alloc::Global;
 
-/// How deep texts may nest, and how many levels may open.
-const DEPTH: usize = 501;
-
+/// How many levels may open.
 const LEVELS: usize = 500;
 
 /// What a token makes of a reading.
@@ -85,7 +83,7 @@ fn judge_next(
         Err(fault) => return Ok(Err(fault)),
     };
     let item = aliased(aliases, &front, item);
-    match judge(alloc, DEPTH, LEVELS, text, due, item, &mut front) {
+    match judge(alloc, LEVELS, text, due, item, &mut front) {
         Ok(()) => Ok(Ok(front)),
         Err(PartFault::NoMemory) => Err(ParseFault::NoMemory),
         Err(fault) => Ok(Err(fault)),
@@ -170,7 +168,7 @@ fn complete(
     requires { are_whole front ≡ true }
     ensures { Answers result (completed front newline.now.«end» (bodies_of read_text 500 text.now due.now newline.now)) }
 {
-    let bodies = match bodies_of(alloc, DEPTH, LEVELS, text, due, newline) {
+    let bodies = match bodies_of(alloc, LEVELS, text, due, newline) {
         Ok(bodies) => bodies,
         Err(fault) => return Err(fault_of(fault)),
     };

@@ -29,7 +29,7 @@ use Rattle.sh_parse_programs.specs.Sources.{text_between}
 use Rattle.sh_parse_programs.specs.Documents.{pieces_or_none, closed_by, closed_pieces, front_by, front_of, unless, expanded_body, document_parts, with_documents, bodies_of}
 use Rattle.sh_parse_programs.specs.Programs.{read_text}
 use Rattle.sh_parse_programs.specs.Words.{parts_in}
-use Rattle.sh_parse.proofs.Faults.{programs_in}
+use Rattle.sh_parse.proofs.Faults.{texts_in}
 use Rattle.sh_parse_laws.specs.Standing.{Stands}
 use Rattle.sh_parse_laws.proofs.Levels.{opens_some}
 use Rattle.sh_parse_laws.proofs.Pieces.{Pieces, pieces_of, plain_behind, quoted_behind}
@@ -158,13 +158,13 @@ module _ (bytes : List ℕ) where
 
   -- ---- a body that is expanded
   abbrev Found : {A : Type 0} → Result A PartFault → Type 0
-  Found x = ResultAt read_text (programs_in 501) bytes 0 (length bytes) (omega arith) x
+  Found x = ResultAt read_text texts_in bytes 0 (length bytes) (omega arith) x
 
   read_parts : (left : ℕ) (ms : List Mark) → PlacedIn ms → Found (parts_in read_text left bytes ms bytes)
-  read_parts left ms p = parts_at read_text (programs_in 501) bytes 0 (length bytes) (omega arith) left ms bytes p (omega arith)
+  read_parts left ms p = parts_at read_text texts_in bytes 0 (length bytes) (omega arith) left ms bytes p (omega arith)
 
   then_found : {A B : Type 0} (x : Result A PartFault) (f : A → Result B PartFault) → Found x → ((y : A) → Found (f y)) → Found (and_then x f)
-  then_found x f h k = then_at read_text (programs_in 501) bytes 0 (length bytes) (omega arith) x f h k
+  then_found x f h k = then_at read_text texts_in bytes 0 (length bytes) (omega arith) x f h k
 
   front_stands : (left : ℕ) (answer : BodyPieces) → IsBody (length bytes) bytes answer
       → Found (and_then (parts_in read_text left bytes (front_by bytes (body_answer answer)).pieces bytes) (λ parts. unless (front_by bytes (body_answer answer)).fault parts))

@@ -1,6 +1,6 @@
 -- What the reader gives for pieces that close each form that they open is what these spell.
-use Rattle.std.proofs.Common.{◌≡◌, ℕ, zero, suc, ◌-◌, Bool, true, false, List, [], ◌∷◌, ◌++◌, Option, Some, None, refl, sym, ap, ◌∙◌, append-nil, append_assoc}
-use Rattle.std.specs.Prelude.{Result, Ok, Err}
+use Rattle.std.proofs.Common.{◌≡◌, ℕ, zero, suc, ◌-◌, Bool, true, false, List, [], ◌∷◌, ◌++◌, Option, Some, None, refl, sym, ap, ◌∙◌, append-nil, append_assoc, if◌then◌else◌}
+use Rattle.std.specs.Prelude.{Result, Ok, Err, nat_eq}
 use Rattle.std.specs.Option.{option_map}
 use Rattle.sh_scanner_base.specs.declared.mark.Mark.{Mark}
 use Rattle.sh_scanner_base.specs.declared.mark.Mark.TheVariants as mark
@@ -13,13 +13,14 @@ use Rattle.sh_parse_words.specs.declared.build.Frame.{Frame}
 use Rattle.sh_parse_words.specs.declared.build.Request.{Request}
 use Rattle.sh_parse_words.specs.declared.build.Substitution.TheVariants as substitution
 use Rattle.sh_parse_words.specs.declared.fault.PartFault.{PartFault}
+use Rattle.sh_parse_words.specs.declared.fault.PartFault.TheVariants as fault
 use Rattle.sh_parse_words.specs.declared.parameter.Braces.{Braces}
-use Rattle.sh_parse_words.specs.Building.{Building, Taken, backquoted as request_for, backquotes_by, braces_part, braces_quote, ended, in_quotes, open_braces, parts_of, take_piece}
+use Rattle.sh_parse_words.specs.Building.{Building, Taken, backquoted as request_for, backquotes_by, braces_part, braces_quote, ended, in_quotes, open_braces, parts_of, take_piece, with_program}
 use Rattle.sh_parse_words.specs.Parameters.{braces_of, short}
 use Rattle.sh_parse_words.specs.Places.{behind_piece}
 use Rattle.sh_parse_programs.specs.Results.{and_then, fault_moved}
 use Rattle.sh_parse_programs.specs.Sources.{backquoted, behind_pieces, text_between}
-use Rattle.sh_parse_programs.specs.Words.{Reader, answer_of, answered, begins_closed, parts_in, place_in, text_by, text_of, whole, with_piece, with_pieces}
+use Rattle.sh_parse_programs.specs.Words.{Reader, at_its_level, answer_of, answered, begins_closed, parts_in, place_in, text_by, text_of, whole, with_piece, with_pieces}
 use Rattle.sh_parse_laws.specs.Spelled.{AreSpelled, Balanced, Nested, Spelled, bytes_of, has_value, here, is_alone, next, part_of}
 use Rattle.sh_parse_laws.specs.Spelled as spells
 use Rattle.sh_parse_laws.proofs.Spelled.{arithmetic_opened, at, begun_at, behind_both, braces_opened, closes_same, commands_opened, frame_of, given, go, is_ok, levelled, one_less, passed, passing, quiet, quotes_behind, quotes_opened, same_parts, step, text_in_backquotes}
@@ -53,20 +54,30 @@ by_parameter read text q n ms bytes w c None e h = cc
 by_parameter read text q n ms bytes w c (Some p) e h = by_part read text q n ms bytes w (mark.Parameter c) (part.Parameter p) (ap (λ x. option_map (λ y. part.Parameter y) x) e)
 
 -- ---- commands that are read
+abbrev given_or : Bool → ℕ → Complete → Result Complete PartFault
+given_or z place p = if z then Err (fault.TooDeep place) else Ok p
+
 read_ok : (f : ℕ → ℕ) (o : Result Complete PartFault) (c : Complete) → fault_moved f o ≡ Ok c → o ≡ Ok c
 read_ok f (Ok x) c h = h
 read_ok f (Err e) c h = cc
 
+either_ok : (z : Bool) (place : ℕ) (p c : Complete) → given_or z place p ≡ Ok c → p ≡ c
+either_ok true place p c h = cc
+either_ok false place p c h = cc
+
+level_ok : (r : Request) (x : Result Complete PartFault) (c : Complete) → at_its_level r x ≡ Ok c → x ≡ Ok c
+level_ok r (Ok p) c h = ap (λ z. Ok z) (either_ok r.is_too_deep r.place p c h)
+level_ok r (Err e) c h = cc
+
 answered_ok : (read : Reader) (text : List ℕ) (b c : Building) (r : Request) → answered read text b (Some r) ≡ Ok c → (program : Complete) × (read r.left (text_by r.form (text_between text r.start r.«end»)) ≡ Ok program)
 unfolding answer_of text_of
 answered_ok read text b c r h =
-    let p = first_ok (fault_moved (λ place. place_in r place) (read r.left (text_by r.form (text_between text r.start r.«end»)))) _ c h in
-    (p.0, read_ok _ _ _ p.1)
+    let p = first_ok (at_its_level r (fault_moved (λ place. place_in r place) (read r.left (text_by r.form (text_between text r.start r.«end»))))) _ c h in
+    (p.0, read_ok _ _ _ (level_ok r _ p.0 p.1))
 
 backquotes_asked : (read : Reader) (text : List ℕ) (fs : List Frame) (n : ℕ) (ps : List Part) (literal between : List ℕ) (empty : Bool) (bytes : List ℕ) → with_piece read text (at fs (suc n) ps literal) (mark.Backquoted between) empty bytes ≡ answered read text (at fs (suc n) ps literal) (Some (request_for (at fs (suc n) ps literal) (next text bytes) (here text (behind_piece (mark.Backquoted between) bytes))))
 unfolding with_piece take_piece
-backquotes_asked read text fs n ps literal between empty bytes =
-    ap (λ o. and_then o (λ t. answered read text t.building t.request)) (levelled n (next text bytes) _)
+backquotes_asked read text fs n ps literal between empty bytes = refl
 
 by_backquotes : (read : Reader) (text : List ℕ) (q : Bool) (n : ℕ) (ms : List Mark) (bytes : List ℕ) (w : Spells read text q (suc n) ms bytes) (between : List ℕ) (program : Complete) (fs : List Frame) → in_quotes false fs ≡ q → read (suc n - 1) (text_by (backquotes_by (in_quotes false fs)) (text_between text (next text (behind_pieces ms bytes)) (here text (behind_piece (mark.Backquoted between) (behind_pieces ms bytes))))) ≡ Ok program → Spells read text q (suc n) (ms ++ mark.Backquoted between ∷ []) bytes
 by_backquotes read text q n ms bytes w between program fs e h =
@@ -83,9 +94,20 @@ by_backquotes read text q n ms bytes w between program fs e h =
     }
 
 -- ---- no level is left
+none_deep : (b : Building) (r : Request) (x : Result Complete PartFault) (c : Building) → r.is_too_deep ≡ true → and_then (at_its_level r x) (λ p. Ok (with_program b r.form p)) ≡ Ok c → ⊥
+none_deep b r (Ok p) c e h = deep (r.is_too_deep) e h
+  where
+    deep : (z : Bool) → z ≡ true → and_then (given_or z r.place p) (λ q. Ok (with_program b r.form q)) ≡ Ok c → ⊥
+    deep true e h = cc
+    deep false e h = cc
+none_deep b r (Err f) c e h = cc
+
 no_backquotes : (read : Reader) (text : List ℕ) (fs : List Frame) (ps : List Part) (literal between : List ℕ) (empty : Bool) (bytes : List ℕ) (c : Building) → with_piece read text (at fs zero ps literal) (mark.Backquoted between) empty bytes ≡ Ok c → ⊥
-unfolding with_piece take_piece
-no_backquotes read text fs ps literal between empty bytes c h = cc
+unfolding with_piece take_piece answer_of
+no_backquotes read text fs ps literal between empty bytes c h =
+    let b = at fs zero ps literal in
+    let r = request_for b (next text bytes) (here text (behind_piece (mark.Backquoted between) bytes)) in
+    none_deep b r (fault_moved (λ place. place_in r place) (read r.left (text_of r text))) c refl h
 
 no_form : (fs : List Frame) (ps : List Part) (literal : List ℕ) (c : Building) (place : ℕ) (o : Option Braces) (k : Taken → Result Building PartFault) → and_then (open_braces (at fs zero ps literal) place o) k ≡ Ok c → ⊥
 no_form fs ps literal c place None k h = cc
@@ -131,8 +153,12 @@ grouped read text b xs ys bytes h g = moved read text b b xs ys bytes bytes (ap 
 placed : (read : Reader) (text : List ℕ) (b : Building) (xs : List Mark) (bytes after : List ℕ) → bytes ≡ after → Going read text b xs bytes → Going read text b xs after
 placed read text b xs bytes after h g = moved read text b b xs xs bytes after (ap (λ bs. with_pieces read text b xs bs) h) g
 
+none_found : (z : Bool) (place : ℕ) (k : Taken → Result Building PartFault) (c : Building) → and_then (if z then Err (fault.TooDeep place) else Err (fault.BadSubstitution place)) k ≡ Ok c → ⊥
+none_found true place k c h = cc
+none_found false place k c h = cc
+
 found : (b c : Building) (place : ℕ) (o p : Option Braces) (k : Taken → Result Building PartFault) → o ≡ p → and_then (open_braces b place p) k ≡ Ok c → (f : Braces) × (o ≡ Some f)
-found b c place o None k e h = cc
+found b c place o None k e h = absurd (none_found (nat_eq b.left 0) place k c h)
 found b c place o (Some f) k e h = (f, e)
 
 braces_found : (read : Reader) (text : List ℕ) (fs : List Frame) (n : ℕ) (ps : List Part) (literal head : List ℕ) (empty : Bool) (bytes : List ℕ) (c : Building) → with_piece read text (at fs (suc n) ps literal) (mark.BraceOpen head) empty bytes ≡ Ok c → (f : Braces) × (braces_of head empty ≡ Some f)
@@ -142,7 +168,7 @@ braces_found read text fs n ps literal head empty bytes c h =
     let b = at fs (suc n) ps literal in
     found b c (next text bytes) (braces_of head empty) (braces_of head empty) k refl h
 
-commands_asked : (read : Reader) (text : List ℕ) (fs : List Frame) (n : ℕ) (ps : List Part) (literal : List ℕ) (place start : ℕ) (empty : Bool) (bytes : List ℕ) → with_piece read text (passing fs (suc n) ps literal (begun_at place start)) mark.CommandsClose empty bytes ≡ answered read text (at fs (suc n) ps literal) (Some (record { form = substitution.Commands; place = place; start = start; «end» = next text bytes; left = suc n - 1 }))
+commands_asked : (read : Reader) (text : List ℕ) (fs : List Frame) (n : ℕ) (ps : List Part) (literal : List ℕ) (place start : ℕ) (empty : Bool) (bytes : List ℕ) → with_piece read text (passing fs (suc n) ps literal (begun_at place start)) mark.CommandsClose empty bytes ≡ answered read text (at fs (suc n) ps literal) (Some (record { form = substitution.Commands; place = place; start = start; «end» = next text bytes; left = suc n - 1; is_too_deep = false }))
 unfolding with_piece take_piece
 commands_asked read text fs n ps literal place start empty bytes = refl
 
@@ -246,7 +272,7 @@ all read text ms (spells.within_commands before inside w v) q (suc n) bytes fs e
     let g4 = moved read text state state more (mark.CommandsClose ∷ rest) start done (passed read text fs (suc n) s.parts s.literal inside v (next text (behind_pieces before bytes)) (here text start) (mark.CommandsClose ∷ rest) start) g3 in
     let p = first_of read text state mark.CommandsClose rest done g4 in
     let a = answered_ok read text (at fs (suc n) s.parts s.literal) p.0
-    (record { form = substitution.Commands; place = next text (behind_pieces before bytes); start = here text start; «end» = next text done; left = suc n - 1 })
+    (record { form = substitution.Commands; place = next text (behind_pieces before bytes); start = here text start; «end» = next text done; left = suc n - 1; is_too_deep = false })
     (sym (commands_asked read text fs n s.parts s.literal (next text (behind_pieces before bytes)) (here text start) (begins_closed rest) done) ∙ p.1) in
     record {
       parts = ended s.parts s.literal ++ part.Substitution a.0 ∷ [];

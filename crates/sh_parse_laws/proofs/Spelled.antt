@@ -25,7 +25,7 @@ use Rattle.sh_parse_words.specs.Parameters.{braces_of, short}
 use Rattle.sh_parse_words.specs.Places.{behind_joins, behind_piece, place_of}
 use Rattle.sh_parse_programs.specs.Results.{and_then, fault_moved}
 use Rattle.sh_parse_programs.specs.Sources.{backquoted, behind_pieces, text_between}
-use Rattle.sh_parse_programs.specs.Words.{Reader, answer_of, answered, begins_closed, parts_in, place_in, text_by, text_of, whole, with_piece, with_pieces}
+use Rattle.sh_parse_programs.specs.Words.{Reader, at_its_level, answer_of, answered, begins_closed, parts_in, place_in, text_by, text_of, whole, with_piece, with_pieces}
 use Rattle.sh_parse_laws.specs.Spelled.{AreSpelled, Balanced, Spelled, Unclosed, bytes_of, here, is_plain, next, part_of}
 use Rattle.sh_parse_laws.specs.Spelled as spells
 
@@ -191,9 +191,11 @@ passed_by read text fs left ps literal inside d (spells.closes ms n u) s rest by
 pub passed : (read : Reader) (text : List ℕ) (fs : List Frame) (left : ℕ) (ps : List Part) (literal : List ℕ) (inside : List Mark) → Balanced inside → (place start : ℕ) (rest : List Mark) (bytes : List ℕ) → with_pieces read text (passing fs left ps literal (begun_at place start)) (inside ++ rest) bytes ≡ with_pieces read text (passing fs left ps literal (begun_at place start)) rest (behind_pieces inside bytes)
 passed read text fs left ps literal inside u place start rest bytes = passed_by read text fs left ps literal inside 0 u (begun_at place start) rest bytes
 
-pub answered_by : (read : Reader) (text : List ℕ) (b : Building) (r : Request) (program : Complete) → read r.left (text_by r.form (text_between text r.start r.«end»)) ≡ Ok program → answered read text b (Some r) ≡ Ok (with_program b r.form program)
+pub answered_by : (read : Reader) (text : List ℕ) (b : Building) (r : Request) (program : Complete) → r.is_too_deep ≡ false → read r.left (text_by r.form (text_between text r.start r.«end»)) ≡ Ok program → answered read text b (Some r) ≡ Ok (with_program b r.form program)
 unfolding answer_of text_of
-answered_by read text b r program h = ap (λ o. and_then (fault_moved (λ place. place_in r place) o) (λ c. Ok (with_program b r.form c))) h
+answered_by read text b r program e h =
+    ap (λ o. and_then (at_its_level r (fault_moved (λ place. place_in r place) o)) (λ c. Ok (with_program b r.form c))) h
+    ∙ ap (λ z. and_then (if z then Err (fault.TooDeep r.place) else Ok program) (λ c. Ok (with_program b r.form c))) e
 
 pub commands_opened : (read : Reader) (text : List ℕ) (fs : List Frame) (left : ℕ) (ps : List Part) (literal : List ℕ) (empty : Bool) (bytes start : List ℕ) → start ≡ behind_piece mark.CommandsOpen bytes → with_piece read text (at fs (suc left) ps literal) mark.CommandsOpen empty bytes ≡ Ok (passing fs (suc left) ps literal (begun_at (next text bytes) (here text start)))
 unfolding with_piece take_piece
@@ -205,7 +207,7 @@ pub commands_closed : (read : Reader) (text : List ℕ) (fs : List Frame) (left 
 unfolding with_piece take_piece with_program with_part
 commands_closed read text fs left ps literal place start empty bytes program h =
     answered_by read text (at fs (suc left) ps literal)
-    (record { form = substitution.Commands; place = place; start = start; «end» = next text bytes; left = suc left - 1 }) program
+    (record { form = substitution.Commands; place = place; start = start; «end» = next text bytes; left = suc left - 1; is_too_deep = false }) program refl
     (ap (λ n. read n (text_between text start (next text bytes))) (one_less left) ∙ h)
 
 -- ---- backquotes
@@ -222,8 +224,7 @@ unfolding with_piece take_piece with_program with_part
 backquotes_taken read text fs quoted left ps literal between empty bytes after program e same h =
     let b = at fs (suc left) ps literal in
     let r = request_for b (next text bytes) (here text (behind_piece (mark.Backquoted between) bytes)) in
-    ap (λ o. and_then o (λ t. answered read text t.building t.request)) (levelled left (next text bytes) _)
-    ∙ answered_by read text b r program
+    answered_by read text b r program (level_left left)
     (text_in (in_quotes false fs) _ _
     ∙ ap (λ bs. read (suc left - 1) (backquoted (in_quotes false fs) (text_between text (next text bytes) (here text bs)))) (sym same)
     ∙ ap (λ n. read n (backquoted (in_quotes false fs) (text_between text (next text bytes) (here text after)))) (one_less left)

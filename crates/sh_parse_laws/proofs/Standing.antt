@@ -27,7 +27,7 @@ use Rattle.sh_parse_words.specs.Parameters.{braces_of, capped}
 use Rattle.sh_parse_words.specs.Places.{behind_joins, behind_character, behind_characters, behind_piece, place_of}
 use Rattle.sh_parse_programs.specs.Results.{and_then, fault_moved}
 use Rattle.sh_parse_programs.specs.Sources.{text_between, behind_pieces}
-use Rattle.sh_parse_programs.specs.Words.{Reader, text_by, text_of, place_by, place_in, answer_of, answered, with_piece, begins_closed, with_pieces, whole, parts_in}
+use Rattle.sh_parse_programs.specs.Words.{Reader, refused_or_deep, at_its_level, text_by, text_of, place_by, place_in, answer_of, answered, with_piece, begins_closed, with_pieces, whole, parts_in}
 use Rattle.sh_parse_programs.specs.Leaves.{name_size, assignment_leaf, plain_leaf, leaf_by, word_leaf}
 use Rattle.sh_parse_programs.proofs.Within.{FaultsIn}
 use Rattle.sh_parse_laws.specs.Standing.{Stands}
@@ -172,7 +172,7 @@ module _ (size lo hi : ℕ) where
   opened_at there b f left h = (subst (λ o. SkipFrom there o) (sym (opened_skip b f left)) h, tt)
 
   braces_at : (there : ℕ) (b : Building) (place : ℕ) (o : Option Braces) → At place → SkipFrom there b.skip → OutcomeAt there (open_braces b place o)
-  braces_at there b place None p h = p
+  braces_at there b place None p h = level_at there place (Err (fault.BadSubstitution place)) (nat_eq b.left 0) p p
   braces_at there b place (Some f) p h =
       level_at there place (on (opened b (form.Braces f) (b.left - 1))) (nat_eq b.left 0) p (opened_at there b (form.Braces f) (b.left - 1) h)
 
@@ -187,7 +187,6 @@ module _ (size lo hi : ℕ) where
   taking_at there b mark.CommandsOpen empty place l p h =
       level_at there place (on (record b { skip = Some (record { depth = 0; place = place; start = there }) })) (nat_eq b.left 0) p ((p, l, omega arith), tt)
   taking_at there b (mark.Backquoted bytes) empty place l p h =
-      level_at there place (Ok (record { building = b; request = Some (backquoted b place there) })) (nat_eq b.left 0) p
       (h, (p, quoted_at (in_quotes false b.frames) place there))
   taking_at there b m empty place l p h = (subst (λ o. SkipFrom there o) (sym (plainly_skip b m)) h, tt)
 
@@ -247,9 +246,29 @@ module _ (read : Reader) (reads : ReadsIn read) (text : List ℕ) (lo hi : ℕ) 
   unfolding place_in text_of
   place_in_at r h at l = place_by_at r r.form h.0 h.1 at l
 
+  deep_at : (place : ℕ) (f : PartFault) → (lo ≤ place) × (place < hi) → Stands lo hi f → Stands lo hi (refused_or_deep place f)
+  deep_at place (fault.Refused at) p h = h
+  deep_at place (fault.TooDeep at) p h = p
+  deep_at place (fault.BadSubstitution at) p h = p
+  deep_at place fault.NoMemory p h = tt
+
+  either_at : (place : ℕ) (z : Bool) (f : PartFault) → (lo ≤ place) × (place < hi) → Stands lo hi f → Stands lo hi (if z then refused_or_deep place f else f)
+  either_at place true f p h = deep_at place f p h
+  either_at place false f p h = h
+
+  kept_program_at : (place : ℕ) (z : Bool) (c : Complete) → (lo ≤ place) × (place < hi) → ResultAt (if z then Err (fault.TooDeep place) else Ok c)
+  kept_program_at place true c p = p
+  kept_program_at place false c p = tt
+
+  its_level_at : (r : Request) (x : Result Complete PartFault) → (lo ≤ r.place) × (r.place < hi) → ResultAt x → ResultAt (at_its_level r x)
+  its_level_at r (Ok c) p h = kept_program_at r.place r.is_too_deep c p
+  its_level_at r (Err f) p h = either_at r.place r.is_too_deep f p h
+
   answer_at : (r : Request) → RequestAt (length text) lo hi (Some r) → ResultAt (answer_of read text r)
   unfolding answer_of
-  answer_at r h = moved_at (length (text_of r text)) (λ at. place_in r at) (λ at l. place_in_at r h at l) (read r.left (text_of r text)) (reads r.left (text_of r text))
+  answer_at r h =
+      its_level_at r (fault_moved (λ at. place_in r at) (read r.left (text_of r text))) h.0
+      (moved_at (length (text_of r text)) (λ at. place_in r at) (λ at l. place_in_at r h at l) (read r.left (text_of r text)) (reads r.left (text_of r text)))
 
   abbrev AfterAt : ℕ → Result Building PartFault → Type 0
   AfterAt there (Ok b) = SkipFrom (length text) lo hi there b.skip

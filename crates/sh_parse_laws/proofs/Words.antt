@@ -18,7 +18,7 @@ use Rattle.sh_parse_lines.specs.Stream.{Items, with_item, with_first, items_from
 use Rattle.sh_parse_words.specs.declared.fault.PartFault.{PartFault}
 use Rattle.sh_parse_programs.specs.Leaves.{leaf_of}
 use Rattle.sh_parse_programs.specs.Programs.{read_text}
-use Rattle.sh_parse.proofs.Faults.{programs_in}
+use Rattle.sh_parse.proofs.Faults.{texts_in}
 use Rattle.sh_parse.proofs.Insides.{found_inside}
 use Rattle.sh_parse_laws.specs.Standing.{Stands}
 use Rattle.sh_parse_laws.proofs.Pieces.{Pieces, EndsWith, both_end, pieces_of, pieces_end, end_at}
@@ -64,8 +64,8 @@ module _ (e : Bool) (text : List ℕ) (small : length text < 2 ^ 64) where
       let pieces : Pieces e ms (drop lo text) rest = subst (λ z. Pieces e ms z rest) (sym d) p in
       let size : length (drop lo text) ≡ length front = ap length d in
       let begins : lo ≤ 2 ^ 64 - 1 = omega (l, small, arith) in
-      subst (λ x. ResultAt read_text (programs_in 501) text lo hi begins x) h
-      (word_at read_text (programs_in 501) text lo hi begins e left ms span rest pieces (omega (size, l, arith)) r)
+      subst (λ x. ResultAt read_text texts_in text lo hi begins x) h
+      (word_at read_text texts_in text lo hi begins e left ms span rest pieces (omega (size, l, arith)) r)
   kind_stands TokenKind.End lo hi front rest p d l r left f h = absurd (no_fault _ f h)
 
   token_stands : (limit at : ℕ) → at ≤ length text → (kind : TokenKind) (start stop : ℕ) → first_token e limit (drop at text) ≡ Found kind start stop

@@ -5,5 +5,7 @@ pub mod Fitting
 pub mod Taking
 pub mod Faultless
 pub mod Texts
+pub mod Shorter
 pub mod Deeper
+pub mod Judged
 pub mod Within

@@ -21,7 +21,7 @@ use Rattle.sh_parse_words.specs.Places.{behind_joins, behind_piece, place_of}
 use Rattle.sh_parse_programs.specs.Results.{and_then, moved, fault_moved, GivesFault, Gives}
 use Rattle.sh_parse_programs.specs.Sources.{text_between, behind_pieces}
 use Rattle.sh_parse_programs.specs.Inputs.{input_of}
-use Rattle.sh_parse_programs.specs.Words.{Reader, text_of, place_in, answer_of, answered, with_piece, begins_closed, with_pieces, whole, parts_in}
+use Rattle.sh_parse_programs.specs.Words.{Reader, text_of, place_in, refused_or_deep, level_fault, at_its_level, answer_of, answered, with_piece, begins_closed, with_pieces, whole, parts_in}
 use Rattle.sh_parse_programs.specs.Leaves.{name_size, assignment_leaf, plain_leaf, leaf_by, word_leaf, leaf_of}
 use Rattle.sh_parse_programs.specs.declared.document.BodyFront.{BodyFront}
 use Rattle.sh_parse_programs.specs.Documents.{front_of, unless, expanded_body, document_parts, with_documents, bodies_of}
@@ -42,17 +42,45 @@ moved_fault (fault.TooDeep at) r f g = ap (λ z. fault_moved f z) g
 moved_fault (fault.Refused at) r f g = ap (λ z. fault_moved f z) g
 
 -- an answer
-pub answer_ok : (read : Reader) (text : List ℕ) (r : Request) (inner : List ℕ) (program : Complete) → inner ≡ text_of r text → read r.left inner ≡ Ok program → answer_of read text r ≡ Ok program
-unfolding answer_of
-answer_ok read text r inner program e h =
-    ap (λ z. fault_moved (λ at. place_in r at) (read r.left z)) (sym e) ∙ ap (λ z. fault_moved (λ at. place_in r at) z) h
+itself : (e : PartFault) → GivesFault {A = Complete} e (Err e)
+itself fault.NoMemory = tt
+itself (fault.BadSubstitution at) = refl
+itself (fault.TooDeep at) = refl
+itself (fault.Refused at) = refl
 
-pub answer_fault : (read : Reader) (text : List ℕ) (r : Request) (inner : List ℕ) (e result : PartFault) → inner ≡ text_of r text → GivesFault e (read r.left inner)
-    → result ≡ moved (λ at. place_in r at) e → GivesFault result (answer_of read text r)
+either_gives : (b : Bool) (place : ℕ) (c : Complete) → Gives (if b then Err (fault.TooDeep place) else Ok c) (if b then Err (fault.TooDeep place) else Ok c)
+either_gives true place c = refl
+either_gives false place c = refl
+
+no_memory_gives : (b : Bool) (place : ℕ) (x : Result Complete PartFault) → GivesFault (if b then refused_or_deep place fault.NoMemory else fault.NoMemory) x
+no_memory_gives true place x = tt
+no_memory_gives false place x = tt
+
+level_gives : (r : Request) (e : PartFault) (x : Result Complete PartFault) → GivesFault e x → GivesFault (level_fault r e) (at_its_level r x)
+level_gives r fault.NoMemory x g = no_memory_gives r.is_too_deep r.place (at_its_level r x)
+level_gives r (fault.BadSubstitution at) x g =
+    subst (λ z. GivesFault (level_fault r (fault.BadSubstitution at)) (at_its_level r z)) (sym g) (itself (level_fault r (fault.BadSubstitution at)))
+level_gives r (fault.TooDeep at) x g =
+    subst (λ z. GivesFault (level_fault r (fault.TooDeep at)) (at_its_level r z)) (sym g) (itself (level_fault r (fault.TooDeep at)))
+level_gives r (fault.Refused at) x g =
+    subst (λ z. GivesFault (level_fault r (fault.Refused at)) (at_its_level r z)) (sym g) (itself (level_fault r (fault.Refused at)))
+
+pub answer_gives : (read : Reader) (text : List ℕ) (r : Request) (inner : List ℕ) (program : Complete) (result : Result Complete PartFault) → inner ≡ text_of r text
+    → read r.left inner ≡ Ok program → result ≡ at_its_level r (Ok program) → Gives result (answer_of read text r)
 unfolding answer_of
-answer_fault read text r inner e result i h m =
-    subst (λ z. GivesFault z (fault_moved (λ at. place_in r at) (read r.left (text_of r text)))) (sym m)
-    (moved_fault e (read r.left (text_of r text)) (λ at. place_in r at) (subst (λ z. GivesFault e (read r.left z)) i h))
+answer_gives read text r inner program result e h is =
+    subst (λ z. Gives z (answer_of read text r)) (sym is)
+    (subst (λ z. Gives (at_its_level r (Ok program)) (at_its_level r (fault_moved (λ at. place_in r at) z)))
+    (sym h ∙ ap (λ z. read r.left z) e) (either_gives r.is_too_deep r.place program))
+
+pub answer_fault : (read : Reader) (text : List ℕ) (r : Request) (inner : List ℕ) (e told result : PartFault) → inner ≡ text_of r text → GivesFault e (read r.left inner)
+    → told ≡ moved (λ at. place_in r at) e → result ≡ level_fault r told → GivesFault result (answer_of read text r)
+unfolding answer_of
+answer_fault read text r inner e told result i h m l =
+    subst (λ z. GivesFault z (at_its_level r (fault_moved (λ at. place_in r at) (read r.left (text_of r text))))) (sym l)
+    (level_gives r told (fault_moved (λ at. place_in r at) (read r.left (text_of r text)))
+    (subst (λ z. GivesFault z (fault_moved (λ at. place_in r at) (read r.left (text_of r text)))) (sym m)
+    (moved_fault e (read r.left (text_of r text)) (λ at. place_in r at) (subst (λ z. GivesFault e (read r.left z)) i h))))
 
 -- a piece
 abbrev piece_at : List ℕ → Building → Mark → Bool → List ℕ → Outcome

@@ -31,7 +31,7 @@ use Rattle.sh_parse_words.specs.Parameters.{braces_of, capped}
 use Rattle.sh_parse_words.specs.Places.{behind_joins, behind_piece, place_of}
 use Rattle.sh_parse_programs.specs.Results.{and_then, fault_moved}
 use Rattle.sh_parse_programs.specs.Sources.{text_between, behind_pieces}
-use Rattle.sh_parse_programs.specs.Words.{Reader, text_by, text_of, place_by, place_in, answer_of, answered, with_piece, begins_closed, with_pieces, whole, parts_in}
+use Rattle.sh_parse_programs.specs.Words.{Reader, text_by, text_of, place_by, place_in, refused_or_deep, at_its_level, answer_of, answered, with_piece, begins_closed, with_pieces, whole, parts_in}
 use Rattle.sh_parse_programs.specs.Leaves.{name_size, assignment_leaf, plain_leaf, leaf_by, word_leaf, leaf_of}
 use Rattle.sh_parse_programs.specs.Documents.{expanded_body, document_parts, with_documents, bodies_of}
 
@@ -117,7 +117,7 @@ level_in size place o true p h = p
 level_in size place o false p h = h
 
 braces_in : (size : ℕ) (b : Building) (place : ℕ) (o : Option Braces) → place ≤ size → SkipIn size b.skip → OutcomeIn size (open_braces b place o)
-braces_in size b place None p h = p
+braces_in size b place None p h = level_in size place (Err (fault.BadSubstitution place)) (nat_eq b.left 0) p p
 braces_in size b place (Some f) p h =
     level_in size place (on (opened b (form.Braces f) (b.left - 1))) (nat_eq b.left 0) p (opened_in size b (form.Braces f) (b.left - 1) h, tt)
 
@@ -127,8 +127,7 @@ taking_in size b mark.ArithmeticOpen empty place behind p q h =
     level_in size place (on (opened b form.Arithmetic (b.left - 1))) (nat_eq b.left 0) p (opened_in size b form.Arithmetic (b.left - 1) h, tt)
 taking_in size b mark.CommandsOpen empty place behind p q h =
     level_in size place (on (record b { skip = Some (record { depth = 0; place = place; start = behind }) })) (nat_eq b.left 0) p ((p, q), tt)
-taking_in size b (mark.Backquoted bytes) empty place behind p q h =
-    level_in size place (Ok (record { building = b; request = Some (backquoted b place behind) })) (nat_eq b.left 0) p (h, (p, p))
+taking_in size b (mark.Backquoted bytes) empty place behind p q h = (h, (p, p))
 taking_in size b m empty place behind p q h = (plainly_in size b m h, tt)
 
 close_in : (size : ℕ) (b : Building) (s : Skip) (here : ℕ) (z : Bool) → nat_eq s.depth 0 ≡ z → SkipIn size (Some s) → OutcomeIn size (skip_close b s here)
@@ -184,7 +183,7 @@ next_in : (stop : ℕ) (l : Line) (ls : List Line) → suc (l.start + length l.b
 next_in stop l [] h = tt
 next_in stop l (k ∷ ks) h = h
 
-pushed_size : (line : List ℕ) (b : ℕ) → length (line ++ b ∷ []) ≡ suc (length line)
+pub pushed_size : (line : List ℕ) (b : ℕ) → length (line ++ b ∷ []) ≡ suc (length line)
 pushed_size [] b = refl
 pushed_size (c ∷ cs) b = let e = pushed_size cs b in omega (e, arith)
 
@@ -227,7 +226,7 @@ line_size : (tabs : Tabs) (line : List ℕ) → length (line_in tabs line) ≤ l
 line_size Tabs.Kept line = omega arith
 line_size Tabs.Stripped line = tabs_size line
 
-kept_size : (d : Delimiter) (joined : Bool) (line : List ℕ) → length (kept d joined line) ≤ length line
+pub kept_size : (d : Delimiter) (joined : Bool) (line : List ℕ) → length (kept d joined line) ≤ length line
 kept_size d true line = omega arith
 kept_size d false line = line_size d.tabs line
 
@@ -310,10 +309,29 @@ module _ (read : Reader) (reads : (left : ℕ) (text : List ℕ) → FaultsIn (l
   AfterIn size (Ok b) = SkipIn size b.skip
   AfterIn size (Err f) = FaultIn size f
 
+  deep_in : (size place : ℕ) (f : PartFault) → place ≤ size → FaultIn size f → FaultIn size (refused_or_deep place f)
+  deep_in size place (fault.Refused at) p h = h
+  deep_in size place (fault.TooDeep at) p h = p
+  deep_in size place (fault.BadSubstitution at) p h = p
+  deep_in size place fault.NoMemory p h = tt
+
+  either_in : (size place : ℕ) (z : Bool) (f : PartFault) → place ≤ size → FaultIn size f → FaultIn size (if z then refused_or_deep place f else f)
+  either_in size place true f p h = deep_in size place f p h
+  either_in size place false f p h = h
+
+  kept_program_in : (size place : ℕ) (z : Bool) (c : Complete) → place ≤ size → FaultsIn size (if z then Err (fault.TooDeep place) else Ok c)
+  kept_program_in size place true c p = p
+  kept_program_in size place false c p = tt
+
+  its_level_in : (size : ℕ) (r : Request) (x : Result Complete PartFault) → r.place ≤ size → FaultsIn size x → FaultsIn size (at_its_level r x)
+  its_level_in size r (Ok c) p h = kept_program_in size r.place r.is_too_deep c p
+  its_level_in size r (Err f) p h = either_in size r.place r.is_too_deep f p h
+
   answer_in : (text : List ℕ) (r : Request) → RequestIn (length text) (Some r) → FaultsIn (length text) (answer_of read text r)
   unfolding answer_of
   answer_in text r h =
-      moved_in (length text) (length (text_of r text)) (λ at. place_in r at) (λ at l. place_in_text text r h at l) (read r.left (text_of r text)) (reads r.left (text_of r text))
+      its_level_in (length text) r (fault_moved (λ at. place_in r at) (read r.left (text_of r text))) h.0
+      (moved_in (length text) (length (text_of r text)) (λ at. place_in r at) (λ at l. place_in_text text r h at l) (read r.left (text_of r text)) (reads r.left (text_of r text)))
 
   made_in : (size : ℕ) (b : Building) (s : Substitution) (x : Result Complete PartFault) → FaultsIn size x → SkipIn size b.skip → AfterIn size (and_then x (λ c. Ok (with_program b s c)))
   made_in size b s (Ok c) h k = program_in_parts size b s c k

@@ -1,5 +1,5 @@
 -- The list of commands of a text: of a command substitution (XCU 2.6.3), and so of every text that is read as a whole.
-use Rattle.std.specs.Prelude.{ℕ, zero, suc, ◌-◌, true, List, length, Result, Ok, Err, if◌then◌else◌}
+use Rattle.std.specs.Prelude.{ℕ, zero, suc, ◌+◌, ◌-◌, true, List, length, Result, Ok, Err, if◌then◌else◌}
 use Rattle.std.specs.Option.{unwrap_or}
 use Rattle.sh_token_base.specs.Shell.{substitution}
 use Rattle.sh_tree.specs.declared.tree.Complete.{Complete}
@@ -31,6 +31,6 @@ abbrev pub programs : ℕ → Reader
 programs zero left text = Err (fault.TooDeep 0)
 programs (suc depth) left text = program_in (programs depth) left text
 
--- no text nests deeper than its levels
+-- no text nests deeper than its levels, and in backquotes that open a level too many no deeper than it has bytes
 abbrev pub read_text : Reader
-read_text = programs 501
+read_text left text = programs (suc (left + length text)) left text

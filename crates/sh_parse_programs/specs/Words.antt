@@ -1,5 +1,5 @@
 -- The parts of a word (XCU 2.2, 2.6), with the commands of its substitutions, which are read as texts of their own (2.6.3).
-use Rattle.std.specs.Prelude.{ℕ, ◌+◌, Bool, true, false, List, [], ◌∷◌, length, Option, Some, None, Result, Ok}
+use Rattle.std.specs.Prelude.{ℕ, ◌+◌, Bool, true, false, List, [], ◌∷◌, length, Option, Some, None, Result, Ok, Err, if◌then◌else◌}
 use Rattle.std.specs.Option.{unwrap_or}
 use Rattle.sh_scanner_base.specs.declared.mark.Mark.{Mark}
 use Rattle.sh_scanner_base.specs.declared.mark.Mark.TheVariants as mark
@@ -9,6 +9,7 @@ use Rattle.sh_parse_words.specs.declared.build.Request.{Request}
 use Rattle.sh_parse_words.specs.declared.build.Substitution.{Substitution}
 use Rattle.sh_parse_words.specs.declared.build.Substitution.TheVariants as substitution
 use Rattle.sh_parse_words.specs.declared.fault.PartFault.{PartFault}
+use Rattle.sh_parse_words.specs.declared.fault.PartFault.TheVariants as fault
 use Rattle.sh_parse_words.specs.Building.{Building, begun, finished, parts_of, take_piece, with_program}
 use Rattle.sh_parse_words.specs.Parameters.{capped}
 use Rattle.sh_parse_words.specs.Places.{behind_joins, behind_piece, place_of}
@@ -36,9 +37,24 @@ place_by substitution.QuotedBackquotes r at = r.place
 unfoldable pub place_in : Request → ℕ → ℕ
 place_in r at = place_by r.form r at
 
+-- of two faults at one place a refusal is told before a level too many, and that before a bad substitution: backquotes that open a level too
+-- many are refused where their text is, and else too deep
+abbrev pub refused_or_deep : ℕ → PartFault → PartFault
+refused_or_deep place (fault.Refused at) = fault.Refused at
+refused_or_deep place (fault.TooDeep at) = fault.TooDeep place
+refused_or_deep place (fault.BadSubstitution at) = fault.TooDeep place
+refused_or_deep place fault.NoMemory = fault.NoMemory
+
+abbrev pub level_fault : Request → PartFault → PartFault
+level_fault r f = if r.is_too_deep then refused_or_deep r.place f else f
+
+abbrev pub at_its_level : Request → Result Complete PartFault → Result Complete PartFault
+at_its_level r (Ok c) = if r.is_too_deep then Err (fault.TooDeep r.place) else Ok c
+at_its_level r (Err f) = Err (level_fault r f)
+
 -- the commands that are asked for
 unfoldable pub answer_of : Reader → List ℕ → Request → Result Complete PartFault
-answer_of read text r = fault_moved (λ at. place_in r at) (read r.left (text_of r text))
+answer_of read text r = at_its_level r (fault_moved (λ at. place_in r at) (read r.left (text_of r text)))
 
 abbrev pub answered : Reader → List ℕ → Building → Option Request → Result Building PartFault
 answered read text b None = Ok b

@@ -1,5 +1,5 @@
 //! Laws on tokens judged, and on the lists of commands of texts.
-ghost use Rattle.std.specs.Prelude.{◌≡◌, ◌≤◌, ◌↔◌, ℕ, Bool, List, Result, Some, Ok, IsTrue};
+ghost use Rattle.std.specs.Prelude.{◌≡◌, ◌↔◌, ℕ, Bool, List, Result, Some, Ok, IsTrue};
 ghost use Rattle.sh_grammar.specs.Grammar.{Tree};
 ghost use Rattle.sh_grammar.specs.Tabulation.{Tabulation};
 ghost use Rattle.sh_grammar.specs.Text.{IsTreeOf};
@@ -49,7 +49,7 @@ pub fn program_is_the_defined_one()
 {}
 
 /// Law: the texts of substitutions are lists of commands by the same definition, in which the texts of their own substitutions are read so:
-/// with 500 levels or less left, no text nests too deep for `read_text`.
+/// no text nests too deep for `read_text`.
 pub fn read_text_is_the_defined_one()
-    ensures { (left : ℕ) → left ≤ 500 → (text : List ℕ) (answer : Result Complete PartFault) → (read_text left text ≡ answer) ↔ IsProgram read_text left text answer }
+    ensures { (left : ℕ) (text : List ℕ) (answer : Result Complete PartFault) → (read_text left text ≡ answer) ↔ IsProgram read_text left text answer }
 {}

@@ -8,8 +8,9 @@ pub mod front;
 mod input;
 mod laws;
 mod leaf;
-pub mod program;
+mod program;
 mod source;
+pub mod text;
 mod word;
 
 pub use laws::{

@@ -18,7 +18,7 @@ use crate::leaf::{assignment_leaf, name_size, operator_leaf, plain_leaf};
 use crate::source::{
     behind_pieces, digits_in, pieces_behind, pieces_through, text_between, text_from,
 };
-use crate::word::{begins_closed, fault_in, place_of, text_of};
+use crate::word::{at_its_level, begins_closed, fault_in, level_fault, place_of, text_of};
 use sh_parse_documents::document::{Document, documents};
 use sh_parse_lines::item::Item;
 use sh_parse_lines::items::scan_items;
@@ -37,7 +37,7 @@ use sh_tree::tree::{Complete, Parts};
 use std::alloc::{AllocError, Global};
 
 /// The commands that the parts of a word wait for.
-#[tactic(auto, using(crate::proofs::Steps::answer_ok, crate::proofs::Steps::answer_fault))]
+#[tactic(auto, using(crate::proofs::Steps::answer_gives, crate::proofs::Steps::answer_fault))]
 #[cycle(program)]
 fn answer(
     alloc: Global,
@@ -49,8 +49,8 @@ fn answer(
 {
     let inner = text_of(alloc, request, text)?;
     match program(alloc, depth, request.left, inner.as_slice()) {
-        Ok(program) => Ok(program),
-        Err(fault) => Err(fault_in(request, fault)),
+        Ok(program) => at_its_level(request, program),
+        Err(fault) => Err(level_fault(request, fault_in(request, fault))),
     }
 }
 
@@ -238,7 +238,7 @@ fn document_parts(
 /// texts may nest in them.
 #[tactic(auto, using(crate::proofs::Steps::bodies_done, crate::proofs::Steps::bodies_fault))]
 #[cycle(program)]
-pub fn bodies_of(
+pub(crate) fn bodies_within(
     alloc: Global,
     depth: usize,
     left: usize,
@@ -267,7 +267,7 @@ pub fn bodies_of(
 /// `depth` is how deep texts may nest in it.
 #[tactic(auto, using(crate::proofs::Steps::item_refused, crate::proofs::Steps::item_deep, crate::proofs::Steps::leaf_fault, crate::proofs::Steps::item_bodies_fault, crate::proofs::Steps::item_taken))]
 #[cycle(program)]
-pub fn judge(
+pub(crate) fn judge_within(
     alloc: Global,
     depth: usize,
     left: usize,
@@ -292,7 +292,7 @@ pub fn judge(
         Ok(leaf) => leaf,
         Err(fault) => return Err(fault),
     };
-    match bodies_of(alloc, depth, inner, text, due, item) {
+    match bodies_within(alloc, depth, inner, text, due, item) {
         Ok(bodies) => {
             front.put(leaf, bodies)?;
             Ok(())
@@ -329,7 +329,7 @@ fn ended_by(
 /// The list of commands of a text, in which so many levels may open, and whose substitutions nest so deep.
 #[tactic(auto, using(crate::proofs::Steps::text_fault, crate::proofs::Steps::text_ended))]
 #[cycle(program)]
-pub fn program(alloc: Global, depth: usize, left: usize, text: &[u8]) -> Result<Complete, PartFault>
+fn program(alloc: Global, depth: usize, left: usize, text: &[u8]) -> Result<Complete, PartFault>
     ensures { Gives result (programs depth left text.now) }
 {
     if depth == 0 {
@@ -341,7 +341,7 @@ pub fn program(alloc: Global, depth: usize, left: usize, text: &[u8]) -> Result<
     let mut rest = found.items.as_slice();
     while let Some((item, others)) = rest.split_first() {
         let due = waiting.due_at(&item.token.kind);
-        if let Err(fault) = judge(alloc, depth - 1, left, text, due, item, &mut front) {
+        if let Err(fault) = judge_within(alloc, depth - 1, left, text, due, item, &mut front) {
             return Err(fault);
         }
         waiting.pass(&item.token.kind)?;

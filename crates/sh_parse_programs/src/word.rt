@@ -1,13 +1,14 @@
 //! What the parts of a word need: places, and the texts of substitutions.
-ghost use Rattle.std.specs.Prelude.{◌≡◌, IfOk, length};
+ghost use Rattle.std.specs.Prelude.{◌≡◌, IfOk, Ok, length};
 ghost use Rattle.sh_parse_words.specs.Places.{place_of};
 ghost use Rattle.sh_parse_programs.specs.Results.{moved};
-ghost use Rattle.sh_parse_programs.specs.Words.{text_of, place_in, closes_braces, begins_closed};
+ghost use Rattle.sh_parse_programs.specs.Words.{text_of, place_in, refused_or_deep, level_fault, at_its_level, closes_braces, begins_closed};
 
 use crate::source::{backquoted, text_between};
 use sh_parse_words::build::{Request, Substitution};
 use sh_parse_words::fault::PartFault;
 use sh_scanner_base::mark::Mark;
+use sh_tree::tree::Complete;
 use std::alloc::{AllocError, Global};
 
 /// The place in a text of so many bytes from which these are left.
@@ -58,6 +59,40 @@ pub(crate) fn fault_in(request: &Request, fault: PartFault) -> PartFault
         },
         PartFault::NoMemory => PartFault::NoMemory,
     }
+}
+
+/// What is told of backquotes at a place that open a level too many, where their text has this fault.
+fn refused_or_deep(place: usize, fault: PartFault) -> PartFault
+    ensures { result ≡ refused_or_deep place fault }
+{
+    match fault {
+        PartFault::Refused { at } => PartFault::Refused { at },
+        PartFault::TooDeep { .. } => PartFault::TooDeep { at: place },
+        PartFault::BadSubstitution { .. } => PartFault::TooDeep { at: place },
+        PartFault::NoMemory => PartFault::NoMemory,
+    }
+}
+
+/// What is told of a substitution whose text has this fault.
+pub(crate) fn level_fault(request: &Request, fault: PartFault) -> PartFault
+    ensures { result ≡ level_fault request.now fault }
+{
+    if request.is_too_deep {
+        refused_or_deep(request.place, fault)
+    } else {
+        fault
+    }
+}
+
+/// The commands of a substitution, if it doesn't open a level too many.
+pub(crate) fn at_its_level(request: &Request, program: Complete) -> Result<Complete, PartFault>
+    ensures { result ≡ at_its_level request.now (Ok program) }
+{
+    if request.is_too_deep {
+        drop(program);
+        return Err(PartFault::TooDeep { at: request.place });
+    }
+    Ok(program)
 }
 
 fn closes_braces(piece: &Mark) -> bool

@@ -112,7 +112,7 @@ on b = Ok (record { building = b; request = None })
 abbrev pub skipped : Building → Skip → ℕ → Outcome
 skipped b s here = Ok (record {
   building = record b { skip = None };
-  request = Some (record { form = substitution.Commands; place = s.place; start = s.start; «end» = here; left = b.left - 1 });
+  request = Some (record { form = substitution.Commands; place = s.place; start = s.start; «end» = here; left = b.left - 1; is_too_deep = false });
 })
 
 abbrev pub skip_close : Building → Skip → ℕ → Outcome
@@ -127,13 +127,14 @@ abbrev pub parameter_part : ℕ → Option Parameter → Part
 parameter_part c None = part.Literal (36 ∷ c ∷ [])
 parameter_part c (Some p) = part.Parameter p
 
--- `${`, `$((`, `$(` and a backquote open a level
+-- `${`, `$((`, `$(` and backquotes open a level. All faults inside backquotes stand at the first of them, so their text is asked for also where
+-- they open a level too many
 abbrev pub at_level : ℕ → ℕ → Outcome → Outcome
 at_level left place outcome = if nat_eq left 0 then Err (fault.TooDeep place) else outcome
 
--- a `${` that asks for nothing that there is is told before the level that it opens
+-- a level too many is told before a `${` that asks for nothing that there is
 abbrev pub open_braces : Building → ℕ → Option Braces → Outcome
-open_braces b place None = Err (fault.BadSubstitution place)
+open_braces b place None = at_level b.left place (Err (fault.BadSubstitution place))
 open_braces b place (Some f) = at_level b.left place (on (opened b (form.Braces f) (b.left - 1)))
 
 -- whether what stands in a form stands in double quotes (XCU 2.2.3); around: whether the form does. The pattern of a removal is read as outside
@@ -160,7 +161,14 @@ backquotes_by false = substitution.Backquotes
 
 abbrev pub backquoted : Building → ℕ → ℕ → Request
 backquoted b place behind =
-    record { form = backquotes_by (in_quotes false b.frames); place = place; start = place; «end» = behind; left = b.left - 1 }
+    record {
+      form = backquotes_by (in_quotes false b.frames);
+      place = place;
+      start = place;
+      «end» = behind;
+      left = b.left - 1;
+      is_too_deep = nat_eq b.left 0;
+    }
 
 -- a piece that asks for nothing and opens no level
 unfoldable pub plainly : Building → Mark → Building
@@ -183,8 +191,7 @@ taking b (mark.BraceOpen head) empty place behind = open_braces b place (braces_
 taking b mark.ArithmeticOpen empty place behind = at_level b.left place (on (opened b form.Arithmetic (b.left - 1)))
 taking b mark.CommandsOpen empty place behind =
     at_level b.left place (on (record b { skip = Some (record { depth = 0; place = place; start = behind }) }))
-taking b (mark.Backquoted bytes) empty place behind =
-    at_level b.left place (Ok (record { building = b; request = Some (backquoted b place behind) }))
+taking b (mark.Backquoted bytes) empty place behind = Ok (record { building = b; request = Some (backquoted b place behind) })
 taking b m empty place behind = on (plainly b m)
 
 abbrev pub take_by : Option Skip → Building → Mark → Bool → ℕ → ℕ → Outcome

@@ -70,6 +70,8 @@ pub struct Request {
     pub end: usize,
     /// How many levels may open in it.
     pub left: usize,
+    /// Whether the substitution opens a level too many itself; of a `$(..)` the commands are not asked for then.
+    pub is_too_deep: bool,
 }
 
 /// Parts that are being put together. Contracts see what has come so far (`Building`).
@@ -306,12 +308,12 @@ impl Builder {
     ) -> Result<Option<Request>, PartFault>
         ensures { Takes result self.new (open_braces self.old place (braces_of head.now is_empty)) }
     {
-        let Some(braces) = Braces::of_head(self.alloc, head, is_empty)? else {
-            return Err(PartFault::BadSubstitution { at: place });
-        };
         if !self.has_level() {
             return Err(PartFault::TooDeep { at: place });
         }
+        let Some(braces) = Braces::of_head(self.alloc, head, is_empty)? else {
+            return Err(PartFault::BadSubstitution { at: place });
+        };
         let left = self.left - 1;
         self.open(Form::Braces(braces), left)?;
         Ok(None)
@@ -345,19 +347,17 @@ impl Builder {
     }
 
     /// Asks for the commands between backquotes.
-    fn ask_backquoted(&self, place: usize, behind: usize) -> Result<Request, PartFault>
-        ensures { result ≡ (if nat_eq self.now.left 0 then Err (fault.TooDeep place) else Ok (backquoted self.now place behind)) }
+    fn ask_backquoted(&self, place: usize, behind: usize) -> Request
+        ensures { result ≡ backquoted self.now place behind }
     {
-        if !self.has_level() {
-            return Err(PartFault::TooDeep { at: place });
-        }
-        Ok(Request {
+        Request {
             form: backquotes_by(in_quotes(false, self.frames.as_slice())),
             place,
             start: place,
             end: behind,
-            left: self.left - 1,
-        })
+            left: self.left.saturating_sub(1),
+            is_too_deep: self.left == 0,
+        }
     }
 
     /// The end of a `$(..)` that is passed over, or of one inside it.
@@ -378,6 +378,7 @@ impl Builder {
             start: skip.start,
             end: here,
             left: self.left.saturating_sub(1),
+            is_too_deep: false,
         })
     }
 
@@ -453,10 +454,7 @@ impl Builder {
             Mark::BraceOpen(head) => self.open_braces(head.as_slice(), is_empty, place),
             Mark::ArithmeticOpen => self.open_arithmetic(place),
             Mark::CommandsOpen => self.skip(place, behind),
-            Mark::Backquoted(_) => {
-                let request = self.ask_backquoted(place, behind)?;
-                Ok(Some(request))
-            },
+            Mark::Backquoted(_) => Ok(Some(self.ask_backquoted(place, behind))),
             _ => {
                 self.take_plain(piece)?;
                 Ok(None)

@@ -13,25 +13,25 @@ use Rattle.sh_parse_programs.proofs.program.+program.Goals as goal
 
 pub answer-returns : goal.answer-returns
 answer-returns t c =
-    answer_fault (programs c.args.depth) c.args.text.now c.args.request.now c.as_slice.result.now c.in-Err.fault c.fault_in.result (c.as_slice.ensures.value ∙ c.in_ok-inner.ensures) c.in-Err.ensures c.fault_in.ensures
+    answer_fault (programs c.args.depth) c.args.text.now c.args.request.now c.as_slice.result.now c.in-Err.fault c.fault_in.result c.level_fault.result (c.as_slice.ensures.value ∙ c.in_ok-inner.ensures) c.in-Err.ensures c.fault_in.ensures c.level_fault.ensures
 
-pub bodies_of-returns-in-Err : goal.bodies_of-returns-in-Err
-bodies_of-returns-in-Err t c =
+pub bodies_within-returns-in-Err : goal.bodies_within-returns-in-Err
+bodies_within-returns-in-Err t c =
     bodies_fault (programs c.args.depth) c.args.left c.args.text.now c.args.due.now c.args.item.now c.as_slice-rest.result.now c.loop-document.rest.now c.new-bodies.result.items c.loop-document.bodies.items c.in-Some.document.now c.in-Some.others.now c.in-Err.fault
     (c.as_slice-rest.ensures.value ∙ c.in_ok-found.ensures) c.new-bodies.ensures.items c.loop-document.invariant (let h = c.in-Some.ensures.cases.0 in cc) c.in-Err.ensures
 
-pub bodies_of-returns : goal.bodies_of-returns
-bodies_of-returns t c =
+pub bodies_within-returns : goal.bodies_within-returns
+bodies_within-returns t c =
     bodies_done (programs c.args.depth) c.args.left c.args.text.now c.args.due.now c.args.item.now c.as_slice-rest.result.now c.loop-document.rest.now c.new-bodies.result.items c.loop-document.bodies.items
     (c.as_slice-rest.ensures.value ∙ c.in_ok-found.ensures) c.new-bodies.ensures.items c.loop-document.invariant (none_left c.loop-document.rest.now c.in_default.ensures.cases)
 
-pub judge-returns-in_ok-put-in-Ok-bodies_of : goal.judge-returns-in_ok-put-in-Ok-bodies_of
-judge-returns-in_ok-put-in-Ok-bodies_of t c =
+pub judge_within-returns-in_ok-put-in-Ok-bodies_within : goal.judge_within-returns-in_ok-put-in-Ok-bodies_within
+judge_within-returns-in_ok-put-in-Ok-bodies_within t c =
     let yes : c.in_ok-show.field-0 ≡ true = (let f = c.if-not-branch.false in cc) in
-    item_taken (programs c.args.depth) c.args.left c.args.text.now c.args.due.now c.args.item.now c.args.front.now c.show.new.self c.put.new.self c.open-open.result c.in-Ok.leaf c.in-Ok-bodies_of.bodies.items
+    item_taken (programs c.args.depth) c.args.left c.args.text.now c.args.due.now c.args.item.now c.args.front.now c.show.new.self c.put.new.self c.open-open.result c.in-Ok.leaf c.in-Ok-bodies_within.bodies.items
     (c.in_ok-show.ensures.with yes ∙ ap (λ z. with_input c.args.front.now z) c.in_ok-input.ensures)
     (ap takes (c.in_ok-show.ensures.with yes) ∙ sym c.in_ok-show.ensures.taken ∙ yes)
-    c.open-open.ensures (grind (arith, common_steps, c.if-left-open.false)) c.in-Ok.ensures c.in-Ok-bodies_of.ensures c.in_ok-put-in-Ok-bodies_of.ensures
+    c.open-open.ensures (grind (arith, common_steps, c.if-left-open.false)) c.in-Ok.ensures c.in-Ok-bodies_within.ensures c.in_ok-put-in-Ok-bodies_within.ensures
 
 pub program-returns-in-Err : goal.program-returns-in-Err
 program-returns-in-Err t c =

@@ -33,11 +33,11 @@ decreases-leaf_of l = 16 * l.depth + 5
 abbrev pub decreases-document_parts : goal.decreases-document_parts
 decreases-document_parts l = 16 * l.depth + 5
 
-abbrev pub decreases-bodies_of : goal.decreases-bodies_of
-decreases-bodies_of l = 16 * l.depth + 6
+abbrev pub decreases-bodies_within : goal.decreases-bodies_within
+decreases-bodies_within l = 16 * l.depth + 6
 
-abbrev pub decreases-judge : goal.decreases-judge
-decreases-judge l = 16 * l.depth + 7
+abbrev pub decreases-judge_within : goal.decreases-judge_within
+decreases-judge_within l = 16 * l.depth + 7
 
 abbrev pub invariant-parts_in-loop-piece : goal.invariant-parts_in-loop-piece
 invariant-parts_in-loop-piece l =
@@ -46,12 +46,12 @@ invariant-parts_in-loop-piece l =
 abbrev pub decreases-parts_in-loop-piece : goal.decreases-parts_in-loop-piece
 decreases-parts_in-loop-piece l = length l.rest
 
-abbrev pub invariant-bodies_of-loop-document : goal.invariant-bodies_of-loop-document
-invariant-bodies_of-loop-document l =
+abbrev pub invariant-bodies_within-loop-document : goal.invariant-bodies_within-loop-document
+invariant-bodies_within-loop-document l =
     with_documents (programs l.depth) l.left l.bodies.items l.rest ≡ with_documents (programs l.depth) l.left l.initial.bodies.items l.initial.rest
 
-abbrev pub decreases-bodies_of-loop-document : goal.decreases-bodies_of-loop-document
-decreases-bodies_of-loop-document l = length l.rest
+abbrev pub decreases-bodies_within-loop-document : goal.decreases-bodies_within-loop-document
+decreases-bodies_within-loop-document l = length l.rest
 
 abbrev pub invariant-program-loop-item : goal.invariant-program-loop-item
 invariant-program-loop-item l =
