@@ -14,8 +14,8 @@ constant = Terminal 0
 abbrev pub name : Symbol
 name = Terminal 1
 
-abbrev pub operator_of : ℕ → Symbol
-operator_of i = Terminal ((length levels + 1) - i)
+abbrev pub operator_at : ℕ → Symbol
+operator_at i = Terminal ((length levels + 1) - i)
 
 abbrev pub colon : Symbol
 colon = Terminal (length levels + 2)
@@ -104,19 +104,19 @@ abbrev pub level_rules : ℕ → Position → Grouping → List Production
 level_rules i Assigning grouping =
     rule expression kind.Named (name ∷ behind_name ∷ [])
     ∷ rule expression kind.Chain (other_operand ∷ behind_operand ∷ [])
-    ∷ rule behind_name kind.Assigns (operator_of i ∷ right grouping expression (operand (i + 1)) store behind_name)
+    ∷ rule behind_name kind.Assigns (operator_at i ∷ right grouping expression (operand (i + 1)) store behind_name)
     ∷ rule behind_name kind.Takes (load ∷ behind_operand ∷ [])
     ∷ rule behind_operand kind.Rest (rests (length levels - 2))
     ∷ []
-level_rules i Choosing grouping = between i grouping kind.Chooses join (operator_of i ∷ expression ∷ colon ∷ [])
-level_rules i Deciding grouping = between i grouping kind.Logic decide (operator_of i ∷ [])
-level_rules i Between grouping = between i grouping kind.Binary work (operator_of i ∷ [])
+level_rules i Choosing grouping = between i grouping kind.Chooses join (operator_at i ∷ expression ∷ colon ∷ [])
+level_rules i Deciding grouping = between i grouping kind.Logic decide (operator_at i ∷ [])
+level_rules i Between grouping = between i grouping kind.Binary work (operator_at i ∷ [])
 level_rules i Before grouping =
     rule (operand i) kind.Named (name ∷ load ∷ [])
     ∷ rule (operand i) kind.Chain (other_operand ∷ [])
     ∷ rule other_operand kind.Number (constant ∷ [])
     ∷ rule other_operand kind.Within (opening ∷ expression ∷ closing ∷ [])
-    ∷ rule other_operand kind.Prefix (operator_of i ∷ operand i ∷ turn ∷ [])
+    ∷ rule other_operand kind.Prefix (operator_at i ∷ operand i ∷ turn ∷ [])
     ∷ []
 
 -- the levels from this number on

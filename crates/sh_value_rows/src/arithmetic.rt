@@ -1,7 +1,10 @@
 //! Values of arithmetic expressions, and what is wrong with texts that have none.
 use crate::steps::{answers, decimal, joined, number, repeated, said};
 use itoa::Buffer;
-use sh_arith::{ArithFault, evaluate, says_one_expression};
+use sh_arith::{
+    ArithFault, evaluate, evaluation_is_computed, operators_are_spelled_as_in_c,
+    operators_bind_as_in_c, operators_group_as_in_c, says_one_expression, texts_are_read_as_in_c,
+};
 use sh_arith_base::levels_are_nested;
 use sh_rows::{Row, RowFault};
 use sh_vars::Vars;
@@ -74,6 +77,11 @@ pub fn nested(alloc: Global, row: &Row) -> Result<Vec<u8>, RowFault> {
 /// `laws`: the laws of arithmetic can be called.
 pub fn laws(alloc: Global) -> Result<Vec<u8>, RowFault> {
     says_one_expression();
+    texts_are_read_as_in_c();
+    evaluation_is_computed();
+    operators_group_as_in_c();
+    operators_bind_as_in_c();
+    operators_are_spelled_as_in_c();
     levels_are_nested();
     said(alloc, "called")
 }
