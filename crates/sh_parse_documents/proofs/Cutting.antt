@@ -52,8 +52,12 @@ module _ (stop : ℕ) (d : Delimiter) (j : Bool) (rest : List ℕ) (inside : len
         (line_at (stop - length (drop (suc p) rest)) others.first) (placed (suc ((stop - length (drop (suc p) rest)) + length others.first)) others.others)
         (lines_before stop (drop (suc p) rest)) others_are over_now
 
-  pub at_stop : position is_line_end rest ≡ None → cut stop d j (lines_before stop rest) ≡ with_line d j (stop - length rest) rest (over stop (lines_from stop []))
-  at_stop h = ap (λ ls. cut stop d j (placed (stop - length rest) ls)) (only_line rest h)
+  pub at_stop : position is_line_end rest ≡ None → (not j && is_end_line d rest) ≡ false
+      → cut stop d j (lines_before stop rest) ≡ with_line d j (stop - length rest) rest (over stop (lines_from stop []))
+  at_stop h goes_on = ap (λ ls. cut stop d j (placed (stop - length rest) ls)) (only_line rest h) ∙ (rw goes_on refl)
+
+  pub at_last_line : position is_line_end rest ≡ None → (not j && is_end_line d rest) ≡ true → cut stop d j (lines_before stop rest) ≡ over (stop - length rest) (lines_from stop [])
+  at_last_line h over_now = ap (λ ls. cut stop d j (placed (stop - length rest) ls)) (only_line rest h) ∙ (rw over_now refl)
 
 -- what is taken, and what is still to come
 module _ (text places : List ℕ) (whole : Cut) where

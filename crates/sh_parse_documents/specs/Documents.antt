@@ -45,11 +45,13 @@ over place ls = record { text = []; places = []; «end» = place; rest = ls }
 abbrev pub with_line : Delimiter → Bool → ℕ → List ℕ → Cut → Cut
 with_line d joined start line c = record c { text = kept d joined line ++ c.text; places = kept_places d joined start line ++ c.places }
 
--- the body of a here-document: the lines up to, not including, its end line, or all where the input ends before that, at the
--- place `stop`; joined: the line before goes on with the first
+-- the body of a here-document: the lines up to, not including, its end line, which the end of the input may end too; or all where no
+-- line is its end line. The bytes end at the place `stop`; joined: the line before goes on with the first
 abbrev pub cut : ℕ → Delimiter → Bool → List Line → Cut
 cut stop d joined [] = over stop (lines_from stop [])
-cut stop d joined (l ∷ []) = with_line d joined l.start l.bytes (over stop (lines_from stop []))
+cut stop d joined (l ∷ []) = if not joined && is_end_line d l.bytes
+    then over l.start (lines_from stop [])
+    else with_line d joined l.start l.bytes (over stop (lines_from stop []))
 cut stop d joined (l ∷ k ∷ ls) = if not joined && is_end_line d l.bytes
     then over l.start (k ∷ ls)
     else with_line d joined l.start (l.bytes ++ 10 ∷ []) (cut stop d (joins_next d l.bytes) (k ∷ ls))

@@ -55,6 +55,14 @@ pub(crate) fn cut_body<'t>(
         joined = delimiter.joins_next(line);
         rest = after;
     }
+    if ends_body(delimiter, joined, rest) {
+        return Ok(Cut {
+            text,
+            places,
+            end: stop - rest.len(),
+            rest: &[],
+        });
+    }
     push_line(
         &mut text,
         &mut places,

@@ -17,7 +17,7 @@ pub struct Document {
     pub text: Text,
     /// The place of each of its bytes in the text.
     pub places: Sequence<usize>,
-    /// The place at which it ends: that of its end line, or of the end of the bytes that it was cut from.
+    /// The place at which it ends: that of its end line, or, without one, of the end of the bytes that it was cut from.
     pub end: usize,
 }
 
@@ -37,10 +37,10 @@ impl Document {
 /// The bodies of the here-documents with these delimiters, in order, in the bytes of the text from `start` up to `stop`. The
 /// only error is want of memory.
 ///
-/// A body is the lines up to, not including, the first one that is its delimiter alone with a newline, and that no line before
-/// goes on with. Where the bytes end before that they are all of it, and the bodies behind it are empty. Behind `<<-` the tabs
-/// at the front of a line are dropped, but for a line that the one before goes on with. The time is linear in the bytes and the
-/// delimiters, and so is the memory.
+/// A body is the lines up to, not including, the first one that is its delimiter alone and that no line before goes on with: behind
+/// that line stands its newline, or the bytes end with it. Where no line is that, all bytes are the body, and the bodies behind it
+/// are empty. Behind `<<-` the tabs at the front of a line are dropped, but for a line that the one before goes on with. The time is
+/// linear in the bytes and the delimiters, and so is the memory.
 pub fn documents(
     alloc: Global,
     due: &[Delimiter],

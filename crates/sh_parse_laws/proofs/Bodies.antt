@@ -266,7 +266,12 @@ nothing_left lo hi l = record { places = tt; each = refl; rest = (l, omega arith
 
 cut_at : (lo hi : ℕ) → lo ≤ hi → (d : Delimiter) (joined : Bool) (ls : List Line) → LinesAt lo hi ls → CutAt lo hi (cut hi d joined ls)
 cut_at lo hi o d joined [] h = nothing_left lo hi o
-cut_at lo hi o d joined (l ∷ []) h = with_line_at lo hi d joined l.start l.bytes (over hi (lines_from hi [])) h.0 h.1 (nothing_left lo hi o)
+cut_at lo hi o d joined (l ∷ []) h = go (not joined && is_end_line d l.bytes) (with_line_at lo hi d joined l.start l.bytes (over hi (lines_from hi [])) h.0 h.1 (nothing_left lo hi o))
+  where
+    go : (c : Bool) → CutAt lo hi (with_line d joined l.start l.bytes (over hi (lines_from hi [])))
+        → CutAt lo hi (if c then over l.start (lines_from hi []) else with_line d joined l.start l.bytes (over hi (lines_from hi [])))
+    go true x = record { places = tt; each = refl; rest = (o, omega arith) }
+    go false x = x
 cut_at lo hi o d joined (l ∷ k ∷ ls) h =
     go (not joined && is_end_line d l.bytes)
     (let e = pushed_size l.bytes 10 in

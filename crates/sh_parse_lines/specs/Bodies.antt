@@ -8,7 +8,7 @@ use Rattle.sh_scanner_base.specs.Here.{lines, is_end_line, joins_next, are_bodie
 abbrev pub AreWhole : List Delimiter → List ℕ → ℕ → Type 0
 AreWhole due bytes n = are_bodies due false (lines [] (take n bytes)) ≡ true
 
--- no first bytes are; so the end of the input cuts one off, and it is taken as it stands
+-- no first bytes are; so the end of the input ends them: behind an end line without a newline, or within a body that has no end line
 abbrev pub AreCut : Bool → List Delimiter → List ℕ → ℕ → Type 0
 AreCut e due bytes n = (e ≡ true) × (n ≡ length bytes) × ((k : ℕ) → AreWhole due bytes k → ⊥)
 

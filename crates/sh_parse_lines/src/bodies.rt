@@ -8,8 +8,8 @@ use sh_scanner_base::here::Delimiter;
 
 /// How many bytes of the text the bodies of these here-documents take, in order: each goes up to and with the first
 /// line that is its delimiter alone, which no line before goes on with. `at_end`: the text's end is that of the input,
-/// and cuts off a body that isn't over. `None` where the text ends within a body, and the input goes on. Time is linear
-/// in what is taken; no memory is.
+/// and ends an end line that has no newline, or a body that has no end line. `None` where the text ends within a body,
+/// and the input goes on. Time is linear in what is taken; no memory is.
 pub fn bodies_size(text: &[u8], due: &[Delimiter], at_end: bool) -> Option<usize>
     ensures size { result ≡ bodies_size at_end due.now text.now }
     ensures inside { IfSome result (λ size. size ≤ length text.now) }

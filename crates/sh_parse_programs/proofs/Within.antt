@@ -249,7 +249,12 @@ nothing_left stop = record { places = tt; ends = omega arith; rest = (omega arit
 
 cut_in : (stop : ℕ) (d : Delimiter) (joined : Bool) (ls : List Line) → LinesIn stop ls → CutIn stop (cut stop d joined ls)
 cut_in stop d joined [] h = nothing_left stop
-cut_in stop d joined (l ∷ []) h = with_line_in stop d joined l.start l.bytes (over stop (lines_from stop [])) h.0 (nothing_left stop)
+cut_in stop d joined (l ∷ []) h = go (not joined && is_end_line d l.bytes) (with_line_in stop d joined l.start l.bytes (over stop (lines_from stop [])) h.0 (nothing_left stop))
+  where
+    go : (c : Bool) → CutIn stop (with_line d joined l.start l.bytes (over stop (lines_from stop [])))
+        → CutIn stop (if c then over l.start (lines_from stop []) else with_line d joined l.start l.bytes (over stop (lines_from stop [])))
+    go true x = let a : l.start + length l.bytes ≤ stop = h.0 in record { places = tt; ends = omega (a, arith); rest = (omega arith, tt, tt) }
+    go false x = x
 cut_in stop d joined (l ∷ k ∷ ls) h =
     go (not joined && is_end_line d l.bytes)
     (let e = pushed_size l.bytes 10 in
