@@ -18,10 +18,10 @@ abbrev pub answer_of : Result Reading ParseFault → Answer
 answer_of (Ok (Complete tree used)) = if serves tree then answer.Command tree used else answer.Fault refusal.Syntax
 answer_of (Ok (Blank used)) = answer.Blank used
 answer_of (Ok More) = answer.Fault refusal.Syntax
-answer_of (Err (Refused at)) = answer.Fault refusal.Syntax
+answer_of (Err (Refused at used)) = answer.Fault refusal.Syntax
 answer_of (Err (Unclosed at)) = answer.Fault refusal.Syntax
-answer_of (Err (BadSubstitution at)) = answer.Fault refusal.BadSubstitution
-answer_of (Err (TooDeep at)) = answer.Fault refusal.TooDeep
+answer_of (Err (BadSubstitution at used)) = answer.Fault refusal.BadSubstitution
+answer_of (Err (TooDeep at used)) = answer.Fault refusal.TooDeep
 answer_of (Err NoMemory) = answer.Fault refusal.Syntax
 
 -- what is found by such an answer; a blank text leads on to the bytes behind it

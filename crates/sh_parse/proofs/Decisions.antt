@@ -20,10 +20,10 @@ use Rattle.sh_parse_programs.proofs.Taking.{behind, judged_next, Told, next_told
 use Rattle.sh_parse_programs.proofs.Faultless.{waiting_push, judged, JudgedSo, judged_told, judged_push, faultless_judged, fault_judged}
 use Rattle.sh_parse_programs.proofs.Texts.{derive_whole, whole_not_derive, derive_not_whole, whole_derive, tree_found, tree_gives, tree_whole, tree_alone, alone_gives, none_told, some_told, some_leaves, tokens_of}
 use Rattle.sh_parse.specs.Aliases.{AliasTable}
-use Rattle.sh_parse.specs.Reading.{Answer, is_newline, taken, completed, refusal, said, at_last, decided, reading}
-use Rattle.sh_parse.specs.declared.Reading.TheVariants.{Complete, Blank, More}
+use Rattle.sh_parse.specs.Reading.{Answer, is_newline, nul_in, unless_nul, with_nul, taken, completed, refusal, said, at_end, at_cut, at_last, decided, reading}
+use Rattle.sh_parse.specs.declared.Reading.TheVariants.{Complete, Blank}
 use Rattle.sh_parse.specs.declared.ParseFault.TheVariants.{Unclosed}
-use Rattle.sh_parse.specs.Defined.{outer, last_bodies, Says, blank_line, faulty_line, whole_line, faulty_bodies, faulty_newline, IsSilent, AreSilent, Ends, blank_text, faulty_text, whole_text, open_text, FaultOr, cut_answer, EndSays, NewlineDecides, EndDecides, IsReading}
+use Rattle.sh_parse.specs.Defined.{outer, last_bodies, TokensSay, blank_line, faulty_line, whole_line, faulty_bodies, faulty_newline, AreOpen, nul_before, Says, of_tokens, of_nul, IsSilent, AreSilent, Ends, blank_text, faulty_text, whole_text, open_text, FaultOr, cut_answer, EndSays, NewlineDecides, EndDecides, IsReading}
 
 commands : IsShell complete
 commands = inl refl
@@ -34,7 +34,7 @@ no_value (Err x) f k e h = cc
 
 -- a newline
 abbrev saying : ℕ → Judged → Bool → Bool → Result (List Parts) PartFault → Result Judged PartFault → Option Answer
-saying used j b c o r = if b then Some (Ok (Blank used)) else if c then Some (completed j used o) else refusal r
+saying used j b c o r = if b then Some (Ok (Blank used)) else if c then Some (completed j used o) else refusal used r
 
 says_blank : (used : ℕ) (j : Judged) (b c : Bool) (o : Result (List Parts) PartFault) (r : Result Judged PartFault) → b ≡ true → saying used j b c o r ≡ Some (Ok (Blank used))
 says_blank used j b c o r e = rw e refl
@@ -44,7 +44,7 @@ says_whole : (used : ℕ) (j : Judged) (b c : Bool) (o p : Result (List Parts) P
 says_whole used j b c o p r e d f = rw (e, d, f) refl
 
 says_refused : (used : ℕ) (j : Judged) (b c : Bool) (o : Result (List Parts) PartFault) (r q : Result Judged PartFault) → b ≡ false → c ≡ false → r ≡ q
-    → saying used j b c o r ≡ refusal q
+    → saying used j b c o r ≡ refusal used q
 says_refused used j b c o r q e d f = rw (e, d, f) refl
 
 module _ (table : AliasTable) (text : List ℕ) (before : List Item) (newline : Item) where
@@ -58,8 +58,8 @@ module _ (table : AliasTable) (text : List ℕ) (before : List Item) (newline : 
   says_at = by (judged g before)
 
   abbrev Speaks : Option Answer → Type 0
-  Speaks None = IsSilent text before newline
-  Speaks (Some answer) = Says text before newline answer
+  Speaks None = AreOpen text before newline
+  Speaks (Some answer) = TokensSay text before newline answer
 
   abbrev whole : Bool
   whole = is_whole complete (inputs_of before)
@@ -80,17 +80,17 @@ module _ (table : AliasTable) (text : List ℕ) (before : List Item) (newline : 
         let so : JudgedSo (outer text) (before ++ newline ∷ []) (Ok k) = subst (λ r. JudgedSo (outer text) (before ++ newline ∷ []) r) is (judged_told (outer text) commands (before ++ newline ∷ [])) in
         so.0
 
-    next_says : (before ≡ [] → ⊥) → (Derive (outer text) before → ⊥) → (r : Result Judged PartFault) → next ≡ r → Told (outer text) before newline x.leaves x.bodies r → Speaks (refusal r)
+    next_says : (before ≡ [] → ⊥) → (Derive (outer text) before → ⊥) → (r : Result Judged PartFault) → next ≡ r → Told (outer text) before newline x.leaves x.bodies r → Speaks (refusal newline.«end» r)
     next_says n d (Ok k) e h = record { some = n; unfinished = d; faultless = going k e }
     next_says n d (Err f) e h = faulty_newline n x d f h refl
 
     bodies_say : (before ≡ [] → ⊥) → AreTokens before → whole ≡ true → (o : Result (List Parts) PartFault) → last_bodies text before newline ≡ o
-        → Says text before newline (completed here newline.«end» o)
+        → TokensSay text before newline (completed here newline.«end» o)
     bodies_say n a w (Ok others) e = whole_line n others e _ (tree_found (outer text) commands before x a w others) refl
     bodies_say n a w (Err f) e = faulty_bodies n x (whole_derive (outer text) commands before w) f e refl
 
     some_say : (before ≡ [] → ⊥) → AreTokens before → (c : Bool) → whole ≡ c
-        → Speaks (if c then Some (completed here newline.«end» (last_bodies text before newline)) else refusal next)
+        → Speaks (if c then Some (completed here newline.«end» (last_bodies text before newline)) else refusal newline.«end» next)
     some_say n a true w = bodies_say n a w (last_bodies text before newline) refl
     some_say n a false w =
         next_says n (whole_not_derive (outer text) commands before w) next refl (next_told (outer text) before newline x.leaves x.bodies commands)
@@ -127,7 +127,7 @@ module _ (table : AliasTable) (text : List ℕ) (before : List Item) (newline : 
       of_none [] e = refl
       of_none (t ∷ xs) e = absurd (cc)
 
-  pub says : (answer : Answer) → Says text before newline answer → says_at ≡ Some answer
+  pub says : (answer : Answer) → TokensSay text before newline answer → says_at ≡ Some answer
   says answer (blank_line e h) = blank_is e ∙ ap Some (sym h)
   says answer (faulty_line f x h) = ap (λ r. by r) (fault_judged (outer text) commands before f x) ∙ ap Some (sym h)
   says answer (whole_line n others b tree a h) = whole_is others tree n b a ∙ ap Some (sym h)
@@ -152,10 +152,41 @@ module _ (table : AliasTable) (text : List ℕ) (before : List Item) (newline : 
       (ap (λ (i : Judged). is_whole i.grammar i.tokens) e ∙ derive_not_whole (outer text) commands before d) h
   silent_by (Err f) q k n d h = absurd (no_value (Err f) f k refl h)
 
-  pub silent : IsSilent text before newline → says_at ≡ None
+  pub silent : AreOpen text before newline → says_at ≡ None
   silent q =
       silent_by (judged (outer text) before) (judged_told (outer text) commands before) (behind (outer text) (before ++ newline ∷ []) q.faultless.leaves q.faultless.bodies) q.some q.unfinished
       (sym (judged_push (outer text) before newline) ∙ faultless_judged (outer text) commands (before ++ newline ∷ []) q.faultless)
+
+  -- with a NUL before its end
+  abbrev nul : Option ℕ
+  nul = nul_before text newline
+
+  abbrev pub line_says : Option Answer
+  line_says = with_nul nul newline.«end» says_at
+
+  abbrev Tells : Option Answer → Type 0
+  Tells None = IsSilent text before newline
+  Tells (Some answer) = Says text before newline answer
+
+  tells_by : AreTokens before → (n : Option ℕ) → nul ≡ n → (d : Option Answer) → says_at ≡ d → Tells (with_nul n newline.«end» d)
+  tells_by a None e None h = record { open_tokens = speaks a None h; clean = e }
+  tells_by a None e (Some x) h = of_tokens x (speaks a (Some x) h) (sym (ap (λ n. unless_nul n newline.«end» x) e))
+  tells_by a (Some p) e None h = of_nul (speaks a None h) p e refl
+  tells_by a (Some p) e (Some x) h = of_tokens x (speaks a (Some x) h) (sym (ap (λ n. unless_nul n newline.«end» x) e))
+
+  pub line_tells : AreTokens before → (d : Option Answer) → line_says ≡ d → Tells d
+  line_tells a d e = subst (λ x. Tells x) e (tells_by a nul refl says_at refl)
+
+  with_some : (n : Option ℕ) (used : ℕ) (x : Answer) → with_nul n used (Some x) ≡ Some (unless_nul n used x)
+  with_some None used x = refl
+  with_some (Some p) used x = refl
+
+  pub line_told : (answer : Answer) → Says text before newline answer → line_says ≡ Some answer
+  line_told answer (of_tokens x t h) = ap (with_nul nul newline.«end») (says x t) ∙ (with_some nul newline.«end» x ∙ ap Some (sym h))
+  line_told answer (of_nul q p e h) = ap (with_nul nul newline.«end») (silent q) ∙ (ap (λ n. with_nul n newline.«end» None) e ∙ ap Some (sym h))
+
+  pub line_silent : IsSilent text before newline → line_says ≡ None
+  line_silent q = ap (with_nul nul newline.«end») (silent q.open_tokens) ∙ ap (λ n. with_nul n newline.«end» None) q.clean
 
 -- the end of the text
 module _ (text : List ℕ) (tokens : List Item) where
@@ -168,63 +199,59 @@ module _ (text : List ℕ) (tokens : List Item) where
   ends_by x a false true e d = whole_text (some_told (outer text) tokens x e) _ (tree_alone (outer text) commands tokens x a d) refl
   ends_by x a false false e d = open_text (some_told (outer text) tokens x e) x (whole_not_derive (outer text) commands tokens d) refl
 
-  ends_told : (e : Bool) → AreTokens tokens → (r : Result Judged PartFault) → JudgedSo (outer text) tokens r → Ends text tokens (at_last e text wait r AtEnd)
-  ends_told e a (Ok k) (x, is) =
-      subst (λ j. Ends text tokens (at_last e text wait (Ok j) AtEnd)) (sym is) (ends_by x a (are_no x.leaves) (is_whole complete (inputs_of tokens)) refl refl)
-  ends_told e a (Err f) h = faulty_text f h refl
+  ends_told : AreTokens tokens → (r : Result Judged PartFault) → JudgedSo (outer text) tokens r → Ends text tokens (at_end text r)
+  ends_told a (Ok k) (x, is) =
+      subst (λ j. Ends text tokens (at_end text (Ok j))) (sym is) (ends_by x a (are_no x.leaves) (is_whole complete (inputs_of tokens)) refl refl)
+  ends_told a (Err f) h = faulty_text f h refl
 
-  cut_told : (at : ℕ) (r : Result Judged PartFault) → JudgedSo (outer text) tokens r → FaultOr text tokens (cut_answer text tokens at) (at_last true text wait r (Cut at))
-  cut_told at (Ok k) (x, is) = inr (x, ap (λ j. at_last true text wait (Ok j) (Cut at)) is)
+  cut_told : (at : ℕ) (r : Result Judged PartFault) → JudgedSo (outer text) tokens r → FaultOr text tokens (cut_answer text tokens at) (at_cut text wait r at)
+  cut_told at (Ok k) (x, is) = inr (x, ap (λ j. at_cut text wait (Ok j) at) is)
   cut_told at (Err f) h = inl (f, h, refl)
-
-  more_is : (at : ℕ) (r : Result Judged PartFault) → at_last false text wait r (Cut at) ≡ Ok More
-  more_is at (Ok k) = refl
-  more_is at (Err f) = refl
 
   abbrev last : Bool → Ending → Answer
   last e ending = at_last e text wait (judged (outer text) tokens) ending
 
   end_told : (e : Bool) → AreTokens tokens → (ending : Ending) → EndSays e text tokens ending (last e ending)
-  end_told true a AtEnd = ends_told true a (judged (outer text) tokens) (judged_told (outer text) commands tokens)
-  end_told false a AtEnd = ends_told false a (judged (outer text) tokens) (judged_told (outer text) commands tokens)
-  end_told true a (Cut at) = cut_told at (judged (outer text) tokens) (judged_told (outer text) commands tokens)
-  end_told false a (Cut at) = more_is at (judged (outer text) tokens)
+  end_told true a AtEnd = (at_end text (judged (outer text) tokens), ends_told a (judged (outer text) tokens) (judged_told (outer text) commands tokens), refl)
+  end_told false a AtEnd = (at_end text (judged (outer text) tokens), ends_told a (judged (outer text) tokens) (judged_told (outer text) commands tokens), refl)
+  end_told true a (Cut at) = (at_cut text wait (judged (outer text) tokens) at, cut_told at (judged (outer text) tokens) (judged_told (outer text) commands tokens), refl)
+  end_told false a (Cut at) = refl
 
   -- and back
-  last_whole : (e : Bool) (j : Judged) (tree : Tree) → are_no j.leaves ≡ false → is_whole j.grammar j.tokens ≡ true → tree_by j ≡ tree
-      → at_last e text wait (Ok j) AtEnd ≡ Ok (Complete tree (length text))
-  last_whole e j tree n w t = rw (n, w, t) refl
+  last_whole : (j : Judged) (tree : Tree) → are_no j.leaves ≡ false → is_whole j.grammar j.tokens ≡ true → tree_by j ≡ tree
+      → at_end text (Ok j) ≡ Ok (Complete tree (length text))
+  last_whole j tree n w t = rw (n, w, t) refl
 
-  last_open : (e : Bool) (j : Judged) → are_no j.leaves ≡ false → is_whole j.grammar j.tokens ≡ false → at_last e text wait (Ok j) AtEnd ≡ Err (Unclosed (length text))
-  last_open e j n w = rw (n, w) refl
+  last_open : (j : Judged) → are_no j.leaves ≡ false → is_whole j.grammar j.tokens ≡ false → at_end text (Ok j) ≡ Err (Unclosed (length text))
+  last_open j n w = rw (n, w) refl
 
-  last_of : (e : Bool) (ending : Ending) (x : AreFaultless (outer text) tokens) → last e ending ≡ at_last e text wait (Ok (behind (outer text) tokens x.leaves x.bodies)) ending
-  last_of e ending x = ap (λ r. at_last e text wait r ending) (faultless_judged (outer text) commands tokens x)
+  last_of : (x : AreFaultless (outer text) tokens) → at_end text (judged (outer text) tokens) ≡ at_end text (Ok (behind (outer text) tokens x.leaves x.bodies))
+  last_of x = ap (λ r. at_end text r) (faultless_judged (outer text) commands tokens x)
 
-  ends_said : (e : Bool) (answer : Answer) → Ends text tokens answer → last e AtEnd ≡ answer
-  ends_said e answer (blank_text n h) = of_none tokens n ∙ sym h
+  ends_said : (answer : Answer) → Ends text tokens answer → at_end text (judged (outer text) tokens) ≡ answer
+  ends_said answer (blank_text n h) = of_none tokens n ∙ sym h
     where
-      of_none : (xs : List Item) → xs ≡ [] → at_last e text wait (judged (outer text) xs) AtEnd ≡ Ok (Blank (length text))
+      of_none : (xs : List Item) → xs ≡ [] → at_end text (judged (outer text) xs) ≡ Ok (Blank (length text))
       of_none [] n = refl
       of_none (t ∷ xs) n = absurd (cc)
-  ends_said e answer (faulty_text f x h) = ap (λ r. at_last e text wait r AtEnd) (fault_judged (outer text) commands tokens f x) ∙ sym h
-  ends_said e answer (whole_text n tree a h) =
-      last_of e AtEnd a.faultless
-      ∙ (last_whole e (behind (outer text) tokens a.faultless.leaves a.faultless.bodies) tree (some_leaves (outer text) tokens a.faultless n)
+  ends_said answer (faulty_text f x h) = ap (λ r. at_end text r) (fault_judged (outer text) commands tokens f x) ∙ sym h
+  ends_said answer (whole_text n tree a h) =
+      last_of a.faultless
+      ∙ (last_whole (behind (outer text) tokens a.faultless.leaves a.faultless.bodies) tree (some_leaves (outer text) tokens a.faultless n)
       (tree_whole (outer text) commands tokens [] tree a) (alone_gives (outer text) commands tokens tree a) ∙ sym h)
-  ends_said e answer (open_text n x d h) =
-      last_of e AtEnd x
-      ∙ (last_open e (behind (outer text) tokens x.leaves x.bodies) (some_leaves (outer text) tokens x n) (derive_not_whole (outer text) commands tokens d) ∙ sym h)
+  ends_said answer (open_text n x d h) =
+      last_of x
+      ∙ (last_open (behind (outer text) tokens x.leaves x.bodies) (some_leaves (outer text) tokens x n) (derive_not_whole (outer text) commands tokens d) ∙ sym h)
 
-  cut_said : (at : ℕ) (answer : Answer) → FaultOr text tokens (cut_answer text tokens at) answer → last true (Cut at) ≡ answer
-  cut_said at answer (inl (f, x, h)) = ap (λ r. at_last true text wait r (Cut at)) (fault_judged (outer text) commands tokens f x) ∙ sym h
-  cut_said at answer (inr (x, h)) = last_of true (Cut at) x ∙ sym h
+  cut_said : (at : ℕ) (answer : Answer) → FaultOr text tokens (cut_answer text tokens at) answer → at_cut text wait (judged (outer text) tokens) at ≡ answer
+  cut_said at answer (inl (f, x, h)) = ap (λ r. at_cut text wait r at) (fault_judged (outer text) commands tokens f x) ∙ sym h
+  cut_said at answer (inr (x, h)) = ap (λ r. at_cut text wait r at) (faultless_judged (outer text) commands tokens x) ∙ sym h
 
   end_said : (e : Bool) (ending : Ending) (answer : Answer) → EndSays e text tokens ending answer → last e ending ≡ answer
-  end_said true AtEnd answer h = ends_said true answer h
-  end_said false AtEnd answer h = ends_said false answer h
-  end_said true (Cut at) answer h = cut_said at answer h
-  end_said false (Cut at) answer h = more_is at (judged (outer text) tokens) ∙ sym h
+  end_said true AtEnd answer (x, s, h) = ap (unless_nul (nul_in text) (length text)) (ends_said x s) ∙ sym h
+  end_said false AtEnd answer (x, s, h) = ap (unless_nul (nul_in text) (length text)) (ends_said x s) ∙ sym h
+  end_said true (Cut at) answer (x, s, h) = ap (unless_nul (nul_in text) (length text)) (cut_said at x s) ∙ sym h
+  end_said false (Cut at) answer h = sym h
 
 -- one token more
 silent_push : (text : List ℕ) (start before : List Item) (t : Item) → AreSilent text start before → (is_newline t.token.kind ≡ true → IsSilent text (start ++ before) t)
@@ -249,32 +276,32 @@ module _ (table : AliasTable) (e : Bool) (text : List ℕ) (ending : Ending) whe
   goes b d later = unwrap_or (if b then d else None) later
 
   from_next : (before : List Item) (t : Item) (tokens : List Item)
-      → from before (t ∷ tokens) ≡ goes (is_newline t.token.kind) (says_at table text before t) (from (before ++ t ∷ []) tokens)
+      → from before (t ∷ tokens) ≡ goes (is_newline t.token.kind) (line_says table text before t) (from (before ++ t ∷ []) tokens)
   from_next before t tokens =
-      ap (λ later. goes (is_newline t.token.kind) (says_at table text before t) later)
+      ap (λ later. goes (is_newline t.token.kind) (line_says table text before t) later)
       (ap (λ w. decided table e text w (and_then (judged (outer text) before) (taken table text (waiting_behind nothing before) t)) tokens ending) (sym (waiting_push nothing before t))
       ∙ ap (λ r. decided table e text (waiting_behind nothing (before ++ t ∷ [])) r tokens ending) (sym (judged_push (outer text) before t)))
 
   sound_step : (before : List Item) (t : Item) (tokens : List Item) (later : Answer) (b : Bool) (d : Option Answer) → AreTokens before → AreSilent text [] before
-      → is_newline t.token.kind ≡ b → says_at table text before t ≡ d → (AreSilent text [] (before ++ t ∷ []) → Decides (before ++ t ∷ tokens) later)
+      → is_newline t.token.kind ≡ b → line_says table text before t ≡ d → (AreSilent text [] (before ++ t ∷ []) → Decides (before ++ t ∷ tokens) later)
       → Decides (before ++ t ∷ tokens) (goes b d later)
   sound_step before t tokens later false d a s l h more = more (silent_push text [] before t s (λ x. let z : true ≡ false = sym x ∙ l in absurd (cc)))
-  sound_step before t tokens later true None a s l h more = more (silent_push text [] before t s (λ x. speaks table text before t a None h))
+  sound_step before t tokens later true None a s l h more = more (silent_push text [] before t s (λ x. line_tells table text before t a None h))
   sound_step before t tokens later true (Some answer) a s l h more =
-      inl (record { before = before; newline = t; after = tokens; joined = refl; line = l; first = s; says = speaks table text before t a (Some answer) h })
+      inl (record { before = before; newline = t; after = tokens; joined = refl; line = l; first = s; says = line_tells table text before t a (Some answer) h })
 
   sound : (tokens before : List Item) → AreTokens before → AreTokens tokens → AreSilent text [] before → Decides (before ++ tokens) (from before tokens)
   sound [] before a n s =
       subst (λ x. Decides x (at_last e text (waiting_behind nothing before) (judged (outer text) before) ending)) (sym (append-nil before)) (inr (record { silent = s; says = end_told text before e a ending }))
   sound (t ∷ tokens) before a n s =
       subst (λ x. Decides (before ++ t ∷ tokens) x) (sym (from_next before t tokens))
-      (sound_step before t tokens (from (before ++ t ∷ []) tokens) (is_newline t.token.kind) (says_at table text before t) a s refl refl
+      (sound_step before t tokens (from (before ++ t ∷ []) tokens) (is_newline t.token.kind) (line_says table text before t) a s refl refl
       (λ x. subst (λ y. Decides y (from (before ++ t ∷ []) tokens)) (append_assoc before (t ∷ []) tokens) (sound tokens (before ++ t ∷ []) (tokens_push before t a n.0) n.1 x)))
 
   pass_step : (before : List Item) (t : Item) (later : Answer) (b : Bool) → is_newline t.token.kind ≡ b → (is_newline t.token.kind ≡ true → IsSilent text before t)
-      → goes b (says_at table text before t) later ≡ later
+      → goes b (line_says table text before t) later ≡ later
   pass_step before t later false l h = refl
-  pass_step before t later true l h = ap (λ d. unwrap_or d later) (silent table text before t (h l))
+  pass_step before t later true l h = ap (λ d. unwrap_or d later) (line_silent table text before t (h l))
 
   walk : (middle before others : List Item) → AreSilent text before middle → from before (middle ++ others) ≡ from (before ++ middle) others
   walk [] before others s = ap (λ x. from x others) (sym (append-nil before))
@@ -284,9 +311,9 @@ module _ (table : AliasTable) (e : Bool) (text : List ℕ) (ending : Ending) whe
       ∙ (walk middle (before ++ t ∷ []) others s.1 ∙ ap (λ x. from x others) (append_assoc before (t ∷ []) middle)))
 
   at_line : (before : List Item) (t : Item) (later answer : Answer) → is_newline t.token.kind ≡ true → Says text before t answer
-      → goes (is_newline t.token.kind) (says_at table text before t) later ≡ answer
+      → goes (is_newline t.token.kind) (line_says table text before t) later ≡ answer
   at_line before t later answer l h =
-      ap (λ b. goes b (says_at table text before t) later) l ∙ ap (λ d. unwrap_or d later) (says table text before t answer h)
+      ap (λ b. goes b (line_says table text before t) later) l ∙ ap (λ d. unwrap_or d later) (line_told table text before t answer h)
 
   by_newline : (tokens : List Item) (answer : Answer) → NewlineDecides text tokens answer → from [] tokens ≡ answer
   by_newline tokens answer n =

@@ -1,18 +1,16 @@
 -- The faults of a text's tokens, and what ends these, stand in the text.
-use Rattle.std.proofs.Common.{◌≡◌, inl, inr, ℕ, zero, suc, ◌+◌, ◌-◌, ◌<◌, ◌≤◌, nat_eq, Bool, true, List, [], ◌∷◌, ◌++◌, length, take, drop, min, Option, Some, None, Result, refl, sym, subst, arith}
+use Rattle.std.proofs.Common.{◌≡◌, inl, inr, ℕ, zero, suc, ◌+◌, ◌-◌, ◌<◌, ◌≤◌, Bool, true, List, [], ◌∷◌, ◌++◌, length, drop, Option, Some, None, Result, refl, sym, subst, arith}
 use Rattle.std.specs.Option.{unwrap_or}
-use Rattle.std.proofs.Math.Nat.{min-le_right}
-use Rattle.std.proofs.lemmas.List.{length-take, length-drop}
-use Rattle.std.proofs.lemmas.List.Quantifiers.{position-Some}
+use Rattle.std.proofs.lemmas.List.{length-drop}
 use Rattle.sh_scanner.specs.declared.token.TokenKind.{TokenKind}
-use Rattle.sh_scanner.specs.FirstToken.{FirstToken, Found, Unfinished, NulAt, DeepAt, IsFirst, nul_in}
+use Rattle.sh_scanner.specs.FirstToken.{FirstToken, Found, Unfinished, DeepAt, IsFirst}
 use Rattle.sh_scanner.specs.Found.{first_token}
 use Rattle.sh_scanner.proofs.Laws.{is_first}
 use Rattle.sh_tree.specs.declared.tree.Complete.{Complete}
 use Rattle.sh_parse_lines.specs.declared.item.Item.{Item}
 use Rattle.sh_parse_lines.specs.Bodies.{bodies_size}
 use Rattle.sh_parse_lines.specs.Waiting.{Waiting, nothing, behind_token, due_at}
-use Rattle.sh_parse_lines.specs.Items.{FirstItem, FoundItem, NoItem, first_item, item_of, with_bodies, with_nul, no_end}
+use Rattle.sh_parse_lines.specs.Items.{FirstItem, FoundItem, NoItem, first_item, item_of, with_bodies}
 use Rattle.sh_parse_lines.specs.Stream.{Ending, AtEnd, Cut, Items, with_item, with_first, items_from, items_of, waiting_behind}
 use Rattle.sh_parse_words.specs.declared.fault.PartFault.{PartFault}
 use Rattle.sh_parse_programs.specs.Words.{Reader}
@@ -33,47 +31,22 @@ EndingIn size (Cut at) = at ≤ size
 abbrev FirstIn : ℕ → FirstToken → Type 0
 FirstIn size (Found kind start stop) = Unit {0}
 FirstIn size Unfinished = Unit {0}
-FirstIn size (NulAt place) = place ≤ size
 FirstIn size (DeepAt place) = place ≤ size
 
 abbrev NoItemIn : ℕ → FirstItem → Type 0
 NoItemIn size (FoundItem kind start stop after) = Unit {0}
 NoItemIn size (NoItem fault) = FirstIn size fault
 
-nul_place : (bs : List ℕ) (p : ℕ) → nul_in bs ≡ Some p → p < length bs
-nul_place bs p h = (position-Some (λ b. nat_eq b 0) bs p 0 h).0
-
-no_end_in : (size stop : ℕ) (bs : List ℕ) → stop + length bs ≤ size → (z : Option ℕ) → nul_in bs ≡ z → NoItemIn size (no_end stop z)
-no_end_in size stop bs h None e = tt
-no_end_in size stop bs h (Some p) e = let a = nul_place bs p e in omega (a, h, arith)
-
-with_nul_in : (size : ℕ) (kind : TokenKind) (start stop n : ℕ) (bs : List ℕ) → stop + length bs ≤ size → (z : Option ℕ) → nul_in bs ≡ z → NoItemIn size (with_nul kind start stop n z)
-with_nul_in size kind start stop n bs h None e = tt
-with_nul_in size kind start stop n bs h (Some p) e = let a = nul_place bs p e in omega (a, h, arith)
-
-taken_size : (n : ℕ) (bs : List ℕ) → length (take n bs) ≤ length bs
-taken_size n bs =
-    let a : length (take n bs) ≡ min n (length bs) = length-take n bs in
-    let b : min n (length bs) ≤ length bs = min-le_right n (length bs) in
-    omega (a, b, arith)
-
-with_bodies_in : (size : ℕ) (kind : TokenKind) (start stop : ℕ) (bs : List ℕ) → stop + length bs ≤ size → (o : Option ℕ) → NoItemIn size (with_bodies kind start stop bs o)
-with_bodies_in size kind start stop bs h None = no_end_in size stop bs h (nul_in bs) refl
-with_bodies_in size kind start stop bs h (Some n) =
-    let a = taken_size n bs in
-    with_nul_in size kind start stop n (take n bs) (omega (a, h, arith)) (nul_in (take n bs)) refl
+with_bodies_in : (size : ℕ) (kind : TokenKind) (start stop : ℕ) (o : Option ℕ) → NoItemIn size (with_bodies kind start stop o)
+with_bodies_in size kind start stop None = tt
+with_bodies_in size kind start stop (Some n) = tt
 
 item_of_in : (e : Bool) (limit : ℕ) (w : Waiting) (bytes : List ℕ) (f : FirstToken) → IsFirst e limit bytes f → NoItemIn (length bytes) (item_of e w bytes f)
-item_of_in e limit w bytes (Found kind start stop) x =
-    let rest = x.0.1.0 in
-    let to : stop + length rest ≡ length bytes = x.0.1.3 in
-    let a : length (drop stop bytes) ≡ length bytes - stop = length-drop stop bytes in
-    with_bodies_in (length bytes) kind start stop (drop stop bytes) (omega (to, a, arith)) (bodies_size e (due_at kind w) (drop stop bytes))
+item_of_in e limit w bytes (Found kind start stop) x = with_bodies_in (length bytes) kind start stop (bodies_size e (due_at kind w) (drop stop bytes))
 item_of_in e limit w bytes Unfinished x = tt
-item_of_in e limit w bytes (NulAt place) x = let a = nul_place bytes place x.2 in omega (a, arith)
 item_of_in e limit w bytes (DeepAt place) x =
-    let rest = x.0.0 in
-    let to : place + length rest ≡ length bytes = x.0.2 in
+    let rest = x.0 in
+    let to : place + length rest ≡ length bytes = x.2 in
     omega (to, arith)
 
 first_item_in : (e : Bool) (limit : ℕ) (w : Waiting) (bytes : List ℕ) → NoItemIn (length bytes) (first_item e limit w bytes)
@@ -96,7 +69,6 @@ told_in : (at : ℕ) (text : List ℕ) → at ≤ length text → (first : First
 told_in at text l (FoundItem kind start stop after) h = tt
 told_in at text l (NoItem (Found kind start stop)) h = tt
 told_in at text l (NoItem Unfinished) h = tt
-told_in at text l (NoItem (NulAt place)) h = let a : length (drop at text) ≡ length text - at = length-drop at text in omega (a, l, h, arith)
 told_in at text l (NoItem (DeepAt place)) h = let a : length (drop at text) ≡ length text - at = length-drop at text in omega (a, l, h, arith)
 
 pub cut_fault_in : (left : ℕ) (text : List ℕ) (w : Waiting) (at : ℕ) → at ≤ length text → SomeIn (length text) (cut_fault left text w at)

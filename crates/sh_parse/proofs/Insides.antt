@@ -1,9 +1,9 @@
 -- The items of a text stand in it.
-use Rattle.std.proofs.Common.{◌≡◌, inl, inr, ℕ, zero, suc, ◌+◌, ◌-◌, ◌<◌, ◌≤◌, Bool, List, [], ◌∷◌, ◌++◌, length, take, drop, Option, Some, None, refl, sym, ap, subst, ◌∙◌, arith}
+use Rattle.std.proofs.Common.{◌≡◌, inl, inr, ℕ, zero, suc, ◌+◌, ◌-◌, ◌<◌, ◌≤◌, Bool, List, [], ◌∷◌, ◌++◌, length, drop, Option, Some, None, refl, sym, ap, subst, ◌∙◌, arith}
 use Rattle.std.proofs.lemmas.List.{length-drop}
 use Rattle.sh_scanner_base.specs.declared.here.Delimiter.{Delimiter}
 use Rattle.sh_scanner.specs.declared.token.TokenKind.{TokenKind}
-use Rattle.sh_scanner.specs.FirstToken.{FirstToken, Found, Unfinished, NulAt, DeepAt, IsFirst, nul_in}
+use Rattle.sh_scanner.specs.FirstToken.{FirstToken, Found, Unfinished, DeepAt, IsFirst}
 use Rattle.sh_scanner.specs.Found.{first_token}
 use Rattle.sh_scanner.specs.Placed.{IsPlaced}
 use Rattle.sh_scanner.proofs.Complete.{complete}
@@ -12,7 +12,7 @@ use Rattle.sh_scanner.proofs.Places.{placed_shown}
 use Rattle.sh_parse_lines.specs.declared.item.Item.{Item}
 use Rattle.sh_parse_lines.specs.Bodies.{AreBodies, bodies_size}
 use Rattle.sh_parse_lines.specs.Waiting.{Waiting, nothing, behind_token, due_at}
-use Rattle.sh_parse_lines.specs.Items.{FirstItem, FoundItem, NoItem, first_item, item_of, with_bodies, with_nul, no_end}
+use Rattle.sh_parse_lines.specs.Items.{FirstItem, FoundItem, NoItem, first_item, item_of, with_bodies}
 use Rattle.sh_parse_lines.specs.Stream.{Items, with_item, with_first, items_from, items_of}
 use Rattle.sh_parse_lines.proofs.Defined.{bodies_defined}
 use Rattle.sh_parse.specs.Insides.{AreInside}
@@ -22,11 +22,11 @@ first_placed : (e : Bool) (limit : ℕ) (text : List ℕ) (at : ℕ) (kind : Tok
     → IsPlaced at (length text) (record { kind = kind; span = record { start = at + start; «end» = at + stop } })
 first_placed e limit text at kind start stop h =
     let f : IsFirst e limit (drop at text) (Found kind start stop) = subst (λ x. IsFirst e limit (drop at text) x) h (is_first e limit (drop at text)) in
-    let front = f.0.0 in
-    let rest = f.0.1.0 in
-    let token = f.0.1.1 in
-    let from : start + length front ≡ length (drop at text) = f.0.1.2 in
-    let to : stop + length rest ≡ length (drop at text) = f.0.1.3 in
+    let front = f.0 in
+    let rest = f.1.0 in
+    let token = f.1.1 in
+    let from : start + length front ≡ length (drop at text) = f.1.2 in
+    let to : stop + length rest ≡ length (drop at text) = f.1.3 in
     let c = complete e limit (drop at text) front rest kind token in
     placed_shown e limit text at (drop at text) c.state front rest kind start stop refl c.is (sym c.kind_is) (omega (from, arith)) (omega (to, arith))
 
@@ -53,22 +53,17 @@ placed_inside at size start stop n kind k p l b =
 drop_drop : (text : List ℕ) (at stop : ℕ) → length (drop stop (drop at text)) ≡ (length text - at) - stop
 drop_drop text at stop = length-drop stop (drop at text) ∙ ap (λ n. n - stop) (length-drop at text)
 
-by_nul : (at size start stop n k s after : ℕ) (kind kind' : TokenKind) (z : Option ℕ) → with_nul kind' k s n z ≡ FoundItem kind start stop after
+same_item : (start stop n k s after : ℕ) (kind kind' : TokenKind) → FoundItem kind' k s (s + n) ≡ FoundItem kind start stop after
     → (kind' ≡ kind) × (k ≡ start) × (s ≡ stop) × (s + n ≡ after)
-by_nul at size start stop n k s after kind kind' None h = (cc, cc, cc, cc)
-by_nul at size start stop n k s after kind kind' (Some place) h = absurd (cc)
-
-no_found : (s : ℕ) (z : Option ℕ) (kind : TokenKind) (start stop after : ℕ) → no_end s z ≡ FoundItem kind start stop after → ⊥
-no_found s None kind start stop after h = cc
-no_found s (Some place) kind start stop after h = cc
+same_item start stop n k s after kind kind' h = (cc, cc, cc, cc)
 
 module _ (e : Bool) (text : List ℕ) (w : Waiting) (at : ℕ) (l : at ≤ length text) (kind : TokenKind) (start stop after : ℕ) (k : kind ≡ TokenKind.End → ⊥) where
   by_bodies : (kind' : TokenKind) (a b : ℕ) (o : Option ℕ) → IsPlaced at (length text) (record { kind = kind'; span = record { start = at + a; «end» = at + b } })
-      → bodies_size e (due_at kind' w) (drop b (drop at text)) ≡ o → with_bodies kind' a b (drop b (drop at text)) o ≡ FoundItem kind start stop after
+      → bodies_size e (due_at kind' w) (drop b (drop at text)) ≡ o → with_bodies kind' a b o ≡ FoundItem kind start stop after
       → ItemInside at (length text) start stop after
-  by_bodies kind' a b None p s h = absurd (no_found b (nul_in (drop b (drop at text))) kind start stop after h)
+  by_bodies kind' a b None p s h = absurd (cc)
   by_bodies kind' a b (Some n) p s h =
-      let q = by_nul at (length text) start stop n a b after kind kind' (nul_in (take n (drop b (drop at text)))) h in
+      let q = same_item start stop n a b after kind kind' h in
       let i = placed_inside at (length text) a b n kind' (λ x. k (sym q.0 ∙ x)) p l
       (subst (λ m. n ≤ m) (drop_drop text at b) (bodies_inside e (due_at kind' w) (drop b (drop at text)) n s)) in
       let same : b + n ≡ after = q.3 in
@@ -81,7 +76,6 @@ module _ (e : Bool) (text : List ℕ) (w : Waiting) (at : ℕ) (l : at ≤ lengt
   by_token : (first : FirstToken) → first_token e (length text) (drop at text) ≡ first → item_of e w (drop at text) first ≡ FoundItem kind start stop after → ItemInside at (length text) start stop after
   by_token (Found kind' a b) f h = by_bodies kind' a b (bodies_size e (due_at kind' w) (drop b (drop at text))) (first_placed e (length text) text at kind' a b f) refl h
   by_token Unfinished f h = absurd (cc)
-  by_token (NulAt place) f h = absurd (cc)
   by_token (DeepAt place) f h = absurd (cc)
 
   pub found_inside : first_item e (length text) w (drop at text) ≡ FoundItem kind start stop after → ItemInside at (length text) start stop after

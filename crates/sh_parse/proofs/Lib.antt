@@ -1,5 +1,6 @@
 pub mod Turning
 pub mod Lines
+pub mod Nuls
 pub mod Decisions
 pub mod Insides
 pub mod Faults

@@ -1,6 +1,5 @@
 -- What a newline says.
-use Rattle.std.proofs.Common.{◌≡◌, ℕ, true, false, List, Some, None, Result, Ok, ap, ◌∙◌, if◌then◌else◌}
-use Rattle.std.specs.Option.{unwrap_or}
+use Rattle.std.proofs.Common.{◌≡◌, ℕ, true, false, List, Option, Some, Result, Ok, Err, ap, ◌∙◌, if◌then◌else◌}
 use Rattle.sh_parse_lines.specs.declared.item.Item.{Item}
 use Rattle.sh_parse_lines.specs.Waiting.{Waiting, due_at}
 use Rattle.sh_parse_words.specs.declared.fault.PartFault.{PartFault}
@@ -8,17 +7,31 @@ use Rattle.sh_parse_programs.specs.Documents.{bodies_of}
 use Rattle.sh_parse_programs.specs.Judging.{Judged, is_none, are_whole}
 use Rattle.sh_parse_programs.specs.Programs.{read_text}
 use Rattle.sh_parse.specs.Aliases.{AliasTable}
-use Rattle.sh_parse.specs.Reading.{Answer, completed, is_newline, refusal, said, taken}
+use Rattle.sh_parse.specs.Reading.{Answer, Answers, completed, refusal, said, taken}
+use Rattle.sh_parse.specs.Turns.{SaysFault, Tells, turn_of}
 use Rattle.sh_parse.specs.declared.Reading.{Reading}
+use Rattle.sh_parse.specs.declared.ParseFault.{ParseFault}
+use Rattle.sh_parse.specs.declared.ParseFault.TheVariants.{Refused, Unclosed, BadSubstitution, TooDeep, NoMemory}
 
 -- a whole command, and bodies behind the newline
-pub whole_said : (table : AliasTable) (text : List ℕ) (w : Waiting) (t : Item) (j : Result Judged PartFault) (front : Judged) (r : Reading) (later : Answer)
-    → is_newline t.token.kind ≡ true → j ≡ Ok front → is_none front ≡ false → are_whole front ≡ true
-    → completed front t.«end» (bodies_of read_text 500 text (due_at t.token.kind w) t) ≡ Ok r
-    → unwrap_or (if is_newline t.token.kind then said table text w t j else None) later ≡ Ok r
-whole_said table text w t j front r later l e n h c =
-    ap (λ b. unwrap_or (if b then said table text w t j else None) later) l
-    ∙ ap (λ z. unwrap_or (said table text w t z) later) e
-    ∙ ap (λ b. unwrap_or (if b then Some (Ok (Reading.Blank t.«end»)) else if are_whole front then Some (completed front t.«end» (bodies_of read_text 500 text (due_at t.token.kind w) t)) else refusal (taken table text w t front)) later) n
-    ∙ ap (λ b. unwrap_or (if b then Some (completed front t.«end» (bodies_of read_text 500 text (due_at t.token.kind w) t)) else refusal (taken table text w t front)) later) h
-    ∙ c
+pub whole_said : (table : AliasTable) (text : List ℕ) (w : Waiting) (t : Item) (j : Result Judged PartFault) (front : Judged)
+    → j ≡ Ok front → is_none front ≡ false → are_whole front ≡ true
+    → said table text w t j ≡ Some (completed front t.«end» (bodies_of read_text 500 text (due_at t.token.kind w) t))
+whole_said table text w t j front e n h =
+    ap (λ z. said table text w t z) e
+    ∙ ap (λ b. if b then Some (Ok (Reading.Blank t.«end»)) else if are_whole front then Some (completed front t.«end» (bodies_of read_text 500 text (due_at t.token.kind w) t)) else refusal t.«end» (taken table text w t front)) n
+    ∙ ap (λ b. if b then Some (completed front t.«end» (bodies_of read_text 500 text (due_at t.token.kind w) t)) else refusal t.«end» (taken table text w t front)) h
+
+-- a fault that is said is told
+pub fault_told : (f : ParseFault) (known : Answer) (said : Option Answer) → Answers (Err f) known → said ≡ Some known → SaysFault f said
+fault_told NoMemory known said h s = tt
+fault_told (Refused at used) known said h s = s ∙ ap Some h
+fault_told (Unclosed at) known said h s = s ∙ ap Some h
+fault_told (BadSubstitution at used) known said h s = s ∙ ap Some h
+fault_told (TooDeep at used) known said h s = s ∙ ap Some h
+
+-- an answer that is said is told
+pub whole_tells : (table : AliasTable) (text : List ℕ) (j : Result Judged PartFault) (w : Waiting) (t : Item) (nul : Option ℕ) (answer : Result Reading ParseFault) (known : Answer)
+    → said table text w t j ≡ Some known → Answers answer known → Tells table text j w t nul (turn_of answer)
+whole_tells table text j w t nul (Ok r) known s h = s ∙ ap Some h
+whole_tells table text j w t nul (Err f) known s h = fault_told f known (said table text w t j) h s

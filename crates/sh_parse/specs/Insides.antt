@@ -1,5 +1,5 @@
 -- Where the items of a text stand in it; and what each answer tells of its text: how many of its bytes are read, where it ends, that more
--- is asked for only before the end, and that the place of a fault is one of the text.
+-- is asked for only before the end, and that the place of a fault is one of the text, as is the decision place behind which reading goes on.
 use Rattle.std.specs.Prelude.{◌≡◌, ◌⊎◌, ℕ, ◌<◌, ◌≤◌, Bool, false, List, [], ◌∷◌, length, Ok, Err}
 use Rattle.sh_parse_lines.specs.declared.item.Item.{Item}
 use Rattle.sh_parse.specs.Reading.{Answer}
@@ -11,9 +11,9 @@ IsInside e text (Ok (Complete tree used)) = (0 < used) × (used ≤ length text)
 IsInside e text (Ok (Blank used)) = ((0 < used) ⊎ (text ≡ [])) × (used ≤ length text)
 IsInside e text (Ok More) = e ≡ false
 IsInside e text (Err (Unclosed at)) = at ≡ length text
-IsInside e text (Err (Refused at)) = at ≤ length text
-IsInside e text (Err (BadSubstitution at)) = at ≤ length text
-IsInside e text (Err (TooDeep at)) = at ≤ length text
+IsInside e text (Err (Refused at used)) = (at ≤ length text) × (0 < used) × (used ≤ length text)
+IsInside e text (Err (BadSubstitution at used)) = (at ≤ length text) × (0 < used) × (used ≤ length text)
+IsInside e text (Err (TooDeep at used)) = (at ≤ length text) × (0 < used) × (used ≤ length text)
 IsInside e text (Err NoMemory) = Unit {0}
 
 -- the items stand one behind another, from `at` on, in a text of so many bytes

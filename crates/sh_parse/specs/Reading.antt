@@ -1,5 +1,5 @@
 -- What a text reads as: its first complete command, blank lines, a fault, or nothing yet (XCU 2.1, 2.3, 2.10).
-use Rattle.std.specs.Prelude.{◌≡◌, ℕ, ◌-◌, Bool, true, false, List, [], ◌∷◌, ◌++◌, length, Option, Some, None, Result, Ok, Err, if◌then◌else◌}
+use Rattle.std.specs.Prelude.{◌≡◌, ℕ, ◌-◌, Bool, true, false, nat_eq, nat_lt, List, [], ◌∷◌, ◌++◌, length, take, position, Option, Some, None, Result, Ok, Err, if◌then◌else◌}
 use Rattle.std.specs.Option.{option_map, unwrap_or}
 use Rattle.sh_token_base.specs.Shell.{complete}
 use Rattle.sh_scanner_base.specs.declared.operator.Operator.{Operator}
@@ -24,12 +24,42 @@ use Rattle.sh_parse.specs.declared.ParseFault.TheVariants.{Refused, Unclosed, Ba
 abbrev pub Answer : Type 0
 Answer = Result Reading ParseFault
 
-abbrev pub fault_of : PartFault → ParseFault
-fault_of (fault.BadSubstitution at) = BadSubstitution at
-fault_of (fault.TooDeep at) = TooDeep at
-fault_of (fault.Refused at) = Refused at
-fault_of fault.NoMemory = NoMemory
+-- a fault of the tokens before a decision place, up to and with which so many bytes stand
+abbrev pub fault_of : ℕ → PartFault → ParseFault
+fault_of used (fault.BadSubstitution at) = BadSubstitution at used
+fault_of used (fault.TooDeep at) = TooDeep at used
+fault_of used (fault.Refused at) = Refused at used
+fault_of used fault.NoMemory = NoMemory
 
+-- ---- a NUL, which no text of a script has, is a fault at its place
+abbrev pub nul_in : List ℕ → Option ℕ
+nul_in bytes = position (λ b. nat_eq b 0) bytes
+
+-- the fault is told, and not a NUL at this place
+abbrev pub stands_before : ParseFault → ℕ → Bool
+stands_before (Refused at used) nul = nat_lt at nul
+stands_before (Unclosed at) nul = nat_lt at nul
+stands_before (BadSubstitution at used) nul = nat_lt at nul
+stands_before (TooDeep at used) nul = nat_lt at nul
+stands_before NoMemory nul = true
+
+-- what is answered where the bytes up to and with a decision place, so many, have a NUL, and their tokens alone would be answered so: the
+-- fault at the lesser place
+abbrev pub before_nul : ℕ → ℕ → Answer → Answer
+before_nul nul used (Ok r) = Err (Refused nul used)
+before_nul nul used (Err f) = if stands_before f nul then Err f else Err (Refused nul used)
+
+abbrev pub unless_nul : Option ℕ → ℕ → Answer → Answer
+unless_nul None used answer = answer
+unless_nul (Some nul) used answer = before_nul nul used answer
+
+-- the same where the tokens alone may say nothing
+abbrev pub with_nul : Option ℕ → ℕ → Option Answer → Option Answer
+with_nul None used said = said
+with_nul (Some nul) used None = Some (Err (Refused nul used))
+with_nul (Some nul) used (Some answer) = Some (before_nul nul used answer)
+
+-- ----
 abbrev pub is_newline : TokenKind → Bool
 is_newline (TokenKind.Operator Operator.Newline) = true
 is_newline kind = false
@@ -41,38 +71,49 @@ taken table text w item j = with_item read_text 500 text (due_at item.token.kind
 -- the tokens are a complete command, the last of its here-documents having these bodies
 abbrev pub completed : Judged → ℕ → Result (List Parts) PartFault → Answer
 completed j used (Ok others) = Ok (Complete (tree_by (record j { bodies = j.bodies ++ others })) used)
-completed j used (Err f) = Err (fault_of f)
+completed j used (Err f) = Err (fault_of used f)
 
-abbrev pub refusal : Result Judged PartFault → Option Answer
-refusal (Ok j) = None
-refusal (Err f) = Some (Err (fault_of f))
+abbrev pub refusal : ℕ → Result Judged PartFault → Option Answer
+refusal used (Ok j) = None
+refusal used (Err f) = Some (Err (fault_of used f))
 
--- what a newline says of the tokens before it: its bodies belong to them; where they are no whole command it is a token like others
+-- what the tokens before a newline say there: its bodies belong to them; where they are no whole command it is a token like others
 abbrev pub said : AliasTable → List ℕ → Waiting → Item → Result Judged PartFault → Option Answer
-said table text w newline (Err f) = Some (Err (fault_of f))
+said table text w newline (Err f) = Some (Err (fault_of newline.«end» f))
 said table text w newline (Ok j) =
     if is_none j then Some (Ok (Blank newline.«end»))
     else if are_whole j then Some (completed j newline.«end» (bodies_of read_text 500 text (due_at newline.token.kind w) newline))
-    else refusal (taken table text w newline j)
+    else refusal newline.«end» (taken table text w newline j)
 
 -- what the end of the input says where no token begins behind these, from `at` on: what is told of the one that isn't finished there, or
 -- that it isn't
 abbrev pub cut_short : List ℕ → Waiting → Judged → ℕ → Answer
-cut_short text w j at = Err (unwrap_or (option_map fault_of (cut_fault (500 - open_in j) text w at)) (Unclosed (length text)))
+cut_short text w j at = Err (unwrap_or (option_map (fault_of (length text)) (cut_fault (500 - open_in j) text w at)) (Unclosed (length text)))
+
+-- what the tokens say at the end of the input, and where the end of the input cuts off what stands behind them, from `at` on
+abbrev pub at_end : List ℕ → Result Judged PartFault → Answer
+at_end text (Ok j) =
+    if is_none j then Ok (Blank (length text)) else if are_whole j then Ok (Complete (tree_by j) (length text)) else Err (Unclosed (length text))
+at_end text (Err f) = Err (fault_of (length text) f)
+
+abbrev pub at_cut : List ℕ → Waiting → Result Judged PartFault → ℕ → Answer
+at_cut text w (Ok j) at = cut_short text w j at
+at_cut text w (Err f) at = Err (fault_of (length text) f)
 
 -- what the end of the text says, where no newline says anything: it is a decision place if nothing comes behind it
 abbrev pub at_last : Bool → List ℕ → Waiting → Result Judged PartFault → Ending → Answer
-at_last e text w (Ok j) AtEnd =
-    if is_none j then Ok (Blank (length text)) else if are_whole j then Ok (Complete (tree_by j) (length text)) else Err (Unclosed (length text))
-at_last e text w (Ok j) (Cut at) = if e then cut_short text w j at else Ok More
-at_last e text w (Err f) AtEnd = Err (fault_of f)
-at_last e text w (Err f) (Cut at) = if e then Err (fault_of f) else Ok More
+at_last e text w j AtEnd = unless_nul (nul_in text) (length text) (at_end text j)
+at_last e text w j (Cut at) = if e then unless_nul (nul_in text) (length text) (at_cut text w j at) else Ok More
+
+-- what a newline says: what the tokens before it do, or that a NUL stands before its end
+abbrev pub newline_says : AliasTable → List ℕ → Waiting → Item → Result Judged PartFault → Option Answer
+newline_says table text w newline j = with_nul (nul_in (take newline.«end» text)) newline.«end» (said table text w newline j)
 
 -- what the first decision place says that says anything; j: the tokens before, or their first fault; w: what waits there
 abbrev pub decided : AliasTable → Bool → List ℕ → Waiting → Result Judged PartFault → List Item → Ending → Answer
 decided table e text w j [] ending = at_last e text w j ending
 decided table e text w j (t ∷ tokens) ending =
-    unwrap_or (if is_newline t.token.kind then said table text w t j else None)
+    unwrap_or (if is_newline t.token.kind then newline_says table text w t j else None)
     (decided table e text (behind_token t.token.kind w) (and_then j (taken table text w t)) tokens ending)
 
 unfoldable pub reading : AliasTable → Bool → List ℕ → Answer
@@ -82,7 +123,7 @@ reading table e text = decided table e text nothing (Ok (none_of complete)) (ite
 abbrev pub Answers : Answer → Answer → Type 0
 Answers (Ok r) answer = answer ≡ Ok r
 Answers (Err NoMemory) answer = Unit {0}
-Answers (Err (Refused at)) answer = answer ≡ Err (Refused at)
+Answers (Err (Refused at used)) answer = answer ≡ Err (Refused at used)
 Answers (Err (Unclosed at)) answer = answer ≡ Err (Unclosed at)
-Answers (Err (BadSubstitution at)) answer = answer ≡ Err (BadSubstitution at)
-Answers (Err (TooDeep at)) answer = answer ≡ Err (TooDeep at)
+Answers (Err (BadSubstitution at used)) answer = answer ≡ Err (BadSubstitution at used)
+Answers (Err (TooDeep at used)) answer = answer ≡ Err (TooDeep at used)

@@ -1,5 +1,5 @@
 -- One turn of a reading: the next token, and what it decides. Only proofs need this.
-use Rattle.std.specs.Prelude.{◌≡◌, ℕ, suc, ◌<◌, ◌≤◌, Bool, List, ◌∷◌, length, Result, Ok, Err}
+use Rattle.std.specs.Prelude.{◌≡◌, ℕ, suc, ◌<◌, ◌≤◌, Bool, List, ◌∷◌, length, take, Option, Some, None, Result, Ok, Err, if◌then◌else◌}
 use Rattle.sh_parse_lines.specs.declared.item.Item.{Item}
 use Rattle.sh_parse_lines.specs.Waiting.{Waiting, behind_token}
 use Rattle.sh_parse_lines.specs.Stream.{Ending, items_from}
@@ -7,9 +7,10 @@ use Rattle.sh_parse_words.specs.declared.fault.PartFault.{PartFault}
 use Rattle.sh_parse_programs.specs.Judging.{Judged}
 use Rattle.sh_parse.specs.Aliases.{AliasTable}
 use Rattle.sh_parse_programs.specs.Results.{and_then}
-use Rattle.sh_parse.specs.Reading.{Answer, taken, decided, Answers}
+use Rattle.sh_parse.specs.Reading.{Answer, nul_in, stands_before, taken, said, decided, Answers}
+use Rattle.sh_parse.specs.declared.Reading.{Reading}
 use Rattle.sh_parse.specs.declared.ParseFault.{ParseFault}
-use Rattle.sh_parse.specs.declared.ParseFault.TheVariants.{NoMemory}
+use Rattle.sh_parse.specs.declared.ParseFault.TheVariants.{Refused, Unclosed, BadSubstitution, TooDeep, NoMemory}
 use Rattle.sh_parse.specs.declared.turn.Turn.{Turn}
 
 -- what is read where the tokens before are judged so, this waits, and the next one begins at `at`; less than n are to come
@@ -18,23 +19,53 @@ read_from n table e text j w at = decided table e text w j (items_from n e text 
 
 -- a turn goes on from a later place, and the reading stays what it is; or it gives the reading
 abbrev pub Turns : AliasTable → Bool → List ℕ → Result Judged PartFault → Waiting → ℕ → Result Turn ParseFault → Type 0
-Turns table e text j w at (Ok (Turn.On k v place)) =
-    (at < place) × (place ≤ length text) × ((n : ℕ) → read_from (suc n) table e text j w at ≡ read_from n table e text k v place)
+Turns table e text j w at (Ok (Turn.On k v place nul)) =
+    (at < place) × (place ≤ length text) × ((n : ℕ) → read_from (suc n) table e text j w at ≡ read_from n table e text k v place) × (nul ≡ nul_in (take place text))
 Turns table e text j w at (Ok (Turn.Read reading)) = (n : ℕ) → read_from (suc n) table e text j w at ≡ Ok reading
 Turns table e text j w at (Err fault) = (n : ℕ) → Answers (Err fault) (read_from (suc n) table e text j w at)
 
--- the same of a token that was found
-abbrev pub Takes : AliasTable → Bool → List ℕ → Result Judged PartFault → Waiting → Item → ℕ → Result Turn ParseFault → Type 0
-Takes table e text j w t place (Ok (Turn.On k v after)) =
-    (after ≡ place) × (v ≡ behind_token t.token.kind w)
+-- the same of a token that was found; nul: the first NUL before its end
+abbrev pub Takes : AliasTable → Bool → List ℕ → Result Judged PartFault → Waiting → Item → Option ℕ → ℕ → Result Turn ParseFault → Type 0
+Takes table e text j w t nul place (Ok (Turn.On k v after next)) =
+    (after ≡ place) × (v ≡ behind_token t.token.kind w) × (next ≡ nul)
     × ((tokens : List Item) (ending : Ending) → decided table e text w j (t ∷ tokens) ending ≡ decided table e text v k tokens ending)
-Takes table e text j w t place (Ok (Turn.Read reading)) =
+Takes table e text j w t nul place (Ok (Turn.Read reading)) =
     (tokens : List Item) (ending : Ending) → decided table e text w j (t ∷ tokens) ending ≡ Ok reading
-Takes table e text j w t place (Err fault) =
+Takes table e text j w t nul place (Err fault) =
     (tokens : List Item) (ending : Ending) → Answers (Err fault) (decided table e text w j (t ∷ tokens) ending)
 
 -- the same of a token that decides nothing
-abbrev pub GoesOn : AliasTable → List ℕ → Result Judged PartFault → Waiting → Item → Result Turn ParseFault → Type 0
-GoesOn table text j w t (Ok (Turn.On k v after)) = (after ≡ t.«end») × (v ≡ behind_token t.token.kind w) × (k ≡ and_then j (taken table text w t))
-GoesOn table text j w t (Ok (Turn.Read reading)) = ⊥
-GoesOn table text j w t (Err fault) = fault ≡ NoMemory
+abbrev pub GoesOn : AliasTable → List ℕ → Result Judged PartFault → Waiting → Item → Option ℕ → Result Turn ParseFault → Type 0
+GoesOn table text j w t nul (Ok (Turn.On k v after next)) =
+    (after ≡ t.«end») × (v ≡ behind_token t.token.kind w) × (k ≡ and_then j (taken table text w t)) × (next ≡ nul)
+GoesOn table text j w t nul (Ok (Turn.Read reading)) = ⊥
+GoesOn table text j w t nul (Err fault) = fault ≡ NoMemory
+
+-- the turn that decides so
+abbrev pub turn_of : Result Reading ParseFault → Result Turn ParseFault
+turn_of (Ok reading) = Ok (Turn.Read reading)
+turn_of (Err fault) = Err fault
+
+-- this fault is said, unless memory was wanting
+abbrev pub SaysFault : ParseFault → Option Answer → Type 0
+SaysFault NoMemory answer = Unit {0}
+SaysFault (Refused at used) answer = answer ≡ Some (Err (Refused at used))
+SaysFault (Unclosed at) answer = answer ≡ Some (Err (Unclosed at))
+SaysFault (BadSubstitution at used) answer = answer ≡ Some (Err (BadSubstitution at used))
+SaysFault (TooDeep at used) answer = answer ≡ Some (Err (TooDeep at used))
+
+-- what the tokens before a newline say there is told, whatever NULs there are
+abbrev pub Tells : AliasTable → List ℕ → Result Judged PartFault → Waiting → Item → Option ℕ → Result Turn ParseFault → Type 0
+Tells table text j w t nul (Ok (Turn.On k v after next)) =
+    (said table text w t j ≡ None) × (after ≡ t.«end») × (v ≡ behind_token t.token.kind w) × (k ≡ and_then j (taken table text w t)) × (next ≡ nul)
+Tells table text j w t nul (Ok (Turn.Read reading)) = said table text w t j ≡ Some (Ok reading)
+Tells table text j w t nul (Err fault) = SaysFault fault (said table text w t j)
+
+-- the fault that is told where a NUL stands at `nul`, and the tokens alone have this one or none
+abbrev pub fault_with_nul : Option ParseFault → ℕ → ℕ → ParseFault
+fault_with_nul None nul used = Refused nul used
+fault_with_nul (Some f) nul used = if stands_before f nul then f else Refused nul used
+
+abbrev pub fault_in : {A : Type 0} → Result A ParseFault → Option ParseFault
+fault_in (Ok x) = None
+fault_in (Err f) = Some f

@@ -10,6 +10,7 @@ ghost use Rattle.sh_parse.specs.Reading.{Answers, reading};
 mod aliases;
 mod fault;
 mod laws;
+mod nul;
 mod turn;
 
 pub use aliases::Aliases;
@@ -36,24 +37,26 @@ pub enum Reading {
 }
 
 /// Why a text is refused. A place is the number of bytes before it. Of two faults at one place `Refused` is told before `TooDeep`,
-/// and that before `BadSubstitution`.
+/// and that before `BadSubstitution`. `used` is how many bytes of the text the reading takes: up to and
+/// with the newline at which the fault is told and the bodies behind that, or the whole text where the input ends. Behind them the
+/// next reading may begin.
 #[derive(Clone, Copy, Debug, PartialEq, Eq, Error)]
 pub enum ParseFault {
     /// The token at `at` can't stand there, whatever comes behind it (XCU 2.10); or the byte at `at` is a NUL, which no text of a script
-    /// has; or the text in the backquotes at `at` is no list of commands (XCU 2.6.3); or the body of a here-document doesn't close the
-    /// form at `at` (XCU 2.7.4).
+    /// has, also in a comment or a body; or the text in the backquotes at `at` is no list of commands (XCU 2.6.3); or the body of a
+    /// here-document doesn't close the form at `at` (XCU 2.7.4).
     #[error("syntax error at byte {at}")]
-    Refused { at: usize },
-    /// The input ends within a token or a command. `at` is the length of the text.
+    Refused { at: usize, used: usize },
+    /// The input ends within a token or a command. `at` is the length of the text, all of which is read.
     #[error("end of input at byte {at}, within a command")]
     Unclosed { at: usize },
     /// The `${` at `at` asks for nothing that there is (XCU 2.6.2).
     #[error("bad substitution at byte {at}")]
-    BadSubstitution { at: usize },
+    BadSubstitution { at: usize, used: usize },
     /// The token or part at `at` opens level 501: compound commands, `${`, `$(`, `$((` and backquotes are levels. Of a word or a body that
     /// has 501 levels by itself it is the part that opens one too many there.
     #[error("nested too deep at byte {at}")]
-    TooDeep { at: usize },
+    TooDeep { at: usize, used: usize },
     /// There was not enough memory.
     #[error("out of memory")]
     NoMemory,
@@ -75,13 +78,14 @@ impl From<AllocError> for ParseFault {
 /// replaced yet.
 ///
 /// The reading is decided at the first newline token behind its bodies, or end of the input, at which the tokens before it are none, are
-/// a complete command, or have a fault, of which the one at the least place is told. Behind a NUL there are no tokens, so that the end
-/// of the input alone decides there; a word that isn't finished is none, and only a level too many in it is told then, counted from the
-/// command as all levels are.
+/// a complete command, or have a fault, or before which a NUL stands; of several faults the one at the least place is told. A NUL is a
+/// byte of its token, comment or body like any other, so that `a`, a NUL, `b` and a newline are `Refused { at: 1 }` at that newline. A
+/// word that isn't finished is no token, and only a level too many in it is told then, counted from the command as all levels are.
 ///
-/// After `Complete` or `Blank` the next reading begins `used` bytes further on. After `More` it begins at the same byte, in a longer text
-/// or at the end of the input. Where to go on after a fault is for the caller to say; want of memory leaves it open what the text reads
-/// as. The time is linear in the text for each of the 500 levels that substitutions may have, and so is the memory; delimiters of
+/// After `Complete` or `Blank` the next reading begins `used` bytes further on, and so it does after a fault where the caller goes on:
+/// `if )`, newline, `a`, newline is `Refused { at: 3, used: 5 }`, and behind that `a` is read. After `Unclosed` nothing is left. After
+/// `More` the next reading begins at the same byte, in a longer text or at the end of the input. Want of memory leaves it open what the
+/// text reads as. The time is linear in the text for each of the 500 levels that substitutions may have, and so is the memory; delimiters of
 /// here-documents that hold substitutions with such delimiters cost as much once more for each that is around another.
 #[tactic(auto, using(crate::proofs::Turning::fails))]
 pub fn read_command(
@@ -97,12 +101,14 @@ pub fn read_command(
     let mut judged = Ok(front);
     let mut waiting = Waiting::new(alloc);
     let mut at = 0;
+    let mut nul = None;
     loop {
-        match next_turn(alloc, text, at_end, aliases, judged, waiting, at)? {
-            Turn::On(next, left, place) => {
+        match next_turn(alloc, text, at_end, aliases, judged, waiting, at, nul)? {
+            Turn::On(next, left, place, first) => {
                 judged = next;
                 waiting = left;
                 at = place;
+                nul = first;
             },
             Turn::Read(reading) => return Ok(reading),
         }

@@ -1,5 +1,5 @@
 //! One turn of a reading: the next token, and what it decides.
-ghost use Rattle.std.specs.Prelude.{◌≡◌, ◌≤◌, ℕ, Bool, List, true, length, IfOk, IfErr};
+ghost use Rattle.std.specs.Prelude.{◌≡◌, ◌≤◌, ℕ, Bool, List, true, length, take, drop, IfOk, IfErr};
 ghost use Rattle.sh_parse_lines.specs.Stream.{AtEnd, Cut};
 ghost use Rattle.sh_parse_lines.specs.Waiting.{Waiting};
 ghost use Rattle.sh_parse_programs.specs.Results.{and_then};
@@ -8,11 +8,12 @@ ghost use Rattle.sh_parse_programs.specs.Judging.{with_item, are_whole};
 ghost use Rattle.sh_parse_programs.specs.Programs.{read_text};
 ghost use Rattle.sh_parse.specs.declared.ParseFault.TheVariants.{NoMemory};
 ghost use Rattle.sh_parse.specs.Aliases.{aliased};
-ghost use Rattle.sh_parse.specs.Reading.{Answers, at_last, completed, is_newline};
-ghost use Rattle.sh_parse.specs.Turns.{GoesOn, Takes, Turns};
+ghost use Rattle.sh_parse.specs.Reading.{Answer, Answers, at_cut, at_end, at_last, completed, is_newline, nul_in, unless_nul};
+ghost use Rattle.sh_parse.specs.Turns.{GoesOn, Takes, Tells, Turns, fault_in, turn_of};
 
 use crate::aliases::{Aliases, aliased};
-use crate::fault::fault_of;
+use crate::fault::{fault_of, fault_with_nul};
+use crate::nul::first_nul;
 use crate::{ParseFault, Reading};
 use sh_parse_lines::item::{Item, next_item};
 use sh_parse_lines::waiting::Waiting;
@@ -31,13 +32,14 @@ const LEVELS: usize = 500;
 /// What a token makes of a reading.
 #[derive(Drop)]
 pub(crate) enum Turn {
-    /// It goes on behind these tokens, or their first fault, from this place of the text, where this waits.
-    On(Result<Front, PartFault>, Waiting, usize),
+    /// It goes on behind these tokens, or their first fault, from this place of the text, where this waits, and before which the first
+    /// NUL stands there.
+    On(Result<Front, PartFault>, Waiting, usize, Option<usize>),
     /// It is decided.
     Read(Reading),
 }
 
-/// Takes the token at a place of the text, which is not behind its end.
+/// Takes the token at a place of the text, which is not behind its end, and before which this NUL is the first.
 pub(crate) fn next_turn(
     alloc: Global,
     text: &[u8],
@@ -46,23 +48,36 @@ pub(crate) fn next_turn(
     judged: Result<Front, PartFault>,
     waiting: Waiting,
     at: usize,
+    nul: Option<usize>,
 ) -> Result<Turn, ParseFault>
-    requires { at ≤ length text.now }
+    requires inside { at ≤ length text.now }
+    requires nul { nul ≡ nul_in (take at text.now) }
     ensures { Turns aliases.now at_end text.now judged waiting at result }
 {
     match next_item(alloc, text, at, at_end, text.len(), &waiting) {
         Ok(item) => {
             let TokenKind::End = item.token.kind else {
-                return take(alloc, text, aliases, judged, waiting, item);
+                let nul = first_nul(text, nul, at, item.end);
+                return take(alloc, text, aliases, judged, waiting, item, nul);
             };
-            let reading = end(text.len(), judged)?;
-            Ok(Turn::Read(reading))
+            let nul = first_nul(text, nul, at, text.len());
+            turn_of(end(text, judged, nul))
         },
         Err(TokenFault::NoMemory) => Err(ParseFault::NoMemory),
         Err(_) => {
-            let reading = cut(alloc, text, at_end, judged, &waiting, at)?;
-            Ok(Turn::Read(reading))
+            let nul = first_nul(text, nul, at, text.len());
+            turn_of(cut(alloc, text, at_end, judged, &waiting, at, nul))
         },
+    }
+}
+
+/// The turn that decides so.
+fn turn_of(reading: Result<Reading, ParseFault>) -> Result<Turn, ParseFault>
+    ensures { result ≡ turn_of reading }
+{
+    match reading {
+        Ok(reading) => Ok(Turn::Read(reading)),
+        Err(fault) => Err(fault),
     }
 }
 
@@ -90,7 +105,7 @@ fn judge_next(
     }
 }
 
-/// Takes a token behind others, and decides at a newline.
+/// Takes a token behind others, and decides at a newline. Before the token's end this NUL is the first.
 fn take(
     alloc: Global,
     text: &[u8],
@@ -98,13 +113,15 @@ fn take(
     judged: Result<Front, PartFault>,
     waiting: Waiting,
     item: Item,
+    nul: Option<usize>,
 ) -> Result<Turn, ParseFault>
-    ensures { (e : Bool) → Takes aliases.now e text.now judged waiting item item.«end» result }
+    requires { nul ≡ nul_in (take item.«end» text.now) }
+    ensures { (e : Bool) → Takes aliases.now e text.now judged waiting item nul item.«end» result }
 {
     if ends_line(&item.token.kind) {
-        return end_line(alloc, text, aliases, judged, waiting, item);
+        return end_line(alloc, text, aliases, judged, waiting, item, nul);
     }
-    go_on(alloc, text, aliases, judged, waiting, item)
+    go_on(alloc, text, aliases, judged, waiting, item, nul)
 }
 
 /// Goes on behind a token that decides nothing.
@@ -115,18 +132,19 @@ fn go_on(
     judged: Result<Front, PartFault>,
     waiting: Waiting,
     item: Item,
+    nul: Option<usize>,
 ) -> Result<Turn, ParseFault>
-    ensures { GoesOn aliases.now text.now judged waiting item result }
+    ensures { GoesOn aliases.now text.now judged waiting item nul result }
 {
     let after = item.end;
     let mut left = waiting;
     let due = left.due_at(&item.token.kind);
     let next = judge_next(alloc, text, aliases, judged, due, &item)?;
     left.pass(&item.token.kind)?;
-    Ok(Turn::On(next, left, after))
+    Ok(Turn::On(next, left, after, nul))
 }
 
-/// Decides at a newline, if that is a decision place of these tokens.
+/// Decides at a newline, if that is a decision place of these tokens, or has a NUL before its end.
 fn end_line(
     alloc: Global,
     text: &[u8],
@@ -134,25 +152,46 @@ fn end_line(
     judged: Result<Front, PartFault>,
     waiting: Waiting,
     newline: Item,
+    nul: Option<usize>,
 ) -> Result<Turn, ParseFault>
-    requires { is_newline newline.token.kind ≡ true }
-    ensures { (e : Bool) → Takes aliases.now e text.now judged waiting newline newline.«end» result }
+    requires line { is_newline newline.token.kind ≡ true }
+    requires nul { nul ≡ nul_in (take newline.«end» text.now) }
+    ensures { (e : Bool) → Takes aliases.now e text.now judged waiting newline nul newline.«end» result }
 {
+    let used = newline.end;
+    let told = tell(alloc, text, aliases, judged, waiting, newline, nul);
+    match nul {
+        Some(at) => Err(fault_with_nul(fault_in_turn(told), at, used)),
+        None => told,
+    }
+}
+
+/// What the tokens before a newline say there.
+fn tell(
+    alloc: Global,
+    text: &[u8],
+    aliases: &Aliases,
+    judged: Result<Front, PartFault>,
+    waiting: Waiting,
+    newline: Item,
+    nul: Option<usize>,
+) -> Result<Turn, ParseFault>
+    ensures { Tells aliases.now text.now judged waiting newline nul result }
+{
+    let used = newline.end;
     let front = match judged {
         Ok(front) => front,
-        Err(fault) => return Err(fault_of(fault)),
+        Err(fault) => return Err(fault_of(used, fault)),
     };
-    let used = newline.end;
     if front.is_none() {
         return Ok(Turn::Read(Reading::Blank { used }));
     }
     if front.is_whole() {
         let due = waiting.due_at(&newline.token.kind);
-        let reading = complete(alloc, text, front, due, &newline)?;
-        return Ok(Turn::Read(reading));
+        return turn_of(complete(alloc, text, front, due, &newline));
     }
-    match go_on(alloc, text, aliases, Ok(front), waiting, newline)? {
-        Turn::On(Err(fault), _, _) => Err(fault_of(fault)),
+    match go_on(alloc, text, aliases, Ok(front), waiting, newline, nul)? {
+        Turn::On(Err(fault), _, _, _) => Err(fault_of(used, fault)),
         turn => Ok(turn),
     }
 }
@@ -168,26 +207,79 @@ fn complete(
     requires { are_whole front ≡ true }
     ensures { Answers result (completed front newline.now.«end» (bodies_of read_text 500 text.now due.now newline.now)) }
 {
+    let used = newline.end;
     let bodies = match bodies_of(alloc, LEVELS, text, due, newline) {
         Ok(bodies) => bodies,
-        Err(fault) => return Err(fault_of(fault)),
+        Err(fault) => return Err(fault_of(used, fault)),
     };
     let mut front = front;
     front.put_bodies(bodies)?;
-    let used = newline.end;
     match front.into_tree()? {
         Some(tree) => Ok(Reading::Complete { tree, used }),
         None => Err(ParseFault::Unclosed { at: used }),
     }
 }
 
-/// Decides at the end of the input.
-fn end(size: usize, judged: Result<Front, PartFault>) -> Result<Reading, ParseFault>
-    ensures { (e : Bool) (text : List ℕ) (w : Waiting) → length text ≡ size → Answers result (at_last e text w judged AtEnd) }
+/// The fault of a turn, if it has one.
+fn fault_in_turn(turn: Result<Turn, ParseFault>) -> Option<ParseFault>
+    ensures { result ≡ fault_in turn }
+{
+    match turn {
+        Ok(turn) => {
+            drop(turn);
+            None
+        },
+        Err(fault) => Some(fault),
+    }
+}
+
+/// The fault of a reading, if it has one.
+fn fault_in_reading(reading: Result<Reading, ParseFault>) -> Option<ParseFault>
+    ensures { result ≡ fault_in reading }
+{
+    match reading {
+        Ok(reading) => {
+            drop(reading);
+            None
+        },
+        Err(fault) => Some(fault),
+    }
+}
+
+/// What is read up to a decision place up to and with which so many bytes stand, where this NUL is the first among them.
+#[tactic(auto, using(crate::proofs::Nuls::nul_answers))]
+fn unless_nul(
+    reading: Result<Reading, ParseFault>,
+    nul: Option<usize>,
+    used: usize,
+) -> Result<Reading, ParseFault>
+    ensures { (known : Answer) → Answers reading known → Answers result (unless_nul nul used known) }
+{
+    match nul {
+        Some(at) => Err(fault_with_nul(fault_in_reading(reading), at, used)),
+        None => reading,
+    }
+}
+
+/// Decides at the end of the input, in a text of which this NUL is the first.
+fn end(
+    text: &[u8],
+    judged: Result<Front, PartFault>,
+    nul: Option<usize>,
+) -> Result<Reading, ParseFault>
+    requires { nul ≡ nul_in text.now }
+    ensures { (e : Bool) (w : Waiting) → Answers result (at_last e text.now w judged AtEnd) }
+{
+    unless_nul(tell_end(text.len(), judged), nul, text.len())
+}
+
+/// What the tokens say at the end of the input.
+fn tell_end(size: usize, judged: Result<Front, PartFault>) -> Result<Reading, ParseFault>
+    ensures { (text : List ℕ) → length text ≡ size → Answers result (at_end text judged) }
 {
     let front = match judged {
         Ok(front) => front,
-        Err(fault) => return Err(fault_of(fault)),
+        Err(fault) => return Err(fault_of(size, fault)),
     };
     if front.is_none() {
         return Ok(Reading::Blank { used: size });
@@ -198,7 +290,7 @@ fn end(size: usize, judged: Result<Front, PartFault>) -> Result<Reading, ParseFa
     }
 }
 
-/// Decides where no token begins behind these, from this place on.
+/// Decides where no token begins behind these, from this place on, in a text of which this NUL is the first.
 fn cut(
     alloc: Global,
     text: &[u8],
@@ -206,19 +298,36 @@ fn cut(
     judged: Result<Front, PartFault>,
     waiting: &Waiting,
     at: usize,
+    nul: Option<usize>,
 ) -> Result<Reading, ParseFault>
+    requires { nul ≡ nul_in text.now }
     ensures { Answers result (at_last at_end text.now waiting.now judged (Cut at)) }
 {
     if !at_end {
         return Ok(Reading::More);
     }
+    let told = tell_cut(alloc, text, judged, waiting, at);
+    unless_nul(told, nul, text.len())
+}
+
+/// What the tokens say where the end of the input cuts off what stands behind them, from this place on.
+fn tell_cut(
+    alloc: Global,
+    text: &[u8],
+    judged: Result<Front, PartFault>,
+    waiting: &Waiting,
+    at: usize,
+) -> Result<Reading, ParseFault>
+    ensures { Answers result (at_cut text.now waiting.now judged at) }
+{
+    let size = text.len();
     let front = match judged {
         Ok(front) => front,
-        Err(fault) => return Err(fault_of(fault)),
+        Err(fault) => return Err(fault_of(size, fault)),
     };
     let left = LEVELS.saturating_sub(front.open());
     match cut_fault(alloc, left, text, waiting, at)? {
-        Some(fault) => Err(fault_of(fault)),
+        Some(fault) => Err(fault_of(size, fault)),
         None => Err(ParseFault::Unclosed { at: text.len() }),
     }
 }

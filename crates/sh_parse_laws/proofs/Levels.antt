@@ -121,7 +121,7 @@ not_deep e limit bytes place l h =
 pub token_not_deep : (e : Bool) (limit : ℕ) (bytes : List ℕ) (place : ℕ) → length bytes ≤ limit → first_token e limit bytes ≡ DeepAt place → ⊥
 token_not_deep e limit bytes place l h =
     let f : IsFirst e limit bytes (DeepAt place) = subst (λ z. IsFirst e limit bytes z) h (is_first e limit bytes) in
-    not_deep e limit bytes f.0.0 l f.0.1
+    not_deep e limit bytes f.0 l f.1
 
 body_deep : (limit : ℕ) (bytes place : List ℕ) → length bytes ≤ limit → IsBodyTooDeep limit bytes place → ⊥
 body_deep limit bytes place l h =

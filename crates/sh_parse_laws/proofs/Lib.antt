@@ -7,3 +7,4 @@ pub mod Standing
 pub mod Words
 pub mod Bodies
 pub mod Faults
+pub mod Decided

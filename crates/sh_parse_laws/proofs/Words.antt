@@ -1,11 +1,11 @@
 -- The words of a text, in which the faults of their parts stand.
-use Rattle.std.proofs.Common.{◌≡◌, ℕ, zero, suc, ◌+◌, ◌-◌, ◌^◌, ◌<◌, ◌≤◌, Bool, true, false, List, [], ◌∷◌, ◌++◌, length, take, drop, Option, Some, None, Ok, Err, refl, sym, ap, subst, ◌∙◌, arith, if◌then◌else◌}
+use Rattle.std.proofs.Common.{◌≡◌, ℕ, zero, suc, ◌+◌, ◌-◌, ◌^◌, ◌<◌, ◌≤◌, Bool, true, false, List, [], ◌∷◌, ◌++◌, length, drop, Option, Some, None, Ok, Err, refl, sym, ap, subst, ◌∙◌, arith, if◌then◌else◌}
 use Rattle.std.proofs.lemmas.List.{length-drop, drop-drop}
 use Rattle.sh_scanner_base.specs.declared.context.Context.TheVariants.{Top}
 use Rattle.sh_scanner_base.specs.declared.mark.Mark.{Mark}
 use Rattle.sh_scanner_base.specs.declared.mark.Mark.TheVariants as mark
 use Rattle.sh_scanner.specs.declared.token.TokenKind.{TokenKind}
-use Rattle.sh_scanner.specs.FirstToken.{FirstToken, Found, Unfinished, NulAt, DeepAt, IsFirst, nul_in}
+use Rattle.sh_scanner.specs.FirstToken.{FirstToken, Found, Unfinished, DeepAt, IsFirst}
 use Rattle.sh_scanner.specs.Found.{first_token}
 use Rattle.sh_scanner.specs.Tokens.{HasToken, IsToken, ending, operator, word, is_number}
 use Rattle.sh_scanner.proofs.Laws.{is_first}
@@ -13,7 +13,7 @@ use Rattle.sh_syntax.specs.declared.word.Span.{Span}
 use Rattle.sh_parse_lines.specs.declared.item.Item.{Item}
 use Rattle.sh_parse_lines.specs.Bodies.{bodies_size}
 use Rattle.sh_parse_lines.specs.Waiting.{Waiting, nothing, behind_token, due_at}
-use Rattle.sh_parse_lines.specs.Items.{FirstItem, FoundItem, NoItem, first_item, item_of, with_bodies, with_nul, no_end}
+use Rattle.sh_parse_lines.specs.Items.{FirstItem, FoundItem, NoItem, first_item, item_of, with_bodies}
 use Rattle.sh_parse_lines.specs.Stream.{Items, with_item, with_first, items_from, items_of}
 use Rattle.sh_parse_words.specs.declared.fault.PartFault.{PartFault}
 use Rattle.sh_parse_programs.specs.Leaves.{leaf_of}
@@ -72,11 +72,11 @@ module _ (e : Bool) (text : List ℕ) (small : length text < 2 ^ 64) where
       → (left : ℕ) (f : PartFault) → leaf_of read_text left text kind (record { start = at + start; «end» = at + stop }) ≡ Err f → Stands (at + start) (at + stop) f
   token_stands limit at m kind start stop h =
       let f : IsFirst e limit (drop at text) (Found kind start stop) = subst (λ x. IsFirst e limit (drop at text) x) h (is_first e limit (drop at text)) in
-      let front = f.0.0 in
-      let rest = f.0.1.0 in
-      let token = f.0.1.1 in
-      let from : start + length front ≡ length (drop at text) = f.0.1.2 in
-      let to : stop + length rest ≡ length (drop at text) = f.0.1.3 in
+      let front = f.0 in
+      let rest = f.1.0 in
+      let token = f.1.1 in
+      let from : start + length front ≡ length (drop at text) = f.1.2 in
+      let to : stop + length rest ≡ length (drop at text) = f.1.3 in
       let size : length (drop at text) ≡ length text - at = length-drop at text in
       let begins : drop (at + start) text ≡ front = sym (drop-drop start at text) ∙ end_at (drop at text) front start (token_ends e limit (drop at text) front rest kind token) from in
       kind_stands kind (at + start) (at + stop) front rest (token_pieces e limit token.gap front rest kind token.token) begins
@@ -87,18 +87,10 @@ module _ (e : Bool) (text : List ℕ) (small : length text < 2 ^ 64) where
   AllStand [] = Unit {0}
   AllStand (t ∷ items) = FaultsStand t × AllStand items
 
-  nul_stands : (kind kind' : TokenKind) (a b n start stop after : ℕ) (z : Option ℕ) → with_nul kind' a b n z ≡ FoundItem kind start stop after → (kind' ≡ kind) × (a ≡ start) × (b ≡ stop)
-  nul_stands kind kind' a b n start stop after None h = (cc, cc, cc)
-  nul_stands kind kind' a b n start stop after (Some place) h = absurd (cc)
-
-  no_found : (s : ℕ) (z : Option ℕ) (kind : TokenKind) (start stop after : ℕ) → no_end s z ≡ FoundItem kind start stop after → ⊥
-  no_found s None kind start stop after h = cc
-  no_found s (Some place) kind start stop after h = cc
-
-  bodies_stand : (kind kind' : TokenKind) (a b start stop after : ℕ) (bytes : List ℕ) (o : Option ℕ) → with_bodies kind' a b bytes o ≡ FoundItem kind start stop after
+  bodies_stand : (kind kind' : TokenKind) (a b start stop after : ℕ) (o : Option ℕ) → with_bodies kind' a b o ≡ FoundItem kind start stop after
       → (kind' ≡ kind) × (a ≡ start) × (b ≡ stop)
-  bodies_stand kind kind' a b start stop after bytes None h = absurd (no_found b (nul_in bytes) kind start stop after h)
-  bodies_stand kind kind' a b start stop after bytes (Some n) h = nul_stands kind kind' a b n start stop after (nul_in (take n bytes)) h
+  bodies_stand kind kind' a b start stop after None h = absurd (cc)
+  bodies_stand kind kind' a b start stop after (Some n) h = (cc, cc, cc)
 
   abbrev Standing : ℕ → TokenKind → ℕ → ℕ → Type 0
   Standing at kind start stop =
@@ -112,9 +104,8 @@ module _ (e : Bool) (text : List ℕ) (small : length text < 2 ^ 64) where
       → item_of e w (drop at text) first ≡ FoundItem kind start stop after → Standing at kind start stop
   found_stands limit w at m kind start stop after (Found kind' a b) f h =
       same_stands at kind kind' a b start stop
-      (bodies_stand kind kind' a b start stop after (drop b (drop at text)) (bodies_size e (due_at kind' w) (drop b (drop at text))) h) (token_stands limit at m kind' a b f)
+      (bodies_stand kind kind' a b start stop after (bodies_size e (due_at kind' w) (drop b (drop at text))) h) (token_stands limit at m kind' a b f)
   found_stands limit w at m kind start stop after Unfinished f h = absurd (cc)
-  found_stands limit w at m kind start stop after (NulAt place) f h = absurd (cc)
   found_stands limit w at m kind start stop after (DeepAt place) f h = absurd (cc)
 
   item_stands : (limit : ℕ) (w : Waiting) (at : ℕ) → at ≤ length text → (kind : TokenKind) (start stop after : ℕ) → first_item e limit w (drop at text) ≡ FoundItem kind start stop after

@@ -1,10 +1,21 @@
 -- Where a fault stands: in the bytes from a place up to, not including, another. Want of memory has no place, and nothing is said of it.
-use Rattle.std.specs.Prelude.{ℕ, ◌≤◌, ◌<◌}
+use Rattle.std.specs.Prelude.{ℕ, ◌≤◌, ◌<◌, Ok, Err}
 use Rattle.sh_parse_words.specs.declared.fault.PartFault.{PartFault}
 use Rattle.sh_parse_words.specs.declared.fault.PartFault.TheVariants as fault
+use Rattle.sh_parse.specs.Reading.{Answer}
+use Rattle.sh_parse.specs.declared.ParseFault.TheVariants.{Refused, Unclosed, BadSubstitution, TooDeep, NoMemory}
 
 abbrev pub Stands : ℕ → ℕ → PartFault → Type 0
 Stands start stop (fault.BadSubstitution at) = (start ≤ at) × (at < stop)
 Stands start stop (fault.TooDeep at) = (start ≤ at) × (at < stop)
 Stands start stop (fault.Refused at) = (start ≤ at) × (at < stop)
 Stands start stop fault.NoMemory = Unit {0}
+
+-- a fault of a text stands before the decision place at which it is told. What is unclosed is so at the text's end
+abbrev pub StandsBefore : Answer → Type 0
+StandsBefore (Ok r) = Unit {0}
+StandsBefore (Err (Refused at used)) = at < used
+StandsBefore (Err (BadSubstitution at used)) = at < used
+StandsBefore (Err (TooDeep at used)) = at < used
+StandsBefore (Err (Unclosed at)) = Unit {0}
+StandsBefore (Err NoMemory) = Unit {0}

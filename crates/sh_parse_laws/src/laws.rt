@@ -20,7 +20,9 @@ ghost use Rattle.sh_parse_programs.specs.Leaves.{leaf_of};
 ghost use Rattle.sh_parse_programs.specs.Programs.{read_text};
 ghost use Rattle.sh_parse_programs.specs.Words.{Reader, parts_in};
 ghost use Rattle.sh_parse_laws.specs.Spelled.{AreSpelled, Nested};
-ghost use Rattle.sh_parse_laws.specs.Standing.{Stands};
+ghost use Rattle.sh_parse.specs.Aliases.{AliasTable};
+ghost use Rattle.sh_parse.specs.Reading.{reading};
+ghost use Rattle.sh_parse_laws.specs.Standing.{Stands, StandsBefore};
 
 /// Law: where the pieces of a word, or of a here-document's body, spell some parts, the reader gives these parts and no others (XCU 2.2,
 /// 2.6).
@@ -60,4 +62,9 @@ pub fn faults_stand_in_their_words()
     ensures words { (at_end : Bool) (text : List ℕ) → length text < 2 ^ 64 → (before : List Item) (t : Item) (after : List Item) → (items_of at_end text).items ≡ before ++ t ∷ after → (left : ℕ) (f : PartFault) → leaf_of read_text left text t.token.kind t.token.span ≡ Err f → Stands t.token.span.start t.token.span.«end» f }
     ensures bodies { (left : ℕ) (text : List ℕ) (due : List Delimiter) (t : Item) (f : PartFault) → t.token.span.«end» ≤ t.«end» → bodies_of read_text left text due t ≡ Err f → Stands t.token.span.«end» t.«end» f }
     ensures first { (at_end : Bool) (text : List ℕ) → length text < 2 ^ 64 → (judge : Judge) → judge.read ≡ read_text → judge.text ≡ text → (f : PartFault) (first : FirstFault judge (items_of at_end text).items f) → Stands first.token.token.span.start first.token.«end» f }
+{}
+
+/// Law: a fault of a text stands before the decision place at which it is told, behind which the next reading begins.
+pub fn faults_stand_before_their_decision()
+    ensures { (table : AliasTable) (at_end : Bool) (text : List ℕ) → length text < 2 ^ 64 → StandsBefore (reading table at_end text) }
 {}

@@ -1,7 +1,7 @@
 -- The first item of a text, and those behind it.
 use Rattle.std.proofs.Common.{◌≡◌, ℕ, ◌+◌, ◌∷◌, Ok, refl, sym, ap, ◌∙◌}
 use Rattle.sh_scanner.specs.declared.token.TokenKind.{TokenKind}
-use Rattle.sh_scanner.specs.FirstToken.{FirstToken, Found, Unfinished, NulAt, DeepAt}
+use Rattle.sh_scanner.specs.FirstToken.{FirstToken, Found, Unfinished, DeepAt}
 use Rattle.sh_parse_lines.specs.declared.item.Item.{Item}
 use Rattle.sh_parse_lines.specs.Waiting.{Waiting, behind_token}
 use Rattle.sh_parse_lines.specs.Items.{FirstItem, FoundItem, NoItem, item_at}
@@ -20,7 +20,6 @@ with_found (TokenKind.Word parts) start stop after others h = refl
 
 no_item : (at : ℕ) (fault : FirstToken) (t : Item) → Ok t ≡ item_at at (NoItem fault) → ⊥
 no_item at Unfinished t h = cc
-no_item at (NulAt place) t h = cc
 no_item at (DeepAt place) t h = cc
 no_item at (Found kind start stop) t h = cc
 

@@ -3,7 +3,7 @@ use Rattle.std.proofs.Common.{◌≡◌, ℕ, zero, suc, ◌+◌, ◌<◌, ◌�
 use Rattle.std.proofs.lemmas.List.{append-nil}
 use Rattle.sh_scanner.specs.declared.token.TokenKind.{TokenKind}
 use Rattle.sh_scanner.specs.declared.token.TokenFault.{TokenFault}
-use Rattle.sh_scanner.specs.FirstToken.{Found, Unfinished, NulAt, DeepAt}
+use Rattle.sh_scanner.specs.FirstToken.{Found, Unfinished, DeepAt}
 use Rattle.sh_parse_lines.specs.declared.item.Item.{Item}
 use Rattle.sh_parse_lines.specs.Places.{IsItemPlaced}
 use Rattle.sh_parse_lines.specs.Waiting.{Waiting, nothing, behind_token}
@@ -57,7 +57,6 @@ closed done ending = ap (λ (x : List Item). record { items = x; ending = ending
 
 first_end : (others : Waiting → ℕ → Items) (w : Waiting) (at : ℕ) (first : FirstItem) (t : Item) → Ok t ≡ item_at at first → t.token.kind ≡ TokenKind.End → with_first others w at first ≡ none AtEnd
 first_end others w at (NoItem Unfinished) t e h = absurd (cc)
-first_end others w at (NoItem (NulAt place)) t e h = absurd (cc)
 first_end others w at (NoItem (DeepAt place)) t e h = absurd (cc)
 first_end others w at (NoItem (Found kind start stop)) t e h = absurd (cc)
 first_end others w at (FoundItem TokenKind.End start stop after) t e h = refl
@@ -84,14 +83,12 @@ ends e text done w at t s a h = end_at e text done w at s.left t s.enough s.insi
 abbrev pub IsReal : TokenFault → Type 0
 IsReal TokenFault.NoMemory = ⊥
 IsReal TokenFault.Unfinished = Unit {0}
-IsReal (TokenFault.NulByte at) = Unit {0}
 IsReal (TokenFault.TooDeep at) = Unit {0}
 
 first_fault : (others : Waiting → ℕ → Items) (w : Waiting) (at : ℕ) (first : FirstItem) (fault : TokenFault) → IsReal fault → GivesItem (Err fault) (item_at at first) → with_first others w at first ≡ none (Cut at)
 first_fault others w at (NoItem f) fault r g = refl
 first_fault others w at (FoundItem kind start stop after) TokenFault.NoMemory r g = absurd r
 first_fault others w at (FoundItem kind start stop after) TokenFault.Unfinished r g = absurd (cc)
-first_fault others w at (FoundItem kind start stop after) (TokenFault.NulByte p) r g = absurd (cc)
 first_fault others w at (FoundItem kind start stop after) (TokenFault.TooDeep p) r g = absurd (cc)
 
 fail_at : (e : Bool) (text : List ℕ) (done : List Item) (w : Waiting) (at left : ℕ) (fault : TokenFault) → length text < left + at → at ≤ length text → items_of e text ≡ behind_all done (items_from left e text w at)

@@ -1,8 +1,8 @@
 -- The tokens of a text with the bodies behind them (XCU 2.3, 2.7.4).
-use Rattle.std.specs.Prelude.{◌≡◌, ℕ, ◌+◌, Bool, List, drop, take, Option, Some, None, Result, Ok, Err}
+use Rattle.std.specs.Prelude.{◌≡◌, ℕ, ◌+◌, Bool, List, drop, Option, Some, None, Result, Ok, Err}
 use Rattle.sh_scanner.specs.declared.token.TokenKind.{TokenKind}
 use Rattle.sh_scanner.specs.declared.token.TokenFault.{TokenFault}
-use Rattle.sh_scanner.specs.FirstToken.{FirstToken, Found, Unfinished, NulAt, DeepAt, nul_in}
+use Rattle.sh_scanner.specs.FirstToken.{FirstToken, Found, Unfinished, DeepAt}
 use Rattle.sh_scanner.specs.Found.{first_token}
 use Rattle.sh_parse_lines.specs.declared.item.Item.{Item}
 use Rattle.sh_parse_lines.specs.Waiting.{Waiting, due_at}
@@ -13,23 +13,14 @@ pub data FirstItem : Type 0 where
   FoundItem : (kind : TokenKind) → (start stop «end» : ℕ) → FirstItem
   NoItem : (fault : FirstToken) → FirstItem
 
--- a NUL in the bodies is found before they are
-abbrev pub with_nul : TokenKind → ℕ → ℕ → ℕ → Option ℕ → FirstItem
-with_nul kind start stop n None = FoundItem kind start stop (stop + n)
-with_nul kind start stop n (Some place) = NoItem (NulAt (stop + place))
-
-abbrev pub no_end : ℕ → Option ℕ → FirstItem
-no_end stop None = NoItem Unfinished
-no_end stop (Some place) = NoItem (NulAt (stop + place))
-
-abbrev pub with_bodies : TokenKind → ℕ → ℕ → List ℕ → Option ℕ → FirstItem
-with_bodies kind start stop bytes None = no_end stop (nul_in bytes)
-with_bodies kind start stop bytes (Some n) = with_nul kind start stop n (nul_in (take n bytes))
+-- the token with so many bytes of bodies behind it
+abbrev pub with_bodies : TokenKind → ℕ → ℕ → Option ℕ → FirstItem
+with_bodies kind start stop None = NoItem Unfinished
+with_bodies kind start stop (Some n) = FoundItem kind start stop (stop + n)
 
 abbrev pub item_of : Bool → Waiting → List ℕ → FirstToken → FirstItem
-item_of e w bytes (Found kind start stop) = with_bodies kind start stop (drop stop bytes) (bodies_size e (due_at kind w) (drop stop bytes))
+item_of e w bytes (Found kind start stop) = with_bodies kind start stop (bodies_size e (due_at kind w) (drop stop bytes))
 item_of e w bytes Unfinished = NoItem Unfinished
-item_of e w bytes (NulAt place) = NoItem (NulAt place)
 item_of e w bytes (DeepAt place) = NoItem (DeepAt place)
 
 -- the first item of these bytes, where this waits and so many levels may be open; e: they are the last of the input
@@ -39,7 +30,6 @@ first_item e limit w bytes = item_of e w bytes (first_token e limit bytes)
 -- the same in a text in which the bytes begin at `at`
 abbrev pub fault_at : ℕ → FirstToken → Result Item TokenFault
 fault_at at Unfinished = Err TokenFault.Unfinished
-fault_at at (NulAt place) = Err (TokenFault.NulByte (at + place))
 fault_at at (DeepAt place) = Err (TokenFault.TooDeep (at + place))
 fault_at at (Found kind start stop) = Err TokenFault.Unfinished
 
@@ -53,5 +43,4 @@ abbrev pub GivesItem : Result Item TokenFault → Result Item TokenFault → Typ
 GivesItem (Ok item) found = Ok item ≡ found
 GivesItem (Err TokenFault.NoMemory) found = Unit {0}
 GivesItem (Err TokenFault.Unfinished) found = Err TokenFault.Unfinished ≡ found
-GivesItem (Err (TokenFault.NulByte at)) found = Err (TokenFault.NulByte at) ≡ found
 GivesItem (Err (TokenFault.TooDeep at)) found = Err (TokenFault.TooDeep at) ≡ found

@@ -5,7 +5,7 @@ use Rattle.sh_parse_lines.specs.declared.item.Item.{Item}
 use Rattle.sh_parse_lines.specs.Waiting.{Waiting, nothing, behind_token}
 use Rattle.sh_parse_lines.specs.Items.{FirstItem, FoundItem, NoItem, first_item}
 
--- what comes behind the last item: the end of the input; or, from `at` on, what isn't finished, or has a NUL
+-- what comes behind the last item: the end of the input; or, from `at` on, what isn't finished
 pub data Ending : Type 0 where
   AtEnd : Ending
   Cut : (at : ℕ) → Ending

@@ -1,7 +1,6 @@
 //! The tokens of a text with the bodies of here-documents behind them.
-ghost use Rattle.std.specs.Prelude.{◌≡◌, ◌≤◌, IfOk, length, drop, take};
+ghost use Rattle.std.specs.Prelude.{◌≡◌, ◌≤◌, IfOk, length, drop};
 ghost use Rattle.sh_parse_lines.specs.Places.{IsItemPlaced};
-ghost use Rattle.sh_scanner.specs.FirstToken.{nul_in};
 ghost use Rattle.sh_parse_lines.specs.Items.{GivesItem, item_at, first_item};
 
 use crate::bodies::bodies_size;
@@ -19,8 +18,7 @@ pub struct Item {
 
 /// The first token of the text from the byte at `at` on, where this waits, with the bodies behind it. `at_end`: the text's
 /// end is that of the input, which cuts off a body that isn't over. `levels`: how many may be open in the token; no text opens
-/// as many as it has bytes. The faults are those of a token; `Unfinished` also where a body isn't over and the input goes on;
-/// `NulByte` also for the first NUL in a body.
+/// as many as it has bytes. The faults are those of a token; `Unfinished` also where a body isn't over and the input goes on.
 #[tactic(auto, unfolding(crate::specs::Items::first_item))]
 pub fn next_item(
     alloc: Global,
@@ -37,18 +35,8 @@ pub fn next_item(
     let bytes = bytes_from(text, token.span.end);
     let due = waiting.due_at(&token.kind);
     let Some(size) = bodies_size(bytes, due, at_end) else {
-        if let Some(place) = first_nul(bytes) {
-            return Err(TokenFault::NulByte {
-                at: token.span.end + place,
-            });
-        }
         return Err(TokenFault::Unfinished);
     };
-    if let Some(place) = first_nul(bytes_before(bytes, size)) {
-        return Err(TokenFault::NulByte {
-            at: token.span.end + place,
-        });
-    }
     let end = token.span.end + size;
     Ok(Item { token, end })
 }
@@ -58,22 +46,4 @@ fn bytes_from(text: &[u8], at: usize) -> &[u8]
     ensures { result.now ≡ drop at text.now }
 {
     if at <= text.len() { &text[at..] } else { &[] }
-}
-
-/// The text before a place.
-fn bytes_before(text: &[u8], end: usize) -> &[u8]
-    ensures { result.now ≡ take end text.now }
-{
-    if end <= text.len() {
-        &text[..end]
-    } else {
-        text
-    }
-}
-
-/// The place of the first NUL.
-fn first_nul(bytes: &[u8]) -> Option<usize>
-    ensures { result ≡ nul_in bytes.now }
-{
-    bytes.iter().position(|b| *b == 0)
 }

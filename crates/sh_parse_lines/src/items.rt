@@ -13,7 +13,7 @@ use std::alloc::{AllocError, Global};
 pub struct Items {
     /// The tokens, but for the end of the input.
     pub items: Vec<Item>,
-    /// Where no token begins any more, since what stands there isn't finished or has a NUL; `None` where the end of the input comes.
+    /// Where no token begins any more, since what stands there isn't finished; `None` where the end of the input comes.
     pub cut: Option<usize>,
 }
 

@@ -8,9 +8,9 @@ use sh_parse_words::fault::PartFault;
 use sh_scanner::token::TokenFault;
 use std::alloc::{AllocError, Global};
 
-/// Why no token begins at this place of a text that ends with the input, where this waits and so many levels may open: a NUL or a
-/// level too many that stands there, or `None` where only the text's end comes too early. The only error is want of memory.
-#[tactic(auto, unfolding(crate::specs::Cuts::cut_fault), using(crate::proofs::Cutting::none_told, crate::proofs::Cutting::unfinished_told, crate::proofs::Cutting::nul_told, crate::proofs::Cutting::deep_told))]
+/// Why no token begins at this place of a text that ends with the input, where this waits and so many levels may open: a level
+/// too many that opens there, or `None` where only the text's end comes too early. The only error is want of memory.
+#[tactic(auto, unfolding(crate::specs::Cuts::cut_fault), using(crate::proofs::Cutting::none_told, crate::proofs::Cutting::unfinished_told, crate::proofs::Cutting::deep_told))]
 pub fn cut_fault(
     alloc: Global,
     left: usize,
@@ -23,7 +23,6 @@ pub fn cut_fault(
     match next_item(alloc, text, at, true, left, waiting) {
         Ok(_) => Ok(None),
         Err(TokenFault::Unfinished) => Ok(None),
-        Err(TokenFault::NulByte { at }) => Ok(Some(PartFault::Refused { at })),
         Err(TokenFault::TooDeep { at }) => Ok(Some(PartFault::TooDeep { at })),
         Err(TokenFault::NoMemory) => Err(AllocError),
     }

@@ -10,7 +10,10 @@
 //! needed; `b`, `c`, `u` it is blank, complete or unclosed as a whole; `l` it is refused at its last byte; `r`, `s`, `d` it is refused,
 //! a bad substitution or too deep at the place that `^` marks. `?` is anything else.
 //!
-//! These four with a text of six fields (`fields::built`): the tree isn't shown, and like signs in a row are counted, as `u1000`.
+//! `used WANTED TEXT`, `last-used WANTED TEXT`: how many bytes of a text its reading takes, behind which the next one begins; `more`
+//! where nothing is decided yet.
+//!
+//! The first four with a text of six fields (`fields::built`): the tree isn't shown, and like signs in a row are counted, as `u1000`.
 use crate::fields::{Found, built, by_kind, marked};
 use crate::show::{put_number, put_place, put_word};
 use sh_parse::{Aliases, ParseFault, Reading, read_command};
@@ -35,10 +38,10 @@ pub enum Outcome {
 /// The outcome that a fault is.
 fn outcome_of(fault: ParseFault) -> Result<Outcome, NoMemory> {
     match fault {
-        ParseFault::Refused { at } => Ok(Outcome::Refused(at)),
+        ParseFault::Refused { at, .. } => Ok(Outcome::Refused(at)),
         ParseFault::Unclosed { at } => Ok(Outcome::Unclosed(at)),
-        ParseFault::BadSubstitution { at } => Ok(Outcome::BadSubstitution(at)),
-        ParseFault::TooDeep { at } => Ok(Outcome::TooDeep(at)),
+        ParseFault::BadSubstitution { at, .. } => Ok(Outcome::BadSubstitution(at)),
+        ParseFault::TooDeep { at, .. } => Ok(Outcome::TooDeep(at)),
         ParseFault::NoMemory => Err(NoMemory),
     }
 }
@@ -186,6 +189,34 @@ fn runs(alloc: Global, row: &Row, at_end: bool) -> Result<Vec<u8>, NoMemory> {
     Ok(shown)
 }
 
+/// How many bytes a reading takes; none where nothing is decided yet.
+fn used_of(alloc: Global, text: &[u8], at_end: bool) -> Result<Option<usize>, NoMemory> {
+    match read_command(alloc, text, at_end, &Aliases::new(alloc)) {
+        Ok(Reading::Complete { tree, used }) => {
+            drop(tree);
+            Ok(Some(used))
+        },
+        Ok(Reading::Blank { used }) => Ok(Some(used)),
+        Ok(Reading::More) => Ok(None),
+        Err(ParseFault::Refused { used, .. }) => Ok(Some(used)),
+        Err(ParseFault::Unclosed { at }) => Ok(Some(at)),
+        Err(ParseFault::BadSubstitution { used, .. }) => Ok(Some(used)),
+        Err(ParseFault::TooDeep { used, .. }) => Ok(Some(used)),
+        Err(ParseFault::NoMemory) => Err(NoMemory),
+    }
+}
+
+/// `used` and `last-used`.
+fn used(alloc: Global, text: &[u8], at_end: bool) -> Result<Vec<u8>, NoMemory> {
+    let used = used_of(alloc, text, at_end)?;
+    let mut shown = Vec::new(alloc);
+    match used {
+        Some(used) => put_number(&mut shown, used)?,
+        None => put_word(&mut shown, b"more")?,
+    }
+    Ok(shown)
+}
+
 /// What a row comes to; none where its kind is none of these.
 pub fn found(alloc: Global, row: &Row) -> Found {
     let text = row.field(2);
@@ -194,6 +225,8 @@ pub fn found(alloc: Global, row: &Row) -> Found {
         "last", 2 => with_tree(alloc, text, true);
         "fronts", 2 => signs(alloc, text, false);
         "last-fronts", 2 => signs(alloc, text, true);
+        "used", 2 => used(alloc, text, false);
+        "last-used", 2 => used(alloc, text, true);
         "read", 7 => without_tree(alloc, row, false);
         "last", 7 => without_tree(alloc, row, true);
         "fronts", 7 => runs(alloc, row, false);

@@ -1,7 +1,7 @@
 //! Tokens.
 //!
 //! `token WANTED TEXT`: the first token of a text where the input goes on: `token` or, for the number of a descriptor, `number`, with its
-//! first place and the place behind it; or `unfinished`, `nul PLACE`, `deep PLACE`. With a text of six fields (`fields::built`) too.
+//! first place and the place behind it; or `unfinished`, `deep PLACE`. With a text of six fields (`fields::built`) too.
 //!
 //! `last-token WANTED TEXT`: the same where the text's end is that of the input.
 //!
@@ -20,7 +20,6 @@ enum First {
     Number(usize, usize),
     Token(usize, usize),
     Unfinished,
-    NulByte(usize),
     TooDeep(usize),
 }
 
@@ -40,7 +39,6 @@ fn first_token(alloc: Global, text: &[u8], at_end: bool) -> Result<First, NoMemo
     match next_token(alloc, text, 0, at_end) {
         Ok(token) => Ok(first_of(token)),
         Err(TokenFault::Unfinished) => Ok(First::Unfinished),
-        Err(TokenFault::NulByte { at }) => Ok(First::NulByte(at)),
         Err(TokenFault::TooDeep { at }) => Ok(First::TooDeep(at)),
         Err(TokenFault::NoMemory) => Err(NoMemory),
     }
@@ -63,7 +61,6 @@ fn shown_of(alloc: Global, text: &[u8], at_end: bool) -> Result<Vec<u8>, NoMemor
         First::Number(start, end) => put(&mut shown, b"number", &[start, end])?,
         First::Token(start, end) => put(&mut shown, b"token", &[start, end])?,
         First::Unfinished => put(&mut shown, b"unfinished", &[])?,
-        First::NulByte(at) => put(&mut shown, b"nul", &[at])?,
         First::TooDeep(at) => put(&mut shown, b"deep", &[at])?,
     }
     Ok(shown)

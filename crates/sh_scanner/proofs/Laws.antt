@@ -1,5 +1,5 @@
 -- The first token is the one of the definition.
-use Rattle.std.proofs.Common.{◌≡◌, ◌↔◌, ℕ, ◌+◌, ◌-◌, ◌<◌, ◌≤◌, Bool, List, [], ◌∷◌, ◌++◌, length, take, Option, Some, None, refl, sym, ap, ◌∙◌, subst, arith, length-append}
+use Rattle.std.proofs.Common.{◌≡◌, ◌↔◌, ℕ, ◌+◌, ◌-◌, ◌<◌, ◌≤◌, Bool, List, [], ◌∷◌, ◌++◌, length, refl, sym, ap, ◌∙◌, subst, arith, length-append}
 use Rattle.sh_scanner_base.specs.declared.character.Character.{Character}
 use Rattle.sh_scanner_base.specs.declared.character.Character.TheVariants.{Plain, Quoted, Raw}
 use Rattle.sh_scanner_base.specs.declared.context.Context.{Context}
@@ -14,12 +14,11 @@ use Rattle.sh_scanner.specs.declared.token.TokenKind.{TokenKind}
 use Rattle.sh_scanner.specs.Tokens.{Joined, IsToken, ending, operator, word, HasToken, IsTooDeep}
 use Rattle.sh_scanner.specs.Machine.{State}
 use Rattle.sh_scanner.specs.Run.{Scanned, Ended, Deep, Open, scanned}
-use Rattle.sh_scanner.specs.FirstToken.{FirstToken, Found, Unfinished, NulAt, DeepAt, IsFirst, nul_in}
-use Rattle.sh_scanner.specs.Found.{kind_of, unless_nul, without_nul, first_token}
+use Rattle.sh_scanner.specs.FirstToken.{FirstToken, Found, Unfinished, DeepAt, IsFirst}
+use Rattle.sh_scanner.specs.Found.{kind_of, token_of, first_token}
 use Rattle.sh_scanner.proofs.Complete.{complete}
 use Rattle.sh_scanner.proofs.Deep.{deep}
 use Rattle.sh_scanner.proofs.Texts.{Answered, sound}
-use Rattle.sh_scanner.proofs.Nul.{nul_of_front, nul_in_front}
 
 -- how many bytes pieces take
 pub reads_length : (e : Bool) (c : Character) (m middle : List ℕ) → Reads e c m middle → length middle < length m
@@ -71,64 +70,15 @@ deep_ordered e limit bytes place h =
     omega arith
 
 -- what is scanned is one of three
-ended_front : (k j : State) (f g r s : List ℕ) → Ended k f r ≡ Ended j g s → f ≡ g
-ended_front k j f g r s h = cc
-
-ended_rest : (k j : State) (f g r s : List ℕ) → Ended k f r ≡ Ended j g s → r ≡ s
-ended_rest k j f g r s h = cc
-
-ended_state : (k j : State) (f g r s : List ℕ) → Ended k f r ≡ Ended j g s → k ≡ j
-ended_state k j f g r s h = cc
-
-deep_place : (r s : List ℕ) → Deep r ≡ Deep s → r ≡ s
-deep_place r s h = cc
-
 not_open : (k : State) (f r o : List ℕ) → Ended k f r ≡ Open o → ⊥
 not_open k f r o h = cc
-
-not_deep : (k : State) (f r s : List ℕ) → Ended k f r ≡ Deep s → ⊥
-not_deep k f r s h = cc
 
 deep_not_open : (r o : List ℕ) → Deep r ≡ Open o → ⊥
 deep_not_open r o h = cc
 
-nul_or : (x : Option ℕ) (G : Type 0) → (x ≡ None → G) → ((i : ℕ) → x ≡ Some i → G) → G
-nul_or None G n s = n refl
-nul_or (Some i) G n s = s i refl
-
 module _ (e : Bool) (limit : ℕ) (bytes : List ℕ) where
   found : (s : Scanned) → scanned e limit bytes ≡ s → Answered e limit bytes s
   found s h = subst (Answered e limit bytes) h (sound e limit bytes)
-
-  ended_first : (k : State) (f r : List ℕ) → scanned e limit bytes ≡ Ended k f r → IsFirst e limit bytes (without_nul bytes (Ended k f r))
-  ended_first k f r h =
-      let t = found (Ended k f r) h in
-      let o = token_ordered e limit bytes f r (kind_of k.done) t in
-      let start = o.start in
-      let stop = o.stop in
-      let n = length bytes - length r in
-      nul_or (nul_in (take n bytes)) (IsFirst e limit bytes (without_nul bytes (Ended k f r)))
-      (λ z. subst (λ x. IsFirst e limit bytes (unless_nul x (Found (kind_of k.done) (length bytes - length f) n))) (sym z) ((f, (r, t, omega arith, omega arith)), z))
-      (λ i z. subst (λ x. IsFirst e limit bytes (unless_nul x (Found (kind_of k.done) (length bytes - length f) n))) (sym z)
-      (let p = nul_of_front n i bytes z in let q = p.1 in (
-        (λ front rest kind u. let c = complete e limit bytes front rest kind u in let w = ap length (ended_rest k c.state f front r rest (sym h ∙ c.is)) in omega arith),
-        (λ rest u. absurd (not_deep k f r rest (sym h ∙ deep e limit bytes rest u))),
-        p.0,
-      )))
-
-  deep_first : (r : List ℕ) → scanned e limit bytes ≡ Deep r → IsFirst e limit bytes (without_nul bytes (Deep r))
-  deep_first r h =
-      let t = found (Deep r) h in
-      let o = deep_ordered e limit bytes r t in
-      let n = length bytes - length r in
-      nul_or (nul_in (take n bytes)) (IsFirst e limit bytes (without_nul bytes (Deep r)))
-      (λ z. subst (λ x. IsFirst e limit bytes (unless_nul x (DeepAt n))) (sym z) ((r, t, omega arith), z))
-      (λ i z. subst (λ x. IsFirst e limit bytes (unless_nul x (DeepAt n))) (sym z)
-      (let p = nul_of_front n i bytes z in let q = p.1 in (
-        (λ front rest kind u. let c = complete e limit bytes front rest kind u in absurd (not_deep c.state front rest r (sym c.is ∙ h))),
-        (λ rest u. let w = ap length (deep_place r rest (sym h ∙ deep e limit bytes rest u)) in omega arith),
-        p.0,
-      )))
 
   no_token : (o : List ℕ) → scanned e limit bytes ≡ Open o → (front rest : List ℕ) (kind : TokenKind) → HasToken e limit bytes front rest kind → ⊥
   no_token o h front rest kind u = let c = complete e limit bytes front rest kind u in not_open c.state front rest o (sym c.is ∙ h)
@@ -136,61 +86,51 @@ module _ (e : Bool) (limit : ℕ) (bytes : List ℕ) where
   no_depth : (o : List ℕ) → scanned e limit bytes ≡ Open o → (rest : List ℕ) → IsTooDeep e limit bytes rest → ⊥
   no_depth o h rest u = deep_not_open rest o (sym (deep e limit bytes rest u) ∙ h)
 
-  open_first : (o : List ℕ) → scanned e limit bytes ≡ Open o → IsFirst e limit bytes (without_nul bytes (Open o))
-  open_first o h =
-      nul_or (nul_in bytes) (IsFirst e limit bytes (without_nul bytes (Open o)))
-      (λ z. subst (λ x. IsFirst e limit bytes (unless_nul x Unfinished)) (sym z) (no_token o h, no_depth o h, z))
-      (λ i z. subst (λ x. IsFirst e limit bytes (unless_nul x Unfinished)) (sym z) ((λ front rest kind u. absurd (no_token o h front rest kind u)), (λ rest u. absurd (no_depth o h rest u)), z))
-
-  scanned_first : (s : Scanned) → scanned e limit bytes ≡ s → IsFirst e limit bytes (without_nul bytes s)
-  scanned_first (Ended k f r) h = ended_first k f r h
-  scanned_first (Deep r) h = deep_first r h
-  scanned_first (Open o) h = open_first o h
+  scanned_first : (s : Scanned) → scanned e limit bytes ≡ s → IsFirst e limit bytes (token_of bytes s)
+  scanned_first (Ended k f r) h =
+      let t = found (Ended k f r) h in
+      let o = token_ordered e limit bytes f r (kind_of k.done) t in
+      let start = o.start in
+      let stop = o.stop in
+      (f, (r, t, omega arith, omega arith))
+  scanned_first (Deep r) h =
+      let t = found (Deep r) h in
+      let o = deep_ordered e limit bytes r t in
+      (r, t, omega arith)
+  scanned_first (Open o) h = (no_token o h, no_depth o h)
 
   pub is_first : IsFirst e limit bytes (first_token e limit bytes)
   unfolding first_token
   is_first = scanned_first (scanned e limit bytes) refl
 
   -- the first token is the answer
-  ended_only : (k : TokenKind) (start stop : ℕ) (front rest : List ℕ) (t : HasToken e limit bytes front rest k) → start + length front ≡ length bytes → stop + length rest ≡ length bytes → nul_in (take stop bytes) ≡ None
+  ended_only : (k : TokenKind) (start stop : ℕ) (front rest : List ℕ) (t : HasToken e limit bytes front rest k) → start + length front ≡ length bytes → stop + length rest ≡ length bytes
       → first_token e limit bytes ≡ Found k start stop
   unfolding first_token
-  ended_only k start stop front rest t s p n =
+  ended_only k start stop front rest t s p =
       let c = complete e limit bytes front rest k t in
       let x : length bytes - length rest ≡ stop = omega arith in
       let y : length bytes - length front ≡ start = omega arith in
-      ap (without_nul bytes) c.is ∙ (ap (λ x. unless_nul (nul_in (take x bytes)) (Found (kind_of c.state.done) (length bytes - length front) x)) x
-      ∙ (ap (λ y. unless_nul (nul_in (take stop bytes)) (Found (kind_of c.state.done) y stop)) y
-      ∙ (ap (λ z. unless_nul (nul_in (take stop bytes)) (Found z start stop)) c.kind_is ∙ ap (λ x. unless_nul x (Found k start stop)) n)))
+      ap (token_of bytes) c.is ∙ (ap (λ x. Found (kind_of c.state.done) (length bytes - length front) x) x
+      ∙ (ap (λ y. Found (kind_of c.state.done) y stop) y ∙ ap (λ z. Found z start stop) c.kind_is))
 
-  deep_only : (place : ℕ) (rest : List ℕ) → IsTooDeep e limit bytes rest → place + length rest ≡ length bytes → nul_in (take place bytes) ≡ None → first_token e limit bytes ≡ DeepAt place
+  deep_only : (place : ℕ) (rest : List ℕ) → IsTooDeep e limit bytes rest → place + length rest ≡ length bytes → first_token e limit bytes ≡ DeepAt place
   unfolding first_token
-  deep_only place rest t p n =
+  deep_only place rest t p =
       let x : length bytes - length rest ≡ place = omega arith in
-      ap (without_nul bytes) (deep e limit bytes rest t) ∙ (ap (λ x. unless_nul (nul_in (take x bytes)) (DeepAt x)) x ∙ ap (λ x. unless_nul x (DeepAt place)) n)
+      ap (token_of bytes) (deep e limit bytes rest t) ∙ ap (λ x. DeepAt x) x
 
-  open_only : (s : Scanned) → scanned e limit bytes ≡ s → ((front rest : List ℕ) (kind : TokenKind) → HasToken e limit bytes front rest kind → ⊥) → ((rest : List ℕ) → IsTooDeep e limit bytes rest → ⊥) → nul_in bytes ≡ None
-      → without_nul bytes s ≡ Unfinished
-  open_only (Ended k f r) h none level n = absurd (none f r (kind_of k.done) (found (Ended k f r) h))
-  open_only (Deep r) h none level n = absurd (level r (found (Deep r) h))
-  open_only (Open o) h none level n = ap (λ x. unless_nul x Unfinished) n
-
-  nul_only : (s : Scanned) (i : ℕ) → scanned e limit bytes ≡ s → ((front rest : List ℕ) (kind : TokenKind) → HasToken e limit bytes front rest kind → i + length rest < length bytes)
-      → ((rest : List ℕ) → IsTooDeep e limit bytes rest → i + length rest < length bytes) → nul_in bytes ≡ Some i → without_nul bytes s ≡ NulAt i
-  nul_only (Ended k f r) i h behind level n =
-      let b = behind f r (kind_of k.done) (found (Ended k f r) h) in
-      ap (λ x. unless_nul x (Found (kind_of k.done) (length bytes - length f) (length bytes - length r))) (nul_in_front (length bytes - length r) i bytes n (omega arith))
-  nul_only (Deep r) i h behind level n =
-      let b = level r (found (Deep r) h) in
-      ap (λ x. unless_nul x (DeepAt (length bytes - length r))) (nul_in_front (length bytes - length r) i bytes n (omega arith))
-  nul_only (Open o) i h behind level n = ap (λ x. unless_nul x Unfinished) n
+  open_only : (s : Scanned) → scanned e limit bytes ≡ s → ((front rest : List ℕ) (kind : TokenKind) → HasToken e limit bytes front rest kind → ⊥) → ((rest : List ℕ) → IsTooDeep e limit bytes rest → ⊥)
+      → token_of bytes s ≡ Unfinished
+  open_only (Ended k f r) h none level = absurd (none f r (kind_of k.done) (found (Ended k f r) h))
+  open_only (Deep r) h none level = absurd (level r (found (Deep r) h))
+  open_only (Open o) h none level = refl
 
   pub first_only : (answer : FirstToken) → IsFirst e limit bytes answer → first_token e limit bytes ≡ answer
   unfolding first_token
-  first_only (Found k start stop) h = ended_only k start stop h.0.0 h.0.1.0 h.0.1.1 h.0.1.2 h.0.1.3 h.1
-  first_only (DeepAt place) h = deep_only place h.0.0 h.0.1 h.0.2 h.1
-  first_only Unfinished h = open_only (scanned e limit bytes) refl h.0 h.1 h.2
-  first_only (NulAt i) h = nul_only (scanned e limit bytes) i refl h.0 h.1 h.2
+  first_only (Found k start stop) h = ended_only k start stop h.0 h.1.0 h.1.1 h.1.2 h.1.3
+  first_only (DeepAt place) h = deep_only place h.0 h.1 h.2
+  first_only Unfinished h = open_only (scanned e limit bytes) refl h.0 h.1
 
   pub first_law : (answer : FirstToken) → (first_token e limit bytes ≡ answer) ↔ IsFirst e limit bytes answer
   first_law answer = ((λ h. subst (IsFirst e limit bytes) h is_first), λ h. first_only answer h)

@@ -17,7 +17,6 @@ pub mod Growing
 pub mod Begun
 pub mod Whole
 pub mod Texts
-pub mod Nul
 pub mod Laws
 pub mod Places
 pub mod Loose

@@ -1,5 +1,5 @@
 -- The first token of a text, as a value, and what a call answers.
-use Rattle.std.specs.Prelude.{◌≡◌, ℕ, ◌+◌, ◌<◌, Bool, nat_eq, List, length, take, position, Option, Some, None, Result, Ok, Err}
+use Rattle.std.specs.Prelude.{◌≡◌, ℕ, ◌+◌, Bool, List, length, Result, Ok, Err}
 use Rattle.sh_scanner.specs.declared.token.TokenKind.{TokenKind}
 use Rattle.sh_scanner.specs.declared.token.Token.{Token}
 use Rattle.sh_scanner.specs.declared.token.TokenFault.{TokenFault}
@@ -9,31 +9,21 @@ use Rattle.sh_scanner.specs.Tokens.{HasToken, IsTooDeep}
 pub data FirstToken : Type 0 where
   Found : (kind : TokenKind) → (start stop : ℕ) → FirstToken
   Unfinished : FirstToken
-  NulAt : (place : ℕ) → FirstToken
   DeepAt : (place : ℕ) → FirstToken
 
--- the place of the first NUL
-abbrev pub nul_in : List ℕ → Option ℕ
-nul_in bytes = position (λ b. nat_eq b 0) bytes
-
 -- what the first token of these bytes is, in which so many levels may be open; e: they are the last of the input.
--- A token with a NUL, or with one before it, is no token; nor is a level behind a NUL one too many
+-- A NUL is a byte like any other: it is a fault of the text, and not of its tokens
 abbrev pub IsFirst : Bool → ℕ → List ℕ → FirstToken → Type 0
 IsFirst e limit bytes (Found kind start stop) =
-    ((front : List ℕ) × ((rest : List ℕ) × HasToken e limit bytes front rest kind × (start + length front ≡ length bytes) × (stop + length rest ≡ length bytes)))
-    × (nul_in (take stop bytes) ≡ None)
-IsFirst e limit bytes (DeepAt place) = ((rest : List ℕ) × IsTooDeep e limit bytes rest × (place + length rest ≡ length bytes)) × (nul_in (take place bytes) ≡ None)
+    (front : List ℕ) × ((rest : List ℕ) × HasToken e limit bytes front rest kind × (start + length front ≡ length bytes) × (stop + length rest ≡ length bytes))
+IsFirst e limit bytes (DeepAt place) = (rest : List ℕ) × IsTooDeep e limit bytes rest × (place + length rest ≡ length bytes)
 IsFirst e limit bytes Unfinished =
-    ((front rest : List ℕ) (kind : TokenKind) → HasToken e limit bytes front rest kind → ⊥) × ((rest : List ℕ) → IsTooDeep e limit bytes rest → ⊥) × (nul_in bytes ≡ None)
-IsFirst e limit bytes (NulAt place) =
-    ((front rest : List ℕ) (kind : TokenKind) → HasToken e limit bytes front rest kind → place + length rest < length bytes)
-    × ((rest : List ℕ) → IsTooDeep e limit bytes rest → place + length rest < length bytes) × (nul_in bytes ≡ Some place)
+    ((front rest : List ℕ) (kind : TokenKind) → HasToken e limit bytes front rest kind → ⊥) × ((rest : List ℕ) → IsTooDeep e limit bytes rest → ⊥)
 
 -- the same in a text in which the bytes begin at `at`
 abbrev pub answer_at : ℕ → FirstToken → Result Token TokenFault
 answer_at at (Found kind start stop) = Ok (record { kind = kind; span = record { start = at + start; «end» = at + stop } })
 answer_at at Unfinished = Err TokenFault.Unfinished
-answer_at at (NulAt place) = Err (TokenFault.NulByte (at + place))
 answer_at at (DeepAt place) = Err (TokenFault.TooDeep (at + place))
 
 -- the answer is given, unless memory ran out
@@ -41,5 +31,4 @@ abbrev pub Gives : Result Token TokenFault → Result Token TokenFault → Type 
 Gives (Ok token) found = Ok token ≡ found
 Gives (Err TokenFault.NoMemory) found = Unit {0}
 Gives (Err TokenFault.Unfinished) found = Err TokenFault.Unfinished ≡ found
-Gives (Err (TokenFault.NulByte at)) found = Err (TokenFault.NulByte at) ≡ found
 Gives (Err (TokenFault.TooDeep at)) found = Err (TokenFault.TooDeep at) ≡ found

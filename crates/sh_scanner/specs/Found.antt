@@ -1,10 +1,10 @@
 -- What the scanner finds in a text: its first token, or why there is none.
-use Rattle.std.specs.Prelude.{true, ℕ, suc, ◌-◌, Bool, not, List, [], ◌∷◌, length, take, drop, reverse, position, Option, Some, None}
+use Rattle.std.specs.Prelude.{true, ℕ, suc, ◌-◌, Bool, not, List, [], ◌∷◌, length, drop, reverse, position, Option, Some, None}
 use Rattle.sh_scanner_base.specs.declared.mark.Mark.{Mark}
 use Rattle.sh_scanner.specs.declared.token.TokenKind.{TokenKind}
 use Rattle.sh_scanner_base.specs.Marks.{is_gap}
 use Rattle.sh_scanner.specs.Tokens.{word_kind}
-use Rattle.sh_scanner.specs.FirstToken.{FirstToken, Found, Unfinished, NulAt, DeepAt, nul_in}
+use Rattle.sh_scanner.specs.FirstToken.{FirstToken, Found, Unfinished, DeepAt}
 use Rattle.sh_scanner_base.specs.declared.context.Context.TheVariants.{Body}
 use Rattle.sh_scanner.specs.Body.{BodyPieces, AllOf, OpenAt, TooDeepAt}
 use Rattle.sh_scanner.specs.Run.{Scanned, Ended, Deep, Open, scanned, scanned_in}
@@ -54,19 +54,14 @@ abbrev pub kind_of : List Mark → TokenKind
 kind_of ms = kind_from (reverse ms)
 
 -- the answer in a text with these bytes
-abbrev pub unless_nul : Option ℕ → FirstToken → FirstToken
-unless_nul None answer = answer
-unless_nul (Some place) answer = NulAt place
-
-abbrev pub without_nul : List ℕ → Scanned → FirstToken
-without_nul bytes (Ended s front rest) =
-    unless_nul (nul_in (take (length bytes - length rest) bytes)) (Found (kind_of s.done) (length bytes - length front) (length bytes - length rest))
-without_nul bytes (Deep rest) = unless_nul (nul_in (take (length bytes - length rest) bytes)) (DeepAt (length bytes - length rest))
-without_nul bytes (Open form) = unless_nul (nul_in bytes) Unfinished
+abbrev pub token_of : List ℕ → Scanned → FirstToken
+token_of bytes (Ended s front rest) = Found (kind_of s.done) (length bytes - length front) (length bytes - length rest)
+token_of bytes (Deep rest) = DeepAt (length bytes - length rest)
+token_of bytes (Open form) = Unfinished
 
 -- the first token of these bytes, in which so many levels may be open
 unfoldable pub first_token : Bool → ℕ → List ℕ → FirstToken
-first_token e limit bytes = without_nul bytes (scanned e limit bytes)
+first_token e limit bytes = token_of bytes (scanned e limit bytes)
 
 -- the pieces of a body with these bytes
 abbrev pub of_body : List ℕ → Scanned → BodyPieces

@@ -1,7 +1,7 @@
 //! Tokens (XCU 2.3).
-ghost use Rattle.std.specs.Prelude.{◌≡◌, ◌↔◌, ◌≤◌, ℕ, Bool, List, IfOk, drop, take, length};
+ghost use Rattle.std.specs.Prelude.{◌≡◌, ◌↔◌, ℕ, Bool, List, IfOk, drop, length};
 ghost use Rattle.sh_scanner.specs.Found.{first_token};
-ghost use Rattle.sh_scanner.specs.FirstToken.{FirstToken, IsFirst, answer_at, Gives, nul_in};
+ghost use Rattle.sh_scanner.specs.FirstToken.{FirstToken, IsFirst, answer_at, Gives};
 ghost use Rattle.sh_scanner.specs.Placed.{IsPlaced};
 
 use crate::kind::kind;
@@ -39,9 +39,6 @@ pub enum TokenFault {
     /// The text ends within the token, or the token might go on behind it.
     #[error("unfinished token")]
     Unfinished,
-    /// The token, or what lies before it, has a NUL; the first stands at `at` in the text.
-    #[error("NUL at byte {at}")]
-    NulByte { at: usize },
     /// More levels than may be open: the piece at `at` opens one too many.
     #[error("too deep at byte {at}")]
     TooDeep { at: usize },
@@ -68,7 +65,8 @@ const LEVELS: usize = 500;
 /// text's end is that of the input. Behind the text nothing stands, so that an `at` there gives `End`, or
 /// `Unfinished` where the input goes on. The bodies of here-documents inside a command substitution belong to the
 /// word (XCU 2.7.4); one that is due where the substitution ends is empty. Bodies of here-documents of the text itself
-/// are for the caller to take. In the token 500 levels may be open.
+/// are for the caller to take. In the token 500 levels may be open. A NUL is a byte like any other: that no text of a script has
+/// one is for the caller to say.
 pub fn next_token(alloc: Global, text: &[u8], at: usize, at_end: bool) -> Result<Token, TokenFault>
     // The answer is the first token's, by `first_token`, or memory ran out.
     ensures answers { Gives result (answer_at at (first_token at_end 500 (drop at text.now))) }
@@ -94,9 +92,6 @@ pub fn next_token_within(
         Outcome::Ended(state, front, rest) => {
             let start = bytes.len().saturating_sub(front.len());
             let end = bytes.len().saturating_sub(rest.len());
-            if let Some(place) = first_nul(bytes_before(bytes, end)) {
-                return Err(TokenFault::NulByte { at: at + place });
-            }
             let kind = kind(alloc, state.into_pieces())?;
             let span = Span {
                 start: at + start,
@@ -106,17 +101,9 @@ pub fn next_token_within(
         },
         Outcome::Deep(rest) => {
             let end = bytes.len().saturating_sub(rest.len());
-            if let Some(place) = first_nul(bytes_before(bytes, end)) {
-                return Err(TokenFault::NulByte { at: at + place });
-            }
             Err(TokenFault::TooDeep { at: at + end })
         },
-        Outcome::Open(_) => {
-            if let Some(place) = first_nul(bytes) {
-                return Err(TokenFault::NulByte { at: at + place });
-            }
-            Err(TokenFault::Unfinished)
-        },
+        Outcome::Open(_) => Err(TokenFault::Unfinished),
     }
 }
 
@@ -125,21 +112,6 @@ fn bytes_from(text: &[u8], at: usize) -> &[u8]
     ensures { result.now ≡ drop at text.now }
 {
     if at <= text.len() { &text[at..] } else { &[] }
-}
-
-/// The text before a place.
-fn bytes_before(text: &[u8], end: usize) -> &[u8]
-    requires { end ≤ length text.now }
-    ensures { result.now ≡ take end text.now }
-{
-    &text[..end]
-}
-
-/// The place of the first NUL.
-fn first_nul(bytes: &[u8]) -> Option<usize>
-    ensures { result ≡ nul_in bytes.now }
-{
-    bytes.iter().position(|b| *b == 0)
 }
 
 /// `first_token` gives an answer exactly when the text has it by the definition of tokens: each text has one token, or the end

@@ -11,4 +11,5 @@ returns c = (
   c.in_ok-pass.ensures.passed,
   c.in_ok-next.ensures.judged
       ∙ ap (λ d. and_then c.args.judged (λ j. with_item read_text 500 c.args.text.now d (aliased c.args.aliases.now j c.args.item) j)) c.due_at-due.ensures,
+  refl,
 )
