@@ -18,7 +18,7 @@ pub enum Leave {
 pub enum Act {
     /// It is done with this status.
     Finish(u8),
-    /// It writes this.
+    /// It writes this, and is done with 0; at once where this is empty.
     Write(Text),
     /// Commands are left.
     Leave(Leave),

@@ -37,10 +37,14 @@ failing false status = Status status
 abbrev pub refused : Builtin → BuiltinFault → Active
 refused builtin why = Next (Writing (message (fault_text (name_of builtin) why)) (failing (is_special builtin) (status_of why)))
 
--- ---- what follows: its output is written to descriptor 1 from the next turn on
+-- ---- what follows: its output is written to descriptor 1 from the next turn on; one that has none to write is done, with no turn more
+abbrev pub written : Builtin → List ℕ → Active
+written builtin [] = Done 0
+written builtin (byte ∷ bytes) = Next (Writing (record { descriptor = 1; bytes = byte ∷ bytes }) (Output builtin))
+
 abbrev pub behind : Builtin → Act → Active
 behind builtin (act.Finish status) = Done status
-behind builtin (act.Write text) = Next (Writing (record { descriptor = 1; bytes = text }) (Output builtin))
+behind builtin (act.Write text) = written builtin text
 behind builtin (act.Leave leave) = Leaving leave
 behind builtin (act.Fault why) = refused builtin why
 

@@ -1,7 +1,7 @@
 //! Built-ins act.
 ghost use Rattle.std.specs.Prelude.{◌≡◌, ◌++◌, IfOk, codes, drop};
 ghost use Rattle.sh_exec_base.specs.Messages as messages;
-ghost use Rattle.sh_exec_shell_base.specs.Builtins.{behind, built, failing, fault_text, performed, placed, refused, status_of};
+ghost use Rattle.sh_exec_shell_base.specs.Builtins.{behind, built, failing, fault_text, performed, placed, refused, status_of, written};
 ghost use Rattle.sh_kernel.specs.State.{KernelState, StandsAt};
 
 use sh_builtin::{Act, Builtin};
@@ -71,19 +71,27 @@ fn refused(alloc: Global, builtin: Builtin, fault: BuiltinFault) -> Result<Activ
     Ok(Active::Next(Place::Writing(piece, finish)))
 }
 
+/// What follows when a built-in has output to write: nothing where that is empty.
+fn written(builtin: Builtin, bytes: Text) -> Active
+    ensures { result ≡ written builtin bytes }
+{
+    if bytes.is_empty() {
+        return Active::Done(0);
+    }
+    let piece = Piece {
+        descriptor: 1,
+        bytes,
+    };
+    Active::Next(Place::Writing(piece, Finish::Output(builtin)))
+}
+
 /// What follows when a built-in has acted.
 fn behind(alloc: Global, builtin: Builtin, act: Act) -> Result<Active, NoMemory>
     ensures { IfOk result (λ active. active ≡ behind builtin act) }
 {
     match act {
         Act::Finish(status) => Ok(Active::Done(status)),
-        Act::Write(bytes) => {
-            let piece = Piece {
-                descriptor: 1,
-                bytes,
-            };
-            Ok(Active::Next(Place::Writing(piece, Finish::Output(builtin))))
-        },
+        Act::Write(bytes) => Ok(written(builtin, bytes)),
         Act::Leave(leave) => Ok(Active::Leaving(leave)),
         Act::Fault(fault) => refused(alloc, builtin, fault),
     }
