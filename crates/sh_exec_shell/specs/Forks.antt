@@ -15,7 +15,7 @@ use Rattle.sh_exec_command.specs.declared.running.Wants.{Wants}
 use Rattle.sh_exec_command.specs.declared.running.Wants.TheVariants.{Words, Values, Series}
 use Rattle.sh_exec_machine.specs.Forking.{forked}
 use Rattle.sh_exec_shell_base.specs.Forms.{Acted, acted}
-use Rattle.sh_exec_shell_base.specs.Entering.{body_of, stage_run}
+use Rattle.sh_exec_shell_base.specs.Bodies.{body_of, stage_run}
 use Rattle.sh_exec_shell_base.specs.Running.{Run, At, moved}
 use Rattle.sh_exec_shell.specs.declared.shell.Child.{Child}
 use Rattle.sh_kernel.specs.State.{KernelKept, KernelState, StandsAt}

@@ -6,7 +6,7 @@ ghost use Rattle.sh_exec_command.specs.Expanding as expanding;
 ghost use Rattle.sh_exec_command.specs.Preparing.{ahead};
 ghost use Rattle.sh_exec_machine.specs.Forking.{HasForked};
 ghost use Rattle.sh_exec_shell.specs.Forks.{IsTurned, child_of, fork_turn, is_more, program_by, stage_by, stage_from, stage_one, stage_turn, staged, substitute_turn, substitution_by, turned, unforked};
-ghost use Rattle.sh_exec_shell_base.specs.Entering.{body_of, stage_run};
+ghost use Rattle.sh_exec_shell_base.specs.Bodies.{body_of, stage_run};
 ghost use Rattle.sh_exec_shell_base.specs.Running.{Run, moved};
 ghost use Rattle.sh_exec_shell_base.specs.Tree.{run_of};
 

@@ -55,7 +55,7 @@ abbrev pub connected : List Connected → ℕ → Run
 connected [] status = At (Done status)
 connected (next ∷ others) status =
     if goes_on (view.out-Connected next).connector status
-    then joined others (pipeline_run list_run (view.out-Connected next).pipeline)
+    then joined others (pipeline_run (view.out-Connected next).pipeline)
     else connected others status
 
 -- ---- `if` (2.9.4.4): 0 where no list is run but conditions

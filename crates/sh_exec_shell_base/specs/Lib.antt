@@ -1,3 +1,4 @@
+pub mod Bodies
 pub mod Builtins
 pub mod Codes
 pub mod Entering

@@ -1,9 +1,9 @@
 //! Commands are entered.
 ghost use Rattle.std.specs.Prelude.{◌≡◌, ◌∷◌, [], IfOk, None, option_map};
-ghost use Rattle.sh_exec_shell_base.specs.Entering.{and_or_run, command_run, commands_run, entered, form_in, items_run, joined, list_run, list_within, pipeline_run, staging};
+ghost use Rattle.sh_exec_base.specs.Pipelines.{commands_of};
+ghost use Rattle.sh_exec_shell_base.specs.Entering.{and_or_run, command_run, commands_run, compound_entry, entered, form_entry, joined, list_run, negated, pipeline_run, staging};
 ghost use Rattle.sh_exec_shell_base.specs.Running.{Run};
 ghost use Rattle.sh_exec_shell_base.specs.Tree.{run_of};
-ghost use Rattle.sh_tree.specs.declared.tree.Command.TheViews as view;
 
 use crate::form::{Branches, Form, Loop};
 use crate::share::share_all;
@@ -18,9 +18,6 @@ use sh_tree::tree::{
     Pipeline,
 };
 use std::alloc::Global;
-
-/// How many lists of commands may stand inside one another: a text that nests more than 500 levels is too deep.
-pub(crate) const NESTING: usize = 501;
 
 /// Processes are to be made for these commands.
 fn staging(alloc: Global, commands: Sequence<Shared<Command>>) -> Place
@@ -127,18 +124,17 @@ fn series_tree(command: &Shared<Command>) -> Result<Tree, NoMemory>
     Ok(Tree::next(Place::Expanding(Wants::Series(command), None)))
 }
 
-/// A compound command, in which lists may nest `levels` deep.
+/// The form of a compound command.
 #[cycle(entering)]
-fn compound_tree(
+fn form_tree(
     alloc: Global,
-    levels: usize,
+    form: &CompoundForm,
     command: &Shared<Command>,
-    compound: &Compound,
 ) -> Result<Tree, NoMemory>
-    ensures { IfOk result (λ tree. run_of tree ≡ form_in (list_within levels) command.now (view.out-CompoundForm (view.out-Compound compound.now).form)) }
+    ensures { IfOk result (λ tree. run_of tree ≡ form_entry form.now command.now) }
 {
-    match &compound.form {
-        CompoundForm::Group(list) => list_tree(alloc, levels, list.get()),
+    match form {
+        CompoundForm::Group(list) => enter_list(alloc, list.get()),
         CompoundForm::Subshell(_) => subshell_tree(alloc, command),
         CompoundForm::If {
             condition,
@@ -146,7 +142,7 @@ fn compound_tree(
             else_ifs,
             else_body,
         } => {
-            let inner = list_tree(alloc, levels, condition.get())?;
+            let inner = enter_list(alloc, condition.get())?;
             if_tree(alloc, body, else_ifs.as_slice(), else_body.as_ref(), inner)
         },
         CompoundForm::Loop {
@@ -154,7 +150,7 @@ fn compound_tree(
             condition,
             body,
         } => {
-            let inner = list_tree(alloc, levels, condition.get())?;
+            let inner = enter_list(alloc, condition.get())?;
             loop_tree(alloc, *kind, condition, body, inner)
         },
         CompoundForm::For { .. } => series_tree(command),
@@ -163,48 +159,69 @@ fn compound_tree(
     }
 }
 
-/// A command.
+/// A compound command.
 #[cycle(entering)]
-fn command_tree(alloc: Global, levels: usize, command: &Shared<Command>) -> Result<Tree, NoMemory>
-    ensures { IfOk result (λ tree. run_of tree ≡ command_run (list_within levels) command.now) }
+fn compound_tree(
+    alloc: Global,
+    compound: &Compound,
+    command: &Shared<Command>,
+) -> Result<Tree, NoMemory>
+    ensures { IfOk result (λ tree. run_of tree ≡ compound_entry compound.now command.now) }
+{
+    form_tree(alloc, &compound.form, command)
+}
+
+/// A command that stands alone in its process.
+#[cycle(entering)]
+pub(crate) fn enter_command(alloc: Global, command: &Shared<Command>) -> Result<Tree, NoMemory>
+    ensures { IfOk result (λ tree. run_of tree ≡ command_run command.now) }
 {
     match command.get() {
         Command::Simple(_) => {
             let place = first_place(alloc, false, command.share()?)?;
             Ok(Tree::next(place))
         },
-        Command::Compound(compound) => compound_tree(alloc, levels, command, compound.get()),
+        Command::Compound(compound) => compound_tree(alloc, compound.get(), command),
         Command::Function { .. } => Ok(Tree::At(Active::Done(0))),
     }
 }
 
+/// A pipeline behind `!`, or without it.
+fn negate(alloc: Global, is_negated: bool, inner: Tree) -> Result<Tree, NoMemory>
+    ensures { IfOk result (λ tree. run_of tree ≡ negated is_negated (run_of inner)) }
+{
+    if is_negated {
+        return inner.within(alloc, Form::Negated);
+    }
+    Ok(inner)
+}
+
+/// The commands of a pipeline of several.
+fn stages_tree(alloc: Global, pipeline: &Pipeline) -> Result<Tree, NoMemory>
+    ensures { IfOk result (λ tree. run_of tree ≡ Run.At (Active.Next (staging (commands_of pipeline.now)))) }
+{
+    let commands = commands_of(alloc, pipeline)?;
+    Ok(Tree::next(staging(alloc, commands)))
+}
+
 /// The commands of a pipeline.
 #[cycle(entering)]
-fn commands_tree(
-    alloc: Global,
-    levels: usize,
-    commands: Sequence<Shared<Command>>,
-) -> Result<Tree, NoMemory>
-    ensures { IfOk result (λ tree. run_of tree ≡ commands_run (list_within levels) commands) }
+fn commands_tree(alloc: Global, pipeline: &Pipeline) -> Result<Tree, NoMemory>
+    ensures { IfOk result (λ tree. run_of tree ≡ commands_run pipeline.now) }
 {
-    if let [command] = commands.as_slice() {
-        return command_tree(alloc, levels, command);
+    match pipeline.rest.as_slice() {
+        [] => enter_command(alloc, &pipeline.first),
+        [_, ..] => stages_tree(alloc, pipeline),
     }
-    Ok(Tree::next(staging(alloc, commands)))
 }
 
 /// A pipeline.
 #[cycle(entering)]
-#[tactic(auto, unfolding(crate::specs::Entering::pipeline_run))]
-fn pipeline_tree(alloc: Global, levels: usize, pipeline: &Pipeline) -> Result<Tree, NoMemory>
-    ensures { IfOk result (λ tree. run_of tree ≡ pipeline_run (list_within levels) pipeline.now) }
+pub(crate) fn enter_pipeline(alloc: Global, pipeline: &Pipeline) -> Result<Tree, NoMemory>
+    ensures { IfOk result (λ tree. run_of tree ≡ pipeline_run pipeline.now) }
 {
-    let commands = commands_of(alloc, pipeline)?;
-    let inner = commands_tree(alloc, levels, commands)?;
-    if is_negated(pipeline) {
-        return inner.within(alloc, Form::Negated);
-    }
-    Ok(inner)
+    let inner = commands_tree(alloc, pipeline)?;
+    negate(alloc, is_negated(pipeline), inner)
 }
 
 /// A pipeline, and those behind it that are joined to it.
@@ -232,29 +249,47 @@ fn join_copies(alloc: Global, others: &[Connected], inner: Tree) -> Result<Tree,
 
 /// An AND-OR list.
 #[cycle(entering)]
-#[tactic(auto, unfolding(crate::specs::Entering::and_or_run))]
-fn and_or_tree(alloc: Global, levels: usize, list: &AndOr) -> Result<Tree, NoMemory>
-    ensures { IfOk result (λ tree. run_of tree ≡ and_or_run (list_within levels) list.now) }
+fn and_or_tree(alloc: Global, list: &AndOr) -> Result<Tree, NoMemory>
+    ensures { IfOk result (λ tree. run_of tree ≡ and_or_run list.now) }
 {
-    let inner = pipeline_tree(alloc, levels, list.first.get())?;
+    let inner = enter_pipeline(alloc, list.first.get())?;
     join_copies(alloc, list.rest.as_slice(), inner)
 }
 
-/// AND-OR lists one after another, behind a status.
+/// The first of some AND-OR lists, and copies of those behind it.
+fn before_copies(alloc: Global, items: &[ListItem], inner: Tree) -> Result<Tree, NoMemory>
+    ensures { IfOk result (λ tree. run_of tree ≡ Run.In (Form.Commands items.now) (run_of inner)) }
+{
+    match share_all(alloc, items) {
+        Ok(items) => inner.within(alloc, Form::Commands(items)),
+        Err(refusal) => {
+            drop(inner);
+            Err(refusal)
+        },
+    }
+}
+
+/// A list of commands that stands inside a command. The only error is want of memory.
 #[cycle(entering)]
-fn items_tree(
-    alloc: Global,
-    levels: usize,
-    items: Queue<ListItem>,
-    status: u8,
-) -> Result<Tree, NoMemory>
-    ensures { IfOk result (λ tree. run_of tree ≡ items_run (list_within levels) items status) }
+pub fn enter_list(alloc: Global, list: &Complete) -> Result<Tree, NoMemory>
+    ensures { IfOk result (λ tree. run_of tree ≡ list_run list.now) }
+{
+    let Some((item, others)) = list.items.as_slice().split_first() else {
+        return Ok(Tree::At(Active::Done(0)));
+    };
+    let inner = and_or_tree(alloc, item.list.get())?;
+    before_copies(alloc, others, inner)
+}
+
+/// AND-OR lists one after another, entered behind a command that had this status. The only error is want of memory.
+pub fn enter(alloc: Global, items: Queue<ListItem>, status: u8) -> Result<Tree, NoMemory>
+    ensures { IfOk result (λ tree. run_of tree ≡ entered items status) }
 {
     let mut items = items;
     let Some(item) = items.take() else {
         return Ok(Tree::At(Active::Done(status)));
     };
-    let entered = and_or_tree(alloc, levels, item.list.get());
+    let entered = and_or_tree(alloc, item.list.get());
     drop(item);
     match entered {
         Ok(inner) => inner.within(alloc, Form::Commands(items)),
@@ -263,48 +298,4 @@ fn items_tree(
             Err(refusal)
         },
     }
-}
-
-/// A list of commands.
-#[cycle(entering)]
-fn list_tree(alloc: Global, levels: usize, list: &Complete) -> Result<Tree, NoMemory>
-    ensures { IfOk result (λ tree. run_of tree ≡ list_within levels list.now) }
-{
-    if levels == 0 {
-        return Ok(Tree::At(Active::Done(0)));
-    }
-    let items = share_all(alloc, list.items.as_slice())?;
-    items_tree(alloc, levels - 1, items, 0)
-}
-
-/// A list of commands that stands inside a command. The only error is want of memory.
-#[tactic(auto, unfolding(crate::specs::Entering::list_run))]
-pub fn enter_list(alloc: Global, list: &Complete) -> Result<Tree, NoMemory>
-    ensures { IfOk result (λ tree. run_of tree ≡ list_run list.now) }
-{
-    list_tree(alloc, NESTING, list)
-}
-
-/// A pipeline behind others.
-#[tactic(auto, unfolding(crate::specs::Entering::list_run))]
-pub(crate) fn enter_pipeline(alloc: Global, pipeline: &Pipeline) -> Result<Tree, NoMemory>
-    ensures { IfOk result (λ tree. run_of tree ≡ pipeline_run list_run pipeline.now) }
-{
-    pipeline_tree(alloc, NESTING, pipeline)
-}
-
-/// A command that stands alone in its process.
-#[tactic(auto, unfolding(crate::specs::Entering::list_run))]
-pub(crate) fn enter_command(alloc: Global, command: &Shared<Command>) -> Result<Tree, NoMemory>
-    ensures { IfOk result (λ tree. run_of tree ≡ command_run list_run command.now) }
-{
-    command_tree(alloc, NESTING, command)
-}
-
-/// AND-OR lists one after another, entered behind a command that had this status. The only error is want of memory.
-#[tactic(auto, unfolding(crate::specs::Entering::list_run))]
-pub fn enter(alloc: Global, items: Queue<ListItem>, status: u8) -> Result<Tree, NoMemory>
-    ensures { IfOk result (λ tree. run_of tree ≡ entered items status) }
-{
-    items_tree(alloc, NESTING, items, status)
 }

@@ -42,7 +42,7 @@ fn goes_on(connector: Connector, status: u8) -> bool
 
 /// A pipeline of an AND-OR list, with those behind it.
 fn enter_joined(alloc: Global, next: Connected, others: Queue<Connected>) -> Result<Tree, NoMemory>
-    ensures { IfOk result (λ tree. run_of tree ≡ joined others (pipeline_run list_run (view.out-Connected next).pipeline)) }
+    ensures { IfOk result (λ tree. run_of tree ≡ joined others (pipeline_run (view.out-Connected next).pipeline)) }
 {
     let entered = enter_pipeline(alloc, next.pipeline.get());
     drop(next);
