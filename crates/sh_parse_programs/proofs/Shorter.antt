@@ -107,8 +107,14 @@ cut_fits : (stop : ℕ) (d : Delimiter) (joined : Bool) (ls : List Line) → Fit
 cut_fits stop d joined [] = none_fits 0 stop
 cut_fits stop d joined (l ∷ []) =
     let e : length l.bytes + 0 ≡ length l.bytes = omega arith in
-    subst (λ n. Fits n (with_line d joined l.start l.bytes (over stop (lines_from stop [])))) e
-    (with_line_fits 0 d joined l.start l.bytes (over stop (lines_from stop [])) (none_fits 0 stop))
+    go (not joined && is_end_line d l.bytes)
+    (subst (λ n. Fits n (with_line d joined l.start l.bytes (over stop (lines_from stop [])))) e
+    (with_line_fits 0 d joined l.start l.bytes (over stop (lines_from stop [])) (none_fits 0 stop)))
+  where
+    go : (c : Bool) → Fits (span (l ∷ [])) (with_line d joined l.start l.bytes (over stop (lines_from stop [])))
+        → Fits (span (l ∷ [])) (if c then over l.start (lines_from stop []) else with_line d joined l.start l.bytes (over stop (lines_from stop [])))
+    go true x = record { text = omega arith; rest = omega arith }
+    go false x = x
 cut_fits stop d joined (l ∷ k ∷ ls) =
     let size = pushed_size l.bytes 10 in
     let e : length (l.bytes ++ 10 ∷ []) + span (k ∷ ls) ≡ suc (length l.bytes) + span (k ∷ ls) = omega (size, arith) in
