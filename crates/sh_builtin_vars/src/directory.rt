@@ -202,7 +202,14 @@ fn cd_with(
             if operand.as_slice() == b"-".as_slice() {
                 return go_back(alloc, files, vars);
             }
-            go(alloc, false, files, vars, operand.as_slice(), operand.as_slice())
+            go(
+                alloc,
+                false,
+                files,
+                vars,
+                operand.as_slice(),
+                operand.as_slice(),
+            )
         },
         _ => Ok(Outcome::Fault(BuiltinFault::Usage)),
     }

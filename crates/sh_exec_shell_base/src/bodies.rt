@@ -16,11 +16,7 @@ use std::alloc::Global;
 
 /// The form of a compound command that is all that its process runs.
 #[cycle(bodies)]
-fn own_form(
-    alloc: Global,
-    form: &CompoundForm,
-    command: &Shared<Command>,
-) -> Result<Tree, NoMemory>
+fn own_form(alloc: Global, form: &CompoundForm, command: &Shared<Command>) -> Result<Tree, NoMemory>
     ensures { IfOk result (λ tree. run_of tree ≡ own_form form.now command.now) }
 {
     match form {
