@@ -1,18 +1,21 @@
 //! The file of events: lines `run K [N]` and `next [N]`.
-ghost use Rattle.std.specs.Prelude.{◌≡◌, ◌<◌, length};
+ghost use Rattle.std.specs.Prelude.{◌≡◌, ◌≢◌, ◌==◌, ◌+◌, ◌^◌, ◌<◌, ◌≤◌, ◌∷◌, ◌++◌, IfNone, IfOk, IfErr, IfSome, OnOk, OnErr, None, Some, Ok, Err, length, option_map, position};
+ghost use Rattle.sh_files_base.specs.Fields.{is_digit};
+ghost use Rattle.psh.specs.Lines.{further_parts, parts};
+ghost use Rattle.psh.specs.Events.{events_of, line_turns, next_turns, number, place_of, run_turns, size_of, so_often, times_of, turns_of};
+ghost use Rattle.psh.specs.declared.events.EventFault.TheVariants as fault;
 
 use sh_world::Event;
 use std::alloc::{AllocError, AllocFailed, Global};
-use thiserror::Error;
 
 /// The bytes of events that are read; the line of the first byte beyond is refused.
 pub const MOST_BYTES: usize = 268_435_456;
 
 /// How often a line's event may come.
-const MOST_TIMES: u64 = 1_000_000;
+const MOST_TIMES: u32 = 1_000_000;
 
 /// The greatest place that a line may name.
-const MOST_PLACE: u64 = 2_147_483_647;
+const MOST_PLACE: u32 = 2_147_483_647;
 
 /// One event, so many times in a row.
 #[derive(Clone, Copy)]
@@ -22,124 +25,195 @@ pub struct Turns {
 }
 
 /// Why events are refused.
-#[derive(Debug, Drop, Error)]
+#[derive(Debug, Drop)]
 pub enum EventFault {
     /// A line is no event. Lines count from 1.
-    #[error("BadEvent: line {line}")]
     BadEvent { line: u64 },
     /// No memory was found.
-    #[error("out of memory")]
     NoMemory,
 }
 
 impl From<AllocError> for EventFault {
+    ghost from_gives = { λ _ e. e ≡ fault.NoMemory };
+
     fn from(_error: AllocError) -> Self {
         EventFault::NoMemory
     }
 }
 
 impl<T: Drop> From<AllocFailed<T>> for EventFault {
+    ghost from_gives = { λ _ e. e ≡ fault.NoMemory };
+
     fn from(_error: AllocFailed<T>) -> Self {
         EventFault::NoMemory
     }
 }
 
-/// The bytes up to the first one that is `separator`, and those behind it; all and none where none is.
-fn cut(bytes: &[u8], separator: u8) -> (&[u8], &[u8])
-    ensures { 0 < length bytes.now → length result.1.now < length bytes.now }
+/// The place of the first such byte.
+fn first(bytes: &[u8], byte: u8) -> Option<usize>
+    ensures place { result ≡ position (λ b. b == byte) bytes.now }
+    ensures within { IfSome result (λ i. i < length bytes.now) }
 {
-    match bytes.iter().position(|byte| *byte == separator) {
-        Some(i) => (&bytes[..i], &bytes[i + 1..]),
-        None => (bytes, &[]),
+    bytes.iter().position(|it| *it == byte)
+}
+
+/// The bytes up to the first separator, and those behind it, if there is one.
+fn cut(bytes: &[u8], separator: u8) -> (&[u8], Option<&[u8]>)
+    ensures parts { parts separator bytes.now ≡ result.0.now ∷ further_parts separator (option_map (λ rest. rest.now) result.1) }
+    ensures size { IfSome result.1 (λ rest. length result.0.now + 1 + length rest.now ≡ length bytes.now) }
+    ensures whole { IfNone result.1 (result.0.now ≡ bytes.now) }
+{
+    match first(bytes, separator) {
+        Some(i) => (&bytes[..i], Some(&bytes[i + 1..])),
+        None => (bytes, None),
     }
 }
 
-/// A number of one to ten decimal digits.
-fn number(digits: &[u8]) -> Option<u64> {
+/// Whether a byte is a decimal digit.
+fn is_digit(byte: u8) -> bool
+    ensures { result ≡ is_digit byte }
+{
+    b'0' <= byte && byte <= b'9'
+}
+
+/// A number of one to ten decimal digits, of at most this value.
+fn number(digits: &[u8], most: u32) -> Option<u32>
+    requires { most ≤ 2147483647 }
+    ensures { result ≡ number most digits.now }
+{
     if digits.is_empty() || digits.len() > 10 {
         return None;
     }
     let mut value = 0u64;
-    for digit in digits {
-        if !digit.is_ascii_digit() {
+    let mut rest = digits;
+    'digits: while let Some((digit, behind)) = rest.split_first() {
+        if !is_digit(*digit) {
             return None;
         }
-        value = value.checked_mul(10)?;
-        value = value.checked_add(u64::from(digit.saturating_sub(b'0')))?;
+        value = 10 * value + u64::from(*digit - b'0');
+        if value > u64::from(most) {
+            return None;
+        }
+        rest = behind;
     }
-    Some(value)
-}
-
-/// How often: a number from 1 to 1000000.
-fn times(digits: &[u8]) -> Option<u32> {
-    let times = number(digits)?;
-    if times == 0 || times > MOST_TIMES {
-        return None;
-    }
-    u32::try_from(times).ok()
+    Some(value as u32)
 }
 
 /// Which place: a number from 0 to 2147483647.
-fn place(digits: &[u8]) -> Option<u32> {
-    let place = number(digits)?;
-    if place > MOST_PLACE {
-        return None;
-    }
-    u32::try_from(place).ok()
+fn place(digits: &[u8]) -> Option<u32>
+    ensures { result ≡ place_of digits.now }
+{
+    number(digits, MOST_PLACE)
 }
 
-/// `run K [N]`, from behind `run` on.
-fn run_turns(words: &[u8]) -> Option<Turns> {
-    let (first, rest) = cut(words, b' ');
+/// How often: a number from 1 to 1000000.
+fn times(digits: &[u8]) -> Option<u32>
+    ensures { result ≡ times_of digits.now }
+{
+    match number(digits, MOST_TIMES) {
+        None => None,
+        Some(0) => None,
+        Some(times) => Some(times),
+    }
+}
+
+/// An event, so often.
+fn so_often(event: Event, times: Option<u32>) -> Option<Turns>
+    ensures { result ≡ so_often event times }
+{
+    match times {
+        None => None,
+        Some(times) => Some(Turns { event, times }),
+    }
+}
+
+/// What follows `run`: `K [N]`.
+fn run_turns(words: Option<&[u8]>) -> Option<Turns>
+    ensures { result ≡ run_turns (further_parts 32 (option_map (λ rest. rest.now) words.entry)) }
+{
+    let (first, rest) = cut(words?, b' ');
     let event = Event::Run(place(first)?);
-    if first.len() == words.len() {
-        return Some(Turns { event, times: 1 });
+    let Some(rest) = rest else {
+        return so_often(event, Some(1));
+    };
+    match cut(rest, b' ') {
+        (last, None) => so_often(event, times(last)),
+        (_, Some(_)) => None,
     }
-    Some(Turns {
-        event,
-        times: times(rest)?,
-    })
 }
 
-/// The event of a line.
-fn turns_of(line: &[u8]) -> Option<Turns> {
-    let (name, rest) = cut(line, b' ');
+/// What follows `next`: `[N]`.
+fn next_turns(words: Option<&[u8]>) -> Option<Turns>
+    ensures { result ≡ next_turns (further_parts 32 (option_map (λ rest. rest.now) words.entry)) }
+{
+    let Some(words) = words else {
+        return so_often(Event::Next, Some(1));
+    };
+    match cut(words, b' ') {
+        (last, None) => so_often(Event::Next, times(last)),
+        (_, Some(_)) => None,
+    }
+}
+
+/// The event of a line, and how often it comes.
+fn turns_of(line: &[u8]) -> Option<Turns>
+    ensures { result ≡ turns_of line.now }
+{
+    let (name, words) = cut(line, b' ');
     if name == b"run".as_slice() {
-        return run_turns(rest);
+        return run_turns(words);
     }
-    if name != b"next".as_slice() {
-        return None;
+    if name == b"next".as_slice() {
+        return next_turns(words);
     }
-    if name.len() == line.len() {
-        return Some(Turns {
-            event: Event::Next,
-            times: 1,
-        });
-    }
-    Some(Turns {
-        event: Event::Next,
-        times: times(rest)?,
-    })
+    None
 }
 
-/// The events of a file's bytes. Empty lines are skipped, and the last newline may be missing.
-pub fn read_events(alloc: Global, bytes: &[u8]) -> Result<Vec<Turns>, EventFault> {
+/// Puts what a line has behind the others.
+fn add_line(all: &mut Vec<Turns>, text: &[u8], line: u64) -> Result<(), EventFault>
+    ensures ok { OnOk result (option_map (λ turns. all.old.items ++ turns) (line_turns text.now) ≡ Some all.new.items) }
+    ensures refused { IfErr result (λ fault. fault ≢ EventFault.NoMemory → (fault ≡ EventFault.BadEvent line) × (line_turns text.now ≡ None)) }
+{
+    if text.is_empty() {
+        return Ok(());
+    }
+    let Some(turns) = turns_of(text) else {
+        return Err(EventFault::BadEvent { line });
+    };
+    all.push(turns)?;
+    Ok(())
+}
+
+/// How many bytes a line has, with its newline where something follows it.
+fn size_of(text: &[u8], behind: Option<&[u8]>) -> usize
+    requires { IfSome behind (λ rest. length text.now + 1 + length rest.now < 2 ^ 64) }
+    ensures { result ≡ size_of text.now (further_parts 10 (option_map (λ rest. rest.now) behind.entry)) }
+{
+    match behind {
+        Some(_) => text.len() + 1,
+        None => text.len(),
+    }
+}
+
+/// The events of a file's bytes. Empty lines are skipped, and the last newline may be missing. The first line that is no event
+/// is refused, and the line of the first byte behind [`MOST_BYTES`], if none before it is.
+pub fn read_events(alloc: Global, bytes: &[u8]) -> Result<Vec<Turns>, EventFault>
+    ensures ok { IfOk result (λ all. events_of bytes.now ≡ Ok all.items) }
+    ensures refused { IfErr result (λ fault. fault ≢ EventFault.NoMemory → events_of bytes.now ≡ Err fault) }
+{
     let mut all = Vec::new(alloc);
     let mut line = 0u64;
-    let mut rest = bytes;
-    'lines: while !rest.is_empty() {
+    let mut place = 0usize;
+    let mut left = Some(bytes);
+    'lines: while let Some(rest) = left {
         let (text, behind) = cut(rest, b'\n');
-        line = line.saturating_add(1);
-        if bytes.len() - behind.len() > MOST_BYTES {
+        line += 1;
+        place += size_of(text, behind);
+        if place > MOST_BYTES {
             return Err(EventFault::BadEvent { line });
         }
-        if !text.is_empty() {
-            let Some(turns) = turns_of(text) else {
-                return Err(EventFault::BadEvent { line });
-            };
-            all.push(turns)?;
-        }
-        rest = behind;
+        add_line(&mut all, text, line)?;
+        left = behind;
     }
     Ok(all)
 }

@@ -12,6 +12,7 @@ mod usage;
 use crate::command_line::asked;
 use crate::serving::serve;
 use crate::usage::{Asked, UsageFault};
+use sh_stock::Program;
 use sh_syntax::memory::NoMemory;
 use sh_world::Settings;
 use std::env::{Env, FillError};
@@ -90,7 +91,7 @@ fn read_both(rt: &HostRuntime, image: &str, events: &str) -> Result<(Vec<u8>, Ve
 fn serve_to(rt: &HostRuntime, settings: Settings, report: bool, image: &[u8], events: &[u8]) -> u8 {
     let mut out = Vec::new(rt.alloc());
     let mut err = Vec::new(rt.alloc());
-    let status = serve(
+    let status = serve::<Program>(
         rt.alloc(),
         settings,
         report,

@@ -1,102 +1,156 @@
 //! One run of the program, over what its files hold.
+ghost use Rattle.std.specs.Prelude.{◌≡◌, ◌≢◌, ◌⊎◌, ◌++◌, ◌<◌, ℕ, OnOk, OnErr, codes, replicate, take};
+ghost use Rattle.sh_files_base.specs.Faults.{name_of};
+ghost use Rattle.sh_files_base.specs.declared.image_fault.FaultKind.TheVariants as kind;
+ghost use Rattle.sh_world.specs.Kept.{WorldStands, shown_of};
+ghost use Rattle.sh_world.specs.State.{State, run, terminal_of};
+ghost use Rattle.psh.specs.Events.{each_event};
+ghost use Rattle.psh.specs.Serving.{Shows, ShowsSome, WasCut, WasRefused, WasRun, refusal};
+
 use crate::events::{EventFault, Turns, read_events};
+use itoa::Buffer;
 use sh_files::{FaultKind, Files, ImageFault};
-use sh_stock::Program;
+use sh_stock::Stock;
 use sh_syntax::memory::NoMemory;
 use sh_world::{Settings, World};
 use std::alloc::Global;
-use std::fmt::Display;
 
-/// Writes a line of the program's own to standard error. After an `Err` nothing is written.
-fn complain(alloc: Global, err: &mut Vec<u8>, fault: impl Display + Drop) -> Result<(), NoMemory> {
-    let Ok(text) = format!(in alloc; "psh: {fault}\n") else {
-        return Err(NoMemory);
-    };
-    err.extend_from_slice(text.as_bytes())?;
+/// Tells what is wrong with an input, and in which line. After an `Err` nothing is told.
+fn tell(alloc: Global, err: &mut Vec<u8>, name: &str, line: u64) -> Result<(), NoMemory>
+    ensures told { OnOk result (err.new.items ≡ err.old.items ++ refusal name.now line) }
+    ensures kept { OnErr result (err.new.items ≡ err.old.items) }
+{
+    let mut digits = Buffer::new();
+    let mut text = Vec::from_slice(alloc, b"psh: ")?;
+    text.extend_from_slice(name.as_bytes())?;
+    text.extend_from_slice(b": line ")?;
+    text.extend_from_slice(digits.format(line).as_bytes())?;
+    text.push(b'\n')?;
+    err.extend_from_slice(&text)?;
     Ok(())
 }
 
 /// Says that memory is wanting, and gives the status for it. A line that can't be written is dropped.
-fn lack(alloc: Global, err: &mut Vec<u8>) -> u8 {
-    let _ = complain(alloc, err, NoMemory);
+fn lack(err: &mut Vec<u8>) -> u8
+    ensures { result ≡ 3 }
+{
+    let _ = err.extend_from_slice(b"psh: out of memory\n");
     3
 }
 
 /// Says why an input is refused, and gives the status for it, or that memory is wanting to say so.
-fn refuse(alloc: Global, err: &mut Vec<u8>, fault: impl Display + Drop) -> u8 {
-    match complain(alloc, err, fault) {
+fn refuse(alloc: Global, err: &mut Vec<u8>, name: &str, line: u64) -> u8
+    ensures statuses { (result ≡ 1) ⊎ (result ≡ 3) }
+    ensures told { result ≡ 1 → err.new.items ≡ err.old.items ++ refusal name.now line }
+{
+    match tell(alloc, err, name, line) {
         Ok(()) => 1,
-        Err(_) => lack(alloc, err),
+        Err(_) => lack(err),
     }
 }
 
 /// The same of an image.
-fn refuse_image(alloc: Global, err: &mut Vec<u8>, fault: ImageFault) -> u8 {
-    match fault.kind {
-        FaultKind::NoMemory => lack(alloc, err),
-        _ => refuse(alloc, err, fault),
+fn refuse_image(alloc: Global, err: &mut Vec<u8>, fault: ImageFault) -> u8
+    ensures statuses { (result ≡ 1) ⊎ (result ≡ 3) }
+    ensures told { result ≡ 1 → (fault.kind ≢ kind.NoMemory) × (err.new.items ≡ err.old.items ++ refusal (name_of fault.kind) fault.line) }
+{
+    if fault.kind == FaultKind::NoMemory {
+        return lack(err);
     }
+    refuse(alloc, err, fault.kind.name(), fault.line as u64)
 }
 
 /// The same of events.
-fn refuse_events(alloc: Global, err: &mut Vec<u8>, fault: EventFault) -> u8 {
+fn refuse_events(alloc: Global, err: &mut Vec<u8>, fault: EventFault) -> u8
+    ensures statuses { (result ≡ 1) ⊎ (result ≡ 3) }
+    ensures told { result ≡ 1 → (line : ℕ) × (fault ≡ EventFault.BadEvent line) × (err.new.items ≡ err.old.items ++ refusal (codes "BadEvent") line) }
+{
     match fault {
-        EventFault::NoMemory => lack(alloc, err),
-        EventFault::BadEvent { .. } => refuse(alloc, err, fault),
+        EventFault::NoMemory => lack(err),
+        EventFault::BadEvent { line } => refuse(alloc, err, "BadEvent", line),
     }
 }
 
-/// Gives a world its turns.
-fn drive(world: &mut World<Program>, all: &[Turns]) -> Result<(), NoMemory> {
-    for turns in all {
-        for _ in 0..turns.times {
-            world.apply(turns.event)?;
-        }
+/// Gives a world the events of one line.
+fn drive_line<S: Stock>(world: &mut World<S>, turns: Turns) -> Result<(), NoMemory>
+    ensures run { (s : State S) → WorldStands world.old s → OnOk result (WorldStands world.new (run S.meaning s (replicate turns.times turns.event))) }
+    ensures shown { (s : State S) → WorldStands world.old s → OnErr result
+        ((j : ℕ) × (j < turns.times) × (shown_of world.new ≡ terminal_of (run S.meaning s (replicate j turns.event)))) }
+{
+    'times: for done in 0..turns.times {
+        world.apply(turns.event)?;
     }
     Ok(())
 }
 
-/// Gives a world its turns, and shows its terminal.
-fn lead(
-    alloc: Global,
-    mut world: World<Program>,
-    all: &[Turns],
-    out: &mut Vec<u8>,
-    err: &mut Vec<u8>,
-) -> u8 {
-    let driven = drive(&mut world, all);
-    let shown = out.extend_from_slice(world.terminal());
-    drop(world);
-    if shown.is_err() || driven.is_err() {
-        return lack(alloc, err);
+/// Gives a world its turns.
+fn drive<S: Stock>(world: &mut World<S>, all: &[Turns]) -> Result<(), NoMemory>
+    ensures run { (s : State S) → WorldStands world.old s → OnOk result (WorldStands world.new (run S.meaning s (each_event all.now))) }
+    ensures shown { (s : State S) → WorldStands world.old s → OnErr result
+        ((j : ℕ) × (shown_of world.new ≡ terminal_of (run S.meaning s (take j (each_event all.now))))) }
+{
+    for turns in all {
+        drive_line(world, *turns)?;
     }
-    0
+    Ok(())
+}
+
+/// Shows a world's terminal. After an `Err` nothing is shown.
+fn show<S: Stock>(world: &World<S>, out: &mut Vec<u8>) -> Result<(), NoMemory>
+    ensures shown { OnOk result (out.new.items ≡ out.old.items ++ shown_of world.now) }
+    ensures view { (s : State S) → WorldStands world.now s → OnOk result (out.new.items ≡ out.old.items ++ terminal_of s) }
+    ensures kept { OnErr result (out.new.items ≡ out.old.items) }
+{
+    out.extend_from_slice(world.terminal())?;
+    Ok(())
+}
+
+/// Gives a world its turns, and shows its terminal.
+fn lead<S: Stock>(mut world: World<S>, all: &[Turns], out: &mut Vec<u8>, err: &mut Vec<u8>) -> u8
+    ensures statuses { (result ≡ 0) ⊎ (result ≡ 3) }
+    ensures done { (s : State S) → WorldStands world s → result ≡ 0 → out.new.items ≡ out.old.items ++ terminal_of (run S.meaning s (each_event all.now)) }
+    ensures cut { (s : State S) → WorldStands world s → result ≡ 3 →
+        (out.new.items ≡ out.old.items) ⊎ ((j : ℕ) × (out.new.items ≡ out.old.items ++ terminal_of (run S.meaning s (take j (each_event all.now))))) }
+{
+    let driven = drive(&mut world, all);
+    let shown = show(&world, out);
+    drop(world);
+    match (driven, shown) {
+        (Ok(()), Ok(())) => 0,
+        (Ok(()), Err(_)) => lack(err),
+        (Err(_), Ok(())) => lack(err),
+        (Err(_), Err(_)) => lack(err),
+    }
 }
 
 /// Runs a shell on these files by these turns.
-fn run(
+fn run<S: Stock>(
     alloc: Global,
     settings: Settings,
     files: Files,
     all: &[Turns],
     out: &mut Vec<u8>,
     err: &mut Vec<u8>,
-) -> u8 {
-    match World::new(alloc, files, settings) {
-        Ok(world) => lead(alloc, world, all, out, err),
-        Err(_) => lack(alloc, err),
+) -> u8
+    ensures statuses { (result ≡ 0) ⊎ (result ≡ 3) }
+    ensures done { result ≡ 0 → Shows S.meaning files settings all.now out.old.items out.new.items }
+    ensures cut { result ≡ 3 → ShowsSome S.meaning files settings all.now out.old.items out.new.items }
+{
+    match World::<S>::new(alloc, files, settings) {
+        Ok(world) => lead(world, all, out, err),
+        Err(_) => lack(err),
     }
 }
 
-/// Runs a shell on the files of `image` by the turns of `events`, both given whole. The image is checked
-/// first, then all events, before any event happens. `out` gets the terminal's bytes after the last
+/// Runs a shell on the files of `image` by the turns of `events`, both given whole, with the programs of a stock. The image is
+/// checked first, then all events, before any event happens. `out` gets the terminal's bytes after the last
 /// event, `err` what the program says itself.
 ///
 /// It answers the program's exit status: 0 where the run is done; 1 where the image or the events are
 /// refused (`psh: NAME: line N` in `err`, nothing in `out`); 3 where memory was wanting
 /// (`psh: out of memory`, and in `out` the terminal's bytes of the events that went through). No report
 /// is asked for yet.
-pub fn serve(
+pub fn serve<S: Stock>(
     alloc: Global,
     settings: Settings,
     _report: bool,
@@ -104,7 +158,12 @@ pub fn serve(
     events: &[u8],
     out: &mut Vec<u8>,
     err: &mut Vec<u8>,
-) -> u8 {
+) -> u8
+    ensures statuses { (result ≡ 0) ⊎ ((result ≡ 1) ⊎ (result ≡ 3)) }
+    ensures done { result ≡ 0 → WasRun S.meaning image.now events.now settings out.old.items out.new.items }
+    ensures refused { result ≡ 1 → (out.new.items ≡ out.old.items) × WasRefused image.now events.now err.old.items err.new.items }
+    ensures cut { result ≡ 3 → WasCut S.meaning image.now events.now settings out.old.items out.new.items }
+{
     let files = match Files::from_image(alloc, image) {
         Ok(files) => files,
         Err(fault) => {
@@ -113,7 +172,7 @@ pub fn serve(
         },
     };
     match read_events(alloc, events) {
-        Ok(all) => run(alloc, settings, files, &all, out, err),
+        Ok(all) => run::<S>(alloc, settings, files, &all, out, err),
         Err(fault) => {
             drop(settings);
             drop(files);
