@@ -1,5 +1,5 @@
 //! The tokens of a text, judged one after another.
-ghost use Rattle.std.specs.Prelude.{◌≡◌, ◌++◌, ◌∷◌, [], IfOk, OnOk, IsTrue, if◌then◌else◌};
+ghost use Rattle.std.specs.Prelude.{◌≡◌, ◌++◌, ◌∷◌, [], false, IfOk, OnErr, OnOk, IsTrue, if◌then◌else◌};
 ghost use Rattle.sh_token_base.specs.Shell.{complete, substitution};
 ghost use Rattle.sh_parse_programs.specs.Levels.{open_compounds};
 ghost use Rattle.sh_parse_programs.specs.Judging.{none_of, with_input, takes, open_in, is_none, are_whole, with_body, bodies_behind, filled, tree_by, tree_where};
@@ -67,10 +67,12 @@ impl Front {
         })
     }
 
-    /// Shows a token to the grammar, which takes it or refuses it; after that the tokens are as they were.
+    /// Shows a token to the grammar, which takes it, or refuses it; where it does that, or no memory is found, all is as it was.
     pub(crate) fn show(&mut self, input: Input) -> Result<bool, AllocError>
         ensures taken { IfOk result (λ taken. taken ≡ takes (with_input self.old input)) }
         ensures with { IfOk result (λ taken. IsTrue taken → self.new ≡ with_input self.old input) }
+        ensures kept { OnErr result (self.new ≡ self.old) }
+        ensures refused { IfOk result (λ taken. taken ≡ false → self.new ≡ self.old) }
     {
         let taken = self.recognizer.take(input)?;
         Ok(taken)

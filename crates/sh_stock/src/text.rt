@@ -1,5 +1,5 @@
 // Bytes that are kept.
-ghost use Rattle.std.specs.Prelude.{◌≡◌, ◌∷◌, ◌++◌, ◌==◌, [], length, List, ℕ, IfOk, OnOk, take};
+ghost use Rattle.std.specs.Prelude.{◌≡◌, ◌∷◌, ◌++◌, ◌==◌, [], length, List, ℕ, IfOk, OnErr, OnOk, take};
 
 use std::alloc::{AllocError, Global};
 use std::marker::Model;
@@ -59,7 +59,8 @@ impl Text {
 
     /// Puts a byte behind the others. The only error is want of memory; then nothing has changed.
     pub(crate) fn push(&mut self, byte: u8) -> Result<(), AllocError>
-        ensures { OnOk result (self.new ≡ self.old ++ byte ∷ []) }
+        ensures pushed { OnOk result (self.new ≡ self.old ++ byte ∷ []) }
+        ensures unchanged { OnErr result (self.new ≡ self.old) }
     {
         let bytes = [byte];
         self.bytes.extend_from_slice(&bytes)
@@ -67,7 +68,8 @@ impl Text {
 
     /// Puts bytes behind the others. The only error is want of memory; then nothing has changed.
     pub(crate) fn extend(&mut self, bytes: &[u8]) -> Result<(), AllocError>
-        ensures { OnOk result (self.new ≡ self.old ++ bytes.now) }
+        ensures extended { OnOk result (self.new ≡ self.old ++ bytes.now) }
+        ensures unchanged { OnErr result (self.new ≡ self.old) }
     {
         self.bytes.extend_from_slice(bytes)
     }
