@@ -1,4 +1,4 @@
+pub mod Actions
 pub mod Programs
-pub mod Runnable
 pub mod Starting
 pub mod Turns

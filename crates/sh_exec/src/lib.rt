@@ -1,9 +1,9 @@
 //! The processes of a modelled machine: shells, and the programs of a stock. One turn of a process is one reduction of what it runs.
 #![tactic(auto)]
 
+mod action;
 mod process;
 mod program;
-mod runnable;
 mod shell;
 mod start;
 

@@ -5,15 +5,17 @@ ghost use Rattle.sh_tty.specs.Kept.{Extends};
 ghost use Rattle.sh_exec.specs.Programs.{HasLeft};
 ghost use Rattle.sh_exec.specs.Starting.{start_turn};
 ghost use Rattle.sh_exec.specs.Turns as turns;
-ghost use Rattle.sh_exec.specs.Runnable as runnable;
+ghost use Rattle.sh_exec.specs.Actions.{action_of};
+ghost use Rattle.sh_kernel.specs.Turns as next;
+ghost use Rattle.sh_kernel.specs.Turns.{can_do};
 ghost use Rattle.sh_exec_shell.specs.Reduction.{shell_turn};
 
+use crate::action::{action_in, asked};
 use crate::program::ask_turn;
-use crate::runnable::{ask_runnable, shell_runnable};
 use crate::shell::starting_of;
 use crate::start::start_turn;
 use sh_exec_shell::{Child, Shell};
-use sh_kernel::Kernel;
+use sh_kernel::{Kernel, Next};
 use sh_stock::{Ask, Stock};
 use sh_syntax::memory::NoMemory;
 use sh_syntax::sequence::{Sequence, Text};
@@ -97,13 +99,20 @@ impl<S: Stock> Process<S> {
         }
     }
 
-    /// Whether the process `pid` can take a turn: it has not ended, and its next action need not wait. Takes no memory.
-    pub fn is_runnable(&self, kernel: &Kernel, pid: u32) -> bool
-        ensures { (s : KernelState) → StandsAt kernel.now s → result ≡ runnable.is_runnable s pid self.now }
+    /// What the process does in its next turn.
+    fn next(&self) -> Next<'_>
+        ensures { next.action_of result ≡ action_of self.now }
     {
         match self {
-            Process::Runs(shell) => shell_runnable(kernel, pid, shell.active()),
-            Process::Asks(ask, _) => ask_runnable(kernel, pid, ask),
+            Process::Runs(shell) => action_in(shell.active()),
+            Process::Asks(ask, _) => asked(ask),
         }
+    }
+
+    /// Whether the process `pid` can take a turn: it has not ended, and its next action need not wait. Takes no memory.
+    pub fn is_runnable(&self, kernel: &Kernel, pid: u32) -> bool
+        ensures { (s : KernelState) → StandsAt kernel.now s → result ≡ can_do s pid (action_of self.now) }
+    {
+        kernel.runnable(pid, self.next())
     }
 }

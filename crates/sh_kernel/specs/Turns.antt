@@ -1,20 +1,40 @@
 -- Which processes can take a turn: those that are neither stopped nor ended and whose next action can be done.
-use Rattle.std.specs.Prelude.{ℕ, ◌&&◌, Bool, false, not, replicate}
+use Rattle.std.specs.Prelude.{ℕ, List, ◌&&◌, Bool, false, not, replicate, Option}
+use Rattle.std.specs.Option.{option_map_or}
 use Rattle.sh_kernel_base.specs.Machine.{wait_answer}
 use Rattle.sh_kernel_base.specs.Processes.{status_at}
 use Rattle.sh_kernel_base.specs.Waiting.{is_running, waits}
+use Rattle.sh_kernel_base.specs.declared.descriptor.Name.{Name}
 use Rattle.sh_kernel.specs.State.{KernelState}
 use Rattle.sh_kernel.specs.Calls.{read_call, write_call}
 use Rattle.sh_kernel.specs.declared.next.Next.{Next}
-use Rattle.sh_kernel.specs.declared.next.Next.TheVariants.{Read, Write, Wait, Other}
+use Rattle.sh_kernel.specs.declared.next.Next.TheVariants as next
 
--- the call that the process is about to make would wait; how many bytes it would read doesn't matter, nor which it
--- would write
-abbrev pub next_waits : KernelState → ℕ → Next → Bool
-next_waits s pid (Read name) = waits (read_call s pid name 1).answer
-next_waits s pid (Write number count) = waits (write_call s pid number (replicate count 0)).answer
-next_waits s pid (Wait awaited) = waits (wait_answer s.machine.processes pid awaited.now)
-next_waits s pid Other = false
+-- what a process does in its next turn: it reads, it writes so many bytes, it waits until these have ended, or it does
+-- what can always be done
+pub data Action : Type 0 where
+  ReadsBy : (name : Name) → Action
+  WritesBy : (number count : ℕ) → Action
+  WaitsFor : (children : List ℕ) → Action
+  Acts : Action
 
-abbrev pub is_runnable : KernelState → ℕ → Next → Bool
-is_runnable s pid next = is_running (status_at s.machine.processes pid) && not (next_waits s pid next)
+abbrev pub action_of : Next → Action
+action_of (next.Read name) = ReadsBy name
+action_of (next.Write number count) = WritesBy number count
+action_of (next.Wait children) = WaitsFor children.now
+action_of next.Other = Acts
+
+-- the call of the action would wait; how many bytes it would read doesn't matter, nor which it would write
+abbrev pub action_waits : KernelState → ℕ → Action → Bool
+action_waits s pid (ReadsBy name) = waits (read_call s pid name 1).answer
+action_waits s pid (WritesBy number count) = waits (write_call s pid number (replicate count 0)).answer
+action_waits s pid (WaitsFor children) = waits (wait_answer s.machine.processes pid children)
+action_waits s pid Acts = false
+
+-- the process can do this in a turn
+unfoldable pub can_do : KernelState → ℕ → Action → Bool
+can_do s pid action = is_running (status_at s.machine.processes pid) && not (action_waits s pid action)
+
+-- of processes that are about to do these actions, those that can take a turn
+abbrev pub is_runnable : KernelState → (ℕ → Option Action) → ℕ → Bool
+is_runnable s actions pid = option_map_or (can_do s pid) (actions pid) false

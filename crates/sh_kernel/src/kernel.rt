@@ -59,7 +59,7 @@ impl Kernel {
     ghost use Rattle.sh_kernel_base.specs.Processes.{parent_at, status_at};
     ghost use Rattle.sh_kernel_base.specs.Terminals.{is_terminal};
     ghost use Rattle.sh_kernel_base.specs.Waiting.{waits};
-    ghost use Rattle.sh_kernel.specs.Turns.{is_runnable, next_waits};
+    ghost use Rattle.sh_kernel.specs.Turns.{action_of, action_waits, can_do};
     ghost use Rattle.sh_tty.specs.Happenings.{bytes_of};
     ghost use Rattle.sh_kernel.specs.State.{KernelState, StandsAt, starting};
     ghost use Rattle.sh_kernel.specs.Outcomes.{Gives, GivesOrLacks, GivesRead};
@@ -297,7 +297,7 @@ impl Kernel {
 
     /// Whether what a process is about to do would wait.
     fn next_waits(&self, pid: u32, next: Next<'_>) -> bool
-        ensures { (s : KernelState) → StandsAt self.now s → result ≡ next_waits s pid next.entry }
+        ensures { (s : KernelState) → StandsAt self.now s → result ≡ action_waits s pid (action_of next.entry) }
     {
         match next {
             Next::Read(name) => self.read_waits(pid, name),
@@ -319,8 +319,9 @@ impl Kernel {
 
     /// Whether a process can take a turn: it is neither stopped nor ended, and what it is about to do would not answer
     /// `WouldWait`. Takes no memory.
+    #[tactic(auto, unfolding(crate::specs::Turns::can_do))]
     pub fn runnable(&self, pid: u32, next: Next<'_>) -> bool
-        ensures { (s : KernelState) → StandsAt self.now s → result ≡ is_runnable s pid next.entry }
+        ensures { (s : KernelState) → StandsAt self.now s → result ≡ can_do s pid (action_of next.entry) }
     {
         self.machine.is_running(pid) && !self.next_waits(pid, next)
     }

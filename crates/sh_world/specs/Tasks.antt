@@ -1,18 +1,19 @@
 -- The processes of a machine that live, in order of pid: which of them can take a turn, and what a turn of one leaves.
 use Rattle.std.specs.Prelude.{◌≡◌, ℕ, suc, List, [], ◌∷◌, ◌++◌, nat_eq, Bool, Option, Some, None, if◌then◌else◌}
 use Rattle.std.specs.List.{filter}
-use Rattle.sh_exec.specs.Runnable.{is_runnable}
+use Rattle.sh_exec.specs.Actions.{action_of}
 use Rattle.sh_exec.specs.Turns.{Turned, turn}
 use Rattle.sh_exec.specs.declared.process.Process.TheVariants.{Runs}
 use Rattle.sh_exec_shell.specs.declared.shell.Child.{Child}
 use Rattle.sh_kernel.specs.State.{KernelKept, KernelState, StandsAt}
+use Rattle.sh_kernel.specs.Turns.{can_do}
 use Rattle.sh_kernel_base.specs.Processes.{lives}
 use Rattle.sh_stock.specs.Asking.{Meaning}
 use Rattle.sh_world.specs.declared.task.Task.{Task}
 
 -- those that can take a turn
 abbrev pub pid_before : {S : Type 0} → KernelState → Task S → List ℕ → List ℕ
-pid_before s task pids = if is_runnable s task.pid task.process then task.pid ∷ pids else pids
+pid_before s task pids = if can_do s task.pid (action_of task.process) then task.pid ∷ pids else pids
 
 abbrev pub runnable_pids : {S : Type 0} → KernelState → List (Task S) → List ℕ
 runnable_pids s [] = []

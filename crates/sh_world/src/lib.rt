@@ -4,6 +4,7 @@
 
 mod event;
 mod jobs;
+pub mod laws;
 mod script;
 mod settings;
 mod task;

@@ -3,7 +3,8 @@ ghost use Rattle.std.specs.Prelude.{◌≡◌, ◌++◌, ◌∷◌, [], IfOk, On
 ghost use Rattle.sh_kernel.specs.State.{KernelState, StandsAt};
 ghost use Rattle.sh_kernel_base.specs.Processes.{lives};
 ghost use Rattle.sh_tty.specs.Kept.{Extends};
-ghost use Rattle.sh_exec.specs.Runnable.{is_runnable};
+ghost use Rattle.sh_exec.specs.Actions.{action_of};
+ghost use Rattle.sh_kernel.specs.Turns.{can_do};
 ghost use Rattle.sh_exec.specs.Turns as processes;
 ghost use Rattle.sh_world.specs.Tasks.{HaveTurned, living, pid_before, place_of, runnable_pids, turn_among, with_child};
 

@@ -1,0 +1,50 @@
+-- What a process does in its next turn, as far as it may have to wait.
+use Rattle.std.specs.Prelude.{ℕ, List, length, Option, Some, None}
+use Rattle.sh_exec.specs.declared.process.Process.{Process}
+use Rattle.sh_exec.specs.declared.process.Process.TheVariants.{Runs, Asks}
+use Rattle.sh_exec_command.specs.declared.running.Active.{Active}
+use Rattle.sh_exec_command.specs.declared.running.Active.TheVariants.{Acting, Next, Done, Leaving}
+use Rattle.sh_exec_command.specs.declared.running.Place.{Place}
+use Rattle.sh_exec_command.specs.declared.running.Place.TheVariants.{Reading, Expanding, Collecting, Answering, Redirecting, Forking, Starting, Staging, Giving, Waiting, Writing, Ending}
+use Rattle.sh_exec_shell_base.specs.Running.{active_of}
+use Rattle.sh_kernel.specs.Turns.{Action, Acts, ReadsBy, WaitsFor, WritesBy}
+use Rattle.sh_kernel_base.specs.declared.descriptor.Name.TheVariants.{Aside, Number}
+use Rattle.sh_stock.specs.declared.asking.Ask.{Ask}
+use Rattle.sh_stock.specs.declared.asking.Ask.TheVariants as ask
+
+-- what is written to a pipe that was set aside is collected, as long as there is one
+abbrev pub collecting : Option ℕ → Action
+collecting None = Acts
+collecting (Some aside) = ReadsBy (Aside aside)
+
+abbrev pub action_at : Place → Action
+action_at (Reading rest) = Acts
+action_at (Expanding wants pending) = Acts
+action_at (Collecting substitution) = collecting substitution.aside
+action_at (Answering substitution) = WaitsFor substitution.children
+action_at (Redirecting p) = Acts
+action_at (Forking p) = Acts
+action_at (Starting fields) = Acts
+action_at (Staging stages) = Acts
+action_at (Giving series) = Acts
+action_at (Waiting children) = WaitsFor children
+action_at (Writing piece finish) = WritesBy piece.descriptor (length piece.bytes)
+action_at (Ending status) = Acts
+
+abbrev pub action_in : Active → Action
+action_in (Next place) = action_at place
+action_in (Acting builtin fields) = Acts
+action_in (Done status) = Acts
+action_in (Leaving status) = Acts
+
+-- a program reads by descriptor 0, and writes by descriptor 1
+abbrev pub asked : Ask → Action
+asked (ask.Read count) = ReadsBy (Number 0)
+asked (ask.Write bytes) = WritesBy 1 (length bytes)
+asked ask.Stop = Acts
+asked ask.Idle = Acts
+asked (ask.End status) = Acts
+
+abbrev pub action_of : {S : Type 0} → Process S → Action
+action_of (Runs shell) = action_in (active_of shell.run)
+action_of (Asks ask program) = asked ask

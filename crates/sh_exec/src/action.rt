@@ -1,0 +1,63 @@
+//! What processes are about to do.
+ghost use Rattle.std.specs.Prelude.{◌≡◌};
+ghost use Rattle.sh_kernel.specs.Turns.{action_of};
+ghost use Rattle.sh_exec.specs.Actions.{action_at, action_in, asked, collecting};
+
+use sh_exec_command::{Active, Place};
+use sh_kernel::{Name, Next};
+use sh_stock::Ask;
+
+/// Where the end of a pipe was set aside, a shell reads by it.
+fn collecting(aside: Option<usize>) -> Next<'static>
+    ensures { action_of result ≡ collecting aside }
+{
+    match aside {
+        Some(aside) => Next::Read(Name::Aside(aside)),
+        None => Next::Other,
+    }
+}
+
+/// What is done at a place.
+fn action_at(place: &Place) -> Next<'_>
+    ensures { action_of result ≡ action_at place.now }
+{
+    match place {
+        Place::Reading(_) => Next::Other,
+        Place::Expanding(_, _) => Next::Other,
+        Place::Collecting(substitution) => collecting(substitution.aside),
+        Place::Answering(substitution) => Next::Wait(substitution.children.as_slice()),
+        Place::Redirecting(_) => Next::Other,
+        Place::Forking(_) => Next::Other,
+        Place::Starting(_) => Next::Other,
+        Place::Staging(_) => Next::Other,
+        Place::Giving(_) => Next::Other,
+        Place::Waiting(children) => Next::Wait(children.as_slice()),
+        Place::Writing(piece, _) => Next::Write(piece.descriptor, piece.bytes.len()),
+        Place::Ending(_) => Next::Other,
+    }
+}
+
+/// What a shell at this active place does.
+pub(crate) fn action_in(active: &Active) -> Next<'_>
+    ensures { action_of result ≡ action_in active.now }
+{
+    match active {
+        Active::Next(place) => action_at(place),
+        Active::Acting(_, _) => Next::Other,
+        Active::Done(_) => Next::Other,
+        Active::Leaving(_) => Next::Other,
+    }
+}
+
+/// What a program asks.
+pub(crate) fn asked(ask: &Ask) -> Next<'_>
+    ensures { action_of result ≡ asked ask.now }
+{
+    match ask {
+        Ask::Read(_) => Next::Read(Name::Number(0)),
+        Ask::Write(bytes) => Next::Write(1, bytes.as_bytes().len()),
+        Ask::Stop => Next::Other,
+        Ask::Idle => Next::Other,
+        Ask::End(_) => Next::Other,
+    }
+}
