@@ -45,12 +45,12 @@ child_opens_none None true s pid node = refl
 child_opens_none (Some aside) false s pid node = refl
 child_opens_none (Some aside) true s pid node = refl
 
-behind_opens_none : (child aside : Option ℕ) (s : KernelState) (pid node : ℕ) → opens_any s pid (behind_fork child aside) node ≡ false
+pub behind_opens_none : (child aside : Option ℕ) (s : KernelState) (pid node : ℕ) → opens_any s pid (behind_fork child aside) node ≡ false
 behind_opens_none (Some child) aside s pid node = refl
 behind_opens_none None None s pid node = refl
 behind_opens_none None (Some aside) s pid node = refl
 
-all_open_none : (before : Option ℕ) (writes : Bool) (aside : Option ℕ) (s : KernelState) (pid node : ℕ) → opens_any s pid (with_fork before writes ++ behind_fork None aside) node ≡ false
+pub all_open_none : (before : Option ℕ) (writes : Bool) (aside : Option ℕ) (s : KernelState) (pid node : ℕ) → opens_any s pid (with_fork before writes ++ behind_fork None aside) node ≡ false
 all_open_none None false None s pid node = refl
 all_open_none None true None s pid node = refl
 all_open_none (Some before) false None s pid node = refl
@@ -138,19 +138,20 @@ child_descriptions (Some aside) writes s pid =
 
 -- ---- all of it
 -- a process makes another one between these states: before all of it, before the fork, behind it, behind what the new process does, and behind all of it
-record Made (pid child : ℕ) (a b c d e : MachineState) : Type 0 where
-  ready : ReachesNoMore pid (λ node. false) a b
-  none : reaches b.descriptors child (λ k. true) ≡ false
-  made : IsMade b pid child c
-  grows_fork : OnlyGrows b c
-  changes : ChangesOnlyReached pid (λ node. false) a c
-  less : ReachesNoMore pid (λ node. false) a c
-  number : child ≡ next_pid a.processes
-  grows : OnlyGrows a c
-  inside : ChangesOnlyReached child (λ node. false) c d
-  descriptions : d.descriptions ≡ c.descriptions
-  grows_inside : OnlyGrows c d
-  last : ChangesOnlyReached pid (λ node. false) d e
+pub record Made (pid child : ℕ) (a b c d e : MachineState) : Type 0 where
+  pub ready : ReachesNoMore pid (λ node. false) a b
+  pub none : reaches b.descriptors child (λ k. true) ≡ false
+  pub made : IsMade b pid child c
+  pub grows_fork : OnlyGrows b c
+  pub changes : ChangesOnlyReached pid (λ node. false) a c
+  pub less : ReachesNoMore pid (λ node. false) a c
+  pub number : child ≡ next_pid a.processes
+  pub grows : OnlyGrows a c
+  pub inside : ChangesOnlyReached child (λ node. false) c d
+  pub descriptions : d.descriptions ≡ c.descriptions
+  pub grows_inside : OnlyGrows c d
+  pub last : ChangesOnlyReached pid (λ node. false) d e
+  pub last_less : ReachesNoMore pid (λ node. false) d e
 
 made_less : (m : MachineState) (pid child : ℕ) (new : MachineState) (test : ℕ → Bool) → IsMade m pid child new → reaches m.descriptors child (λ k. true) ≡ false → reaches m.descriptors pid test ≡ false → reaches new.descriptors child test ≡ false
 made_less m pid child new test is none h =
@@ -166,7 +167,7 @@ child_none : (pid child : ℕ) (a b c d e : MachineState) → Made pid child a b
 child_none pid child a b c d e w test h = made_less b pid child c test w.made w.none h
 
 -- what its maker doesn't, behind what it does
-maker_none : (pid child : ℕ) (a b c d e : MachineState) → Made pid child a b c d e → (test : ℕ → Bool) → reaches c.descriptors pid test ≡ false → reaches d.descriptors pid test ≡ false
+pub maker_none : (pid child : ℕ) (a b c d e : MachineState) → Made pid child a b c d e → (test : ℕ → Bool) → reaches c.descriptors pid test ≡ false → reaches d.descriptors pid test ≡ false
 maker_none pid child a b c d e w test h =
     let old = w.made.maker in
     let there : pid < next_pid c.processes = omega (arith, old, w.grows_fork.processes) in
@@ -180,7 +181,7 @@ child_none_at : (f : List Description → ℕ → Bool) (pid child : ℕ) (a b c
 child_none_at f pid child a b c d e w h =
     child_none pid child a b c d e w (f c.descriptions) (ap (λ (es : List Description). reaches b.descriptors pid (f es)) (same_descriptions b pid child c w.made) ∙ h)
 
-maker_none_at : (f : List Description → ℕ → Bool) (pid child : ℕ) (a b c d e : MachineState) → Made pid child a b c d e → reaches c.descriptors pid (f c.descriptions) ≡ false → reaches d.descriptors pid (f d.descriptions) ≡ false
+pub maker_none_at : (f : List Description → ℕ → Bool) (pid child : ℕ) (a b c d e : MachineState) → Made pid child a b c d e → reaches c.descriptors pid (f c.descriptions) ≡ false → reaches d.descriptors pid (f d.descriptions) ≡ false
 maker_none_at f pid child a b c d e w h =
     maker_none pid child a b c d e w (f d.descriptions) (ap (λ (es : List Description). reaches c.descriptors pid (f es)) w.descriptions ∙ h)
 
@@ -217,11 +218,17 @@ changed pid child a b c d e w = record {
 }
 
 -- ---- of the requests
-with_child : (s : KernelState) (pid : ℕ) (before : Option ℕ) (writes : Bool) (child : ℕ) (last : List Request) → new_process s pid before writes ≡ Some child
+abbrev pub MadeBy : KernelState → ℕ → Option ℕ → Bool → ℕ → List Request → Type 0
+MadeBy s pid before writes child last =
+    let c = after_requests s pid (with_fork before writes) in
+    let d = after_requests c child (in_child before writes) in
+    Made pid child s.machine (after_requests s pid (before_fork before writes)).machine c.machine d.machine (after_requests d pid last).machine
+
+pub made_by : (s : KernelState) (pid : ℕ) (before : Option ℕ) (writes : Bool) (child : ℕ) (last : List Request) → new_process s pid before writes ≡ Some child
     → reaches s.machine.descriptors (next_pid s.machine.processes) (λ k. true) ≡ false
     → ((t : KernelState) (node : ℕ) → opens_any t pid last node ≡ false)
-    → ChangesOnlyReached pid (λ node. false) s.machine (after_both s pid (with_fork before writes) (Some child) (in_child before writes) last).machine
-with_child s pid before writes child last is none last_none =
+    → MadeBy s pid before writes child last
+made_by s pid before writes child last is none last_none =
     let ready = after_requests s pid (before_fork before writes) in
     let c = after_requests s pid (with_fork before writes) in
     let d = after_requests c child (in_child before writes) in
@@ -230,7 +237,7 @@ with_child s pid before writes child last is none last_none =
     let apart = maker_apart ready.machine pid child c.machine new in
     let keeps = keeps_before before writes s pid child apart in
     let number : child ≡ next_pid s.machine.processes = new.number ∙ ap next_pid keeps.processes in
-    changed pid child s.machine ready.machine c.machine d.machine (after_requests d pid last).machine (record {
+    record {
       ready = reaches_as_before s pid (before_fork before writes) (before_opens_none before writes s pid);
       none = keeps.fails (λ k. true) (ap (λ (n : ℕ). reaches s.machine.descriptors n (λ k. true)) number ∙ none);
       made = new;
@@ -243,7 +250,15 @@ with_child s pid before writes child last is none last_none =
       descriptions = child_descriptions before writes c child;
       grows_inside = lists_grow c child (in_child before writes);
       last = changes_reached d pid last (last_none d);
-    })
+      last_less = reaches_as_before d pid last (last_none d);
+    }
+
+with_child : (s : KernelState) (pid : ℕ) (before : Option ℕ) (writes : Bool) (child : ℕ) (last : List Request) → MadeBy s pid before writes child last
+    → ChangesOnlyReached pid (λ node. false) s.machine (after_both s pid (with_fork before writes) (Some child) (in_child before writes) last).machine
+with_child s pid before writes child last w =
+    let c = after_requests s pid (with_fork before writes) in
+    let d = after_requests c child (in_child before writes) in
+    changed pid child s.machine (after_requests s pid (before_fork before writes)).machine c.machine d.machine (after_requests d pid last).machine w
 
 without_child : (s : KernelState) (pid : ℕ) (before : Option ℕ) (writes : Bool) (aside : Option ℕ)
     → ChangesOnlyReached pid (λ node. false) s.machine (after_both s pid (with_fork before writes) None (in_child before writes) (behind_fork None aside)).machine
@@ -255,7 +270,9 @@ by_child : (s : KernelState) (pid : ℕ) (before : Option ℕ) (writes : Bool) (
     → reaches s.machine.descriptors (next_pid s.machine.processes) (λ k. true) ≡ false
     → ChangesOnlyReached pid (λ node. false) s.machine (after_both s pid (with_fork before writes) child (in_child before writes) (behind_fork child aside)).machine
 by_child s pid before writes None aside is none = without_child s pid before writes aside
-by_child s pid before writes (Some child) aside is none = with_child s pid before writes child (behind_fork (Some child) aside) is none (λ t node. behind_opens_none (Some child) aside t pid node)
+by_child s pid before writes (Some child) aside is none =
+    let last = behind_fork (Some child) aside in
+    with_child s pid before writes child last (made_by s pid before writes child last is none (λ t node. behind_opens_none (Some child) aside t pid node))
 
 pub after_is : (s : KernelState) (pid : ℕ) (before : Option ℕ) (writes : Bool) → (forked s pid before writes).after ≡ after_both s pid (with_fork before writes) (new_process s pid before writes) (in_child before writes) (behind_fork (new_process s pid before writes) (end_aside s pid writes))
 after_is s pid before writes = ap (λ (f : Forked). f.after) (forked_is s pid before writes)

@@ -5,3 +5,4 @@ pub mod Others
 pub mod Redirecting
 pub mod Undoing
 pub mod Unmade
+pub mod Reaching

@@ -3,7 +3,7 @@ ghost use Rattle.std.specs.Prelude.{◌≡◌, ◌≢◌, ℕ, ◌<◌, Bool, tr
 ghost use Rattle.sh_files.specs.Nodes.{FileMap};
 ghost use Rattle.sh_kernel_base.specs.Processes.{next_pid};
 ghost use Rattle.sh_kernel.specs.State.{KernelState, starting};
-ghost use Rattle.sh_kernel.specs.Laws.{ChangesOnlyReached, IsOwned, OnlyGrows};
+ghost use Rattle.sh_kernel.specs.Laws.{ChangesOnlyReached, IsOwned, OnlyGrows, ReachesNoMore};
 ghost use Rattle.sh_kernel_base.specs.declared.descriptor.Name.{Name};
 ghost use Rattle.sh_kernel.specs.Requests.{Read, Request, Write, after_request, after_requests};
 ghost use Rattle.sh_exec_machine.specs.declared.undone.Undone.{Undone};
@@ -44,6 +44,12 @@ pub fn forking_changes_what_is_reached()
     ensures changes { (s : KernelState) (pid : ℕ) (before : Option ℕ) (writes : Bool) → UnmadeReachNothing s.machine → ChangesOnlyReached pid (λ node. false) s.machine (forked s pid before writes).after.machine }
     ensures owned { (s : KernelState) (owner pid : ℕ) (before : Option ℕ) (writes : Bool) (test : ℕ → Bool) → pid ≢ owner → owner < next_pid s.machine.processes → ((k : ℕ) → test k ≡ true → k < length s.machine.descriptions) → IsOwned owner test s.machine.descriptors → IsOwned owner test (forked s pid before writes).after.machine.descriptors }
     ensures grows { (s : KernelState) (pid : ℕ) (before : Option ℕ) (writes : Bool) → OnlyGrows s.machine (forked s pid before writes).after.machine }
+{}
+
+/// Law: by making a process the shell comes to reach no pipe, file or description that was there and that it didn't reach (as long as no
+/// descriptor is of a process still to come).
+pub fn forking_reaches_no_more()
+    ensures { (s : KernelState) (pid : ℕ) (before : Option ℕ) (writes : Bool) → UnmadeReachNothing s.machine → ReachesNoMore pid (λ node. false) s.machine (forked s pid before writes).after.machine }
 {}
 
 /// Law: no descriptor is of a process that is still to come: as the first one starts, and after requests of a process that is there, also those
