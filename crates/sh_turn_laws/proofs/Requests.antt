@@ -1,5 +1,5 @@
 -- Lists of requests, and what a process does by them.
-use Rattle.std.proofs.Common.{ℕ, List, [], ◌∷◌, ◌++◌, Bool, true, false, Option, Some, None, Result, Ok, Err, refl, sym, ap, subst}
+use Rattle.std.proofs.Common.{ℕ, List, [], ◌∷◌, ◌++◌, Bool, true, false, Option, Some, None, Result, Ok, Err, refl, sym, subst}
 use Rattle.std.specs.Prelude.{◌&&◌, not, if◌then◌else◌, is_some}
 use Rattle.sh_exec_base.specs.declared.redirection.Action.{Action}
 use Rattle.sh_exec_base.specs.declared.redirection.Action.TheVariants as action
@@ -23,8 +23,12 @@ use Rattle.sh_kernel.specs.Requests.{Request, Fork, Read, SetAside, Write, after
 use Rattle.sh_kernel.specs.State.{KernelState}
 use Rattle.sh_turn_laws.specs.Requests.{IsFrom}
 
-abbrev pub IsKept : List ℕ → (KernelState → Type 0) → Type 0
-IsKept directory P = (s : KernelState) (pid : ℕ) (r : Request) → IsFrom directory r → P s → P (after_request s pid r)
+abbrev pub IsKept : List ℕ → ℕ → (KernelState → Type 0) → Type 0
+IsKept directory pid P = (s : KernelState) (r : Request) → IsFrom directory r → P s → P (after_request s pid r)
+
+-- what is kept where a process makes another one, whose number is told
+abbrev pub IsForked : ℕ → (Option ℕ → KernelState → Type 0) → Type 0
+IsForked pid P = (s : KernelState) (before : Option ℕ) (writes : Bool) → P None s → P (forked s pid before writes).child (forked s pid before writes).after
 
 module _ (directory : List ℕ) where
   abbrev pub ListFrom : List Request → Type 0
@@ -93,31 +97,34 @@ module _ (directory : List ℕ) where
       at true = (tt, keeping_from (set_aside_call s pid number).after pid number r (set_aside_call s pid number).answer)
       at false = placing_from number r.word r.action
 
-  module _ (P : KernelState → Type 0) (kept : IsKept directory P) where
-    pub list_keeps : (rs : List Request) → ListFrom rs → (s : KernelState) (pid : ℕ) → P s → P (after_requests s pid rs)
-    list_keeps [] a s pid p = p
-    list_keeps (r ∷ rs) a s pid p = list_keeps rs a.1 (after_request s pid r) pid (kept s pid r a.0 p)
+  module _ (pid : ℕ) (P : KernelState → Type 0) (kept : IsKept directory pid P) where
+    pub list_keeps : (rs : List Request) → ListFrom rs → (s : KernelState) → P s → P (after_requests s pid rs)
+    list_keeps [] a s p = p
+    list_keeps (r ∷ rs) a s p = list_keeps rs a.1 (after_request s pid r) (kept s r a.0 p)
 
-    child_keeps : (s : KernelState) (child : Option ℕ) (rs : List Request) → ListFrom rs → P s → P (after_child s child rs)
+    pub redirect_keeps : (keeps : Bool) (s : KernelState) (r : Redirection) → P s → P (redirected keeps s pid directory r).after
+    redirect_keeps keeps s r p = subst P (sym (redirecting_is keeps s pid directory r)) (list_keeps (redirecting keeps s pid directory r) (redirecting_from keeps s pid r r.number) s p)
+
+    pub undo_keeps : (us : List Undone) (s : KernelState) → P s → P (all_restored pid us s)
+    undo_keeps us s p = subst P (sym (undoing_is pid us s)) (list_keeps (undoing us) (undoing_from us) s p)
+
+    pub take_keeps : (s : KernelState) (name : Name) (count : ℕ) → P s → P (take_bytes s pid name count).after
+    take_keeps s name count p = subst P (sym (taking_is s pid name count)) (kept s (Read name count) tt p)
+
+    pub give_keeps : (s : KernelState) (number : ℕ) (bytes : List ℕ) → P s → P (give_bytes s pid number bytes).after
+    give_keeps s number bytes p = subst P (sym (giving_is s pid number bytes)) (kept s (Write number bytes) tt p)
+
+  -- what is kept by the requests of a process and of the one that it makes, whose number it is told
+  module _ (pid : ℕ) (P : Option ℕ → KernelState → Type 0) (kept : (made : Option ℕ) → IsKept directory pid (P made))
+      (born : (s : KernelState) (child : ℕ) → P None s → P (Some child) s) (inside : (child : ℕ) → IsKept directory child (P (Some child))) where
+    child_keeps : (s : KernelState) (child : Option ℕ) (rs : List Request) → ListFrom rs → P None s → P child (after_child s child rs)
     child_keeps s None rs a p = p
-    child_keeps s (Some child) rs a p = list_keeps rs a s child p
+    child_keeps s (Some child) rs a p = list_keeps child (P (Some child)) (inside child) rs a s (born s child p)
 
-    pub fork_keeps : (s : KernelState) (pid : ℕ) (before : Option ℕ) (writes : Bool) → P s → P (forked s pid before writes).after
-    fork_keeps s pid before writes p =
+    pub fork_keeps : IsForked pid P
+    fork_keeps s before writes p =
         let child = new_process s pid before writes in
-        let first = list_keeps (with_fork before writes) (with_fork_from before writes) s pid p in
-        let inside = child_keeps (after_requests s pid (with_fork before writes)) child (in_child before writes) (in_child_from before writes) first in
-        let all = list_keeps (behind_fork child (end_aside s pid writes)) (behind_fork_from child (end_aside s pid writes)) (after_child (after_requests s pid (with_fork before writes)) child (in_child before writes)) pid inside in
-        subst P (sym (ap (λ (f : Forked). f.after) (forked_is s pid before writes))) all
-
-    pub redirect_keeps : (keeps : Bool) (s : KernelState) (pid : ℕ) (r : Redirection) → P s → P (redirected keeps s pid directory r).after
-    redirect_keeps keeps s pid r p = subst P (sym (redirecting_is keeps s pid directory r)) (list_keeps (redirecting keeps s pid directory r) (redirecting_from keeps s pid r r.number) s pid p)
-
-    pub undo_keeps : (us : List Undone) (s : KernelState) (pid : ℕ) → P s → P (all_restored pid us s)
-    undo_keeps us s pid p = subst P (sym (undoing_is pid us s)) (list_keeps (undoing us) (undoing_from us) s pid p)
-
-    pub take_keeps : (s : KernelState) (pid : ℕ) (name : Name) (count : ℕ) → P s → P (take_bytes s pid name count).after
-    take_keeps s pid name count p = subst P (sym (taking_is s pid name count)) (kept s pid (Read name count) tt p)
-
-    pub give_keeps : (s : KernelState) (pid number : ℕ) (bytes : List ℕ) → P s → P (give_bytes s pid number bytes).after
-    give_keeps s pid number bytes p = subst P (sym (giving_is s pid number bytes)) (kept s pid (Write number bytes) tt p)
+        let first = list_keeps pid (P None) (kept None) (with_fork before writes) (with_fork_from before writes) s p in
+        let with_child = child_keeps (after_requests s pid (with_fork before writes)) child (in_child before writes) (in_child_from before writes) first in
+        let all = list_keeps pid (P child) (kept child) (behind_fork child (end_aside s pid writes)) (behind_fork_from child (end_aside s pid writes)) (after_child (after_requests s pid (with_fork before writes)) child (in_child before writes)) with_child in
+        subst (λ (f : Forked). P f.child f.after) (sym (forked_is s pid before writes)) all
