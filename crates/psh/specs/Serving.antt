@@ -1,5 +1,5 @@
 -- What the program does with an image and events: what it writes, and its exit status.
-use Rattle.std.specs.Prelude.{◌≡◌, ℕ, List, [], ◌∷◌, ◌++◌, Ok, Err, codes, decimal, take}
+use Rattle.std.specs.Prelude.{◌≡◌, ◌⊎◌, ℕ, List, [], ◌∷◌, ◌++◌, Ok, Err, codes, decimal, take}
 use Rattle.sh_files.specs.Image.{read_image}
 use Rattle.sh_files.specs.Nodes.{FileMap}
 use Rattle.sh_files_base.specs.Faults.{name_of}
@@ -15,6 +15,10 @@ use Rattle.psh.specs.declared.events.Turns.{Turns}
 -- why an input is refused: what is wrong, and in which line
 abbrev pub refusal : List ℕ → ℕ → List ℕ
 refusal name line = codes "psh: " ++ name ++ codes ": line " ++ decimal line ++ 10 ∷ []
+
+-- what is said where memory is wanting: one line, which is dropped where there is no memory for it either
+abbrev pub SaysLack : List ℕ → List ℕ → Type 0
+SaysLack old new = (new ≡ old ++ codes "psh: out of memory\n") ⊎ (new ≡ old)
 
 -- the events of a run
 abbrev pub events_by : List Turns → List Event

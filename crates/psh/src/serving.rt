@@ -5,7 +5,7 @@ ghost use Rattle.sh_files_base.specs.declared.image_fault.FaultKind.TheVariants 
 ghost use Rattle.sh_world.specs.Kept.{WorldStands, shown_of};
 ghost use Rattle.sh_world.specs.State.{State, run, terminal_of};
 ghost use Rattle.psh.specs.Events.{each_event};
-ghost use Rattle.psh.specs.Serving.{Shows, ShowsSome, WasCut, WasRefused, WasRun, refusal};
+ghost use Rattle.psh.specs.Serving.{SaysLack, Shows, ShowsSome, WasCut, WasRefused, WasRun, refusal};
 
 use crate::events::{EventFault, Turns, read_events};
 use itoa::Buffer;
@@ -32,16 +32,20 @@ fn tell(alloc: Global, err: &mut Vec<u8>, name: &str, line: u64) -> Result<(), N
 
 /// Says that memory is wanting, and gives the status for it. A line that can't be written is dropped.
 fn lack(err: &mut Vec<u8>) -> u8
-    ensures { result ≡ 3 }
+    ensures status { result ≡ 3 }
+    ensures said { SaysLack err.old.items err.new.items }
 {
-    let _ = err.extend_from_slice(b"psh: out of memory\n");
-    3
+    match err.extend_from_slice(b"psh: out of memory\n") {
+        Ok(()) => 3,
+        Err(_) => 3,
+    }
 }
 
 /// Says why an input is refused, and gives the status for it, or that memory is wanting to say so.
 fn refuse(alloc: Global, err: &mut Vec<u8>, name: &str, line: u64) -> u8
     ensures statuses { (result ≡ 1) ⊎ (result ≡ 3) }
     ensures told { result ≡ 1 → err.new.items ≡ err.old.items ++ refusal name.now line }
+    ensures lacks { result ≡ 3 → SaysLack err.old.items err.new.items }
 {
     match tell(alloc, err, name, line) {
         Ok(()) => 1,
@@ -53,6 +57,7 @@ fn refuse(alloc: Global, err: &mut Vec<u8>, name: &str, line: u64) -> u8
 fn refuse_image(alloc: Global, err: &mut Vec<u8>, fault: ImageFault) -> u8
     ensures statuses { (result ≡ 1) ⊎ (result ≡ 3) }
     ensures told { result ≡ 1 → (fault.kind ≢ kind.NoMemory) × (err.new.items ≡ err.old.items ++ refusal (name_of fault.kind) fault.line) }
+    ensures lacks { result ≡ 3 → SaysLack err.old.items err.new.items }
 {
     if fault.kind == FaultKind::NoMemory {
         return lack(err);
@@ -64,6 +69,7 @@ fn refuse_image(alloc: Global, err: &mut Vec<u8>, fault: ImageFault) -> u8
 fn refuse_events(alloc: Global, err: &mut Vec<u8>, fault: EventFault) -> u8
     ensures statuses { (result ≡ 1) ⊎ (result ≡ 3) }
     ensures told { result ≡ 1 → (line : ℕ) × (fault ≡ EventFault.BadEvent line) × (err.new.items ≡ err.old.items ++ refusal (codes "BadEvent") line) }
+    ensures lacks { result ≡ 3 → SaysLack err.old.items err.new.items }
 {
     match fault {
         EventFault::NoMemory => lack(err),
@@ -111,6 +117,8 @@ fn lead<S: Stock>(mut world: World<S>, all: &[Turns], out: &mut Vec<u8>, err: &m
     ensures done { (s : State S) → WorldStands world s → result ≡ 0 → out.new.items ≡ out.old.items ++ terminal_of (run S.meaning s (each_event all.now)) }
     ensures cut { (s : State S) → WorldStands world s → result ≡ 3 →
         (out.new.items ≡ out.old.items) ⊎ ((j : ℕ) × (out.new.items ≡ out.old.items ++ terminal_of (run S.meaning s (take j (each_event all.now))))) }
+    ensures silent { result ≡ 0 → err.new.items ≡ err.old.items }
+    ensures lacks { result ≡ 3 → SaysLack err.old.items err.new.items }
 {
     let driven = drive(&mut world, all);
     let shown = show(&world, out);
@@ -135,6 +143,8 @@ fn run<S: Stock>(
     ensures statuses { (result ≡ 0) ⊎ (result ≡ 3) }
     ensures done { result ≡ 0 → Shows S.meaning files settings all.now out.old.items out.new.items }
     ensures cut { result ≡ 3 → ShowsSome S.meaning files settings all.now out.old.items out.new.items }
+    ensures silent { result ≡ 0 → err.new.items ≡ err.old.items }
+    ensures lacks { result ≡ 3 → SaysLack err.old.items err.new.items }
 {
     match World::<S>::new(alloc, files, settings) {
         Ok(world) => lead(world, all, out, err),
@@ -148,8 +158,8 @@ fn run<S: Stock>(
 ///
 /// It answers the program's exit status: 0 where the run is done; 1 where the image or the events are
 /// refused (`psh: NAME: line N` in `err`, nothing in `out`); 3 where memory was wanting
-/// (`psh: out of memory`, and in `out` the terminal's bytes of the events that went through). No report
-/// is asked for yet.
+/// (`psh: out of memory` in `err`, or nothing where there is no memory for that, and in `out` the terminal's
+/// bytes of the events that went through). At 0 nothing is said in `err`. No report is asked for yet.
 pub fn serve<S: Stock>(
     alloc: Global,
     settings: Settings,
@@ -163,6 +173,8 @@ pub fn serve<S: Stock>(
     ensures done { result ≡ 0 → WasRun S.meaning image.now events.now settings out.old.items out.new.items }
     ensures refused { result ≡ 1 → (out.new.items ≡ out.old.items) × WasRefused image.now events.now err.old.items err.new.items }
     ensures cut { result ≡ 3 → WasCut S.meaning image.now events.now settings out.old.items out.new.items }
+    ensures silent { result ≡ 0 → err.new.items ≡ err.old.items }
+    ensures lacks { result ≡ 3 → SaysLack err.old.items err.new.items }
 {
     let files = match Files::from_image(alloc, image) {
         Ok(files) => files,
