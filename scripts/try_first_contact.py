@@ -163,11 +163,11 @@ def build_and_change(checks, copy, lines, is_whole):
     with open(f"{copy}/{DEFINITION}", "a", encoding="utf-8") as it:
         it.write("\n")
     call_each(checks, lines[:1], "changed", CHANGED)
+    shutil.copy(f"{TOP}/{DEFINITION}", f"{copy}/{DEFINITION}")
     path, text = put_wrong_body(copy)
     build(checks, copy, "with a wrong body", 1, rf"build: {WRONG_CRATE} isn't proved: .*\w")
     with open(path, "w", encoding="utf-8") as it:
         it.write(text)
-    shutil.copy(f"{TOP}/{DEFINITION}", f"{copy}/{DEFINITION}")
     call_each(checks, lines[:1], "as it was built", rb"")
     build(checks, copy, "of too many words", 1, r"usage: build", ["1", "2"])
 
