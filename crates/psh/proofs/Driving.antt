@@ -1,4 +1,5 @@
 -- Runs by lines of events: a world that is given each line's events so often.
+use Rattle.sh_memory.specs.Memory.{no_memory}
 use Rattle.std.proofs.Common.{◌≡◌, ◌≢◌, ◌⊎◌, ⊎_elim, Result, Ok, Err, OnErr, ℕ, zero, suc, ◌+◌, add-one, ◌<◌, ◌≤◌, List, [], ◌∷◌, ◌++◌, append_assoc, length, length-append, take, take_all, get_or, replicate, zero-add, add_assoc, refl, sym, ap, ◌∙◌, arith}
 use Rattle.sh_stock.specs.Asking.{Meaning}
 use Rattle.sh_world.specs.Kept.{WorldKept, WorldStands, shown_of}
@@ -96,7 +97,7 @@ shown_of-stands w s h =
     ∙ h.parts.machine.terminal.bytes
 
 -- ---- events that are refused
-pub refused_by : (bytes : List ℕ) (fault : EventFault) (line : ℕ) → fault ≡ BadEvent line → (fault ≢ NoMemory → events_of bytes ≡ Err fault) → events_of bytes ≡ Err (BadEvent line)
+pub refused_by : (bytes : List ℕ) (fault : EventFault) (line : ℕ) → fault ≡ BadEvent line → (fault ≢ NoMemory no_memory → events_of bytes ≡ Err fault) → events_of bytes ≡ Err (BadEvent line)
 refused_by bytes fault line e h = let refused : EventFault → Outcome = λ x. Err x in h (λ n. cc) ∙ ap refused e
 
 -- what holds anyway holds where there is an error

@@ -82,10 +82,10 @@ fn command<'a>(alloc: Global) -> Result<Command<'a>, AllocError> {
 fn fault_of(alloc: Global, error: &Error) -> UsageFault {
     let text = match error.to_string(alloc) {
         Ok(text) => bytes_of(alloc, text.as_str()),
-        Err(_) => return UsageFault::NoMemory,
+        Err(_) => return UsageFault::OutOfMemory,
     };
     match (error.kind(), text) {
-        (ErrorKind::OutOfMemory, _) | (_, Err(_)) => UsageFault::NoMemory,
+        (ErrorKind::OutOfMemory, _) | (_, Err(_)) => UsageFault::OutOfMemory,
         (ErrorKind::DisplayHelp, Ok(text)) => UsageFault::Help { text },
         (_, Ok(text)) => UsageFault::Usage { text },
     }

@@ -1,10 +1,12 @@
 //! The file of events: lines `run K [N]` and `next [N]`.
+ghost use Rattle.sh_memory.specs.Memory.{no_memory};
 ghost use Rattle.std.specs.Prelude.{◌≡◌, ◌≢◌, ◌==◌, ◌+◌, ◌^◌, ◌<◌, ◌≤◌, ◌∷◌, ◌++◌, IfNone, IfOk, IfErr, IfSome, OnOk, OnErr, None, Some, Ok, Err, length, option_map, position};
 ghost use Rattle.sh_files_base.specs.Fields.{is_digit};
 ghost use Rattle.psh.specs.Lines.{further_parts, parts};
 ghost use Rattle.psh.specs.Events.{events_of, line_turns, next_turns, number, place_of, run_turns, size_of, so_often, times_of, turns_of};
 ghost use Rattle.psh.specs.declared.events.EventFault.TheVariants as fault;
 
+use sh_memory::NoMemory;
 use sh_world::Event;
 use std::alloc::{AllocError, AllocFailed, Global};
 
@@ -30,22 +32,22 @@ pub enum EventFault {
     /// A line is no event. Lines count from 1.
     BadEvent { line: u64 },
     /// No memory was found.
-    NoMemory,
+    NoMemory(NoMemory),
 }
 
 impl From<AllocError> for EventFault {
-    ghost from_gives = { λ _ e. e ≡ fault.NoMemory };
+    ghost from_gives = { λ _ e. e ≡ fault.NoMemory no_memory };
 
-    fn from(_error: AllocError) -> Self {
-        EventFault::NoMemory
+    fn from(error: AllocError) -> Self {
+        EventFault::NoMemory(NoMemory::from(error))
     }
 }
 
 impl<T: Drop> From<AllocFailed<T>> for EventFault {
-    ghost from_gives = { λ _ e. e ≡ fault.NoMemory };
+    ghost from_gives = { λ _ e. e ≡ fault.NoMemory no_memory };
 
-    fn from(_error: AllocFailed<T>) -> Self {
-        EventFault::NoMemory
+    fn from(error: AllocFailed<T>) -> Self {
+        EventFault::NoMemory(NoMemory::from(error))
     }
 }
 
@@ -172,7 +174,7 @@ fn turns_of(line: &[u8]) -> Option<Turns>
 /// Puts what a line has behind the others.
 fn add_line(all: &mut Vec<Turns>, text: &[u8], line: u64) -> Result<(), EventFault>
     ensures ok { OnOk result (option_map (λ turns. all.old.items ++ turns) (line_turns text.now) ≡ Some all.new.items) }
-    ensures refused { IfErr result (λ fault. fault ≢ EventFault.NoMemory → (fault ≡ EventFault.BadEvent line) × (line_turns text.now ≡ None)) }
+    ensures refused { IfErr result (λ fault. fault ≢ EventFault.NoMemory no_memory → (fault ≡ EventFault.BadEvent line) × (line_turns text.now ≡ None)) }
 {
     if text.is_empty() {
         return Ok(());
@@ -199,7 +201,7 @@ fn size_of(text: &[u8], behind: Option<&[u8]>) -> usize
 /// is refused, and the line of the first byte behind [`MOST_BYTES`], if none before it is.
 pub fn read_events(alloc: Global, bytes: &[u8]) -> Result<Vec<Turns>, EventFault>
     ensures ok { IfOk result (λ all. events_of bytes.now ≡ Ok all.items) }
-    ensures refused { IfErr result (λ fault. fault ≢ EventFault.NoMemory → events_of bytes.now ≡ Err fault) }
+    ensures refused { IfErr result (λ fault. fault ≢ EventFault.NoMemory no_memory → events_of bytes.now ≡ Err fault) }
 {
     let mut all = Vec::new(alloc);
     let mut line = 0u64;

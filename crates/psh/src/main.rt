@@ -13,7 +13,6 @@ use crate::command_line::asked;
 use crate::serving::serve;
 use crate::usage::{Asked, UsageFault};
 use sh_stock::Program;
-use sh_syntax::memory::NoMemory;
 use sh_world::Settings;
 use std::env::{Env, FillError};
 use std::io::Write;
@@ -24,7 +23,7 @@ use std::{fs, io};
 const FIRST_SIZE: usize = 4096;
 
 /// An argument of the program, the first being its name; none where there are fewer. It may be any bytes.
-fn argument(rt: &HostRuntime, place: usize) -> Result<Option<Vec<u8>>, NoMemory> {
+fn argument(rt: &HostRuntime, place: usize) -> Result<Option<Vec<u8>>, UsageFault> {
     let mut size = FIRST_SIZE;
     for _ in 0..usize::BITS {
         let mut bytes = Vec::new(rt.alloc());
@@ -38,11 +37,13 @@ fn argument(rt: &HostRuntime, place: usize) -> Result<Option<Vec<u8>>, NoMemory>
             Err(FillError::TooLong) => size = size.saturating_mul(2),
         }
     }
-    Err(NoMemory)
+    Err(UsageFault::Usage {
+        text: b"psh: an argument is too long\n".to_vec(rt.alloc())?,
+    })
 }
 
 /// The words of the command line behind the program's name.
-fn words(rt: &HostRuntime) -> Result<Vec<Vec<u8>>, NoMemory> {
+fn words(rt: &HostRuntime) -> Result<Vec<Vec<u8>>, UsageFault> {
     let mut words = Vec::new(rt.alloc());
     for place in 1..usize::MAX {
         match argument(rt, place)? {
@@ -123,16 +124,17 @@ fn tell(rt: &HostRuntime, fault: UsageFault) -> u8 {
             let _ = rt.stderr().write_all(&text);
             2
         },
-        UsageFault::NoMemory => lack(rt),
+        UsageFault::OutOfMemory => lack(rt),
     }
 }
 
 /// Reads the command line, and does what it asks.
 fn main(rt: HostRuntime) -> ExitCode {
-    let Ok(words) = words(&rt) else {
-        return ExitCode::from(lack(&rt));
+    let asked = match words(&rt) {
+        Ok(words) => asked(rt.alloc(), &words),
+        Err(fault) => Err(fault),
     };
-    match asked(rt.alloc(), &words) {
+    match asked {
         Ok(asked) => ExitCode::from(run(&rt, asked)),
         Err(fault) => ExitCode::from(tell(&rt, fault)),
     }

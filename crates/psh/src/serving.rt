@@ -1,4 +1,5 @@
 //! One run of the program, over what its files hold.
+ghost use Rattle.sh_memory.specs.Memory.{no_memory};
 ghost use Rattle.std.specs.Prelude.{◌≡◌, ◌≢◌, ◌⊎◌, ◌++◌, ◌<◌, ℕ, OnOk, OnErr, codes, replicate, take};
 ghost use Rattle.sh_files_base.specs.Faults.{name_of};
 ghost use Rattle.sh_files_base.specs.declared.image_fault.FaultKind.TheVariants as kind;
@@ -10,8 +11,8 @@ ghost use Rattle.psh.specs.Serving.{SaysLack, Shows, ShowsSome, WasCut, WasRefus
 use crate::events::{EventFault, Turns, read_events};
 use itoa::Buffer;
 use sh_files::{FaultKind, Files, ImageFault};
+use sh_memory::NoMemory;
 use sh_stock::Stock;
-use sh_syntax::memory::NoMemory;
 use sh_world::{Settings, World};
 use std::alloc::Global;
 
@@ -56,10 +57,10 @@ fn refuse(alloc: Global, err: &mut Vec<u8>, name: &str, line: u64) -> u8
 /// The same of an image.
 fn refuse_image(alloc: Global, err: &mut Vec<u8>, fault: ImageFault) -> u8
     ensures statuses { (result ≡ 1) ⊎ (result ≡ 3) }
-    ensures told { result ≡ 1 → (fault.kind ≢ kind.NoMemory) × (err.new.items ≡ err.old.items ++ refusal (name_of fault.kind) fault.line) }
+    ensures told { result ≡ 1 → (fault.kind ≢ kind.NoMemory no_memory) × (err.new.items ≡ err.old.items ++ refusal (name_of fault.kind) fault.line) }
     ensures lacks { result ≡ 3 → SaysLack err.old.items err.new.items }
 {
-    if fault.kind == FaultKind::NoMemory {
+    if let FaultKind::NoMemory(_) = fault.kind {
         return lack(err);
     }
     refuse(alloc, err, fault.kind.name(), fault.line as u64)
@@ -72,7 +73,7 @@ fn refuse_events(alloc: Global, err: &mut Vec<u8>, fault: EventFault) -> u8
     ensures lacks { result ≡ 3 → SaysLack err.old.items err.new.items }
 {
     match fault {
-        EventFault::NoMemory => lack(err),
+        EventFault::NoMemory(_) => lack(err),
         EventFault::BadEvent { line } => refuse(alloc, err, "BadEvent", line),
     }
 }

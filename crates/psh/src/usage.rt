@@ -22,18 +22,18 @@ pub enum UsageFault {
     Usage { text: Vec<u8> },
     /// Help is asked for; this is its text.
     Help { text: Vec<u8> },
-    /// No memory was found.
-    NoMemory,
+    /// No memory was found, by clap or here.
+    OutOfMemory,
 }
 
 impl From<AllocError> for UsageFault {
     fn from(_error: AllocError) -> Self {
-        UsageFault::NoMemory
+        UsageFault::OutOfMemory
     }
 }
 
 impl<T: Drop> From<AllocFailed<T>> for UsageFault {
     fn from(_error: AllocFailed<T>) -> Self {
-        UsageFault::NoMemory
+        UsageFault::OutOfMemory
     }
 }

@@ -1,4 +1,5 @@
 -- What the evaluation of a text's derivation says of the text.
+use Rattle.sh_memory.specs.Memory.{no_memory}
 use Rattle.std.proofs.Common.{◌≡◌, ◌≢◌, ℕ, ℤ, true, List, refl, sym, ap, ◌∙◌, inr, Result, Ok, Err}
 use Rattle.std.specs.Prelude.{IfOk, IfErr}
 use Rattle.sh_grammar.specs.declared.Token.{Token}
@@ -37,6 +38,6 @@ pub gives : (text : List ℕ) (actions : List Action) (before after : Environmen
 gives text actions before after (Ok v) read s h = comes text actions before (Gives v after) read.0 read.1 read.2 h s
 gives text actions before after (Err f) read s h = tt
 
-pub stops : (text : List ℕ) (actions : List Action) (before after : Environment) (r : Result ℤ ArithFault) (read : (tree : Tree) × IsTreeOf arithmetic (tokens_of text) tree × (preorder tree ≡ actions)) → are_shallow none_open (tokens_of text) ≡ true → IfErr r (λ f. f ≢ NoMemory → ComesTo text actions before (Stops f after)) → IfErr r (λ f. f ≢ NoMemory → HasFault text before f after)
+pub stops : (text : List ℕ) (actions : List Action) (before after : Environment) (r : Result ℤ ArithFault) (read : (tree : Tree) × IsTreeOf arithmetic (tokens_of text) tree × (preorder tree ≡ actions)) → are_shallow none_open (tokens_of text) ≡ true → IfErr r (λ f. f ≢ NoMemory no_memory → ComesTo text actions before (Stops f after)) → IfErr r (λ f. f ≢ NoMemory no_memory → HasFault text before f after)
 stops text actions before after (Ok v) read s h = tt
 stops text actions before after (Err f) read s h = λ n. inr (comes text actions before (Stops f after) read.0 read.1 read.2 (h n) s)

@@ -1,4 +1,5 @@
 -- What begins an expression, and what stops one.
+use Rattle.sh_memory.specs.Memory.{no_memory}
 use Rattle.std.proofs.Common.{◌≡◌, ◌≢◌, true, false, List, [], ◌∷◌, ◌++◌, refl, sym, ap, ◌∙◌, subst, inl, inr, ⊎_elim}
 use Rattle.std.specs.Prelude.{Bool, not, ◌&&◌}
 use Rattle.std.proofs.lemmas.Bool.{and_parts}
@@ -59,7 +60,7 @@ goes d g taken now o n t f i b e k r =
 pub goes_on : (d : Tabulation) (taken whole : List Token) (o : Open) → d ≡ arithmetic → taken ≡ whole → Reached d taken o → GoesOn whole
 goes_on d taken whole o g e r = record { begins = subst (λ x. BeginsText x whole) g (subst (BeginsText d) e r.begins); shallow = ap (are_shallow none_open) (sym e) ∙ r.shallow }
 
-pub stops : (d : Tabulation) (taken tokens whole : List Token) (o : Open) (f : ArithFault) → d ≡ arithmetic → Reached d taken o → tokens ≡ whole → (f ≢ NoMemory → Stopped d taken o tokens f) → f ≢ NoMemory → IsRefusedWithin whole f
+pub stops : (d : Tabulation) (taken tokens whole : List Token) (o : Open) (f : ArithFault) → d ≡ arithmetic → Reached d taken o → tokens ≡ whole → (f ≢ NoMemory no_memory → Stopped d taken o tokens f) → f ≢ NoMemory no_memory → IsRefusedWithin whole f
 stops d taken tokens whole o f g r e h n = by_cases (h n)
   where
     by_cases : Stopped d taken o tokens f → IsRefusedWithin whole f

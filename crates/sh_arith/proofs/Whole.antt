@@ -1,4 +1,5 @@
 -- The value of a text's tree is what its steps come to.
+use Rattle.sh_memory.specs.Memory.{no_memory}
 use Rattle.std.proofs.Common.{◌≡◌, ◌≢◌, ℕ, ℤ, pos, List, [], ◌∷◌, refl, sym, ap, ◌∙◌}
 use Rattle.sh_grammar.specs.Grammar.{Tree, IsTree}
 use Rattle.sh_grammar.specs.Leftmost.{preorder}
@@ -45,7 +46,7 @@ back (Gives v env) = refl
 back (Stops f env) = refl
 
 -- what the machine comes to is what the tree says
-pub comes_to_fault : (text : List ℕ) → (actions : List Action) (env after : Environment) (f : ArithFault) → Halting f after (run text (steps actions) (Runs none_yet env)) → f ≢ NoMemory → (tree : Tree) → IsTree arithmetic_grammar arithmetic_grammar.ending (Nonterminal arithmetic.start) tree → preorder tree ≡ actions → value text (said tree) env ≡ Stops f after
+pub comes_to_fault : (text : List ℕ) → (actions : List Action) (env after : Environment) (f : ArithFault) → Halting f after (run text (steps actions) (Runs none_yet env)) → f ≢ NoMemory no_memory → (tree : Tree) → IsTree arithmetic_grammar arithmetic_grammar.ending (Nonterminal arithmetic.start) tree → preorder tree ≡ actions → value text (said tree) env ≡ Stops f after
 unfolding halt_of
 comes_to_fault text actions env after f h w tree t e =
     let o = value text (said tree) env in

@@ -1,4 +1,5 @@
 -- What the program's machine stands for.
+use Rattle.sh_memory.specs.Memory.{no_memory}
 use Rattle.std.specs.Prelude.{◌≡◌, ◌≢◌, ℕ, suc, [], reverse, Option, Some, None}
 use Rattle.sh_arith.specs.declared.machine.Machine.{Machine as Parts}
 use Rattle.sh_arith.specs.declared.faults.ArithFault.{ArithFault}
@@ -18,7 +19,7 @@ state_of m env = state m.skip (stacks_of m) env
 
 -- a fault other than want of memory is the definition's
 abbrev pub Halting : ArithFault → Environment → Machine → Type 0
-Halting f env m = f ≢ NoMemory → Halts f env ≡ m
+Halting f env m = f ≢ NoMemory no_memory → Halts f env ≡ m
 
 -- no value yet
 abbrev pub none_yet : Stacks

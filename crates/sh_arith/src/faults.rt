@@ -1,7 +1,9 @@
 //! Why an arithmetic expression has no value.
-ghost use Rattle.std.specs.Prelude.{◌≡◌};
+ghost use Rattle.sh_memory.specs.Memory.{no_memory};
 ghost use Rattle.sh_arith.specs.declared.faults.ArithFault.TheVariants.{NoMemory};
+ghost use Rattle.std.specs.Prelude.{◌≡◌};
 
+use sh_memory::NoMemory;
 use std::alloc::AllocError;
 use thiserror::Error;
 
@@ -31,8 +33,8 @@ pub enum ArithFault {
     #[error("too deep")]
     TooDeep,
     /// There was no memory.
-    #[error("out of memory")]
-    NoMemory,
+    #[error("{0}")]
+    NoMemory(NoMemory),
     /// Under `set -u`: the variable that is named at this place has no value.
     #[error("not set")]
     Unset {
@@ -42,9 +44,9 @@ pub enum ArithFault {
 }
 
 impl From<AllocError> for ArithFault {
-    ghost from_gives = { λ _ fault. fault ≡ NoMemory };
+    ghost from_gives = { λ _ fault. fault ≡ NoMemory no_memory };
 
-    fn from(_error: AllocError) -> ArithFault {
-        ArithFault::NoMemory
+    fn from(error: AllocError) -> ArithFault {
+        ArithFault::NoMemory(NoMemory::from(error))
     }
 }

@@ -5,6 +5,7 @@
 //! `--`, `sizeof` and the comma, with C's precedences, in at most 500 levels.
 #![tactic(auto)]
 
+ghost use Rattle.sh_memory.specs.Memory.{no_memory};
 ghost use Rattle.std.specs.Prelude.{◌≡◌, ◌≢◌, ◌↔◌, ℕ, ℤ, List, true, IfOk, IfErr};
 ghost use Rattle.sh_arith.specs.declared.faults.ArithFault.{ArithFault};
 ghost use Rattle.sh_vars.specs.Environment.{Environment};
@@ -68,7 +69,7 @@ pub fn evaluation_is_computed()
 /// at any place, and leaves open which of the text's assignments were done.
 pub fn evaluate(alloc: Global, text: &[u8], vars: &mut Vars) -> Result<i64, ArithFault>
     ensures value { IfOk result (λ v. (e : Expression) × Says text.now e × (value text.now e vars.old ≡ Gives v vars.new)) }
-    ensures fault { IfErr result (λ f. f ≢ ArithFault.NoMemory → HasFault text.now vars.old f vars.new) }
+    ensures fault { IfErr result (λ f. f ≢ ArithFault.NoMemory no_memory → HasFault text.now vars.old f vars.new) }
 {
     let actions = match read::read(alloc, text) {
         Ok(actions) => actions,

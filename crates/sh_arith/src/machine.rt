@@ -1,4 +1,5 @@
 //! The evaluation of a derivation: its steps in order, over stacks of values, operators and names.
+ghost use Rattle.sh_memory.specs.Memory.{no_memory};
 ghost use Rattle.std.specs.Prelude.{◌≡◌, ◌≢◌, ℕ, List, ◌<◌, ◌≤◌, ◌+◌, ◌^◌, ◌∷◌, [], pos, reverse, OnOk, IfOk, IfErr, Some, None};
 ghost use Rattle.sh_vars.specs.Environment.{Environment};
 ghost use Rattle.sh_grammar.specs.Grammar.{Tree, IsTree};
@@ -18,6 +19,7 @@ use crate::values::{before, constant, decides, store, taken, worked};
 use sh_arith_base::{Kind, Operator, Role, kind_of, operator_of, role_of, truth};
 use sh_grammar::Action::{self, Expand, Shift};
 use sh_grammar::Token;
+use sh_memory::NoMemory;
 use sh_vars::Vars;
 use std::alloc::Global;
 
@@ -33,21 +35,21 @@ pub struct Machine {
 
 fn push_value(stack: &mut Vec<i64>, value: i64) -> Result<(), ArithFault>
     ensures kept { OnOk result (reverse stack.new.items ≡ value ∷ reverse stack.old.items) }
-    ensures fault { IfErr result (λ f. f ≡ ArithFault.NoMemory) }
+    ensures fault { IfErr result (λ f. f ≡ ArithFault.NoMemory no_memory) }
 {
     match stack.push(value) {
         Ok(()) => Ok(()),
-        Err(_) => Err(ArithFault::NoMemory),
+        Err(failed) => Err(ArithFault::NoMemory(NoMemory::from(failed))),
     }
 }
 
 fn push_op(stack: &mut Vec<Operator>, op: Operator) -> Result<(), ArithFault>
     ensures kept { OnOk result (reverse stack.new.items ≡ op ∷ reverse stack.old.items) }
-    ensures fault { IfErr result (λ f. f ≡ ArithFault.NoMemory) }
+    ensures fault { IfErr result (λ f. f ≡ ArithFault.NoMemory no_memory) }
 {
     match stack.push(op) {
         Ok(()) => Ok(()),
-        Err(_) => Err(ArithFault::NoMemory),
+        Err(failed) => Err(ArithFault::NoMemory(NoMemory::from(failed))),
     }
 }
 
@@ -89,7 +91,7 @@ fn run_binary(machine: &mut Machine) -> Result<(), ArithFault>
 fn run_test(machine: &mut Machine, op: Operator) -> Result<(), ArithFault>
     requires { machine.old.skip ≡ None }
     ensures ok { OnOk result ((env : Environment) → state_of machine.new env ≡ test_left op (stacks_of machine.old) env) }
-    ensures fault { IfErr result (λ f. f ≡ ArithFault.NoMemory) }
+    ensures fault { IfErr result (λ f. f ≡ ArithFault.NoMemory no_memory) }
     ensures depth { depth machine.new.skip ≤ 1 }
 {
     let v = pop_value(&mut machine.values);
@@ -116,7 +118,7 @@ fn run_question(machine: &mut Machine)
 fn run_decide(machine: &mut Machine) -> Result<(), ArithFault>
     requires { machine.old.skip ≡ None }
     ensures ok { OnOk result ((env : Environment) → state_of machine.new env ≡ decide (stacks_of machine.old) env) }
-    ensures fault { IfErr result (λ f. f ≡ ArithFault.NoMemory) }
+    ensures fault { IfErr result (λ f. f ≡ ArithFault.NoMemory no_memory) }
     ensures depth { depth machine.new.skip ≤ 1 }
 {
     let v = pop_value(&mut machine.values);
@@ -125,11 +127,11 @@ fn run_decide(machine: &mut Machine) -> Result<(), ArithFault>
 
 fn push_name(stack: &mut Vec<usize>, place: usize) -> Result<(), ArithFault>
     ensures kept { OnOk result (reverse stack.new.items ≡ place ∷ reverse stack.old.items) }
-    ensures fault { IfErr result (λ f. f ≡ ArithFault.NoMemory) }
+    ensures fault { IfErr result (λ f. f ≡ ArithFault.NoMemory no_memory) }
 {
     match stack.push(place) {
         Ok(()) => Ok(()),
-        Err(_) => Err(ArithFault::NoMemory),
+        Err(failed) => Err(ArithFault::NoMemory(NoMemory::from(failed))),
     }
 }
 
@@ -156,7 +158,7 @@ fn top_name(names: &[usize]) -> usize
 fn run_prefix(machine: &mut Machine) -> Result<(), ArithFault>
     requires { machine.old.skip ≡ None }
     ensures ok { OnOk result ((env : Environment) → state_of machine.new env ≡ do_prefix (stacks_of machine.old) env) }
-    ensures fault { IfErr result (λ f. f ≡ ArithFault.NoMemory) }
+    ensures fault { IfErr result (λ f. f ≡ ArithFault.NoMemory no_memory) }
     ensures depth { depth machine.new.skip ≤ 1 }
 {
     let op = pop_op(&mut machine.operators);
@@ -365,7 +367,7 @@ pub(crate) fn value_of(
     vars: &mut Vars,
 ) -> Result<i64, ArithFault>
     ensures value { IfOk result (λ v. (tree : Tree) → IsTree arithmetic_grammar arithmetic_grammar.ending (Nonterminal arithmetic.start) tree → preorder tree ≡ actions.now → value text.now (said tree) vars.old ≡ Gives v vars.new) }
-    ensures fault { IfErr result (λ f. f ≢ ArithFault.NoMemory → (tree : Tree) → IsTree arithmetic_grammar arithmetic_grammar.ending (Nonterminal arithmetic.start) tree → preorder tree ≡ actions.now → value text.now (said tree) vars.old ≡ Stops f vars.new) }
+    ensures fault { IfErr result (λ f. f ≢ ArithFault.NoMemory no_memory → (tree : Tree) → IsTree arithmetic_grammar arithmetic_grammar.ending (Nonterminal arithmetic.start) tree → preorder tree ≡ actions.now → value text.now (said tree) vars.old ≡ Stops f vars.new) }
 {
     let mut machine = Machine {
         values: Vec::new(alloc),

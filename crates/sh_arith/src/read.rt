@@ -1,4 +1,5 @@
 //! Reading a text whole: its tokens, and the one derivation of them.
+ghost use Rattle.sh_memory.specs.Memory.{no_memory};
 ghost use Rattle.std.specs.Prelude.{◌≡◌, ◌≢◌, ◌+◌, ◌++◌, ◌∷◌, [], ℕ, List, true, false, IfOk, IfErr, OnOk};
 ghost use Rattle.sh_grammar.specs.Grammar.{Tree};
 ghost use Rattle.sh_grammar.specs.Leftmost.{preorder};
@@ -27,7 +28,7 @@ fn take_token(
     ensures begins { OnOk result (BeginsText recognizer.old.grammar (recognizer.old.tokens ++ token ∷ [])) }
     ensures levels { OnOk result (levels.new ≡ open_behind levels.old token) }
     ensures shallow { OnOk result (is_deep levels.new ≡ false) }
-    ensures fault { IfErr result (λ f. f ≢ ArithFault.NoMemory → Refuses recognizer.old.grammar recognizer.old.tokens levels.old token f) }
+    ensures fault { IfErr result (λ f. f ≢ ArithFault.NoMemory no_memory → Refuses recognizer.old.grammar recognizer.old.tokens levels.old token f) }
 {
     if !recognizer.take(token)? {
         return Err(ArithFault::Syntax { at: token.id });
@@ -53,7 +54,7 @@ fn take_at(
     ensures grammar { recognizer.new.grammar ≡ recognizer.old.grammar }
     ensures reached { OnOk result (Reached recognizer.old.grammar recognizer.old.tokens levels.old → Reached recognizer.new.grammar recognizer.new.tokens levels.new) }
     ensures shallow { OnOk result (is_deep levels.new ≡ false) }
-    ensures fault { IfErr result (λ f. f ≢ ArithFault.NoMemory → Stopped recognizer.old.grammar recognizer.old.tokens levels.old (recognizer.old.tokens ++ tokens_from place skipped rest.now) f) }
+    ensures fault { IfErr result (λ f. f ≢ ArithFault.NoMemory no_memory → Stopped recognizer.old.grammar recognizer.old.tokens levels.old (recognizer.old.tokens ++ tokens_from place skipped rest.now) f) }
 {
     if skipped > 0 {
         return Ok(skipped - 1);
@@ -84,7 +85,7 @@ fn take_all(
     ensures ok { OnOk result (recognizer.new.tokens ≡ tokens_of text.now) }
     ensures grammar { recognizer.new.grammar ≡ arithmetic }
     ensures goes_on { OnOk result (GoesOn (tokens_of text.now)) }
-    ensures fault { IfErr result (λ f. f ≢ ArithFault.NoMemory → IsRefusedWithin (tokens_of text.now) f) }
+    ensures fault { IfErr result (λ f. f ≢ ArithFault.NoMemory no_memory → IsRefusedWithin (tokens_of text.now) f) }
 {
     let mut rest = text;
     let mut place: usize = 0;
@@ -104,7 +105,7 @@ fn take_all(
 pub(crate) fn read(alloc: Global, text: &[u8]) -> Result<Actions, ArithFault>
     ensures tree { IfOk result (λ actions. (tree : Tree) × IsTreeOf arithmetic (tokens_of text.now) tree × (preorder tree ≡ actions)) }
     ensures shallow { OnOk result (are_shallow none_open (tokens_of text.now) ≡ true) }
-    ensures fault { IfErr result (λ f. f ≢ ArithFault.NoMemory → IsRefused text.now f) }
+    ensures fault { IfErr result (λ f. f ≢ ArithFault.NoMemory no_memory → IsRefused text.now f) }
 {
     let mut recognizer = Recognizer::new(alloc, tables())?;
     let mut levels = Levels::new(alloc);

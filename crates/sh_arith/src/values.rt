@@ -1,4 +1,5 @@
 //! Values: of constants, variables and operators (XCU 2.6.4).
+ghost use Rattle.sh_memory.specs.Memory.{no_memory};
 ghost use Rattle.std.specs.Prelude.{◌≡◌, ◌≢◌, Some, None, IfOk, MatchResult, string_bytes};
 ghost use Rattle.std.specs.Fmt.{signed_decimal};
 ghost use Rattle.sh_vars.specs.Environment.{Environment};
@@ -25,7 +26,7 @@ fn word_at(text: &[u8], place: usize) -> &[u8]
 /// The value of a constant.
 #[tactic(auto, unfolding(crate::specs::Value::constant))]
 pub(crate) fn constant(text: &[u8], place: usize) -> Result<i64, ArithFault>
-    ensures { MatchResult result (λ r. (env : Environment) → constant text.now place env ≡ Gives r env) (λ f. (f ≢ ArithFault.NoMemory) × ((env : Environment) → constant text.now place env ≡ Stops f env)) }
+    ensures { MatchResult result (λ r. (env : Environment) → constant text.now place env ≡ Gives r env) (λ f. (f ≢ ArithFault.NoMemory no_memory) × ((env : Environment) → constant text.now place env ≡ Stops f env)) }
 {
     match constant_value(word_at(text, place)) {
         Some(number) => {
@@ -52,7 +53,7 @@ fn number_or_fault(bytes: &[u8]) -> Result<i64, ArithFault>
 /// The value of the variable that is named at a place.
 #[tactic(auto, unfolding(crate::specs::Value::taken))]
 pub(crate) fn taken(text: &[u8], place: usize, vars: &Vars) -> Result<i64, ArithFault>
-    ensures { MatchResult result (λ r. taken text.now place vars.now ≡ Gives r vars.now) (λ f. (f ≢ ArithFault.NoMemory) × (taken text.now place vars.now ≡ Stops f vars.now)) }
+    ensures { MatchResult result (λ r. taken text.now place vars.now ≡ Gives r vars.now) (λ f. (f ≢ ArithFault.NoMemory no_memory) × (taken text.now place vars.now ≡ Stops f vars.now)) }
 {
     match vars.get(word_at(text, place)) {
         Some(bytes) => number_or_fault(bytes),
@@ -82,12 +83,12 @@ pub(crate) fn store(
     number: i64,
     vars: &mut Vars,
 ) -> Result<i64, ArithFault>
-    ensures { MatchResult result (λ r. stored text.now place number vars.old ≡ Gives r vars.new) (λ f. f ≢ ArithFault.NoMemory → stored text.now place number vars.old ≡ Stops f vars.new) }
+    ensures { MatchResult result (λ r. stored text.now place number vars.old ≡ Gives r vars.new) (λ f. f ≢ ArithFault.NoMemory no_memory → stored text.now place number vars.old ≡ Stops f vars.new) }
 {
     let digits = decimal(alloc, number)?;
     match vars.set(word_at(text, place), digits.as_bytes()) {
         Ok(()) => Ok(number),
-        Err(VarsFault::NoMemory) => Err(ArithFault::NoMemory),
+        Err(VarsFault::NoMemory(lack)) => Err(ArithFault::NoMemory(lack)),
         Err(VarsFault::ReadOnly) => Err(ArithFault::ReadOnly { at: place }),
         Err(VarsFault::BadName) => Err(ArithFault::ReadOnly { at: place }),
     }
@@ -96,7 +97,7 @@ pub(crate) fn store(
 /// What an operator makes of its two operands.
 #[tactic(auto, unfolding(crate::specs::Value::worked))]
 pub(crate) fn worked(op: Operator, v: i64, w: i64) -> Result<i64, ArithFault>
-    ensures { MatchResult result (λ r. (env : Environment) → worked op v w env ≡ Gives r env) (λ f. (f ≢ ArithFault.NoMemory) × ((env : Environment) → worked op v w env ≡ Stops f env)) }
+    ensures { MatchResult result (λ r. (env : Environment) → worked op v w env ≡ Gives r env) (λ f. (f ≢ ArithFault.NoMemory no_memory) × ((env : Environment) → worked op v w env ≡ Stops f env)) }
 {
     match op.apply(v, w) {
         Some(value) => Ok(value),
@@ -123,7 +124,7 @@ pub(crate) fn before(
     place: usize,
     vars: &Vars,
 ) -> Result<i64, ArithFault>
-    ensures { MatchResult result (λ r. before text.now op place vars.now ≡ Gives r vars.now) (λ f. (f ≢ ArithFault.NoMemory) × (before text.now op place vars.now ≡ Stops f vars.now)) }
+    ensures { MatchResult result (λ r. before text.now op place vars.now ≡ Gives r vars.now) (λ f. (f ≢ ArithFault.NoMemory no_memory) × (before text.now op place vars.now ≡ Stops f vars.now)) }
 {
     match op {
         Operator::Assign => Ok(0),

@@ -9,7 +9,7 @@ use crate::leaving::{break_with, continue_with, exit_with, operands_of};
 use crate::testing::{bracket, test};
 use sh_builtin_vars::{Outcome, cd, pwd, set, shift, unset};
 use sh_kernel::Kernel;
-use sh_syntax::memory::NoMemory;
+use sh_memory::NoMemory;
 use sh_syntax::sequence::{Sequence, Text};
 use sh_vars::Vars;
 use std::alloc::Global;

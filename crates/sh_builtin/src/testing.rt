@@ -7,7 +7,7 @@ use crate::act::Act;
 use sh_builtin_base::{Verdict, evaluate};
 use sh_builtin_vars::BuiltinFault;
 use sh_kernel::Kernel;
-use sh_syntax::memory::NoMemory;
+use sh_memory::NoMemory;
 use sh_syntax::sequence::Text;
 use sh_vars::Vars;
 

@@ -5,7 +5,7 @@ ghost use Rattle.sh_builtin_base.specs.Integers.{whole_of};
 
 use crate::number::{Whole, number_of};
 use sh_files::{Files, Flags, Node};
-use sh_syntax::memory::NoMemory;
+use sh_memory::NoMemory;
 use sh_syntax::sequence::Text;
 
 /// What `test` comes to.

@@ -6,7 +6,7 @@ use crate::condition::Condition;
 use crate::traps::Traps;
 use sh_builtin_base::number_of;
 use sh_builtin_vars::{BuiltinFault, Outcome, parse_options};
-use sh_syntax::memory::NoMemory;
+use sh_memory::NoMemory;
 use sh_syntax::sequence::{Sequence, Text};
 use std::alloc::Global;
 

@@ -5,8 +5,8 @@ ghost use Rattle.sh_builtin_traps.specs.Conditions.{conditions};
 
 use crate::condition::Condition;
 use sh_builtin_vars::put_quoted;
+use sh_memory::NoMemory;
 use sh_signal::Signal;
-use sh_syntax::memory::NoMemory;
 use sh_syntax::sequence::{Sequence, Text};
 use std::alloc::Global;
 use std::marker::Model;

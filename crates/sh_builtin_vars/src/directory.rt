@@ -12,7 +12,7 @@ use crate::outcome::{BuiltinFault, Outcome};
 use crate::variables::{copy_of, is_read_only, set_value};
 use sh_files::{Files, Node};
 use sh_files_base::{absolute, split_slash, step};
-use sh_syntax::memory::NoMemory;
+use sh_memory::NoMemory;
 use sh_syntax::sequence::{Sequence, Text};
 use sh_vars::Vars;
 use std::alloc::Global;

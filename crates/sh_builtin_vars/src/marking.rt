@@ -9,9 +9,9 @@ use crate::marks::Mark;
 use crate::options::parse_options;
 use crate::outcome::{BuiltinFault, Outcome};
 use crate::variables::{copy_of, is_read_only, set_value};
-use sh_syntax::memory::NoMemory;
+use sh_memory::NoMemory;
 use sh_syntax::sequence::Text;
-use sh_vars::{Vars, is_name};
+use sh_vars::{Vars, VarsFault, is_name};
 use std::alloc::Global;
 
 /// Where the first `=` of an operand stands.
@@ -50,11 +50,13 @@ fn mark_name(mark: Mark, vars: &mut Vars, name: &[u8]) -> Result<(), NoMemory>
     match mark {
         Mark::Export => match vars.export(name) {
             Ok(()) => Ok(()),
-            Err(_) => Err(NoMemory),
+            Err(VarsFault::NoMemory(lack)) => Err(lack),
+            Err(_) => unreachable!(),
         },
         Mark::ReadOnly => match vars.make_readonly(name) {
             Ok(()) => Ok(()),
-            Err(_) => Err(NoMemory),
+            Err(VarsFault::NoMemory(lack)) => Err(lack),
+            Err(_) => unreachable!(),
         },
     }
 }

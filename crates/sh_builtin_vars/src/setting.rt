@@ -7,7 +7,7 @@ ghost use Rattle.sh_builtin_vars.specs.Setting.{ended, is_settable, letter_switc
 use crate::listing::{Listing, list};
 use crate::options::some_letters;
 use crate::outcome::{BuiltinFault, Outcome};
-use sh_syntax::memory::NoMemory;
+use sh_memory::NoMemory;
 use sh_syntax::sequence::Text;
 use sh_vars::{Options, ShellOption, Vars};
 use std::alloc::Global;

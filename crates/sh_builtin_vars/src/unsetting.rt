@@ -6,7 +6,7 @@ ghost use Rattle.sh_builtin_vars.specs.Unsetting.{kind_unset, names_functions, u
 use crate::options::parse_options;
 use crate::outcome::{BuiltinFault, Outcome};
 use crate::variables::{copy_of, is_read_only};
-use sh_syntax::memory::NoMemory;
+use sh_memory::NoMemory;
 use sh_syntax::sequence::Text;
 use sh_vars::{Vars, is_name};
 use std::alloc::Global;

@@ -3,9 +3,9 @@ ghost use Rattle.std.specs.Prelude.{◌≡◌, IfOk, IsTrue, OnOk, false};
 ghost use Rattle.sh_vars.specs.Environment.{is_read_only, with_value};
 ghost use Rattle.sh_vars.specs.Names.{is_name};
 
-use sh_syntax::memory::NoMemory;
+use sh_memory::NoMemory;
 use sh_syntax::sequence::{Sequence, Text};
-use sh_vars::Vars;
+use sh_vars::{Vars, VarsFault};
 use std::alloc::Global;
 
 /// A copy of a text.
@@ -35,6 +35,7 @@ pub(crate) fn set_value(vars: &mut Vars, name: &[u8], value: &[u8]) -> Result<()
 {
     match vars.set(name, value) {
         Ok(()) => Ok(()),
-        Err(_) => Err(NoMemory),
+        Err(VarsFault::NoMemory(lack)) => Err(lack),
+        Err(_) => unreachable!(),
     }
 }

@@ -16,8 +16,8 @@ use crate::shell::starting_of;
 use crate::start::start_turn;
 use sh_exec_shell::{Child, Shell};
 use sh_kernel::{Kernel, Next};
+use sh_memory::NoMemory;
 use sh_stock::{Ask, Stock};
-use sh_syntax::memory::NoMemory;
 use sh_syntax::sequence::{Sequence, Text};
 use std::alloc::Global;
 use std::mem;
@@ -58,9 +58,9 @@ fn start_from<S: Stock>(
 {
     match shell.vars().copy() {
         Ok(vars) => start_turn(alloc, kernel, pid, vars, fields),
-        Err(_) => {
+        Err(error) => {
             drop(fields);
-            Err(NoMemory)
+            Err(NoMemory::from(error))
         },
     }
 }

@@ -7,8 +7,8 @@ ghost use Rattle.sh_exec.specs.Programs.{HasLeft, ask_turn, asking, end_turn, re
 use crate::process::Process;
 use sh_exec_machine::{Given, Taken, give_bytes, take_bytes};
 use sh_kernel::{Kernel, Name};
+use sh_memory::NoMemory;
 use sh_stock::{Answer, Ask, Stock};
-use sh_syntax::memory::NoMemory;
 use std::alloc::Global;
 
 /// A program takes its answer, and asks next.
@@ -21,7 +21,7 @@ pub(crate) fn asking<S: Stock>(
 {
     match program.turn(alloc, answer) {
         Ok(ask) => Ok(ask),
-        Err(_) => Err(NoMemory),
+        Err(lack) => Err(lack),
     }
 }
 

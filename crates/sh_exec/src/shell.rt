@@ -3,7 +3,7 @@ ghost use Rattle.std.specs.Prelude.{◌≡◌, IfOk, option_map};
 ghost use Rattle.sh_exec.specs.Starting.{starting_at, starting_in};
 
 use sh_exec_command::{Active, Place, copies_of};
-use sh_syntax::memory::NoMemory;
+use sh_memory::NoMemory;
 use sh_syntax::sequence::{Sequence, Text};
 use std::alloc::Global;
 

@@ -14,8 +14,8 @@ use sh_exec_command::{Finish, Place};
 use sh_exec_search::{Located, locate};
 use sh_exec_shell::Shell;
 use sh_kernel::Kernel;
+use sh_memory::NoMemory;
 use sh_stock::{Answer, Stock};
-use sh_syntax::memory::NoMemory;
 use sh_syntax::sequence::{Sequence, Text};
 use sh_vars::Vars;
 use std::alloc::Global;
@@ -73,7 +73,7 @@ fn program_of<S: Stock>(
     let operands = operands_of(alloc, operands)?;
     match S::start(alloc, name, operands.as_slice()) {
         Ok(program) => Ok(program),
-        Err(_) => Err(NoMemory),
+        Err(lack) => Err(lack),
     }
 }
 

@@ -61,7 +61,7 @@ file_text file.NotDirectory = codes ": cannot open"
 file_text file.Exists = codes ": file exists"
 file_text file.BadNumber = codes ": cannot open"
 file_text file.TooLarge = codes ": cannot open"
-file_text file.NoMemory = codes ": cannot open"
+file_text (file.NoMemory _) = codes ": cannot open"
 
 abbrev pub redirection_text : KernelFault → List ℕ
 redirection_text kernel.BadDescriptor = codes ": bad descriptor"
@@ -71,7 +71,7 @@ redirection_text kernel.TooManyDescriptors = codes ": cannot open"
 redirection_text kernel.WouldWait = codes ": cannot open"
 redirection_text kernel.BrokenPipe = codes ": cannot open"
 redirection_text (kernel.File fault) = file_text fault
-redirection_text kernel.NoMemory = codes ": cannot open"
+redirection_text (kernel.NoMemory _) = codes ": cannot open"
 
 abbrev pub not_redirected : List ℕ → KernelFault → List ℕ
 not_redirected word fault = word ++ redirection_text fault

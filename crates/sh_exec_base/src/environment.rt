@@ -5,7 +5,7 @@ ghost use Rattle.sh_vars.specs.Environment.{with_directory, with_export, with_po
 ghost use Rattle.sh_exec_base.specs.Scripts.{all_inherited, exported, given, inherited, is_own, own_variables, script_environment, valued};
 
 use itoa::Buffer;
-use sh_syntax::memory::NoMemory;
+use sh_memory::NoMemory;
 use sh_syntax::sequence::Text;
 use sh_vars::{Entry, Vars, VarsFault};
 use std::alloc::Global;
@@ -17,7 +17,7 @@ fn give(vars: &mut Vars, name: &[u8], value: &[u8]) -> Result<(), NoMemory>
 {
     match vars.set(name, value) {
         Ok(()) => Ok(()),
-        Err(VarsFault::NoMemory) => Err(NoMemory),
+        Err(VarsFault::NoMemory(lack)) => Err(lack),
         Err(_) => Ok(()),
     }
 }
@@ -28,7 +28,7 @@ fn export(vars: &mut Vars, name: &[u8]) -> Result<(), NoMemory>
 {
     match vars.export(name) {
         Ok(()) => Ok(()),
-        Err(VarsFault::NoMemory) => Err(NoMemory),
+        Err(VarsFault::NoMemory(lack)) => Err(lack),
         Err(_) => Ok(()),
     }
 }
@@ -141,9 +141,9 @@ pub fn script_environment(
     let mut vars = own_variables(alloc, old.directory(), parent)?;
     match hand_over(alloc, &mut vars, old, path, operands, pid) {
         Ok(()) => Ok(vars),
-        Err(NoMemory) => {
+        Err(lack) => {
             drop(vars);
-            Err(NoMemory)
+            Err(lack)
         },
     }
 }

@@ -5,7 +5,7 @@ ghost use Rattle.sh_exec_base.specs.Messages.{arithmetic_text, cannot_execute, c
 use sh_expand_parts::{ArithmeticError, Fault};
 use sh_files::FileFault;
 use sh_kernel_base::KernelFault;
-use sh_syntax::memory::NoMemory;
+use sh_memory::NoMemory;
 use sh_syntax::sequence::{Sequence, Text};
 use std::alloc::Global;
 
@@ -160,7 +160,7 @@ fn file_text(fault: FileFault) -> &'static [u8]
         FileFault::Exists => b": file exists",
         FileFault::BadNumber => b": cannot open",
         FileFault::TooLarge => b": cannot open",
-        FileFault::NoMemory => b": cannot open",
+        FileFault::NoMemory(_) => b": cannot open",
     }
 }
 
@@ -176,7 +176,7 @@ fn redirection_text(fault: KernelFault) -> &'static [u8]
         KernelFault::WouldWait => b": cannot open",
         KernelFault::BrokenPipe => b": cannot open",
         KernelFault::File(fault) => file_text(fault),
-        KernelFault::NoMemory => b": cannot open",
+        KernelFault::NoMemory(_) => b": cannot open",
     }
 }
 

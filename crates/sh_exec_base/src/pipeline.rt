@@ -2,7 +2,7 @@
 ghost use Rattle.std.specs.Prelude.{◌≡◌, ◌++◌, ◌∷◌, IfOk};
 ghost use Rattle.sh_exec_base.specs.Pipelines.{commands_of, is_negated};
 
-use sh_syntax::memory::NoMemory;
+use sh_memory::NoMemory;
 use sh_syntax::sequence::Sequence;
 use sh_syntax::shared::Shared;
 use sh_tree::tree::{Command, Pipeline};

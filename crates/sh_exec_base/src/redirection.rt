@@ -7,9 +7,9 @@ use crate::number::{all_digits, small_value};
 use crate::queue::Queue;
 use crate::simple::redirect_of;
 use sh_files::Opening;
+use sh_memory::NoMemory;
 use sh_scanner::token::{TokenFault, TokenKind, next_token};
 use sh_scanner_base::here::{Delimiter, Tabs};
-use sh_syntax::memory::NoMemory;
 use sh_syntax::sequence::{Sequence, Text};
 use sh_tree::tree::{Redirect, RedirectOperator, SimpleItem, Target};
 use std::alloc::Global;
@@ -168,7 +168,7 @@ fn delimiter_shown(alloc: Global, source: &[u8]) -> Result<Text, NoMemory>
 {
     let token = match next_token(alloc, source, 0, true) {
         Ok(token) => token,
-        Err(TokenFault::NoMemory) => return Err(NoMemory),
+        Err(TokenFault::NoMemory(lack)) => return Err(lack),
         Err(_) => return copy_of(alloc, source),
     };
     kind_text(alloc, source, &token.kind)

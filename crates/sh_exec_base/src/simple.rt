@@ -5,7 +5,7 @@ ghost use Rattle.sh_exec_base.specs.Simple.{assignment_of, assignments_of, befor
 
 use sh_expand_parts::Context;
 use sh_expand_words::Wanted;
-use sh_syntax::memory::NoMemory;
+use sh_memory::NoMemory;
 use sh_syntax::sequence::{Sequence, Text};
 use sh_syntax::shared::Shared;
 use sh_tree::tree::{Command, Parts, Redirect, SimpleItem, Target};

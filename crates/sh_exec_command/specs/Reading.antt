@@ -22,7 +22,7 @@ answer_of (Err (Refused at used)) = answer.Fault refusal.Syntax
 answer_of (Err (Unclosed at)) = answer.Fault refusal.Syntax
 answer_of (Err (BadSubstitution at used)) = answer.Fault refusal.BadSubstitution
 answer_of (Err (TooDeep at used)) = answer.Fault refusal.TooDeep
-answer_of (Err NoMemory) = answer.Fault refusal.Syntax
+answer_of (Err (NoMemory _)) = answer.Fault refusal.Syntax
 
 -- what is found by such an answer; a blank text leads on to the bytes behind it
 abbrev pub found_by : Answer → List ℕ → (ℕ → Found) → Found

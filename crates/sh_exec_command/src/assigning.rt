@@ -16,11 +16,11 @@ use sh_exec_base::simple::Assignment;
 use sh_expand::{Context, Fault, Step};
 use sh_expand_words::Wanted;
 use sh_files::Files;
-use sh_syntax::memory::NoMemory;
+use sh_memory::NoMemory;
 use sh_syntax::sequence::{Sequence, Text};
 use sh_syntax::shared::Shared;
 use sh_tree::tree::{Complete, Parts};
-use sh_vars::{Vars, is_name};
+use sh_vars::{Vars, VarsFault, is_name};
 use std::alloc::Global;
 
 /// What one assignment comes to.
@@ -74,7 +74,8 @@ pub(crate) fn set_plain(vars: &mut Vars, name: &[u8], value: &[u8]) -> Result<()
 {
     match vars.set(name, value) {
         Ok(()) => Ok(()),
-        Err(_) => Err(NoMemory),
+        Err(VarsFault::NoMemory(lack)) => Err(lack),
+        Err(_) => unreachable!(),
     }
 }
 
@@ -88,7 +89,8 @@ fn set(vars: &mut Vars, role: Role, name: &[u8], value: &[u8]) -> Result<(), NoM
     if is_passing(role) {
         return match vars.export(name) {
             Ok(()) => Ok(()),
-            Err(_) => Err(NoMemory),
+            Err(VarsFault::NoMemory(lack)) => Err(lack),
+            Err(_) => unreachable!(),
         };
     }
     Ok(())
@@ -156,9 +158,12 @@ fn assign(
     ensures { IfOk result (λ a. record { environment = vars.new; outcome = a } ≡ valued prepared vars.old name.now value.now) }
 {
     if !may_set(vars, name) {
-        let Ok(piece) = read_only(alloc, name) else {
-            drop(prepared);
-            return Err(NoMemory);
+        let piece = match read_only(alloc, name) {
+            Ok(piece) => piece,
+            Err(lack) => {
+                drop(prepared);
+                return Err(lack);
+            },
         };
         return Ok(stop(prepared, piece));
     }
@@ -166,9 +171,9 @@ fn assign(
     let prepared = note(alloc, prepared, vars, name)?;
     match set(vars, role, name, value) {
         Ok(()) => Ok(Assigned::On(prepared)),
-        Err(NoMemory) => {
+        Err(lack) => {
             drop(prepared);
-            Err(NoMemory)
+            Err(lack)
         },
     }
 }
@@ -220,10 +225,13 @@ fn wait(
 ) -> Result<Assigned, NoMemory>
     ensures { IfOk result (λ next. next ≡ Assigned.Over (Expanded.Need program (Wants.Values (record prepared { assignments = assignment ∷ prepared.assignments })) pending)) }
 {
-    let Ok(again) = put_again(prepared, assignment) else {
-        drop(program);
-        drop(pending);
-        return Err(NoMemory);
+    let again = match put_again(prepared, assignment) {
+        Ok(again) => again,
+        Err(lack) => {
+            drop(program);
+            drop(pending);
+            return Err(lack);
+        },
     };
     Ok(Assigned::Over(Expanded::Need {
         program,
@@ -253,9 +261,12 @@ fn assign_fields(
 fn fail(alloc: Global, prepared: Prepared, fault: Fault) -> Result<Assigned, NoMemory>
     ensures { IfOk result (λ a. a ≡ Assigned.Over (Expanded.Go (Move.Held prepared.undo (fatal (fault_text fault))))) }
 {
-    let Ok(piece) = not_expanded(alloc, fault) else {
-        drop(prepared);
-        return Err(NoMemory);
+    let piece = match not_expanded(alloc, fault) {
+        Ok(piece) => piece,
+        Err(lack) => {
+            drop(prepared);
+            return Err(lack);
+        },
     };
     Ok(stop(prepared, piece))
 }
@@ -272,10 +283,13 @@ fn assign_one(
 ) -> Result<Assigned, NoMemory>
     ensures { IfOk result (λ a. record { environment = vars.new; outcome = a } ≡ assigned_one files.now vars.old prepared assignment pending) }
 {
-    let Ok(pending) = start(alloc, vars, pending) else {
-        drop(assignment);
-        drop(prepared);
-        return Err(NoMemory);
+    let pending = match start(alloc, vars, pending) {
+        Ok(pending) => pending,
+        Err(lack) => {
+            drop(assignment);
+            drop(prepared);
+            return Err(lack);
+        },
     };
     match expand_value(alloc, &assignment.value, &pending, vars, files) {
         Ok(Step::Need(program)) => wait(prepared, assignment, program, pending),
@@ -288,11 +302,11 @@ fn assign_one(
             drop(assignment);
             fail(alloc, prepared, fault)
         },
-        Err(NoMemory) => {
+        Err(lack) => {
             drop(pending);
             drop(assignment);
             drop(prepared);
-            Err(NoMemory)
+            Err(lack)
         },
     }
 }

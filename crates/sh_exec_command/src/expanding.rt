@@ -14,7 +14,7 @@ use sh_exec_base::message::{Piece, not_expanded};
 use sh_exec_base::simple::{items_of, wanted_of};
 use sh_expand::{Fault, Step};
 use sh_files::Files;
-use sh_syntax::memory::NoMemory;
+use sh_memory::NoMemory;
 use sh_syntax::sequence::{Sequence, Text};
 use sh_syntax::shared::Shared;
 use sh_tree::tree::Command;
@@ -56,9 +56,12 @@ fn expand_words(
     ensures { IfOk result (λ step. result_of step vars.new ≡ expanded files.now (wanted_of (items_of command.now)) pending.now.start pending.now.answers) }
 {
     let wanted = wanted_of(alloc, items_of(command))?;
-    let Ok(start) = pending.start.copy() else {
-        drop(wanted);
-        return Err(NoMemory);
+    let start = match pending.start.copy() {
+        Ok(start) => start,
+        Err(error) => {
+            drop(wanted);
+            return Err(NoMemory::from(error));
+        },
     };
     *vars = start;
     expand(alloc, wanted, vars, files, pending.answers.as_slice())
@@ -105,9 +108,12 @@ pub fn words_turn(
 ) -> Result<Expanded, NoMemory>
     ensures { IfOk result (λ e. record { environment = vars.new; outcome = e } ≡ words_turn files.now vars.old command in_place status pending) }
 {
-    let Ok(pending) = start(alloc, vars, pending) else {
-        drop(command);
-        return Err(NoMemory);
+    let pending = match start(alloc, vars, pending) {
+        Ok(pending) => pending,
+        Err(lack) => {
+            drop(command);
+            return Err(lack);
+        },
     };
     match expand_words(alloc, command.get(), &pending, vars, files) {
         Ok(Step::Need(program)) => Ok(Expanded::Need {
@@ -128,10 +134,10 @@ pub fn words_turn(
             drop(command);
             fail(alloc, fault)
         },
-        Err(NoMemory) => {
+        Err(lack) => {
             drop(pending);
             drop(command);
-            Err(NoMemory)
+            Err(lack)
         },
     }
 }

@@ -11,7 +11,7 @@ use sh_exec_base::simple::{
     assignments_of, has_redirects, has_words, items_of, redirect_count, split_fields,
 };
 use sh_kernel_base::KernelFault;
-use sh_syntax::memory::NoMemory;
+use sh_memory::NoMemory;
 use sh_syntax::sequence::{Sequence, Text};
 use sh_syntax::shared::Shared;
 use sh_tree::tree::{Command, SimpleItem};

@@ -8,8 +8,8 @@ use crate::found::{Answer, Found};
 use sh_exec_base::Rest;
 use sh_exec_base::message::Refusal;
 use sh_exec_served::is_served;
+use sh_memory::NoMemory;
 use sh_parse::{Aliases, ParseFault, Reading, read_command};
-use sh_syntax::memory::NoMemory;
 use std::alloc::Global;
 
 /// One reading of a text that is there whole.
@@ -29,7 +29,7 @@ fn read_once(alloc: Global, text: &[u8]) -> Result<Answer, NoMemory>
         Err(ParseFault::Unclosed { .. }) => Ok(Answer::Fault(Refusal::Syntax)),
         Err(ParseFault::BadSubstitution { .. }) => Ok(Answer::Fault(Refusal::BadSubstitution)),
         Err(ParseFault::TooDeep { .. }) => Ok(Answer::Fault(Refusal::TooDeep)),
-        Err(ParseFault::NoMemory) => Err(NoMemory),
+        Err(ParseFault::NoMemory(lack)) => Err(lack),
     }
 }
 

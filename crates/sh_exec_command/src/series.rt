@@ -15,7 +15,7 @@ use sh_exec_base::message::{not_expanded, read_only};
 use sh_expand::{Context, Step};
 use sh_expand_words::Wanted;
 use sh_files::Files;
-use sh_syntax::memory::NoMemory;
+use sh_memory::NoMemory;
 use sh_syntax::sequence::{Sequence, Text};
 use sh_syntax::shared::Shared;
 use sh_tree::tree::{Command, Complete, CompoundForm, Name, Word};

@@ -32,7 +32,7 @@ refused_by fault.TooManyDescriptors = given.Failed
 refused_by fault.WouldWait = given.Wait
 refused_by fault.BrokenPipe = given.Ended
 refused_by (fault.File f) = given.Failed
-refused_by fault.NoMemory = given.Failed
+refused_by (fault.NoMemory _) = given.Failed
 
 -- of so many bytes all went, or only a part
 abbrev pub given_by : ℕ → Result ℕ KernelFault → Given

@@ -4,7 +4,7 @@ ghost use Rattle.sh_kernel.specs.State.{KernelState, StandsAt};
 ghost use Rattle.sh_exec_machine.specs.Forking.{HasForked, HasLaid, closed, connected, dropped, duplicated, fork_between, forked, joined, laid, let_go, moved, piped, reads_from, set_aside, taken_up, unjoined};
 
 use sh_kernel::{Kernel, KernelFault, Name};
-use sh_syntax::memory::NoMemory;
+use sh_memory::NoMemory;
 
 /// The number at which a new process finds the end of a pipe to read from, until it is moved to 0.
 const READ_END: u8 = 10;
@@ -36,7 +36,7 @@ fn duplicate(kernel: &mut Kernel, pid: u32, from: u8, to: u8) -> Result<(), NoMe
     ensures terminal { kernel.new.terminal ≡ kernel.old.terminal }
 {
     match kernel.dup(pid, Name::Number(from), to) {
-        Err(KernelFault::NoMemory) => Err(NoMemory),
+        Err(KernelFault::NoMemory(lack)) => Err(lack),
         _ => Ok(()),
     }
 }
@@ -59,7 +59,7 @@ fn pipe(kernel: &mut Kernel, pid: u32) -> Result<(), NoMemory>
     ensures terminal { kernel.new.terminal ≡ kernel.old.terminal }
 {
     match kernel.pipe(pid, READ_END, WRITE_END) {
-        Err(KernelFault::NoMemory) => Err(NoMemory),
+        Err(KernelFault::NoMemory(lack)) => Err(lack),
         _ => Ok(()),
     }
 }
@@ -188,7 +188,7 @@ fn fork_between(
             let forked = join(kernel, pid, reads, writes, aside, child)?;
             Ok(forked)
         }
-        Err(KernelFault::NoMemory) => Err(NoMemory),
+        Err(KernelFault::NoMemory(lack)) => Err(lack),
         Err(_) => Ok(give_up(kernel, pid, aside)),
     }
 }

@@ -9,7 +9,7 @@ use crate::undone::Undone;
 use sh_exec_base::redirection::{Action, Redirection};
 use sh_files::Opening;
 use sh_kernel::{Kernel, KernelFault, Name};
-use sh_syntax::memory::NoMemory;
+use sh_memory::NoMemory;
 
 /// What a redirection comes to.
 #[derive(Clone, Copy, Debug)]
@@ -35,7 +35,7 @@ fn open(
 {
     match kernel.open(pid, directory, path, how, append, number) {
         Ok(()) => Ok(Ok(())),
-        Err(KernelFault::NoMemory) => Err(NoMemory),
+        Err(KernelFault::NoMemory(lack)) => Err(lack),
         Err(fault) => Ok(Err(fault)),
     }
 }
@@ -52,7 +52,7 @@ fn duplicate(
 {
     match kernel.dup(pid, Name::Number(from), number) {
         Ok(()) => Ok(Ok(())),
-        Err(KernelFault::NoMemory) => Err(NoMemory),
+        Err(KernelFault::NoMemory(lack)) => Err(lack),
         Err(fault) => Ok(Err(fault)),
     }
 }
@@ -69,7 +69,7 @@ fn open_here(
 {
     match kernel.here_document(pid, bytes, number) {
         Ok(()) => Ok(Ok(())),
-        Err(KernelFault::NoMemory) => Err(NoMemory),
+        Err(KernelFault::NoMemory(lack)) => Err(lack),
         Err(fault) => Ok(Err(fault)),
     }
 }

@@ -6,7 +6,7 @@ ghost use Rattle.sh_tty.specs.Kept.{Extends};
 ghost use Rattle.sh_exec_machine.specs.Transfers.{HasGiven, HasTaken, give_bytes, given_by, refused_by, take_bytes, taken_by};
 
 use sh_kernel::{Kernel, KernelFault, Name};
-use sh_syntax::memory::NoMemory;
+use sh_memory::NoMemory;
 use sh_syntax::sequence::Text;
 use std::alloc::Global;
 
@@ -90,7 +90,7 @@ fn refused(fault: KernelFault) -> Given
         KernelFault::WouldWait => Given::Wait,
         KernelFault::BrokenPipe => Given::Ended,
         KernelFault::File(_) => Given::Failed,
-        KernelFault::NoMemory => Given::Failed,
+        KernelFault::NoMemory(_) => Given::Failed,
     }
 }
 
@@ -108,7 +108,7 @@ pub fn give_bytes(
 {
     match kernel.write(pid, number, bytes) {
         Ok(count) => Ok(counted(bytes.len(), count)),
-        Err(KernelFault::NoMemory) => Err(NoMemory),
+        Err(KernelFault::NoMemory(lack)) => Err(lack),
         Err(fault) => Ok(refused(fault)),
     }
 }

@@ -6,7 +6,7 @@ ghost use Rattle.sh_files_base.specs.declared.node.Node.TheVariants as node;
 ghost use Rattle.sh_exec_search.specs.Search.{elements, has_slash, is_regular, line_of, located_of, names_regular, node_leads, not_executed, path_in, path_leads, program_of, script_of, searched, stock_name, tried};
 
 use sh_files::{File, Files, Node};
-use sh_syntax::memory::NoMemory;
+use sh_memory::NoMemory;
 use sh_syntax::sequence::{Sequence, Text};
 use sh_vars::Vars;
 use std::alloc::Global;

@@ -28,7 +28,7 @@ use sh_exec_command::{
 use sh_exec_shell_base::{Form, Tree, enter, enter_list, settle, wrap};
 use sh_files::Files;
 use sh_kernel::Kernel;
-use sh_syntax::memory::NoMemory;
+use sh_memory::NoMemory;
 use sh_vars::Vars;
 use std::alloc::Global;
 

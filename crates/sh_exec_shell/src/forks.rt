@@ -19,7 +19,7 @@ use sh_exec_command::{
 use sh_exec_machine::{Forked, fork_process};
 use sh_exec_shell_base::{Tree, body_of, stage};
 use sh_kernel::Kernel;
-use sh_syntax::memory::NoMemory;
+use sh_memory::NoMemory;
 use sh_syntax::sequence::{Sequence, Text};
 use sh_syntax::shared::Shared;
 use sh_tree::tree::{Command, Complete};
@@ -56,9 +56,9 @@ fn put_program(
     let tree = Tree::moved(alloc, to)?;
     match vars.copy() {
         Ok(copy) => Ok(child_of(child, copy, tree)),
-        Err(_) => {
+        Err(error) => {
             drop(tree);
-            Err(NoMemory)
+            Err(NoMemory::from(error))
         },
     }
 }
@@ -77,9 +77,9 @@ pub(crate) fn fork_turn(
 {
     let forked = match fork_process(kernel, pid, None, false) {
         Ok(forked) => forked,
-        Err(NoMemory) => {
+        Err(lack) => {
             drop(prepared);
-            return Err(NoMemory);
+            return Err(lack);
         },
     };
     match forked.child {
@@ -147,9 +147,9 @@ fn put_stage(
     let tree = tree?;
     match vars.copy() {
         Ok(copy) => Ok(child_of(child, copy, tree)),
-        Err(_) => {
+        Err(error) => {
             drop(tree);
-            Err(NoMemory)
+            Err(NoMemory::from(error))
         },
     }
 }
@@ -174,11 +174,11 @@ fn stage_one(
     } = stages;
     let forked = match fork_process(kernel, pid, aside, !commands.is_empty()) {
         Ok(forked) => forked,
-        Err(NoMemory) => {
+        Err(lack) => {
             drop(command);
             drop(commands);
             drop(children);
-            return Err(NoMemory);
+            return Err(lack);
         },
     };
     match forked.child {
@@ -233,9 +233,12 @@ pub(crate) fn stage_turn(
 fn unforked(alloc: Global, wants: Wants) -> Result<Move, NoMemory>
     ensures { IfOk result (λ to. to ≡ unforked wants) }
 {
-    let Ok(active) = refused(alloc) else {
-        drop(wants);
-        return Err(NoMemory);
+    let active = match refused(alloc) {
+        Ok(active) => active,
+        Err(lack) => {
+            drop(wants);
+            return Err(lack);
+        },
     };
     match wants {
         Wants::Words { .. } => Ok(Move::At(active)),
@@ -256,9 +259,9 @@ fn put_substitution(
     let tree = body_of(alloc, program)?;
     match vars.copy() {
         Ok(copy) => Ok(child_of(child, copy, tree)),
-        Err(_) => {
+        Err(error) => {
             drop(tree);
-            Err(NoMemory)
+            Err(NoMemory::from(error))
         },
     }
 }
@@ -273,10 +276,13 @@ fn collecting(
 ) -> Result<Place, NoMemory>
     ensures { IfOk result (λ place. place ≡ Place.Collecting (record { wants = wants; pending = pending; written = []; aside = aside; children = child ∷ [] })) }
 {
-    let Ok(children) = one_more(Sequence::new(alloc), child) else {
-        drop(wants);
-        drop(pending);
-        return Err(NoMemory);
+    let children = match one_more(Sequence::new(alloc), child) {
+        Ok(children) => children,
+        Err(lack) => {
+            drop(wants);
+            drop(pending);
+            return Err(lack);
+        },
     };
     Ok(Place::Collecting(Substitution {
         wants,
@@ -303,11 +309,11 @@ pub(crate) fn substitute_turn(
 {
     let forked = match fork_process(kernel, pid, None, true) {
         Ok(forked) => forked,
-        Err(NoMemory) => {
+        Err(lack) => {
             drop(program);
             drop(wants);
             drop(pending);
-            return Err(NoMemory);
+            return Err(lack);
         },
     };
     match forked.child {

@@ -10,7 +10,7 @@ use sh_exec_command::{Active, Place, Substitution};
 use sh_exec_machine::{Taken, take_bytes};
 use sh_exec_shell_base::Tree;
 use sh_kernel::{Kernel, Name};
-use sh_syntax::memory::NoMemory;
+use sh_memory::NoMemory;
 use sh_vars::Vars;
 use std::alloc::Global;
 
@@ -24,9 +24,9 @@ fn with_written(substitution: Substitution, bytes: &[u8]) -> Result<Substitution
     let mut substitution = substitution;
     match substitution.written.extend_from_slice(bytes) {
         Ok(()) => Ok(substitution),
-        Err(_) => {
+        Err(error) => {
             drop(substitution);
-            Err(NoMemory)
+            Err(NoMemory::from(error))
         },
     }
 }
@@ -80,9 +80,9 @@ fn collect_from(
         },
         Ok(Taken::Wait) => Ok(Tree::next(Place::Collecting(substitution))),
         Ok(Taken::Failed) => Ok(collected(kernel, pid, vars, substitution, aside)),
-        Err(NoMemory) => {
+        Err(lack) => {
             drop(substitution);
-            Err(NoMemory)
+            Err(lack)
         },
     }
 }

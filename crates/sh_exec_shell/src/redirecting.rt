@@ -11,7 +11,7 @@ use sh_exec_command::{Prepared, Role, go_ahead, not_done};
 use sh_exec_machine::{Redirected, Undone, redirect};
 use sh_exec_shell_base::Tree;
 use sh_kernel::{Kernel, KernelFault};
-use sh_syntax::memory::NoMemory;
+use sh_memory::NoMemory;
 use sh_vars::Vars;
 use std::alloc::Global;
 
@@ -36,9 +36,9 @@ fn note(prepared: Prepared, one: Option<Undone>) -> Result<Prepared, NoMemory>
     let mut prepared = prepared;
     match prepared.undo.descriptors.push(one) {
         Ok(()) => Ok(prepared),
-        Err(_) => {
+        Err(error) => {
             drop(prepared);
-            Err(NoMemory)
+            Err(NoMemory::from(error))
         },
     }
 }
@@ -87,10 +87,10 @@ fn redirect_one(
             drop(redirection);
             tree
         },
-        Err(NoMemory) => {
+        Err(lack) => {
             drop(redirection);
             drop(prepared);
-            Err(NoMemory)
+            Err(lack)
         },
     }
 }

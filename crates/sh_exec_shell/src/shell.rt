@@ -13,7 +13,7 @@ use sh_exec_base::Rest;
 use sh_exec_command::{Active, Place};
 use sh_exec_shell_base::Tree;
 use sh_kernel::Kernel;
-use sh_syntax::memory::NoMemory;
+use sh_memory::NoMemory;
 use sh_syntax::sequence::Text;
 use sh_vars::Vars;
 use std::alloc::Global;

@@ -6,7 +6,7 @@ ghost use Rattle.sh_exec_shell.specs.Waits.{last_of, number_of, signal_status, w
 
 use sh_exec_command::{Active, Pending, Place, Substitution, Wants};
 use sh_kernel::{Kernel, Status};
-use sh_syntax::memory::NoMemory;
+use sh_memory::NoMemory;
 use sh_syntax::sequence::{Sequence, Text};
 
 /// The exit status of a process that a signal ended.
@@ -86,9 +86,9 @@ fn with_answer(pending: Pending, answer: Text) -> Result<Pending, NoMemory>
     let mut pending = pending;
     match pending.answers.push(answer) {
         Ok(()) => Ok(pending),
-        Err(_) => {
+        Err(error) => {
             drop(pending);
-            Err(NoMemory)
+            Err(NoMemory::from(error))
         },
     }
 }
@@ -113,9 +113,9 @@ pub(crate) fn answer_turn(
     } = substitution;
     match with_answer(pending, written) {
         Ok(pending) => Ok(Place::Expanding(with_substitution(wants, status), Some(pending))),
-        Err(NoMemory) => {
+        Err(lack) => {
             drop(wants);
-            Err(NoMemory)
+            Err(lack)
         },
     }
 }

@@ -9,7 +9,7 @@ use sh_builtin_vars::BuiltinFault;
 use sh_exec_base::message::{Piece, message, read_only, usage};
 use sh_exec_command::{Active, Finish, Place};
 use sh_kernel::Kernel;
-use sh_syntax::memory::NoMemory;
+use sh_memory::NoMemory;
 use sh_syntax::sequence::{Sequence, Text};
 use sh_vars::Vars;
 use std::alloc::Global;

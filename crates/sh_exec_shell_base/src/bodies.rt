@@ -9,7 +9,7 @@ use crate::share::share_all;
 use crate::tree::Tree;
 use sh_exec_base::is_negated;
 use sh_exec_command::{Place, first_place};
-use sh_syntax::memory::NoMemory;
+use sh_memory::NoMemory;
 use sh_syntax::shared::Shared;
 use sh_tree::tree::{AndOr, Command, Complete, Compound, CompoundForm, ListItem, Pipeline};
 use std::alloc::Global;

@@ -10,7 +10,7 @@ use crate::share::share_all;
 use crate::tree::Tree;
 use sh_exec_base::{Queue, commands_of, is_negated};
 use sh_exec_command::{Active, Place, Stages, Wants, first_place};
-use sh_syntax::memory::NoMemory;
+use sh_memory::NoMemory;
 use sh_syntax::sequence::Sequence;
 use sh_syntax::shared::Shared;
 use sh_tree::tree::{

@@ -17,7 +17,7 @@ use sh_exec_base::Queue;
 use sh_exec_command::{Active, Place, Undo, restore_variables};
 use sh_exec_machine::restore_all;
 use sh_kernel::Kernel;
-use sh_syntax::memory::NoMemory;
+use sh_memory::NoMemory;
 use sh_syntax::shared::Shared;
 use sh_tree::tree::{Complete, Connected, Connector, ElseIf};
 use sh_vars::Vars;

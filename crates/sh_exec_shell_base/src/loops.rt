@@ -12,7 +12,7 @@ use crate::form::{Form, Loop};
 use crate::tree::Tree;
 use sh_builtin::Leave;
 use sh_exec_command::{Active, Series};
-use sh_syntax::memory::NoMemory;
+use sh_memory::NoMemory;
 use sh_tree::tree::LoopKind;
 use sh_vars::Vars;
 use std::alloc::Global;

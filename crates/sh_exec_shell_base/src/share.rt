@@ -2,7 +2,7 @@
 ghost use Rattle.std.specs.Prelude.{◌≡◌, IfOk};
 
 use sh_exec_base::Queue;
-use sh_syntax::memory::NoMemory;
+use sh_memory::NoMemory;
 use sh_syntax::sequence::Sequence;
 use sh_tree::tree::{Connected, ElseIf, ListItem};
 use std::alloc::Global;

@@ -5,7 +5,7 @@ ghost use Rattle.sh_exec_shell_base.specs.Tree.{run_of};
 
 use crate::form::Form;
 use sh_exec_command::{Active, Move, Place};
-use sh_syntax::memory::NoMemory;
+use sh_memory::NoMemory;
 use std::alloc::Global;
 
 /// A tree of running forms (`run_of` is what contracts see of it).

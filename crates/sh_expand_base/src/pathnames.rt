@@ -31,7 +31,7 @@ fn names_behind<'a>(
 {
     match files.list(directory, or_here(before)) {
         Ok(names) => Ok(Some(names)),
-        Err(FileFault::NoMemory) => Err(AllocError),
+        Err(FileFault::NoMemory(lack)) => Err(AllocError::from(lack)),
         Err(_) => Ok(None),
     }
 }

@@ -3,8 +3,8 @@ ghost use Rattle.std.specs.Prelude.{◌≡◌, ◌==◌, IfOk};
 ghost use Rattle.std.specs.List.{list_any};
 ghost use Rattle.sh_expand_line.specs.Lines.{before_white, behind, behind_delimiter, behind_field, behind_white, bytes_of, delimits, field, is_space, is_white};
 
+use sh_memory::NoMemory;
 use sh_pattern::Mark;
-use sh_syntax::memory::NoMemory;
 use sh_syntax::sequence::{Sequence, Text};
 use std::alloc::Global;
 

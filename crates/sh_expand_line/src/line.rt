@@ -3,8 +3,8 @@ ghost use Rattle.std.specs.Prelude.{◌≡◌, IfOk};
 ghost use Rattle.sh_expand_line.specs.Lines.{behind_white, left, line_split, texts};
 
 use crate::fields::{before_white, behind, behind_white, bytes_of, field};
+use sh_memory::NoMemory;
 use sh_pattern::Mark;
-use sh_syntax::memory::NoMemory;
 use sh_syntax::sequence::{Sequence, Text};
 use sh_vars::Vars;
 use std::alloc::Global;

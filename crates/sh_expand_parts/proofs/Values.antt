@@ -1,4 +1,5 @@
 -- The value of an expression, as the function has it.
+use Rattle.sh_memory.specs.Memory.{no_memory}
 use Rattle.std.proofs.Common.{◌≡◌, ◌≢◌, ℕ, ℤ, List, Result, Ok, Err, ◌∙◌}
 use Rattle.std.specs.Prelude.{IfOk, IfErr}
 use Rattle.sh_vars.specs.Environment.{Environment}
@@ -15,6 +16,6 @@ pub has_value : (text : List ℕ) (before after : Environment) (r : Result ℤ A
 has_value text before after (Ok v) h = computes text h.0 before h.1 ∙ h.2
 has_value text before after (Err f) h = h
 
-pub has_fault : (text : List ℕ) (before after : Environment) (r : Result ℤ ArithFault) → IfErr r (λ f. f ≢ NoMemory → HasFault text before f after) → IfErr r (λ f. f ≢ NoMemory → evaluated text before ≡ Stops f after)
+pub has_fault : (text : List ℕ) (before after : Environment) (r : Result ℤ ArithFault) → IfErr r (λ f. f ≢ NoMemory no_memory → HasFault text before f after) → IfErr r (λ f. f ≢ NoMemory no_memory → evaluated text before ≡ Stops f after)
 has_fault text before after (Ok v) h = h
 has_fault text before after (Err f) h = λ n. computes_fault text f before after (h n)

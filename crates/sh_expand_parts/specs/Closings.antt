@@ -48,7 +48,7 @@ fault_of text arith_fault.DivideByZero = fault.Arithmetic error.DivisionByZero
 fault_of text arith_fault.NotANumber = fault.Arithmetic error.NotANumber
 fault_of text (arith_fault.ReadOnly at) = fault.ReadOnly (word_at text at)
 fault_of text arith_fault.TooDeep = fault.Arithmetic error.TooDeep
-fault_of text arith_fault.NoMemory = fault.Arithmetic error.Syntax
+fault_of text (arith_fault.NoMemory _) = fault.Arithmetic error.Syntax
 fault_of text (arith_fault.Unset at) = fault.Unset (word_at text at) None
 
 -- `$((w))`

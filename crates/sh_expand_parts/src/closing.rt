@@ -1,4 +1,5 @@
 //! What a word comes to once it is expanded.
+ghost use Rattle.sh_memory.specs.Memory.{no_memory};
 ghost use Rattle.std.specs.Prelude.{◌≡◌, ◌≢◌, IfOk, IfErr, OnOk, MatchResult};
 ghost use Rattle.std.specs.Fmt.{signed_decimal};
 ghost use Rattle.sh_vars.specs.Environment.{is_read_only};
@@ -109,7 +110,7 @@ fn assign(
         }
         Err(VarsFault::ReadOnly) => Ok(Closed::Fails(Fault::ReadOnly { name })),
         Err(VarsFault::BadName) => Ok(Closed::Fails(Fault::BadSubstitution)),
-        Err(VarsFault::NoMemory) => Err(AllocError),
+        Err(VarsFault::NoMemory(lack)) => Err(AllocError::from(lack)),
     }
 }
 
@@ -126,7 +127,7 @@ fn word_at(text: &[u8], place: usize) -> &[u8]
 /// The fault of an expression.
 fn fault_of(alloc: Global, text: &[u8], fault: ArithFault) -> Result<Fault, AllocError>
     ensures ok { IfOk result (λ f. f ≡ fault_of text.now fault) }
-    ensures memory { OnOk result (fault ≢ ArithFault.NoMemory) }
+    ensures memory { OnOk result (fault ≢ ArithFault.NoMemory no_memory) }
 {
     match fault {
         ArithFault::Syntax { at: _ } => Ok(Fault::Arithmetic(ArithmeticError::Syntax)),
@@ -136,7 +137,7 @@ fn fault_of(alloc: Global, text: &[u8], fault: ArithFault) -> Result<Fault, Allo
             name: text_from(alloc, word_at(text, at))?,
         }),
         ArithFault::TooDeep => Ok(Fault::Arithmetic(ArithmeticError::TooDeep)),
-        ArithFault::NoMemory => Err(AllocError),
+        ArithFault::NoMemory(lack) => Err(AllocError::from(lack)),
         ArithFault::Unset { at } => Ok(Fault::Unset {
             name: text_from(alloc, word_at(text, at))?,
             message: None,
@@ -162,7 +163,7 @@ fn number_behind(
 /// The value of an expression.
 fn value_of(alloc: Global, text: &[u8], vars: &mut Vars) -> Result<i64, ArithFault>
     ensures value { IfOk result (λ v. evaluated text.now vars.old ≡ Gives v vars.new) }
-    ensures fault { IfErr result (λ f. f ≢ ArithFault.NoMemory → evaluated text.now vars.old ≡ Stops f vars.new) }
+    ensures fault { IfErr result (λ f. f ≢ ArithFault.NoMemory no_memory → evaluated text.now vars.old ≡ Stops f vars.new) }
 {
     evaluate(alloc, text, vars)
 }

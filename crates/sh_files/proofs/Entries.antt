@@ -1,4 +1,5 @@
 -- The lines of an image, one after the other.
+use Rattle.sh_memory.specs.Memory.{no_memory}
 use Rattle.std.proofs.Common.{◌≡◌, ℕ, suc, zero, ◌+◌, ◌<◌, List, [], ◌∷◌, length, take, drop, Option, Some, None, Bool, true, false, Result, Ok, Err, IfErr, codes, refl, sym, ap, ◌∙◌, arith}
 use Rattle.std.specs.Prelude.{◌==◌, if◌then◌else◌, option_map}
 use Rattle.std.specs.List.{position}
@@ -91,7 +92,7 @@ at_end files [] h = refl
 at_end files (b ∷ bs) h = absurd (cc)
 
 -- what follows the last line is refused
-pub refused_end : {A : Type 0} (r : Result A Stop) (files : FileMap) (rest : List ℕ) (p : List ℕ × List ℕ) (all : Result FileMap Stop) → all ≡ entries files 0 rest → Some p ≡ line_of rest → bytes_eq p.0 (codes "end") ≡ true → IfErr r (λ stop. (stop ≡ record { kind = Trailing; left = length p.1 }) × (p.1 ≡ [] → ⊥)) → IfErr r (λ stop. (stop.kind ≡ NoMemory → ⊥) → all ≡ Err stop)
+pub refused_end : {A : Type 0} (r : Result A Stop) (files : FileMap) (rest : List ℕ) (p : List ℕ × List ℕ) (all : Result FileMap Stop) → all ≡ entries files 0 rest → Some p ≡ line_of rest → bytes_eq p.0 (codes "end") ≡ true → IfErr r (λ stop. (stop ≡ record { kind = Trailing; left = length p.1 }) × (p.1 ≡ [] → ⊥)) → IfErr r (λ stop. (stop.kind ≡ NoMemory no_memory → ⊥) → all ≡ Err stop)
 refused_end (Ok a) files rest p all e h is t = t
 refused_end (Err stop) files rest p all e h is t =
     λ _. e ∙ last_line files rest p h is ∙ trailing files p.1 t.1 ∙ ap (λ (s : Stop). Err s) (sym t.0)

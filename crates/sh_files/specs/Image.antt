@@ -111,7 +111,7 @@ is_cut Duplicate = false
 is_cut Truncated = true
 is_cut TooLarge = false
 is_cut Trailing = false
-is_cut NoMemory = false
+is_cut (NoMemory _) = false
 
 -- what is wrong in the first 2^28 bytes, and not for want of the others, in a line before this one
 abbrev pub stands : ImageFault → ℕ → Bool

@@ -1,7 +1,9 @@
 // Refusals.
-ghost use Rattle.std.specs.Prelude.{◌≡◌};
+ghost use Rattle.sh_memory.specs.Memory.{no_memory};
 ghost use Rattle.sh_files.specs.declared.fault.FileFault.TheVariants.{NoMemory};
+ghost use Rattle.std.specs.Prelude.{◌≡◌};
 
+use sh_memory::NoMemory;
 use std::alloc::AllocError;
 use thiserror::Error;
 
@@ -30,14 +32,14 @@ pub enum FileFault {
     #[error("file too large")]
     TooLarge,
     /// There was no memory.
-    #[error("out of memory")]
-    NoMemory,
+    #[error("{0}")]
+    NoMemory(NoMemory),
 }
 
 impl From<AllocError> for FileFault {
-    ghost from_gives = { λ _ fault. fault ≡ NoMemory };
+    ghost from_gives = { λ _ fault. fault ≡ NoMemory no_memory };
 
-    fn from(_error: AllocError) -> FileFault {
-        FileFault::NoMemory
+    fn from(error: AllocError) -> FileFault {
+        FileFault::NoMemory(NoMemory::from(error))
     }
 }

@@ -1,4 +1,5 @@
 // The files by path and by number.
+ghost use Rattle.sh_memory.specs.Memory.{no_memory};
 ghost use Rattle.std.specs.Prelude.{◌≡◌, ◌≢◌, ◌+◌, ◌≤◌, ◌^◌, IfOk, IfErr, OnOk, OnErr, Ok, Err, option_map, slice_get, length, codes, true, false, ◌⊎◌, take, drop, if◌then◌else◌};
 ghost use Rattle.std.specs.Prelude.{List, ℕ, map as list_map};
 ghost use Rattle.std.specs.Borrow.{Bor};
@@ -128,7 +129,7 @@ impl Files {
     /// Goes from the root along the components of a path.
     fn walk(&self, path: &[u8]) -> Result<Vec<u8>, FileFault>
         ensures ok { IfOk result (λ place. walked self.now (codes "/") (components path.now) ≡ Ok place.items) }
-        ensures refused { IfErr result (λ fault. fault ≢ FileFault.NoMemory → walked self.now (codes "/") (components path.now) ≡ Err fault) }
+        ensures refused { IfErr result (λ fault. fault ≢ FileFault.NoMemory no_memory → walked self.now (codes "/") (components path.now) ≡ Err fault) }
     {
         let mut place = Vec::from_slice(self.alloc, b"/")?;
         let mut rest = path;
@@ -145,7 +146,7 @@ impl Files {
     /// The place that a path stands for in a directory.
     pub(crate) fn resolve(&self, directory: &[u8], path: &[u8]) -> Result<Vec<u8>, FileFault>
         ensures ok { IfOk result (λ place. resolved self.now directory.now path.now ≡ Ok place.items) }
-        ensures refused { IfErr result (λ fault. fault ≢ FileFault.NoMemory → resolved self.now directory.now path.now ≡ Err fault) }
+        ensures refused { IfErr result (λ fault. fault ≢ FileFault.NoMemory no_memory → resolved self.now directory.now path.now ≡ Err fault) }
     {
         if path.is_empty() || path.len() > MAX_PATH {
             return Err(FileFault::NoEntry);
@@ -167,7 +168,7 @@ impl Files {
     /// be made there: in `/dev`, or under a name with a newline or NUL. `NoMemory` may come at any point.
     pub fn open(&mut self, directory: &[u8], path: &[u8], how: Opening) -> Result<usize, FileFault>
         ensures ok { IfOk result (λ number. opened self.old directory.now path.now how ≡ Ok (number, self.new)) }
-        ensures refused { IfErr result (λ fault. fault ≢ FileFault.NoMemory → opened self.old directory.now path.now how ≡ Err fault) }
+        ensures refused { IfErr result (λ fault. fault ≢ FileFault.NoMemory no_memory → opened self.old directory.now path.now how ≡ Err fault) }
         ensures err { OnErr result (self.new ≡ self.old) }
     {
         let place = self.resolve(directory, path)?;
@@ -193,7 +194,7 @@ impl Files {
     /// Makes a file where nothing is.
     fn create(&mut self, place: Vec<u8>, how: Opening) -> Result<usize, FileFault>
         ensures ok { IfOk result (λ number. created self.old place.items how ≡ Ok (number, self.new)) }
-        ensures refused { IfErr result (λ fault. fault ≢ FileFault.NoMemory → created self.old place.items how ≡ Err fault) }
+        ensures refused { IfErr result (λ fault. fault ≢ FileFault.NoMemory no_memory → created self.old place.items how ≡ Err fault) }
         ensures err { OnErr result (self.new ≡ self.old) }
     {
         if !how.create {
@@ -237,7 +238,7 @@ impl Files {
     /// be longer than [`MAX_LENGTH`]; else `NoMemory`.
     pub fn write(&mut self, number: usize, offset: usize, bytes: &[u8]) -> Result<(), FileFault>
         ensures ok { OnOk result (write_at self.old number offset bytes.now ≡ Ok self.new) }
-        ensures refused { IfErr result (λ fault. fault ≢ FileFault.NoMemory → write_at self.old number offset bytes.now ≡ Err fault) }
+        ensures refused { IfErr result (λ fault. fault ≢ FileFault.NoMemory no_memory → write_at self.old number offset bytes.now ≡ Err fault) }
         ensures err { OnErr result (self.new ≡ self.old) }
     {
         let Some(node) = self.nodes.get_mut(number) else {
@@ -265,7 +266,7 @@ impl Files {
     /// `TooLarge` where there are more than [`MAX_LENGTH`] bytes; else `NoMemory`.
     pub fn add_nameless(&mut self, bytes: Vec<u8>) -> Result<usize, FileFault>
         ensures ok { IfOk result (λ number. nameless self.old bytes.items ≡ Ok (number, self.new)) }
-        ensures refused { IfErr result (λ fault. fault ≢ FileFault.NoMemory → nameless self.old bytes.items ≡ Err fault) }
+        ensures refused { IfErr result (λ fault. fault ≢ FileFault.NoMemory no_memory → nameless self.old bytes.items ≡ Err fault) }
         ensures err { OnErr result (self.new ≡ self.old) }
     {
         if bytes.len() > MAX_LENGTH {
@@ -285,7 +286,7 @@ impl Files {
     {
         match self.resolve(directory, path) {
             Ok(place) => Ok(self.node_at(&place)),
-            Err(FileFault::NoMemory) => Err(AllocError),
+            Err(FileFault::NoMemory(lack)) => Err(AllocError::from(lack)),
             Err(_) => Ok(None),
         }
     }
@@ -334,7 +335,7 @@ fn open_node(node: &mut Node, how: Opening) -> Result<(), FileFault>
 /// Writes to a node.
 fn write_node(node: &mut Node, offset: usize, bytes: &[u8]) -> Result<(), FileFault>
     ensures ok { OnOk result (node_written offset bytes.now node.old ≡ Ok node.new) }
-    ensures refused { IfErr result (λ fault. fault ≢ FileFault.NoMemory → node_written offset bytes.now node.old ≡ Err fault) }
+    ensures refused { IfErr result (λ fault. fault ≢ FileFault.NoMemory no_memory → node_written offset bytes.now node.old ≡ Err fault) }
     ensures err { OnErr result (node.new ≡ node.old) }
 {
     if matches!(node, Node::Null) {
@@ -384,7 +385,7 @@ fn open_file(file: &mut File, how: Opening) -> Result<(), FileFault>
 /// Writes into a file.
 fn write_file(file: &mut File, offset: usize, bytes: &[u8]) -> Result<(), FileFault>
     ensures ok { OnOk result ((write_fits offset bytes.now ≡ true) × (file.new ≡ record file.old { bytes = written file.old.bytes offset bytes.now })) }
-    ensures refused { IfErr result (λ fault. fault ≢ FileFault.NoMemory → (fault ≡ FileFault.TooLarge) × (write_fits offset bytes.now ≡ false)) }
+    ensures refused { IfErr result (λ fault. fault ≢ FileFault.NoMemory no_memory → (fault ≡ FileFault.TooLarge) × (write_fits offset bytes.now ≡ false)) }
     ensures err { OnErr result (file.new ≡ file.old) }
 {
     if bytes.is_empty() {

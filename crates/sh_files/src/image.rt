@@ -1,4 +1,5 @@
 // Reading an image.
+ghost use Rattle.sh_memory.specs.Memory.{no_memory};
 ghost use Rattle.std.specs.Prelude.{◌≡◌, ◌≢◌, ◌≤◌, IfOk, IfErr, OnOk, OnErr, Ok, Err, None, length, [], slice_get, Some};
 ghost use Rattle.std.specs.Option.{option_and_then};
 ghost use Rattle.sh_files_base.specs.Fields.{line_of};
@@ -62,7 +63,7 @@ impl Files {
     /// Adds a directory.
     fn add_directory(&mut self, path: &[u8]) -> Result<usize, FaultKind>
         ensures ok { IfOk result (λ used. placed self.old path.now Node.Directory 0 (path_fault self.old path.now) ≡ Ok (self.new, used)) }
-        ensures refused { IfErr result (λ kind. kind ≢ FaultKind.NoMemory → placed self.old path.now Node.Directory 0 (path_fault self.old path.now) ≡ Err kind) }
+        ensures refused { IfErr result (λ kind. kind ≢ FaultKind.NoMemory no_memory → placed self.old path.now Node.Directory 0 (path_fault self.old path.now) ≡ Err kind) }
     {
         self.check_path(path)?;
         let place = Vec::from_slice(self.alloc(), path)?;
@@ -79,7 +80,7 @@ impl Files {
         size: Option<usize>,
     ) -> Result<usize, FaultKind>
         ensures ok { IfOk result (λ used. file_entry self.old after.now path.now flags size ≡ Ok (self.new, used)) }
-        ensures refused { IfErr result (λ kind. kind ≢ FaultKind.NoMemory → file_entry self.old after.now path.now flags size ≡ Err kind) }
+        ensures refused { IfErr result (λ kind. kind ≢ FaultKind.NoMemory no_memory → file_entry self.old after.now path.now flags size ≡ Err kind) }
     {
         self.check_path(path)?;
         let Some(size) = size else {
@@ -95,7 +96,7 @@ impl Files {
     /// Adds what a line names, and says how many of the bytes behind it belong to it.
     fn add_entry(&mut self, line: &[u8], after: &[u8]) -> Result<usize, FaultKind>
         ensures ok { IfOk result (λ used. entry self.old line.now after.now ≡ Ok (self.new, used)) }
-        ensures refused { IfErr result (λ kind. kind ≢ FaultKind.NoMemory → entry self.old line.now after.now ≡ Err kind) }
+        ensures refused { IfErr result (λ kind. kind ≢ FaultKind.NoMemory no_memory → entry self.old line.now after.now ≡ Err kind) }
     {
         if let Some(path) = behind(line, b"dir ") {
             return self.add_directory(path);
@@ -112,7 +113,7 @@ impl Files {
     /// Adds what the lines of an image name, up to its end.
     fn add_entries(&mut self, bytes: &[u8]) -> Result<(), Stop>
         ensures ok { OnOk result (entries self.old 0 bytes.now ≡ Ok self.new) }
-        ensures refused { IfErr result (λ stop. stop.kind ≢ FaultKind.NoMemory → entries self.old 0 bytes.now ≡ Err stop) }
+        ensures refused { IfErr result (λ stop. stop.kind ≢ FaultKind.NoMemory no_memory → entries self.old 0 bytes.now ≡ Err stop) }
         ensures within { IfErr result (λ stop. stop.left ≤ length bytes.now) }
     {
         let mut rest = bytes;
@@ -139,7 +140,7 @@ impl Files {
     /// The files of an image.
     fn read_lines(alloc: Global, bytes: &[u8]) -> Result<Files, Stop>
         ensures ok { IfOk result (λ files. by_header bytes.now (line_of bytes.now) ≡ Ok files) }
-        ensures refused { IfErr result (λ stop. stop.kind ≢ FaultKind.NoMemory → by_header bytes.now (line_of bytes.now) ≡ Err stop) }
+        ensures refused { IfErr result (λ stop. stop.kind ≢ FaultKind.NoMemory no_memory → by_header bytes.now (line_of bytes.now) ≡ Err stop) }
         ensures within { IfErr result (λ stop. stop.left ≤ length bytes.now) }
     {
         let left = bytes.len();
@@ -155,11 +156,14 @@ impl Files {
                 left,
             });
         }
-        let Ok(mut files) = Files::new(alloc) else {
-            return Err(Stop {
-                kind: FaultKind::NoMemory,
-                left,
-            });
+        let mut files = match Files::new(alloc) {
+            Ok(files) => files,
+            Err(error) => {
+                return Err(Stop {
+                    kind: FaultKind::from(error),
+                    left,
+                });
+            }
         };
         files.add_entries(rest)?;
         Ok(files)
@@ -180,7 +184,7 @@ impl Files {
     /// before has a fault. `NoMemory` may come at any point.
     pub fn from_image(alloc: Global, bytes: &[u8]) -> Result<Files, ImageFault>
         ensures ok { IfOk result (λ files. read_image bytes.now ≡ Ok files) }
-        ensures refused { IfErr result (λ fault. fault.kind ≢ FaultKind.NoMemory → read_image bytes.now ≡ Err fault) }
+        ensures refused { IfErr result (λ fault. fault.kind ≢ FaultKind.NoMemory no_memory → read_image bytes.now ≡ Err fault) }
     {
         if bytes.len() <= MAX_IMAGE {
             return Files::read_short(alloc, bytes);
@@ -194,7 +198,7 @@ impl Files {
         let Err(fault) = Files::read_short(alloc, front) else {
             return Err(too_large);
         };
-        if matches!(fault.kind, FaultKind::NoMemory) || stands(fault, line) {
+        if matches!(fault.kind, FaultKind::NoMemory(_)) || stands(fault, line) {
             return Err(fault);
         }
         Err(too_large)
@@ -204,7 +208,7 @@ impl Files {
     fn read_short(alloc: Global, bytes: &[u8]) -> Result<Files, ImageFault>
         requires { length bytes.now ≤ 268435456 }
         ensures ok { IfOk result (λ files. image_of bytes.now ≡ Ok files) }
-        ensures refused { IfErr result (λ fault. fault.kind ≢ FaultKind.NoMemory → image_of bytes.now ≡ Err fault) }
+        ensures refused { IfErr result (λ fault. fault.kind ≢ FaultKind.NoMemory no_memory → image_of bytes.now ≡ Err fault) }
     {
         match Files::read_lines(alloc, bytes) {
             Ok(files) => Ok(files),

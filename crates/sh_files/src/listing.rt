@@ -1,4 +1,5 @@
 // Listing a directory.
+ghost use Rattle.sh_memory.specs.Memory.{no_memory};
 ghost use Rattle.std.specs.Prelude.{◌≡◌, ◌≢◌, IfOk, IfErr, List, ℕ, Ok, Err, map};
 ghost use Rattle.std.specs.Borrow.{Bor};
 ghost use Rattle.sh_files.specs.Nodes.{listed};
@@ -15,7 +16,7 @@ impl Files {
     /// it is no directory. `NoMemory` may come at any point.
     pub fn list(&self, directory: &[u8], path: &[u8]) -> Result<Vec<&[u8]>, FileFault>
         ensures ok { IfOk result (λ names. listed self.now directory.now path.now ≡ Ok (map (λ (name : Bor (List ℕ)). name.now) names.items)) }
-        ensures refused { IfErr result (λ fault. fault ≢ FileFault.NoMemory → listed self.now directory.now path.now ≡ Err fault) }
+        ensures refused { IfErr result (λ fault. fault ≢ FileFault.NoMemory no_memory → listed self.now directory.now path.now ≡ Err fault) }
     {
         let place = self.resolve(directory, path)?;
         self.check_directory(&place)?;

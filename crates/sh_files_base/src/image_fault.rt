@@ -1,6 +1,8 @@
 // What is wrong with an image, and where.
+ghost use Rattle.sh_memory.specs.Memory.{no_memory};
 ghost use Rattle.std.specs.Prelude.{◌≡◌};
 
+use sh_memory::NoMemory;
 use std::alloc::AllocError;
 use std::fmt;
 use thiserror::Error;
@@ -25,7 +27,7 @@ pub enum FaultKind {
     /// Bytes follow the line `end`.
     Trailing,
     /// There was no memory.
-    NoMemory,
+    NoMemory(NoMemory),
 }
 
 impl FaultKind {
@@ -44,7 +46,7 @@ impl FaultKind {
             FaultKind::Truncated => "Truncated",
             FaultKind::TooLarge => "TooLarge",
             FaultKind::Trailing => "Trailing",
-            FaultKind::NoMemory => "NoMemory",
+            FaultKind::NoMemory(_) => "NoMemory",
         }
     }
 }
@@ -58,10 +60,10 @@ impl fmt::Display for FaultKind {
 impl From<AllocError> for FaultKind {
     ghost use Rattle.sh_files_base.specs.declared.image_fault.FaultKind.TheVariants.{NoMemory};
 
-    ghost from_gives = { λ _ kind. kind ≡ NoMemory };
+    ghost from_gives = { λ _ kind. kind ≡ NoMemory no_memory };
 
-    fn from(_error: AllocError) -> FaultKind {
-        FaultKind::NoMemory
+    fn from(error: AllocError) -> FaultKind {
+        FaultKind::NoMemory(NoMemory::from(error))
     }
 }
 

@@ -18,7 +18,7 @@ fault_waits NotDirectory = refl
 fault_waits Exists = refl
 fault_waits BadNumber = refl
 fault_waits TooLarge = refl
-fault_waits NoMemory = refl
+fault_waits (NoMemory _) = refl
 
 content_waits : (offset : ℕ) (r : Result (List ℕ) FileFault) → waits (content_read offset r).answer ≡ false
 content_waits offset (Ok bytes) = refl

@@ -1,4 +1,5 @@
 -- What a contract says of a call of a kernel.
+use Rattle.sh_memory.specs.Memory.{no_memory}
 use Rattle.std.specs.Prelude.{◌≡◌, ◌≢◌, ℕ, List, take, drop, Result, Ok, Err}
 use Rattle.sh_kernel_base.specs.Outcomes.{Done}
 use Rattle.sh_kernel_base.specs.declared.fault.KernelFault.{KernelFault}
@@ -12,7 +13,7 @@ Gives result new d = (d.answer ≡ result) × StandsAt new d.after
 -- the same, unless no memory was found: then what is kept is still that of the state before
 abbrev pub GivesOrLacks : {A : Type 0} → Result A KernelFault → KernelKept → KernelState → Done KernelState A → Type 0
 GivesOrLacks (Ok a) new s d = Gives (Ok a) new d
-GivesOrLacks (Err fault) new s d = (fault ≢ NoMemory → Gives (Err fault) new d) × (fault ≡ NoMemory → StandsAt new s)
+GivesOrLacks (Err fault) new s d = (fault ≢ NoMemory no_memory → Gives (Err fault) new d) × (fault ≡ NoMemory no_memory → StandsAt new s)
 
 -- the same of a read: its bytes stand at the front of the buffer, which is else as it was
 abbrev pub GivesRead : Result ℕ KernelFault → List ℕ → List ℕ → KernelKept → Done KernelState (List ℕ) → Type 0

@@ -1,4 +1,5 @@
 //! The kernel.
+ghost use Rattle.sh_memory.specs.Memory.{no_memory};
 ghost use Rattle.std.specs.Prelude.{◌≡◌, ◌∷◌, ℕ, List, IfErr, IfOk, OnErr, OnOk, length};
 ghost use Rattle.sh_tty.specs.Happenings.{Happening};
 ghost use Rattle.sh_tty.specs.Kept as tty;
@@ -44,13 +45,14 @@ fn show(terminal: &mut Tty, bytes: &[u8]) -> Result<usize, KernelFault>
     ensures stands { (hs : List Happening) → tty.StandsAt terminal.old hs → OnOk result (tty.StandsAt terminal.new (Happening.Wrote bytes.now ∷ hs)) }
     ensures foreground { terminal.new.foreground ≡ terminal.old.foreground }
     ensures whole { IfOk result (λ count. count ≡ length bytes.now) }
-    ensures memory { IfErr result (λ fault. fault ≡ KernelFault.NoMemory) }
+    ensures memory { IfErr result (λ fault. fault ≡ KernelFault.NoMemory no_memory) }
     ensures unchanged { OnErr result (terminal.new ≡ terminal.old) }
     ensures extends { Extends terminal.old.bytes terminal.new.bytes }
 {
     match terminal.write(bytes) {
         Ok(()) => Ok(bytes.len()),
-        Err(_) => Err(KernelFault::NoMemory),
+        Err(TtyFault::NoMemory(lack)) => Err(KernelFault::NoMemory(lack)),
+        Err(TtyFault::WouldWait) => unreachable!(),
     }
 }
 
@@ -208,7 +210,7 @@ impl Kernel {
             return match self.terminal.read(buf) {
                 Ok(count) => Ok(count),
                 Err(TtyFault::WouldWait) => Err(KernelFault::WouldWait),
-                Err(TtyFault::NoMemory) => Err(KernelFault::NoMemory),
+                Err(TtyFault::NoMemory(lack)) => Err(KernelFault::NoMemory(lack)),
             };
         }
         self.machine.read(pid, name, buf)

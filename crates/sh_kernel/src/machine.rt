@@ -1,4 +1,5 @@
 //! The machine under the processes.
+ghost use Rattle.sh_memory.specs.Memory.{no_memory};
 ghost use Rattle.std.specs.Prelude.{◌≡◌, ◌++◌, ◌+◌, ◌∷◌, []};
 ghost use Rattle.std.specs.Prelude.{length, ◌<◌, ◌≢◌, IfErr, IfOk, ℕ, List};
 
@@ -136,7 +137,7 @@ impl Machine {
 
     /// Ends the writer to a pipe without a reader.
     fn break_pipe(&mut self, pid: u32) -> Result<usize, KernelFault>
-        ensures memory { IfErr result (λ fault. fault ≢ KernelFault.NoMemory) }
+        ensures memory { IfErr result (λ fault. fault ≢ KernelFault.NoMemory no_memory) }
         ensures gives { Gives result self.new (broken self.old pid) }
     {
         close(
@@ -152,7 +153,7 @@ impl Machine {
 
     /// Writes to a pipe.
     fn write_end(&mut self, pid: u32, pipe: usize, bytes: &[u8]) -> Result<usize, KernelFault>
-        ensures memory { IfErr result (λ fault. fault ≢ KernelFault.NoMemory) }
+        ensures memory { IfErr result (λ fault. fault ≢ KernelFault.NoMemory no_memory) }
         ensures gives { Gives result self.new (write_end self.old pid pipe bytes.now) }
     {
         if has_reader(&self.descriptors, &self.descriptions, pipe) {
@@ -248,9 +249,7 @@ impl Machine {
         if is_description(k, find(&self.descriptors, pid, Name::Number(to))) {
             return Ok(());
         }
-        if self.descriptors.reserve(1).is_err() {
-            return Err(KernelFault::NoMemory);
-        }
+        self.descriptors.reserve(1)?;
         give_number(
             pid,
             to,
@@ -274,15 +273,10 @@ impl Machine {
         if !(is_allowed(from) && is_allowed(to)) {
             return Err(KernelFault::TooManyDescriptors);
         }
-        if self.descriptors.reserve(2).is_err()
-            || self.descriptions.reserve(2).is_err()
-            || self.pipes.reserve(1).is_err()
-        {
-            return Err(KernelFault::NoMemory);
-        }
-        let Ok(made) = Channel::new(self.alloc) else {
-            return Err(KernelFault::NoMemory);
-        };
+        self.descriptors.reserve(2)?;
+        self.descriptions.reserve(2)?;
+        self.pipes.reserve(1)?;
+        let made = Channel::new(self.alloc)?;
         let pipe = self.pipes.len();
         let first = self.descriptions.len();
         self.pipes.push_reserved(Some(made));
@@ -331,9 +325,8 @@ impl Machine {
         if !is_allowed(number) {
             return Err(KernelFault::TooManyDescriptors);
         }
-        if self.descriptors.reserve(1).is_err() || self.descriptions.reserve(1).is_err() {
-            return Err(KernelFault::NoMemory);
-        }
+        self.descriptors.reserve(1)?;
+        self.descriptions.reserve(1)?;
         let node = match self.files.open(directory, path, how) {
             Ok(node) => node,
             Err(fault) => return Err(fault_of_file(fault)),
@@ -373,12 +366,9 @@ impl Machine {
         if bytes.len() > MAX_LENGTH {
             return Err(KernelFault::File(FileFault::TooLarge));
         }
-        if self.descriptors.reserve(1).is_err() || self.descriptions.reserve(1).is_err() {
-            return Err(KernelFault::NoMemory);
-        }
-        let Ok(body) = Vec::from_slice(self.alloc, bytes) else {
-            return Err(KernelFault::NoMemory);
-        };
+        self.descriptors.reserve(1)?;
+        self.descriptions.reserve(1)?;
+        let body = Vec::from_slice(self.alloc, bytes)?;
         let node = match self.files.add_nameless(body) {
             Ok(node) => node,
             Err(fault) => return Err(fault_of_file(fault)),
@@ -447,13 +437,9 @@ impl Machine {
         if !may_fork(&self.processes) {
             return Err(KernelFault::TooManyProcesses);
         }
-        if self.processes.reserve(1).is_err() {
-            return Err(KernelFault::NoMemory);
-        }
+        self.processes.reserve(1)?;
         let child = FIRST_PID + self.processes.len() as u32;
-        if copy_all(self.alloc, &mut self.descriptors, pid, child).is_err() {
-            return Err(KernelFault::NoMemory);
-        }
+        copy_all(self.alloc, &mut self.descriptors, pid, child)?;
         self.processes.push_reserved(Process {
             maker: pid,
             status: Status::Running,

@@ -1,4 +1,5 @@
 -- What a call of a kernel answers, and what is after it.
+use Rattle.sh_memory.specs.Memory.{no_memory}
 use Rattle.std.specs.Prelude.{◌≡◌, ◌≢◌, ℕ, List, take, drop, Result, Ok, Err}
 use Rattle.sh_files.specs.declared.fault.FileFault.{FileFault}
 use Rattle.sh_files.specs.declared.fault.FileFault.TheVariants as file
@@ -28,7 +29,7 @@ fault_of_file file.NotDirectory = File file.NotDirectory
 fault_of_file file.Exists = File file.Exists
 fault_of_file file.BadNumber = BadDescriptor
 fault_of_file file.TooLarge = File file.TooLarge
-fault_of_file file.NoMemory = NoMemory
+fault_of_file (file.NoMemory lack) = NoMemory lack
 
 abbrev pub fault_of_pipe : PipeFault → KernelFault
 fault_of_pipe pipe.WouldWait = WouldWait
@@ -41,7 +42,7 @@ Gives result new d = d ≡ record { answer = result; after = new }
 -- the same, unless no memory was found: then nothing has changed
 abbrev pub GivesOrLacks : {S A : Type 0} → Result A KernelFault → S → S → Done S A → Type 0
 GivesOrLacks (Ok a) old new d = Gives (Ok a) new d
-GivesOrLacks (Err fault) old new d = (fault ≢ NoMemory → Gives (Err fault) new d) × (fault ≡ NoMemory → new ≡ old)
+GivesOrLacks (Err fault) old new d = (fault ≢ NoMemory no_memory → Gives (Err fault) new d) × (fault ≡ NoMemory no_memory → new ≡ old)
 
 -- the same of a read: its bytes stand at the front of the buffer, which is else as it was
 abbrev pub GivesRead : {S : Type 0} → Result ℕ KernelFault → List ℕ → List ℕ → S → Done S (List ℕ) → Type 0

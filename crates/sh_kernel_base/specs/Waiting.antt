@@ -20,7 +20,7 @@ is_wait TooManyDescriptors = false
 is_wait WouldWait = true
 is_wait BrokenPipe = false
 is_wait (File fault) = false
-is_wait NoMemory = false
+is_wait (NoMemory _) = false
 
 -- the call would wait
 abbrev pub waits : {A : Type 0} → Result A KernelFault → Bool

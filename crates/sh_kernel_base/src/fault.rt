@@ -1,9 +1,12 @@
 //! Refusals.
+ghost use Rattle.sh_memory.specs.Memory.{no_memory};
 ghost use Rattle.std.specs.Prelude.{◌≡◌, ◌≢◌};
 ghost use Rattle.sh_kernel_base.specs.Outcomes.{fault_of_file, fault_of_pipe};
 
 use sh_files::FileFault;
+use sh_memory::NoMemory;
 use sh_pipe::PipeFault;
+use std::alloc::AllocError;
 use thiserror::Error;
 
 /// Why a call on a kernel was refused. After a refusal nothing has changed, but for [`KernelFault::BrokenPipe`].
@@ -31,8 +34,8 @@ pub enum KernelFault {
     #[error("{0}")]
     File(FileFault),
     /// There was no memory.
-    #[error("out of memory")]
-    NoMemory,
+    #[error("{0}")]
+    NoMemory(NoMemory),
 }
 
 impl KernelFault {
@@ -50,8 +53,18 @@ impl KernelFault {
             KernelFault::TooManyDescriptors => false,
             KernelFault::BrokenPipe => false,
             KernelFault::File(_) => false,
-            KernelFault::NoMemory => false,
+            KernelFault::NoMemory(_) => false,
         }
+    }
+}
+
+impl From<AllocError> for KernelFault {
+    ghost use Rattle.sh_kernel_base.specs.declared.fault.KernelFault.TheVariants.{NoMemory};
+
+    ghost from_gives = { λ _ fault. fault ≡ NoMemory no_memory };
+
+    fn from(error: AllocError) -> KernelFault {
+        KernelFault::NoMemory(NoMemory::from(error))
     }
 }
 
@@ -60,7 +73,7 @@ pub fn fault_of_file(fault: FileFault) -> KernelFault
     ensures { result ≡ fault_of_file fault }
 {
     match fault {
-        FileFault::NoMemory => KernelFault::NoMemory,
+        FileFault::NoMemory(lack) => KernelFault::NoMemory(lack),
         FileFault::BadNumber => KernelFault::BadDescriptor,
         _ => KernelFault::File(fault),
     }
@@ -69,7 +82,7 @@ pub fn fault_of_file(fault: FileFault) -> KernelFault
 /// The refusal of a kernel for that of a pipe.
 pub(crate) fn fault_of_pipe(fault: PipeFault) -> KernelFault
     ensures fault { result ≡ fault_of_pipe fault }
-    ensures memory { result ≢ KernelFault.NoMemory }
+    ensures memory { result ≢ KernelFault.NoMemory no_memory }
 {
     match fault {
         PipeFault::WouldWait => KernelFault::WouldWait,

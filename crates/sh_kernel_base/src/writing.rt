@@ -1,4 +1,5 @@
 //! Writes, over the parts that they change.
+ghost use Rattle.sh_memory.specs.Memory.{no_memory};
 ghost use Rattle.std.specs.Prelude.{◌≡◌, ◌≢◌, IfErr, ◌<◌, length, slice_get};
 ghost use Rattle.sh_kernel_base.specs.Outcomes.{Gives, GivesOrLacks};
 ghost use Rattle.sh_kernel_base.specs.Writing as writing;
@@ -51,7 +52,7 @@ pub fn write_node(
 
 /// Writes to a pipe that has a reader, if it is there.
 fn write_slot(slot: &mut Option<Channel>, bytes: &[u8]) -> Result<usize, KernelFault>
-    ensures memory { IfErr result (λ fault. fault ≢ KernelFault.NoMemory) }
+    ensures memory { IfErr result (λ fault. fault ≢ KernelFault.NoMemory no_memory) }
     ensures gives { Gives result slot.new (writing.write_slot bytes.now slot.old) }
 {
     let Some(pipe) = slot else {
@@ -69,7 +70,7 @@ pub fn write_pipe(
     pipe: usize,
     bytes: &[u8],
 ) -> Result<usize, KernelFault>
-    ensures memory { IfErr result (λ fault. fault ≢ KernelFault.NoMemory) }
+    ensures memory { IfErr result (λ fault. fault ≢ KernelFault.NoMemory no_memory) }
     ensures gives { Gives result pipes.new.items (writing.write_pipe pipes.old.items pipe bytes.now) }
 {
     if pipe >= pipes.len() {

@@ -24,7 +24,7 @@ whole_said table text w t j front e n h =
 
 -- a fault that is said is told
 pub fault_told : (f : ParseFault) (known : Answer) (said : Option Answer) → Answers (Err f) known → said ≡ Some known → SaysFault f said
-fault_told NoMemory known said h s = tt
+fault_told (NoMemory _) known said h s = tt
 fault_told (Refused at used) known said h s = s ∙ ap Some h
 fault_told (Unclosed at) known said h s = s ∙ ap Some h
 fault_told (BadSubstitution at used) known said h s = s ∙ ap Some h

@@ -94,7 +94,7 @@ nul_follows from to text h l k =
 -- what the tokens say, where a NUL stands before its end
 pub nul_answers : (answer : Result Reading ParseFault) (nul used : ℕ) (known : Answer) → Answers answer known → Answers (Err (fault_with_nul (fault_in answer) nul used)) (before_nul nul used known)
 nul_answers (Ok r) nul used known h = ap (before_nul nul used) h
-nul_answers (Err NoMemory) nul used known h = tt
+nul_answers (Err (NoMemory _)) nul used known h = tt
 nul_answers (Err (Refused at before)) nul used known h = go (nat_lt at nul) (ap (before_nul nul used) h)
   where
     go : (c : Bool) → before_nul nul used known ≡ (if c then Err (Refused at before) else Err (Refused nul used))

@@ -32,7 +32,7 @@ fault_inside : (e : Bool) (text : List ℕ) (used : ℕ) (f : PartFault) → (0 
 fault_inside e text used (fault.BadSubstitution at) p h = (h, p.0, p.1)
 fault_inside e text used (fault.TooDeep at) p h = (h, p.0, p.1)
 fault_inside e text used (fault.Refused at) p h = (h, p.0, p.1)
-fault_inside e text used fault.NoMemory p h = tt
+fault_inside e text used (fault.NoMemory _) p h = tt
 
 told : (e : Bool) (text : List ℕ) (answer known : Answer) → answer ≡ known → IsInside e text known → IsInside e text answer
 told e text answer known h i = subst (λ x. IsInside e text x) (sym h) i

@@ -14,7 +14,7 @@ IsInside e text (Err (Unclosed at)) = at ≡ length text
 IsInside e text (Err (Refused at used)) = (at ≤ length text) × (0 < used) × (used ≤ length text)
 IsInside e text (Err (BadSubstitution at used)) = (at ≤ length text) × (0 < used) × (used ≤ length text)
 IsInside e text (Err (TooDeep at used)) = (at ≤ length text) × (0 < used) × (used ≤ length text)
-IsInside e text (Err NoMemory) = Unit {0}
+IsInside e text (Err (NoMemory _)) = Unit {0}
 
 -- the items stand one behind another, from `at` on, in a text of so many bytes
 abbrev pub AreInside : ℕ → ℕ → List Item → Type 0

@@ -29,7 +29,7 @@ abbrev pub fault_of : ℕ → PartFault → ParseFault
 fault_of used (fault.BadSubstitution at) = BadSubstitution at used
 fault_of used (fault.TooDeep at) = TooDeep at used
 fault_of used (fault.Refused at) = Refused at used
-fault_of used fault.NoMemory = NoMemory
+fault_of used (fault.NoMemory lack) = NoMemory lack
 
 -- ---- a NUL, which no text of a script has, is a fault at its place
 abbrev pub nul_in : List ℕ → Option ℕ
@@ -41,7 +41,7 @@ stands_before (Refused at used) nul = nat_lt at nul
 stands_before (Unclosed at) nul = nat_lt at nul
 stands_before (BadSubstitution at used) nul = nat_lt at nul
 stands_before (TooDeep at used) nul = nat_lt at nul
-stands_before NoMemory nul = true
+stands_before (NoMemory _) nul = true
 
 -- what is answered where the bytes up to and with a decision place, so many, have a NUL, and their tokens alone would be answered so: the
 -- fault at the lesser place
@@ -122,7 +122,7 @@ reading table e text = decided table e text nothing (Ok (none_of complete)) (ite
 -- the answer is this one, unless memory was wanting
 abbrev pub Answers : Answer → Answer → Type 0
 Answers (Ok r) answer = answer ≡ Ok r
-Answers (Err NoMemory) answer = Unit {0}
+Answers (Err (NoMemory _)) answer = Unit {0}
 Answers (Err (Refused at used)) answer = answer ≡ Err (Refused at used)
 Answers (Err (Unclosed at)) answer = answer ≡ Err (Unclosed at)
 Answers (Err (BadSubstitution at used)) answer = answer ≡ Err (BadSubstitution at used)

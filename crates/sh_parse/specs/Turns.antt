@@ -1,4 +1,5 @@
 -- One turn of a reading: the next token, and what it decides. Only proofs need this.
+use Rattle.sh_memory.specs.Memory.{no_memory}
 use Rattle.std.specs.Prelude.{◌≡◌, ℕ, suc, ◌<◌, ◌≤◌, Bool, List, ◌∷◌, length, take, Option, Some, None, Result, Ok, Err, if◌then◌else◌}
 use Rattle.sh_parse_lines.specs.declared.item.Item.{Item}
 use Rattle.sh_parse_lines.specs.Waiting.{Waiting, behind_token}
@@ -39,7 +40,7 @@ abbrev pub GoesOn : AliasTable → List ℕ → Result Judged PartFault → Wait
 GoesOn table text j w t nul (Ok (Turn.On k v after next)) =
     (after ≡ t.«end») × (v ≡ behind_token t.token.kind w) × (k ≡ and_then j (taken table text w t)) × (next ≡ nul)
 GoesOn table text j w t nul (Ok (Turn.Read reading)) = ⊥
-GoesOn table text j w t nul (Err fault) = fault ≡ NoMemory
+GoesOn table text j w t nul (Err fault) = fault ≡ NoMemory no_memory
 
 -- the turn that decides so
 abbrev pub turn_of : Result Reading ParseFault → Result Turn ParseFault
@@ -48,7 +49,7 @@ turn_of (Err fault) = Err fault
 
 -- this fault is said, unless memory was wanting
 abbrev pub SaysFault : ParseFault → Option Answer → Type 0
-SaysFault NoMemory answer = Unit {0}
+SaysFault (NoMemory _) answer = Unit {0}
 SaysFault (Refused at used) answer = answer ≡ Some (Err (Refused at used))
 SaysFault (Unclosed at) answer = answer ≡ Some (Err (Unclosed at))
 SaysFault (BadSubstitution at used) answer = answer ≡ Some (Err (BadSubstitution at used))

@@ -14,7 +14,7 @@ pub(crate) fn fault_of(used: usize, fault: PartFault) -> ParseFault
         PartFault::BadSubstitution { at } => ParseFault::BadSubstitution { at, used },
         PartFault::TooDeep { at } => ParseFault::TooDeep { at, used },
         PartFault::Refused { at } => ParseFault::Refused { at, used },
-        PartFault::NoMemory => ParseFault::NoMemory,
+        PartFault::NoMemory(lack) => ParseFault::NoMemory(lack),
     }
 }
 
@@ -27,7 +27,7 @@ fn stands_before(fault: ParseFault, nul: usize) -> bool
         ParseFault::Unclosed { at } => at < nul,
         ParseFault::BadSubstitution { at, .. } => at < nul,
         ParseFault::TooDeep { at, .. } => at < nul,
-        ParseFault::NoMemory => true,
+        ParseFault::NoMemory(_) => true,
     }
 }
 

@@ -5,6 +5,7 @@
 //! the commands of its substitutions), and at a newline or the end of the input the reading is decided.
 #![tactic(auto)]
 
+ghost use Rattle.sh_memory.specs.Memory.{no_memory};
 ghost use Rattle.sh_parse.specs.Reading.{Answers, reading};
 
 mod aliases;
@@ -17,6 +18,7 @@ pub use aliases::Aliases;
 pub use laws::{
     items_are_inside, no_text_has_two_readings, reading_is_the_defined_one, readings_are_inside,
 };
+use sh_memory::NoMemory;
 use sh_parse_lines::waiting::Waiting;
 use sh_parse_programs::front::Front;
 use sh_tree::tree;
@@ -58,18 +60,18 @@ pub enum ParseFault {
     #[error("nested too deep at byte {at}")]
     TooDeep { at: usize, used: usize },
     /// There was not enough memory.
-    #[error("out of memory")]
-    NoMemory,
+    #[error("{0}")]
+    NoMemory(NoMemory),
 }
 
 impl From<AllocError> for ParseFault {
     ghost use Rattle.std.specs.Prelude.{◌≡◌};
     ghost use Rattle.sh_parse.specs.declared.ParseFault.TheVariants.{NoMemory};
 
-    ghost from_gives = { λ _ e. e ≡ NoMemory };
+    ghost from_gives = { λ _ e. e ≡ NoMemory no_memory };
 
-    fn from(_error: AllocError) -> Self {
-        ParseFault::NoMemory
+    fn from(error: AllocError) -> Self {
+        ParseFault::NoMemory(NoMemory::from(error))
     }
 }
 

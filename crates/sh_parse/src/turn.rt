@@ -6,6 +6,7 @@ ghost use Rattle.sh_parse_programs.specs.Results.{and_then};
 ghost use Rattle.sh_parse_programs.specs.Documents.{bodies_of};
 ghost use Rattle.sh_parse_programs.specs.Judging.{with_item, are_whole};
 ghost use Rattle.sh_parse_programs.specs.Programs.{read_text};
+ghost use Rattle.sh_memory.specs.Memory.{no_memory};
 ghost use Rattle.sh_parse.specs.declared.ParseFault.TheVariants.{NoMemory};
 ghost use Rattle.sh_parse.specs.Aliases.{aliased};
 ghost use Rattle.sh_parse.specs.Reading.{Answer, Answers, at_cut, at_end, at_last, completed, is_newline, nul_in, unless_nul};
@@ -63,7 +64,7 @@ pub(crate) fn next_turn(
             let nul = first_nul(text, nul, at, text.len());
             turn_of(end(text, judged, nul))
         },
-        Err(TokenFault::NoMemory) => Err(ParseFault::NoMemory),
+        Err(TokenFault::NoMemory(lack)) => Err(ParseFault::NoMemory(lack)),
         Err(_) => {
             let nul = first_nul(text, nul, at, text.len());
             turn_of(cut(alloc, text, at_end, judged, &waiting, at, nul))
@@ -91,7 +92,7 @@ fn judge_next(
     item: &Item,
 ) -> Result<Result<Front, PartFault>, ParseFault>
     ensures judged { IfOk result (λ next. next ≡ and_then judged (λ j. with_item read_text 500 text.now due.now (aliased aliases.now j item.now) j)) }
-    ensures memory { IfErr result (λ fault. fault ≡ NoMemory) }
+    ensures memory { IfErr result (λ fault. fault ≡ NoMemory no_memory) }
 {
     let mut front = match judged {
         Ok(front) => front,
@@ -100,7 +101,7 @@ fn judge_next(
     let item = aliased(aliases, &front, item);
     match judge(alloc, LEVELS, text, due, item, &mut front) {
         Ok(()) => Ok(Ok(front)),
-        Err(PartFault::NoMemory) => Err(ParseFault::NoMemory),
+        Err(PartFault::NoMemory(lack)) => Err(ParseFault::NoMemory(lack)),
         Err(fault) => Ok(Err(fault)),
     }
 }

@@ -324,7 +324,7 @@ moved_stands lo hi size f g (Ok x) h = tt
 moved_stands lo hi size f g (Err (fault.BadSubstitution at)) h = g at h.1
 moved_stands lo hi size f g (Err (fault.TooDeep at)) h = g at h.1
 moved_stands lo hi size f g (Err (fault.Refused at)) h = g at h.1
-moved_stands lo hi size f g (Err fault.NoMemory) h = tt
+moved_stands lo hi size f g (Err (fault.NoMemory _)) h = tt
 
 quoted_stands : (lo hi : ℕ) (z : Bool) (parts : Parts) (x : Result Parts PartFault) → All lo hi x → All lo hi (if z then Ok parts else x)
 quoted_stands lo hi true parts x h = tt
@@ -351,7 +351,7 @@ wider : (lo hi stop : ℕ) (f : PartFault) → hi ≤ stop → Stands lo hi f �
 wider lo hi stop (fault.BadSubstitution at) l h = let a : at < hi = h.1 in (h.0, omega (a, l, arith))
 wider lo hi stop (fault.TooDeep at) l h = let a : at < hi = h.1 in (h.0, omega (a, l, arith))
 wider lo hi stop (fault.Refused at) l h = let a : at < hi = h.1 in (h.0, omega (a, l, arith))
-wider lo hi stop fault.NoMemory l h = tt
+wider lo hi stop (fault.NoMemory _) l h = tt
 
 pub bodies_stand : (left : ℕ) (text : List ℕ) (due : List Delimiter) (t : Item) (f : PartFault) → t.token.span.«end» ≤ t.«end» → bodies_of read_text left text due t ≡ Err f
     → Stands t.token.span.«end» t.«end» f

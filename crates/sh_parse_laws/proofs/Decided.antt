@@ -35,7 +35,7 @@ before_stop : (start stop used : ℕ) (f : PartFault) → stop ≤ used → Stan
 before_stop start stop used (fault.BadSubstitution at) l h = let a : at < stop = h.1 in omega (a, l, arith)
 before_stop start stop used (fault.TooDeep at) l h = let a : at < stop = h.1 in omega (a, l, arith)
 before_stop start stop used (fault.Refused at) l h = let a : at < stop = h.1 in omega (a, l, arith)
-before_stop start stop used fault.NoMemory l h = tt
+before_stop start stop used (fault.NoMemory _) l h = tt
 
 told : (answer known : Answer) → answer ≡ known → StandsBefore known → StandsBefore answer
 told answer known h s = subst (λ x. StandsBefore x) (sym h) s

@@ -19,7 +19,7 @@ within : (a b c d : ℕ) (f : PartFault) → c ≤ a → b ≤ d → Stands a b 
 within a b c d (fault.BadSubstitution at) l m h = let x : a ≤ at = h.0 in let y : at < b = h.1 in (omega (x, l, arith), omega (y, m, arith))
 within a b c d (fault.TooDeep at) l m h = let x : a ≤ at = h.0 in let y : at < b = h.1 in (omega (x, l, arith), omega (y, m, arith))
 within a b c d (fault.Refused at) l m h = let x : a ≤ at = h.0 in let y : at < b = h.1 in (omega (x, l, arith), omega (y, m, arith))
-within a b c d fault.NoMemory l m h = tt
+within a b c d (fault.NoMemory _) l m h = tt
 
 ordered : (at size : ℕ) (before : List Item) (t : Item) (after : List Item) → AreInside at size (before ++ t ∷ after)
     → (t.token.span.start < t.token.span.«end») × (t.token.span.«end» ≤ t.«end»)

@@ -226,7 +226,7 @@ module _ (read : Reader) (reads : ReadsIn read) (text : List ℕ) (lo hi : ℕ) 
   moved_at inner f g (Err (fault.BadSubstitution at)) h = g at h
   moved_at inner f g (Err (fault.TooDeep at)) h = g at h
   moved_at inner f g (Err (fault.Refused at)) h = g at h
-  moved_at inner f g (Err fault.NoMemory) h = tt
+  moved_at inner f g (Err (fault.NoMemory _)) h = tt
 
   between_at : (start stop at : ℕ) → lo ≤ start → start ≤ stop → stop < hi → at ≤ length (text_between text start stop) → (lo ≤ capped (start + at)) × (capped (start + at) < hi)
   between_at start stop at a b c l =
@@ -250,7 +250,7 @@ module _ (read : Reader) (reads : ReadsIn read) (text : List ℕ) (lo hi : ℕ) 
   deep_at place (fault.Refused at) p h = h
   deep_at place (fault.TooDeep at) p h = p
   deep_at place (fault.BadSubstitution at) p h = p
-  deep_at place fault.NoMemory p h = tt
+  deep_at place (fault.NoMemory _) p h = tt
 
   either_at : (place : ℕ) (z : Bool) (f : PartFault) → (lo ≤ place) × (place < hi) → Stands lo hi f → Stands lo hi (if z then refused_or_deep place f else f)
   either_at place true f p h = deep_at place f p h

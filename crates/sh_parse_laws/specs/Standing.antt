@@ -9,7 +9,7 @@ abbrev pub Stands : ℕ → ℕ → PartFault → Type 0
 Stands start stop (fault.BadSubstitution at) = (start ≤ at) × (at < stop)
 Stands start stop (fault.TooDeep at) = (start ≤ at) × (at < stop)
 Stands start stop (fault.Refused at) = (start ≤ at) × (at < stop)
-Stands start stop fault.NoMemory = Unit {0}
+Stands start stop (fault.NoMemory _) = Unit {0}
 
 -- a fault of a text stands before the decision place at which it is told. What is unclosed is so at the text's end
 abbrev pub StandsBefore : Answer → Type 0
@@ -18,4 +18,4 @@ StandsBefore (Err (Refused at used)) = at < used
 StandsBefore (Err (BadSubstitution at used)) = at < used
 StandsBefore (Err (TooDeep at used)) = at < used
 StandsBefore (Err (Unclosed at)) = Unit {0}
-StandsBefore (Err NoMemory) = Unit {0}
+StandsBefore (Err (NoMemory _)) = Unit {0}

@@ -81,13 +81,13 @@ ends e text done w at t s a h = end_at e text done w at s.left t s.enough s.insi
 
 -- a fault that isn't want of memory
 abbrev pub IsReal : TokenFault → Type 0
-IsReal TokenFault.NoMemory = ⊥
+IsReal (TokenFault.NoMemory _) = ⊥
 IsReal TokenFault.Unfinished = Unit {0}
 IsReal (TokenFault.TooDeep at) = Unit {0}
 
 first_fault : (others : Waiting → ℕ → Items) (w : Waiting) (at : ℕ) (first : FirstItem) (fault : TokenFault) → IsReal fault → GivesItem (Err fault) (item_at at first) → with_first others w at first ≡ none (Cut at)
 first_fault others w at (NoItem f) fault r g = refl
-first_fault others w at (FoundItem kind start stop after) TokenFault.NoMemory r g = absurd r
+first_fault others w at (FoundItem kind start stop after) (TokenFault.NoMemory _) r g = absurd r
 first_fault others w at (FoundItem kind start stop after) TokenFault.Unfinished r g = absurd (cc)
 first_fault others w at (FoundItem kind start stop after) (TokenFault.TooDeep p) r g = absurd (cc)
 

@@ -41,6 +41,6 @@ item_at at (NoItem fault) = fault_at at fault
 -- the answer is given, unless memory ran out
 abbrev pub GivesItem : Result Item TokenFault → Result Item TokenFault → Type 0
 GivesItem (Ok item) found = Ok item ≡ found
-GivesItem (Err TokenFault.NoMemory) found = Unit {0}
+GivesItem (Err (TokenFault.NoMemory _)) found = Unit {0}
 GivesItem (Err TokenFault.Unfinished) found = Err TokenFault.Unfinished ≡ found
 GivesItem (Err (TokenFault.TooDeep at)) found = Err (TokenFault.TooDeep at) ≡ found

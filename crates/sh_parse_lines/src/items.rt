@@ -36,7 +36,7 @@ pub fn scan_items(alloc: Global, text: &[u8], at_end: bool) -> Result<Items, All
                 at = item.end;
                 items.push(item)?;
             },
-            Err(TokenFault::NoMemory) => return Err(AllocError),
+            Err(TokenFault::NoMemory(lack)) => return Err(AllocError::from(lack)),
             Err(_) => {
                 return Ok(Items {
                     items,

@@ -1,4 +1,5 @@
 -- The steps of a reading, each as what is known of its parts.
+use Rattle.sh_memory.specs.Memory.{no_memory}
 use Rattle.std.proofs.Common.{◌≡◌, ℕ, suc, ◌-◌, Bool, true, false, nat_lt, List, [], ◌∷◌, ◌++◌, length, take, drop, Option, Some, None, Result, Ok, Err, refl, sym, ap, subst, ◌∙◌, if◌then◌else◌}
 use Rattle.sh_syntax.specs.declared.word.Span.{Span}
 use Rattle.sh_token_base.specs.Shell.{substitution}
@@ -30,20 +31,20 @@ use Rattle.sh_parse_programs.specs.Programs.{ended_by, program_of, program_in, p
 
 -- a fault goes on
 pub then_fault : {A B : Type 0} → (e : PartFault) (r : Result A PartFault) (f : A → Result B PartFault) → GivesFault e r → GivesFault e (and_then r f)
-then_fault fault.NoMemory r f g = tt
+then_fault (fault.NoMemory _) r f g = tt
 then_fault (fault.BadSubstitution at) r f g = ap (λ z. and_then z f) g
 then_fault (fault.TooDeep at) r f g = ap (λ z. and_then z f) g
 then_fault (fault.Refused at) r f g = ap (λ z. and_then z f) g
 
 pub moved_fault : {A : Type 0} → (e : PartFault) (r : Result A PartFault) (f : ℕ → ℕ) → GivesFault e r → GivesFault (moved f e) (fault_moved f r)
-moved_fault fault.NoMemory r f g = tt
+moved_fault (fault.NoMemory _) r f g = tt
 moved_fault (fault.BadSubstitution at) r f g = ap (λ z. fault_moved f z) g
 moved_fault (fault.TooDeep at) r f g = ap (λ z. fault_moved f z) g
 moved_fault (fault.Refused at) r f g = ap (λ z. fault_moved f z) g
 
 -- an answer
 itself : (e : PartFault) → GivesFault {A = Complete} e (Err e)
-itself fault.NoMemory = tt
+itself (fault.NoMemory _) = tt
 itself (fault.BadSubstitution at) = refl
 itself (fault.TooDeep at) = refl
 itself (fault.Refused at) = refl
@@ -52,12 +53,12 @@ either_gives : (b : Bool) (place : ℕ) (c : Complete) → Gives (if b then Err 
 either_gives true place c = refl
 either_gives false place c = refl
 
-no_memory_gives : (b : Bool) (place : ℕ) (x : Result Complete PartFault) → GivesFault (if b then refused_or_deep place fault.NoMemory else fault.NoMemory) x
+no_memory_gives : (b : Bool) (place : ℕ) (x : Result Complete PartFault) → GivesFault (if b then refused_or_deep place (fault.NoMemory no_memory) else (fault.NoMemory no_memory)) x
 no_memory_gives true place x = tt
 no_memory_gives false place x = tt
 
 level_gives : (r : Request) (e : PartFault) (x : Result Complete PartFault) → GivesFault e x → GivesFault (level_fault r e) (at_its_level r x)
-level_gives r fault.NoMemory x g = no_memory_gives r.is_too_deep r.place (at_its_level r x)
+level_gives r (fault.NoMemory _) x g = no_memory_gives r.is_too_deep r.place (at_its_level r x)
 level_gives r (fault.BadSubstitution at) x g =
     subst (λ z. GivesFault (level_fault r (fault.BadSubstitution at)) (at_its_level r z)) (sym g) (itself (level_fault r (fault.BadSubstitution at)))
 level_gives r (fault.TooDeep at) x g =
@@ -104,7 +105,7 @@ piece_answered read text b m empty bytes middle new r program shared h a p n =
 pub piece_fault : (read : Reader) (text : List ℕ) (b : Building) (m : Mark) (empty : Bool) (bytes : List ℕ) (new : Building) (e : PartFault)
     → Takes (Err e) new (piece_at text b m empty bytes) → GivesFault e (with_piece read text b m empty bytes)
 unfolding with_piece
-piece_fault read text b m empty bytes new fault.NoMemory h = tt
+piece_fault read text b m empty bytes new (fault.NoMemory _) h = tt
 piece_fault read text b m empty bytes new (fault.BadSubstitution at) h = ap (λ z. and_then z (λ (t : Taken). answered read text t.building t.request)) h
 piece_fault read text b m empty bytes new (fault.TooDeep at) h = ap (λ z. and_then z (λ (t : Taken). answered read text t.building t.request)) h
 piece_fault read text b m empty bytes new (fault.Refused at) h = ap (λ z. and_then z (λ (t : Taken). answered read text t.building t.request)) h
@@ -188,7 +189,7 @@ word_assigned_fault read left text ms span front bytes size first others behind 
 -- a body
 unless_gives : (f : Option PartFault) (parts : Parts) → Gives (unless f parts) (unless f parts)
 unless_gives None parts = refl
-unless_gives (Some fault.NoMemory) parts = tt
+unless_gives (Some (fault.NoMemory _)) parts = tt
 unless_gives (Some (fault.BadSubstitution at)) parts = refl
 unless_gives (Some (fault.TooDeep at)) parts = refl
 unless_gives (Some (fault.Refused at)) parts = refl

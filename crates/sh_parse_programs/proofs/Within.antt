@@ -40,7 +40,7 @@ abbrev pub FaultIn : ℕ → PartFault → Type 0
 FaultIn size (fault.BadSubstitution at) = at ≤ size
 FaultIn size (fault.TooDeep at) = at ≤ size
 FaultIn size (fault.Refused at) = at ≤ size
-FaultIn size fault.NoMemory = Unit {0}
+FaultIn size (fault.NoMemory _) = Unit {0}
 
 abbrev pub FaultsIn : {A : Type 0} → ℕ → Result A PartFault → Type 0
 FaultsIn size (Ok x) = Unit {0}
@@ -55,14 +55,14 @@ moved_in size inner f g (Ok x) h = tt
 moved_in size inner f g (Err (fault.BadSubstitution at)) h = g at h
 moved_in size inner f g (Err (fault.TooDeep at)) h = g at h
 moved_in size inner f g (Err (fault.Refused at)) h = g at h
-moved_in size inner f g (Err fault.NoMemory) h = tt
+moved_in size inner f g (Err (fault.NoMemory _)) h = tt
 
 all_moved_in : {A : Type 0} (size : ℕ) (f : ℕ → ℕ) → ((at : ℕ) → f at ≤ size) → (x : Result A PartFault) → FaultsIn size (fault_moved f x)
 all_moved_in size f g (Ok x) = tt
 all_moved_in size f g (Err (fault.BadSubstitution at)) = g at
 all_moved_in size f g (Err (fault.TooDeep at)) = g at
 all_moved_in size f g (Err (fault.Refused at)) = g at
-all_moved_in size f g (Err fault.NoMemory) = tt
+all_moved_in size f g (Err (fault.NoMemory _)) = tt
 
 -- what is being put together
 abbrev SkipIn : ℕ → Option Skip → Type 0
@@ -318,7 +318,7 @@ module _ (read : Reader) (reads : (left : ℕ) (text : List ℕ) → FaultsIn (l
   deep_in size place (fault.Refused at) p h = h
   deep_in size place (fault.TooDeep at) p h = p
   deep_in size place (fault.BadSubstitution at) p h = p
-  deep_in size place fault.NoMemory p h = tt
+  deep_in size place (fault.NoMemory _) p h = tt
 
   either_in : (size place : ℕ) (z : Bool) (f : PartFault) → place ≤ size → FaultIn size f → FaultIn size (if z then refused_or_deep place f else f)
   either_in size place true f p h = deep_in size place f p h

@@ -27,7 +27,7 @@ abbrev pub closed_by : List ℕ → Result (List Mark) BodyFault → List Mark
 closed_by bytes (Ok ms) = ms
 closed_by bytes (Err (BodyFault.Open at)) = pieces_or_none (body_answer (pieces_of_body (length bytes) (text_between bytes 0 at)))
 closed_by bytes (Err (BodyFault.TooDeep at)) = []
-closed_by bytes (Err BodyFault.NoMemory) = []
+closed_by bytes (Err (BodyFault.NoMemory _)) = []
 
 unfoldable pub closed_pieces : List ℕ → List Mark
 closed_pieces bytes = closed_by bytes (body_answer (pieces_of_body (length bytes) bytes))
@@ -37,7 +37,7 @@ abbrev pub front_by : List ℕ → Result (List Mark) BodyFault → BodyFront
 front_by bytes (Ok ms) = record { pieces = ms; fault = None }
 front_by bytes (Err (BodyFault.Open at)) = record { pieces = closed_pieces (text_between bytes 0 at); fault = Some (fault.Refused at) }
 front_by bytes (Err (BodyFault.TooDeep at)) = record { pieces = closed_pieces (text_between bytes 0 at); fault = Some (fault.TooDeep at) }
-front_by bytes (Err BodyFault.NoMemory) = record { pieces = []; fault = Some fault.NoMemory }
+front_by bytes (Err (BodyFault.NoMemory lack)) = record { pieces = []; fault = Some (fault.NoMemory lack) }
 
 unfoldable pub front_of : List ℕ → BodyFront
 front_of bytes = front_by bytes (body_answer (pieces_of_body (length bytes) bytes))

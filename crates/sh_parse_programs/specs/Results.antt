@@ -15,14 +15,14 @@ abbrev pub moved : (ℕ → ℕ) → PartFault → PartFault
 moved f (fault.BadSubstitution at) = fault.BadSubstitution (f at)
 moved f (fault.TooDeep at) = fault.TooDeep (f at)
 moved f (fault.Refused at) = fault.Refused (f at)
-moved f fault.NoMemory = fault.NoMemory
+moved f (fault.NoMemory lack) = fault.NoMemory lack
 
 abbrev pub fault_moved : {A : Type 0} → (ℕ → ℕ) → Result A PartFault → Result A PartFault
 fault_moved f (Ok x) = Ok x
 fault_moved f (Err e) = Err (moved f e)
 
 abbrev pub GivesFault : {A : Type 0} → PartFault → Result A PartFault → Type 0
-GivesFault fault.NoMemory found = Unit {0}
+GivesFault (fault.NoMemory _) found = Unit {0}
 GivesFault (fault.BadSubstitution at) found = found ≡ Err (fault.BadSubstitution at)
 GivesFault (fault.TooDeep at) found = found ≡ Err (fault.TooDeep at)
 GivesFault (fault.Refused at) found = found ≡ Err (fault.Refused at)

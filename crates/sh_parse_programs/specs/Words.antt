@@ -43,7 +43,7 @@ abbrev pub refused_or_deep : ℕ → PartFault → PartFault
 refused_or_deep place (fault.Refused at) = fault.Refused at
 refused_or_deep place (fault.TooDeep at) = fault.TooDeep place
 refused_or_deep place (fault.BadSubstitution at) = fault.TooDeep place
-refused_or_deep place fault.NoMemory = fault.NoMemory
+refused_or_deep place (fault.NoMemory lack) = fault.NoMemory lack
 
 abbrev pub level_fault : Request → PartFault → PartFault
 level_fault r f = if r.is_too_deep then refused_or_deep r.place f else f

@@ -24,6 +24,6 @@ pub fn cut_fault(
         Ok(_) => Ok(None),
         Err(TokenFault::Unfinished) => Ok(None),
         Err(TokenFault::TooDeep { at }) => Ok(Some(PartFault::TooDeep { at })),
-        Err(TokenFault::NoMemory) => Err(AllocError),
+        Err(TokenFault::NoMemory(lack)) => Err(AllocError::from(lack)),
     }
 }

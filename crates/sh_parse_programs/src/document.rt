@@ -29,7 +29,7 @@ fn pieces_or_none(alloc: Global, bytes: &[u8], levels: usize) -> Result<Sequence
 {
     match body_pieces(alloc, bytes, levels) {
         Ok(pieces) => Ok(pieces),
-        Err(BodyFault::NoMemory) => Err(AllocError),
+        Err(BodyFault::NoMemory(lack)) => Err(AllocError::from(lack)),
         Err(_) => Ok(Sequence::new(alloc)),
     }
 }
@@ -47,7 +47,7 @@ fn closed_pieces(alloc: Global, bytes: &[u8]) -> Result<Sequence<Mark>, AllocErr
             bytes.len(),
         ),
         Err(BodyFault::TooDeep { .. }) => Ok(Sequence::new(alloc)),
-        Err(BodyFault::NoMemory) => Err(AllocError),
+        Err(BodyFault::NoMemory(lack)) => Err(AllocError::from(lack)),
     }
 }
 
@@ -71,7 +71,7 @@ pub(crate) fn front_of(alloc: Global, body: &[u8]) -> Result<BodyFront, AllocErr
             let fault = Some(PartFault::TooDeep { at });
             Ok(BodyFront { pieces, fault })
         },
-        Err(BodyFault::NoMemory) => Err(AllocError),
+        Err(BodyFault::NoMemory(lack)) => Err(AllocError::from(lack)),
     }
 }
 
@@ -99,7 +99,7 @@ pub(crate) fn fault_at(document: &Document, fault: PartFault) -> PartFault
         PartFault::Refused { at } => PartFault::Refused {
             at: document.place(at),
         },
-        PartFault::NoMemory => PartFault::NoMemory,
+        PartFault::NoMemory(lack) => PartFault::NoMemory(lack),
     }
 }
 

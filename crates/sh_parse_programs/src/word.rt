@@ -57,7 +57,7 @@ pub(crate) fn fault_in(request: &Request, fault: PartFault) -> PartFault
         PartFault::Refused { at } => PartFault::Refused {
             at: place_in(request, at),
         },
-        PartFault::NoMemory => PartFault::NoMemory,
+        PartFault::NoMemory(lack) => PartFault::NoMemory(lack),
     }
 }
 
@@ -69,7 +69,7 @@ fn refused_or_deep(place: usize, fault: PartFault) -> PartFault
         PartFault::Refused { at } => PartFault::Refused { at },
         PartFault::TooDeep { .. } => PartFault::TooDeep { at: place },
         PartFault::BadSubstitution { .. } => PartFault::TooDeep { at: place },
-        PartFault::NoMemory => PartFault::NoMemory,
+        PartFault::NoMemory(lack) => PartFault::NoMemory(lack),
     }
 }
 

@@ -11,8 +11,8 @@
 use crate::fields::{Found, by_kind, pieces};
 use crate::show::{put_number, put_place, put_word, word_of};
 use sh_grammar::{Recognizer, Token};
+use sh_memory::NoMemory;
 use sh_rows::Row;
-use sh_syntax::memory::NoMemory;
 use sh_token_base::class::{TokenClass, is_name};
 use sh_token_base::grammar::{complete_command, substituted};
 use sh_token_base::levels::{end_of_compound, open_compounds};

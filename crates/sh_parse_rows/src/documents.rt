@@ -10,10 +10,10 @@
 //! `quoted WANTED DUE TEXT`: for each body `quoted` or `expanded`, by its delimiter.
 use crate::fields::{Found, by_kind, number};
 use crate::show::{put_place, put_word};
+use sh_memory::NoMemory;
 use sh_parse_documents::document::{Document, documents};
 use sh_rows::Row;
 use sh_scanner_base::here::{Delimiter, Tabs};
-use sh_syntax::memory::NoMemory;
 use sh_syntax::sequence::Text;
 use std::alloc::{AllocError, Global};
 

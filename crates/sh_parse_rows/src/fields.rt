@@ -1,6 +1,6 @@
 //! What the fields of rows mean, and what rows come to by their kinds.
+use sh_memory::NoMemory;
 use sh_rows::Row;
-use sh_syntax::memory::NoMemory;
 use std::alloc::{AllocError, Global};
 
 /// What a row comes to; none where its kind isn't known, or has other fields.

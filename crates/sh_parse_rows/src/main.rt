@@ -17,8 +17,8 @@ mod trees;
 mod word_grammar;
 
 use crate::fields::Found;
+use sh_memory::NoMemory;
 use sh_rows::{Judge, Row, RowFault, Verdict, judge_files};
-use sh_syntax::memory::NoMemory;
 use std::alloc::Global;
 use std::process::ExitCode;
 
@@ -64,7 +64,7 @@ impl Judge for Reader {
         };
         match found {
             Some(Ok(found)) => Ok(Verdict::of(found, row.field(1))),
-            Some(Err(NoMemory)) => Err(RowFault::NoMemory),
+            Some(Err(_)) => Err(RowFault::NoMemory),
             None => Err(RowFault::NoRow { line: row.line }),
         }
     }

@@ -15,13 +15,13 @@
 //! PIECES stand between blanks, each a sign and its bytes as in the module `pieces`.
 use crate::fields::{Found, by_kind, number, pieces};
 use crate::show::{put_number, put_place, put_word, word_of};
+use sh_memory::NoMemory;
 use sh_parse_words::backquotes::unescaped;
 use sh_parse_words::build::{Builder, Request, Substitution};
 use sh_parse_words::fault::PartFault;
 use sh_parse_words::parameter::Braces;
 use sh_rows::Row;
 use sh_scanner_base::mark::Mark;
-use sh_syntax::memory::NoMemory;
 use sh_syntax::sequence::Text;
 use sh_tree::tree::{
     Absence, Affix, ConditionalAction, Extent, Parameter, Part, Parts, SpecialParameter,
@@ -215,7 +215,7 @@ fn put_fault(shown: &mut Vec<u8>, fault: PartFault) -> Result<(), AllocError> {
         PartFault::BadSubstitution { at } => (b"bad".as_slice(), at),
         PartFault::TooDeep { at } => (b"deep".as_slice(), at),
         PartFault::Refused { at } => (b"refused".as_slice(), at),
-        PartFault::NoMemory => return Err(AllocError),
+        PartFault::NoMemory(lack) => return Err(AllocError::from(lack)),
     };
     put_word(shown, word)?;
     put_place(shown, at)
@@ -262,9 +262,9 @@ fn parts_of(alloc: Global, row: &Row, is_whole: bool) -> Result<Vec<u8>, NoMemor
             drop(parts);
             put_fault(&mut shown, fault)?;
         },
-        Err(_) => {
+        Err(error) => {
             drop(parts);
-            return Err(NoMemory);
+            return Err(NoMemory::from(error));
         },
     }
     Ok(shown)

@@ -8,10 +8,10 @@
 //! With a body of six fields (`fields::built`): `closed` in place of the pieces.
 use crate::fields::{Found, built, by_kind};
 use crate::show::{put_place, put_word};
+use sh_memory::NoMemory;
 use sh_rows::Row;
 use sh_scanner::document::{BodyFault, body_pieces};
 use sh_scanner_base::mark::Mark;
-use sh_syntax::memory::NoMemory;
 use std::alloc::{AllocError, Global};
 
 /// How many levels may be open in a body.
@@ -71,7 +71,7 @@ fn put_fault(shown: &mut Vec<u8>, fault: BodyFault) -> Result<(), AllocError> {
     let (word, at) = match fault {
         BodyFault::Open { at } => (b"open", at),
         BodyFault::TooDeep { at } => (b"deep", at),
-        BodyFault::NoMemory => return Err(AllocError),
+        BodyFault::NoMemory(lack) => return Err(AllocError::from(lack)),
     };
     put_word(shown, word)?;
     put_place(shown, at)

@@ -16,9 +16,9 @@
 //! The first four with a text of six fields (`fields::built`): the tree isn't shown, and like signs in a row are counted, as `u1000`.
 use crate::fields::{Found, built, by_kind, marked};
 use crate::show::{put_number, put_place, put_word};
+use sh_memory::NoMemory;
 use sh_parse::{Aliases, ParseFault, Reading, read_command};
 use sh_rows::Row;
-use sh_syntax::memory::NoMemory;
 use sh_tree::text::command_text;
 use sh_tree::tree::{Complete, ListItem, Separator};
 use std::alloc::{AllocError, Global};
@@ -42,7 +42,7 @@ fn outcome_of(fault: ParseFault) -> Result<Outcome, NoMemory> {
         ParseFault::Unclosed { at } => Ok(Outcome::Unclosed(at)),
         ParseFault::BadSubstitution { at, .. } => Ok(Outcome::BadSubstitution(at)),
         ParseFault::TooDeep { at, .. } => Ok(Outcome::TooDeep(at)),
-        ParseFault::NoMemory => Err(NoMemory),
+        ParseFault::NoMemory(lack) => Err(lack),
     }
 }
 
@@ -202,7 +202,7 @@ fn used_of(alloc: Global, text: &[u8], at_end: bool) -> Result<Option<usize>, No
         Err(ParseFault::Unclosed { at }) => Ok(Some(at)),
         Err(ParseFault::BadSubstitution { used, .. }) => Ok(Some(used)),
         Err(ParseFault::TooDeep { used, .. }) => Ok(Some(used)),
-        Err(ParseFault::NoMemory) => Err(NoMemory),
+        Err(ParseFault::NoMemory(lack)) => Err(lack),
     }
 }
 

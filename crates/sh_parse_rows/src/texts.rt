@@ -12,8 +12,8 @@
 use crate::fields::{Found, built, by_kind};
 use crate::reading::read;
 use crate::show::{put_number, word_of};
+use sh_memory::NoMemory;
 use sh_rows::Row;
-use sh_syntax::memory::NoMemory;
 use sh_tree::text::{command_text, pipeline_text};
 use sh_tree::tree::{AndOr, Command, Complete, Part, Parts, SimpleItem, Target};
 use std::alloc::{AllocError, Global};

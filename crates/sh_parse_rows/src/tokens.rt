@@ -9,9 +9,9 @@
 //! each: `t` a token that is the whole front, `u` one that is unfinished. `?` is anything else.
 use crate::fields::{Found, built, by_kind};
 use crate::show::{put_place, put_word};
+use sh_memory::NoMemory;
 use sh_rows::Row;
 use sh_scanner::token::{Token, TokenFault, TokenKind, next_token};
-use sh_syntax::memory::NoMemory;
 use std::alloc::{AllocError, Global};
 
 /// What stands first in a text. Places are numbers of bytes.
@@ -40,7 +40,7 @@ fn first_token(alloc: Global, text: &[u8], at_end: bool) -> Result<First, NoMemo
         Ok(token) => Ok(first_of(token)),
         Err(TokenFault::Unfinished) => Ok(First::Unfinished),
         Err(TokenFault::TooDeep { at }) => Ok(First::TooDeep(at)),
-        Err(TokenFault::NoMemory) => Err(NoMemory),
+        Err(TokenFault::NoMemory(lack)) => Err(lack),
     }
 }
 

@@ -16,8 +16,8 @@ use crate::fields::{Found, by_kind, number, pieces};
 use crate::show::{put_number, put_place, put_word, word_of};
 use sh_grammar::Symbol::{Nonterminal, Terminal};
 use sh_grammar::{Action, Recognizer, Symbol, Tables, Token};
+use sh_memory::NoMemory;
 use sh_rows::Row;
-use sh_syntax::memory::NoMemory;
 use std::alloc::{AllocError, Global};
 
 const HEADS: [u8; 6] = [0, 0, 1, 1, 2, 2];

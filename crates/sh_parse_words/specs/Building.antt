@@ -222,7 +222,7 @@ finished b = finished_by b.frames b.skip (ended b.parts b.literal)
 -- the answer and the value after it are these, or memory was wanting
 abbrev pub Takes : Result (Option Request) PartFault → Building → Outcome → Type 0
 Takes (Ok request) new outcome = outcome ≡ Ok (record { building = new; request = request })
-Takes (Err fault.NoMemory) new outcome = Unit {0}
+Takes (Err (fault.NoMemory _)) new outcome = Unit {0}
 Takes (Err (fault.BadSubstitution place)) new outcome = outcome ≡ Err (fault.BadSubstitution place)
 Takes (Err (fault.TooDeep place)) new outcome = outcome ≡ Err (fault.TooDeep place)
 Takes (Err (fault.Refused place)) new outcome = outcome ≡ Err (fault.Refused place)

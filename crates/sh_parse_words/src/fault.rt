@@ -1,4 +1,7 @@
 //! Why a word has no parts.
+ghost use Rattle.sh_memory.specs.Memory.{no_memory};
+
+use sh_memory::NoMemory;
 use std::alloc::{AllocError, AllocFailed};
 use thiserror::Error;
 
@@ -15,18 +18,18 @@ pub enum PartFault {
     #[error("syntax error at byte {at}")]
     Refused { at: usize },
     /// There was not enough memory.
-    #[error("out of memory")]
-    NoMemory,
+    #[error("{0}")]
+    NoMemory(NoMemory),
 }
 
 impl From<AllocError> for PartFault {
     ghost use Rattle.std.specs.Prelude.{◌≡◌};
     ghost use Rattle.sh_parse_words.specs.declared.fault.PartFault.TheVariants.{NoMemory};
 
-    ghost from_gives = { λ _ e. e ≡ NoMemory };
+    ghost from_gives = { λ _ e. e ≡ NoMemory no_memory };
 
-    fn from(_error: AllocError) -> Self {
-        PartFault::NoMemory
+    fn from(error: AllocError) -> Self {
+        PartFault::NoMemory(NoMemory::from(error))
     }
 }
 
@@ -34,9 +37,9 @@ impl<T: Drop> From<AllocFailed<T>> for PartFault {
     ghost use Rattle.std.specs.Prelude.{◌≡◌};
     ghost use Rattle.sh_parse_words.specs.declared.fault.PartFault.TheVariants.{NoMemory};
 
-    ghost from_gives = { λ _ e. e ≡ NoMemory };
+    ghost from_gives = { λ _ e. e ≡ NoMemory no_memory };
 
-    fn from(_error: AllocFailed<T>) -> Self {
-        PartFault::NoMemory
+    fn from(error: AllocFailed<T>) -> Self {
+        PartFault::NoMemory(NoMemory::from(error))
     }
 }

@@ -3,8 +3,8 @@
 use crate::outcomes::{put_next, words_of};
 use sh_builtin_vars::{Mark, Outcome, cd, mark, pwd, set, shift, unset};
 use sh_files::Files;
+use sh_memory::NoMemory;
 use sh_rows::RowFault;
-use sh_syntax::memory::NoMemory;
 use sh_syntax::sequence::{Sequence, Text};
 use sh_vars::{Options, Vars};
 use std::alloc::Global;

@@ -108,7 +108,7 @@ impl Machine {
 
 /// Says why a call is refused.
 fn say_fault(alloc: Global, said: &mut Vec<u8>, fault: KernelFault) -> Result<(), RowFault> {
-    if fault == KernelFault::NoMemory {
+    if let KernelFault::NoMemory(_) = fault {
         return Err(RowFault::NoMemory);
     }
     let text = format!(in alloc; "{fault}")?;

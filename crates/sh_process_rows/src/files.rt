@@ -82,7 +82,7 @@ pub(crate) fn large(alloc: Global, more: &[u8]) -> Result<Vec<u8>, RowFault> {
 
 /// Says why a call is refused.
 fn say_fault(alloc: Global, said: &mut Vec<u8>, fault: FileFault) -> Result<(), RowFault> {
-    if fault == FileFault::NoMemory {
+    if let FileFault::NoMemory(_) = fault {
         return Err(RowFault::NoMemory);
     }
     let text = format!(in alloc; "{fault}")?;

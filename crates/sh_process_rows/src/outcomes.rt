@@ -1,6 +1,6 @@
 //! Commands of rows as words, and what built-ins come to as a text: a status, what is written, with `;` for a newline, or why it is refused.
 use sh_builtin_vars::{BuiltinFault, Outcome};
-use sh_syntax::memory::NoMemory;
+use sh_memory::NoMemory;
 use sh_syntax::sequence::{Sequence, Text};
 use std::alloc::Global;
 

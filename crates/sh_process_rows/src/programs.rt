@@ -4,8 +4,9 @@
 //! end, `..` behind 20 turns. `twice` is the same of programs with one more beside them. `name WORD` is a word that names no program.
 use crate::steps::{number_of, truth};
 use crate::twice::WithTwice;
+use sh_memory::NoMemory;
 use sh_rows::{Row, RowFault};
-use sh_stock::{Answer, Ask, NoMemory, Program, Stock, Text};
+use sh_stock::{Answer, Ask, Program, Stock, Text};
 use std::alloc::Global;
 
 /// What a program is run on.

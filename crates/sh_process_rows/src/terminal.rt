@@ -113,7 +113,7 @@ fn read(alloc: Global, tty: &mut Tty, size: usize, said: &mut Vec<u8>) -> Result
     match tty.read(&mut buffer) {
         Ok(count) => Ok(say(said, buffer.get(..count).unwrap_or(b"?"))?),
         Err(TtyFault::WouldWait) => Ok(say(said, b"waits")?),
-        Err(TtyFault::NoMemory) => Err(RowFault::NoMemory),
+        Err(TtyFault::NoMemory(_)) => Err(RowFault::NoMemory),
     }
 }
 

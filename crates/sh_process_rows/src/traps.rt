@@ -3,9 +3,9 @@
 use crate::outcomes::{put_next, words_of};
 use sh_builtin_traps::{Condition, Traps, trap};
 use sh_builtin_vars::Outcome;
+use sh_memory::NoMemory;
 use sh_rows::RowFault;
 use sh_signal::{DefaultAction, Signal};
-use sh_syntax::memory::NoMemory;
 use sh_syntax::sequence::{Sequence, Text};
 use std::alloc::Global;
 

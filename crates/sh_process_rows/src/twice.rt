@@ -2,7 +2,8 @@
 ghost use Rattle.std.specs.Prelude.{◌≡◌, IfOk, Option};
 ghost use Rattle.sh_process_rows.specs.Twice.{twice, twice_ask};
 
-use sh_stock::{Answer, Ask, Filter, NoMemory, Stock, Text};
+use sh_memory::NoMemory;
+use sh_stock::{Answer, Ask, Filter, Stock, Text};
 use std::alloc::Global;
 use std::marker::Model;
 

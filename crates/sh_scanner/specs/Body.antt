@@ -51,6 +51,6 @@ body_answer (TooDeepAt place) = Err (BodyFault.TooDeep place)
 -- the answer is given, unless memory ran out
 abbrev pub GivesPieces : Result (List Mark) BodyFault → Result (List Mark) BodyFault → Type 0
 GivesPieces (Ok marks) found = Ok marks ≡ found
-GivesPieces (Err BodyFault.NoMemory) found = Unit {0}
+GivesPieces (Err (BodyFault.NoMemory _)) found = Unit {0}
 GivesPieces (Err (BodyFault.Open at)) found = Err (BodyFault.Open at) ≡ found
 GivesPieces (Err (BodyFault.TooDeep at)) found = Err (BodyFault.TooDeep at) ≡ found

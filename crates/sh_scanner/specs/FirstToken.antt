@@ -29,6 +29,6 @@ answer_at at (DeepAt place) = Err (TokenFault.TooDeep (at + place))
 -- the answer is given, unless memory ran out
 abbrev pub Gives : Result Token TokenFault → Result Token TokenFault → Type 0
 Gives (Ok token) found = Ok token ≡ found
-Gives (Err TokenFault.NoMemory) found = Unit {0}
+Gives (Err (TokenFault.NoMemory _)) found = Unit {0}
 Gives (Err TokenFault.Unfinished) found = Err TokenFault.Unfinished ≡ found
 Gives (Err (TokenFault.TooDeep at)) found = Err (TokenFault.TooDeep at) ≡ found

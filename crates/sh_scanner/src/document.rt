@@ -1,10 +1,12 @@
 //! The bodies of here-documents that are expanded (XCU 2.7.4).
+ghost use Rattle.sh_memory.specs.Memory.{no_memory};
 ghost use Rattle.std.specs.Prelude.{◌≡◌, ◌↔◌, ℕ, List, length};
 ghost use Rattle.sh_scanner_base.specs.declared.context.Context.TheVariants.{Body};
 ghost use Rattle.sh_scanner.specs.Body.{BodyPieces, IsBody, body_answer, GivesPieces};
 ghost use Rattle.sh_scanner.specs.Found.{pieces_of_body};
 
 use crate::scanner::{Outcome, scan};
+use sh_memory::NoMemory;
 use sh_scanner_base::context::Context;
 use sh_scanner_base::mark::Mark;
 use sh_syntax::sequence::Sequence;
@@ -21,18 +23,18 @@ pub enum BodyFault {
     #[error("too deep at byte {at}")]
     TooDeep { at: usize },
     /// There was not enough memory.
-    #[error("out of memory")]
-    NoMemory,
+    #[error("{0}")]
+    NoMemory(NoMemory),
 }
 
 impl From<AllocError> for BodyFault {
     ghost use Rattle.std.specs.Prelude.{◌≡◌};
     ghost use Rattle.sh_scanner.specs.declared.document.BodyFault.TheVariants.{NoMemory};
 
-    ghost from_gives = { λ _ e. e ≡ NoMemory };
+    ghost from_gives = { λ _ e. e ≡ NoMemory no_memory };
 
-    fn from(_error: AllocError) -> Self {
-        BodyFault::NoMemory
+    fn from(error: AllocError) -> Self {
+        BodyFault::NoMemory(NoMemory::from(error))
     }
 }
 

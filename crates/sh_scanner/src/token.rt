@@ -1,4 +1,5 @@
 //! Tokens (XCU 2.3).
+ghost use Rattle.sh_memory.specs.Memory.{no_memory};
 ghost use Rattle.std.specs.Prelude.{◌≡◌, ◌↔◌, ℕ, Bool, List, IfOk, drop, length};
 ghost use Rattle.sh_scanner.specs.Found.{first_token};
 ghost use Rattle.sh_scanner.specs.FirstToken.{FirstToken, IsFirst, answer_at, Gives};
@@ -6,6 +7,7 @@ ghost use Rattle.sh_scanner.specs.Placed.{IsPlaced};
 
 use crate::kind::kind;
 use crate::scanner::{Outcome, scan};
+use sh_memory::NoMemory;
 use sh_scanner_base::context::Context;
 use sh_scanner_base::mark::Mark;
 use sh_scanner_base::operator::Operator;
@@ -43,18 +45,18 @@ pub enum TokenFault {
     #[error("too deep at byte {at}")]
     TooDeep { at: usize },
     /// There was not enough memory.
-    #[error("out of memory")]
-    NoMemory,
+    #[error("{0}")]
+    NoMemory(NoMemory),
 }
 
 impl From<AllocError> for TokenFault {
     ghost use Rattle.std.specs.Prelude.{◌≡◌};
     ghost use Rattle.sh_scanner.specs.declared.token.TokenFault.TheVariants.{NoMemory};
 
-    ghost from_gives = { λ _ e. e ≡ NoMemory };
+    ghost from_gives = { λ _ e. e ≡ NoMemory no_memory };
 
-    fn from(_error: AllocError) -> Self {
-        TokenFault::NoMemory
+    fn from(error: AllocError) -> Self {
+        TokenFault::NoMemory(NoMemory::from(error))
     }
 }
 

@@ -10,7 +10,6 @@
 mod asking;
 mod laws;
 mod lines;
-mod memory;
 mod name;
 mod program;
 mod start;
@@ -19,7 +18,6 @@ mod text;
 
 pub use asking::{Answer, Ask, Turn};
 pub use laws::laws_of_lines;
-pub use memory::NoMemory;
 pub use program::{Program, Search};
 pub use stock::{Filter, Stock};
 pub use text::Text;

@@ -3,8 +3,8 @@ ghost use Rattle.std.specs.Prelude.{◌≡◌, ◌-◌, IfOk, OnOk, take};
 ghost use Rattle.sh_stock.specs.Lines.{contains, first_lines, is_newline, kept_lines, newlines, unfinished};
 ghost use Rattle.std.specs.List.{list_any};
 
-use crate::memory::NoMemory;
 use crate::text::Text;
+use sh_memory::NoMemory;
 use std::alloc::Global;
 
 /// Whether a newline is among the bytes.

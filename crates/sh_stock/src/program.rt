@@ -4,12 +4,12 @@ ghost use Rattle.sh_stock.specs.Programs.{cat_turn, count_read, count_turn, endi
 
 use crate::asking::{Answer, Ask, Turn};
 use crate::lines::{contains, find_end, has_newline, keep_lines};
-use crate::memory::NoMemory;
 use crate::name::Name;
 use crate::start::started;
 use crate::stock::{Filter, Stock};
 use crate::text::Text;
 use itoa::Buffer;
+use sh_memory::NoMemory;
 use std::alloc::Global;
 use std::mem;
 

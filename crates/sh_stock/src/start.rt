@@ -4,10 +4,10 @@ ghost use Rattle.std.specs.List.{list_all};
 ghost use Rattle.std.specs.Char.{is_ascii_digit};
 ghost use Rattle.sh_stock.specs.Programs.{alone, echo_text, head_started, head_started_by, having_started, is_number, misused, started, value_behind};
 
-use crate::memory::NoMemory;
 use crate::name::Name;
 use crate::program::{Program, Search, head_of};
 use crate::text::Text;
+use sh_memory::NoMemory;
 use std::alloc::Global;
 
 /// The program of a name with its operands.

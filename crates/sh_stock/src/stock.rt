@@ -4,8 +4,8 @@ ghost use Rattle.sh_stock.specs.Asking.{Meaning, KeepsLaws};
 ghost use Rattle.sh_stock.specs.Filtering.{Filtering, KeepsFilterLaws};
 
 use crate::asking::{Answer, Ask};
-use crate::memory::NoMemory;
 use crate::text::Text;
+use sh_memory::NoMemory;
 use std::alloc::Global;
 
 /// A kind of program that a machine can run turn by turn.

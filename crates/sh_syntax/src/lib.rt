@@ -2,7 +2,6 @@
 #![tactic(auto)]
 
 pub mod command;
-pub mod memory;
 pub mod sequence;
 pub mod shared;
 pub mod word;

@@ -12,7 +12,7 @@ use crate::tree::{
     ElseIf, HereDocumentOperator, ListItem, LoopKind, Pipeline, Redirect, RedirectOperator,
     Separator, SimpleItem, Target, Word,
 };
-use sh_syntax::memory::NoMemory;
+use sh_memory::NoMemory;
 use sh_syntax::sequence::Text;
 use std::alloc::{AllocError, Global};
 

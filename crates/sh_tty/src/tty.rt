@@ -1,4 +1,5 @@
 //! The terminal.
+ghost use Rattle.sh_memory.specs.Memory.{no_memory};
 ghost use Rattle.std.specs.Prelude.{◌≡◌, ◌++◌, ◌∷◌, [], ℕ, List, Some, None, is_some, IfOk, OnOk, OnErr, IfErr, MatchResult, drop, length, take};
 ghost use Rattle.sh_tty.specs.Happenings.{Happening, after_key, bytes_of};
 ghost use Rattle.sh_tty.specs.Keys.{echo, key_of, read_of, signal_of};
@@ -7,6 +8,7 @@ ghost use Rattle.sh_tty.specs.declared.tty.TtyFault.TheVariants as fault;
 
 use crate::entry::{Entry, Line, copy_first, take_first};
 use crate::key::{Key, Signal};
+use sh_memory::NoMemory;
 use std::alloc::{AllocError, AllocFailed, Global};
 use std::collections::VecDeque;
 use std::marker::Model;
@@ -23,23 +25,23 @@ pub enum TtyFault {
     #[error("the terminal has no line yet")]
     WouldWait,
     /// No memory was found.
-    #[error("out of memory")]
-    NoMemory,
+    #[error("{0}")]
+    NoMemory(NoMemory),
 }
 
 impl From<AllocError> for TtyFault {
-    ghost from_gives = { λ _ e. e ≡ fault.NoMemory };
+    ghost from_gives = { λ _ e. e ≡ fault.NoMemory no_memory };
 
-    fn from(_error: AllocError) -> Self {
-        TtyFault::NoMemory
+    fn from(error: AllocError) -> Self {
+        TtyFault::NoMemory(NoMemory::from(error))
     }
 }
 
 impl<T: Drop> From<AllocFailed<T>> for TtyFault {
-    ghost from_gives = { λ _ e. e ≡ fault.NoMemory };
+    ghost from_gives = { λ _ e. e ≡ fault.NoMemory no_memory };
 
-    fn from(_error: AllocFailed<T>) -> Self {
-        TtyFault::NoMemory
+    fn from(error: AllocFailed<T>) -> Self {
+        TtyFault::NoMemory(NoMemory::from(error))
     }
 }
 
@@ -74,7 +76,7 @@ fn end_line(
     ensures entries { OnOk result (entries.new.items ≡ kept_entries Key.Newline entries.old.items line.old.items) }
     ensures line { OnOk result (line.new.items ≡ kept_line Key.Newline line.old.items) }
     ensures kept { OnErr result ((bytes.new.items ≡ bytes.old.items) × (entries.new.items ≡ entries.old.items) × (line.new.items ≡ line.old.items)) }
-    ensures fault { IfErr result (λ fault. fault ≡ TtyFault.NoMemory) }
+    ensures fault { IfErr result (λ fault. fault ≡ TtyFault.NoMemory no_memory) }
 {
     bytes.reserve(1)?;
     entries.reserve(1)?;
@@ -94,7 +96,7 @@ fn hand_over(
     ensures entries { OnOk result (entries.new.items ≡ kept_entries Key.EndOfFile entries.old.items line.old.items) }
     ensures line { OnOk result (line.new.items ≡ kept_line Key.EndOfFile line.old.items) }
     ensures kept { OnErr result ((entries.new.items ≡ entries.old.items) × (line.new.items ≡ line.old.items)) }
-    ensures fault { IfErr result (λ fault. fault ≡ TtyFault.NoMemory) }
+    ensures fault { IfErr result (λ fault. fault ≡ TtyFault.NoMemory no_memory) }
 {
     if line.len() == 0 {
         entries.push_back(Entry::EndOfFile)?;
@@ -111,7 +113,7 @@ fn erase(bytes: &mut Vec<u8>, line: &mut Vec<u8>) -> Result<(), TtyFault>
     ensures bytes { OnOk result (bytes.new.items ≡ bytes.old.items ++ echo Key.Erase line.old.items) }
     ensures line { OnOk result (line.new.items ≡ kept_line Key.Erase line.old.items) }
     ensures kept { OnErr result ((bytes.new.items ≡ bytes.old.items) × (line.new.items ≡ line.old.items)) }
-    ensures fault { IfErr result (λ fault. fault ≡ TtyFault.NoMemory) }
+    ensures fault { IfErr result (λ fault. fault ≡ TtyFault.NoMemory no_memory) }
 {
     if line.is_empty() {
         return Ok(());
@@ -126,7 +128,7 @@ fn put(byte: u8, bytes: &mut Vec<u8>, line: &mut Vec<u8>) -> Result<(), TtyFault
     ensures bytes { OnOk result (bytes.new.items ≡ bytes.old.items ++ echo (Key.Text byte) line.old.items) }
     ensures line { OnOk result (line.new.items ≡ kept_line (Key.Text byte) line.old.items) }
     ensures kept { OnErr result ((bytes.new.items ≡ bytes.old.items) × (line.new.items ≡ line.old.items)) }
-    ensures fault { IfErr result (λ fault. fault ≡ TtyFault.NoMemory) }
+    ensures fault { IfErr result (λ fault. fault ≡ TtyFault.NoMemory no_memory) }
 {
     if line.len() >= LINE_LIMIT {
         return Ok(());
@@ -148,7 +150,7 @@ fn raise(
     ensures entries { OnOk result (entries.new.items ≡ []) }
     ensures line { OnOk result (line.new.items ≡ []) }
     ensures kept { OnErr result ((bytes.new.items ≡ bytes.old.items) × (entries.new.items ≡ entries.old.items) × (line.new.items ≡ line.old.items)) }
-    ensures fault { IfErr result (λ fault. fault ≡ TtyFault.NoMemory) }
+    ensures fault { IfErr result (λ fault. fault ≡ TtyFault.NoMemory no_memory) }
 {
     bytes.extend_from_slice(&signal.echo())?;
     entries.clear();
@@ -168,7 +170,7 @@ fn press(
     ensures entries { OnOk result (entries.new.items ≡ kept_entries key entries.old.items line.old.items) }
     ensures line { OnOk result (line.new.items ≡ kept_line key line.old.items) }
     ensures kept { OnErr result ((bytes.new.items ≡ bytes.old.items) × (entries.new.items ≡ entries.old.items) × (line.new.items ≡ line.old.items)) }
-    ensures fault { IfErr result (λ fault. fault ≡ TtyFault.NoMemory) }
+    ensures fault { IfErr result (λ fault. fault ≡ TtyFault.NoMemory no_memory) }
 {
     match key {
         Key::Newline => end_line(alloc, bytes, entries, line),
@@ -206,7 +208,7 @@ impl Tty {
         ensures foreground { self.new.foreground ≡ self.old.foreground }
         ensures unchanged { OnErr result (self.new ≡ self.old) }
         ensures extends { Extends self.old.bytes self.new.bytes }
-        ensures fault { IfErr result (λ fault. fault ≡ TtyFault.NoMemory) }
+        ensures fault { IfErr result (λ fault. fault ≡ TtyFault.NoMemory no_memory) }
     {
         let key = Key::of(byte);
         press(
@@ -244,7 +246,7 @@ impl Tty {
         ensures terminal { OnOk result (self.new.bytes ≡ self.old.bytes ++ bytes.now) }
         ensures foreground { self.new.foreground ≡ self.old.foreground }
         ensures unchanged { OnErr result (self.new ≡ self.old) }
-        ensures fault { IfErr result (λ fault. fault ≡ TtyFault.NoMemory) }
+        ensures fault { IfErr result (λ fault. fault ≡ TtyFault.NoMemory no_memory) }
     {
         self.bytes.extend_from_slice(bytes)?;
         Ok(())

@@ -31,7 +31,7 @@ fn told(alloc: Global, fault: ArithFault) -> Result<Vec<u8>, RowFault> {
         ArithFault::Syntax { at } => placed(alloc, fault, at),
         ArithFault::ReadOnly { at } => placed(alloc, fault, at),
         ArithFault::Unset { at } => placed(alloc, fault, at),
-        ArithFault::NoMemory => Err(RowFault::NoMemory),
+        ArithFault::NoMemory(_) => Err(RowFault::NoMemory),
         _ => text_of(alloc, fault),
     }
 }

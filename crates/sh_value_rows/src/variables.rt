@@ -17,7 +17,7 @@ fn text_of(alloc: Global, fault: VarsFault) -> Result<Vec<u8>, RowFault> {
 fn done(alloc: Global, change: Result<(), VarsFault>) -> Result<Vec<u8>, RowFault> {
     match change {
         Ok(()) => said(alloc, "done"),
-        Err(VarsFault::NoMemory) => Err(RowFault::NoMemory),
+        Err(VarsFault::NoMemory(_)) => Err(RowFault::NoMemory),
         Err(fault) => text_of(alloc, fault),
     }
 }
@@ -284,10 +284,11 @@ pub fn copy(alloc: Global, bytes: &[u8]) -> Result<Vec<u8>, RowFault> {
     Ok(copy.into_bytes())
 }
 
-/// `memory CRATE`: the text of the fault that is want of memory, of `variables` and of `arithmetic`.
+/// `memory CRATE`: the text of the fault that is want of memory, of `variables` and of `arithmetic`, for more bytes than there can be.
 pub fn memory(alloc: Global, of: &[u8]) -> Result<Vec<u8>, RowFault> {
-    if of == b"variables".as_slice() {
-        return text_of(alloc, VarsFault::NoMemory);
+    match Vec::<u8>::with_capacity(alloc, usize::MAX) {
+        Ok(_) => Err(RowFault::NoMemory),
+        Err(refusal) if of == b"variables".as_slice() => text_of(alloc, VarsFault::from(refusal)),
+        Err(refusal) => arithmetic::text_of(alloc, ArithFault::from(refusal)),
     }
-    arithmetic::text_of(alloc, ArithFault::NoMemory)
 }

@@ -65,7 +65,7 @@ pub fn read(alloc: Global, context: Context, text: &[u8]) -> Result<Sequence<Wan
             drop(tree);
             words
         },
-        Err(ParseFault::NoMemory) => Err(RowFault::NoMemory),
+        Err(ParseFault::NoMemory(_)) => Err(RowFault::NoMemory),
         _ => Ok(Sequence::new(alloc)),
     }
 }

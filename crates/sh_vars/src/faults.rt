@@ -1,7 +1,9 @@
 // Refusals.
-ghost use Rattle.std.specs.Prelude.{◌≡◌};
+ghost use Rattle.sh_memory.specs.Memory.{no_memory};
 ghost use Rattle.sh_vars.specs.declared.faults.VarsFault.TheVariants.{NoMemory};
+ghost use Rattle.std.specs.Prelude.{◌≡◌};
 
+use sh_memory::NoMemory;
 use std::alloc::AllocError;
 use thiserror::Error;
 
@@ -15,14 +17,14 @@ pub enum VarsFault {
     #[error("bad name")]
     BadName,
     /// There was no memory.
-    #[error("out of memory")]
-    NoMemory,
+    #[error("{0}")]
+    NoMemory(NoMemory),
 }
 
 impl From<AllocError> for VarsFault {
-    ghost from_gives = { λ _ fault. fault ≡ NoMemory };
+    ghost from_gives = { λ _ fault. fault ≡ NoMemory no_memory };
 
-    fn from(_error: AllocError) -> VarsFault {
-        VarsFault::NoMemory
+    fn from(error: AllocError) -> VarsFault {
+        VarsFault::NoMemory(NoMemory::from(error))
     }
 }

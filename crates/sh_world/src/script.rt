@@ -8,7 +8,7 @@ use sh_exec_base::message::{cannot_execute, not_found};
 use sh_exec_command::{Finish, Place};
 use sh_exec_search::MAX_SCRIPT;
 use sh_files::{File, Files, Node};
-use sh_syntax::memory::NoMemory;
+use sh_memory::NoMemory;
 use sh_syntax::sequence::Text;
 use std::alloc::Global;
 

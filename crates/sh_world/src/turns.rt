@@ -12,8 +12,8 @@ use crate::task::Task;
 use sh_exec::Process;
 use sh_exec_shell::Child;
 use sh_kernel::{Kernel, Status};
+use sh_memory::NoMemory;
 use sh_stock::Stock;
-use sh_syntax::memory::NoMemory;
 use std::alloc::Global;
 
 /// The pids of the processes that can take a turn.

@@ -18,8 +18,8 @@ use sh_exec_command::Place;
 use sh_exec_shell::Shell;
 use sh_files::Files;
 use sh_kernel::{FIRST_PID, Kernel, Status};
+use sh_memory::NoMemory;
 use sh_stock::Stock;
-use sh_syntax::memory::NoMemory;
 use sh_vars::Vars;
 use std::alloc::Global;
 use std::marker::Model;
@@ -35,11 +35,11 @@ pub struct World<S: Stock> {
     jobs: Jobs,
     last: Option<u32>,
     shown: usize,
-    spent: bool,
+    lack: Option<NoMemory>,
 }
 
 impl<S: Stock> Model for World<S> {
-    ghost use Rattle.std.specs.Prelude.{◌≤◌, length};
+    ghost use Rattle.std.specs.Prelude.{◌≤◌, is_some, length};
     ghost use Rattle.std.specs.Coded.{codes};
     ghost use Rattle.sh_files_base.specs.Codes as paths;
     ghost use Rattle.sh_vars.specs.Codes as variables;
@@ -50,7 +50,7 @@ impl<S: Stock> Model for World<S> {
 
     ghost coded = { Prim.hlevel (codes, paths.map_code, variables.map_code, run_code) };
 
-    ghost view = { λ w. record { kernel = w.kernel; tasks = w.tasks.items; jobs = w.jobs; last = w.last; shown = w.shown; spent = w.spent } };
+    ghost view = { λ w. record { kernel = w.kernel; tasks = w.tasks.items; jobs = w.jobs; last = w.last; shown = w.shown; spent = is_some w.lack } };
 
     ghost invariant = { λ w. w.shown ≤ length w.kernel.terminal.bytes };
 }
@@ -159,7 +159,7 @@ impl<S: Stock> World<S> {
             jobs: Jobs {},
             last: None,
             shown,
-            spent: false,
+            lack: None,
         })
     }
 
@@ -167,7 +167,7 @@ impl<S: Stock> World<S> {
     fn is_spent(&self) -> bool
         ensures { result ≡ self.now.spent }
     {
-        self.spent
+        self.lack.is_some()
     }
 
     /// One event: what it does is one step of the shell machine. After `NoMemory` the world is spent.
@@ -177,20 +177,21 @@ impl<S: Stock> World<S> {
         ensures shown { OnErr result (shown_of self.new ≡ shown_of self.old) }
         ensures still { IsSpent self.old → IsErr result }
     {
-        if self.spent {
-            return Err(NoMemory);
+        if let Some(lack) = self.lack {
+            return Err(lack);
         }
-        self.spent = true;
-        happen(
+        let happened = happen(
             self.alloc,
             event,
             &mut self.kernel,
             &mut self.tasks,
             &mut self.last,
-        )?;
-        self.shown = self.kernel.terminal().len();
-        self.spent = false;
-        Ok(())
+        );
+        match happened {
+            Ok(()) => self.shown = self.kernel.terminal().len(),
+            Err(lack) => self.lack = Some(lack),
+        }
+        happened
     }
 
     /// Each event in turn, up to the first for which there is no memory. A world that is spent stays as it was.
@@ -202,8 +203,8 @@ impl<S: Stock> World<S> {
         ensures still { IsSpent self.old → IsErr result }
         ensures kept { IsSpent self.old → shown_of self.new ≡ shown_of self.old }
     {
-        if self.is_spent() {
-            return Err(NoMemory);
+        if let Some(earlier) = self.lack {
+            return Err(earlier);
         }
         for event in events {
             self.apply(*event)?;
@@ -224,7 +225,7 @@ impl<S: Stock> World<S> {
         ensures view { (s : State S) → WorldStands self.now s → option_copied result ≡ Some (files_of s) }
         ensures spent { IsSpent self.now → option_copied result ≡ None }
     {
-        if self.spent {
+        if self.is_spent() {
             None
         } else {
             Some(self.kernel.files())
@@ -236,7 +237,11 @@ impl<S: Stock> World<S> {
         ensures view { (s : State S) → WorldStands self.now s → option_copied result ≡ Some s.jobs }
         ensures spent { IsSpent self.now → option_copied result ≡ None }
     {
-        if self.spent { None } else { Some(&self.jobs) }
+        if self.is_spent() {
+            None
+        } else {
+            Some(&self.jobs)
+        }
     }
 
     /// Where a process stands: `Some` for every process that ever was; `None` once memory was wanting.
@@ -244,7 +249,7 @@ impl<S: Stock> World<S> {
         ensures view { (s : State S) → WorldStands self.now s → result ≡ status_of s pid }
         ensures spent { IsSpent self.now → result ≡ None }
     {
-        if self.spent {
+        if self.is_spent() {
             None
         } else {
             self.kernel.status(pid)
@@ -256,7 +261,7 @@ impl<S: Stock> World<S> {
         ensures view { (s : State S) → WorldStands self.now s → result ≡ ended_of s }
         ensures spent { IsSpent self.now → result ≡ None }
     {
-        if self.spent {
+        if self.is_spent() {
             None
         } else {
             end_of(self.kernel.status(FIRST_PID))

@@ -1,9 +1,9 @@
 //! Worlds that run a script, and where they stand after some turns.
 use crate::fields::words_of;
 use sh_files::Files;
+use sh_memory::NoMemory;
 use sh_rows::RowFault;
 use sh_stock::Program;
-use sh_syntax::memory::NoMemory;
 use sh_syntax::sequence::Sequence;
 use sh_vars::{Options, Text};
 use sh_world::{Event, Settings, Source, Status, World};
@@ -78,7 +78,7 @@ fn world_of(alloc: Global, shell: &Shell<'_>) -> Result<World<Program>, RowFault
     match Files::from_image(alloc, shell.image) {
         Ok(files) => match World::new(alloc, files, settings) {
             Ok(world) => Ok(world),
-            Err(NoMemory) => Err(RowFault::NoMemory),
+            Err(_) => Err(RowFault::NoMemory),
         },
         Err(_) => {
             drop(settings);
@@ -162,6 +162,6 @@ pub fn found_of(
     drop(world);
     match led {
         Ok(()) => Ok(found),
-        Err(NoMemory) => Err(RowFault::NoMemory),
+        Err(_) => Err(RowFault::NoMemory),
     }
 }
