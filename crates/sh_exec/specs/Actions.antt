@@ -1,5 +1,5 @@
 -- What a process does in its next turn, as far as it may have to wait.
-use Rattle.std.specs.Prelude.{ℕ, List, length, Option, Some, None}
+use Rattle.std.specs.Prelude.{ℕ, length, Option, Some, None}
 use Rattle.sh_exec.specs.declared.process.Process.{Process}
 use Rattle.sh_exec.specs.declared.process.Process.TheVariants.{Runs, Asks}
 use Rattle.sh_exec_command.specs.declared.running.Active.{Active}

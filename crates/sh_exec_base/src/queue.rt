@@ -1,5 +1,5 @@
 //! Items that are taken from the front.
-ghost use Rattle.std.specs.Prelude.{◌≡◌, ◌∷◌, [], MatchOption, OnOk, length, nat_eq};
+ghost use Rattle.std.specs.Prelude.{◌≡◌, ◌∷◌, [], MatchOption, OnErr, OnOk, length, nat_eq};
 
 use sh_syntax::sequence::Sequence;
 use std::alloc::AllocError;
@@ -46,9 +46,10 @@ impl<T> Queue<T> {
 }
 
 impl<T: Drop> Queue<T> {
-    /// Puts an item before the others. The only error is want of memory.
+    /// Puts an item before the others. The only error is want of memory; the queue is as it was then, and the item is gone.
     pub fn put_front(&mut self, item: T) -> Result<(), AllocError>
-        ensures { OnOk result (self.new ≡ item ∷ self.old) }
+        ensures ok { OnOk result (self.new ≡ item ∷ self.old) }
+        ensures err { OnErr result (self.new ≡ self.old) }
     {
         self.items.push(item)?;
         Ok(())

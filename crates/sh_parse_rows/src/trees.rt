@@ -12,6 +12,8 @@
 //! `actions WANTED ACTIONS`: whether actions without a leaf make a tree: a number expands the production that has it, `t` takes a token
 //! of class 0.
 //!
+//! `leaves WANTED TEXT OTHERS`: the text of the tree of a TEXT's derivation over the leaves of other tokens, `none` where they don't fit.
+//!
 //! What has no such tree comes to `none`.
 use crate::derivations::{Start, class_of};
 use crate::fields::{Found, built, by_kind, number, pieces};
@@ -130,15 +132,25 @@ fn actions_of(
     recognizer.finish()
 }
 
+/// The tree of a text over the leaves of these tokens, if it has one.
+fn tree_over(
+    alloc: Global,
+    text: &[u8],
+    leaves: &[&[u8]],
+    start: Start,
+) -> Result<Option<Complete>, NoMemory> {
+    let Some(actions) = actions_of(alloc, &pieces(alloc, text)?, start)? else {
+        return Ok(None);
+    };
+    let leaves = leaves_of(alloc, leaves)?;
+    let tree = syntax_tree(alloc, actions.as_slice(), leaves)?;
+    Ok(tree)
+}
+
 /// The tree of a text, if it has one.
 fn tree_of(alloc: Global, text: &[u8], start: Start) -> Result<Option<Complete>, NoMemory> {
     let tokens = pieces(alloc, text)?;
-    let Some(actions) = actions_of(alloc, &tokens, start)? else {
-        return Ok(None);
-    };
-    let leaves = leaves_of(alloc, &tokens)?;
-    let tree = syntax_tree(alloc, actions.as_slice(), leaves)?;
-    Ok(tree)
+    tree_over(alloc, text, &tokens, start)
 }
 
 /// What is shown of a tree.
@@ -234,6 +246,19 @@ fn shown_of(alloc: Global, text: &[u8], start: Start, what: Shown) -> Result<Vec
     Ok(shown)
 }
 
+/// The text of the tree of a text over the leaves of others.
+fn shown_over(alloc: Global, text: &[u8], others: &[u8]) -> Result<Vec<u8>, NoMemory> {
+    let leaves = pieces(alloc, others)?;
+    let Some(tree) = tree_over(alloc, text, &leaves, Start::Command)? else {
+        return word_of(alloc, b"none");
+    };
+    let mut shown = Vec::new(alloc);
+    let put = put_tree(alloc, &mut shown, &tree, Shown::Text);
+    drop(tree);
+    put?;
+    Ok(shown)
+}
+
 /// What is shown of a built text.
 fn shown_of_built(alloc: Global, row: &Row, what: Shown) -> Result<Vec<u8>, NoMemory> {
     let text = built(alloc, row)?;
@@ -272,6 +297,7 @@ pub fn found(alloc: Global, row: &Row) -> Found {
         "substituted-lists", 2 => shown_of(alloc, text, Start::Substitution, Shown::Lists);
         "items", 2 => shown_of(alloc, text, Start::Command, Shown::Items);
         "actions", 2 => tree_of_actions(alloc, text);
+        "leaves", 3 => shown_over(alloc, text, row.field(3));
         "tree", 7 => shown_of_built(alloc, row, Shown::Size);
         "lists", 7 => shown_of_built(alloc, row, Shown::Count);
     }
