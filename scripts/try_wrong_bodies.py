@@ -1,7 +1,7 @@
 #!/usr/bin/env python3
 """Tries the wrong bodies that the gate leaves out: the prover has to refuse each.
 
-usage: try_wrong_bodies.py [--all | --since COMMIT | CRATE ..]
+usage: try_wrong_bodies.py [--all | --with-gate | --since COMMIT | CRATE ..]
 
 The folder wrong-bodies/CRATE holds edits in the form of those in crates/CRATE/must-fail. With no word they are tried of the
 crates that were touched since origin/main, with --since since another commit, with --all of every crate. They are tried in a copy
@@ -9,8 +9,12 @@ of the repository, in which they stand in the place of the gate's: by rt ci wher
 proved before, and what was refused before over the same files isn't tried again; else by rt must-fail, crates side by side, over
 the libraries that stand built in the repository (by rt lib), others being proved first. Ends with 1 where an edit isn't refused, or
 can't be applied.
+
+With --with-gate they are tried beside the gate's, in one run of the whole rt ci: each crate is then proved once before its edits and
+not twice, and rt ci in the repository takes what was kept. This is the way on a machine that has nothing yet.
 """
 import concurrent.futures
+import glob
 import os
 import re
 import shutil
@@ -36,7 +40,7 @@ def touched_since(commit):
 
 def asked(words):
     """The crates that the command line asks for, of those that have wrong bodies."""
-    if words == ["--all"]:
+    if words in (["--all"], ["--with-gate"]):
         names = os.listdir(EDITS)
     elif words[:1] == ["--since"]:
         names = touched_since(words[1])
@@ -45,14 +49,15 @@ def asked(words):
     return sorted(it for it in names if os.path.isdir(f"{EDITS}/{it}"))
 
 
-def copy_to(copy, names):
-    """Copies the crates, with these wrong bodies in the place of the gate's."""
-    leave = shutil.ignore_patterns("out", "must-fail")
+def copy_to(copy, names, with_gate):
+    """Copies the crates, with these wrong bodies in the place of the gate's, or beside them."""
+    leave = shutil.ignore_patterns("out", *([] if with_gate else ["must-fail"]))
     shutil.copytree(f"{TOP}/crates", f"{copy}/crates", ignore=leave)
     for name in ("crates.txt", "HANDLES"):
         shutil.copy(f"{TOP}/{name}", copy)
     for name in names:
-        shutil.copytree(f"{EDITS}/{name}", f"{copy}/crates/{name}/must-fail")
+        shutil.copytree(f"{EDITS}/{name}", f"{copy}/crates/{name}/must-fail", dirs_exist_ok=True)
+    return sum(len(os.listdir(it)) for it in glob.glob(f"{copy}/crates/*/must-fail"))
 
 
 def tell(line):
@@ -94,13 +99,13 @@ def main(words):
     if not names:
         print("no crate with wrong bodies was touched")
         return 0
-    every = sum(len(os.listdir(f"{EDITS}/{name}")) for name in names)
-    print(f"{every} wrong bodies of {', '.join(names)}", flush=True)
+    with_gate = words == ["--with-gate"]
     refused = bad = status = 0
     with tempfile.TemporaryDirectory(prefix="wrong-bodies-") as copy:
-        copy_to(copy, names)
+        every = copy_to(copy, names, with_gate)
+        print(f"{every} wrong bodies of {', '.join(names)}", flush=True)
         try:
-            for line in (try_by_gate if proving.gate_keeps() else try_by_crates)(copy, names):
+            for line in try_by_gate(copy, []) if with_gate else (try_by_gate if proving.gate_keeps() else try_by_crates)(copy, names):
                 if isinstance(line, int):
                     status = line
                     continue
