@@ -19,10 +19,7 @@ pub(crate) fn asking<S: Stock>(
 ) -> Result<Ask, NoMemory>
     ensures { IfOk result (λ ask. Process.Asks ask program.new ≡ asking S.meaning program.old answer) }
 {
-    match program.turn(alloc, answer) {
-        Ok(ask) => Ok(ask),
-        Err(lack) => Err(lack),
-    }
+    program.turn(alloc, answer)
 }
 
 /// What follows a read.

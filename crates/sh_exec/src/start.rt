@@ -71,10 +71,7 @@ fn program_of<S: Stock>(
     ensures { IfOk result (λ program. program ≡ S.meaning.start name.now operands.now) }
 {
     let operands = operands_of(alloc, operands)?;
-    match S::start(alloc, name, operands.as_slice()) {
-        Ok(program) => Ok(program),
-        Err(lack) => Err(lack),
-    }
+    S::start(alloc, name, operands.as_slice())
 }
 
 /// A program takes its first turn.

@@ -207,7 +207,7 @@ reach_no_more s pid r =
     }
 
 -- ---- lists of requests
-changes_then : (pid : ℕ) (op op' : ℕ → Bool) (a b c : MachineState) → OnlyGrows a b → ReachesNoMore pid op a b → ChangesOnlyReached pid op a b → ChangesOnlyReached pid op' b c → ChangesOnlyReached pid (λ n. op n || op' n) a c
+pub changes_then : (pid : ℕ) (op op' : ℕ → Bool) (a b c : MachineState) → OnlyGrows a b → ReachesNoMore pid op a b → ChangesOnlyReached pid op a b → ChangesOnlyReached pid op' b c → ChangesOnlyReached pid (λ n. op n || op' n) a c
 changes_then pid op op' a b c grow less f g = record {
   pipes = λ q within h. let within' : q < length b.pipes = omega (arith, grow.pipes) in g.pipes q within' (less.pipes q within h) ∙ f.pipes q within h;
   files = λ n within h unopened.
@@ -224,7 +224,7 @@ lists_change s pid [] = keeps_same pid (λ n. false) s.machine
 lists_change s pid (r ∷ rs) =
     changes_then pid (opens s.machine r) (opens_any (after_request s pid r) pid rs) s.machine (after_request s pid r).machine (after_requests (after_request s pid r) pid rs).machine (requests_grow s pid r) (reach_no_more s pid r) (requests_change s pid r) (lists_change (after_request s pid r) pid rs)
 
-reaches_then : (pid : ℕ) (op op' : ℕ → Bool) (a b c : MachineState) → OnlyGrows a b → ReachesNoMore pid op a b → ReachesNoMore pid op' b c → ReachesNoMore pid (λ n. op n || op' n) a c
+pub reaches_then : (pid : ℕ) (op op' : ℕ → Bool) (a b c : MachineState) → OnlyGrows a b → ReachesNoMore pid op a b → ReachesNoMore pid op' b c → ReachesNoMore pid (λ n. op n || op' n) a c
 reaches_then pid op op' a b c grow f g = record {
   pipes = λ q within h. let within' : q < length b.pipes = omega (arith, grow.pipes) in g.pipes q within' (f.pipes q within h);
   files = λ n h unopened. g.files n (f.files n h (or_left (op n) (op' n) unopened)) (or_right (op n) (op' n) unopened);

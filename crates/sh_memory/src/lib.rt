@@ -4,8 +4,9 @@
 use std::alloc::{AllocError, AllocFailed};
 use thiserror::Error;
 
-/// No memory was found. It is made from an allocator's refusal alone, so whoever answers it was refused memory, or hands on what
-/// another call answered. What the call was to change is as it was, unless the call says otherwise.
+/// No memory was found. It is made from an [`AllocError`] alone, the refusal of an allocator; whoever answers it hands that refusal
+/// on, but for the few places that the repository's script of made-up refusals lists. What the call was to change is as it was,
+/// unless the call says otherwise.
 #[derive(Clone, Copy, Debug, PartialEq, Eq, Error)]
 #[error("out of memory")]
 pub struct NoMemory {

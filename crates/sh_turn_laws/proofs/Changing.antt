@@ -4,7 +4,7 @@ use Rattle.sh_exec.specs.Turns.{turn}
 use Rattle.sh_exec.specs.declared.process.Process.{Process}
 use Rattle.sh_exec_laws.specs.Forking.{UnmadeReachNothing}
 use Rattle.sh_exec_laws.proofs.Changing.{forking_changes, forking_grows}
-use Rattle.sh_exec_laws.proofs.Lists.{changes_reached, changes_then, reaches_as_before, reaches_then}
+use Rattle.sh_exec_laws.proofs.Lists.{changes_reached, reaches_as_before}
 use Rattle.sh_exec_laws.proofs.Reaching.{forking_reaches}
 use Rattle.sh_exec_laws.proofs.Unmade.{unmade_stay, unmade_stay_forking}
 use Rattle.sh_exec_machine.specs.Forking.{forked}
@@ -15,7 +15,7 @@ use Rattle.sh_kernel.specs.State.{KernelState}
 use Rattle.sh_kernel.proofs.Frames.{requests_change}
 use Rattle.sh_kernel.proofs.Growing.{grows_then, requests_grow}
 use Rattle.sh_kernel.proofs.Lists.{or_left, or_right}
-use Rattle.sh_kernel.proofs.Reached.{lists_grow, reach_no_more}
+use Rattle.sh_kernel.proofs.Reached.{changes_then, lists_grow, reach_no_more, reaches_then}
 use Rattle.sh_stock.specs.Asking.{Meaning}
 use Rattle.sh_turn_laws.specs.Requests.{ByRequests, ChangesByRequests, after_all, directory_of, number_of, opens_by}
 use Rattle.sh_turn_laws.proofs.Lists.{by_then, fork_by, opens_append, own_more}
