@@ -1,6 +1,6 @@
 // The files by path and by number.
 ghost use Rattle.sh_memory.specs.Memory.{no_memory};
-ghost use Rattle.std.specs.Prelude.{◌≡◌, ◌≢◌, ◌+◌, ◌≤◌, ◌^◌, IfOk, IfErr, OnOk, OnErr, Ok, Err, option_map, slice_get, length, codes, true, false, ◌⊎◌, take, drop, if◌then◌else◌};
+ghost use Rattle.std.specs.Prelude.{◌≡◌, ◌≢◌, ◌+◌, ◌≤◌, ◌^◌, IfOk, IfErr, OnOk, OnErr, IsOk, Ok, Err, option_map, slice_get, length, codes, true, false, ◌⊎◌, take, drop, if◌then◌else◌};
 ghost use Rattle.std.specs.Prelude.{List, ℕ, map as list_map};
 ghost use Rattle.std.specs.Borrow.{Bor};
 ghost use Rattle.std.specs.FinMap as map;
@@ -239,6 +239,7 @@ impl Files {
     pub fn write(&mut self, number: usize, offset: usize, bytes: &[u8]) -> Result<(), FileFault>
         ensures ok { OnOk result (write_at self.old number offset bytes.now ≡ Ok self.new) }
         ensures refused { IfErr result (λ fault. fault ≢ FileFault.NoMemory no_memory → write_at self.old number offset bytes.now ≡ Err fault) }
+        ensures room { IfErr result (λ fault. fault ≡ FileFault.NoMemory no_memory → IsOk (write_at self.old number offset bytes.now)) }
         ensures err { OnErr result (self.new ≡ self.old) }
     {
         let Some(node) = self.nodes.get_mut(number) else {
@@ -267,6 +268,7 @@ impl Files {
     pub fn add_nameless(&mut self, bytes: Vec<u8>) -> Result<usize, FileFault>
         ensures ok { IfOk result (λ number. nameless self.old bytes.items ≡ Ok (number, self.new)) }
         ensures refused { IfErr result (λ fault. fault ≢ FileFault.NoMemory no_memory → nameless self.old bytes.items ≡ Err fault) }
+        ensures room { IfErr result (λ fault. fault ≡ FileFault.NoMemory no_memory → IsOk (nameless self.old bytes.items)) }
         ensures err { OnErr result (self.new ≡ self.old) }
     {
         if bytes.len() > MAX_LENGTH {
@@ -336,6 +338,7 @@ fn open_node(node: &mut Node, how: Opening) -> Result<(), FileFault>
 fn write_node(node: &mut Node, offset: usize, bytes: &[u8]) -> Result<(), FileFault>
     ensures ok { OnOk result (node_written offset bytes.now node.old ≡ Ok node.new) }
     ensures refused { IfErr result (λ fault. fault ≢ FileFault.NoMemory no_memory → node_written offset bytes.now node.old ≡ Err fault) }
+    ensures room { IfErr result (λ fault. fault ≡ FileFault.NoMemory no_memory → IsOk (node_written offset bytes.now node.old)) }
     ensures err { OnErr result (node.new ≡ node.old) }
 {
     if matches!(node, Node::Null) {
@@ -386,6 +389,7 @@ fn open_file(file: &mut File, how: Opening) -> Result<(), FileFault>
 fn write_file(file: &mut File, offset: usize, bytes: &[u8]) -> Result<(), FileFault>
     ensures ok { OnOk result ((write_fits offset bytes.now ≡ true) × (file.new ≡ record file.old { bytes = written file.old.bytes offset bytes.now })) }
     ensures refused { IfErr result (λ fault. fault ≢ FileFault.NoMemory no_memory → (fault ≡ FileFault.TooLarge) × (write_fits offset bytes.now ≡ false)) }
+    ensures room { IfErr result (λ fault. fault ≡ FileFault.NoMemory no_memory → write_fits offset bytes.now ≡ true) }
     ensures err { OnErr result (file.new ≡ file.old) }
 {
     if bytes.is_empty() {

@@ -64,6 +64,7 @@ impl Kernel {
     ghost use Rattle.sh_kernel.specs.Turns.{action_of, action_waits, can_do};
     ghost use Rattle.sh_tty.specs.Happenings.{bytes_of};
     ghost use Rattle.sh_kernel.specs.State.{KernelState, StandsAt, starting};
+    ghost use Rattle.sh_kernel_base.specs.Outcomes.{LacksWhereGiven};
     ghost use Rattle.sh_kernel.specs.Outcomes.{Gives, GivesOrLacks, GivesRead};
     ghost use Rattle.sh_kernel.specs.Calls.{close_call, dup_call, end_call, fork_call, here_call, open_call, pipe_call, put_back_call, read_call, set_aside_call, start_call, write_call};
 
@@ -95,6 +96,7 @@ impl Kernel {
     /// below [`MAX_DESCRIPTORS`](crate::MAX_DESCRIPTORS); else `NoMemory`.
     pub fn dup(&mut self, pid: u32, name: Name, to: u8) -> Result<(), KernelFault>
         ensures state { (s : KernelState) → StandsAt self.old s → GivesOrLacks result self.new s (dup_call s pid name to) }
+        ensures room { (s : KernelState) → StandsAt self.old s → LacksWhereGiven result (dup_call s pid name to) }
         ensures terminal { self.new.terminal ≡ self.old.terminal }
     {
         self.machine.dup(pid, name, to)
@@ -106,6 +108,7 @@ impl Kernel {
     /// `NoProcess` where no such process lives; `TooManyDescriptors` where a number is too high; else `NoMemory`.
     pub fn pipe(&mut self, pid: u32, from: u8, to: u8) -> Result<(), KernelFault>
         ensures state { (s : KernelState) → StandsAt self.old s → GivesOrLacks result self.new s (pipe_call s pid from to) }
+        ensures room { (s : KernelState) → StandsAt self.old s → LacksWhereGiven result (pipe_call s pid from to) }
         ensures terminal { self.new.terminal ≡ self.old.terminal }
     {
         self.machine.pipe(pid, from, to)
@@ -139,6 +142,7 @@ impl Kernel {
     /// where there are more than [`MAX_LENGTH`](sh_files::MAX_LENGTH) bytes; else `NoMemory`.
     pub fn here_document(&mut self, pid: u32, bytes: &[u8], number: u8) -> Result<(), KernelFault>
         ensures state { (s : KernelState) → StandsAt self.old s → GivesOrLacks result self.new s (here_call s pid bytes.now number) }
+        ensures room { (s : KernelState) → StandsAt self.old s → LacksWhereGiven result (here_call s pid bytes.now number) }
         ensures terminal { self.new.terminal ≡ self.old.terminal }
     {
         self.machine.here_document(pid, bytes, number)
@@ -173,6 +177,7 @@ impl Kernel {
     /// the number would be above [`MAX_PID`](crate::MAX_PID); else `NoMemory`.
     pub fn fork(&mut self, pid: u32) -> Result<u32, KernelFault>
         ensures state { (s : KernelState) → StandsAt self.old s → GivesOrLacks result self.new s (fork_call s pid) }
+        ensures room { (s : KernelState) → StandsAt self.old s → LacksWhereGiven result (fork_call s pid) }
         ensures terminal { self.new.terminal ≡ self.old.terminal }
     {
         self.machine.fork(pid)
@@ -225,6 +230,7 @@ impl Kernel {
     /// `TooLarge` where a file would be too long; else `NoMemory`.
     pub fn write(&mut self, pid: u32, number: u8, bytes: &[u8]) -> Result<usize, KernelFault>
         ensures state { (s : KernelState) → StandsAt self.old s → GivesOrLacks result self.new s (write_call s pid number bytes.now) }
+        ensures room { (s : KernelState) → StandsAt self.old s → LacksWhereGiven result (write_call s pid number bytes.now) }
         ensures terminal { Extends self.old.terminal.bytes self.new.terminal.bytes }
     {
         if self.machine.writes_terminal(pid, Name::Number(number)) {

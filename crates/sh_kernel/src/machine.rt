@@ -64,7 +64,7 @@ impl Machine {
     ghost use Rattle.sh_kernel_base.specs.Processes.{parent_at, status_at};
     ghost use Rattle.sh_kernel_base.specs.Starting.{starting};
     ghost use Rattle.sh_kernel_base.specs.Terminals.{described, is_terminal, reads_terminal, writes_terminal};
-    ghost use Rattle.sh_kernel_base.specs.Outcomes.{Gives, GivesOrLacks, GivesRead};
+    ghost use Rattle.sh_kernel_base.specs.Outcomes.{Gives, GivesOrLacks, GivesRead, LacksWhereGiven};
     ghost use Rattle.sh_kernel_base.specs.Reading.{read_call, read_target};
     ghost use Rattle.sh_kernel_base.specs.Waiting.{is_running, waits};
     ghost use Rattle.sh_kernel_base.specs.Writing.{broken, write_call, write_end, write_file, write_target};
@@ -171,7 +171,8 @@ impl Machine {
         bytes: &[u8],
     ) -> Result<usize, KernelFault>
         requires { 0 < length bytes.now }
-        ensures { GivesOrLacks result self.old self.new (write_file self.old k node bytes.now (node_written self.old.files node start bytes.now)) }
+        ensures call { GivesOrLacks result self.old self.new (write_file self.old k node bytes.now (node_written self.old.files node start bytes.now)) }
+        ensures room { LacksWhereGiven result (write_file self.old k node bytes.now (node_written self.old.files node start bytes.now)) }
     {
         match write_node(&mut self.files, node, start, bytes) {
             Ok(end) => {
@@ -189,7 +190,8 @@ impl Machine {
     /// `WouldWait` at a pipe without room; `BrokenPipe` at one without a reader, which ends the process with SIGPIPE;
     /// `File` with `TooLarge` where a file would be too long; else `NoMemory`.
     pub(crate) fn write(&mut self, pid: u32, number: u8, bytes: &[u8]) -> Result<usize, KernelFault>
-        ensures { GivesOrLacks result self.old self.new (write_call self.old pid number bytes.now) }
+        ensures call { GivesOrLacks result self.old self.new (write_call self.old pid number bytes.now) }
+        ensures room { LacksWhereGiven result (write_call self.old pid number bytes.now) }
     {
         let Some(k) = find(&self.descriptors, pid, Name::Number(number)) else {
             return Err(KernelFault::BadDescriptor);
@@ -238,7 +240,8 @@ impl Machine {
     /// this name; `TooManyDescriptors` where the number is not below [`MAX_DESCRIPTORS`](crate::MAX_DESCRIPTORS); else
     /// `NoMemory`.
     pub(crate) fn dup(&mut self, pid: u32, name: Name, to: u8) -> Result<(), KernelFault>
-        ensures { GivesOrLacks result self.old self.new (dup_call self.old pid name to) }
+        ensures call { GivesOrLacks result self.old self.new (dup_call self.old pid name to) }
+        ensures room { LacksWhereGiven result (dup_call self.old pid name to) }
     {
         let Some(k) = find(&self.descriptors, pid, name) else {
             return Err(KernelFault::BadDescriptor);
@@ -265,7 +268,8 @@ impl Machine {
     /// which it is read, and another to that to which it is written; what they referred to is closed. `NoProcess` where
     /// no such process lives; `TooManyDescriptors` where a number is too high; else `NoMemory`.
     pub(crate) fn pipe(&mut self, pid: u32, from: u8, to: u8) -> Result<(), KernelFault>
-        ensures { GivesOrLacks result self.old self.new (pipe_call self.old pid from to) }
+        ensures call { GivesOrLacks result self.old self.new (pipe_call self.old pid from to) }
+        ensures room { LacksWhereGiven result (pipe_call self.old pid from to) }
     {
         if !lives(&self.processes, pid) {
             return Err(KernelFault::NoProcess);
@@ -355,7 +359,8 @@ impl Machine {
         bytes: &[u8],
         number: u8,
     ) -> Result<(), KernelFault>
-        ensures { GivesOrLacks result self.old self.new (here_call self.old pid bytes.now number) }
+        ensures call { GivesOrLacks result self.old self.new (here_call self.old pid bytes.now number) }
+        ensures room { LacksWhereGiven result (here_call self.old pid bytes.now number) }
     {
         if !lives(&self.processes, pid) {
             return Err(KernelFault::NoProcess);
@@ -429,7 +434,8 @@ impl Machine {
     /// `TooManyProcesses` where [`MAX_LIVE`](crate::MAX_LIVE) live already, or the number would be above
     /// [`MAX_PID`](crate::MAX_PID); else `NoMemory`.
     pub(crate) fn fork(&mut self, pid: u32) -> Result<u32, KernelFault>
-        ensures { GivesOrLacks result self.old self.new (fork_call self.old pid) }
+        ensures call { GivesOrLacks result self.old self.new (fork_call self.old pid) }
+        ensures room { LacksWhereGiven result (fork_call self.old pid) }
     {
         if !lives(&self.processes, pid) {
             return Err(KernelFault::NoProcess);

@@ -1,6 +1,6 @@
 -- What a call of a kernel answers, and what is after it.
 use Rattle.sh_memory.specs.Memory.{no_memory}
-use Rattle.std.specs.Prelude.{◌≡◌, ◌≢◌, ℕ, List, take, drop, Result, Ok, Err}
+use Rattle.std.specs.Prelude.{◌≡◌, ◌≢◌, ℕ, List, take, drop, Result, Ok, Err, IfErr, IsOk}
 use Rattle.sh_files.specs.declared.fault.FileFault.{FileFault}
 use Rattle.sh_files.specs.declared.fault.FileFault.TheVariants as file
 use Rattle.sh_pipe.specs.declared.PipeFault.{PipeFault}
@@ -43,6 +43,10 @@ Gives result new d = d ≡ record { answer = result; after = new }
 abbrev pub GivesOrLacks : {S A : Type 0} → Result A KernelFault → S → S → Done S A → Type 0
 GivesOrLacks (Ok a) old new d = Gives (Ok a) new d
 GivesOrLacks (Err fault) old new d = (fault ≢ NoMemory no_memory → Gives (Err fault) new d) × (fault ≡ NoMemory no_memory → new ≡ old)
+
+-- memory may be wanting only where the call isn't refused
+abbrev pub LacksWhereGiven : {S A : Type 0} → Result A KernelFault → Done S A → Type 0
+LacksWhereGiven result d = IfErr result (λ fault. fault ≡ NoMemory no_memory → IsOk d.answer)
 
 -- the same of a read: its bytes stand at the front of the buffer, which is else as it was
 abbrev pub GivesRead : {S : Type 0} → Result ℕ KernelFault → List ℕ → List ℕ → S → Done S (List ℕ) → Type 0

@@ -1,7 +1,7 @@
 //! Writes, over the parts that they change.
 ghost use Rattle.sh_memory.specs.Memory.{no_memory};
 ghost use Rattle.std.specs.Prelude.{◌≡◌, ◌≢◌, IfErr, ◌<◌, length, slice_get};
-ghost use Rattle.sh_kernel_base.specs.Outcomes.{Gives, GivesOrLacks};
+ghost use Rattle.sh_kernel_base.specs.Outcomes.{Gives, GivesOrLacks, LacksWhereGiven};
 ghost use Rattle.sh_kernel_base.specs.Writing as writing;
 
 use crate::channel::Channel;
@@ -39,7 +39,8 @@ pub fn write_node(
     bytes: &[u8],
 ) -> Result<usize, KernelFault>
     requires { 0 < length bytes.now }
-    ensures { GivesOrLacks result files.old files.new (writing.write_node files.old node start bytes.now) }
+    ensures call { GivesOrLacks result files.old files.new (writing.write_node files.old node start bytes.now) }
+    ensures room { LacksWhereGiven result (writing.write_node files.old node start bytes.now) }
 {
     if bytes.len() > MAX_LENGTH || start > MAX_LENGTH - bytes.len() {
         return Err(fault_of_file(FileFault::TooLarge));
