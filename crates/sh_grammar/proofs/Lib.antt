@@ -12,3 +12,4 @@ pub mod Kept
 pub mod Around
 pub mod Standing
 pub mod Bits
+pub mod Counts

@@ -1,5 +1,5 @@
 //! The recognizer: a stack of the symbols that are still to come.
-ghost use Rattle.std.specs.Prelude.{◌≡◌, ◌↔◌, ◌++◌, ◌∷◌, [], List, reverse, Some, if◌then◌else◌, true, IsTrue, IfOk, OnOk, OnErr, MatchOption, take};
+ghost use Rattle.std.specs.Prelude.{◌≡◌, ◌+◌, ◌↔◌, drop, ◌++◌, ◌∷◌, [], List, reverse, Some, if◌then◌else◌, true, IsTrue, IfOk, OnOk, OnErr, MatchOption, take};
 ghost use Rattle.sh_grammar.specs.declared.Symbol.{Symbol};
 ghost use Rattle.sh_grammar.specs.declared.Token.{Token};
 ghost use Rattle.sh_grammar.specs.Grammar.{Tree};
@@ -9,7 +9,8 @@ ghost use Rattle.sh_grammar.specs.Table.{table_of, first_of, nullable_of};
 ghost use Rattle.sh_grammar.specs.Passes.{IsPredictive};
 ghost use Rattle.sh_grammar.specs.Text.{IsTreeOf, IsText, BeginsText};
 ghost use Rattle.sh_grammar.specs.Computed.{taken};
-ghost use Rattle.sh_grammar.specs.Awaited.{awaited};
+ghost use Rattle.std.specs.List.{count_by};
+ghost use Rattle.sh_grammar.specs.Awaited.{awaited, is_nonterminal};
 ghost use Rattle.sh_grammar.specs.Reach.{Stands, Begins, Ended, Any, Extends, Keeps};
 ghost use Rattle.sh_grammar.specs.Recognized.{Recognized};
 
@@ -81,6 +82,16 @@ fn lead(
     Ok(0)
 }
 
+/// How often a nonterminal stands on a stack past its first `kept` symbols.
+fn count_above(stack: &[Symbol], kept: usize, nonterminal: u8) -> usize
+    ensures { result ≡ count_by (is_nonterminal nonterminal) (drop kept stack.now) }
+{
+    match stack.get(kept..) {
+        Some(above) => count(above, nonterminal),
+        None => 0,
+    }
+}
+
 /// Puts symbols in place of those past the first `kept` of a stack. An `Err` changes nothing.
 fn replace_top(stack: &mut Vec<Symbol>, kept: usize, above: &[Symbol]) -> Result<(), AllocError>
     ensures ok { OnOk result (stack.new.items ≡ take kept stack.old.items ++ above.now) }
@@ -91,24 +102,37 @@ fn replace_top(stack: &mut Vec<Symbol>, kept: usize, above: &[Symbol]) -> Result
     stack.extend_from_slice(above)
 }
 
-/// Takes a token that the stack may begin with. An `Err` leaves the stack as it was, and maybe more actions.
+/// How often a nonterminal stands on a stack.
+#[derive(Clone, Copy)]
+struct Counted {
+    nonterminal: u8,
+    times: usize,
+}
+
+/// Takes a token that the stack may begin with, and tells how often the nonterminal stands on the stack then.
+/// An `Err` leaves the stack as it was, and maybe more actions.
 fn advance(
     tables: &Tables<'_>,
     stack: &mut Vec<Symbol>,
     above: &mut Vec<Symbol>,
     done: &mut Vec<Action>,
     token: Token,
-) -> Result<(), AllocError>
+    counted: Counted,
+) -> Result<usize, AllocError>
+    requires counted { counted.times ≡ count_by (is_nonterminal counted.nonterminal) stack.old.items }
     requires stands { Stands (tabulation_of tables.now) (Begins token) done.old.items (reverse stack.old.items) }
     requires begins { first_of (grammar_of (tabulation_of tables.now)) (table_of (tabulation_of tables.now)) (reverse stack.old.items) token.class ≡ true }
     ensures stands { OnOk result (Stands (tabulation_of tables.now) Any done.new.items (reverse stack.new.items)) }
     ensures taken { OnOk result (shifted done.new.items ≡ shifted done.old.items ++ token ∷ []) }
     ensures extended { Extends done.old.items done.new.items }
     ensures computed { OnOk result (taken (grammar_of (tabulation_of tables.now)) (table_of (tabulation_of tables.now)) (reverse stack.old.items) token.class ≡ Some (reverse stack.new.items)) }
+    ensures counted { IfOk result (λ times. times ≡ count_by (is_nonterminal counted.nonterminal) stack.new.items) }
     ensures err { OnErr result (stack.new.items ≡ stack.old.items) }
 {
     let kept = lead(tables, stack, above, done, token)?;
-    replace_top(stack, kept, above)
+    let stay = counted.times - count_above(stack, kept, counted.nonterminal);
+    replace_top(stack, kept, above)?;
+    Ok(stay + count(above, counted.nonterminal))
 }
 
 /// Uses the productions that a stack which may vanish needs at the end.
@@ -145,6 +169,8 @@ pub struct Recognizer<'t> {
     done: Vec<Action>,
     // room for the symbols that come on the stack
     above: Vec<Symbol>,
+    // so that the stack isn't walked through for this nonterminal
+    counted: Counted,
 }
 
 impl<'t> Model for Recognizer<'t> {
@@ -152,7 +178,7 @@ impl<'t> Model for Recognizer<'t> {
 
     ghost view = { λ r. record { grammar = tabulation_of r.tables; tokens = shifted r.done.items } };
 
-    ghost invariant = { λ r. Keeps (tabulation_of r.tables) r.done.items (reverse r.stack.items) };
+    ghost invariant = { λ r. Keeps (tabulation_of r.tables) r.done.items (reverse r.stack.items) × (r.counted.times ≡ count_by (is_nonterminal r.counted.nonterminal) r.stack.items) };
 }
 
 impl<'t> Recognizer<'t> {
@@ -168,7 +194,22 @@ impl<'t> Recognizer<'t> {
             stack,
             done: Vec::new(alloc),
             above: Vec::new(alloc),
+            counted: Counted {
+                nonterminal: tables.start,
+                times: 1,
+            },
         })
+    }
+
+    /// Lets the recognizer keep the count of a nonterminal, so that `awaits` tells it at once. It keeps one count, and at
+    /// first that of the start symbol.
+    pub fn keep_count(&mut self, nonterminal: u8)
+        ensures { self.new ≡ self.old }
+    {
+        self.counted = Counted {
+            nonterminal,
+            times: count(&self.stack, nonterminal),
+        };
     }
 
     /// Whether a token of a class would be taken now. It takes no memory.
@@ -187,10 +228,14 @@ impl<'t> Recognizer<'t> {
 
     /// How many nonterminals of a number are still to come behind the tokens so far: the productions that hold them have
     /// begun, and they haven't. Of one that ends a production this is how often that production has begun and isn't over.
-    /// It is 0 for a number that no nonterminal has. It takes no memory; the time goes by the symbols that are to come.
+    /// It is 0 for a number that no nonterminal has. It takes no memory. The time goes by the symbols that are to come, but
+    /// for the nonterminal of `keep_count`.
     pub fn awaits(&self, nonterminal: u8) -> usize
         ensures { result ≡ awaited self.now.grammar nonterminal self.now.tokens }
     {
+        if nonterminal == self.counted.nonterminal {
+            return self.counted.times;
+        }
         count(&self.stack, nonterminal)
     }
 
@@ -211,12 +256,18 @@ impl<'t> Recognizer<'t> {
             &mut self.above,
             &mut self.done,
             token,
+            self.counted,
         );
-        if let Err(error) = advanced {
-            self.done.truncate(before);
-            return Err(error);
+        match advanced {
+            Ok(times) => {
+                self.counted.times = times;
+                Ok(true)
+            },
+            Err(error) => {
+                self.done.truncate(before);
+                Err(error)
+            },
         }
-        Ok(true)
     }
 
     /// The one derivation of the tokens, or `None` where they are no whole text. Its only error is want of memory.

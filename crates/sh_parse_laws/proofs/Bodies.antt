@@ -31,7 +31,7 @@ use Rattle.sh_parse_programs.specs.Programs.{read_text}
 use Rattle.sh_parse_programs.specs.Words.{parts_in}
 use Rattle.sh_parse.proofs.Faults.{texts_in}
 use Rattle.sh_parse_laws.specs.Standing.{Stands}
-use Rattle.sh_parse_laws.proofs.Levels.{opens_some}
+use Rattle.sh_parse_laws.proofs.Levels.{opens_some, body_deep_some}
 use Rattle.sh_parse_laws.proofs.Pieces.{Pieces, pieces_of, plain_behind, quoted_behind}
 use Rattle.sh_parse_laws.proofs.Standing.{OpensAt, Placed, ResultAt, parts_at, then_at}
 
@@ -175,7 +175,7 @@ module _ (bytes : List ℕ) where
       then_found (parts_in read_text left bytes (closed_pieces (text_between bytes 0 place)) bytes) (λ parts. Err (fault.Refused place))
       (read_parts left (closed_pieces (text_between bytes 0 place)) (placed_before place)) (λ parts. (omega arith, omega (some, to, arith)))
   front_stands left (TooDeepAt place) (rest, deep, to) =
-      let some = opens_some true rest deep.opens in
+      let some = body_deep_some (length bytes) bytes rest deep in
       then_found (parts_in read_text left bytes (closed_pieces (text_between bytes 0 place)) bytes) (λ parts. Err (fault.TooDeep place))
       (read_parts left (closed_pieces (text_between bytes 0 place)) (placed_before place)) (λ parts. (omega arith, omega (some, to, arith)))
 

@@ -29,7 +29,7 @@ use Rattle.sh_parse.proofs.Nuls.{nul_within}
 use Rattle.sh_parse_laws.specs.Standing.{Stands, StandsBefore}
 use Rattle.sh_parse_laws.proofs.Bodies.{bodies_stand}
 use Rattle.sh_parse_laws.proofs.Faults.{first_stands}
-use Rattle.sh_parse_laws.proofs.Levels.{opens_some}
+use Rattle.sh_parse_laws.proofs.Levels.{deep_some}
 
 before_stop : (start stop used : ℕ) (f : PartFault) → stop ≤ used → Stands start stop f → StandsBefore (Err (fault_of used f))
 before_stop start stop used (fault.BadSubstitution at) l h = let a : at < stop = h.1 in omega (a, l, arith)
@@ -152,7 +152,7 @@ item_before e limit w bytes (Found kind start stop) x = bodies_before (length by
 item_before e limit w bytes Unfinished x = tt
 item_before e limit w bytes (DeepAt place) x =
     let to : place + length x.0 ≡ length bytes = x.2 in
-    let some = opens_some e x.0 x.1.opens in
+    let some = deep_some e limit bytes x.0 x.1 in
     omega (to, some, arith)
 
 first_item_before : (e : Bool) (limit : ℕ) (w : Waiting) (bytes : List ℕ) → DeepBefore (length bytes) (first_item e limit w bytes)

@@ -1,6 +1,7 @@
 pub mod Spelled
 pub mod Given
 pub mod Scanned
+pub mod Growth
 pub mod Levels
 pub mod Pieces
 pub mod Standing

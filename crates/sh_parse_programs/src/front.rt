@@ -11,7 +11,7 @@ use sh_parse_trees_base::leaf::Leaf;
 use sh_syntax::sequence::Sequence;
 use sh_syntax::shared::Shared;
 use sh_token_base::grammar::{complete_command, substituted};
-use sh_token_base::levels::open_compounds;
+use sh_token_base::levels::{keep_open_compounds, open_compounds};
 use sh_tree::tree::{Complete, Parts};
 use std::alloc::{AllocError, Global};
 use std::marker::Model;
@@ -45,7 +45,8 @@ impl Front {
     pub fn of_command(alloc: Global) -> Result<Self, AllocError>
         ensures { IfOk result (λ front. front ≡ none_of complete) }
     {
-        let recognizer = Recognizer::new(alloc, complete_command())?;
+        let mut recognizer = Recognizer::new(alloc, complete_command())?;
+        keep_open_compounds(&mut recognizer);
         Ok(Front {
             alloc,
             recognizer,
@@ -58,7 +59,8 @@ impl Front {
     pub fn of_substitution(alloc: Global) -> Result<Self, AllocError>
         ensures { IfOk result (λ front. front ≡ none_of substitution) }
     {
-        let recognizer = Recognizer::new(alloc, substituted())?;
+        let mut recognizer = Recognizer::new(alloc, substituted())?;
+        keep_open_compounds(&mut recognizer);
         Ok(Front {
             alloc,
             recognizer,

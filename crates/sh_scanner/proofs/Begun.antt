@@ -22,15 +22,16 @@ use Rattle.sh_scanner_base.specs.Heads.{grown_head, head_step, head_of, grows_he
 use Rattle.sh_scanner_base.specs.Pendings.{is_raw}
 use Rattle.sh_scanner_base.specs.Nested.{none_yet}
 use Rattle.sh_scanner_base.specs.Marks.{stands, IsMark, behind, ends_token, in_word, is_text, top_of, between_tokens, is_quoted, is_arithmetic, has_single_quotes, is_backquoted, is_head, braces_of, parenthesized, levels, is_some, ends_operator, ends_comment, with_token, is_more, has_due, due_in}
-use Rattle.sh_scanner_base.specs.Told.{OfOperator, OfBodies}
+use Rattle.sh_scanner_base.specs.Told.{OfOperator, OfBodies, class_of_operator}
+use Rattle.sh_token_base.specs.Levels.{begins_compound}
 use Rattle.sh_scanner.specs.Tokens.{OpensLevel, braces, parenthesis}
 use Rattle.sh_scanner.specs.Machine.{State, Stepped, On, Before, TooDeep, opens, at_dollar, grow_to, then_act, act, plain_byte, quoted_byte, form_byte, after_dollar, after_parenthesis, in_name, headed, in_head, in_single, in_backquotes, in_escape, at_parenthesis, in_operator, in_comment, step, operator_out, same, into, out_level, level_over, in_body, bodies_out}
 use Rattle.sh_scanner.proofs.Running.{begin_of, is_raw_character}
-use Rattle.sh_scanner.proofs.Tests.{and_both, not_false, text_token, levels_token, more_none}
+use Rattle.sh_scanner.proofs.Tests.{and_both, and_left, not_false, text_token, levels_taken, levels_opened, more_none}
 use Rattle.sh_scanner.proofs.Leads.{begun, kept, settled}
 use Rattle.sh_scanner.proofs.Pieces.{before, arithmetic_level}
 use Rattle.sh_scanner.proofs.Paths.{Subject, IsBlank, Path, DeepHere, deep_here, Going, either, no_join_at, pending_levels, Held, Preceded, preceded_more}
-use Rattle.sh_scanner.proofs.Growing.{grown_text, growing_no_right, grown_no_right, growing_no_newline, grown_no_newline}
+use Rattle.sh_scanner.proofs.Growing.{growing_begins_none, grown_text, growing_no_right, grown_no_right, growing_no_newline, grown_no_newline}
 use Rattle.sh_scanner.proofs.Steps.{written_snoc, plain_snoc, raw_snoc, all_snoc, name_snoc, head_snoc, no_more, plain_sound, quoted_sound, then_sound}
 use Rattle.sh_scanner.proofs.Sound.{ahead_plain, ahead_quoted, plain_at, ends_piece, begins_piece, grow_sound}
 
@@ -83,11 +84,11 @@ module _ (e : Bool) (limit : ℕ) (subject : Subject) (front : List ℕ) (blank 
   held_on q acc c rest h r = begins_piece e limit subject front blank previous (x ∷ xs) done q acc mid (begin_of c rest) m rest p h r
 
   -- it is over with this character
-  ended : (k : Mark) (c : Character) (rest : List ℕ) (t : State) → IsMark e limit x xs k mid rest → ends_token k (behind done x xs k) ≡ false → t ≡ settled limit (done ++ k ∷ []) (behind done x xs k) → Goes (On t) c rest
+  ended : (k : Mark) (c : Character) (rest : List ℕ) (t : State) → IsMark e limit done x xs k mid rest → ends_token k (behind done x xs k) ≡ false → t ≡ settled limit (done ++ k ∷ []) (behind done x xs k) → Goes (On t) c rest
   ended k c rest t i h w = ends_piece e limit subject front blank previous x xs done k mid rest (begin_of c rest) m t p i h w
 
   -- it is over before this character
-  over_before : (k : Mark) (c : Character) (rest : List ℕ) (t : State) → IsMark e limit x xs k mid m → ends_token k (behind done x xs k) ≡ false → is_raw_character c ≡ false → Reads e c m rest
+  over_before : (k : Mark) (c : Character) (rest : List ℕ) (t : State) → IsMark e limit done x xs k mid m → ends_token k (behind done x xs k) ≡ false → is_raw_character c ≡ false → Reads e c m rest
       → settled limit (done ++ k ∷ []) (behind done x xs k) ≡ t → Goes (act t c) c rest
   over_before k c rest t i h r f w = then_sound e limit subject front blank previous x xs done k mid m rest c t p i h r f w
 
@@ -105,8 +106,8 @@ module _ (e : Bool) (limit : ℕ) (subject : Subject) (front : List ℕ) (blank 
                 (deep_here e limit subject front done (x ∷ xs) mid (36 ∷ m) p h w (record { lines = v.1.0; is = v.1.1 ∙ ap (λ z. joins v.1.0 ++ 36 ∷ z) v.2; over = no_join_at 36 m refl }) o);
           }
 
-  pub dollar_mark : in_word x ≡ true → not (next_is is_form (ahead e m)) ≡ true → Written e (Plain 36 ∷ []) mid m → IsMark e limit x xs Dollar mid m
-  dollar_mark w h v = record { written = v; fits = and_both (in_word x) (not (next_is is_form (ahead e m))) w h; level = refl }
+  pub dollar_mark : in_word x ≡ true → not (next_is is_form (ahead e m)) ≡ true → Written e (Plain 36 ∷ []) mid m → IsMark e limit done x xs Dollar mid m
+  dollar_mark w h v = record { written = v; fits = and_both (in_word x) (not (next_is is_form (ahead e m))) w h; level = refl; compound = refl }
 
   dollar_plain : (b : ℕ) (rest : List ℕ) → in_word x ≡ true → Written e (Plain 36 ∷ []) mid m → previous ≡ 36 ∷ m → Reads e (Plain b) m rest → Goes (form_byte (begin_at Pending.Dollar []) b) (Plain b) rest
   dollar_plain b rest w v r f =
@@ -114,7 +115,7 @@ module _ (e : Bool) (limit : ℕ) (subject : Subject) (front : List ℕ) (blank 
       (λ h. held_on Pending.Name (b ∷ []) (Plain b) rest (and_both (begins_name b) true h refl, w, written_snoc e (Plain 36 ∷ []) (Plain b) mid m rest v f) tt)
       (λ hn. either e limit subject front (is_short_parameter b) _ _ previous (b ∷ rest) m rest
       (λ h. ended (Parameter b) (Plain b) rest (same (Parameter b) (begin_at Pending.Dollar []))
-      (record { written = written_snoc e (Plain 36 ∷ []) (Plain b) mid m rest v f; fits = and_both (in_word x) (is_short_parameter b) w h; level = refl }) refl refl)
+      (record { written = written_snoc e (Plain 36 ∷ []) (Plain b) mid m rest v f; fits = and_both (in_word x) (is_short_parameter b) w h; level = refl; compound = refl }) refl refl)
       (λ hs. either e limit subject front (nat_eq b 123) _ _ previous (b ∷ rest) m rest
       (λ h. let g = plain_at e b 123 m rest h f in
       level_deep (Pending.Head Head.Start) b rest w
@@ -136,8 +137,11 @@ module _ (e : Bool) (limit : ℕ) (subject : Subject) (front : List ℕ) (blank 
   opened_level : nat_lt lv limit ≡ true → (true && not (nat_lt lv limit)) ≡ false
   opened_level l = rw l refl
 
-  commands_mark : in_word x ≡ true → nat_lt lv limit ≡ true → not (next_is (λ z. nat_eq z 40) (ahead e m)) ≡ true → Written e (Plain 36 ∷ Plain 40 ∷ []) mid m → IsMark e limit x xs CommandsOpen mid m
-  commands_mark w l h v = record { written = v; fits = and_both (in_word x) (not (next_is (λ z. nat_eq z 40) (ahead e m))) w h; level = opened_level l }
+  commands_mark : in_word x ≡ true → nat_lt lv limit ≡ true → not (next_is (λ z. nat_eq z 40) (ahead e m)) ≡ true → Written e (Plain 36 ∷ Plain 40 ∷ []) mid m → IsMark e limit done x xs CommandsOpen mid m
+  commands_mark w l h v = record { written = v; fits = and_both (in_word x) (not (next_is (λ z. nat_eq z 40) (ahead e m))) w h; level = opened_level l; compound = refl }
+
+  commands_state : settled limit (done ++ CommandsOpen ∷ []) (Commands none_yet ∷ x ∷ xs) ≡ into (Commands none_yet) CommandsOpen (begin_at Pending.DollarParenthesis [])
+  commands_state = ap (kept limit (Commands none_yet ∷ x ∷ xs) (done ++ CommandsOpen ∷ [])) (levels_opened lv)
 
   parenthesis_sound : (c : Character) (rest : List ℕ) → is_raw_character c ≡ false → in_word x ≡ true → nat_lt lv limit ≡ true → Written e (Plain 36 ∷ Plain 40 ∷ []) mid m → Reads e c m rest
       → Goes (after_parenthesis (begin_at Pending.DollarParenthesis []) c) c rest
@@ -145,17 +149,17 @@ module _ (e : Bool) (limit : ℕ) (subject : Subject) (front : List ℕ) (blank 
   parenthesis_sound (Plain b) rest k w l v f =
       either e limit subject front (nat_eq b 40) _ _ previous (b ∷ rest) m rest
       (λ h. ended ArithmeticOpen (Plain b) rest (into Arithmetic ArithmeticOpen (begin_at Pending.DollarParenthesis []))
-      (record { written = written_snoc e (Plain 36 ∷ Plain 40 ∷ []) (Plain 40) mid m rest v (plain_at e b 40 m rest h f); fits = w; level = opened_level l }) refl refl)
+      (record { written = written_snoc e (Plain 36 ∷ Plain 40 ∷ []) (Plain 40) mid m rest v (plain_at e b 40 m rest h f); fits = w; level = opened_level l; compound = refl }) refl refl)
       (λ h. over_before CommandsOpen (Plain b) rest (into (Commands none_yet) CommandsOpen (begin_at Pending.DollarParenthesis []))
-      (commands_mark w l (not_next (λ z. nat_eq z 40) b (ahead e m) h (ahead_plain e b m rest f)) v) refl refl f refl)
+      (commands_mark w l (not_next (λ z. nat_eq z 40) b (ahead e m) h (ahead_plain e b m rest f)) v) refl refl f commands_state)
   parenthesis_sound (Quoted b) rest k w l v f =
       over_before CommandsOpen (Quoted b) rest (into (Commands none_yet) CommandsOpen (begin_at Pending.DollarParenthesis []))
-      (commands_mark w l (not_quoted (λ z. nat_eq z 40) b (ahead e m) (ahead_quoted e b m rest f)) v) refl refl f refl
+      (commands_mark w l (not_quoted (λ z. nat_eq z 40) b (ahead e m) (ahead_quoted e b m rest f)) v) refl refl f commands_state
   parenthesis_sound (Raw b) rest k w l v f = absurd (cc)
 
-  pub name_mark : (acc : List ℕ) → is_name acc ≡ true → in_word x ≡ true → not (next_is is_name_byte (ahead e m)) ≡ true → Written e (Plain 36 ∷ plain acc) mid m → IsMark e limit x xs (Variable acc) mid m
+  pub name_mark : (acc : List ℕ) → is_name acc ≡ true → in_word x ≡ true → not (next_is is_name_byte (ahead e m)) ≡ true → Written e (Plain 36 ∷ plain acc) mid m → IsMark e limit done x xs (Variable acc) mid m
   name_mark acc n w h v =
-      record { written = v; fits = and_both (in_word x) (is_name acc && not (next_is is_name_byte (ahead e m))) w (and_both (is_name acc) (not (next_is is_name_byte (ahead e m))) n h); level = refl }
+      record { written = v; fits = and_both (in_word x) (is_name acc && not (next_is is_name_byte (ahead e m))) w (and_both (is_name acc) (not (next_is is_name_byte (ahead e m))) n h); level = refl; compound = refl }
 
   name_sound : (acc : List ℕ) (c : Character) (rest : List ℕ) → is_raw_character c ≡ false → is_name acc ≡ true → in_word x ≡ true → Written e (Plain 36 ∷ plain acc) mid m → Reads e c m rest
       → Goes (in_name (begin_at Pending.Name acc) c) c rest
@@ -170,9 +174,9 @@ module _ (e : Bool) (limit : ℕ) (subject : Subject) (front : List ℕ) (blank 
   name_sound acc (Raw b) rest k n w v f = absurd (cc)
 
   head_mark : (h : Head) (acc : List ℕ) → head_of acc ≡ Some h → in_word x ≡ true → nat_lt lv limit ≡ true → not (next_is (grows_head h) (ahead e m)) ≡ true → Written e (Plain 36 ∷ Plain 123 ∷ plain acc) mid m
-      → IsMark e limit x xs (BraceOpen acc) mid m
+      → IsMark e limit done x xs (BraceOpen acc) mid m
   head_mark h acc n w l g v =
-      record { written = v; fits = and_both (in_word x) (is_head (head_of acc) (ahead e m)) w (ap (λ z. is_head z (ahead e m)) n ∙ g); level = opened_level l }
+      record { written = v; fits = and_both (in_word x) (is_head (head_of acc) (ahead e m)) w (ap (λ z. is_head z (ahead e m)) n ∙ g); level = opened_level l; compound = refl }
 
   head_over : (h : Head) (acc : List ℕ) (c : Character) (rest : List ℕ) → is_raw_character c ≡ false → head_of acc ≡ Some h → in_word x ≡ true → nat_lt lv limit ≡ true
       → not (next_is (grows_head h) (ahead e m)) ≡ true → Written e (Plain 36 ∷ Plain 123 ∷ plain acc) mid m → Reads e c m rest
@@ -210,6 +214,7 @@ module _ (e : Bool) (limit : ℕ) (subject : Subject) (front : List ℕ) (blank 
         written = subst (λ z. Written e (Plain 39 ∷ (raw acc ++ Raw z ∷ [])) mid rest) (eqb-true b 39 h) (written_snoc e (Plain 39 ∷ raw acc) (Raw b) mid m rest v f);
         fits = and_both (has_single_quotes x) (list_all is_no_quote acc) w n;
         level = refl;
+        compound = refl;
       }) refl refl)
       (λ h. held_on Pending.Single (acc ++ b ∷ []) (Raw b) rest
       (all_snoc is_no_quote acc b n (not_false (nat_eq b 39) h), w, subst (λ z. Written e (Plain 39 ∷ z) mid rest) (raw_snoc acc b) (written_snoc e (Plain 39 ∷ raw acc) (Raw b) mid m rest v f)) tt)
@@ -237,6 +242,7 @@ module _ (e : Bool) (limit : ℕ) (subject : Subject) (front : List ℕ) (blank 
         written = subst (λ z. Written e (Plain 96 ∷ (raw acc ++ Raw z ∷ [])) mid rest) (eqb-true b 96 h) (written_snoc e (Plain 96 ∷ raw acc) (Raw b) mid m rest v f);
         fits = and_both (in_word x) (is_backquoted acc) w (ap is_backquoted (sym (append-nil acc)) ∙ n []);
         level = opened_level l;
+        compound = refl;
       }) refl (ap (kept limit (x ∷ xs) (done ++ Backquoted acc ∷ [])) (before lv)))
       (λ h96. either e limit subject front (nat_eq b 92) _ _ previous (b ∷ rest) m rest
       (λ h. held_on Pending.BackquotesEscape (acc ++ b ∷ []) (Raw b) rest
@@ -251,8 +257,8 @@ module _ (e : Bool) (limit : ℕ) (subject : Subject) (front : List ℕ) (blank 
   pair_sound acc (Raw b) rest k n w l v f =
       held_on Pending.Backquotes (acc ++ b ∷ []) (Raw b) rest ((λ bs. ap is_backquoted (append_assoc acc (b ∷ []) bs) ∙ n b bs), w, l, more_raw acc b rest v f) (preceded_more acc b (b ∷ rest) rest)
 
-  right_mark : is_arithmetic x ≡ true → not (next_is (λ z. nat_eq z 41) (ahead e m)) ≡ true → Written e (Plain 41 ∷ []) mid m → IsMark e limit x xs (Byte 41) mid m
-  right_mark a h v = record { written = v; fits = single_right x (ahead e m) a h; level = refl }
+  right_mark : is_arithmetic x ≡ true → not (next_is (λ z. nat_eq z 41) (ahead e m)) ≡ true → Written e (Plain 41 ∷ []) mid m → IsMark e limit done x xs (Byte 41) mid m
+  right_mark a h v = record { written = v; fits = single_right x (ahead e m) a h; level = refl; compound = refl }
 
   right_sound : (c : Character) (rest : List ℕ) → is_raw_character c ≡ false → is_arithmetic x ≡ true → Written e (Plain 41 ∷ []) mid m → Reads e c m rest
       → Goes (at_parenthesis (begin_at Pending.Parenthesis []) c) c rest
@@ -260,7 +266,7 @@ module _ (e : Bool) (limit : ℕ) (subject : Subject) (front : List ℕ) (blank 
   right_sound (Plain b) rest k a v f =
       either e limit subject front (nat_eq b 41) _ _ previous (b ∷ rest) m rest
       (λ h. ended ArithmeticClose (Plain b) rest (out_level ArithmeticClose (begin_at Pending.Parenthesis []))
-      (record { written = written_snoc e (Plain 41 ∷ []) (Plain 41) mid m rest v (plain_at e b 41 m rest h f); fits = a; level = refl }) refl
+      (record { written = written_snoc e (Plain 41 ∷ []) (Plain 41) mid m rest v (plain_at e b 41 m rest h f); fits = a; level = refl; compound = refl }) refl
       (ap (kept limit xs (done ++ ArithmeticClose ∷ [])) (arithmetic_level x xs a)))
       (λ h. over_before (Byte 41) (Plain b) rest (same (Byte 41) (begin_at Pending.Parenthesis [])) (right_mark a (not_next (λ z. nat_eq z 41) b (ahead e m) h (ahead_plain e b m rest f)) v) refl refl f
       (ap (settled limit (done ++ Byte 41 ∷ [])) (right_stays x xs a)))
@@ -269,7 +275,7 @@ module _ (e : Bool) (limit : ℕ) (subject : Subject) (front : List ℕ) (blank 
       (ap (settled limit (done ++ Byte 41 ∷ [])) (right_stays x xs a))
   right_sound (Raw b) rest k a v f = absurd (cc)
 
-  operator_mark : (o : Operator) → between_tokens x ≡ true → may_grow o ≡ true → ends_operator o (ahead e m) ≡ true → Written e (plain (operator_text o)) mid m → IsMark e limit x xs (Mark.Operator o) mid m
+  operator_mark : (o : Operator) → between_tokens x ≡ true → may_grow o ≡ true → ends_operator o (ahead e m) ≡ true → Written e (plain (operator_text o)) mid m → IsMark e limit done x xs (Mark.Operator o) mid m
   operator_mark o i g h v =
       record {
         written = v;
@@ -277,6 +283,7 @@ module _ (e : Bool) (limit : ℕ) (subject : Subject) (front : List ℕ) (blank 
             (and_both (ends_operator o (ahead e m)) (not (is_more o x)) h
             (not_false (is_more o x) (more_none o x (growing_no_right o g) (growing_no_newline o g))));
         level = refl;
+        compound = and_left (begins_compound (class_of_operator o)) (nat_lt limit (levels (with_token (OfOperator o) (x ∷ xs)))) (growing_begins_none o g);
       }
 
   operator_before : (o : Operator) (c : Character) (rest : List ℕ) → is_raw_character c ≡ false → between_tokens x ≡ true → may_grow o ≡ true → ends_operator o (ahead e m) ≡ true
@@ -285,7 +292,7 @@ module _ (e : Bool) (limit : ℕ) (subject : Subject) (front : List ℕ) (blank 
       let t : is_text (top_of (with_token (OfOperator o) (x ∷ xs))) ≡ false = text_token (OfOperator o) (x ∷ xs) ∙ p.inside.inner in
       subst (λ z. Goes (cond z (Before (operator_out o (begin_at (Pending.Operator o) []))) (act (operator_out o (begin_at (Pending.Operator o) [])) c)) c rest) (sym t)
       (over_before (Mark.Operator o) c rest (operator_out o (begin_at (Pending.Operator o) [])) (operator_mark o i g h v) t k f
-      (ap (kept limit (with_token (OfOperator o) (x ∷ xs)) (done ++ Mark.Operator o ∷ [])) (levels_token (OfOperator o) (x ∷ xs))))
+      (ap (kept limit (with_token (OfOperator o) (x ∷ xs)) (done ++ Mark.Operator o ∷ [])) (sym (levels_taken (OfOperator o) (x ∷ xs)))))
 
   operator_sound : (o : Operator) (c : Character) (rest : List ℕ) → is_raw_character c ≡ false → between_tokens x ≡ true → may_grow o ≡ true → Written e (plain (operator_text o)) mid m → Reads e c m rest
       → Goes (in_operator o (begin_at (Pending.Operator o) []) c) c rest
@@ -315,6 +322,7 @@ module _ (e : Bool) (limit : ℕ) (subject : Subject) (front : List ℕ) (blank 
         written = v;
         fits = and_both (between_tokens x) (list_all is_no_newline acc && ends_comment e m) i (and_both (list_all is_no_newline acc) (ends_comment e m) n (ap (ends_comment e) g));
         level = refl;
+        compound = refl;
       }) refl refl (0, g, inl refl) refl))
       (λ h. held_on Pending.Comment (acc ++ b ∷ []) (Raw b) rest
       (all_snoc is_no_newline acc b n (not_false (nat_eq b 10) h), i, subst (λ z. Written e (Plain 35 ∷ z) mid rest) (raw_snoc acc b) (written_snoc e (Plain 35 ∷ raw acc) (Raw b) mid m rest v f)) tt)
@@ -338,7 +346,8 @@ module _ (e : Bool) (limit : ℕ) (subject : Subject) (front : List ℕ) (blank 
             fits = and_both (has_due x) (are_bodies (due_in x) false (lines [] (acc ++ 10 ∷ []))) (some_dropped n (due_in x) r.awaits)
                 (subst (λ z. are_bodies (due_in x) false (lines [] (acc ++ z ∷ [])) ≡ true) t (q []));
             level = refl;
-          }) refl (ap (kept limit (with_token OfBodies (x ∷ xs)) (done ++ Bodies (acc ++ 10 ∷ []) ∷ [])) (sym (levels_token OfBodies (x ∷ xs)))))
+            compound = refl;
+          }) refl (ap (kept limit (with_token OfBodies (x ∷ xs)) (done ++ Bodies (acc ++ 10 ∷ []) ∷ [])) (levels_taken OfBodies (x ∷ xs))))
 
   nothing_sound : (c : Character) (rest : List ℕ) → is_raw_character c ≡ false → mid ≡ m → Reads e c m rest → Goes (act (settled limit done (x ∷ xs)) c) c rest
   nothing_sound (Plain b) rest k w f =

@@ -1,5 +1,5 @@
 -- Each piece between tokens is run to its end.
-use Rattle.std.proofs.Common.{◌≡◌, ℕ, suc, Bool, true, false, ◌||◌, ◌&&◌, not, nat_eq, List, [], ◌∷◌, ◌++◌, ◌-◌, length, drop, Option, Some, None, refl, sym, ap, ◌∙◌, subst, eqb-true}
+use Rattle.std.proofs.Common.{◌≡◌, ℕ, suc, Bool, true, false, ◌||◌, ◌&&◌, not, nat_eq, nat_lt, List, [], ◌∷◌, ◌++◌, ◌-◌, length, drop, Option, Some, None, refl, sym, ap, ◌∙◌, subst, eqb-true}
 use Rattle.std.specs.List.{list_all}
 use Rattle.sh_scanner.proofs.Bodies.{at_first, within, ended_at, bodies_keep}
 use Rattle.sh_scanner_base.specs.Here.{lines, are_bodies}
@@ -16,15 +16,17 @@ use Rattle.sh_scanner_base.specs.Characters.{Reads, Written, plain, raw, Ahead, 
 use Rattle.sh_scanner_base.specs.Pendings.{is_raw}
 use Rattle.sh_scanner_base.specs.Operators.{operator_text}
 use Rattle.sh_scanner_base.specs.Growth.{grown, may_grow, operator_of}
-use Rattle.sh_scanner_base.specs.Marks.{is_text, is_body, top_of, between_tokens, is_word, may_close, levels, ends_comment, begins_word, ends_word, same_as, is_some, ends_operator, is_right_parenthesis, is_newline, is_more, has_due, due_in, with_token}
-use Rattle.sh_scanner_base.specs.Told.{Told, OfOperator, OfWord, OfBodies}
-use Rattle.sh_scanner.specs.Machine.{State, On, step, is_top, grow, grow_to, word_byte, between, after_word, plain_byte, quoted_byte, in_operator, in_comment, word_out, same, pend, into, out_level}
-use Rattle.sh_scanner.specs.Run.{is_gap_state, fed, run}
+use Rattle.sh_scanner_base.specs.Marks.{is_text, is_body, top_of, between_tokens, is_word, may_close, levels, ends_comment, begins_word, ends_word, same_as, is_some, ends_operator, is_right_parenthesis, is_newline, is_more, has_due, due_in, with_token, word_begins, compounds_in}
+use Rattle.sh_scanner_base.specs.Nested.{open_in}
+use Rattle.sh_scanner_base.specs.Told.{Told, OfOperator, OfWord, OfBodies, class_of_operator}
+use Rattle.sh_token_base.specs.Levels.{begins_compound}
+use Rattle.sh_scanner.specs.Machine.{State, On, step, is_top, is_over_full, in_place, grow, grow_to, word_byte, between, after_word, end_word, plain_byte, quoted_byte, in_operator, in_comment, word_out, operator_out, same, pend, into, out_level}
+use Rattle.sh_scanner.specs.Run.{is_gap_state, fed, run, word_end}
 use Rattle.sh_scanner.proofs.Running.{Alike}
-use Rattle.sh_scanner.proofs.Tests.{and_true, not_true, or_false, and_left, text_token, between_token, levels_token}
+use Rattle.sh_scanner.proofs.Tests.{and_true, not_true, or_false, and_left, text_token, between_token, levels_taken, levels_left}
 use Rattle.sh_scanner.proofs.Leads.{begun, kept, settled, Leads, joined, goes, same_ahead, raw_keeps}
 use Rattle.sh_scanner.proofs.Bytes.{byte_in}
-use Rattle.sh_scanner.proofs.Pieces.{one, before}
+use Rattle.sh_scanner.proofs.Pieces.{one}
 
 pub closes_between : (x : Context) → may_close x ≡ true → between_tokens x ≡ true
 closes_between Top h = absurd (cc)
@@ -36,9 +38,9 @@ closes_between Arithmetic h = absurd (cc)
 closes_between Parenthesis h = absurd (cc)
 closes_between Body h = absurd (cc)
 
-pub closes_level : (x : Context) (xs : List Context) → may_close x ≡ true → levels (x ∷ xs) - 1 ≡ levels xs
+pub closes_level : (x : Context) (xs : List Context) → may_close x ≡ true → (levels (x ∷ xs) - compounds_in x) - 1 ≡ levels xs
 closes_level Top xs h = absurd (cc)
-closes_level (Commands ts) xs h = before (levels xs)
+closes_level (Commands ts) xs h = levels_left (open_in ts.tokens) (levels xs)
 closes_level (Word n) xs h = absurd (cc)
 closes_level Quotes xs h = absurd (cc)
 closes_level (Braces q) xs h = absurd (cc)
@@ -231,7 +233,7 @@ module _ (k e : Bool) (limit : ℕ) (x : Context) (xs : List Context) (done : Li
   pub commands_over : (m rest : List ℕ) → may_close x ≡ true → Written e (Plain 41 ∷ []) m rest → Leads k e at_start m (settled limit (done ++ CommandsClose ∷ []) xs) rest
   commands_over m rest h w =
       subst (λ l. Leads k e at_start m (kept limit xs (done ++ CommandsClose ∷ []) l) rest) (closes_level x xs h)
-      (one k e at_start (kept limit xs (done ++ CommandsClose ∷ []) (lv - 1)) m rest (Plain 41) (λ t. closes_no_text x h) refl w (plain_between at_start 41 (closes_between x h) ∙ between_close at_start h))
+      (one k e at_start (kept limit xs (done ++ CommandsClose ∷ []) ((lv - compounds_in x) - 1)) m rest (Plain 41) (λ t. closes_no_text x h) refl w (plain_between at_start 41 (closes_between x h) ∙ between_close at_start h))
 
   -- a word begins within a substitution
   pub word_leads : (m : List ℕ) → is_text x ≡ false → between_tokens x ≡ true → begins_word (ahead e m) ≡ true → Leads k e at_start m (settled limit (done ++ WordOpen ∷ []) (Word (length done) ∷ x ∷ xs)) m
@@ -245,7 +247,11 @@ module _ (k e : Bool) (limit : ℕ) (x : Context) (xs : List Context) (done : Li
 
   -- an operator within a substitution
   abbrev over_with : Operator → State
-  over_with o = kept limit (with_token (OfOperator o) (x ∷ xs)) (done ++ Mark.Operator o ∷ []) lv
+  over_with o = operator_out o at_start
+
+  -- it opens no level too many
+  abbrev pub Serves : Operator → Type 0
+  Serves o = (begins_compound (class_of_operator o) && nat_lt limit (in_place x (top_of (with_token (OfOperator o) (x ∷ xs))) lv)) ≡ false
 
   operator_alike : (o : Operator) (m : List ℕ) → is_text x ≡ false → between_tokens x ≡ true → ends_operator o (ahead e m) ≡ true
       → Alike e false (begun limit (x ∷ xs) done lv (Pending.Operator o) []) (over_with o) m
@@ -261,16 +267,16 @@ module _ (k e : Bool) (limit : ℕ) (x : Context) (xs : List Context) (done : Li
         ends = λ j. rw (t, u, y, v) refl;
       }
 
-  last_byte : (o : Operator) (s : State) (m rest : List ℕ) (b : ℕ) → is_text x ≡ false → between_tokens x ≡ true → ends_operator o (ahead e rest) ≡ true
+  last_byte : (o : Operator) (s : State) (m rest : List ℕ) (b : ℕ) → Serves o → is_text x ≡ false → between_tokens x ≡ true → ends_operator o (ahead e rest) ≡ true
       → is_gap_state s ≡ false → is_raw s.pending ≡ false → Written e (Plain b ∷ []) m rest → step s (Plain b) ≡ grow o at_start → Leads k e s m (over_with o) rest
-  last_byte o s m rest b t h i g r w f = go (may_grow o) refl
+  last_byte o s m rest b n t h i g r w f = go (may_grow o) refl
     where
       go : (c : Bool) → may_grow o ≡ c → Leads k e s m (over_with o) rest
       go true j =
           joined k e s (begun limit (x ∷ xs) done lv (Pending.Operator o) []) (over_with o) m rest rest
           (one k e s (begun limit (x ∷ xs) done lv (Pending.Operator o) []) m rest (Plain b) (λ z. g) r w (f ∙ growing limit x xs done o j))
           (same_ahead k e (begun limit (x ∷ xs) done lv (Pending.Operator o) []) (over_with o) rest (record { left = refl; right = refl; gap = sym (text_token (OfOperator o) (x ∷ xs) ∙ t) }) (operator_alike o rest t h i))
-      go false j = one k e s (over_with o) m rest (Plain b) (λ z. g) r w (f ∙ rw (j, text_token (OfOperator o) (x ∷ xs) ∙ t) refl)
+      go false j = one k e s (over_with o) m rest (Plain b) (λ z. g) r w (f ∙ rw (j, text_token (OfOperator o) (x ∷ xs) ∙ t, n) refl)
 
   -- the byte of an operator that may grow
   to_operator : (b : ℕ) (p : Operator) (m rest : List ℕ) → is_text x ≡ false → between_tokens x ≡ true → First b p → nat_eq b 41 ≡ false → nat_eq b 10 ≡ false → may_grow p ≡ true → Reads e (Plain b) m rest
@@ -285,31 +291,32 @@ module _ (k e : Bool) (limit : ℕ) (x : Context) (xs : List Context) (done : Li
       goes k e (begun limit (x ∷ xs) done lv (Pending.Operator p) []) (begun limit (x ∷ xs) done lv (Pending.Operator q) []) m rest (Plain c) (λ z. refl) refl r
       (next_byte limit x xs done p q c h ∙ growing limit x xs done q j)
 
-  operator_made : (o : Operator) (m rest : List ℕ) → Made o → is_text x ≡ false → between_tokens x ≡ true → ends_operator o (ahead e rest) ≡ true
+  operator_made : (o : Operator) (m rest : List ℕ) → Serves o → Made o → is_text x ≡ false → between_tokens x ≡ true → ends_operator o (ahead e rest) ≡ true
       → is_more o x ≡ false → Written e (plain (operator_text o)) m rest → Leads k e at_start m (over_with o) rest
-  operator_made o m rest (one_byte b s f y z) t h i c w =
+  operator_made o m rest g (one_byte b s f y z) t h i c w =
       let u = or_false (is_right_parenthesis o && may_close x) (is_newline o && has_due x) c in
       let v : Written e (Plain b ∷ []) m rest = subst (λ z. Written e (plain z) m rest) s w in
-      last_byte o at_start m rest b t h i t refl v (first_byte limit x xs done b o h f (ap (λ v. v && may_close x) y ∙ u.0) (ap (λ v. v && has_due x) z ∙ u.1))
-  operator_made o m rest (two_bytes b d p s f y z j l) t h i c w =
+      last_byte o at_start m rest b g t h i t refl v (first_byte limit x xs done b o h f (ap (λ v. v && may_close x) y ∙ u.0) (ap (λ v. v && has_due x) z ∙ u.1))
+  operator_made o m rest g (two_bytes b d p s f y z j l) t h i c w =
       let v : Written e (Plain b ∷ Plain d ∷ []) m rest = subst (λ z. Written e (plain z) m rest) s w in
       joined k e at_start (begun limit (x ∷ xs) done lv (Pending.Operator p) []) (over_with o) m v.0 rest
       (to_operator b p m v.0 t h f y z j v.1)
-      (last_byte o (begun limit (x ∷ xs) done lv (Pending.Operator p) []) v.0 rest d t h i refl refl v.2 (next_byte limit x xs done p o d l))
-  operator_made o m rest (three_bytes b d a p q s f y z j l n u) t h i c w =
+      (last_byte o (begun limit (x ∷ xs) done lv (Pending.Operator p) []) v.0 rest d g t h i refl refl v.2 (next_byte limit x xs done p o d l))
+  operator_made o m rest g (three_bytes b d a p q s f y z j l n u) t h i c w =
       let v : Written e (Plain b ∷ Plain d ∷ Plain a ∷ []) m rest = subst (λ z. Written e (plain z) m rest) s w in
       joined k e at_start (begun limit (x ∷ xs) done lv (Pending.Operator p) []) (over_with o) m v.0 rest
       (to_operator b p m v.0 t h f y z j v.1)
       (joined k e (begun limit (x ∷ xs) done lv (Pending.Operator p) []) (begun limit (x ∷ xs) done lv (Pending.Operator q) []) (over_with o) v.0 v.2.0 rest
       (further p q d v.0 v.2.0 l n v.2.1)
-      (last_byte o (begun limit (x ∷ xs) done lv (Pending.Operator q) []) v.2.0 rest a t h i refl refl v.2.2 (next_byte limit x xs done q o a u)))
+      (last_byte o (begun limit (x ∷ xs) done lv (Pending.Operator q) []) v.2.0 rest a g t h i refl refl v.2.2 (next_byte limit x xs done q o a u)))
 
-  pub operator_leads : (o : Operator) (m rest : List ℕ) → is_text x ≡ false → between_tokens x ≡ true → ends_operator o (ahead e rest) ≡ true
+  pub operator_leads : (o : Operator) (m rest : List ℕ) → (begins_compound (class_of_operator o) && nat_lt limit (levels (with_token (OfOperator o) (x ∷ xs)))) ≡ false → is_text x ≡ false → between_tokens x ≡ true → ends_operator o (ahead e rest) ≡ true
       → is_more o x ≡ false → Written e (plain (operator_text o)) m rest
       → Leads k e at_start m (settled limit (done ++ Mark.Operator o ∷ []) (with_token (OfOperator o) (x ∷ xs))) rest
-  operator_leads o m rest t h i c w =
-      subst (λ l. Leads k e at_start m (kept limit (with_token (OfOperator o) (x ∷ xs)) (done ++ Mark.Operator o ∷ []) l) rest) (sym (levels_token (OfOperator o) (x ∷ xs)))
-      (operator_made o m rest (made o) t h i c w)
+  operator_leads o m rest n t h i c w =
+      let q = levels_taken (OfOperator o) (x ∷ xs) in
+      subst (λ l. Leads k e at_start m (kept limit (with_token (OfOperator o) (x ∷ xs)) (done ++ Mark.Operator o ∷ []) l) rest) q
+      (operator_made o m rest (ap (λ l. begins_compound (class_of_operator o) && nat_lt limit l) q ∙ n) (made o) t h i c w)
 
 -- a newline behind which bodies come
 due_between : (x : Context) → has_due x ≡ true → between_tokens x ≡ true
@@ -332,19 +339,19 @@ bodies_leads k e limit x xs done bs m rest t h a w =
     let s = settled limit done (x ∷ xs) in
     let lv = levels (x ∷ xs) in
     let first = within limit x xs done lv 0 0 false [] in
-    subst (λ l. Leads k e s m (kept limit (with_token OfBodies (x ∷ xs)) (done ++ Bodies bs ∷ []) l) rest) (sym (levels_token OfBodies (x ∷ xs)))
+    subst (λ l. Leads k e s m (kept limit (with_token OfBodies (x ∷ xs)) (done ++ Bodies bs ∷ []) l) rest) (levels_taken OfBodies (x ∷ xs))
     (joined k e s first (ended_at limit x xs done lv bs) m w.0 rest
     (goes k e s first m w.0 (Plain 10) (λ z. t) refl w.1 (plain_between s 10 (due_between x h) ∙ between_due s h))
     (bodies_keep limit x xs done lv k e bs 0 0 false [] w.0 rest (at_first (due_in x) h) a w.2))
 
 -- the end of a word within a substitution
 pub closing_word : (limit : ℕ) (n : ℕ) (xs : List Context) (done : List Mark) (b : ℕ) → is_end b ≡ true
-    → plain_byte (settled limit done (Word n ∷ xs)) b ≡ after_word (word_out (is_redirection b) (settled limit done (Word n ∷ xs))) b
+    → plain_byte (settled limit done (Word n ∷ xs)) b ≡ end_word (is_redirection b) (settled limit done (Word n ∷ xs)) b
 unfolding plain_byte
 closing_word limit n xs done b h = rw h refl
 
-closed_word : (s : State) (b : ℕ) → is_top s.contexts ≡ false → after_word s b ≡ between s b
-closed_word s b h = rw h refl
+closed_word : (c : Bool) (s : State) (b : ℕ) → is_top s.contexts ≡ false → (c && is_over_full s) ≡ false → after_word c s b ≡ between s b
+closed_word c s b h g = rw (h, g) refl
 
 pub same_is : (a b : Bool) → same_as a b ≡ true → a ≡ b
 same_is true b h = sym h
@@ -359,24 +366,34 @@ module _ (k e : Bool) (limit : ℕ) (n : ℕ) (xs : List Context) (done : List M
   open_word = settled limit done (Word n ∷ xs)
 
   abbrev closed : State
-  closed = kept limit (with_token class xs) (done ++ WordClose r ∷ []) (levels xs)
+  closed = word_out r open_word
 
-  closes_alike : between_tokens (top_of xs) ≡ true → is_text (top_of xs) ≡ false → ends_word (ahead e m) ≡ true → same_as r (next_is is_redirection (ahead e m)) ≡ true
+  -- it opens no level too many
+  abbrev ServesWord : Type 0
+  ServesWord = (word_begins r done (Word n) && nat_lt limit (in_place (top_of xs) (top_of (with_token class xs)) (levels xs))) ≡ false
+
+  closes_alike : ServesWord → between_tokens (top_of xs) ≡ true → is_text (top_of xs) ≡ false → ends_word (ahead e m) ≡ true → same_as r (next_is is_redirection (ahead e m)) ≡ true
       → Alike e false open_word closed m
-  closes_alike h t i s =
+  closes_alike g h t i s =
+      let u = text_token class xs ∙ t in
       record {
         plains = λ b j.
             let d = sym (ap ends_word j) ∙ i in
             let q = same_is r (is_redirection b) (sym (ap (λ z. same_as r (next_is is_redirection z)) j) ∙ s) in
             closing_word limit n xs done b d
-            ∙ (ap (λ z. after_word (word_out z open_word) b) (sym q)
-            ∙ (closed_word closed b (text_token class xs ∙ t) ∙ sym (plain_between closed b (between_token class xs ∙ h))));
+            ∙ (ap (λ z. end_word z open_word b) (sym q)
+            ∙ (closed_word (word_begins r done (Word n)) closed b u g ∙ sym (plain_between closed b (between_token class xs ∙ h))));
         quoteds = λ b j. let z = sym (ap ends_word j) ∙ i in absurd (cc);
-        ends = λ j. rw (text_token (OfWord false (drop (suc n) done)) xs ∙ t, text_token class xs ∙ t, between_no_body (top_of (with_token class xs)) (between_token class xs ∙ h), between_no_word (top_of (with_token class xs)) (between_token class xs ∙ h)) refl;
+        ends = λ j.
+            let q = same_is r false (sym (ap (λ z. same_as r (next_is is_redirection z)) j) ∙ s) in
+            ap (λ z. word_end (word_begins z done (Word n)) (word_out z open_word)) (sym q)
+            ∙ rw (u, g, between_no_body (top_of (with_token class xs)) (between_token class xs ∙ h), between_no_word (top_of (with_token class xs)) (between_token class xs ∙ h)) refl;
       }
 
-  pub word_over_leads : between_tokens (top_of xs) ≡ true → is_text (top_of xs) ≡ false → ends_word (ahead e m) ≡ true → same_as r (next_is is_redirection (ahead e m)) ≡ true
-      → Leads k e open_word m (settled limit (done ++ WordClose r ∷ []) (with_token class xs)) m
-  word_over_leads h t i s =
-      subst (λ l. Leads k e open_word m (kept limit (with_token class xs) (done ++ WordClose r ∷ []) l) m) (sym (levels_token class xs))
-      (same_ahead k e open_word closed m (record { left = refl; right = refl; gap = sym (text_token class xs ∙ t) }) (closes_alike h t i s))
+  pub word_over_leads : (word_begins r done (Word n) && nat_lt limit (levels (with_token class xs))) ≡ false → between_tokens (top_of xs) ≡ true → is_text (top_of xs) ≡ false → ends_word (ahead e m) ≡ true
+      → same_as r (next_is is_redirection (ahead e m)) ≡ true → Leads k e open_word m (settled limit (done ++ WordClose r ∷ []) (with_token class xs)) m
+  word_over_leads g h t i s =
+      let q = levels_taken class xs in
+      subst (λ l. Leads k e open_word m (kept limit (with_token class xs) (done ++ WordClose r ∷ []) l) m) q
+      (same_ahead k e open_word closed m (record { left = refl; right = refl; gap = sym (text_token class xs ∙ t) })
+      (closes_alike (ap (λ l. word_begins r done (Word n) && nat_lt limit l) q ∙ g) h t i s))

@@ -11,8 +11,8 @@ use Rattle.sh_scanner_base.specs.declared.here.Delimiter.{Delimiter}
 use Rattle.sh_scanner_base.specs.Characters.{Written, raw}
 use Rattle.sh_scanner_base.specs.Here.{lines, is_end_line, joins_next, is_nothing, are_bodies}
 use Rattle.sh_scanner_base.specs.Told.{OfBodies}
-use Rattle.sh_scanner_base.specs.Marks.{due_in, are_some, with_token}
-use Rattle.sh_scanner.specs.Machine.{State, On, in_body, line_end, line_over, line_of, bodies_out}
+use Rattle.sh_scanner_base.specs.Marks.{due_in, are_some, top_of, with_token}
+use Rattle.sh_scanner.specs.Machine.{State, On, in_place, in_body, line_end, line_over, line_of, bodies_out}
 use Rattle.sh_scanner.proofs.Leads.{begun, kept, Leads, stay, joined, goes}
 
 drop_next : (n : ℕ) (due others : List Delimiter) (d : Delimiter) → drop n due ≡ d ∷ others → drop (suc n) due ≡ others
@@ -160,7 +160,7 @@ module _ (limit : ℕ) (x : Context) (xs : List Context) (done : List Mark) (lv 
         go false h = byte_on b h
 
   abbrev pub ended_at : List ℕ → State
-  ended_at bs = kept limit (with_token OfBodies (x ∷ xs)) (done ++ Bodies bs ∷ []) lv
+  ended_at bs = kept limit (with_token OfBodies (x ∷ xs)) (done ++ Bodies bs ∷ []) (in_place x (top_of (with_token OfBodies (x ∷ xs))) lv)
 
   -- no line is unfinished
   unfinished : (ds : List Delimiter) (j : Bool) (line : List ℕ) → are_some ds ≡ true → are_bodies ds j (line ∷ []) ≡ true → ⊥

@@ -12,7 +12,7 @@ use Rattle.sh_scanner.proofs.Running.{placed, joins_run}
 use Rattle.sh_scanner.proofs.Tests.{and_true, and_both, not_true, not_false, nested, nested_behind}
 use Rattle.sh_scanner.proofs.Grounds.{free, free_behind, never_text}
 use Rattle.sh_scanner.proofs.Leads.{settled}
-use Rattle.sh_scanner.proofs.Inner.{Inside, inside_behind, inner_all}
+use Rattle.sh_scanner.proofs.Inner.{Inside, inside_behind, inside_all, inner_all}
 use Rattle.sh_scanner.proofs.Deep.{in_deep}
 use Rattle.sh_scanner.proofs.Loose.{loose_run}
 
@@ -59,14 +59,16 @@ none_end e limit (m ∷ ms) done (x ∷ xs) bytes rest i f a =
 pub record After (limit : ℕ) (bytes : List ℕ) (marks : List Mark) (last : List ℕ) : Type 0 where
   pub places : Places
   pub next : places.next ≡ last
+  pub inside : Inside (contexts_behind [] (Body ∷ []) marks)
   pub is : scanned_in Body true limit bytes ≡ run true false (settled limit marks (contexts_behind [] (Body ∷ []) marks)) places last
 
 pub behind_marks : (limit : ℕ) (bytes last : List ℕ) (marks : List Mark) → AreMarks true limit [] (Body ∷ []) marks bytes last → After limit bytes marks last
 behind_marks limit bytes last marks a =
     let i : Inside (Body ∷ []) = record { order = refl; inner = refl } in
-    let l = inner_all true limit marks [] (Body ∷ []) bytes last i a (none_end true limit marks [] (Body ∷ []) bytes last i refl a)
-    (record { front = bytes; previous = bytes; behind = bytes; next = bytes; form = bytes }) refl refl in
-    record { places = l.places; next = l.next; is = l.same }
+    let n = none_end true limit marks [] (Body ∷ []) bytes last i refl a in
+    let l = inner_all true limit marks [] (Body ∷ []) bytes last i a n
+    (record { front = bytes; previous = bytes; behind = bytes; next = bytes; form = bytes; word = bytes }) refl refl in
+    record { places = l.places; next = l.next; inside = inside_all true limit marks [] (Body ∷ []) bytes last i a n; is = l.same }
 
 abbrev body_state : ℕ → List Mark → State
 body_state limit marks = settled limit marks (Body ∷ [])
@@ -99,7 +101,7 @@ body_complete limit bytes marks f = let s = standing limit bytes [] marks f in r
 pub body_deep : (limit : ℕ) (bytes place : List ℕ) → IsBodyTooDeep limit bytes place → scanned_in Body true limit bytes ≡ Deep place
 body_deep limit bytes place d =
     let l = behind_marks limit bytes d.last d.marks d.before in
-    l.is ∙ in_deep true limit (contexts_behind [] (Body ∷ []) d.marks) d.marks l.places d.last place d.within l.next d.full d.placed d.opens
+    l.is ∙ in_deep true limit (contexts_behind [] (Body ∷ []) d.marks) d.marks l.places d.last place l.inside.inner l.next d.placed d.opens
 
 -- the last form begins behind each front
 pub form_behind : (limit : ℕ) (bytes form other : List ℕ) (marks : List Mark) → scanned_in Body true limit bytes ≡ Open form → IsFront limit bytes marks other → length form ≤ length other

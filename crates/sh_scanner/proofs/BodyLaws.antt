@@ -45,9 +45,16 @@ module _ (limit : ℕ) (bytes : List ℕ) where
   shown : (s : Scanned) → scanned_in Body true limit bytes ≡ s → Shown limit bytes s
   shown s h = subst (Shown limit bytes) h (body_sound limit bytes)
 
+  -- the run stops at the one place where a level too many opens
+  same_place : (r o : List ℕ) → Deep o ≡ Deep r → o ≡ r
+  same_place r o h = cc
+
+  found_deep : (r : List ℕ) → scanned_in Body true limit bytes ≡ Deep r → IsBodyTooDeep limit bytes r
+  found_deep r h = let d = shown (Deep r) h in subst (IsBodyTooDeep limit bytes) (same_place r d.0 (sym (body_deep limit bytes d.0 d.1) ∙ h)) d.1
+
   found : (s : Scanned) → scanned_in Body true limit bytes ≡ s → IsBody limit bytes (of_body bytes s)
   found (Ended k f r) h = shown (Ended k f r) h
-  found (Deep r) h = let d = shown (Deep r) h in let l = deep_length r d in (r, d, omega arith)
+  found (Deep r) h = let d = found_deep r h in let l = deep_length r d in (r, d, omega arith)
   found (Open f) h =
       let g = shown (Open f) h in
       let l = front_length g.marks f g.front in (
@@ -70,7 +77,7 @@ module _ (limit : ℕ) (bytes : List ℕ) where
 
   open_only : (place : ℕ) (rest : List ℕ) (s : Scanned) → scanned_in Body true limit bytes ≡ s → IsBodyOpen limit bytes rest → place + length rest ≡ length bytes → of_body bytes s ≡ OpenAt place
   open_only place rest (Ended k f r) h o w = let g = shown (Ended k f r) h in absurd (some_first rest o.begins (o.furthest k.done [] g))
-  open_only place rest (Deep r) h o w = absurd (o.level r (shown (Deep r) h))
+  open_only place rest (Deep r) h o w = absurd (o.level r (found_deep r h))
   open_only place rest (Open f) h o w =
       let g = shown (Open f) h in
       let a = o.furthest g.marks f g.front in

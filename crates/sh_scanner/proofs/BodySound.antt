@@ -1,28 +1,28 @@
 -- What the machine finds in a body is as the definition has it.
-use Rattle.std.proofs.Common.{◌≡◌, ◌⊎◌, inl, inr, ℕ, zero, suc, ◌<◌, Bool, true, false, ◌&&◌, List, [], ◌∷◌, ◌++◌, length, drop, Some, None, refl, sym, ap, ◌∙◌, subst, arith, cond}
+use Rattle.std.proofs.Common.{◌≡◌, ◌⊎◌, inl, inr, ℕ, zero, suc, ◌<◌, Bool, true, false, ◌&&◌, nat_lt, List, [], ◌∷◌, ◌++◌, length, drop, refl, sym, ap, ◌∙◌, subst, arith, cond}
 use Rattle.std.proofs.lemmas.List.{append-nil}
 use Rattle.sh_scanner_base.specs.declared.character.Character.{Character}
 use Rattle.sh_scanner_base.specs.declared.character.Character.TheVariants.{Plain, Quoted, Raw}
 use Rattle.sh_scanner_base.specs.declared.context.Context.{Context}
 use Rattle.sh_scanner_base.specs.declared.context.Context.TheVariants.{Top, Commands, Word, Quotes, Braces, Arithmetic, Parenthesis, Body}
 use Rattle.sh_scanner_base.specs.declared.mark.Mark.{Mark}
-use Rattle.sh_scanner_base.specs.declared.mark.Mark.TheVariants.{Dollar, Variable, Comment}
+use Rattle.sh_scanner_base.specs.declared.mark.Mark.TheVariants.{Dollar, Variable, WordClose, Comment}
 use Rattle.sh_scanner_base.specs.declared.pending.Pending.{Pending}
-use Rattle.sh_scanner_base.specs.Bytes.{is_form, is_name_byte}
+use Rattle.sh_scanner_base.specs.Bytes.{is_redirection, is_form, is_name_byte}
 use Rattle.sh_scanner_base.specs.Characters.{joins, Reads, InputEnd, ahead, next_is}
 use Rattle.sh_scanner_base.specs.Pendings.{is_raw, is_gap_pending}
-use Rattle.sh_scanner_base.specs.Marks.{is_text, is_body, is_word, top_of, levels, with_token, word_over}
-use Rattle.sh_scanner_base.specs.Told.{OfWord}
+use Rattle.sh_scanner_base.specs.Marks.{fits, exceeds, is_text, is_body, is_word, word_begins, ends_word, same_as, top_of, levels, with_token}
+use Rattle.sh_scanner_base.specs.Told.{Told, OfWord}
 use Rattle.sh_scanner.specs.Tokens.{Joined, OpensLevel, braces, parenthesis, backquote}
 use Rattle.sh_scanner.specs.Body.{IsFront, IsBodyTooDeep}
-use Rattle.sh_scanner.specs.Machine.{State, Stepped, On, Before, After, TooDeep, DollarTooDeep, step, is_top, word_out, operator_out}
-use Rattle.sh_scanner.specs.Run.{Scanned, Ended, Deep, Open, Places, fronted, moved, begins_in, begins_form, is_gap_state, last_token, last_places, word_ended, ended_in, run, start, scanned_in}
+use Rattle.sh_scanner.specs.Machine.{State, Stepped, On, Before, After, TooDeep, DollarTooDeep, WordTooDeep, step, is_top, is_over_full, word_out, operator_out}
+use Rattle.sh_scanner.specs.Run.{Scanned, Ended, Deep, Open, Places, fronted, moved, begins_in, begins_form, begins_word as word_begun, is_gap_state, EndsIn, EndsDeep, EndsNot, last_token, last_places, word_end, word_ended, ended_in, run, start, scanned_in}
 use Rattle.sh_scanner.proofs.Running.{placed, after, begin_of, is_raw_character, character_run}
-use Rattle.sh_scanner.proofs.Tests.{and_true, and_both, and_false, and_left, and_right, not_false, body_alone, text_token}
+use Rattle.sh_scanner.proofs.Tests.{and_true, and_both, and_false, and_left, and_right, not_false, body_alone, text_token, levels_taken}
 use Rattle.sh_scanner.proofs.Grounds.{free, free_contexts, never_text, no_token_over}
 use Rattle.sh_scanner.proofs.Leads.{begun, settled}
 use Rattle.sh_scanner.proofs.Between.{between_no_word, between_no_body}
-use Rattle.sh_scanner.proofs.Paths.{WholeBody, Path, At, Held, Preceded, pending_levels, path_on, DeepHere, Going, no_join_at}
+use Rattle.sh_scanner.proofs.Paths.{WholeBody, Path, At, Held, Preceded, pending_levels, path_on, DeepHere, word_here, Going, no_join_at}
 use Rattle.sh_scanner.proofs.Begun.{step_sound, dollar_mark, name_mark}
 use Rattle.sh_scanner.proofs.Whole.{NextCharacter, got, over, cut, next_character, over_run, end_ahead}
 use Rattle.sh_scanner.proofs.Loose.{is_loose_in, is_loose, Tame, step_tame, IsOpening, DollarTame, dollar_tame}
@@ -93,13 +93,13 @@ module _ (limit : ℕ) (bytes : List ℕ) where
   abbrev BodyAt : State → List ℕ → List ℕ → Type 0
   BodyAt t previous m = At true limit WholeBody bytes t previous m
 
-  deep_shown : (place : List ℕ) → DeepHere true limit WholeBody bytes place → IsBodyTooDeep limit bytes place
-  deep_shown place h = record { marks = h.marks; last = h.last; before = h.before; full = h.full; within = h.within; placed = h.placed; opens = h.opens }
+  deep_shown : (place : List ℕ) → DeepHere true limit WholeBody bytes place → (place : List ℕ) × IsBodyTooDeep limit bytes place
+  deep_shown place h = (place, record { marks = h.marks; last = h.last; before = h.before; placed = h.placed; opens = h.opens })
 
-  -- where the whole run comes to
+  -- where the whole run comes to; where a level too many opens, that it does so somewhere
   abbrev pub Shown : Scanned → Type 0
   Shown (Ended k f r) = IsFront limit bytes k.done []
-  Shown (Deep r) = IsBodyTooDeep limit bytes r
+  Shown (Deep r) = (place : List ℕ) × IsBodyTooDeep limit bytes place
   Shown (Open f) = Begins limit bytes f
 
   -- no form is open, or one may have begun, or it is known where the outermost one begins
@@ -114,19 +114,35 @@ module _ (limit : ℕ) (bytes : List ℕ) where
   body_free : (done : List Mark) (xs : List Context) (mid : List ℕ) → BodyPath done xs mid → free is_text xs ≡ true
   body_free done xs mid p = subst (λ ys. free is_text ys ≡ true) p.contexts (free_contexts is_text never_text p.inner [] (Body ∷ []) refl)
 
-  module _ (form f b : List ℕ) (k : ℕ) (w : b ≡ joins k) where
-    at_end : (done : List Mark) (xs : List Context) (mid : List ℕ) → BodyPath done xs mid → is_body (top_of xs) ≡ true → mid ≡ b → IsFront limit bytes done []
+  module _ (z : Places) (k : ℕ) (w : z.behind ≡ joins k) where
+    at_end : (done : List Mark) (xs : List Context) (mid : List ℕ) → BodyPath done xs mid → is_body (top_of xs) ≡ true → mid ≡ z.behind → IsFront limit bytes done []
     at_end done xs mid p i v = front_at done xs mid [] p i (record { lines = k; is = v ∙ (w ∙ sym (append-nil (joins k))); over = refl })
 
-    word_ended_shown : (x : Context) (xs : List Context) (done : List Mark) (mid : List ℕ) → BodyPath done (x ∷ xs) mid → mid ≡ b → (is_body x ≡ false → Begins limit bytes form)
-        → Shown (last_token (word_ended (settled limit done (x ∷ xs))) f b form)
+    word_ended_shown : (x : Context) (xs : List Context) (done : List Mark) (mid : List ℕ) → BodyPath done (x ∷ xs) mid → mid ≡ z.behind → (is_body x ≡ false → Begins limit bytes z.form)
+        → Shown (last_token (word_ended (settled limit done (x ∷ xs))) z)
     word_ended_shown Top xs done mid p v o = o refl
     word_ended_shown (Commands ts) xs done mid p v o = o refl
-    word_ended_shown (Word n) xs done mid p v o = go (is_top (with_token (OfWord false (drop (suc n) done)) xs)) refl
+    word_ended_shown (Word n) xs done mid p v o = go (is_top (with_token class xs)) refl (word_begins false done (Word n) && is_over_full (word_out false s)) refl
       where
-        go : (c : Bool) → is_top (with_token (OfWord false (drop (suc n) done)) xs) ≡ c → Shown (last_token (cond c (Some (word_out false (settled limit done (Word n ∷ xs)))) None) f b form)
-        go true t = absurd (no_token_over (Word n) xs (body_free done (Word n ∷ xs) mid p) p.inside.order refl (sym (text_token (OfWord false (drop (suc n) done)) xs) ∙ t))
-        go false t = o refl
+        s : State
+        s = settled limit done (Word n ∷ xs)
+
+        class : Told
+        class = OfWord false (drop (suc n) done)
+
+        fits_end : fits true (Word n) (WordClose false) z.behind ≡ true
+        fits_end = subst (λ y. (ends_word y && same_as false (next_is is_redirection y)) ≡ true) (sym (end_ahead k z.behind w)) refl
+
+        deep : is_text (top_of xs) ≡ false → exceeds limit done (Word n) xs (WordClose false) ≡ true → (place : List ℕ) × IsBodyTooDeep limit bytes place
+        deep t u =
+            let h = word_here true limit WholeBody bytes done n xs mid false p t (record { after = z.behind; written = v; fits = fits_end; exceeds = u }) in
+            deep_shown h.place h.here
+
+        go : (c : Bool) → is_top (with_token class xs) ≡ c → (d : Bool) → (word_begins false done (Word n) && is_over_full (word_out false s)) ≡ d
+            → Shown (last_token (cond c (EndsIn (word_out false s)) (cond d EndsDeep EndsNot)) z)
+        go true t d u = absurd (no_token_over (Word n) xs (body_free done (Word n ∷ xs) mid p) p.inside.order refl (sym (text_token class xs) ∙ t))
+        go false t true u = deep (sym (text_token class xs) ∙ t) (ap (λ l. word_begins false done (Word n) && nat_lt limit l) (sym (levels_taken class xs)) ∙ u)
+        go false t false u = o refl
     word_ended_shown Quotes xs done mid p v o = o refl
     word_ended_shown (Braces q) xs done mid p v o = o refl
     word_ended_shown Arithmetic xs done mid p v o = o refl
@@ -137,26 +153,26 @@ module _ (limit : ℕ) (bytes : List ℕ) where
       abbrev ending : Pending → List ℕ → State
       ending q acc = begun limit (x ∷ xs) done (pending_levels q (levels (x ∷ xs))) q acc
 
-      opened : (q : Pending) (acc : List ℕ) → Formed (ending q acc) form b → (is_body x && is_loose_in q) ≡ false → (is_body x && is_dollar q) ≡ false → Begins limit bytes form
+      opened : (q : Pending) (acc : List ℕ) → Formed (ending q acc) z.form z.behind → (is_body x && is_loose_in q) ≡ false → (is_body x && is_dollar q) ≡ false → Begins limit bytes z.form
       opened q acc (inl l) h g = absurd (cc)
-      opened q acc (inr (inl d)) h g = let z = and_both (is_body x) (is_dollar q) d.body d.dollar in absurd (cc)
+      opened q acc (inr (inl d)) h g = let y = and_both (is_body x) (is_dollar q) d.body d.dollar in absurd (cc)
       opened q acc (inr (inr l)) h g = l
 
       -- the end of the input
-      end_shown : (q : Pending) (acc : List ℕ) → Held true limit q (x ∷ xs) acc mid b → ahead true b ≡ InputEnd → Formed (ending q acc) form b → Shown (last_token (ended_in q (ending q acc)) f b form)
+      end_shown : (q : Pending) (acc : List ℕ) → Held true limit q (x ∷ xs) acc mid z.behind → ahead true z.behind ≡ InputEnd → Formed (ending q acc) z.form z.behind → Shown (last_token (ended_in q (ending q acc)) z)
       end_shown Pending.Nothing acc h a o =
-          subst (λ z. Shown (last_token (ended_in Pending.Nothing (begun limit (x ∷ xs) done (levels (x ∷ xs)) Pending.Nothing z)) f b form)) (sym h.0)
-          (subst (λ c. Shown (last_token (cond c (Some (settled limit done (x ∷ xs))) (word_ended (settled limit done (x ∷ xs)))) f b form)) (sym p.inside.inner)
+          subst (λ y. Shown (last_token (ended_in Pending.Nothing (begun limit (x ∷ xs) done (levels (x ∷ xs)) Pending.Nothing y)) z)) (sym h.0)
+          (subst (λ c. Shown (last_token (cond c (EndsIn (settled limit done (x ∷ xs))) (word_ended (settled limit done (x ∷ xs)))) z)) (sym p.inside.inner)
           (word_ended_shown x xs done mid p h.1 (λ i. opened Pending.Nothing acc o (and_left (is_body x) true i) (and_false (is_body x)))))
       end_shown Pending.Dollar acc h a o =
-          word_ended_shown x xs (done ++ Dollar ∷ []) b
-          (path_on true limit WholeBody bytes done x xs Dollar mid b p (dollar_mark true limit WholeBody bytes tt [] x xs done mid b p h.1 (not_false (next_is is_form (ahead true b)) (ap (next_is is_form) a)) h.2) refl)
+          word_ended_shown x xs (done ++ Dollar ∷ []) z.behind
+          (path_on true limit WholeBody bytes done x xs Dollar mid z.behind p (dollar_mark true limit WholeBody bytes tt [] x xs done mid z.behind p h.1 (not_false (next_is is_form (ahead true z.behind)) (ap (next_is is_form) a)) h.2) refl)
           refl (λ i. opened Pending.Dollar acc o (and_false (is_body x)) (and_left (is_body x) true i))
       end_shown Pending.DollarParenthesis acc h a o = opened Pending.DollarParenthesis acc o (and_false (is_body x)) (and_false (is_body x))
       end_shown Pending.Name acc h a o =
-          word_ended_shown x xs (done ++ Variable acc ∷ []) b
-          (path_on true limit WholeBody bytes done x xs (Variable acc) mid b p
-          (name_mark true limit WholeBody bytes tt [] x xs done mid b p acc h.0 h.1 (not_false (next_is is_name_byte (ahead true b)) (ap (next_is is_name_byte) a)) h.2) refl)
+          word_ended_shown x xs (done ++ Variable acc ∷ []) z.behind
+          (path_on true limit WholeBody bytes done x xs (Variable acc) mid z.behind p
+          (name_mark true limit WholeBody bytes tt [] x xs done mid z.behind p acc h.0 h.1 (not_false (next_is is_name_byte (ahead true z.behind)) (ap (next_is is_name_byte) a)) h.2) refl)
           refl (λ i. opened Pending.Name acc o (and_left (is_body x) true i) (and_false (is_body x)))
       end_shown (Pending.Head g) acc h a o = opened (Pending.Head g) acc o (and_false (is_body x)) (and_false (is_body x))
       end_shown Pending.Single acc h a o = opened Pending.Single acc o (and_false (is_body x)) (and_false (is_body x))
@@ -165,13 +181,13 @@ module _ (limit : ℕ) (bytes : List ℕ) where
       end_shown Pending.Parenthesis acc h a o = opened Pending.Parenthesis acc o (and_false (is_body x)) (and_false (is_body x))
       end_shown (Pending.Body l n j) acc h a o = opened (Pending.Body l n j) acc o (and_false (is_body x)) (and_false (is_body x))
       end_shown (Pending.Operator u) acc h a o =
-          subst (λ c. Shown (last_token (cond c (Some (operator_out u (ending (Pending.Operator u) acc))) None) f b form)) (sym p.inside.inner) (opened (Pending.Operator u) acc o (and_false (is_body x)) (and_false (is_body x)))
+          subst (λ c. Shown (last_token (cond c (EndsIn (operator_out u (ending (Pending.Operator u) acc))) EndsNot) z)) (sym p.inside.inner) (opened (Pending.Operator u) acc o (and_false (is_body x)) (and_false (is_body x)))
       end_shown Pending.Comment acc h a o =
           let t = settled limit (done ++ Comment acc ∷ []) (x ∷ xs) in
-          subst (λ c. Shown (last_token (cond c (Some t) (word_ended t)) f b form)) (sym p.inside.inner)
-          (subst (λ c. Shown (last_token (cond c (Some t) (cond (is_word x && is_top (word_over false (done ++ Comment acc ∷ []) (x ∷ xs))) (Some (word_out false t)) None)) f b form)) (sym (between_no_body x h.1))
-          (subst (λ c. Shown (last_token (cond (c && is_top (word_over false (done ++ Comment acc ∷ []) (x ∷ xs))) (Some (word_out false t)) None) f b form)) (sym (between_no_word x h.1))
-          (opened Pending.Comment acc o (and_false (is_body x)) (and_false (is_body x)))))
+          let over_it = word_end (word_begins false (done ++ Comment acc ∷ []) x) (word_out false t) in
+          subst (λ c. Shown (last_token (cond c (EndsIn t) (word_ended t)) z)) (sym p.inside.inner)
+          (subst (λ c. Shown (last_token (cond c (EndsIn t) (cond (is_word x) over_it EndsNot)) z)) (sym (between_no_body x h.1))
+          (subst (λ c. Shown (last_token (cond c over_it EndsNot) z)) (sym (between_no_word x h.1)) (opened Pending.Comment acc o (and_false (is_body x)) (and_false (is_body x)))))
 
   -- where a form may begin with the last character
   form_at : (xs : List Context) (done : List Mark) (q : Pending) (acc mid previous m : List ℕ) → BodyPath done xs mid → Held true limit q xs acc mid m → Preceded q acc previous m → is_body (top_of xs) ≡ true
@@ -218,6 +234,7 @@ module _ (limit : ℕ) (bytes : List ℕ) where
   Onto (After t) form = Unit {0}
   Onto (TooDeep t) form = Unit {0}
   Onto (DollarTooDeep t) form = Unit {0}
+  Onto (WordTooDeep t) form = Unit {0}
 
   onto_tame : (y : Stepped) (form : List ℕ) → Tame y → Onto y form
   onto_tame (On t) form (inl h) = inl h
@@ -226,6 +243,7 @@ module _ (limit : ℕ) (bytes : List ℕ) where
   onto_tame (After t) form h = tt
   onto_tame (TooDeep t) form h = tt
   onto_tame (DollarTooDeep t) form h = tt
+  onto_tame (WordTooDeep t) form h = tt
 
   onto_begun : (y : Stepped) (form : List ℕ) → Begins limit bytes form → Onto y form
   onto_begun (On t) form h = inr (inr h)
@@ -233,6 +251,7 @@ module _ (limit : ℕ) (bytes : List ℕ) where
   onto_begun (After t) form h = tt
   onto_begun (TooDeep t) form h = tt
   onto_begun (DollarTooDeep t) form h = tt
+  onto_begun (WordTooDeep t) form h = tt
 
   -- a form goes on behind its `$`
   opening : (c : Character) (m rest : List ℕ) → Reads true c m rest → IsOpening c → OpensLevel true (36 ∷ m)
@@ -249,6 +268,7 @@ module _ (limit : ℕ) (bytes : List ℕ) where
   onto_dollar (After u) c t form m rest d r h = tt
   onto_dollar (TooDeep u) c t form m rest d r h = tt
   onto_dollar (DollarTooDeep u) c t form m rest d r h = tt
+  onto_dollar (WordTooDeep u) c t form m rest d r h = tt
 
   still_formed : (t : State) (begin form m : List ℕ) → BodyAt t begin m → Onto (On t) form → (c : Bool) → begins_form t ≡ c → Formed t (cond c begin form) m
   still_formed t begin form m a o true h = begins_at t begin m a h
@@ -262,11 +282,12 @@ module _ (limit : ℕ) (bytes : List ℕ) where
 
   onward_shown : (y : Stepped) (p : Places) (begin m rest : List ℕ) → BodyRuns rest → Going true limit WholeBody bytes y p.previous begin m rest → Onto y p.form → Shown (after true y (placed begin p) rest)
   onward_shown (On t) p begin m rest ih g o =
-      ih t (moved (begins_form t) rest (placed begin p)) g.it refl refl (still_formed t begin p.form rest g.it o (begins_form t) refl)
+      ih t (moved (begins_form t) (word_begun t) rest (placed begin p)) g.it refl refl (still_formed t begin p.form rest g.it o (begins_form t) refl)
   onward_shown (Before t) p begin m rest ih g o = absurd g.it
   onward_shown (After t) p begin m rest ih g o = absurd g.it
-  onward_shown (TooDeep t) p begin m rest ih g o = deep_shown begin g.it
+  onward_shown (TooDeep t) p begin m rest ih g o = deep_shown g.it.place g.it.here
   onward_shown (DollarTooDeep t) p begin m rest ih g o = deep_shown p.previous g.it
+  onward_shown (WordTooDeep t) p begin m rest ih g o = deep_shown g.it.place g.it.here
 
   module _ (x : Context) (xs : List Context) (done : List Mark) (mid : List ℕ) (path : BodyPath done (x ∷ xs) mid) (q : Pending) (acc m : List ℕ) (p : Places) (held : Held true limit q (x ∷ xs) acc mid m)
       (preceded : Preceded q acc p.previous m) (n : p.next ≡ m) (b : p.behind ≡ m) where
@@ -289,7 +310,7 @@ module _ (limit : ℕ) (bytes : List ℕ) where
     end_places : (k : ℕ) → m ≡ joins k → Formed s p.form m → Shown (run true false s (placed [] p) [])
     end_places k w o =
         subst (λ z. Shown (last_places s (fronted z (placed [] p)))) (sym no_gap)
-        (end_shown p.form p.front p.behind k (b ∙ w) x xs done mid path q acc (subst (Held true limit q (x ∷ xs) acc mid) (sym b) held) (ap (ahead true) b ∙ end_ahead k m w) (subst (Formed s p.form) (sym b) o))
+        (end_shown (placed [] p) k (b ∙ w) x xs done mid path q acc (subst (Held true limit q (x ∷ xs) acc mid) (sym b) held) (ap (ahead true) b ∙ end_ahead k m w) (subst (Formed s p.form) (sym b) o))
 
     over_shown : (k : ℕ) → m ≡ joins k → (is_raw q ≡ true → m ≡ []) → Formed s p.form m → (c : Bool) → is_raw q ≡ c → Shown (run true false s p m)
     over_shown k w z o false r = subst Shown (sym (over_run true s p k m r w n)) (end_places k w o)
@@ -322,7 +343,7 @@ module _ (limit : ℕ) (bytes : List ℕ) where
         acc = [];
         mid = bytes;
         is = refl;
-        path = record { inner = []; is = refl; walked = refl; going = refl; contexts = refl; inside = record { order = refl; inner = refl } };
+        path = record { inner = []; is = refl; walked = refl; going = refl; contexts = refl; inside = record { order = refl; inner = refl }; opened = tt };
         held = (refl, refl);
         preceded = tt;
       }
@@ -330,4 +351,4 @@ module _ (limit : ℕ) (bytes : List ℕ) where
   -- each scanned body is as the definition has it
   pub body_sound : Shown (scanned_in Body true limit bytes)
   body_sound =
-      body_runs (suc (length bytes)) bytes (omega arith) (start Body limit) (record { front = bytes; previous = bytes; behind = bytes; next = bytes; form = bytes }) first_at refl refl (inl refl)
+      body_runs (suc (length bytes)) bytes (omega arith) (start Body limit) (record { front = bytes; previous = bytes; behind = bytes; next = bytes; form = bytes; word = bytes }) first_at refl refl (inl refl)

@@ -1,5 +1,5 @@
 -- A token of the definition is run to its end, and so is a text in which too many levels open.
-use Rattle.std.proofs.Common.{◌≡◌, ℕ, zero, suc, Bool, true, false, not, nat_eq, List, [], ◌∷◌, ◌++◌, length, drop, Some, refl, sym, ap, ◌∙◌, subst, cond, eqb-true}
+use Rattle.std.proofs.Common.{◌≡◌, ℕ, zero, suc, Bool, true, false, not, nat_eq, List, [], ◌∷◌, ◌++◌, length, drop, refl, sym, ap, ◌∙◌, subst, append_assoc, cond, eqb-true}
 use Rattle.std.specs.List.{list_all}
 use Rattle.sh_scanner_base.specs.declared.character.Character.TheVariants.{Plain}
 use Rattle.sh_scanner_base.specs.declared.operator.Operator.{Operator}
@@ -17,8 +17,8 @@ use Rattle.sh_scanner_base.specs.Marks.{is_gap, IsMark, AreMarks, contexts_behin
 use Rattle.sh_scanner_base.specs.Told.{OfWord}
 use Rattle.sh_scanner.specs.declared.token.TokenKind.{TokenKind}
 use Rattle.sh_scanner.specs.Tokens.{begins_join, Joined, IsToken, ending, operator, word, HasToken}
-use Rattle.sh_scanner.specs.Machine.{State, On, Before, After, step, grow, grow_to, after_word, in_operator, operator_out, word_out}
-use Rattle.sh_scanner.specs.Run.{Ended, Takes, Places, fronted, with_front, moved, last_step, run, scanned}
+use Rattle.sh_scanner.specs.Machine.{State, On, Before, After, step, grow, grow_to, end_word, in_operator, operator_out, word_out}
+use Rattle.sh_scanner.specs.Run.{Ended, EndsIn, Takes, Places, fronted, with_front, moved, last_step, run, scanned}
 use Rattle.sh_scanner.specs.Found.{kind_of}
 use Rattle.sh_scanner.proofs.Running.{placed, after, follow, fed_backslash, fed_byte, fed_quoted, joins_run, character_run, Stops, stops}
 use Rattle.sh_scanner.proofs.Tests.{and_true, not_true, and_left, and_false, text_token}
@@ -91,13 +91,13 @@ module _ (e : Bool) (limit : ℕ) (gap : List Mark) where
       go : (d : Bool) → may_grow o ≡ d → after e (cond d (On (begun limit (Top ∷ []) gap 0 (Pending.Operator o) [])) (After (operator_out o base))) Q w.0 ≡ Ended (operator_out o base) Q.front rest
       go true j =
           stops e false (begun limit (Top ∷ []) gap 0 (Pending.Operator o) []) (operator_out o base) Q.front w.0 w.0 (record { cooked = refl; inside = refl }) w.0
-          (operator_stops o w.0 (subst (λ z. ends_operator o (ahead e z) ≡ true) (sym w.2) h) j) Q.next Q.form
+          (operator_stops o w.0 (subst (λ z. ends_operator o (ahead e z) ≡ true) (sym w.2) h) j) Q.next Q.form Q.word
           ∙ ap (Ended (operator_out o base) Q.front) w.2
       go false j = ap (Ended (operator_out o base) Q.front) w.2
 
   -- the first byte of an operator that goes on
   to_first : (b : ℕ) (p : Operator) (q : Places) (m rest : List ℕ) → First b p → nat_eq b 41 ≡ false → nat_eq b 10 ≡ false → may_grow p ≡ true → Reads e (Plain b) m rest → q.next ≡ m
-      → run e false base q m ≡ run e false (begun limit (Top ∷ []) gap 0 (Pending.Operator p) []) (moved false rest (fronted true (placed (b ∷ rest) q))) rest
+      → run e false base q m ≡ run e false (begun limit (Top ∷ []) gap 0 (Pending.Operator p) []) (moved false false rest (fronted true (placed (b ∷ rest) q))) rest
   to_first b p q m rest f c d g r n =
       character_run e base q (Plain b) m rest refl r n
       ∙ ap (λ x. after e x (fronted true (placed (b ∷ rest) q)) rest) (first_byte limit Top [] gap b p refl f (and_left (nat_eq b 41) false c) (and_left (nat_eq b 10) false d) ∙ growing limit Top [] gap p g)
@@ -111,19 +111,19 @@ module _ (e : Bool) (limit : ℕ) (gap : List Mark) where
   operator_run o q front rest (two_bytes b d p s f y x g l) j n h w =
       let v : Written e (Plain b ∷ Plain d ∷ []) front rest = subst (λ z. Written e (plain z) front rest) s w in
       to_first b p q front v.0 f y x g v.1 n
-      ∙ (top_last o (begun limit (Top ∷ []) gap 0 (Pending.Operator p) []) (moved false v.0 (fronted true (placed (b ∷ v.0) q))) v.0 rest d (next_byte limit Top [] gap p o d l) refl v.2 refl h
+      ∙ (top_last o (begun limit (Top ∷ []) gap 0 (Pending.Operator p) []) (moved false false v.0 (fronted true (placed (b ∷ v.0) q))) v.0 rest d (next_byte limit Top [] gap p o d l) refl v.2 refl h
       ∙ ap (λ z. Ended (operator_out o base) z rest) (sym (no_joins v.1.0 front (b ∷ v.0) j v.1.1)))
   operator_run o q front rest (three_bytes b d a p u s f y x g l i k) j n h w =
       let v : Written e (Plain b ∷ Plain d ∷ Plain a ∷ []) front rest = subst (λ z. Written e (plain z) front rest) s w in
-      let first = moved false v.0 (fronted true (placed (b ∷ v.0) q)) in
+      let first = moved false false v.0 (fronted true (placed (b ∷ v.0) q)) in
       to_first b p q front v.0 f y x g v.1 n
       ∙ (character_run e (begun limit (Top ∷ []) gap 0 (Pending.Operator p) []) first (Plain d) v.0 v.2.0 refl v.2.1 refl
       ∙ (ap (λ x. after e x (placed (d ∷ v.2.0) first) v.2.0) (next_byte limit Top [] gap p u d l ∙ growing limit Top [] gap u i)
-      ∙ (top_last o (begun limit (Top ∷ []) gap 0 (Pending.Operator u) []) (moved false v.2.0 (placed (d ∷ v.2.0) first)) v.2.0 rest a (next_byte limit Top [] gap u o a k) refl v.2.2 refl h
+      ∙ (top_last o (begun limit (Top ∷ []) gap 0 (Pending.Operator u) []) (moved false false v.2.0 (placed (d ∷ v.2.0) first)) v.2.0 rest a (next_byte limit Top [] gap u o a k) refl v.2.2 refl h
       ∙ ap (λ z. Ended (operator_out o base) z rest) (sym (no_joins v.1.0 front (b ∷ v.0) j v.1.1)))))
 
 -- the end of a word of the text itself
-word_stops : (e : Bool) (limit : ℕ) (done : List Mark) (x : Context) (xs : List Context) (r : Bool) (m rest : List ℕ) → IsMark e limit x xs (WordClose r) m rest → is_text (top_of xs) ≡ true
+word_stops : (e : Bool) (limit : ℕ) (done : List Mark) (x : Context) (xs : List Context) (r : Bool) (m rest : List ℕ) → IsMark e limit done x xs (WordClose r) m rest → is_text (top_of xs) ≡ true
     → Stops e false (settled limit done (x ∷ xs)) (word_out r (settled limit done (x ∷ xs))) rest
 word_stops e limit done Top xs r m rest i t = let f = i.fits in absurd (cc)
 word_stops e limit done (Commands ts) xs r m rest i t = let f = i.fits in absurd (cc)
@@ -133,13 +133,13 @@ word_stops e limit done (Word n) xs r m rest i t =
       plains = λ b j.
           let d = sym (ap ends_word j) ∙ p.0 in
           let q = same_is r (is_redirection b) (sym (ap (λ z. same_as r (next_is is_redirection z)) j) ∙ p.1) in
-          closing_word limit n xs done b d ∙ (ap (λ z. after_word (word_out z (settled limit done (Word n ∷ xs))) b) (sym q) ∙ stopped b r);
+          closing_word limit n xs done b d ∙ (ap (λ z. end_word z (settled limit done (Word n ∷ xs)) b) (sym q) ∙ stopped b r);
       quoteds = λ b j. let z = sym (ap ends_word j) ∙ p.0 in absurd (cc);
-      ends = λ j. let q = same_is r false (sym (ap (λ z. same_as r (next_is is_redirection z)) j) ∙ p.1) in rw (text_token (OfWord false (drop (suc n) done)) xs ∙ t) (ap (λ z. Some (word_out z (settled limit done (Word n ∷ xs)))) (sym q));
+      ends = λ j. let q = same_is r false (sym (ap (λ z. same_as r (next_is is_redirection z)) j) ∙ p.1) in rw (text_token (OfWord false (drop (suc n) done)) xs ∙ t) (ap (λ z. EndsIn (word_out z (settled limit done (Word n ∷ xs)))) (sym q));
       known = λ j. let z = sym (ap ends_word j) ∙ p.0 in absurd (cc);
     }
   where
-    stopped : (b : ℕ) (r : Bool) → after_word (word_out r (settled limit done (Word n ∷ xs))) b ≡ Before (word_out r (settled limit done (Word n ∷ xs)))
+    stopped : (b : ℕ) (r : Bool) → end_word r (settled limit done (Word n ∷ xs)) b ≡ Before (word_out r (settled limit done (Word n ∷ xs)))
     stopped b r = rw (text_token (OfWord r (drop (suc n) done)) xs ∙ t) refl
 word_stops e limit done Quotes xs r m rest i t = let f = i.fits in absurd (cc)
 word_stops e limit done (Braces q) xs r m rest i t = let f = i.fits in absurd (cc)
@@ -163,7 +163,7 @@ pub record Runs (e : Bool) (limit : ℕ) (bytes front rest : List ℕ) (kind : T
   pub kind_is : kind_of state.done ≡ kind
 
 abbrev first_places : List ℕ → Places
-first_places bytes = record { front = bytes; previous = bytes; behind = bytes; next = bytes; form = bytes }
+first_places bytes = record { front = bytes; previous = bytes; behind = bytes; next = bytes; form = bytes; word = bytes }
 
 -- the run behind what lies before the token
 pub record Reached (e : Bool) (limit : ℕ) (bytes : List ℕ) (gap : List Mark) (front : List ℕ) : Type 0 where
@@ -238,7 +238,7 @@ complete_token e limit bytes front rest kind gap h r j (word ms c x xs middle a 
           ∙ (ap (λ ys. run e false (settled limit d ys) w.places middle) k
           ∙ (ap (λ z. run e false s w.places z) i.written
           ∙ (stops e false s (word_out c s) w.places.front w.places.behind w.places.next (record { cooked = refl; inside = word_inside x (and_true (is_word x) _ i.fits).0 }) rest
-          (word_stops e limit d x xs c middle rest i t) w.places.previous w.places.form
+          (word_stops e limit d x xs c middle rest (subst (λ z. IsMark e limit z x xs (WordClose c) middle rest) (sym (append_assoc gap (WordOpen ∷ []) ms)) i) t) w.places.previous w.places.form w.places.word
           ∙ ended_at (word_out c s) w.places.front front w.places.behind rest w.front_is (w.behind ∙ i.written))));
       kind_is = word_kind_of gap ms c h;
     }

@@ -16,7 +16,7 @@ use Rattle.sh_scanner.proofs.Tests.{and_true, and_both}
 use Rattle.sh_scanner.proofs.Leads.{settled, Leads, stay, joined}
 use Rattle.sh_scanner.proofs.Between.{blank_leads, comment_leads}
 
-gap_mark : (e : Bool) (limit : ℕ) (done : List Mark) (m : Mark) (bytes after : List ℕ) → is_gap m ≡ true → IsMark e limit Top [] m bytes after
+gap_mark : (e : Bool) (limit : ℕ) (done : List Mark) (m : Mark) (bytes after : List ℕ) → is_gap m ≡ true → IsMark e limit done Top [] m bytes after
     → Leads false e (settled limit done (Top ∷ [])) bytes (settled limit (done ++ m ∷ []) (Top ∷ [])) after × (behind done Top [] m ≡ Top ∷ [])
 gap_mark e limit done (Byte b) bytes after h i = absurd (cc)
 gap_mark e limit done (Escaped b) bytes after h i = absurd (cc)
@@ -68,7 +68,7 @@ position_behind (m ∷ gap) ms i h =
     let l : (i + 1) + length gap ≡ i + suc (length gap) = omega arith in
     rw (gap_no_token m p.0) (r ∙ ap Some l)
 
-behind_open : (gap ms : List Mark) → drop (suc (length gap)) (gap ++ WordOpen ∷ ms) ≡ ms
+pub behind_open : (gap ms : List Mark) → drop (suc (length gap)) (gap ++ WordOpen ∷ ms) ≡ ms
 behind_open [] ms = refl
 behind_open (m ∷ gap) ms = behind_open gap ms
 

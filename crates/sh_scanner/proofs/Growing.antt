@@ -7,6 +7,8 @@ use Rattle.sh_scanner_base.specs.declared.operator.Operator.TheVariants.{And, Se
 use Rattle.sh_scanner_base.specs.Operators.{operator_text}
 use Rattle.sh_scanner_base.specs.Growth.{grown, may_grow}
 use Rattle.sh_scanner_base.specs.Marks.{is_right_parenthesis, is_newline}
+use Rattle.sh_scanner_base.specs.Told.{class_of_operator}
+use Rattle.sh_token_base.specs.Levels.{begins_compound}
 
 -- operators
 chosen : (b c : ℕ) (q p : Operator) (x : Bool) → nat_eq b c ≡ x → cond x (Some q) None ≡ Some p → (b ≡ c) × (q ≡ p)
@@ -90,6 +92,26 @@ growing_no_newline GreatAnd h = absurd (cc)
 growing_no_newline LessGreat h = absurd (cc)
 growing_no_newline DoubleLessDash h = absurd (cc)
 growing_no_newline Clobber h = absurd (cc)
+
+pub growing_begins_none : (o : Operator) → may_grow o ≡ true → begins_compound (class_of_operator o) ≡ false
+growing_begins_none And h = refl
+growing_begins_none Semicolon h = refl
+growing_begins_none Pipe h = refl
+growing_begins_none Less h = refl
+growing_begins_none Great h = refl
+growing_begins_none LeftParenthesis h = absurd (cc)
+growing_begins_none RightParenthesis h = absurd (cc)
+growing_begins_none Newline h = absurd (cc)
+growing_begins_none AndIf h = absurd (cc)
+growing_begins_none OrIf h = absurd (cc)
+growing_begins_none DoubleSemicolon h = absurd (cc)
+growing_begins_none DoubleLess h = refl
+growing_begins_none DoubleGreat h = absurd (cc)
+growing_begins_none LessAnd h = absurd (cc)
+growing_begins_none GreatAnd h = absurd (cc)
+growing_begins_none LessGreat h = absurd (cc)
+growing_begins_none DoubleLessDash h = absurd (cc)
+growing_begins_none Clobber h = absurd (cc)
 
 -- an operator with a byte more is none of one byte
 longer : (o : Operator) (b c : ℕ) → may_grow o ≡ true → bytes_eq (operator_text o ++ b ∷ []) (c ∷ []) ≡ false

@@ -105,7 +105,7 @@ still_inside e done x xs (Comment bs) after n t f h = t
 still_inside e done x xs (Bodies bs) after n t f h = text_token OfBodies (x ∷ xs) ∙ t
 still_inside e done x xs (Mark.Operator o) after n t f h = h
 
-close_mark : (e : Bool) (limit : ℕ) (done : List Mark) (x : Context) (xs : List Context) (r : Bool) (bytes after : List ℕ) → nested (x ∷ xs) ≡ true → IsMark e limit x xs (WordClose r) bytes after
+close_mark : (e : Bool) (limit : ℕ) (done : List Mark) (x : Context) (xs : List Context) (r : Bool) (bytes after : List ℕ) → nested (x ∷ xs) ≡ true → IsMark e limit done x xs (WordClose r) bytes after
     → ends_token (WordClose r) (behind done x xs (WordClose r)) ≡ false → Leads true e (settled limit done (x ∷ xs)) bytes (settled limit (done ++ WordClose r ∷ []) (behind done x xs (WordClose r))) after
 close_mark e limit done Top xs r bytes after n i h = let f = i.fits in absurd (cc)
 close_mark e limit done (Commands ts) xs r bytes after n i h = let f = i.fits in absurd (cc)
@@ -113,14 +113,14 @@ close_mark e limit done (Word k) xs r bytes after n i h =
     let p = and_true (ends_word (ahead e after)) (same_as r (next_is is_redirection (ahead e after))) i.fits in
     let c = OfWord r (drop (suc k) done) in
     subst (λ z. Leads true e (settled limit done (Word k ∷ xs)) z (settled limit (done ++ WordClose r ∷ []) (with_token c xs)) after) (sym i.written)
-    (word_over_leads true e limit k xs done r after (below_word k xs n) (sym (text_token c xs) ∙ h) p.0 p.1)
+    (word_over_leads true e limit k xs done r after i.compound (below_word k xs n) (sym (text_token c xs) ∙ h) p.0 p.1)
 close_mark e limit done Quotes xs r bytes after n i h = let f = i.fits in absurd (cc)
 close_mark e limit done (Braces q) xs r bytes after n i h = let f = i.fits in absurd (cc)
 close_mark e limit done Arithmetic xs r bytes after n i h = let f = i.fits in absurd (cc)
 close_mark e limit done Parenthesis xs r bytes after n i h = let f = i.fits in absurd (cc)
 close_mark e limit done Body xs r bytes after n i h = let f = i.fits in absurd (cc)
 
-pub inner_mark : (e : Bool) (limit : ℕ) (done : List Mark) (x : Context) (xs : List Context) (m : Mark) (bytes after : List ℕ) → nested (x ∷ xs) ≡ true → is_text x ≡ false → IsMark e limit x xs m bytes after
+pub inner_mark : (e : Bool) (limit : ℕ) (done : List Mark) (x : Context) (xs : List Context) (m : Mark) (bytes after : List ℕ) → nested (x ∷ xs) ≡ true → is_text x ≡ false → IsMark e limit done x xs m bytes after
     → ends_token m (behind done x xs m) ≡ false → Leads true e (settled limit done (x ∷ xs)) bytes (settled limit (done ++ m ∷ []) (behind done x xs m)) after
 inner_mark e limit done x xs (Byte b) bytes after n t i h = byte_leads true e limit x xs done b bytes after i.fits i.written
 inner_mark e limit done x xs (Escaped b) bytes after n t i h = escaped_leads true e limit x xs done b bytes after i.fits i.written
@@ -164,14 +164,14 @@ inner_mark e limit done x xs (Bodies bs) bytes after n t i h =
 inner_mark e limit done x xs (Mark.Operator o) bytes after n t i h =
     let p = and_true (between_tokens x) (ends_operator o (ahead e after) && not (is_more o x)) i.fits in
     let q = and_true (ends_operator o (ahead e after)) (not (is_more o x)) p.1 in
-    operator_leads true e limit x xs done o bytes after t p.0 q.0 (not_true (is_more o x) q.1) i.written
+    operator_leads true e limit x xs done o bytes after i.compound t p.0 q.0 (not_true (is_more o x) q.1) i.written
 
 -- where such pieces lead
 pub record Inside (xs : List Context) : Type 0 where
   pub order : nested xs ≡ true
   pub inner : is_text (top_of xs) ≡ false
 
-pub inside_behind : (e : Bool) (limit : ℕ) (done : List Mark) (x : Context) (xs : List Context) (m : Mark) (bytes after : List ℕ) → Inside (x ∷ xs) → IsMark e limit x xs m bytes after
+pub inside_behind : (e : Bool) (limit : ℕ) (done : List Mark) (x : Context) (xs : List Context) (m : Mark) (bytes after : List ℕ) → Inside (x ∷ xs) → IsMark e limit done x xs m bytes after
     → ends_token m (behind done x xs m) ≡ false → Inside (behind done x xs m)
 inside_behind e limit done x xs m bytes after i f h =
     record { order = nested_behind e done x xs m after i.order f.fits; inner = still_inside e done x xs m after i.order i.inner f.fits h }

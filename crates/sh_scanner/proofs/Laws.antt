@@ -86,6 +86,13 @@ module _ (e : Bool) (limit : ℕ) (bytes : List ℕ) where
   no_depth : (o : List ℕ) → scanned e limit bytes ≡ Open o → (rest : List ℕ) → IsTooDeep e limit bytes rest → ⊥
   no_depth o h rest u = deep_not_open rest o (sym (deep e limit bytes rest u) ∙ h)
 
+  -- the run stops at the one place where a level too many opens
+  same_place : (r o : List ℕ) → Deep o ≡ Deep r → o ≡ r
+  same_place r o h = cc
+
+  found_deep : (r : List ℕ) → scanned e limit bytes ≡ Deep r → IsTooDeep e limit bytes r
+  found_deep r h = let t = found (Deep r) h in subst (IsTooDeep e limit bytes) (same_place r t.0 (sym (deep e limit bytes t.0 t.1) ∙ h)) t.1
+
   scanned_first : (s : Scanned) → scanned e limit bytes ≡ s → IsFirst e limit bytes (token_of bytes s)
   scanned_first (Ended k f r) h =
       let t = found (Ended k f r) h in
@@ -94,7 +101,7 @@ module _ (e : Bool) (limit : ℕ) (bytes : List ℕ) where
       let stop = o.stop in
       (f, (r, t, omega arith, omega arith))
   scanned_first (Deep r) h =
-      let t = found (Deep r) h in
+      let t = found_deep r h in
       let o = deep_ordered e limit bytes r t in
       (r, t, omega arith)
   scanned_first (Open o) h = (no_token o h, no_depth o h)
@@ -123,7 +130,7 @@ module _ (e : Bool) (limit : ℕ) (bytes : List ℕ) where
   open_only : (s : Scanned) → scanned e limit bytes ≡ s → ((front rest : List ℕ) (kind : TokenKind) → HasToken e limit bytes front rest kind → ⊥) → ((rest : List ℕ) → IsTooDeep e limit bytes rest → ⊥)
       → token_of bytes s ≡ Unfinished
   open_only (Ended k f r) h none level = absurd (none f r (kind_of k.done) (found (Ended k f r) h))
-  open_only (Deep r) h none level = absurd (level r (found (Deep r) h))
+  open_only (Deep r) h none level = absurd (level r (found_deep r h))
   open_only (Open o) h none level = refl
 
   pub first_only : (answer : FirstToken) → IsFirst e limit bytes answer → first_token e limit bytes ≡ answer

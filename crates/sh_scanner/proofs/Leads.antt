@@ -13,7 +13,7 @@ use Rattle.sh_scanner_base.specs.Pendings.{is_raw, is_gap_pending}
 use Rattle.sh_scanner_base.specs.Marks.{levels, is_text, top_of, is_backquoted}
 use Rattle.sh_scanner_base.specs.Heads.{grown_head, head_from}
 use Rattle.sh_scanner.specs.Machine.{State, On, step, headed, in_head, in_backquotes}
-use Rattle.sh_scanner.specs.Run.{is_gap_state, begins_form, Places, fronted, with_front, moved, run}
+use Rattle.sh_scanner.specs.Run.{is_gap_state, begins_form, begins_word, Places, fronted, with_front, moved, run}
 use Rattle.sh_scanner.proofs.Running.{placed, after, begin_of, is_raw_character, character_run, Alike, Cooked, alike}
 use Rattle.sh_scanner.proofs.Tests.{and_true, not_true}
 
@@ -54,7 +54,7 @@ module _ (k e : Bool) where
   goes s t m rest c g r h w p x y =
       let q = with_front s (placed (begin_of c rest) p) in
       record {
-        places = moved (begins_form t) rest q;
+        places = moved (begins_form t) (begins_word t) rest q;
         next = refl;
         behind = refl;
         front = λ i. ap (λ z. (fronted z (placed (begin_of c rest) p)).front) (g i);

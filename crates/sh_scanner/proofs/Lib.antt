@@ -10,6 +10,7 @@ pub mod Inner
 pub mod Gaps
 pub mod Complete
 pub mod Deep
+pub mod WordStarts
 pub mod Paths
 pub mod Sound
 pub mod Steps

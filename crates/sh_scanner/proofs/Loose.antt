@@ -1,5 +1,5 @@
 -- What the machine keeps of where the forms of a body begin.
-use Rattle.std.proofs.Common.{◌≡◌, ◌⊎◌, inl, inr, ℕ, suc, ◌≤◌, Bool, true, false, ◌&&◌, nat_eq, nat_lt, List, [], ◌∷◌, ◌++◌, length, Option, Some, None, refl, sym, ap, subst, arith, cond}
+use Rattle.std.proofs.Common.{◌≡◌, ◌⊎◌, inl, inr, ℕ, suc, ◌≤◌, Bool, true, false, ◌&&◌, nat_eq, nat_lt, List, [], ◌∷◌, ◌++◌, length, refl, sym, ap, subst, arith, cond}
 use Rattle.sh_scanner_base.specs.declared.character.Character.{Character}
 use Rattle.sh_scanner_base.specs.declared.character.Character.TheVariants.{Plain, Quoted, Raw}
 use Rattle.sh_scanner_base.specs.declared.context.Context.{Context}
@@ -11,8 +11,8 @@ use Rattle.sh_scanner_base.specs.declared.head.Head.{Head}
 use Rattle.sh_scanner_base.specs.Bytes.{is_name_start, is_name_byte, is_short_parameter}
 use Rattle.sh_scanner_base.specs.Pendings.{is_raw}
 use Rattle.sh_scanner_base.specs.Marks.{is_body, top_of}
-use Rattle.sh_scanner.specs.Machine.{State, Stepped, On, Before, After, TooDeep, DollarTooDeep, step, plain_byte, quoted_byte, word_byte, inner_byte, in_name, after_dollar, at_dollar, opens, pend, same}
-use Rattle.sh_scanner.specs.Run.{Fed, Waits, Takes, fed, Open, Places, is_gap_state, begins_form, ended_in, last_token, fronted, with_front, moved, waited, last_places, last_step, last, run}
+use Rattle.sh_scanner.specs.Machine.{State, Stepped, On, Before, After, TooDeep, DollarTooDeep, WordTooDeep, step, plain_byte, quoted_byte, word_byte, inner_byte, in_name, after_dollar, at_dollar, opens, pend, same}
+use Rattle.sh_scanner.specs.Run.{Fed, Waits, Takes, fed, Open, Places, is_gap_state, begins_form, begins_word as word_begun, Ending, EndsIn, EndsDeep, EndsNot, ended_in, last_token, fronted, with_front, moved, waited, last_places, last_step, last, run}
 use Rattle.sh_scanner.proofs.Running.{follow, is_raw_character}
 use Rattle.sh_scanner.proofs.Tests.{and_false}
 use Rattle.sh_scanner.proofs.Leads.{begun}
@@ -42,6 +42,7 @@ Tame (Before t) = Unit {0}
 Tame (After t) = Unit {0}
 Tame (TooDeep t) = Unit {0}
 Tame (DollarTooDeep t) = Unit {0}
+Tame (WordTooDeep t) = Unit {0}
 
 tame_if : (c : Bool) (x y : Stepped) → Tame x → Tame y → Tame (cond c x y)
 tame_if true x y h g = h
@@ -110,6 +111,7 @@ DollarTame c (Before t) = Unit {0}
 DollarTame c (After t) = Unit {0}
 DollarTame c (TooDeep t) = Unit {0}
 DollarTame c (DollarTooDeep t) = Unit {0}
+DollarTame c (WordTooDeep t) = Unit {0}
 
 dollar_if : (c : Character) (d : Bool) (x y : Stepped) → (d ≡ true → DollarTame c x) → (d ≡ false → DollarTame c y) → DollarTame c (cond d x y)
 dollar_if c true x y h g = h refl
@@ -122,6 +124,7 @@ dollar_of c (Before t) h = tt
 dollar_of c (After t) h = tt
 dollar_of c (TooDeep t) h = tt
 dollar_of c (DollarTooDeep t) h = tt
+dollar_of c (WordTooDeep t) h = tt
 
 pub dollar_tame : (limit : ℕ) (xs : List Context) (done : List Mark) (lv : ℕ) (acc : List ℕ) (c : Character) → is_raw_character c ≡ false → DollarTame c (step (begun limit (Body ∷ xs) done lv Pending.Dollar acc) c)
 unfolding after_dollar
@@ -168,27 +171,29 @@ module _ (size : ℕ) (f : List ℕ) where
   front_form true p h = h
   front_form false p h = h
 
-  moved_form : (c : Bool) (after : List ℕ) (p : Places) → length p.next ≤ size → (c ≡ false → length p.form ≤ size) → length (moved c after p).form ≤ size
-  moved_form true after p h g = h
-  moved_form false after p h g = g refl
+  moved_form : (c d : Bool) (after : List ℕ) (p : Places) → length p.next ≤ size → (c ≡ false → length p.form ≤ size) → length (moved c d after p).form ≤ size
+  moved_form true d after p h g = h
+  moved_form false d after p h g = g refl
 
   ended_form : (s : State) (p : Places) → length p.form ≤ size → last_places s p ≡ Open f → length f ≤ size
   ended_form s p h w = go (ended_in s.pending s) w
     where
-      go : (x : Option State) → last_token x p.front p.behind p.form ≡ Open f → length f ≤ size
-      go None w = omega (arith, ap length (open_is p.form f w), h)
-      go (Some t) w = absurd (cc)
+      go : (x : Ending) → last_token x p ≡ Open f → length f ≤ size
+      go EndsNot w = omega (arith, ap length (open_is p.form f w), h)
+      go EndsDeep w = absurd (cc)
+      go (EndsIn t) w = absurd (cc)
 
   last_form : (h : Bool) (s : State) (p : Places) → length p.next ≤ size → length p.form ≤ size → last h s p ≡ Open f → length f ≤ size
   last_form false s p n g w = ended_form s p g w
   last_form true s p n g w = go (step s (Plain 92)) w
     where
       go : (x : Stepped) → last_step x p ≡ Open f → length f ≤ size
-      go (On t) w = ended_form t (with_front t (moved (begins_form t) [] p)) (front_form (is_gap_state t) (moved (begins_form t) [] p) (moved_form (begins_form t) [] p n (λ z. g))) w
+      go (On t) w = ended_form t (with_front t (moved (begins_form t) (word_begun t) [] p)) (front_form (is_gap_state t) (moved (begins_form t) (word_begun t) [] p) (moved_form (begins_form t) (word_begun t) [] p n (λ z. g))) w
       go (Before t) w = absurd (cc)
       go (After t) w = absurd (cc)
       go (TooDeep t) w = absurd (cc)
       go (DollarTooDeep t) w = absurd (cc)
+      go (WordTooDeep t) w = absurd (cc)
 
   abbrev Bounded : Bool → List ℕ → Type 0
   Bounded e m = (h : Bool) (s : State) (p : Places) → length p.next ≤ size → length p.form ≤ size → run e h s p m ≡ Open f → length f ≤ size
@@ -196,11 +201,12 @@ module _ (size : ℕ) (f : List ℕ) where
   follow_form : (e : Bool) (x : Fed) (q : Places) (bs : List ℕ) → length bs ≤ size → Bounded e bs → length q.next ≤ size → length q.form ≤ size → follow e x q bs ≡ Open f → length f ≤ size
   follow_form e (Waits true t) q bs l ih n g w = ih true t q n g w
   follow_form e (Waits false t) q bs l ih n g w = ih false t (waited false bs q) l g w
-  follow_form e (Takes (On t)) q bs l ih n g w = ih false t (moved (begins_form t) bs q) l (moved_form (begins_form t) bs q n (λ z. g)) w
+  follow_form e (Takes (On t)) q bs l ih n g w = ih false t (moved (begins_form t) (word_begun t) bs q) l (moved_form (begins_form t) (word_begun t) bs q n (λ z. g)) w
   follow_form e (Takes (Before t)) q bs l ih n g w = absurd (cc)
   follow_form e (Takes (After t)) q bs l ih n g w = absurd (cc)
   follow_form e (Takes (TooDeep t)) q bs l ih n g w = absurd (cc)
   follow_form e (Takes (DollarTooDeep t)) q bs l ih n g w = absurd (cc)
+  follow_form e (Takes (WordTooDeep t)) q bs l ih n g w = absurd (cc)
 
   run_form : (e : Bool) (m : List ℕ) → length m ≤ size → Bounded e m
   run_form true [] l h s p n g w = last_form h s (with_front s p) (front_next (is_gap_state s) p n) (front_form (is_gap_state s) p g) w
@@ -237,21 +243,22 @@ module _ (size : ℕ) (f : List ℕ) where
   loose_ends : (s : State) (p : Places) → is_loose s ≡ true → last_places s p ≡ Open f → ⊥
   loose_ends s p h w = ends_in s.limit s.contexts s.done s.levels s.pending s.bytes p h w
 
-  begun_form : (c : Bool) (after : List ℕ) (p : Places) → c ≡ true → length p.next ≤ size → length (moved c after p).form ≤ size
-  begun_form true after p h n = n
-  begun_form false after p h n = absurd (cc)
+  begun_form : (c d : Bool) (after : List ℕ) (p : Places) → c ≡ true → length p.next ≤ size → length (moved c d after p).form ≤ size
+  begun_form true d after p h n = n
+  begun_form false d after p h n = absurd (cc)
 
   loose_last : (h : Bool) (s : State) (p : Places) → is_loose s ≡ true → length p.next ≤ size → last h s p ≡ Open f → length f ≤ size
   loose_last false s p l n w = absurd (loose_ends s p l w)
   loose_last true s p l n w = go (step s (Plain 92)) (step_tame s (Plain 92) l) w
     where
       go : (x : Stepped) → Tame x → last_step x p ≡ Open f → length f ≤ size
-      go (On t) (inl i) w = absurd (loose_ends t (with_front t (moved (begins_form t) [] p)) i w)
-      go (On t) (inr i) w = ended_form t (with_front t (moved (begins_form t) [] p)) (front_form (is_gap_state t) (moved (begins_form t) [] p) (begun_form (begins_form t) [] p i n)) w
+      go (On t) (inl i) w = absurd (loose_ends t (with_front t (moved (begins_form t) (word_begun t) [] p)) i w)
+      go (On t) (inr i) w = ended_form t (with_front t (moved (begins_form t) (word_begun t) [] p)) (front_form (is_gap_state t) (moved (begins_form t) (word_begun t) [] p) (begun_form (begins_form t) (word_begun t) [] p i n)) w
       go (Before t) i w = absurd (cc)
       go (After t) i w = absurd (cc)
       go (TooDeep t) i w = absurd (cc)
       go (DollarTooDeep t) i w = absurd (cc)
+      go (WordTooDeep t) i w = absurd (cc)
 
   abbrev LooseBounded : List ℕ → Type 0
   LooseBounded m = (h : Bool) (s : State) (p : Places) → is_loose s ≡ true → length p.next ≤ size → run true h s p m ≡ Open f → length f ≤ size
@@ -259,12 +266,13 @@ module _ (size : ℕ) (f : List ℕ) where
   loose_follow : (x : Fed) (q : Places) (bs : List ℕ) → FedTame x → length bs ≤ size → LooseBounded bs → length q.next ≤ size → follow true x q bs ≡ Open f → length f ≤ size
   loose_follow (Waits true t) q bs i l ih n w = ih true t q i n w
   loose_follow (Waits false t) q bs i l ih n w = ih false t (waited false bs q) i l w
-  loose_follow (Takes (On t)) q bs (inl i) l ih n w = ih false t (moved (begins_form t) bs q) i l w
-  loose_follow (Takes (On t)) q bs (inr i) l ih n w = run_form true bs l false t (moved (begins_form t) bs q) l (begun_form (begins_form t) bs q i n) w
+  loose_follow (Takes (On t)) q bs (inl i) l ih n w = ih false t (moved (begins_form t) (word_begun t) bs q) i l w
+  loose_follow (Takes (On t)) q bs (inr i) l ih n w = run_form true bs l false t (moved (begins_form t) (word_begun t) bs q) l (begun_form (begins_form t) (word_begun t) bs q i n) w
   loose_follow (Takes (Before t)) q bs i l ih n w = absurd (cc)
   loose_follow (Takes (After t)) q bs i l ih n w = absurd (cc)
   loose_follow (Takes (TooDeep t)) q bs i l ih n w = absurd (cc)
   loose_follow (Takes (DollarTooDeep t)) q bs i l ih n w = absurd (cc)
+  loose_follow (Takes (WordTooDeep t)) q bs i l ih n w = absurd (cc)
 
   -- where no form has begun, the last one begins further on
   pub loose_run : (m : List ℕ) → length m ≤ size → LooseBounded m

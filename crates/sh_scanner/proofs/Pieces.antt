@@ -16,11 +16,11 @@ use Rattle.sh_scanner_base.specs.Characters.{Reads, Written, plain, raw, Ahead, 
 use Rattle.sh_scanner_base.specs.Pendings.{is_raw}
 use Rattle.sh_scanner_base.specs.Heads.{head_of, grown_head, is_some_head, grows_head, reads_bare}
 use Rattle.sh_scanner_base.specs.Nested.{none_yet}
-use Rattle.sh_scanner_base.specs.Marks.{stands, quotes, in_word, is_text, is_body, is_word, is_quotes, is_braces, is_arithmetic, has_single_quotes, has_double_quotes, is_quoted, is_backquoted, is_head, braces_of, parenthesized, levels}
+use Rattle.sh_scanner_base.specs.Marks.{stands, quotes, in_word, is_text, is_body, is_word, is_quotes, is_braces, is_arithmetic, has_single_quotes, has_double_quotes, is_quoted, is_backquoted, is_head, braces_of, parenthesized, levels, compounds_in}
 use Rattle.sh_scanner.specs.Machine.{State, On, step, opens, inner_byte, word_byte, plain_byte, form_byte, after_dollar, after_parenthesis, in_name, headed, in_head, in_single, in_backquotes, at_parenthesis, same}
 use Rattle.sh_scanner.specs.Run.{is_gap_state}
 use Rattle.sh_scanner.proofs.Running.{is_raw_character, Alike}
-use Rattle.sh_scanner.proofs.Tests.{and_true, not_true, or_false, stands_in_word, word_no_text, single_in_word, double_in_word, quotes_left, braces_left, arithmetic_left}
+use Rattle.sh_scanner.proofs.Tests.{and_true, not_true, or_false, stands_in_word, word_no_text, single_in_word, double_in_word, quotes_left, braces_left, arithmetic_left, levels_opened}
 use Rattle.sh_scanner.proofs.Leads.{begun, kept, settled, Leads, stay, joined, goes, same_ahead, raw_keeps, plain_keeps, head_keeps, back_keeps}
 use Rattle.sh_scanner.proofs.Bytes.{Stood, stood, byte_stood, inner_on, inner_parenthesis, levels_parenthesized, escaped_in, backslash_in, single_opens, double_opens, double_closes, brace_closes, dollar_in}
 
@@ -49,12 +49,15 @@ written_split e (c ∷ cs) ds m rest h = let s = written_split e cs ds h.0 rest 
 pub before : (n : ℕ) → suc n - 1 ≡ n
 before n = omega arith
 
-pub brace_level : (x : Context) (xs : List Context) → is_braces x ≡ true → levels (x ∷ xs) - 1 ≡ levels xs
+level_left : (n : ℕ) → (suc n - 0) - 1 ≡ n
+level_left n = omega arith
+
+pub brace_level : (x : Context) (xs : List Context) → is_braces x ≡ true → (levels (x ∷ xs) - compounds_in x) - 1 ≡ levels xs
 brace_level Top xs h = absurd (cc)
 brace_level (Commands ts) xs h = absurd (cc)
 brace_level (Word n) xs h = absurd (cc)
 brace_level Quotes xs h = absurd (cc)
-brace_level (Braces q) xs h = before (levels xs)
+brace_level (Braces q) xs h = level_left (levels xs)
 brace_level Arithmetic xs h = absurd (cc)
 brace_level Parenthesis xs h = absurd (cc)
 brace_level Body xs h = absurd (cc)
@@ -81,13 +84,13 @@ arithmetic_closes limit Arithmetic xs done lv h = refl
 arithmetic_closes limit Parenthesis xs done lv h = absurd (cc)
 arithmetic_closes limit Body xs done lv h = absurd (cc)
 
-pub arithmetic_level : (x : Context) (xs : List Context) → is_arithmetic x ≡ true → levels (x ∷ xs) - 1 ≡ levels xs
+pub arithmetic_level : (x : Context) (xs : List Context) → is_arithmetic x ≡ true → (levels (x ∷ xs) - compounds_in x) - 1 ≡ levels xs
 arithmetic_level Top xs h = absurd (cc)
 arithmetic_level (Commands ts) xs h = absurd (cc)
 arithmetic_level (Word n) xs h = absurd (cc)
 arithmetic_level Quotes xs h = absurd (cc)
 arithmetic_level (Braces q) xs h = absurd (cc)
-arithmetic_level Arithmetic xs h = before (levels xs)
+arithmetic_level Arithmetic xs h = level_left (levels xs)
 arithmetic_level Parenthesis xs h = absurd (cc)
 arithmetic_level Body xs h = absurd (cc)
 
@@ -332,7 +335,7 @@ module _ (k e : Bool) (limit : ℕ) (x : Context) (xs : List Context) (done : Li
   pub brace_leads : (m rest : List ℕ) → is_braces x ≡ true → Written e (Plain 125 ∷ []) m rest → Leads k e at_start m (settled limit (done ++ BraceClose ∷ []) xs) rest
   brace_leads m rest h w =
       subst (λ l. Leads k e at_start m (kept limit xs (done ++ BraceClose ∷ []) l) rest) (brace_level x xs h)
-      (one k e at_start (kept limit xs (done ++ BraceClose ∷ []) (lv - 1)) m rest (Plain 125) (λ t. braces_left x h) refl w (brace_closes limit x xs done lv h))
+      (one k e at_start (kept limit xs (done ++ BraceClose ∷ []) ((lv - compounds_in x) - 1)) m rest (Plain 125) (λ t. braces_left x h) refl w (brace_closes limit x xs done lv h))
 
   -- behind a `$`
   abbrev dollar : State
@@ -453,15 +456,19 @@ module _ (k e : Bool) (limit : ℕ) (x : Context) (xs : List Context) (done : Li
       takes : step (begun limit (x ∷ xs) done (suc lv) Pending.DollarParenthesis []) (Plain 40) ≡ On (settled limit (done ++ ArithmeticOpen ∷ []) (Arithmetic ∷ x ∷ xs))
       takes = refl
 
+  abbrev in_commands : State
+  in_commands = kept limit (Commands none_yet ∷ x ∷ xs) (done ++ CommandsOpen ∷ []) (suc lv)
+
   pub commands_leads : (m rest : List ℕ) → in_word x ≡ true → nat_lt lv limit ≡ true → next_is (λ b. nat_eq b 40) (ahead e rest) ≡ false → Written e (Plain 36 ∷ Plain 40 ∷ []) m rest
       → Leads k e at_start m (settled limit (done ++ CommandsOpen ∷ []) (Commands none_yet ∷ x ∷ xs)) rest
   unfolding after_parenthesis
   commands_leads m rest h l f w =
-      joined k e at_start (begun limit (x ∷ xs) done (suc lv) Pending.DollarParenthesis []) (settled limit (done ++ CommandsOpen ∷ []) (Commands none_yet ∷ x ∷ xs)) m rest rest
+      subst (λ n. Leads k e at_start m (kept limit (Commands none_yet ∷ x ∷ xs) (done ++ CommandsOpen ∷ []) n) rest) (sym (levels_opened lv))
+      (joined k e at_start (begun limit (x ∷ xs) done (suc lv) Pending.DollarParenthesis []) in_commands m rest rest
       (to_parenthesis m rest h l w)
-      (same_ahead k e (begun limit (x ∷ xs) done (suc lv) Pending.DollarParenthesis []) (settled limit (done ++ CommandsOpen ∷ []) (Commands none_yet ∷ x ∷ xs)) rest (record { left = refl; right = refl; gap = refl }) alike_parenthesis)
+      (same_ahead k e (begun limit (x ∷ xs) done (suc lv) Pending.DollarParenthesis []) in_commands rest (record { left = refl; right = refl; gap = refl }) alike_parenthesis))
     where
-      alike_parenthesis : Alike e false (begun limit (x ∷ xs) done (suc lv) Pending.DollarParenthesis []) (settled limit (done ++ CommandsOpen ∷ []) (Commands none_yet ∷ x ∷ xs)) rest
+      alike_parenthesis : Alike e false (begun limit (x ∷ xs) done (suc lv) Pending.DollarParenthesis []) in_commands rest
       alike_parenthesis =
           record {
             plains = λ b j. let z = fails (λ b. nat_eq b 40) (ahead e rest) b f j in rw z refl;
@@ -473,11 +480,11 @@ module _ (k e : Bool) (limit : ℕ) (x : Context) (xs : List Context) (done : Li
   unfolding at_parenthesis
   arithmetic_over m rest h w =
       subst (λ l. Leads k e at_start m (kept limit xs (done ++ ArithmeticClose ∷ []) l) rest) (arithmetic_level x xs h)
-      (joined k e at_start (begun limit (x ∷ xs) done lv Pending.Parenthesis []) (kept limit xs (done ++ ArithmeticClose ∷ []) (lv - 1)) m w.0 rest
+      (joined k e at_start (begun limit (x ∷ xs) done lv Pending.Parenthesis []) (kept limit xs (done ++ ArithmeticClose ∷ []) ((lv - compounds_in x) - 1)) m w.0 rest
       (goes k e at_start (begun limit (x ∷ xs) done lv Pending.Parenthesis []) m w.0 (Plain 41) (λ t. arithmetic_left x h) refl w.1 (arithmetic_closes limit x xs done lv h))
-      (one k e (begun limit (x ∷ xs) done lv Pending.Parenthesis []) (kept limit xs (done ++ ArithmeticClose ∷ []) (lv - 1)) w.0 rest (Plain 41) (λ t. refl) refl w.2 takes))
+      (one k e (begun limit (x ∷ xs) done lv Pending.Parenthesis []) (kept limit xs (done ++ ArithmeticClose ∷ []) ((lv - compounds_in x) - 1)) w.0 rest (Plain 41) (λ t. refl) refl w.2 takes))
     where
-      takes : step (begun limit (x ∷ xs) done lv Pending.Parenthesis []) (Plain 41) ≡ On (kept limit xs (done ++ ArithmeticClose ∷ []) (lv - 1))
+      takes : step (begun limit (x ∷ xs) done lv Pending.Parenthesis []) (Plain 41) ≡ On (kept limit xs (done ++ ArithmeticClose ∷ []) ((lv - compounds_in x) - 1))
       takes = refl
 
   -- backquotes

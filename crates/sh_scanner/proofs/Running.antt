@@ -1,27 +1,28 @@
 -- How the machine runs over characters.
-use Rattle.std.proofs.Common.{◌≡◌, ◌⊎◌, inl, inr, ℕ, suc, zero, Bool, true, false, nat_eq, List, [], ◌∷◌, ◌++◌, Some, refl, sym, ap, ◌∙◌, subst, eqb-true}
+use Rattle.std.proofs.Common.{◌≡◌, ◌⊎◌, inl, inr, ℕ, suc, zero, Bool, true, false, nat_eq, List, [], ◌∷◌, ◌++◌, refl, sym, ap, ◌∙◌, subst, eqb-true}
 use Rattle.sh_scanner_base.specs.declared.character.Character.{Character}
 use Rattle.sh_scanner_base.specs.declared.character.Character.TheVariants.{Plain, Quoted, Raw}
 use Rattle.sh_scanner_base.specs.Characters.{joins, Reads, Next, InputEnd, Unknown, ahead_behind}
 use Rattle.sh_scanner_base.specs.Pendings.{is_raw}
-use Rattle.sh_scanner.specs.Machine.{State, Stepped, On, Before, After, TooDeep, DollarTooDeep, step}
-use Rattle.sh_scanner.specs.Run.{Fed, Waits, Takes, fed, Scanned, Ended, Deep, Open, is_gap_state, begins_form, ended_in, last_token, Places, fronted, with_front, moved, waited, last_places, last_step, last, on, run}
+use Rattle.sh_scanner.specs.Machine.{State, Stepped, On, Before, After, TooDeep, DollarTooDeep, WordTooDeep, step}
+use Rattle.sh_scanner.specs.Run.{Fed, Waits, Takes, fed, Scanned, Ended, Deep, Open, EndsIn, is_gap_state, begins_form, begins_word, ended_in, last_token, Places, fronted, with_front, moved, waited, last_places, last_step, last, on, run}
 
 abbrev pub placed : List ℕ → Places → Places
-placed z p = record { front = p.front; previous = p.previous; behind = p.behind; next = z; form = p.form }
+placed z p = record { front = p.front; previous = p.previous; behind = p.behind; next = z; form = p.form; word = p.word }
 
 -- the run goes on after a character
 abbrev pub after : Bool → Stepped → Places → List ℕ → Scanned
-after e (On t) q rest = run e false t (moved (begins_form t) rest q) rest
+after e (On t) q rest = run e false t (moved (begins_form t) (begins_word t) rest q) rest
 after e (Before t) q rest = Ended t q.front q.behind
 after e (After t) q rest = Ended t q.front rest
 after e (TooDeep t) q rest = Deep q.next
 after e (DollarTooDeep t) q rest = Deep q.previous
+after e (WordTooDeep t) q rest = Deep q.word
 
 -- and after a byte
 abbrev pub follow : Bool → Fed → Places → List ℕ → Scanned
 follow e x q bs =
-    on x (λ held t. run e held t (waited held bs q) bs) (λ t. run e false t (moved (begins_form t) bs q) bs) (λ t. Ended t q.front q.behind) (λ t. Ended t q.front bs) (Deep q.next) (Deep q.previous)
+    on x (λ held t. run e held t (waited held bs q) bs) (λ t. run e false t (moved (begins_form t) (begins_word t) bs q) bs) (λ t. Ended t q.front q.behind) (λ t. Ended t q.front bs) (Deep q.next) (Deep q.previous) (Deep q.word)
 
 pub follow_taken : (e : Bool) (x : Stepped) (q : Places) (bs : List ℕ) → follow e (Takes x) q bs ≡ after e x q bs
 follow_taken e (On t) q bs = refl
@@ -29,6 +30,7 @@ follow_taken e (Before t) q bs = refl
 follow_taken e (After t) q bs = refl
 follow_taken e (TooDeep t) q bs = refl
 follow_taken e (DollarTooDeep t) q bs = refl
+follow_taken e (WordTooDeep t) q bs = refl
 
 -- where the front is
 fronted_placed : (c : Bool) (z : List ℕ) (p : Places) → fronted c (placed z (fronted c p)) ≡ fronted c (placed z p)
@@ -110,6 +112,7 @@ plain_run e s p b rest r (inr h) =
     over (After t) q = refl
     over (TooDeep t) q = refl
     over (DollarTooDeep t) q = refl
+    over (WordTooDeep t) q = refl
 
     whole : run true false s p (92 ∷ []) ≡ after true (step s (Plain 92)) (with_front s p) []
     whole =
@@ -181,7 +184,7 @@ alike_byte e t s p k b bs a ih false g =
 
 pub alike : (e h : Bool) (t s : State) (p : Places) → Cooked t s → (ys : List ℕ) → Alike e h t s ys → RunAlike e h t s p ys
 alike true false t s p k [] a =
-    ap (λ q. last_places t q) (front_alike t s p k) ∙ ap (λ x. last_token x (with_front s p).front (with_front s p).behind (with_front s p).form) (a.ends refl)
+    ap (λ q. last_places t q) (front_alike t s p k) ∙ ap (λ x. last_token x (with_front s p)) (a.ends refl)
 alike true true t s p k [] a = ap (λ q. last_step (step t (Plain 92)) q) (front_alike t s p k) ∙ ap (λ x. last_step x (with_front s p)) (a.plains 92 refl)
 alike false false t s p k [] a = refl
 alike false true t s p k [] a = refl
@@ -192,7 +195,7 @@ alike e true t s p k (b ∷ bs) a = alike_held e t s p k b bs a (λ q z. alike e
 pub record Stops (e h : Bool) (t k : State) (ys : List ℕ) : Type 0 where
   pub plains : (b : ℕ) → ahead_behind e h ys ≡ Next (Plain b) → step t (Plain b) ≡ Before k
   pub quoteds : (b : ℕ) → ahead_behind e h ys ≡ Next (Quoted b) → step t (Quoted b) ≡ Before k
-  pub ends : ahead_behind e h ys ≡ InputEnd → ended_in t.pending t ≡ Some k
+  pub ends : ahead_behind e h ys ≡ InputEnd → ended_in t.pending t ≡ EndsIn k
   pub known : ahead_behind e h ys ≡ Unknown → ⊥
 
 pub record InToken (t : State) : Type 0 where
@@ -200,47 +203,47 @@ pub record InToken (t : State) : Type 0 where
   pub inside : is_gap_state t ≡ false
 
 abbrev StopsAt : (e h : Bool) (t k : State) (f m z ys : List ℕ) → Type 0
-StopsAt e h t k f m z ys = (pr fo : List ℕ) → run e h t (record { front = f; previous = pr; behind = m; next = z; form = fo }) ys ≡ Ended k f m
+StopsAt e h t k f m z ys = (pr fo wo : List ℕ) → run e h t (record { front = f; previous = pr; behind = m; next = z; form = fo; word = wo }) ys ≡ Ended k f m
 
 inside_front : (t : State) (p : Places) → InToken t → with_front t p ≡ p
 inside_front t p i = ap (λ c. fronted c p) i.inside
 
 stops_held : (e : Bool) (t k : State) (f m z : List ℕ) → InToken t → (b : ℕ) (bs : List ℕ) → Stops e true t k (b ∷ bs)
     → ((z : List ℕ) → Stops e false t k bs → StopsAt e false t k f m z bs) → (c : Bool) → nat_eq b 10 ≡ c → StopsAt e true t k f m z (b ∷ bs)
-stops_held e t k f m z i b bs a ih true g pr fo =
+stops_held e t k f m z i b bs a ih true g pr fo wo =
     let y = eqb-true b 10 g in
     let w = ap (λ b. ahead_behind e true (b ∷ bs)) y in
-    let p : Places = record { front = f; previous = pr; behind = m; next = z; form = fo } in
-    let r = ih bs (record { plains = λ c k. a.plains c (w ∙ k); quoteds = λ c k. a.quoteds c (w ∙ k); ends = λ k. a.ends (w ∙ k); known = λ k. a.known (w ∙ k) }) pr fo in
+    let p : Places = record { front = f; previous = pr; behind = m; next = z; form = fo; word = wo } in
+    let r = ih bs (record { plains = λ c k. a.plains c (w ∙ k); quoteds = λ c k. a.quoteds c (w ∙ k); ends = λ k. a.ends (w ∙ k); known = λ k. a.known (w ∙ k) }) pr fo wo in
     subst (λ b. run e true t p (b ∷ bs) ≡ Ended k f m) (sym y)
     (ap (λ x. follow e x (with_front t p) bs) (fed_join t) ∙ (ap (λ q. run e false t (waited false bs q) bs) (inside_front t p i) ∙ r))
-stops_held e t k f m z i b bs a ih false g pr fo =
-    let p : Places = record { front = f; previous = pr; behind = m; next = z; form = fo } in
+stops_held e t k f m z i b bs a ih false g pr fo wo =
+    let p : Places = record { front = f; previous = pr; behind = m; next = z; form = fo; word = wo } in
     ap (λ x. follow e x (with_front t p) bs) (fed_quoted t b g)
     ∙ (ap (λ q. follow e (Takes (step t (Quoted b))) q bs) (inside_front t p i) ∙ ap (λ x. follow e (Takes x) p bs) (a.quoteds b (rw g refl)))
 
 stops_byte : (e : Bool) (t k : State) (f m z : List ℕ) → InToken t → (b : ℕ) (bs : List ℕ) → Stops e false t k (b ∷ bs)
     → ((z : List ℕ) → Stops e true t k bs → StopsAt e true t k f m z bs) → (c : Bool) → nat_eq b 92 ≡ c → StopsAt e false t k f m z (b ∷ bs)
-stops_byte e t k f m z i b bs a ih true g pr fo =
+stops_byte e t k f m z i b bs a ih true g pr fo wo =
     let y = eqb-true b 92 g in
     let w = ap (λ b. ahead_behind e false (b ∷ bs)) y in
-    let p : Places = record { front = f; previous = pr; behind = m; next = z; form = fo } in
-    let r = ih z (record { plains = λ c k. a.plains c (w ∙ k); quoteds = λ c k. a.quoteds c (w ∙ k); ends = λ k. a.ends (w ∙ k); known = λ k. a.known (w ∙ k) }) pr fo in
+    let p : Places = record { front = f; previous = pr; behind = m; next = z; form = fo; word = wo } in
+    let r = ih z (record { plains = λ c k. a.plains c (w ∙ k); quoteds = λ c k. a.quoteds c (w ∙ k); ends = λ k. a.ends (w ∙ k); known = λ k. a.known (w ∙ k) }) pr fo wo in
     subst (λ b. run e false t p (b ∷ bs) ≡ Ended k f m) (sym y)
     (ap (λ x. follow e x (with_front t p) bs) (fed_backslash t i.cooked) ∙ (ap (λ q. run e true t q bs) (inside_front t p i) ∙ r))
-stops_byte e t k f m z i b bs a ih false g pr fo =
-    let p : Places = record { front = f; previous = pr; behind = m; next = z; form = fo } in
+stops_byte e t k f m z i b bs a ih false g pr fo wo =
+    let p : Places = record { front = f; previous = pr; behind = m; next = z; form = fo; word = wo } in
     ap (λ x. follow e x (with_front t p) bs) (fed_byte t b i.cooked g)
     ∙ (ap (λ q. follow e (Takes (step t (Plain b))) q bs) (inside_front t p i) ∙ ap (λ x. follow e (Takes x) p bs) (a.plains b (rw g refl)))
 
 pub stops : (e h : Bool) (t k : State) (f m z : List ℕ) → InToken t → (ys : List ℕ) → Stops e h t k ys → StopsAt e h t k f m z ys
-stops true false t k f m z i [] a pr fo =
-    let p : Places = record { front = f; previous = pr; behind = m; next = z; form = fo } in
-    ap (λ q. last_places t q) (inside_front t p i) ∙ ap (λ x. last_token x f m fo) (a.ends refl)
-stops true true t k f m z i [] a pr fo =
-    let p : Places = record { front = f; previous = pr; behind = m; next = z; form = fo } in
+stops true false t k f m z i [] a pr fo wo =
+    let p : Places = record { front = f; previous = pr; behind = m; next = z; form = fo; word = wo } in
+    ap (λ q. last_places t q) (inside_front t p i) ∙ ap (λ x. last_token x p) (a.ends refl)
+stops true true t k f m z i [] a pr fo wo =
+    let p : Places = record { front = f; previous = pr; behind = m; next = z; form = fo; word = wo } in
     ap (λ q. last_step (step t (Plain 92)) q) (inside_front t p i) ∙ ap (λ x. last_step x p) (a.plains 92 refl)
-stops false false t k f m z i [] a pr fo = absurd (a.known refl)
-stops false true t k f m z i [] a pr fo = absurd (a.known refl)
-stops e false t k f m z i (b ∷ bs) a pr fo = stops_byte e t k f m z i b bs a (λ z r. stops e true t k f m z i bs r) (nat_eq b 92) refl pr fo
-stops e true t k f m z i (b ∷ bs) a pr fo = stops_held e t k f m z i b bs a (λ z r. stops e false t k f m z i bs r) (nat_eq b 10) refl pr fo
+stops false false t k f m z i [] a pr fo wo = absurd (a.known refl)
+stops false true t k f m z i [] a pr fo wo = absurd (a.known refl)
+stops e false t k f m z i (b ∷ bs) a pr fo wo = stops_byte e t k f m z i b bs a (λ z r. stops e true t k f m z i bs r) (nat_eq b 92) refl pr fo wo
+stops e true t k f m z i (b ∷ bs) a pr fo wo = stops_held e t k f m z i b bs a (λ z r. stops e false t k f m z i bs r) (nat_eq b 10) refl pr fo wo

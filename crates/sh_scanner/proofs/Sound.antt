@@ -1,5 +1,5 @@
 -- What a byte makes of a word is as the definition has it.
-use Rattle.std.proofs.Common.{◌≡◌, ◌⊎◌, inl, inr, ℕ, zero, suc, Bool, true, false, ◌||◌, ◌&&◌, not, nat_eq, nat_lt, List, [], ◌∷◌, ◌++◌, refl, sym, ap, ◌∙◌, subst, cond, eqb-true}
+use Rattle.std.proofs.Common.{◌≡◌, ◌⊎◌, inl, inr, ℕ, suc, Bool, true, false, ◌||◌, ◌&&◌, not, nat_eq, nat_lt, List, [], ◌∷◌, ◌++◌, refl, sym, ap, ◌∙◌, subst, cond, eqb-true}
 use Rattle.std.specs.Str.{bytes_eq}
 use Rattle.sh_scanner_base.specs.declared.character.Character.{Character}
 use Rattle.sh_scanner_base.specs.declared.character.Character.TheVariants.{Plain, Quoted, Raw}
@@ -11,24 +11,22 @@ use Rattle.sh_scanner_base.specs.declared.mark.Mark.{Mark}
 use Rattle.sh_scanner_base.specs.declared.mark.Mark.TheVariants.{Byte, Escaped, Backslash, DoubleQuotesOpen, DoubleQuotesClose, BraceClose}
 use Rattle.sh_scanner_base.specs.declared.pending.Pending.{Pending}
 use Rattle.sh_scanner_base.specs.Bytes.{is_operator_byte, is_end}
-use Rattle.sh_scanner_base.specs.Characters.{joins, Reads, Written, plain, Ahead, Next, InputEnd, Unknown, ahead}
+use Rattle.sh_scanner_base.specs.Characters.{Reads, Written, plain, Ahead, Next, InputEnd, Unknown, ahead}
 use Rattle.sh_scanner_base.specs.Operators.{operator_text}
 use Rattle.sh_scanner_base.specs.Growth.{grown, may_grow, operator_of}
-use Rattle.sh_scanner_base.specs.Marks.{stands, quotes, IsMark, behind, ends_token, in_word, is_text, between_tokens, is_word, is_quotes, is_braces, is_arithmetic, has_single_quotes, has_double_quotes, parenthesized, levels, is_some, ends_operator, is_right_parenthesis, with_token, is_newline, is_more}
-use Rattle.sh_scanner_base.specs.Told.{OfOperator}
+use Rattle.sh_scanner_base.specs.Marks.{stands, quotes, fits, exceeds, IsMark, behind, ends_token, in_word, is_text, between_tokens, is_word, is_quotes, is_braces, is_arithmetic, has_single_quotes, has_double_quotes, parenthesized, levels, is_some, ends_operator, is_right_parenthesis, with_token, is_newline, is_more}
+use Rattle.sh_scanner_base.specs.Told.{OfOperator, class_of_operator}
+use Rattle.sh_token_base.specs.Levels.{begins_compound}
 use Rattle.sh_scanner.specs.Tokens.{Joined, OpensLevel, backquote}
-use Rattle.sh_scanner.specs.Machine.{State, On, After, over, grow, opens, inner_byte, word_byte, escape, operator_out, same, into, out, out_level}
-use Rattle.sh_scanner.proofs.Tests.{and_true, and_both, not_false, text_token, levels_token}
+use Rattle.sh_scanner.specs.Machine.{State, On, After, TooDeep, is_over_full, over, grow, opens, inner_byte, word_byte, escape, operator_out, same, into, out, out_level}
+use Rattle.sh_scanner.proofs.Tests.{and_true, and_both, not_false, text_token, levels_taken}
 use Rattle.sh_scanner.proofs.Leads.{begun, kept, settled}
 use Rattle.sh_scanner.proofs.Bytes.{inner_on, inner_parenthesis, levels_parenthesized}
 use Rattle.sh_scanner.proofs.Pieces.{quotes_level, brace_level}
-use Rattle.sh_scanner.proofs.Paths.{Subject, IsBlank, Path, path_on, deep_here, Going, either, settled_at, no_join_at, pending_levels, Held, Preceded}
+use Rattle.sh_scanner.proofs.WordStarts.{ahead_joins, begins_by, parenthesis_from}
+use Rattle.sh_scanner.proofs.Paths.{Subject, IsBlank, Path, path_on, DeepSome, deep_here, operator_here, Going, either, settled_at, no_join_at, pending_levels, Held, Preceded}
 
 -- what comes next
-pub ahead_joins : (e : Bool) (n : ℕ) (ys : List ℕ) → ahead e (joins n ++ ys) ≡ ahead e ys
-ahead_joins e zero ys = refl
-ahead_joins e (suc n) ys = ahead_joins e n ys
-
 ahead_byte : (e : Bool) (b : ℕ) (rest : List ℕ) → (nat_eq b 92 ≡ false) ⊎ ((b ≡ 92) × (e ≡ true) × (rest ≡ [])) → ahead e (b ∷ rest) ≡ Next (Plain b)
 ahead_byte e b rest (inl h) = rw h refl
 ahead_byte e b rest (inr h) = subst (λ b. ahead e (b ∷ rest) ≡ Next (Plain b)) (sym h.0) (subst (λ e. ahead e (92 ∷ rest) ≡ Next (Plain 92)) (sym h.1) (subst (λ r. ahead true (92 ∷ r) ≡ Next (Plain 92)) (sym h.2) refl))
@@ -121,7 +119,7 @@ whole_operator o Unknown h = not_false (may_grow o) h
 
 module _ (e : Bool) (limit : ℕ) (subject : Subject) (front : List ℕ) (blank : IsBlank subject) (previous : List ℕ) where
   -- a piece is over, with nothing begun behind it
-  pub ends_piece : (x : Context) (xs : List Context) (done : List Mark) (m : Mark) (mid rest begin start : List ℕ) (t : State) → Path e limit subject front done (x ∷ xs) mid → IsMark e limit x xs m mid rest
+  pub ends_piece : (x : Context) (xs : List Context) (done : List Mark) (m : Mark) (mid rest begin start : List ℕ) (t : State) → Path e limit subject front done (x ∷ xs) mid → IsMark e limit done x xs m mid rest
       → ends_token m (behind done x xs m) ≡ false → t ≡ settled limit (done ++ m ∷ []) (behind done x xs m) → Going e limit subject front (On t) previous begin start rest
   ends_piece x xs done m mid rest begin start t p i h w =
       settled_at e limit subject front t (done ++ m ∷ []) (behind done x xs m) previous begin start rest w (path_on e limit subject front done x xs m mid rest p i h)
@@ -136,7 +134,7 @@ module _ (e : Bool) (limit : ℕ) (subject : Subject) (front : List ℕ) (blank 
       → (nat_lt (levels (x ∷ xs)) limit ≡ true → Going e limit subject front (On (begun limit (x ∷ xs) done (suc (levels (x ∷ xs))) q [])) previous place start rest) → Joined mid place → OpensLevel e place
       → Going e limit subject front (opens q (settled limit done (x ∷ xs))) previous place start rest
   opens_piece x xs done q acc mid start rest place p w f j o =
-      either e limit subject front (nat_lt (levels (x ∷ xs)) limit) _ _ previous place start rest f (λ h. record { it = deep_here e limit subject front done (x ∷ xs) mid place p h w j o })
+      either e limit subject front (nat_lt (levels (x ∷ xs)) limit) _ _ previous place start rest f (λ h. record { it = record { place = place; here = deep_here e limit subject front done (x ∷ xs) mid place p h w j o } })
 
   module _ (x : Context) (xs : List Context) (done : List Mark) (mid : List ℕ) (p : Path e limit subject front done (x ∷ xs) mid) where
     abbrev s : State
@@ -146,7 +144,7 @@ module _ (e : Bool) (limit : ℕ) (subject : Subject) (front : List ℕ) (blank 
     byte_sound b rest r i h =
         subst (λ z. Going e limit subject front z previous (b ∷ rest) mid rest) (sym (inner_on limit x xs done (levels (x ∷ xs)) b h))
         (ends_piece x xs done (Byte b) mid rest (b ∷ rest) mid (kept limit (parenthesized b x xs) (done ++ Byte b ∷ []) (levels (x ∷ xs))) p
-        (record { written = one_of e (Plain b) mid rest r; fits = i; level = refl }) refl
+        (record { written = one_of e (Plain b) mid rest r; fits = i; level = refl; compound = refl }) refl
         (ap (kept limit (parenthesized b x xs) (done ++ Byte b ∷ [])) (sym (levels_parenthesized limit x xs done (levels (x ∷ xs)) b))))
 
     inner_sound : (b : ℕ) (rest : List ℕ) → Reads e (Plain b) mid rest → ((nat_eq b 41 && is_arithmetic x) ≡ false → stands x b (ahead e rest) ≡ true) → Going e limit subject front (inner_byte x s b) previous (b ∷ rest) mid rest
@@ -168,16 +166,16 @@ module _ (e : Bool) (limit : ℕ) (subject : Subject) (front : List ℕ) (blank 
         (λ h39. either e limit subject front (nat_eq b 34 && has_double_quotes x) _ _ previous (b ∷ rest) mid rest
         (λ h. let t = and_true (nat_eq b 34) (has_double_quotes x) h in
         ends_piece x xs done DoubleQuotesOpen mid rest (b ∷ rest) mid (into Quotes DoubleQuotesOpen s) p
-        (record { written = one_of e (Plain 34) mid rest (plain_at e b 34 mid rest t.0 r); fits = t.1; level = refl }) refl refl)
+        (record { written = one_of e (Plain 34) mid rest (plain_at e b 34 mid rest t.0 r); fits = t.1; level = refl; compound = refl }) refl refl)
         (λ h34. either e limit subject front (nat_eq b 34 && is_quotes x) _ _ previous (b ∷ rest) mid rest
         (λ h. let t = and_true (nat_eq b 34) (is_quotes x) h in
         ends_piece x xs done DoubleQuotesClose mid rest (b ∷ rest) mid (out DoubleQuotesClose s) p
-        (record { written = one_of e (Plain 34) mid rest (plain_at e b 34 mid rest t.0 r); fits = t.1; level = refl }) refl
+        (record { written = one_of e (Plain 34) mid rest (plain_at e b 34 mid rest t.0 r); fits = t.1; level = refl; compound = refl }) refl
         (ap (kept limit xs (done ++ DoubleQuotesClose ∷ [])) (quotes_level x xs t.1)))
         (λ hq. either e limit subject front (nat_eq b 125 && is_braces x) _ _ previous (b ∷ rest) mid rest
         (λ h. let t = and_true (nat_eq b 125) (is_braces x) h in
         ends_piece x xs done BraceClose mid rest (b ∷ rest) mid (out_level BraceClose s) p
-        (record { written = one_of e (Plain 125) mid rest (plain_at e b 125 mid rest t.0 r); fits = t.1; level = refl }) refl
+        (record { written = one_of e (Plain 125) mid rest (plain_at e b 125 mid rest t.0 r); fits = t.1; level = refl; compound = refl }) refl
         (ap (kept limit xs (done ++ BraceClose ∷ [])) (brace_level x xs t.1)))
         (λ h125. either e limit subject front (nat_eq b 36) _ _ previous (b ∷ rest) mid rest
         (λ h. begins_piece (x ∷ xs) done Pending.Dollar [] mid (b ∷ rest) mid rest p (refl, w, one_of e (Plain 36) mid rest (plain_at e b 36 mid rest h r)) (ap (λ z. z ∷ rest) (eqb-true b 36 h)))
@@ -196,24 +194,41 @@ module _ (e : Bool) (limit : ℕ) (subject : Subject) (front : List ℕ) (blank 
       where
         go : (c : Bool) → quotes x b ≡ c → Going e limit subject front (On (same (cond c (Escaped b) (Backslash b)) s)) previous (92 ∷ b ∷ rest) mid rest
         go true h =
-            ends_piece x xs done (Escaped b) mid rest (92 ∷ b ∷ rest) mid (same (Escaped b) s) p (record { written = one_of e (Quoted b) mid rest r; fits = h; level = refl }) refl refl
+            ends_piece x xs done (Escaped b) mid rest (92 ∷ b ∷ rest) mid (same (Escaped b) s) p (record { written = one_of e (Quoted b) mid rest r; fits = h; level = refl; compound = refl }) refl refl
         go false h =
             ends_piece x xs done (Backslash b) mid rest (92 ∷ b ∷ rest) mid (same (Backslash b) s) p
-            (record { written = one_of e (Quoted b) mid rest r; fits = and_both (in_word x) (not (quotes x b)) w (not_false (quotes x b) h); level = refl }) refl refl
+            (record { written = one_of e (Quoted b) mid rest r; fits = and_both (in_word x) (not (quotes x b)) w (not_false (quotes x b) h); level = refl; compound = refl }) refl refl
 
     -- an operator, in a substitution
+    operator_fits : (o : Operator) (rest : List ℕ) → between_tokens x ≡ true → may_grow o ≡ false → is_more o x ≡ false → fits e x (Mark.Operator o) rest ≡ true
+    operator_fits o rest b g c =
+        and_both (between_tokens x) (ends_operator o (ahead e rest) && not (is_more o x)) b
+        (and_both (ends_operator o (ahead e rest)) (not (is_more o x)) (whole_operator o (ahead e rest) g) (not_false (is_more o x) c))
+
+    -- whether it opens a level too many
+    abbrev too_many : Operator → Bool
+    too_many o = begins_compound (class_of_operator o) && is_over_full (operator_out o s)
+
+    too_many_is : (o : Operator) → exceeds limit done x xs (Mark.Operator o) ≡ too_many o
+    too_many_is o = ap (λ l. begins_compound (class_of_operator o) && nat_lt limit l) (sym (levels_taken (OfOperator o) (x ∷ xs)))
+
+    operator_deep : (o : Operator) (rest : List ℕ) → between_tokens x ≡ true → may_grow o ≡ false → is_more o x ≡ false → Written e (plain (operator_text o)) mid rest → too_many o ≡ true → DeepSome e limit subject front
+    operator_deep o rest b g c w h =
+        let f = parenthesis_from e o mid rest (begins_by o (and_true (begins_compound (class_of_operator o)) (is_over_full (operator_out o s)) h).0) w in
+        record {
+          place = f.place;
+          here = operator_here e limit subject front done x xs mid f.place o p f.joined (record { after = rest; written = f.written; fits = operator_fits o rest b g c; exceeds = too_many_is o ∙ h });
+        }
+
     pub operator_over : (o : Operator) (rest begin start : List ℕ) → is_text x ≡ false → between_tokens x ≡ true → may_grow o ≡ false → is_more o x ≡ false → Written e (plain (operator_text o)) mid rest
-        → Going e limit subject front (over After (operator_out o s)) previous begin start rest
+        → Going e limit subject front (over o (operator_out o s)) previous begin start rest
     operator_over o rest begin start t b g c w =
-        subst (λ z. Going e limit subject front (cond z (After (operator_out o s)) (On (operator_out o s))) previous begin start rest) (sym (text_token (OfOperator o) (x ∷ xs) ∙ t))
-        (ends_piece x xs done (Mark.Operator o) mid rest begin start (operator_out o s) p
-        (record {
-          written = w;
-          fits = and_both (between_tokens x) (ends_operator o (ahead e rest) && not (is_more o x)) b
-              (and_both (ends_operator o (ahead e rest)) (not (is_more o x)) (whole_operator o (ahead e rest) g) (not_false (is_more o x) c));
-          level = refl;
-        }) (text_token (OfOperator o) (x ∷ xs) ∙ t)
-        (ap (kept limit (with_token (OfOperator o) (x ∷ xs)) (done ++ Mark.Operator o ∷ [])) (sym (levels_token (OfOperator o) (x ∷ xs)))))
+        subst (λ z. Going e limit subject front (cond z (After (operator_out o s)) (cond (too_many o) (TooDeep (operator_out o s)) (On (operator_out o s)))) previous begin start rest) (sym (text_token (OfOperator o) (x ∷ xs) ∙ t))
+        (either e limit subject front (too_many o) _ _ previous begin start rest
+        (λ h. record { it = operator_deep o rest b g c w h })
+        (λ h. ends_piece x xs done (Mark.Operator o) mid rest begin start (operator_out o s) p
+        (record { written = w; fits = operator_fits o rest b g c; level = refl; compound = too_many_is o ∙ h }) (text_token (OfOperator o) (x ∷ xs) ∙ t)
+        (ap (kept limit (with_token (OfOperator o) (x ∷ xs)) (done ++ Mark.Operator o ∷ [])) (levels_taken (OfOperator o) (x ∷ xs)))))
 
     pub grow_sound : (o : Operator) (rest begin start : List ℕ) → is_text x ≡ false → between_tokens x ≡ true → is_more o x ≡ false → Written e (plain (operator_text o)) mid rest
         → Going e limit subject front (grow o s) previous begin start rest

@@ -1,5 +1,5 @@
 -- What each character makes of a word is as the definition has it.
-use Rattle.std.proofs.Common.{◌≡◌, ℕ, suc, Bool, true, false, ◌&&◌, nat_eq, List, [], ◌∷◌, ◌++◌, length, drop, Option, None, refl, sym, ap, ◌∙◌, subst, eqb-true}
+use Rattle.std.proofs.Common.{◌≡◌, ℕ, suc, Bool, true, false, ◌&&◌, nat_eq, nat_lt, List, [], ◌∷◌, ◌++◌, length, drop, Option, None, refl, sym, ap, ◌∙◌, subst, eqb-true}
 use Rattle.std.specs.List.{list_all}
 use Rattle.std.proofs.lemmas.List.Folds.{list_all-append}
 use Rattle.sh_token_base.specs.Classes.{is_name, begins_name, continues_name}
@@ -16,14 +16,14 @@ use Rattle.sh_scanner_base.specs.Bytes.{is_blank, is_operator_byte, is_end, is_r
 use Rattle.sh_scanner_base.specs.Characters.{Reads, Written, plain, raw, ahead, next_is}
 use Rattle.sh_scanner_base.specs.Growth.{operator_of}
 use Rattle.sh_scanner_base.specs.Heads.{grown_head, head_step, head_from, is_some_head, grows_head}
-use Rattle.sh_scanner_base.specs.Marks.{IsMark, behind, ends_token, in_word, is_text, top_of, between_tokens, is_word, may_close, levels, begins_word, ends_word, same_as, is_right_parenthesis, with_class, with_token, is_newline, is_more, has_due, due_in}
+use Rattle.sh_scanner_base.specs.Marks.{fits, exceeds, word_begins, IsMark, behind, ends_token, in_word, is_text, top_of, between_tokens, is_word, may_close, levels, begins_word, ends_word, same_as, is_right_parenthesis, with_class, with_token, is_newline, is_more, has_due, due_in}
 use Rattle.sh_scanner_base.specs.Told.{Told, OfWord}
-use Rattle.sh_scanner.specs.Machine.{State, is_top, act, between, after_word, plain_byte, quoted_byte, word_out, same, out_level}
+use Rattle.sh_scanner.specs.Machine.{State, is_top, is_over_full, act, between, end_word, plain_byte, quoted_byte, word_out, same, out_level}
 use Rattle.sh_scanner.proofs.Running.{begin_of, is_raw_character}
-use Rattle.sh_scanner.proofs.Tests.{and_true, and_both, and_left, below_word, text_token, between_token, levels_token, or_none}
+use Rattle.sh_scanner.proofs.Tests.{and_true, and_both, and_left, below, below_word, text_token, between_token, text_serves, levels_taken, or_none}
 use Rattle.sh_scanner.proofs.Leads.{kept, settled}
 use Rattle.sh_scanner.proofs.Between.{closes_level}
-use Rattle.sh_scanner.proofs.Paths.{Subject, IsBlank, Path, path_on, final_word, Going, either}
+use Rattle.sh_scanner.proofs.Paths.{Subject, IsBlank, Path, path_on, word_here, final_word, Going, either}
 use Rattle.sh_scanner.proofs.Sound.{ahead_plain, ahead_quoted, plain_at, one_of, operator_of_text, right_parenthesis_byte, ends_piece, begins_piece, word_byte_sound, escape_sound, grow_sound, newline_byte}
 
 -- written characters with one more
@@ -63,13 +63,13 @@ module _ (e : Bool) (limit : ℕ) (subject : Subject) (front : List ℕ) (blank 
   between_sound x xs done mid b rest p t i r =
       either e limit subject front (is_blank b) _ _ previous (b ∷ rest) mid rest
       (λ h. ends_piece e limit subject front blank previous x xs done (Blank b) mid rest (b ∷ rest) mid (same (Blank b) s) p
-      (record { written = one_of e (Plain b) mid rest r; fits = and_both (between_tokens x) (is_blank b) i h; level = refl }) refl refl)
+      (record { written = one_of e (Plain b) mid rest r; fits = and_both (between_tokens x) (is_blank b) i h; level = refl; compound = refl }) refl refl)
       (λ h32. either e limit subject front (nat_eq b 35) _ _ previous (b ∷ rest) mid rest
       (λ h. begins_piece e limit subject front blank previous (x ∷ xs) done Pending.Comment [] mid (b ∷ rest) mid rest p (refl, i, one_of e (Plain 35) mid rest (plain_at e b 35 mid rest h r)) tt)
       (λ h35. either e limit subject front (nat_eq b 41 && may_close x) _ _ previous (b ∷ rest) mid rest
       (λ h. let u = and_true (nat_eq b 41) (may_close x) h in
       ends_piece e limit subject front blank previous x xs done CommandsClose mid rest (b ∷ rest) mid (out_level CommandsClose s) p
-      (record { written = one_of e (Plain 41) mid rest (plain_at e b 41 mid rest u.0 r); fits = u.1; level = refl }) refl
+      (record { written = one_of e (Plain 41) mid rest (plain_at e b 41 mid rest u.0 r); fits = u.1; level = refl; compound = refl }) refl
       (ap (kept limit xs (done ++ CommandsClose ∷ [])) (closes_level x xs u.1)))
       (λ h41. either e limit subject front (nat_eq b 10 && has_due x) _ _ previous (b ∷ rest) mid rest
       (λ h. let u = and_true (nat_eq b 10) (has_due x) h in
@@ -105,6 +105,7 @@ module _ (e : Bool) (limit : ℕ) (subject : Subject) (front : List ℕ) (blank 
             written = refl;
             fits = and_both (between_tokens x) (begins_word (ahead e mid)) i (ap begins_word (ahead_plain e b mid rest r) ∙ rw (h32, hop, h35) refl);
             level = refl;
+            compound = refl;
           }) refl
 
   -- the end of a word
@@ -112,30 +113,41 @@ module _ (e : Bool) (limit : ℕ) (subject : Subject) (front : List ℕ) (blank 
     abbrev class : Bool → Told
     class r = OfWord r (drop (suc n) done)
 
-    close_mark : (b : ℕ) (rest : List ℕ) → is_end b ≡ true → Reads e (Plain b) mid rest → IsMark e limit (Word n) xs (WordClose (is_redirection b)) mid mid
-    close_mark b rest h r =
-        record {
-          written = refl;
-          fits = subst (λ z. (ends_word z && same_as (is_redirection b) (next_is is_redirection z)) ≡ true) (sym (ahead_plain e b mid rest r)) (and_both (is_end b) (same_as (is_redirection b) (is_redirection b)) h (same_itself (is_redirection b)));
-          level = refl;
-        }
+    close_fits : (b : ℕ) (rest : List ℕ) → is_end b ≡ true → Reads e (Plain b) mid rest → fits e (Word n) (WordClose (is_redirection b)) mid ≡ true
+    close_fits b rest h r =
+        subst (λ z. (ends_word z && same_as (is_redirection b) (next_is is_redirection z)) ≡ true) (sym (ahead_plain e b mid rest r)) (and_both (is_end b) (same_as (is_redirection b) (is_redirection b)) h (same_itself (is_redirection b)))
       where
         same_itself : (c : Bool) → same_as c c ≡ true
         same_itself true = refl
         same_itself false = refl
+
+    -- whether the word opens a level too many
+    abbrev out_of : Bool → State
+    out_of r = word_out r (settled limit done (Word n ∷ xs))
+
+    abbrev too_many : Bool → Bool
+    too_many r = word_begins r done (Word n) && is_over_full (out_of r)
+
+    too_many_is : (r : Bool) → exceeds limit done (Word n) xs (WordClose r) ≡ too_many r
+    too_many_is r = ap (λ l. word_begins r done (Word n) && nat_lt limit l) (sym (levels_taken (class r) xs))
 
     closed_nonempty : (ys : List Context) (c : Told) (b : ℕ) (rest : List ℕ) (d : List Mark) → Path e limit subject front d (with_token c ys) mid → between_tokens (top_of ys) ≡ true → is_text (top_of (with_token c ys)) ≡ false
         → Reads e (Plain b) mid rest → Going e limit subject front (between (kept limit (with_token c ys) d (levels (with_token c ys))) b) previous (b ∷ rest) mid rest
     closed_nonempty [] c b rest d q i t r = absurd (cc)
     closed_nonempty (y ∷ ys) c b rest d q i t r = between_sound (with_class c y) ys d mid b rest q t (between_token c (y ∷ ys) ∙ i) r
 
-    close_sound : (b : ℕ) (rest : List ℕ) → is_end b ≡ true → Reads e (Plain b) mid rest → Going e limit subject front (after_word (word_out (is_redirection b) (settled limit done (Word n ∷ xs))) b) previous (b ∷ rest) mid rest
+    close_sound : (b : ℕ) (rest : List ℕ) → is_end b ≡ true → Reads e (Plain b) mid rest → Going e limit subject front (end_word (is_redirection b) (settled limit done (Word n ∷ xs)) b) previous (b ∷ rest) mid rest
     close_sound b rest h r =
-        either e limit subject front (is_top (with_token (class (is_redirection b)) xs)) _ _ previous (b ∷ rest) mid rest
-        (λ t. record { it = final_word e limit subject front done (Word n) xs (is_redirection b) mid mid blank p (close_mark b rest h r) (sym (text_token (class (is_redirection b)) xs) ∙ t) })
-        (λ t. subst (λ l. Going e limit subject front (between (kept limit (with_token (class (is_redirection b)) xs) (done ++ WordClose (is_redirection b) ∷ []) l) b) previous (b ∷ rest) mid rest) (levels_token (class (is_redirection b)) xs)
-        (closed_nonempty xs (class (is_redirection b)) b rest (done ++ WordClose (is_redirection b) ∷ [])
-        (path_on e limit subject front done (Word n) xs (WordClose (is_redirection b)) mid mid p (close_mark b rest h r) t) (below_word n xs p.inside.order) t r))
+        either e limit subject front (is_top (with_token (class q) xs)) _ _ previous (b ∷ rest) mid rest
+        (λ t. record { it = final_word e limit subject front done (Word n) xs q mid mid blank p (record { written = refl; fits = close_fits b rest h r; level = refl; compound = text_serves limit (word_begins q done (Word n)) (class q) xs (below (Word n) xs refl p.inside.order) (sym (text_token (class q) xs) ∙ t) }) (sym (text_token (class q) xs) ∙ t) })
+        (λ t. either e limit subject front (too_many q) _ _ previous (b ∷ rest) mid rest
+        (λ d. record { it = word_here e limit subject front done n xs mid q p (sym (text_token (class q) xs) ∙ t) (record { after = mid; written = refl; fits = close_fits b rest h r; exceeds = too_many_is q ∙ d }) })
+        (λ d. subst (λ l. Going e limit subject front (between (kept limit (with_token (class q) xs) (done ++ WordClose q ∷ []) l) b) previous (b ∷ rest) mid rest) (sym (levels_taken (class q) xs))
+        (closed_nonempty xs (class q) b rest (done ++ WordClose q ∷ [])
+        (path_on e limit subject front done (Word n) xs (WordClose q) mid mid p (record { written = refl; fits = close_fits b rest h r; level = refl; compound = too_many_is q ∙ d }) t) (below_word n xs p.inside.order) t r)))
+      where
+        q : Bool
+        q = is_redirection b
 
   not_between : (x : Context) → between_tokens x ≡ false → in_word x ≡ true
   not_between Top h = absurd (cc)
@@ -148,7 +160,7 @@ module _ (e : Bool) (limit : ℕ) (subject : Subject) (front : List ℕ) (blank 
   not_between Body h = refl
 
   word_end_sound : (x : Context) (xs : List Context) (done : List Mark) (mid : List ℕ) (b : ℕ) (rest : List ℕ) → Path e limit subject front done (x ∷ xs) mid → (is_word x && is_end b) ≡ true → Reads e (Plain b) mid rest
-      → Going e limit subject front (after_word (word_out (is_redirection b) (settled limit done (x ∷ xs))) b) previous (b ∷ rest) mid rest
+      → Going e limit subject front (end_word (is_redirection b) (settled limit done (x ∷ xs)) b) previous (b ∷ rest) mid rest
   word_end_sound Top xs done mid b rest p h r = absurd (cc)
   word_end_sound (Commands ts) xs done mid b rest p h r = absurd (cc)
   word_end_sound (Word n) xs done mid b rest p h r = close_sound n xs done mid p b rest h r
@@ -175,11 +187,11 @@ module _ (e : Bool) (limit : ℕ) (subject : Subject) (front : List ℕ) (blank 
   quoted_sound x xs done mid b rest p r =
       either e limit subject front (between_tokens x) _ _ previous (92 ∷ b ∷ rest) mid rest
       (λ i. escape_sound e limit subject front blank previous (Word (length done)) (x ∷ xs) (done ++ WordOpen ∷ []) mid
-      (path_on e limit subject front done x xs WordOpen mid mid p (record { written = refl; fits = and_both (between_tokens x) (begins_word (ahead e mid)) i (ap begins_word (ahead_quoted e b mid rest r)); level = refl }) refl) b rest refl r)
+      (path_on e limit subject front done x xs WordOpen mid mid p (record { written = refl; fits = and_both (between_tokens x) (begins_word (ahead e mid)) i (ap begins_word (ahead_quoted e b mid rest r)); level = refl; compound = refl }) refl) b rest refl r)
       (λ i. escape_sound e limit subject front blank previous x xs done mid p b rest (not_between x i) r)
 
   -- after a piece that the next character ends
-  pub then_sound : (x : Context) (xs : List Context) (done : List Mark) (m : Mark) (mid start rest : List ℕ) (c : Character) (t : State) → Path e limit subject front done (x ∷ xs) mid → IsMark e limit x xs m mid start
+  pub then_sound : (x : Context) (xs : List Context) (done : List Mark) (m : Mark) (mid start rest : List ℕ) (c : Character) (t : State) → Path e limit subject front done (x ∷ xs) mid → IsMark e limit done x xs m mid start
       → ends_token m (behind done x xs m) ≡ false → is_raw_character c ≡ false → Reads e c start rest → settled limit (done ++ m ∷ []) (behind done x xs m) ≡ t
       → Going e limit subject front (act t c) previous (begin_of c rest) start rest
   then_sound x xs done m mid start rest c t p i h k r w = subst (λ z. Going e limit subject front (act z c) previous (begin_of c rest) start rest) w (go (behind done x xs m) c k r (path_on e limit subject front done x xs m mid start p i h))

@@ -1,5 +1,6 @@
 -- Tests, and contexts one in another.
-use Rattle.std.proofs.Common.{◌≡◌, ℕ, suc, Bool, true, false, ◌||◌, ◌&&◌, not, nat_eq, List, [], ◌∷◌, length, drop, Option, Some, None, refl, ap, cond, eqb-true}
+use Rattle.std.proofs.Common.{◌≡◌, ◌⊎◌, inl, inr, ◌∙◌, nat_lt, ℕ, suc, ◌+◌, ◌-◌, arith, Bool, true, false, ◌||◌, ◌&&◌, not, nat_eq, List, [], ◌∷◌, length, drop, Option, Some, None, refl, ap, cond, eqb-true}
+use Rattle.std.proofs.lemmas.Bool.{ltb-true}
 use Rattle.sh_scanner_base.specs.declared.operator.Operator.{Operator}
 use Rattle.sh_scanner_base.specs.declared.mark.Mark.{Mark}
 use Rattle.sh_scanner_base.specs.declared.mark.Mark.TheVariants.{Byte, Escaped, Backslash, SingleQuoted, DoubleQuotesOpen, DoubleQuotesClose, Dollar, Variable, Parameter, BraceOpen, BraceClose, ArithmeticOpen, ArithmeticClose, CommandsOpen, CommandsClose, Backquoted, WordOpen, WordClose, Blank, Comment, Bodies}
@@ -10,7 +11,10 @@ use Rattle.sh_scanner_base.specs.Bytes.{is_redirection}
 use Rattle.sh_scanner_base.specs.Characters.{Ahead, ahead, next_is}
 use Rattle.sh_scanner_base.specs.Heads.{head_of}
 use Rattle.sh_scanner_base.specs.Marks.{stands, ends_word, same_as, fits, behind, with_token, word_over, parenthesized, braces_of, in_word, is_text, is_body, between_tokens, is_word, is_quotes, is_braces, is_arithmetic, is_parenthesis, has_single_quotes, has_double_quotes, is_quoted, may_close, top_of, levels, is_right_parenthesis, is_newline, is_more}
-use Rattle.sh_scanner_base.specs.Told.{Told, OfOperator, OfWord, OfBodies}
+use Rattle.sh_scanner_base.specs.Nested.{open_in}
+use Rattle.sh_scanner_base.specs.Told.{Told, OfOperator, OfWord, OfBodies, with_told}
+use Rattle.sh_token_base.specs.Shell.{substitution}
+use Rattle.sh_scanner.specs.Machine.{in_place}
 
 pub not_or : (c d : Bool) → not (c || d) ≡ true → (c ≡ false) × (d ≡ false)
 not_or true d h = absurd (cc)
@@ -140,16 +144,35 @@ nested_token c (Arithmetic ∷ xs) h = h
 nested_token c (Parenthesis ∷ xs) h = h
 nested_token c (Body ∷ xs) h = h
 
-pub levels_token : (c : Told) (xs : List Context) → levels (with_token c xs) ≡ levels xs
-levels_token c [] = refl
-levels_token c (Top ∷ xs) = refl
-levels_token c (Commands ts ∷ xs) = refl
-levels_token c (Word n ∷ xs) = refl
-levels_token c (Quotes ∷ xs) = refl
-levels_token c (Braces q ∷ xs) = refl
-levels_token c (Arithmetic ∷ xs) = refl
-levels_token c (Parenthesis ∷ xs) = refl
-levels_token c (Body ∷ xs) = refl
+-- the levels of the innermost give way to those behind one more token
+nothing_taken : (n : ℕ) → (n - 0) + 0 ≡ n
+nothing_taken n = omega arith
+
+some_taken : (a b n : ℕ) → (suc (a + n) - a) + b ≡ suc (b + n)
+some_taken a b n = omega arith
+
+pub levels_taken : (c : Told) (xs : List Context) → in_place (top_of xs) (top_of (with_token c xs)) (levels xs) ≡ levels (with_token c xs)
+levels_taken c [] = refl
+levels_taken c (Top ∷ xs) = nothing_taken (levels xs)
+levels_taken c (Commands ts ∷ xs) = some_taken (open_in ts.tokens) (open_in (with_told c ts).tokens) (levels xs)
+levels_taken c (Word n ∷ xs) = nothing_taken (levels xs)
+levels_taken c (Quotes ∷ xs) = nothing_taken (levels xs)
+levels_taken c (Braces q ∷ xs) = nothing_taken (suc (levels xs))
+levels_taken c (Arithmetic ∷ xs) = nothing_taken (suc (levels xs))
+levels_taken c (Parenthesis ∷ xs) = nothing_taken (levels xs)
+levels_taken c (Body ∷ xs) = nothing_taken (levels xs)
+
+-- a substitution that is left takes its compound commands with it
+pub levels_left : (a n : ℕ) → (suc (a + n) - a) - 1 ≡ n
+levels_left a n = omega arith
+
+-- no compound command is open where no token came
+pub none_open : open_in [] ≡ 0
+unfolding open_in substitution
+none_open = refl
+
+pub levels_opened : (n : ℕ) → suc (open_in [] + n) ≡ suc n
+levels_opened n = let e = none_open in omega (arith, e)
 
 pub between_token : (c : Told) (xs : List Context) → between_tokens (top_of (with_token c xs)) ≡ between_tokens (top_of xs)
 between_token c [] = refl
@@ -185,6 +208,33 @@ body_alone (Arithmetic ∷ xs) h t = absurd (cc)
 body_alone (Parenthesis ∷ xs) h t = absurd (cc)
 body_alone (Body ∷ []) h t = refl
 body_alone (Body ∷ x ∷ xs) h t = absurd (cc)
+
+-- and so is the text itself, in which no level is open
+text_alone : (xs : List Context) → nested xs ≡ true → is_text (top_of xs) ≡ true → (xs ≡ []) ⊎ (xs ≡ Top ∷ [])
+text_alone [] h t = inl refl
+text_alone (Top ∷ []) h t = inr refl
+text_alone (Top ∷ x ∷ xs) h t = absurd (cc)
+text_alone (Commands ts ∷ xs) h t = absurd (cc)
+text_alone (Word n ∷ xs) h t = absurd (cc)
+text_alone (Quotes ∷ xs) h t = absurd (cc)
+text_alone (Braces q ∷ xs) h t = absurd (cc)
+text_alone (Arithmetic ∷ xs) h t = absurd (cc)
+text_alone (Parenthesis ∷ xs) h t = absurd (cc)
+text_alone (Body ∷ xs) h t = absurd (cc)
+
+nothing_less : (n : ℕ) → nat_lt n 0 ≡ false
+nothing_less n = go (nat_lt n 0) refl
+  where
+    go : (c : Bool) → nat_lt n 0 ≡ c → c ≡ false
+    go false h = refl
+    go true h = let l = ltb-true n 0 h in absurd (omega (arith, l))
+
+pub text_serves : (limit : ℕ) (b : Bool) (c : Told) (xs : List Context) → nested xs ≡ true → is_text (top_of xs) ≡ true → (b && nat_lt limit (levels (with_token c xs))) ≡ false
+text_serves limit b c xs h t = and_right b (nat_lt limit (levels (with_token c xs))) (go (text_alone xs h t))
+  where
+    go : (xs ≡ []) ⊎ (xs ≡ Top ∷ []) → nat_lt limit (levels (with_token c xs)) ≡ false
+    go (inl i) = ap (λ z. nat_lt limit (levels (with_token c z))) i ∙ nothing_less limit
+    go (inr i) = ap (λ z. nat_lt limit (levels (with_token c z))) i ∙ nothing_less limit
 
 -- what is left by a piece of its own is not the text itself
 pub quotes_left : (x : Context) → is_quotes x ≡ true → is_text x ≡ false

@@ -26,32 +26,32 @@ use Rattle.sh_scanner.proofs.Sound.{ahead_plain, ahead_quoted, operator_of_text,
 use Rattle.sh_scanner.proofs.Steps.{written_snoc, raw_snoc, all_snoc}
 use Rattle.sh_scanner.proofs.Whole.{NextCharacter, got, over, cut, next_cooked, next_character, over_run, cut_run, onward_shown, inner, grown_shown, top_operator}
 
--- what a scanned text says of its first token
+-- what a scanned text says of its first token; where a level too many opens, that it does so somewhere
 abbrev pub Answered : Bool → ℕ → List ℕ → Scanned → Type 0
 Answered e limit bytes (Ended k f r) = HasToken e limit bytes f r (kind_of k.done)
-Answered e limit bytes (Deep r) = IsTooDeep e limit bytes r
+Answered e limit bytes (Deep r) = (place : List ℕ) × IsTooDeep e limit bytes place
 Answered e limit bytes (Open f) = Unit {0}
 
 answered : (e : Bool) (limit : ℕ) (bytes middle front : List ℕ) (gap : List Mark) → list_all is_gap gap ≡ true → AreMarks e limit [] (Top ∷ []) gap bytes middle → Joined middle front → (s : Scanned) → Shown e limit gap front s → Answered e limit bytes s
 answered e limit bytes middle front gap b a j (Ended k f r) h =
     subst (λ z. HasToken e limit bytes z r (kind_of k.done)) (sym h.0) (record { gap = gap; middle = middle; blank = b; between = a; joined = j; token = h.1 })
-answered e limit bytes middle front gap b a j (Deep r) h =
-    record {
-      gap = gap;
-      middle = middle;
-      front = front;
-      blank = b;
-      between = a;
-      joined = j;
-      marks = h.marks;
-      last = h.last;
-      before = h.before;
-      going = h.going;
-      full = h.full;
-      within = h.within;
-      placed = h.placed;
-      opens = h.opens;
-    }
+answered e limit bytes middle front gap b a j (Deep r) h = (
+  h.place,
+  record {
+    gap = gap;
+    middle = middle;
+    front = front;
+    blank = b;
+    between = a;
+    joined = j;
+    marks = h.here.marks;
+    last = h.here.last;
+    before = h.here.before;
+    going = h.here.going;
+    placed = h.here.placed;
+    opens = h.here.opens;
+  },
+)
 answered e limit bytes middle front gap b a j (Open f) h = tt
 
 -- a gap with one piece more
@@ -105,7 +105,7 @@ module _ (e : Bool) (limit : ℕ) (bytes : List ℕ) where
     abbrev s : State
     s = settled limit done (Top ∷ [])
 
-    more_gap : (m : Mark) (after : List ℕ) → IsMark e limit Top [] m mid after → AreMarks e limit [] (Top ∷ []) (done ++ m ∷ []) bytes after
+    more_gap : (m : Mark) (after : List ℕ) → IsMark e limit done Top [] m mid after → AreMarks e limit [] (Top ∷ []) (done ++ m ∷ []) bytes after
     more_gap m after i = marks_snoc e limit done [] (Top ∷ []) Top [] m bytes mid after walked (gap_contexts done [] blank) i
 
     -- the end of the input behind a gap
@@ -120,10 +120,11 @@ module _ (e : Bool) (limit : ℕ) (bytes : List ℕ) where
         record {
           inner = [];
           is = refl;
-          walked = (front, record { written = refl; fits = h; level = refl }, refl);
+          walked = (front, record { written = refl; fits = h; level = refl; compound = refl }, refl);
           going = refl;
           contexts = refl;
           inside = record { order = refl; inner = refl };
+          opened = ((λ t. absurd (cc)), tt);
         }
 
     word_shown : (front rest : List ℕ) (y : Stepped) (p : Places) → Joined mid front → Going e limit (WordBehind done) front y p.previous front front rest → p.behind ≡ front → p.front ≡ front → Answered e limit bytes (after e y (placed front p) rest)
@@ -181,13 +182,13 @@ module _ (e : Bool) (limit : ℕ) (bytes : List ℕ) where
           comment_case true h i =
               subst (λ z. Answered e limit bytes (after e (between s z) (fronted true (placed (z ∷ rest) p)) rest)) (sym (eqb-true c 35 h))
               (subst (λ y. Answered e limit bytes (after e y (fronted true (placed (35 ∷ rest) p)) rest)) (sym (between_hash s))
-              (ih done mid [] true (moved false rest (fronted true (placed (35 ∷ rest) p))) blank walked (refl, one_of e (Plain 35) mid rest (plain_at e c 35 mid rest h r)) refl))
+              (ih done mid [] true (moved false false rest (fronted true (placed (35 ∷ rest) p))) blank walked (refl, one_of e (Plain 35) mid rest (plain_at e c 35 mid rest h r)) refl))
           comment_case false h i = operator_case (is_operator_byte c) refl i h
 
           blank_case : (d : Bool) → is_blank c ≡ d → Answered e limit bytes (after e (between s c) q rest)
           blank_case true h =
               subst (λ y. Answered e limit bytes (after e y q rest)) (sym (between_blank s c h))
-              (ih (done ++ Blank c ∷ []) rest [] false (moved false rest q) (all_gap_snoc done (Blank c) blank refl) (more_gap (Blank c) rest (record { written = one_of e (Plain c) mid rest r; fits = h; level = refl })) (refl, refl) refl)
+              (ih (done ++ Blank c ∷ []) rest [] false (moved false false rest q) (all_gap_snoc done (Blank c) blank refl) (more_gap (Blank c) rest (record { written = one_of e (Plain c) mid rest r; fits = h; level = refl; compound = refl })) (refl, refl) refl)
           blank_case false h = comment_case (nat_eq c 35) refl h
 
     quoted_gap : (c : ℕ) (rest : List ℕ) (p : Places) → Reads e (Quoted c) mid rest → Answered e limit bytes (after e (quoted_byte s c) (fronted true (placed (92 ∷ c ∷ rest) p)) rest)
@@ -232,9 +233,9 @@ module _ (e : Bool) (limit : ℕ) (bytes : List ℕ) where
           let g : m ≡ 10 ∷ rest = r ∙ ap (λ y. y ∷ rest) z in
           subst (λ y. Answered e limit bytes (after e (plain_byte (settled limit (done ++ Comment acc ∷ []) (Top ∷ [])) y) (fronted true (placed (y ∷ rest) p)) rest)) (sym z)
           (plain_gap (done ++ Comment acc ∷ []) m (all_gap_snoc done (Comment acc) b refl)
-          (more_gap done mid b a (Comment acc) m (record { written = w; fits = and_both (list_all is_no_newline acc) (ends_comment e m) h (ap (ends_comment e) g); level = refl })) 10 rest p (0, g, inl refl) (ih rest l))
+          (more_gap done mid b a (Comment acc) m (record { written = w; fits = and_both (list_all is_no_newline acc) (ends_comment e m) h (ap (ends_comment e) g); level = refl; compound = refl })) 10 rest p (0, g, inl refl) (ih rest l))
       go false i =
-          ih rest l done mid (acc ++ c ∷ []) true (moved false rest (fronted true (placed (c ∷ rest) p))) b a
+          ih rest l done mid (acc ++ c ∷ []) true (moved false false rest (fronted true (placed (c ∷ rest) p))) b a
           (all_snoc is_no_newline acc c h (not_false (nat_eq c 10) i), subst (λ z. Written e (Plain 35 ∷ z) mid rest) (raw_snoc acc c) (written_snoc e (Plain 35 ∷ raw acc) (Raw c) mid m rest w r)) refl
   comment_gap done mid acc m p b a h w n (over i v z) ih =
       let y = z refl in
@@ -246,7 +247,7 @@ module _ (e : Bool) (limit : ℕ) (bytes : List ℕ) where
           let y = z refl in
           subst (λ t. Answered e limit bytes (Ended (settled limit (done ++ Comment acc ∷ []) (Top ∷ [])) t t)) (sym (n ∙ y))
           (at_the_end (done ++ Comment acc ∷ []) m (all_gap_snoc done (Comment acc) b refl)
-          (more_gap done mid b a (Comment acc) m (record { written = w; fits = and_both (list_all is_no_newline acc) (ends_comment e m) h (ap (ends_comment e) y ∙ k); level = refl })) 0 y k)
+          (more_gap done mid b a (Comment acc) m (record { written = w; fits = and_both (list_all is_no_newline acc) (ends_comment e m) h (ap (ends_comment e) y ∙ k); level = refl; compound = refl })) 0 y k)
   comment_gap done mid acc m p b a h w n (cut i v d r) ih = absurd (cc)
 
   gap_sound : (fuel : ℕ) (m : List ℕ) → length m < fuel → GapSound m
@@ -257,4 +258,4 @@ module _ (e : Bool) (limit : ℕ) (bytes : List ℕ) where
 
 -- each scanned text is as the definition has it
 pub sound : (e : Bool) (limit : ℕ) (bytes : List ℕ) → Answered e limit bytes (scanned e limit bytes)
-sound e limit bytes = gap_sound e limit bytes (suc (length bytes)) bytes (omega arith) [] bytes [] false (record { front = bytes; previous = bytes; behind = bytes; next = bytes; form = bytes }) refl refl (refl, refl) refl
+sound e limit bytes = gap_sound e limit bytes (suc (length bytes)) bytes (omega arith) [] bytes [] false (record { front = bytes; previous = bytes; behind = bytes; next = bytes; form = bytes; word = bytes }) refl refl (refl, refl) refl

@@ -1,5 +1,5 @@
 -- What the machine finds in a text is as the definition has it.
-use Rattle.std.proofs.Common.{◌≡◌, inl, inr, ℕ, zero, suc, ◌<◌, Bool, true, false, ◌&&◌, not, nat_eq, List, [], ◌∷◌, ◌++◌, length, drop, Option, Some, None, refl, sym, ap, ◌∙◌, subst, arith, cond, eqb-true}
+use Rattle.std.proofs.Common.{◌≡◌, inl, inr, ℕ, zero, suc, ◌<◌, Bool, true, false, ◌&&◌, not, nat_eq, nat_lt, List, [], ◌∷◌, ◌++◌, length, drop, Option, Some, None, refl, sym, ap, ◌∙◌, subst, arith, cond, eqb-true}
 use Rattle.std.specs.List.{list_all}
 use Rattle.std.proofs.lemmas.List.{append-nil}
 use Rattle.sh_scanner_base.specs.declared.character.Character.{Character}
@@ -15,20 +15,22 @@ use Rattle.sh_scanner_base.specs.Characters.{joins, Reads, Written, plain, Input
 use Rattle.sh_scanner_base.specs.Operators.{operator_text}
 use Rattle.sh_scanner_base.specs.Growth.{grown, may_grow}
 use Rattle.sh_scanner_base.specs.Pendings.{is_raw, is_gap_pending}
-use Rattle.sh_scanner_base.specs.Marks.{IsMark, is_text, is_word, is_gap, ends_operator, ends_word, same_as, is_some, is_right_parenthesis, levels, with_token, word_over, is_more, is_newline}
-use Rattle.sh_scanner_base.specs.Told.{OfWord}
+use Rattle.sh_scanner_base.specs.Marks.{fits, IsMark, is_text, top_of, is_word, word_begins, is_gap, ends_operator, ends_word, same_as, is_some, is_right_parenthesis, levels, with_token, is_more, is_newline}
+use Rattle.sh_scanner_base.specs.Told.{Told, OfWord, OfOperator, class_of_operator}
+use Rattle.sh_token_base.specs.Levels.{begins_compound}
 use Rattle.sh_scanner.specs.Tokens.{IsToken, operator}
-use Rattle.sh_scanner.specs.Machine.{State, Stepped, On, Before, After, TooDeep, DollarTooDeep, step, is_top, grow, grow_to, in_operator, operator_out, word_out}
-use Rattle.sh_scanner.specs.Run.{Open, Places, fronted, with_front, moved, begins_form, is_gap_state, last_token, last_places, word_ended, ended_in, run}
+use Rattle.sh_scanner.specs.Machine.{State, Stepped, On, Before, After, TooDeep, DollarTooDeep, WordTooDeep, step, is_top, is_over_full, grow, grow_to, in_operator, operator_out, word_out}
+use Rattle.sh_scanner.specs.Run.{Open, Places, fronted, with_front, moved, begins_form, begins_word as word_begun, is_gap_state, Ending, EndsIn, EndsDeep, EndsNot, last_token, last_places, word_end, word_ended, ended_in, run}
 use Rattle.sh_scanner.specs.Found.{kind_of}
 use Rattle.sh_scanner.proofs.Running.{placed, after, follow, fed_backslash, joins_run, begin_of, is_raw_character, character_run}
-use Rattle.sh_scanner.proofs.Tests.{and_both, and_false, and_right, not_false, text_token}
+use Rattle.sh_scanner.proofs.Tests.{and_both, and_false, and_right, not_false, below, text_token, text_serves, levels_taken}
 use Rattle.sh_scanner.proofs.Leads.{begun, settled}
 use Rattle.sh_scanner.proofs.Between.{between_no_word, between_no_body}
 use Rattle.sh_scanner.proofs.Gaps.{kind_last}
 use Rattle.sh_scanner.proofs.Growing.{grown_text}
-use Rattle.sh_scanner.proofs.Paths.{WordBehind, Path, At, Held, Preceded, pending_levels, final_word, no_body, Going, Shown, path_on}
-use Rattle.sh_scanner.proofs.Sound.{ahead_joins, ahead_plain, ahead_quoted, whole_operator}
+use Rattle.sh_scanner.proofs.Paths.{WordBehind, Path, At, Held, Preceded, pending_levels, final_word, word_here, no_body, Going, Shown, path_on}
+use Rattle.sh_scanner.proofs.WordStarts.{ahead_joins}
+use Rattle.sh_scanner.proofs.Sound.{ahead_plain, ahead_quoted, whole_operator}
 use Rattle.sh_scanner.proofs.Steps.{written_snoc, plain_snoc}
 use Rattle.sh_scanner.proofs.Begun.{step_sound, dollar_mark, name_mark}
 
@@ -88,64 +90,89 @@ end_ahead n m w = ap (ahead true) (w ∙ sym (append-nil (joins n))) ∙ ahead_j
 
 module _ (e : Bool) (limit : ℕ) (gap : List Mark) (front : List ℕ) (blank : list_all is_gap gap ≡ true) where
   -- the end of the input behind a word
-  word_ended_shown : (x : Context) (xs : List Context) (done : List Mark) (mid f b form : List ℕ) → Path e limit (WordBehind gap) front done (x ∷ xs) mid → f ≡ front → mid ≡ b → ahead e b ≡ InputEnd
-      → Shown e limit gap front (last_token (word_ended (settled limit done (x ∷ xs))) f b form)
-  word_ended_shown Top xs done mid f b form p w v a = tt
-  word_ended_shown (Commands ts) xs done mid f b form p w v a = tt
-  word_ended_shown (Word n) xs done mid f b form p w v a = go (is_top (with_token (OfWord false (drop (suc n) done)) xs)) refl
+  word_ended_shown : (x : Context) (xs : List Context) (done : List Mark) (mid : List ℕ) (z : Places) → Path e limit (WordBehind gap) front done (x ∷ xs) mid → z.front ≡ front → mid ≡ z.behind → ahead e z.behind ≡ InputEnd
+      → Shown e limit gap front (last_token (word_ended (settled limit done (x ∷ xs))) z)
+  word_ended_shown Top xs done mid z p w v a = tt
+  word_ended_shown (Commands ts) xs done mid z p w v a = tt
+  word_ended_shown (Word n) xs done mid z p w v a = go (is_top (with_token class xs)) refl (word_begins false done (Word n) && is_over_full (word_out false s)) refl
     where
-      mark : IsMark e limit (Word n) xs (WordClose false) mid b
-      mark = record { written = v; fits = subst (λ z. (ends_word z && same_as false (next_is is_redirection z)) ≡ true) (sym a) refl; level = refl }
+      s : State
+      s = settled limit done (Word n ∷ xs)
 
-      go : (c : Bool) → is_top (with_token (OfWord false (drop (suc n) done)) xs) ≡ c → Shown e limit gap front (last_token (cond c (Some (word_out false (settled limit done (Word n ∷ xs)))) None) f b form)
-      go true t = (w, final_word e limit (WordBehind gap) front done (Word n) xs false mid b blank p mark (sym (text_token (OfWord false (drop (suc n) done)) xs) ∙ t))
-      go false t = tt
-  word_ended_shown Quotes xs done mid f b form p w v a = tt
-  word_ended_shown (Braces q) xs done mid f b form p w v a = tt
-  word_ended_shown Arithmetic xs done mid f b form p w v a = tt
-  word_ended_shown Parenthesis xs done mid f b form p w v a = tt
-  word_ended_shown Body xs done mid f b form p w v a = absurd (no_body e limit gap front done xs mid p)
+      class : Told
+      class = OfWord false (drop (suc n) done)
+
+      fits_end : fits e (Word n) (WordClose false) z.behind ≡ true
+      fits_end = subst (λ y. (ends_word y && same_as false (next_is is_redirection y)) ≡ true) (sym a) refl
+
+      over_text : is_text (top_of xs) ≡ true → IsMark e limit done (Word n) xs (WordClose false) mid z.behind
+      over_text t = record { written = v; fits = fits_end; level = refl; compound = text_serves limit (word_begins false done (Word n)) class xs (below (Word n) xs refl p.inside.order) t }
+
+      go : (c : Bool) → is_top (with_token class xs) ≡ c → (d : Bool) → (word_begins false done (Word n) && is_over_full (word_out false s)) ≡ d
+          → Shown e limit gap front (last_token (cond c (EndsIn (word_out false s)) (cond d EndsDeep EndsNot)) z)
+      go true t d u = let y = sym (text_token class xs) ∙ t in (w, final_word e limit (WordBehind gap) front done (Word n) xs false mid z.behind blank p (over_text y) y)
+      go false t true u =
+          word_here e limit (WordBehind gap) front done n xs mid false p (sym (text_token class xs) ∙ t)
+          (record {
+            after = z.behind;
+            written = v;
+            fits = fits_end;
+            exceeds = ap (λ l. word_begins false done (Word n) && nat_lt limit l) (sym (levels_taken class xs)) ∙ u;
+          })
+      go false t false u = tt
+  word_ended_shown Quotes xs done mid z p w v a = tt
+  word_ended_shown (Braces q) xs done mid z p w v a = tt
+  word_ended_shown Arithmetic xs done mid z p w v a = tt
+  word_ended_shown Parenthesis xs done mid z p w v a = tt
+  word_ended_shown Body xs done mid z p w v a = absurd (no_body e limit gap front done xs mid p)
 
   module _ (x : Context) (xs : List Context) (done : List Mark) (mid : List ℕ) (p : Path e limit (WordBehind gap) front done (x ∷ xs) mid) where
     -- the end of the input
-    end_shown : (q : Pending) (acc f b form : List ℕ) → Held e limit q (x ∷ xs) acc mid b → f ≡ front → ahead e b ≡ InputEnd
-        → Shown e limit gap front (last_token (ended_in q (begun limit (x ∷ xs) done (pending_levels q (levels (x ∷ xs))) q acc)) f b form)
-    end_shown Pending.Nothing acc f b form h w a =
-        subst (λ z. Shown e limit gap front (last_token (ended_in Pending.Nothing (begun limit (x ∷ xs) done (levels (x ∷ xs)) Pending.Nothing z)) f b form)) (sym h.0)
-        (subst (λ c. Shown e limit gap front (last_token (cond c (Some (settled limit done (x ∷ xs))) (word_ended (settled limit done (x ∷ xs)))) f b form)) (sym p.inside.inner)
-        (word_ended_shown x xs done mid f b form p w h.1 a))
-    end_shown Pending.Dollar acc f b form h w a =
-        word_ended_shown x xs (done ++ Dollar ∷ []) b f b form
-        (path_on e limit (WordBehind gap) front done x xs Dollar mid b p (dollar_mark e limit (WordBehind gap) front blank [] x xs done mid b p h.1 (not_false (next_is is_form (ahead e b)) (ap (next_is is_form) a)) h.2) refl) w refl a
-    end_shown Pending.DollarParenthesis acc f b form h w a = tt
-    end_shown Pending.Name acc f b form h w a =
-        word_ended_shown x xs (done ++ Variable acc ∷ []) b f b form
-        (path_on e limit (WordBehind gap) front done x xs (Variable acc) mid b p (name_mark e limit (WordBehind gap) front blank [] x xs done mid b p acc h.0 h.1 (not_false (next_is is_name_byte (ahead e b)) (ap (next_is is_name_byte) a)) h.2) refl) w refl a
-    end_shown (Pending.Head g) acc f b form h w a = tt
-    end_shown Pending.Single acc f b form h w a = tt
-    end_shown Pending.Backquotes acc f b form h w a = tt
-    end_shown Pending.BackquotesEscape acc f b form h w a = tt
-    end_shown Pending.Parenthesis acc f b form h w a = tt
-    end_shown (Pending.Body l n j) acc f b form h w a = tt
-    end_shown (Pending.Operator o) acc f b form h w a =
-        subst (λ c. Shown e limit gap front (last_token (cond c (Some (operator_out o (begun limit (x ∷ xs) done (levels (x ∷ xs)) (Pending.Operator o) acc))) None) f b form)) (sym p.inside.inner) tt
-    end_shown Pending.Comment acc f b form h w a =
-        subst (λ c. Shown e limit gap front (last_token (cond c (Some (settled limit (done ++ Comment acc ∷ []) (x ∷ xs))) (word_ended (settled limit (done ++ Comment acc ∷ []) (x ∷ xs)))) f b form)) (sym p.inside.inner)
-        (subst (λ c. Shown e limit gap front (last_token (cond c (Some (settled limit (done ++ Comment acc ∷ []) (x ∷ xs)))
-        (cond (is_word x && is_top (word_over false (done ++ Comment acc ∷ []) (x ∷ xs))) (Some (word_out false (settled limit (done ++ Comment acc ∷ []) (x ∷ xs)))) None)) f b form)) (sym (between_no_body x h.1))
-        (subst (λ c. Shown e limit gap front (last_token (cond (c && is_top (word_over false (done ++ Comment acc ∷ []) (x ∷ xs))) (Some (word_out false (settled limit (done ++ Comment acc ∷ []) (x ∷ xs)))) None) f b form))
-        (sym (between_no_word x h.1)) tt))
+    end_shown : (q : Pending) (acc : List ℕ) (z : Places) → Held e limit q (x ∷ xs) acc mid z.behind → z.front ≡ front → ahead e z.behind ≡ InputEnd
+        → Shown e limit gap front (last_token (ended_in q (begun limit (x ∷ xs) done (pending_levels q (levels (x ∷ xs))) q acc)) z)
+    end_shown Pending.Nothing acc z h w a =
+        subst (λ y. Shown e limit gap front (last_token (ended_in Pending.Nothing (begun limit (x ∷ xs) done (levels (x ∷ xs)) Pending.Nothing y)) z)) (sym h.0)
+        (subst (λ c. Shown e limit gap front (last_token (cond c (EndsIn (settled limit done (x ∷ xs))) (word_ended (settled limit done (x ∷ xs)))) z)) (sym p.inside.inner)
+        (word_ended_shown x xs done mid z p w h.1 a))
+    end_shown Pending.Dollar acc z h w a =
+        word_ended_shown x xs (done ++ Dollar ∷ []) z.behind z
+        (path_on e limit (WordBehind gap) front done x xs Dollar mid z.behind p
+        (dollar_mark e limit (WordBehind gap) front blank [] x xs done mid z.behind p h.1 (not_false (next_is is_form (ahead e z.behind)) (ap (next_is is_form) a)) h.2) refl) w refl a
+    end_shown Pending.DollarParenthesis acc z h w a = tt
+    end_shown Pending.Name acc z h w a =
+        word_ended_shown x xs (done ++ Variable acc ∷ []) z.behind z
+        (path_on e limit (WordBehind gap) front done x xs (Variable acc) mid z.behind p
+        (name_mark e limit (WordBehind gap) front blank [] x xs done mid z.behind p acc h.0 h.1 (not_false (next_is is_name_byte (ahead e z.behind)) (ap (next_is is_name_byte) a)) h.2) refl) w refl a
+    end_shown (Pending.Head g) acc z h w a = tt
+    end_shown Pending.Single acc z h w a = tt
+    end_shown Pending.Backquotes acc z h w a = tt
+    end_shown Pending.BackquotesEscape acc z h w a = tt
+    end_shown Pending.Parenthesis acc z h w a = tt
+    end_shown (Pending.Body l n j) acc z h w a = tt
+    end_shown (Pending.Operator o) acc z h w a =
+        subst (λ c. Shown e limit gap front (last_token (cond c (EndsIn (operator_out o (begun limit (x ∷ xs) done (levels (x ∷ xs)) (Pending.Operator o) acc))) EndsNot) z)) (sym p.inside.inner) tt
+    end_shown Pending.Comment acc z h w a =
+        subst (λ c. Shown e limit gap front (last_token (cond c (EndsIn behind_it) (word_ended behind_it)) z)) (sym p.inside.inner)
+        (subst (λ c. Shown e limit gap front (last_token (cond c (EndsIn behind_it) (cond (is_word x) over_it EndsNot)) z)) (sym (between_no_body x h.1))
+        (subst (λ c. Shown e limit gap front (last_token (cond c over_it EndsNot) z)) (sym (between_no_word x h.1)) tt))
+      where
+        behind_it : State
+        behind_it = settled limit (done ++ Comment acc ∷ []) (x ∷ xs)
+
+        over_it : Ending
+        over_it = word_end (word_begins false (done ++ Comment acc ∷ []) x) (word_out false behind_it)
 
   -- a run within the first word
   abbrev InnerSound : List ℕ → Type 0
   InnerSound m = (t : State) (p : Places) → At e limit (WordBehind gap) front t p.previous m → p.next ≡ m → p.behind ≡ m → p.front ≡ front → Shown e limit gap front (run e false t p m)
 
   pub onward_shown : (y : Stepped) (p : Places) (begin m rest : List ℕ) → InnerSound rest → Going e limit (WordBehind gap) front y p.previous begin m rest → p.behind ≡ m → p.front ≡ front → Shown e limit gap front (after e y (placed begin p) rest)
-  onward_shown (On t) p begin m rest ih g b f = ih t (moved (begins_form t) rest (placed begin p)) g.it refl refl f
+  onward_shown (On t) p begin m rest ih g b f = ih t (moved (begins_form t) (word_begun t) rest (placed begin p)) g.it refl refl f
   onward_shown (Before t) p begin m rest ih g b f = (f, subst (λ z. IsToken e limit gap front z (kind_of t.done)) (sym b) g.it)
   onward_shown (After t) p begin m rest ih g b f = (f, g.it)
   onward_shown (TooDeep t) p begin m rest ih g b f = g.it
-  onward_shown (DollarTooDeep t) p begin m rest ih g b f = g.it
+  onward_shown (DollarTooDeep t) p begin m rest ih g b f = record { place = p.previous; here = g.it }
+  onward_shown (WordTooDeep t) p begin m rest ih g b f = g.it
 
   module _ (x : Context) (xs : List Context) (done : List Mark) (mid : List ℕ) (path : Path e limit (WordBehind gap) front done (x ∷ xs) mid) (q : Pending) (acc m : List ℕ) (p : Places) (held : Held e limit q (x ∷ xs) acc mid m)
       (preceded : Preceded q acc p.previous m) (n : p.next ≡ m) (b : p.behind ≡ m) (f : p.front ≡ front) where
@@ -164,7 +191,7 @@ module _ (e : Bool) (limit : ℕ) (gap : List Mark) (front : List ℕ) (blank : 
     end_places a false w = tt
     end_places a true w =
         subst (λ z. Shown e limit gap front (last_places s (fronted z (placed [] p)))) (sym no_gap)
-        (end_shown x xs done mid path q acc p.front p.behind p.form (subst (Held e limit q (x ∷ xs) acc mid) (sym b) held) f (ap (ahead e) b ∙ (ap (λ z. ahead z m) w ∙ a)))
+        (end_shown x xs done mid path q acc (placed [] p) (subst (Held e limit q (x ∷ xs) acc mid) (sym b) held) f (ap (ahead e) b ∙ (ap (λ z. ahead z m) w ∙ a)))
 
     over_shown : (k : ℕ) → m ≡ joins k → (is_raw q ≡ true → m ≡ []) → (c : Bool) → is_raw q ≡ c → Shown e limit gap front (run e false s p m)
     over_shown k w z false r = subst (Shown e limit gap front) (sym (over_run e s p k m r w n)) (end_places (end_ahead k m w) e refl)
@@ -210,6 +237,7 @@ module _ (e : Bool) (limit : ℕ) (gap : List Mark) (front : List ℕ) (blank : 
         written = w;
         fits = and_both (ends_operator o (ahead e rest)) (not (is_more o Top)) h (not_false (is_more o Top) (more_top o));
         level = refl;
+        compound = text_serves limit (begins_compound (class_of_operator o)) (OfOperator o) (Top ∷ []) refl refl;
       }))
 
   pub grown_shown : (o : Operator) (p : Places) (rest : List ℕ) → OperatorSound rest → Written e (plain (operator_text o)) front rest → p.front ≡ front
@@ -217,7 +245,7 @@ module _ (e : Bool) (limit : ℕ) (gap : List Mark) (front : List ℕ) (blank : 
   grown_shown o p rest ih w f = go (may_grow o) refl
     where
       go : (c : Bool) → may_grow o ≡ c → Shown e limit gap front (after e (cond c (On (begun limit (Top ∷ []) gap 0 (Pending.Operator o) [])) (After (operator_out o (settled limit gap (Top ∷ []))))) p rest)
-      go true g = ih o (moved false rest p) g w refl refl f
+      go true g = ih o (moved false false rest p) g w refl refl f
       go false g = (f, operator_token o rest (whole_operator o (ahead e rest) g) w)
 
   module _ (o : Operator) (p : Places) (m : List ℕ) (g : may_grow o ≡ true) (w : Written e (plain (operator_text o)) front m) (n : p.next ≡ m) (b : p.behind ≡ m) (f : p.front ≡ front) where

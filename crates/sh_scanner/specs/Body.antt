@@ -1,10 +1,10 @@
 -- The pieces of the body of a here-document that is expanded (XCU 2.7.4), or why it has none. The text ends with the body.
-use Rattle.std.specs.Prelude.{◌≡◌, ℕ, ◌+◌, ◌≤◌, true, false, nat_lt, List, [], ◌∷◌, length, Result, Ok, Err}
+use Rattle.std.specs.Prelude.{◌≡◌, ℕ, ◌+◌, ◌≤◌, true, List, [], ◌∷◌, length, Result, Ok, Err}
 use Rattle.sh_scanner_base.specs.declared.context.Context.TheVariants.{Body}
 use Rattle.sh_scanner_base.specs.declared.mark.Mark.{Mark}
-use Rattle.sh_scanner_base.specs.Marks.{in_word, top_of, levels, AreMarks, contexts_behind}
+use Rattle.sh_scanner_base.specs.Marks.{AreMarks, contexts_behind}
 use Rattle.sh_scanner.specs.declared.document.BodyFault.{BodyFault}
-use Rattle.sh_scanner.specs.Tokens.{Joined, OpensLevel}
+use Rattle.sh_scanner.specs.Tokens.{Joined, OpensLevel, OpensTooMany}
 
 -- the body up to `place` is these pieces, with joined lines behind them, and no form is open there
 pub record IsFront (limit : ℕ) (bytes : List ℕ) (marks : List Mark) (place : List ℕ) : Type 0 where
@@ -13,15 +13,13 @@ pub record IsFront (limit : ℕ) (bytes : List ℕ) (marks : List Mark) (place :
   pub closed : contexts_behind [] (Body ∷ []) marks ≡ Body ∷ []
   pub joined : Joined last place
 
--- the body has so many open levels, and from `place` on a piece that opens one more
+-- the body opens a level more than may be open, by what begins at `place`
 pub record IsBodyTooDeep (limit : ℕ) (bytes place : List ℕ) : Type 0 where
   pub marks : List Mark
   pub last : List ℕ
   pub before : AreMarks true limit [] (Body ∷ []) marks bytes last
-  pub full : nat_lt (levels (contexts_behind [] (Body ∷ []) marks)) limit ≡ false
-  pub within : in_word (top_of (contexts_behind [] (Body ∷ []) marks)) ≡ true
   pub placed : Joined last place
-  pub opens : OpensLevel true place
+  pub opens : OpensTooMany true limit marks place (contexts_behind [] (Body ∷ []) marks)
 
 -- a form begins at `place`, and is open at the end of the body: no front without open forms goes further
 pub record IsBodyOpen (limit : ℕ) (bytes place : List ℕ) : Type 0 where

@@ -1,5 +1,5 @@
 -- The scanner as a machine: the contexts, the pieces so far, a piece that has begun, and a backslash that waits for its byte.
-use Rattle.std.specs.Prelude.{ℕ, suc, Bool, false, ◌&&◌, ◌||◌, not, nat_eq, nat_lt, List, [], ◌∷◌, ◌++◌, length, drop, ◌-◌, Option, Some, None, if◌then◌else◌}
+use Rattle.std.specs.Prelude.{ℕ, suc, ◌+◌, Bool, false, ◌&&◌, ◌||◌, not, nat_eq, nat_lt, List, [], ◌∷◌, ◌++◌, length, drop, ◌-◌, Option, Some, None, if◌then◌else◌}
 use Rattle.sh_scanner_base.specs.declared.character.Character.{Character}
 use Rattle.sh_scanner_base.specs.declared.character.Character.TheVariants.{Plain, Quoted, Raw}
 use Rattle.sh_scanner_base.specs.declared.operator.Operator.{Operator}
@@ -12,8 +12,9 @@ use Rattle.sh_scanner_base.specs.Growth.{grown, may_grow, operator_of}
 use Rattle.sh_scanner_base.specs.Heads.{grown_head}
 use Rattle.sh_scanner_base.specs.declared.context.Context.{Context}
 use Rattle.sh_scanner_base.specs.declared.context.Context.TheVariants.{Commands, Word, Quotes, Arithmetic, Parenthesis}
-use Rattle.sh_scanner_base.specs.Marks.{is_text, top_of, between_tokens, has_single_quotes, has_double_quotes, is_quotes, is_braces, is_arithmetic, is_parenthesis, is_word, quotes, may_close, is_quoted, braces_of, with_token, word_over, due_in, has_due}
-use Rattle.sh_scanner_base.specs.Told.{OfOperator, OfBodies}
+use Rattle.sh_scanner_base.specs.Marks.{is_text, top_of, between_tokens, has_single_quotes, has_double_quotes, is_quotes, is_braces, is_arithmetic, is_parenthesis, is_word, quotes, may_close, is_quoted, braces_of, with_token, word_over, word_begins, compounds_in, around_of, due_in, has_due}
+use Rattle.sh_token_base.specs.Levels.{begins_compound}
+use Rattle.sh_scanner_base.specs.Told.{OfOperator, OfBodies, class_of_operator}
 use Rattle.sh_scanner_base.specs.Nested.{none_yet}
 use Rattle.sh_scanner_base.specs.declared.here.Delimiter.{Delimiter}
 use Rattle.sh_scanner.specs.declared.body.LineEnd.{LineEnd}
@@ -38,6 +39,8 @@ pub data Stepped : Type 0 where
   -- a level too many would open with the character, or with the `$` before it
   TooDeep : (s : State) → Stepped
   DollarTooDeep : (s : State) → Stepped
+  -- or has opened with the word of a substitution that ended before the character
+  WordTooDeep : (s : State) → Stepped
 
 -- a piece is over that leaves the contexts as they were, that goes into a context, or that leaves one
 abbrev pub same : Mark → State → State
@@ -53,25 +56,30 @@ outer (x ∷ xs) = xs
 abbrev pub out : Mark → State → State
 out m s = record { contexts = outer s.contexts; done = s.done ++ m ∷ []; pending = Pending.Nothing; bytes = []; levels = s.levels; limit = s.limit }
 
--- one that leaves a level
+-- the levels with the compound commands of one context in place of those of another
+abbrev pub in_place : Context → Context → ℕ → ℕ
+in_place x y n = (n - compounds_in x) + compounds_in y
+
+-- one that leaves a level, with the compound commands in it
 abbrev pub out_level : Mark → State → State
-out_level m s = record { contexts = outer s.contexts; done = s.done ++ m ∷ []; pending = Pending.Nothing; bytes = []; levels = s.levels - 1; limit = s.limit }
+out_level m s =
+    record { contexts = outer s.contexts; done = s.done ++ m ∷ []; pending = Pending.Nothing; bytes = []; levels = (s.levels - compounds_in (top_of s.contexts)) - 1; limit = s.limit }
 
 abbrev pub level_over : Mark → State → State
 level_over m s = record { contexts = s.contexts; done = s.done ++ m ∷ []; pending = Pending.Nothing; bytes = []; levels = s.levels - 1; limit = s.limit }
 
 -- a word is over; r: < or > follows it
 abbrev pub word_out : Bool → State → State
-word_out r s = record { contexts = word_over r s.done s.contexts; done = s.done ++ WordClose r ∷ []; pending = Pending.Nothing; bytes = []; levels = s.levels; limit = s.limit }
+word_out r s = record { contexts = word_over r s.done s.contexts; done = s.done ++ WordClose r ∷ []; pending = Pending.Nothing; bytes = []; levels = in_place (around_of s.contexts) (top_of (word_over r s.done s.contexts)) s.levels; limit = s.limit }
 
 abbrev pub operator_out : Operator → State → State
 operator_out o s =
-    record { contexts = with_token (OfOperator o) s.contexts; done = s.done ++ Mark.Operator o ∷ []; pending = Pending.Nothing; bytes = []; levels = s.levels; limit = s.limit }
+    record { contexts = with_token (OfOperator o) s.contexts; done = s.done ++ Mark.Operator o ∷ []; pending = Pending.Nothing; bytes = []; levels = in_place (top_of s.contexts) (top_of (with_token (OfOperator o) s.contexts)) s.levels; limit = s.limit }
 
 -- the bodies of the here-documents that were due are over
 abbrev pub bodies_out : State → State
 bodies_out s =
-    record { contexts = with_token OfBodies s.contexts; done = s.done ++ Bodies (s.bytes ++ 10 ∷ []) ∷ []; pending = Pending.Nothing; bytes = []; levels = s.levels; limit = s.limit }
+    record { contexts = with_token OfBodies s.contexts; done = s.done ++ Bodies (s.bytes ++ 10 ∷ []) ∷ []; pending = Pending.Nothing; bytes = []; levels = in_place (top_of s.contexts) (top_of (with_token OfBodies s.contexts)) s.levels; limit = s.limit }
 
 abbrev pub pend : Pending → State → State
 pend p s = record { contexts = s.contexts; done = s.done; pending = p; bytes = []; levels = s.levels; limit = s.limit }
@@ -93,6 +101,7 @@ at_dollar (Before s) = Before s
 at_dollar (After s) = After s
 at_dollar (TooDeep s) = DollarTooDeep s
 at_dollar (DollarTooDeep s) = DollarTooDeep s
+at_dollar (WordTooDeep s) = WordTooDeep s
 
 abbrev pub is_top : List Context → Bool
 is_top xs = is_text (top_of xs)
@@ -115,13 +124,20 @@ word_byte x s b =
     else if nat_eq b 96 then opens Pending.Backquotes s
     else inner_byte x s b
 
--- a token of the text itself is over, or one of a substitution
-abbrev pub over : (State → Stepped) → State → Stepped
-over f s = if is_top s.contexts then f s else On s
+-- too many levels are open
+abbrev pub is_over_full : State → Bool
+is_over_full s = nat_lt s.limit s.levels
+
+-- an operator of the text itself is over, or one of a substitution
+abbrev pub over : Operator → State → Stepped
+over o s =
+    if is_top s.contexts then After s
+    else if begins_compound (class_of_operator o) && is_over_full s then TooDeep s
+    else On s
 
 -- an operator as far as it has come
 abbrev pub grow : Operator → State → Stepped
-grow o s = if may_grow o then On (pend (Pending.Operator o) s) else over After (operator_out o s)
+grow o s = if may_grow o then On (pend (Pending.Operator o) s) else over o (operator_out o s)
 
 -- a byte between tokens
 unfoldable pub between : State → ℕ → Stepped
@@ -133,14 +149,21 @@ between s b =
     else if is_operator_byte b then grow (operator_of b) s
     else word_byte (Word (length s.done)) (into (Word (length s.done)) WordOpen s) b
 
-abbrev pub after_word : State → ℕ → Stepped
-after_word s b = if is_top s.contexts then Before s else between s b
+-- behind a word; begins: a compound command may begin with it
+abbrev pub after_word : Bool → State → ℕ → Stepped
+after_word begins s b =
+    if is_top s.contexts then Before s
+    else if begins && is_over_full s then WordTooDeep s
+    else between s b
+
+abbrev pub end_word : Bool → State → ℕ → Stepped
+end_word r s b = after_word (word_begins r s.done (top_of s.contexts)) (word_out r s) b
 
 -- a byte where nothing has begun
 unfoldable pub plain_byte : State → ℕ → Stepped
 plain_byte s b =
     if between_tokens (top_of s.contexts) then between s b
-    else if is_word (top_of s.contexts) && is_end b then after_word (word_out (is_redirection b) s) b
+    else if is_word (top_of s.contexts) && is_end b then end_word (is_redirection b) s b
     else word_byte (top_of s.contexts) s b
 
 -- a byte behind a backslash, where nothing has begun

@@ -1,11 +1,11 @@
 -- What the scanner's calls answer, against the machine.
-use Rattle.std.specs.Prelude.{Bool, true, false, Option, Some, None}
 use Rattle.sh_scanner.specs.declared.step.Step.{Step}
 use Rattle.sh_scanner.specs.declared.scanner.Event.{Event}
 use Rattle.sh_scanner.specs.declared.scanner.Outcome.{Outcome}
+use Rattle.sh_scanner.specs.declared.scanner.Ending.{Ending as Told}
 use Rattle.sh_scanner.specs.declared.scanner.Marked.{Marked}
-use Rattle.sh_scanner.specs.Machine.{State, Stepped, On, Before, After, TooDeep, DollarTooDeep}
-use Rattle.sh_scanner.specs.Run.{Fed, Waits, Takes, Scanned, Ended, Deep, Open, Places}
+use Rattle.sh_scanner.specs.Machine.{State, Stepped, On, Before, After, TooDeep, DollarTooDeep, WordTooDeep}
+use Rattle.sh_scanner.specs.Run.{Fed, Waits, Takes, Scanned, Ended, Deep, Open, Places, Ending, EndsIn, EndsDeep, EndsNot}
 
 abbrev pub stepped : Step → State → Stepped
 stepped Step.On s = On s
@@ -13,6 +13,7 @@ stepped Step.Before s = Before s
 stepped Step.After s = After s
 stepped Step.TooDeep s = TooDeep s
 stepped Step.DollarTooDeep s = DollarTooDeep s
+stepped Step.WordTooDeep s = WordTooDeep s
 
 abbrev pub event : Event → State → Fed
 event (Event.Waits h) s = Waits h s
@@ -24,8 +25,9 @@ outcome (Outcome.Deep rest) = Deep rest.now
 outcome (Outcome.Open form) = Open form.now
 
 abbrev pub places : Marked → Places
-places m = record { front = m.front.now; previous = m.previous.now; behind = m.behind.now; next = m.next.now; form = m.form.now }
+places m = record { front = m.front.now; previous = m.previous.now; behind = m.behind.now; next = m.next.now; form = m.form.now; word = m.word.now }
 
-abbrev pub option_when : Bool → State → Option State
-option_when true s = Some s
-option_when false s = None
+abbrev pub ending : Told → State → Ending
+ending Told.Ended s = EndsIn s
+ending Told.TooDeep s = EndsDeep
+ending Told.Open s = EndsNot

@@ -19,7 +19,8 @@ pub enum BodyFault {
     /// The form that begins with the `$` or the backquote at `at` is open at the end of the body, and lies in no other.
     #[error("unfinished expansion at byte {at}")]
     Open { at: usize },
-    /// More levels than may be open, counted from the body: the piece at `at` opens one too many.
+    /// More levels than may be open, counted from the body: the piece at `at`, or the compound command that begins there, opens one
+    /// too many.
     #[error("too deep at byte {at}")]
     TooDeep { at: usize },
     /// There was not enough memory.

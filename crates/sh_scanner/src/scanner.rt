@@ -2,8 +2,8 @@
 ghost use Rattle.sh_scanner_base.specs.Marks.{top_of};
 ghost use Rattle.std.specs.Prelude.{◌≡◌, IfOk, Option, Some, None, length};
 ghost use Rattle.sh_scanner.specs.Machine.{step, same, word_out, operator_out};
-ghost use Rattle.sh_scanner.specs.Run.{Places, Scanned, Ended, Deep, Open, fed, is_gap_state, begins_in, begins_form, word_ended, gap_ended, ended_in, last_token, last_places, last_step, fronted, with_front, last, moved, waited, run, start, scanned_in};
-ghost use Rattle.sh_scanner.specs.Steps.{stepped, event, outcome, places, option_when};
+ghost use Rattle.sh_scanner.specs.Run.{Places, Scanned, Ended, Deep, Open, fed, is_gap_state, begins_in, begins_form, word_ended, gap_ended, ended_in, word_end, last_token, last_places, last_step, fronted, with_front, last, moved, waited, run, start, scanned_in};
+ghost use Rattle.sh_scanner.specs.Steps.{stepped, event, outcome, places, ending};
 
 use crate::state::State;
 use crate::step::{Step, take};
@@ -22,6 +22,17 @@ pub(crate) enum Event {
     Takes(Step),
 }
 
+/// What the end of the input ends.
+#[derive(Clone, Copy)]
+pub(crate) enum Ending {
+    /// A token.
+    Ended,
+    /// A word of a substitution that opens a level too many.
+    TooDeep,
+    /// Neither.
+    Open,
+}
+
 /// How a text goes.
 #[derive(Drop)]
 pub(crate) enum Outcome<'a> {
@@ -34,8 +45,8 @@ pub(crate) enum Outcome<'a> {
 }
 
 /// The text's parts that are kept: from the token's first byte on, from the first byte of the last character
-/// on, behind that character, from the next character's first byte on, and from the last byte on with which a form
-/// of a body may begin.
+/// on, behind that character, from the next character's first byte on, from the last byte on with which a form
+/// of a body may begin, and from the first byte on of the word of a substitution that began last.
 #[derive(Clone, Copy)]
 pub(crate) struct Marked<'a> {
     front: &'a [u8],
@@ -43,6 +54,7 @@ pub(crate) struct Marked<'a> {
     behind: &'a [u8],
     next: &'a [u8],
     form: &'a [u8],
+    word: &'a [u8],
 }
 
 /// One byte; `held`: a backslash came before it.
@@ -82,90 +94,111 @@ fn is_at_form(state: &State) -> bool
     state.contexts().is_body() && state.begins()
 }
 
-/// A body, or a word of the text itself, ends at the end of the input, or none does.
-fn end_word(state: &mut State) -> Result<bool, AllocError>
-    ensures { IfOk result (λ ended. word_ended state.old ≡ option_when ended state.new) }
+/// A word is over; `begins`: a compound command may begin with it.
+fn end_of_word(begins: bool, state: &State) -> Ending
+    ensures { word_end begins state.now ≡ ending result state.now }
+{
+    if state.contexts().is_text() {
+        return Ending::Ended;
+    }
+    if begins && state.is_over_full() {
+        return Ending::TooDeep;
+    }
+    Ending::Open
+}
+
+/// A body, or a word, ends at the end of the input, or none does.
+fn end_word(state: &mut State) -> Result<Ending, AllocError>
+    ensures { IfOk result (λ e. word_ended state.old ≡ ending e state.new) }
 {
     if state.contexts().is_body() {
-        return Ok(true);
+        return Ok(Ending::Ended);
     }
     if !state.contexts().is_word() {
-        return Ok(false);
+        return Ok(Ending::Open);
     }
+    let begins = state.word_begins_compound(false)?;
     state.close_word(false)?;
-    Ok(state.contexts().is_text())
+    Ok(end_of_word(begins, state))
 }
 
 /// The token that the end of the input ends, where nothing has begun.
-fn end_gap(state: &mut State) -> Result<bool, AllocError>
-    ensures { IfOk result (λ ended. gap_ended state.old ≡ option_when ended state.new) }
+fn end_gap(state: &mut State) -> Result<Ending, AllocError>
+    ensures { IfOk result (λ e. gap_ended state.old ≡ ending e state.new) }
 {
     if state.contexts().is_text() {
-        return Ok(true);
+        return Ok(Ending::Ended);
     }
-    let ended = end_word(state)?;
-    Ok(ended)
+    let end = end_word(state)?;
+    Ok(end)
 }
 
 /// The token that the end of the input ends, if there is one.
-fn end(state: &mut State) -> Result<bool, AllocError>
-    ensures { IfOk result (λ ended. ended_in state.old.pending state.old ≡ option_when ended state.new) }
+fn end(state: &mut State) -> Result<Ending, AllocError>
+    ensures { IfOk result (λ e. ended_in state.old.pending state.old ≡ ending e state.new) }
 {
     match state.pending() {
         Pending::Nothing => {
-            let ended = end_gap(state)?;
-            Ok(ended)
+            let end = end_gap(state)?;
+            Ok(end)
         },
         Pending::Comment => {
             let bytes = state.take_bytes();
             state.same(Mark::Comment(bytes))?;
-            let ended = end_gap(state)?;
-            Ok(ended)
+            let end = end_gap(state)?;
+            Ok(end)
         },
         Pending::Dollar => {
             state.same(Mark::Dollar)?;
-            let ended = end_word(state)?;
-            Ok(ended)
+            let end = end_word(state)?;
+            Ok(end)
         },
         Pending::Name => {
             state.close_name()?;
-            let ended = end_word(state)?;
-            Ok(ended)
+            let end = end_word(state)?;
+            Ok(end)
         },
         Pending::Operator(operator) => {
             if !state.contexts().is_text() {
-                return Ok(false);
+                return Ok(Ending::Open);
             }
             state.operator_out(operator)?;
-            Ok(true)
+            Ok(Ending::Ended)
         },
-        Pending::DollarParenthesis => Ok(false),
-        Pending::Head(_) => Ok(false),
-        Pending::Single => Ok(false),
-        Pending::Backquotes => Ok(false),
-        Pending::BackquotesEscape => Ok(false),
-        Pending::Parenthesis => Ok(false),
-        Pending::Body { .. } => Ok(false),
+        Pending::DollarParenthesis => Ok(Ending::Open),
+        Pending::Head(_) => Ok(Ending::Open),
+        Pending::Single => Ok(Ending::Open),
+        Pending::Backquotes => Ok(Ending::Open),
+        Pending::BackquotesEscape => Ok(Ending::Open),
+        Pending::Parenthesis => Ok(Ending::Open),
+        Pending::Body { .. } => Ok(Ending::Open),
     }
 }
 
-fn ended_outcome<'a>(ended: bool, state: State, at: Marked<'a>) -> Outcome<'a>
-    ensures { last_token (option_when ended state) at.entry.front.now at.entry.behind.now at.entry.form.now ≡ outcome result }
+/// The end of the input.
+fn end_at<'a>(mut state: State, at: Marked<'a>) -> Result<Outcome<'a>, AllocError>
+    ensures { IfOk result (λ r. last_places state (places at.entry) ≡ outcome r) }
 {
-    if ended {
-        Outcome::Ended(state, at.front, at.behind)
-    } else {
-        Outcome::Open(at.form)
+    let ended = end(&mut state)?;
+    Ok(end_outcome(ended, state, at))
+}
+
+fn end_outcome<'a>(end: Ending, state: State, at: Marked<'a>) -> Outcome<'a>
+    ensures { last_token (ending end state) (places at.entry) ≡ outcome result }
+{
+    match end {
+        Ending::Ended => Outcome::Ended(state, at.front, at.behind),
+        Ending::TooDeep => Outcome::Deep(at.word),
+        Ending::Open => Outcome::Open(at.form),
     }
 }
 
 /// The end of the input behind a character.
-fn finish_at<'a>(mut state: State, at: Marked<'a>) -> Result<Outcome<'a>, AllocError>
+fn finish_at<'a>(state: State, at: Marked<'a>) -> Result<Outcome<'a>, AllocError>
     ensures { IfOk result (λ r. last_places state (with_front state (places at.entry)) ≡ outcome r) }
 {
     let here = at.with_front(is_in_gap(&state));
-    let ended = end(&mut state)?;
-    Ok(ended_outcome(ended, state, here))
+    end_at(state, here)
 }
 
 /// The end of the input; `held`: a backslash waits, which then stands for itself.
@@ -173,19 +206,20 @@ fn finish<'a>(held: bool, mut state: State, at: Marked<'a>) -> Result<Outcome<'a
     ensures { IfOk result (λ r. last held state (places at.entry) ≡ outcome r) }
 {
     if !held {
-        let ended = end(&mut state)?;
-        return Ok(ended_outcome(ended, state, at));
+        return end_at(state, at);
     }
     match take(&mut state, Character::Plain(b'\\'))? {
         Step::On => {
             let begins = is_at_form(&state);
-            let outcome = finish_at(state, at.moved(begins, &[]))?;
+            let word = state.begins_word();
+            let outcome = finish_at(state, at.moved(begins, word, &[]))?;
             Ok(outcome)
         },
         Step::Before => Ok(Outcome::Ended(state, at.front, at.behind)),
         Step::After => Ok(Outcome::Ended(state, at.front, &[])),
         Step::TooDeep => Ok(Outcome::Deep(at.next)),
         Step::DollarTooDeep => Ok(Outcome::Deep(at.previous)),
+        Step::WordTooDeep => Ok(Outcome::Deep(at.word)),
     }
 }
 
@@ -219,9 +253,9 @@ impl<'a> Marked<'a> {
         }
     }
 
-    /// Behind a character that was taken, with which a form of a body may begin.
-    fn moved(self, begins: bool, after: &'a [u8]) -> Self
-        ensures { places result ≡ moved begins after.now (places self.entry) }
+    /// Behind a character that was taken, with which a form of a body may begin, or a word of a substitution.
+    fn moved(self, begins: bool, word: bool, after: &'a [u8]) -> Self
+        ensures { places result ≡ moved begins word after.now (places self.entry) }
     {
         Marked {
             front: self.front,
@@ -229,6 +263,7 @@ impl<'a> Marked<'a> {
             behind: after,
             next: after,
             form: if begins { self.next } else { self.form },
+            word: if word { self.next } else { self.word },
         }
     }
 }
@@ -251,6 +286,7 @@ pub(crate) fn scan<'a>(
         behind: text,
         next: text,
         form: text,
+        word: text,
     };
     let mut left = text;
     while let Some((b, after)) = left.split_first() {
@@ -264,7 +300,7 @@ pub(crate) fn scan<'a>(
             },
             Event::Takes(Step::On) => {
                 held = false;
-                at = here.moved(is_at_form(&state), after);
+                at = here.moved(is_at_form(&state), state.begins_word(), after);
                 left = after;
                 continue;
             },
@@ -272,6 +308,7 @@ pub(crate) fn scan<'a>(
             Event::Takes(Step::After) => return Ok(Outcome::Ended(state, here.front, after)),
             Event::Takes(Step::TooDeep) => return Ok(Outcome::Deep(here.next)),
             Event::Takes(Step::DollarTooDeep) => return Ok(Outcome::Deep(here.previous)),
+            Event::Takes(Step::WordTooDeep) => return Ok(Outcome::Deep(here.word)),
         }
     }
     if !at_end {

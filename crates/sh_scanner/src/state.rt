@@ -1,14 +1,14 @@
 //! A scanner between two characters.
 ghost use Rattle.sh_scanner_base.specs.Marks.{top_of};
-ghost use Rattle.std.specs.Prelude.{◌≡◌, ◌++◌, ◌∷◌, [], OnOk, IfOk, length, drop, suc, Some};
+ghost use Rattle.std.specs.Prelude.{◌≡◌, ◌++◌, ◌∷◌, [], OnOk, IfOk, length, drop, suc, Some, ◌+◌, ◌-◌};
 ghost use Rattle.sh_scanner_base.specs.declared.context.Context.TheVariants.{Word, Commands};
 ghost use Rattle.sh_scanner_base.specs.declared.pending.Pending.{Pending};
 ghost use Rattle.sh_scanner_base.specs.declared.mark.Mark.TheVariants.{WordOpen, CommandsOpen, Variable, BraceOpen};
-ghost use Rattle.sh_scanner_base.specs.Marks.{between_tokens, is_word, is_quotes, is_braces, is_arithmetic, is_parenthesis, quotes, has_single_quotes, has_double_quotes, is_quoted, may_close, braces_of};
+ghost use Rattle.sh_scanner_base.specs.Marks.{between_tokens, is_word, is_quotes, is_braces, is_arithmetic, is_parenthesis, quotes, has_single_quotes, has_double_quotes, is_quoted, may_close, braces_of, compounds_in, word_begins};
 ghost use Rattle.sh_scanner_base.specs.Nested.{none_yet};
 ghost use Rattle.sh_scanner.specs.Steps.{stepped};
-ghost use Rattle.sh_scanner.specs.Run.{start, begins_in};
-ghost use Rattle.sh_scanner.specs.Machine.{same, into, out, pend, keep, opens, out_level, level_over, word_out, operator_out, bodies_out, line_of};
+ghost use Rattle.sh_scanner.specs.Run.{start, begins_in, begins_word};
+ghost use Rattle.sh_scanner.specs.Machine.{same, into, out, pend, keep, opens, out_level, level_over, word_out, operator_out, bodies_out, line_of, is_over_full};
 
 use crate::step::Step;
 use sh_scanner_base::context::{Context, Nested};
@@ -124,12 +124,54 @@ impl State {
         self.push(mark)
     }
 
-    /// A piece that leaves a context which is a level.
+    /// A piece that leaves a context which is a level, with the compound commands in it.
     pub(crate) fn out_level(&mut self, mark: Mark) -> Result<(), AllocError>
         ensures { OnOk result (self.new ≡ out_level mark self.old) }
     {
+        let compounds = self.contexts.open_compounds();
         self.contexts.pop();
+        self.levels = self.levels.saturating_sub(compounds);
         self.level_over(mark)
+    }
+
+    /// The levels with the compound commands of the innermost context in place of so many.
+    fn replace_compounds(&mut self, before: usize) -> Result<(), AllocError>
+        ensures { OnOk result (self.new ≡ record self.old { levels = (self.old.levels - before) + compounds_in (top_of self.old.contexts) }) }
+    {
+        let others = self.levels.saturating_sub(before);
+        let Some(levels) = others.checked_add(self.contexts.open_compounds()) else {
+            return Err(AllocError);
+        };
+        self.levels = levels;
+        Ok(())
+    }
+
+    /// Whether too many levels are open.
+    pub(crate) fn is_over_full(&self) -> bool
+        ensures { result ≡ is_over_full self.now }
+    {
+        self.limit < self.levels
+    }
+
+    /// Whether a compound command may begin with the word that is over.
+    pub(crate) fn word_begins_compound(&self, redirection: bool) -> Result<bool, AllocError>
+        ensures { IfOk result (λ begins. begins ≡ word_begins redirection self.now.done (top_of self.now.contexts)) }
+    {
+        self.contexts
+            .word_begins_compound(redirection, self.done.as_slice())
+    }
+
+    /// Whether a word of a substitution may have begun with the last character.
+    pub(crate) fn begins_word(&self) -> bool
+        ensures { result ≡ begins_word self.now }
+    {
+        let Some(begin) = self.contexts.word() else {
+            return false;
+        };
+        if begin >= self.done.len() {
+            return false;
+        }
+        matches!(self.pending, Pending::Nothing) && self.done.len() - begin == 2
     }
 
     /// A piece that was a level.
@@ -194,7 +236,9 @@ impl State {
     pub(crate) fn close_word(&mut self, redirection: bool) -> Result<(), AllocError>
         ensures { OnOk result (self.new ≡ word_out redirection self.old) }
     {
+        let compounds = self.contexts.compounds_around();
         self.contexts.close_word(redirection, self.done.as_slice())?;
+        self.replace_compounds(compounds)?;
         self.push(Mark::WordClose(redirection))
     }
 
@@ -202,7 +246,9 @@ impl State {
     pub(crate) fn operator_out(&mut self, operator: Operator) -> Result<(), AllocError>
         ensures { OnOk result (self.new ≡ operator_out operator self.old) }
     {
+        let compounds = self.contexts.open_compounds();
         self.contexts.take_operator(operator)?;
+        self.replace_compounds(compounds)?;
         self.push(Mark::Operator(operator))
     }
 
@@ -210,7 +256,9 @@ impl State {
     pub(crate) fn bodies_out(&mut self) -> Result<(), AllocError>
         ensures { OnOk result (self.new ≡ bodies_out self.old) }
     {
+        let compounds = self.contexts.open_compounds();
         self.contexts.take_bodies()?;
+        self.replace_compounds(compounds)?;
         self.bytes.push(b'\n')?;
         let bytes = self.take_bytes();
         self.push(Mark::Bodies(bytes))

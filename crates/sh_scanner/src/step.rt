@@ -4,7 +4,7 @@ ghost use Rattle.sh_scanner_base.specs.Growth.{operator_of, may_grow};
 ghost use Rattle.std.specs.Prelude.{◌≡◌, IfOk, Option, Some, None};
 ghost use Rattle.sh_scanner_base.specs.Growth.{grown};
 ghost use Rattle.sh_scanner_base.specs.Heads.{grown_head};
-ghost use Rattle.sh_scanner.specs.Machine.{inner_byte, word_byte, grow, between, after_word, plain_byte, escape, quoted_byte, act, form_byte, after_dollar, after_parenthesis, in_name, headed, in_head, in_single, in_backquotes, in_escape, at_parenthesis, then_act, grow_to, in_operator, in_comment, step_in, step, opens, at_dollar, over};
+ghost use Rattle.sh_scanner.specs.Machine.{inner_byte, word_byte, grow, between, after_word, end_word, plain_byte, escape, quoted_byte, act, form_byte, after_dollar, after_parenthesis, in_name, headed, in_head, in_single, in_backquotes, in_escape, at_parenthesis, then_act, grow_to, in_operator, in_comment, step_in, step, opens, at_dollar, over};
 ghost use Rattle.sh_scanner.specs.Steps.{stepped};
 
 use crate::body::take_in_body;
@@ -30,6 +30,8 @@ pub(crate) enum Step {
     TooDeep,
     /// A level too many would open with the `$` before it.
     DollarTooDeep,
+    /// A level too many has opened with the word of a substitution that ended before the character.
+    WordTooDeep,
 }
 
 /// A byte of a word or of a part of one, but for one that ends the word.
@@ -97,6 +99,9 @@ fn take_operator(state: &mut State, operator: Operator) -> Result<Step, AllocErr
     if state.contexts().is_text() {
         return Ok(Step::After);
     }
+    if operator.class().begins_compound() && state.is_over_full() {
+        return Ok(Step::TooDeep);
+    }
     Ok(Step::On)
 }
 
@@ -134,14 +139,27 @@ fn take_between(state: &mut State, b: u8) -> Result<Step, AllocError>
     Ok(step)
 }
 
-/// A byte behind a word.
-fn take_after_word(state: &mut State, b: u8) -> Result<Step, AllocError>
-    ensures { IfOk result (λ w. after_word state.old b ≡ stepped w state.new) }
+/// A byte behind a word; `begins`: a compound command may begin with it.
+fn take_after_word(begins: bool, state: &mut State, b: u8) -> Result<Step, AllocError>
+    ensures { IfOk result (λ w. after_word begins state.old b ≡ stepped w state.new) }
 {
     if state.contexts().is_text() {
         return Ok(Step::Before);
     }
+    if begins && state.is_over_full() {
+        return Ok(Step::WordTooDeep);
+    }
     let step = take_between(state, b)?;
+    Ok(step)
+}
+
+/// A byte that ends a word; `redirection`: it is `<` or `>`.
+fn take_word_end(redirection: bool, state: &mut State, b: u8) -> Result<Step, AllocError>
+    ensures { IfOk result (λ w. end_word redirection state.old b ≡ stepped w state.new) }
+{
+    let begins = state.word_begins_compound(redirection)?;
+    state.close_word(redirection)?;
+    let step = take_after_word(begins, state, b)?;
     Ok(step)
 }
 
@@ -155,8 +173,7 @@ fn take_plain_byte(state: &mut State, b: u8) -> Result<Step, AllocError>
         return Ok(step);
     }
     if state.contexts().is_word() && byte::ends_word(b) {
-        state.close_word(byte::begins_redirection(b))?;
-        let step = take_after_word(state, b)?;
+        let step = take_word_end(byte::begins_redirection(b), state, b)?;
         return Ok(step);
     }
     let step = take_word_byte(state, b)?;
@@ -214,6 +231,7 @@ fn open_form(state: &mut State, pending: Pending) -> Step
         Step::After => Step::After,
         Step::TooDeep => Step::DollarTooDeep,
         Step::DollarTooDeep => Step::DollarTooDeep,
+        Step::WordTooDeep => Step::WordTooDeep,
     }
 }
 

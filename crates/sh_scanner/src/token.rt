@@ -41,7 +41,7 @@ pub enum TokenFault {
     /// The text ends within the token, or the token might go on behind it.
     #[error("unfinished token")]
     Unfinished,
-    /// More levels than may be open: the piece at `at` opens one too many.
+    /// More levels than may be open: the piece at `at`, or the compound command that begins there, opens one too many.
     #[error("too deep at byte {at}")]
     TooDeep { at: usize },
     /// There was not enough memory.
@@ -67,8 +67,9 @@ const LEVELS: usize = 500;
 /// text's end is that of the input. Behind the text nothing stands, so that an `at` there gives `End`, or
 /// `Unfinished` where the input goes on. The bodies of here-documents inside a command substitution belong to the
 /// word (XCU 2.7.4); one that is due where the substitution ends is empty. Bodies of here-documents of the text itself
-/// are for the caller to take. In the token 500 levels may be open. A NUL is a byte like any other: that no text of a script has
-/// one is for the caller to say.
+/// are for the caller to take. In the token 500 levels may be open: `${`, `$(`, `$((` and backquotes are levels, and so are the
+/// compound commands inside a `$(`, each from its first token to its last. A NUL is a byte like any other: that no text of a script
+/// has one is for the caller to say.
 pub fn next_token(alloc: Global, text: &[u8], at: usize, at_end: bool) -> Result<Token, TokenFault>
     // The answer is the first token's, by `first_token`, or memory ran out.
     ensures answers { Gives result (answer_at at (first_token at_end 500 (drop at text.now))) }

@@ -1,5 +1,5 @@
 -- The tokens of a substitution, as the recognizer has them.
-use Rattle.std.proofs.Common.{◌≡◌, ◌↔◌, Bool, true, false, IsTrue, List, [], ◌∷◌, ◌++◌, Option, Some, None, refl, sym, subst}
+use Rattle.std.proofs.Common.{◌≡◌, ◌↔◌, ℕ, Bool, true, false, IsTrue, List, [], ◌∷◌, ◌++◌, Option, Some, None, refl, sym, subst}
 use Rattle.sh_grammar.specs.declared.Symbol.{Symbol}
 use Rattle.sh_grammar.specs.declared.Token.{Token}
 use Rattle.sh_grammar.specs.Tabulation.{Tabulation, grammar_of}
@@ -8,8 +8,10 @@ use Rattle.sh_grammar.specs.Text.{IsText, BeginsText}
 use Rattle.sh_grammar.specs.Recognized.{Recognized}
 use Rattle.sh_grammar.specs.Computed.{is_whole, is_front, stack_after, may_stop, continues}
 use Rattle.sh_grammar.proofs.Computing.{whole_text, front_text}
-use Rattle.sh_token_base.specs.Shell.{substitution}
+use Rattle.sh_grammar.specs.Awaited.{times_in}
+use Rattle.sh_token_base.specs.Shell.{substitution, compound_end, number_of}
 use Rattle.sh_token_base.proofs.Passing.{substitution_predictive}
+use Rattle.sh_scanner_base.specs.Nested.{open_in}
 
 both : (a b : Bool) → (a ≡ true → b ≡ true) → (b ≡ true → a ≡ true) → a ≡ b
 both true b f g = sym (f refl)
@@ -36,3 +38,12 @@ whole_front d ts h = stops_continue d (stack_after (grammar_of d) (table_of d) (
 -- what is no front is no whole text
 pub no_front : (ts : List Token) → is_front substitution ts ≡ false → false ≡ is_whole substitution ts
 no_front ts h = both false (is_whole substitution ts) (λ x. absurd (cc)) (λ w. let f = whole_front substitution ts w in absurd (cc))
+
+none_awaited : (n : ℕ) (s : Option (List Symbol)) → continues s ≡ false → 0 ≡ times_in n s
+none_awaited n None h = refl
+none_awaited n (Some s) h = absurd (cc)
+
+-- behind a token that was refused no compound command is open
+pub none_open : (ts : List Token) → is_front substitution ts ≡ false → 0 ≡ open_in ts
+unfolding open_in
+none_open ts h = none_awaited (number_of compound_end) (stack_after (grammar_of substitution) (table_of substitution) (Some (Symbol.Nonterminal substitution.start ∷ [])) ts) h

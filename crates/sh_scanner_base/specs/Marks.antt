@@ -1,9 +1,10 @@
 -- What a text is made of (XCU 2.2, 2.3, 2.6): pieces, how each is written, and where each may stand.
-use Rattle.std.specs.Prelude.{◌≡◌, ℕ, suc, Bool, true, false, ◌||◌, ◌&&◌, not, nat_eq, nat_lt, List, [], ◌∷◌, ◌++◌, length, drop, Option, Some, None, if◌then◌else◌}
+use Rattle.std.specs.Prelude.{◌≡◌, ℕ, suc, ◌+◌, Bool, true, false, ◌||◌, ◌&&◌, not, nat_eq, nat_lt, List, [], ◌∷◌, ◌++◌, length, drop, Option, Some, None, if◌then◌else◌}
 use Rattle.std.specs.List.{list_all}
 use Rattle.std.specs.Str.{bytes_eq}
 use Rattle.sh_grammar.specs.Computed.{is_whole}
 use Rattle.sh_token_base.specs.Classes.{is_name}
+use Rattle.sh_token_base.specs.Levels.{begins_compound}
 use Rattle.sh_token_base.specs.Shell.{substitution}
 use Rattle.sh_scanner_base.specs.declared.character.Character.TheVariants.{Plain, Quoted, Raw}
 use Rattle.sh_scanner_base.specs.declared.operator.Operator.{Operator}
@@ -15,8 +16,8 @@ use Rattle.sh_scanner_base.specs.declared.mark.Mark.TheVariants.{Byte, Escaped, 
 use Rattle.sh_scanner_base.specs.Spelling.{spell_mark}
 use Rattle.sh_scanner_base.specs.declared.here.Delimiter.{Delimiter}
 use Rattle.sh_scanner_base.specs.Here.{lines, are_bodies}
-use Rattle.sh_scanner_base.specs.Nested.{none_yet}
-use Rattle.sh_scanner_base.specs.Told.{Told, OfOperator, OfWord, OfBodies, with_told}
+use Rattle.sh_scanner_base.specs.Nested.{none_yet, open_in}
+use Rattle.sh_scanner_base.specs.Told.{Told, OfOperator, OfWord, OfBodies, with_told, class_of_word, class_of_operator}
 use Rattle.sh_scanner_base.specs.Bytes.{is_blank, is_end, is_redirection, is_name_byte, is_short_parameter, is_form, is_quoted_escape, is_no_quote, is_no_newline}
 use Rattle.sh_scanner_base.specs.Operators.{operator_text}
 use Rattle.sh_scanner_base.specs.Growth.{grown, may_grow}
@@ -178,6 +179,17 @@ is_word (Braces q) = false
 is_word Arithmetic = false
 is_word Parenthesis = false
 is_word Body = false
+
+-- behind how many pieces a word began
+abbrev pub word_place : Context → Option ℕ
+word_place Top = None
+word_place (Commands ts) = None
+word_place (Word n) = Some n
+word_place Quotes = None
+word_place (Braces q) = None
+word_place Arithmetic = None
+word_place Parenthesis = None
+word_place Body = None
 
 abbrev pub is_quotes : Context → Bool
 is_quotes Top = false
@@ -349,26 +361,42 @@ is_body Arithmetic = false
 is_body Parenthesis = false
 is_body Body = true
 
--- `${`, `$((` and `$(` are levels
-abbrev pub counts : Context → Bool
-counts Top = false
-counts (Commands ts) = true
-counts (Word n) = false
-counts Quotes = false
-counts (Braces q) = true
-counts Arithmetic = true
-counts Parenthesis = false
-counts Body = false
+-- the compound commands that are open in a context
+abbrev pub compounds_in : Context → ℕ
+compounds_in Top = 0
+compounds_in (Commands ts) = open_in ts.tokens
+compounds_in (Word n) = 0
+compounds_in Quotes = 0
+compounds_in (Braces q) = 0
+compounds_in Arithmetic = 0
+compounds_in Parenthesis = 0
+compounds_in Body = 0
+
+-- the levels with those of a context more: `${` and `$((` are one, `$(` is one with each compound command that is open in it
+abbrev pub with_levels : Context → ℕ → ℕ
+with_levels Top n = n
+with_levels (Commands ts) n = suc (open_in ts.tokens + n)
+with_levels (Word k) n = n
+with_levels Quotes n = n
+with_levels (Braces q) n = suc n
+with_levels Arithmetic n = suc n
+with_levels Parenthesis n = n
+with_levels Body n = n
 
 -- how many levels are open
 abbrev pub levels : List Context → ℕ
 levels [] = 0
-levels (x ∷ xs) = if counts x then suc (levels xs) else levels xs
+levels (x ∷ xs) = with_levels x (levels xs)
 
 -- the innermost context
 abbrev pub top_of : List Context → Context
 top_of [] = Top
 top_of (x ∷ xs) = x
+
+-- the context around the innermost one
+abbrev pub around_of : List Context → Context
+around_of [] = Top
+around_of (x ∷ xs) = top_of xs
 
 -- what opens a level; backquotes do so for as long as they last
 abbrev pub opens_level : Mark → Bool
@@ -378,18 +406,40 @@ opens_level CommandsOpen = true
 opens_level (Backquoted bs) = true
 opens_level m = false
 
--- the bytes begin with the piece, and may do so in these contexts, there being at most so many levels (limit)
-pub record IsMark (e : Bool) (limit : ℕ) (x : Context) (xs : List Context) (m : Mark) (bytes after : List ℕ) : Type 0 where
+-- the word that is over there is a token with which a compound command begins
+abbrev pub word_begins : Bool → List Mark → Context → Bool
+word_begins r done Top = false
+word_begins r done (Commands ts) = false
+word_begins r done (Word n) = begins_compound (class_of_word r (drop (suc n) done))
+word_begins r done Quotes = false
+word_begins r done (Braces q) = false
+word_begins r done Arithmetic = false
+word_begins r done Parenthesis = false
+word_begins r done Body = false
+
+-- with this piece a token is over with which a compound command begins
+abbrev pub begins_compound_in : List Mark → Context → Mark → Bool
+begins_compound_in done x (WordClose r) = word_begins r done x
+begins_compound_in done x (Mark.Operator o) = begins_compound (class_of_operator o)
+begins_compound_in done x m = false
+
+-- with this piece a token is over that opens a level too many
+abbrev pub exceeds : ℕ → List Mark → Context → List Context → Mark → Bool
+exceeds limit done x xs m = begins_compound_in done x m && nat_lt limit (levels (behind done x xs m))
+
+-- the bytes begin with the piece, and may do so in these contexts, there being at most so many levels (limit); `done` is what came before
+pub record IsMark (e : Bool) (limit : ℕ) (done : List Mark) (x : Context) (xs : List Context) (m : Mark) (bytes after : List ℕ) : Type 0 where
   pub written : Written e (spell_mark m) bytes after
   pub fits : fits e x m after ≡ true
   pub level : (opens_level m && not (nat_lt (levels (x ∷ xs)) limit)) ≡ false
+  pub compound : exceeds limit done x xs m ≡ false
 
 -- the bytes are these pieces, one behind another, and then the rest; `done` and the contexts are what came before
 abbrev pub AreMarks : Bool → ℕ → List Mark → List Context → List Mark → List ℕ → List ℕ → Type 0
 AreMarks e limit done xs [] bytes rest = bytes ≡ rest
 AreMarks e limit done [] (m ∷ ms) bytes rest = ⊥
 AreMarks e limit done (x ∷ xs) (m ∷ ms) bytes rest =
-    (after : List ℕ) × (IsMark e limit x xs m bytes after) × AreMarks e limit (done ++ m ∷ []) (behind done x xs m) ms after rest
+    (after : List ℕ) × (IsMark e limit done x xs m bytes after) × AreMarks e limit (done ++ m ∷ []) (behind done x xs m) ms after rest
 
 -- the contexts behind them
 abbrev pub contexts_behind : List Mark → List Context → List Mark → List Context

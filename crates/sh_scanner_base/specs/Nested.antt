@@ -1,6 +1,8 @@
 -- What is known of a command substitution behind some of its tokens.
-use Rattle.std.specs.Prelude.{List, [], Option, None}
+use Rattle.std.specs.Prelude.{ℕ, List, [], Option, None}
 use Rattle.sh_grammar.specs.declared.Token.{Token}
+use Rattle.sh_token_base.specs.Levels.{open_compounds}
+use Rattle.sh_token_base.specs.Shell.{substitution}
 use Rattle.sh_scanner_base.specs.declared.here.Tabs.{Tabs}
 use Rattle.sh_scanner_base.specs.declared.here.Delimiter.{Delimiter}
 
@@ -14,3 +16,7 @@ pub record Nested : Type 0 where
 
 abbrev pub none_yet : Nested
 none_yet = record { tokens = []; expected = None; due = [] }
+
+-- how many compound commands are open behind the tokens; behind a token that no compound list goes on with there is none
+unfoldable pub open_in : List Token → ℕ
+open_in tokens = open_compounds substitution tokens

@@ -3,9 +3,9 @@ ghost use Rattle.std.specs.Prelude.{◌≡◌, ◌++◌, ◌∷◌, [], IfOk, On
 ghost use Rattle.sh_grammar.specs.Computed.{is_whole, is_front};
 ghost use Rattle.sh_token_base.specs.Shell.{substitution};
 ghost use Rattle.sh_scanner_base.specs.Taken.{followed_by, token_of};
-ghost use Rattle.sh_scanner_base.specs.Nested.{none_yet};
+ghost use Rattle.sh_scanner_base.specs.Nested.{none_yet, open_in};
 ghost use Rattle.sh_scanner_base.specs.Told.{OfOperator, OfWord, OfBodies, with_told, with_delimiter, class_of};
-ghost use Rattle.sh_scanner_base.specs.Marks.{is_word, is_quotes, is_braces, is_arithmetic, quotes, has_single_quotes, has_double_quotes, is_quoted, may_close, between_tokens, is_parenthesis, is_text, with_class, due_in, has_due};
+ghost use Rattle.sh_scanner_base.specs.Marks.{is_word, is_quotes, is_braces, is_arithmetic, quotes, has_single_quotes, has_double_quotes, is_quoted, may_close, between_tokens, is_parenthesis, is_text, with_class, compounds_in, due_in, has_due};
 
 use crate::byte;
 use crate::here::{Delimiter, Tabs};
@@ -14,6 +14,7 @@ use crate::operator::Operator;
 use sh_grammar::{Recognizer, Token};
 use sh_token_base::class::TokenClass;
 use sh_token_base::grammar::substituted;
+use sh_token_base::levels::{keep_open_compounds, open_compounds};
 use std::alloc::{AllocError, Global};
 use std::marker::Model;
 
@@ -44,7 +45,8 @@ impl Tokens {
     pub fn new(alloc: Global) -> Result<Self, AllocError>
         ensures { IfOk result (λ t. t ≡ []) }
     {
-        let recognizer = Recognizer::new(alloc, substituted())?;
+        let mut recognizer = Recognizer::new(alloc, substituted())?;
+        keep_open_compounds(&mut recognizer);
         Ok(Tokens {
             recognizer,
             refused: None,
@@ -68,6 +70,17 @@ impl Tokens {
         Ok(())
     }
 
+    /// How many compound commands are open behind them; none where one was refused.
+    #[tactic(auto, using(crate::proofs::Tokens::none_open))]
+    fn open_compounds(&self) -> usize
+        ensures { result ≡ open_in self.now }
+    {
+        if self.refused.is_some() {
+            return 0;
+        }
+        open_behind(&self.recognizer)
+    }
+
     /// Whether they are a compound list, or newlines alone.
     pub(crate) fn may_end(&self) -> bool
         ensures { result ≡ is_whole substitution self.now }
@@ -85,6 +98,15 @@ fn is_list(recognizer: &Recognizer<'static>) -> bool
     ensures { result ≡ is_whole substitution recognizer.now.tokens }
 {
     recognizer.may_end()
+}
+
+/// How many compound commands are open behind the tokens taken.
+#[tactic(auto, unfolding(crate::specs::Nested::open_in))]
+fn open_behind(recognizer: &Recognizer<'static>) -> usize
+    requires { recognizer.now.grammar ≡ substitution }
+    ensures { result ≡ open_in recognizer.now.tokens }
+{
+    open_compounds(recognizer)
 }
 
 /// Takes a token, or refuses it.
@@ -228,6 +250,16 @@ impl Context {
         match self {
             Context::Commands(nested) => nested.tokens.may_end(),
             _ => false,
+        }
+    }
+
+    /// How many compound commands are open in it.
+    pub(crate) fn open_compounds(&self) -> usize
+        ensures { result ≡ compounds_in self.now }
+    {
+        match self {
+            Context::Commands(nested) => nested.tokens.open_compounds(),
+            _ => 0,
         }
     }
 

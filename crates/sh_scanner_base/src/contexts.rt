@@ -1,11 +1,11 @@
 //! The open contexts of a text, one in the other.
 ghost use Rattle.std.specs.Prelude.{◌≡◌, ◌∷◌, [], OnOk, OnErr, IfOk, MatchOption};
-ghost use Rattle.sh_scanner_base.specs.Marks.{top_of, with_token, with_class, class_behind, word_over, is_text, is_body, between_tokens, is_word, is_quotes, is_braces, is_arithmetic, is_parenthesis, quotes, has_single_quotes, has_double_quotes, is_quoted, may_close, due_in};
+ghost use Rattle.sh_scanner_base.specs.Marks.{top_of, with_token, with_class, class_behind, word_over, is_text, is_body, between_tokens, is_word, is_quotes, is_braces, is_arithmetic, is_parenthesis, quotes, has_single_quotes, has_double_quotes, is_quoted, may_close, compounds_in, around_of, word_begins, word_place, due_in};
 ghost use Rattle.sh_scanner_base.specs.Told.{OfOperator, OfWord, OfBodies};
 
 use crate::context::Context;
 use crate::here::Delimiter;
-use crate::mark::{Mark, pieces_behind};
+use crate::mark::{Mark, pieces_behind, word_class};
 use crate::operator::Operator;
 use std::alloc::{AllocError, Global};
 use std::marker::Model;
@@ -51,6 +51,44 @@ impl Contexts {
         self.items.pop()
     }
 
+    /// How many compound commands are open in the innermost context.
+    pub fn open_compounds(&self) -> usize
+        ensures { result ≡ compounds_in (top_of self.now) }
+    {
+        match self.items.last() {
+            Some(context) => context.open_compounds(),
+            None => 0,
+        }
+    }
+
+    /// How many compound commands are open in the context around the innermost one.
+    pub fn compounds_around(&self) -> usize
+        ensures { result ≡ compounds_in (around_of self.now) }
+    {
+        let Some((_, below)) = self.items.split_last() else {
+            return 0;
+        };
+        match below.last() {
+            Some(context) => context.open_compounds(),
+            None => 0,
+        }
+    }
+
+    /// Whether a compound command may begin with the word that is over in a text of these pieces.
+    pub fn word_begins_compound(
+        &self,
+        redirection: bool,
+        pieces: &[Mark],
+    ) -> Result<bool, AllocError>
+        ensures { IfOk result (λ begins. begins ≡ word_begins redirection pieces.now (top_of self.now)) }
+    {
+        let Some(Context::Word(begin)) = self.items.last() else {
+            return Ok(false);
+        };
+        let class = word_class(self.alloc, redirection, pieces_behind(pieces, *begin))?;
+        Ok(class.begins_compound())
+    }
+
     /// Between tokens.
     pub fn is_between_tokens(&self) -> bool
         ensures { result ≡ between_tokens (top_of self.now) }
@@ -82,6 +120,16 @@ impl Contexts {
         ensures { result ≡ is_word (top_of self.now) }
     {
         matches!(self.items.last(), Some(Context::Word(_)))
+    }
+
+    /// The number of pieces behind which the word began, where this is one.
+    pub fn word(&self) -> Option<usize>
+        ensures { result ≡ word_place (top_of self.now) }
+    {
+        match self.items.last() {
+            Some(Context::Word(begin)) => Some(*begin),
+            _ => None,
+        }
     }
 
     /// In double quotes.

@@ -6,4 +6,4 @@ use Rattle.sh_grammar.proofs.recognize.Recognizer.accepts.Goals as goal
 pub returns : goal.returns
 returns c =
     λ u h. front_both (tabulation_of c.self.inside.tables) c.self.inside.done.items (reverse c.self.inside.stack.items) (reverse c.deref.result.now) c.args.self.now u c.args.class c.begins.result
-    c.self.invariant.stands c.self.view_is (ap reverse c.deref.ensures.value) h c.begins.ensures
+    c.self.invariant.0.stands c.self.view_is (ap reverse c.deref.ensures.value) h c.begins.ensures

@@ -7,14 +7,16 @@ use Rattle.sh_grammar.proofs.recognize.Recognizer.take.Goals as goal
 pub returns-then-not-begins-clause-front : goal.returns-then-not-begins-clause-front
 returns-then-not-begins-clause-front c =
     front_both (tabulation_of c.self.inside.tables) c.self.inside.done.items (reverse c.self.inside.stack.items) (reverse c.deref.result.now) c.args.self.now c.args.token c.args.token.class _
-    c.self.invariant.stands c.self.view_is (ap reverse c.deref.ensures.value) refl (sym c.if-not-begins.true ∙ c.begins.ensures)
+    c.self.invariant.0.stands c.self.view_is (ap reverse c.deref.ensures.value) refl (sym c.if-not-begins.true ∙ c.begins.ensures)
 
-pub returns-clause-front : goal.returns-clause-front
-returns-clause-front c =
+pub returns-in-Ok-clause-front : goal.returns-in-Ok-clause-front
+returns-in-Ok-clause-front c =
     front_both (tabulation_of c.self.inside.tables) c.self.inside.done.items (reverse c.self.inside.stack.items) (reverse c.deref.result.now) c.args.self.now c.args.token c.args.token.class _
-    c.self.invariant.stands c.self.view_is (ap reverse c.deref.ensures.value) refl (sym c.if-not-begins.false ∙ c.begins.ensures)
+    c.self.invariant.0.stands c.self.view_is (ap reverse c.deref.ensures.value) refl (sym c.if-not-begins.false ∙ c.begins.ensures)
 
-pub invariant_of-self-in_default : goal.invariant_of-self-in_default
-invariant_of-self-in_default c =
-    keeps_taken (tabulation_of c.self.inside.tables) c.self.inside.done.items c.advance-advanced.new.done.items (reverse c.self.inside.stack.items) (reverse c.advance-advanced.new.stack.items) c.args.token
-    c.self.invariant c.in_default.ensures.stands c.in_default.ensures.taken c.in_default.ensures.computed
+pub invariant_of-self : goal.invariant_of-self
+invariant_of-self c = (
+  keeps_taken (tabulation_of c.self.inside.tables) c.self.inside.done.items c.advance-advanced.new.done.items (reverse c.self.inside.stack.items) (reverse c.advance-advanced.new.stack.items) c.args.token
+      c.self.invariant.0 c.in-Ok.ensures.stands c.in-Ok.ensures.taken c.in-Ok.ensures.computed,
+  c.in-Ok.ensures.counted,
+)
