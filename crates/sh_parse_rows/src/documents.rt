@@ -8,10 +8,11 @@
 //! which it ends. Offsets behind its end have that place too; where they don't, `unlike` stands behind.
 //!
 //! `quoted WANTED DUE TEXT`: for each body `quoted` or `expanded`, by its delimiter.
-use crate::fields::{Found, by_kind, number};
-use crate::show::{put_place, put_word};
 use sh_memory::NoMemory;
 use sh_parse_documents::document::{Document, documents};
+use sh_parse_rows_tokens::by_kind;
+use sh_parse_rows_tokens::fields::{Found, number};
+use sh_parse_rows_tokens::show::{put_place, put_word};
 use sh_rows::Row;
 use sh_scanner_base::here::{Delimiter, Tabs};
 use sh_syntax::sequence::Text;

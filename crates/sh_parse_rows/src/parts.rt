@@ -13,9 +13,10 @@
 //! `form WANTED LEVELS PIECES PLACES`: the form alone that is asked for.
 //!
 //! PIECES stand between blanks, each a sign and its bytes as in the module `pieces`.
-use crate::fields::{Found, by_kind, number, pieces};
-use crate::show::{put_number, put_place, put_word, word_of};
 use sh_memory::NoMemory;
+use sh_parse_rows_tokens::by_kind;
+use sh_parse_rows_tokens::fields::{Found, number, pieces};
+use sh_parse_rows_tokens::show::{put_number, put_place, put_word, word_of};
 use sh_parse_words::backquotes::unescaped;
 use sh_parse_words::build::{Builder, Request, Substitution};
 use sh_parse_words::fault::PartFault;

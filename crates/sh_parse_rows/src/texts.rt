@@ -9,10 +9,11 @@
 //! and a `?` for a part that isn't literal.
 //!
 //! What isn't complete comes to `none`.
-use crate::fields::{Found, built, by_kind};
 use crate::reading::read;
-use crate::show::{put_number, word_of};
 use sh_memory::NoMemory;
+use sh_parse_rows_tokens::by_kind;
+use sh_parse_rows_tokens::fields::{Found, built};
+use sh_parse_rows_tokens::show::{put_number, word_of};
 use sh_rows::Row;
 use sh_tree::text::{command_text, pipeline_text};
 use sh_tree::tree::{AndOr, Command, Complete, Part, Parts, SimpleItem, Target};

@@ -12,7 +12,8 @@
 ghost use Rattle.sh_grammar.specs.Passes.{IsPredictive};
 ghost use Rattle.sh_grammar.specs.Tabulation.{tabulation_of};
 
-use crate::fields::{Found, by_kind, number, pieces};
+use crate::by_kind;
+use crate::fields::{Found, number, pieces};
 use crate::show::{put_number, put_place, put_word, word_of};
 use sh_grammar::Symbol::{Nonterminal, Terminal};
 use sh_grammar::{Action, Recognizer, Symbol, Tables, Token};

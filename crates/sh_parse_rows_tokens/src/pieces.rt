@@ -6,7 +6,8 @@
 //! a comment `#`. Or `open PLACE`: where the form begins that isn't closed; or `deep PLACE`.
 //!
 //! With a body of six fields (`fields::built`): `closed` in place of the pieces.
-use crate::fields::{Found, built, by_kind};
+use crate::by_kind;
+use crate::fields::{Found, built};
 use crate::show::{put_place, put_word};
 use sh_memory::NoMemory;
 use sh_rows::Row;

@@ -8,7 +8,8 @@
 //! recognizer of a command awaits there.
 //!
 //! `name WANTED BYTES`: whether bytes are a name: `yes` or `no`.
-use crate::fields::{Found, by_kind, pieces};
+use crate::by_kind;
+use crate::fields::{Found, pieces};
 use crate::show::{put_number, put_place, put_word, word_of};
 use sh_grammar::{Recognizer, Token};
 use sh_memory::NoMemory;

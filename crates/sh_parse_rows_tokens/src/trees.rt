@@ -16,7 +16,8 @@
 //!
 //! What has no such tree comes to `none`.
 use crate::derivations::{Start, class_of};
-use crate::fields::{Found, built, by_kind, number, pieces};
+use crate::by_kind;
+use crate::fields::{Found, built, number, pieces};
 use crate::show::{put_number, put_word, word_of};
 use sh_grammar::{Action, Actions, Token};
 use sh_memory::NoMemory;

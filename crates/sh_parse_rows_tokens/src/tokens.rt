@@ -7,7 +7,8 @@
 //!
 //! `token-fronts SIGNS TEXT`, `last-token-fronts SIGNS TEXT`: what stands first in the fronts of a text, from the empty one on, a sign
 //! each: `t` a token that is the whole front, `u` one that is unfinished. `?` is anything else.
-use crate::fields::{Found, built, by_kind};
+use crate::by_kind;
+use crate::fields::{Found, built};
 use crate::show::{put_place, put_word};
 use sh_memory::NoMemory;
 use sh_rows::Row;

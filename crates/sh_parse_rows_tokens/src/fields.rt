@@ -7,6 +7,7 @@ use std::alloc::{AllocError, Global};
 pub type Found = Option<Result<Vec<u8>, NoMemory>>;
 
 /// What a row comes to by a table of kinds, each with the number of fields behind it.
+#[macro_export]
 macro_rules! by_kind {
     ($row:ident; $($kind:literal, $fields:literal => $found:expr;)*) => {{
         $(if $row.is($kind, $fields) {
@@ -15,8 +16,6 @@ macro_rules! by_kind {
         None
     }};
 }
-
-pub(crate) use by_kind;
 
 /// The number that digits write.
 pub fn number(digits: &[u8]) -> usize {

@@ -2,7 +2,7 @@ use Rattle.std.proofs.Common.{[], ◌∷◌, refl}
 use Rattle.sh_grammar.specs.declared.Action.TheVariants.{Expand, Shift}
 use Rattle.sh_grammar.specs.Table.{weight_by}
 use Rattle.sh_grammar.specs.Passes.{Witness}
-use Rattle.sh_parse_rows.proofs.word_grammar.tables.Goals as goal
+use Rattle.sh_parse_rows_tokens.proofs.word_grammar.tables.Goals as goal
 
 witness : Witness
 witness =
