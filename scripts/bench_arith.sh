@@ -4,7 +4,7 @@
 set -eu
 . "$(dirname "$0")/bench_common.sh"
 if [ ! -x crates/bench/out/bench ]; then
-    copy_crates sh_grammar sh_vars sh_arith_base sh_arith
+    copy_crates sh_arith
     build_bench sh_arith sh_vars <<'RT'
 //! Evaluates a text as often as the arguments say: a text, how often it stands before `n`, and a count.
 #![tactic(auto)]

@@ -7,14 +7,19 @@ work=${BENCH_FOLDER:-$(mktemp -d)}
 mkdir -p "$work"
 cd "$work"
 
-# Copies crates: those named, with their lines of crates.txt.
+# The crate of this name and all that it stands on, as crates.txt says.
+crates_below() {
+    python3 -c 'import sys; sys.path.insert(0, sys.argv[1]); import sources; print(*sources.crates_below(sys.argv[2]))' "$top/scripts" "$1"
+}
+
+# Copies a crate and all that it stands on, with their lines of crates.txt.
 copy_crates() {
     [ -e .git ] || git init -q .
     mkdir -p crates/bench/src crates/bench/specs
     touch crates/bench/specs/Lib.antt
     : > crates.txt
     local name part
-    for name in "$@"; do
+    for name in $(crates_below "$1"); do
         mkdir -p "crates/$name"
         for part in src specs proofs; do
             [ ! -e "$top/crates/$name/$part" ] || cp -r "$top/crates/$name/$part" "crates/$name/"

@@ -4,14 +4,14 @@
 # a folder of its own. Needs valgrind.
 set -eu
 . "$(dirname "$0")/bench_common.sh"
-copy_crates sh_pattern sh_files_base sh_files sh_expand_base
-build_bench sh_expand_base sh_files <<'RT'
+copy_crates sh_expand_fields
+build_bench sh_expand_fields sh_files <<'RT'
 //! Splits a value of so many bytes, or expands `*` beside so many files elsewhere, as often as the arguments say.
 #![tactic(auto)]
 
 mod arguments;
 
-use sh_expand_base::{Item, Separators, expand_pathnames, split};
+use sh_expand_fields::{Item, Separators, expand_pathnames, split};
 use sh_files::Files;
 use std::alloc::{AllocError, Global};
 use std::io;

@@ -4,7 +4,7 @@
 # valgrind.
 set -eu
 . "$(dirname "$0")/bench_common.sh"
-copy_crates sh_files_base sh_files
+copy_crates sh_files
 build_bench sh_files <<'RT'
 //! Reads an image of so many files, in the order of their paths or in a mixed order, as often as the arguments say.
 #![tactic(auto)]

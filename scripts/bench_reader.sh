@@ -4,10 +4,8 @@
 # kept of them, in a folder of its own. Needs valgrind.
 set -eu
 . "$(dirname "$0")/bench_common.sh"
-crates='sh_grammar sh_syntax sh_token_base sh_scanner_base sh_scanner sh_tree sh_parse_words sh_parse_trees_base
-    sh_parse_trees sh_parse_lines sh_parse_documents sh_parse_programs sh_parse'
-copy_crates $crates
-for name in $crates; do
+copy_crates sh_parse
+for name in $(crates_below sh_parse); do
     [ -d "crates/$name/out" ] || [ ! -d "$top/crates/$name/out" ] || cp -r "$top/crates/$name/out" "crates/$name/"
 done
 build_bench sh_parse <<'RT'

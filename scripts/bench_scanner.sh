@@ -3,14 +3,14 @@
 # the ratios of their costs per byte. It works on copies of the crates in a folder of its own. Needs valgrind.
 set -eu
 . "$(dirname "$0")/bench_common.sh"
-copy_crates sh_grammar sh_syntax sh_token_base sh_scanner_base sh_scanner
-build_bench sh_scanner sh_scanner_base sh_syntax <<'RT'
+copy_crates sh_token
+build_bench sh_token sh_token_pieces sh_base <<'RT'
 //! Scans a script of so many bytes as often as the arguments say, and prints how many tokens it has.
 #![tactic(auto)]
 
 mod arguments;
 
-use sh_scanner::token::next_token;
+use sh_token::token::next_token;
 use std::alloc::{AllocError, Global};
 use std::io;
 

@@ -3,7 +3,7 @@
 
 usage: find_made_refusals.py [FOLDER]
 
-`NoMemory` of sh_memory has a private field, so outside its crate it is made only from an `AllocError`, and that is a unit struct,
+`NoMemory` of sh_base has a private field, so outside its crate it is made only from an `AllocError`, and that is a unit struct,
 which anybody can write down. So this looks, in the sources of all crates of the repository (or of the folder), for an `AllocError`
 that is written as a value, and for a value of either type by `Default`. Ends with 1 where it finds one that isn't listed here.
 """
@@ -17,7 +17,7 @@ LISTED = {
     # A count of open substitutions that has no place in a usize: the pieces that it counts would not fit into memory.
     ("sh_parse_words/src/build.rt", "return Err(AllocError);"),
     # A count of open levels, of which the same holds.
-    ("sh_scanner/src/state.rt", "return Err(AllocError);"),
+    ("sh_token/src/state.rt", "return Err(AllocError);"),
 }
 # Lines that make a refusal up, and lines that hand one on or name a type: each run looks whether they are told apart.
 MADE = ["return Err(AllocError);", "Err(_) => Err(NoMemory::from(AllocError)),", "x.ok_or(AllocError)?", "let it = AllocError;", "Err(AllocError {})"]

@@ -5,7 +5,7 @@
 # own. Needs a C compiler.
 set -eu
 . "$(dirname "$0")/bench_common.sh"
-copy_crates sh_files_base sh_files
+copy_crates sh_files
 build_bench sh_files <<'RT'
 //! Calls on files; what was refused for want of memory is to have changed nothing, and passes when it is tried again.
 #![tactic(auto)]
@@ -58,19 +58,19 @@ fn call(alloc: Global, files: &mut Files, number: u32) -> Option<bool> {
     };
     let node = match files.open(b"/", name.as_slice(), how) {
         Ok(node) => node,
-        Err(FileFault::NoMemory) => return Some(true),
+        Err(FileFault::NoMemory(_)) => return Some(true),
         Err(_) => return None,
     };
     let done = match number % 8 {
         1 => files.write(node, 5, b"0123456789"),
         3 => files.truncate(node, 100),
         5 => files.list(b"/", b"/d").map(|_| ()),
-        7 => files.is_executable(b"/", name.as_slice()).map(|_| ()).map_err(|_| FileFault::NoMemory),
+        7 => files.is_executable(b"/", name.as_slice()).map(|_| ()).map_err(|lack| FileFault::from(lack)),
         _ => Ok(()),
     };
     match done {
         Ok(()) => Some(false),
-        Err(FileFault::NoMemory) => Some(true),
+        Err(FileFault::NoMemory(_)) => Some(true),
         Err(_) => None,
     }
 }
@@ -85,7 +85,7 @@ fn main(rt: HostRuntime) -> io::Result<()> {
     let mut files = match Files::from_image(alloc, bytes.as_slice()) {
         Ok(files) => files,
         Err(fault) => {
-            println!(rt; "{}", if fault.kind == FaultKind::NoMemory { "refused" } else { "wrong" })?;
+            println!(rt; "{}", if matches!(fault.kind, FaultKind::NoMemory(_)) { "refused" } else { "wrong" })?;
             return Ok(());
         },
     };

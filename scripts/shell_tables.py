@@ -1,11 +1,11 @@
 #!/usr/bin/env python3
 """Computes the parsing tables of the shell's grammar, and prints them as Rattle and antt.
 
-Nothing here is trusted: the productions stand in crates/sh_token_base/specs/Shell.antt, and the proof
+Nothing here is trusted: the productions stand in crates/sh_token_grammar/specs/Shell.antt, and the proof
 checks the tables against them. Run it after a change of the productions, from the repository's top:
 
-    scripts/shell_tables.py tables  > crates/sh_token_base/src/tables.rt
-    scripts/shell_tables.py witness > crates/sh_token_base/specs/Evidence.antt
+    scripts/shell_tables.py tables  > crates/sh_token_grammar/src/tables.rt
+    scripts/shell_tables.py witness > crates/sh_token_grammar/specs/Evidence.antt
 """
 import sys
 

@@ -25,7 +25,7 @@ UNPROVED = rb"psh: not built: this is the unproved program[^\n]*\n"
 CHANGED = rb"psh: the sources have changed since \./build: this is the unproved program[^\n]*\n"
 # A file that no part of the unproved program is made of, and one of a crate on which psh stands, with a wrong body for it.
 DEFINITION = "crates/sh_pipe/specs/Lib.antt"
-WRONG_CRATE = "sh_syntax"
+WRONG_CRATE = "sh_base"
 WRONG_BODY = f"wrong-bodies/{WRONG_CRATE}/len_is_half.edit"
 
 

@@ -1,8 +1,8 @@
 -- Runs by lines of events: a world that is given each line's events so often.
-use Rattle.sh_memory.specs.Memory.{no_memory}
+use Rattle.sh_base.specs.Memory.{no_memory}
 use Rattle.std.proofs.Common.{◌≡◌, ◌≢◌, ◌⊎◌, ⊎_elim, Result, Ok, Err, OnErr, ℕ, zero, suc, ◌+◌, add-one, ◌<◌, ◌≤◌, List, [], ◌∷◌, ◌++◌, append_assoc, length, length-append, take, take_all, get_or, replicate, zero-add, add_assoc, refl, sym, ap, ◌∙◌, arith}
 use Rattle.sh_stock.specs.Asking.{Meaning}
-use Rattle.sh_world.specs.Kept.{WorldKept, WorldStands, shown_of}
+use Rattle.sh_world.specs.World.{WorldKept, WorldStands, shown_of}
 use Rattle.sh_world.specs.State.{State, run, start, step, terminal_of}
 use Rattle.sh_files.specs.Nodes.{FileMap}
 use Rattle.sh_world.specs.declared.event.Event.{Event}

@@ -3,7 +3,7 @@ use Rattle.std.proofs.Common.{◌≡◌, ℕ, suc, ◌+◌, ◌-◌, ◌≤◌, 
 use Rattle.std.specs.Prelude.{◌==◌, position}
 use Rattle.std.specs.List.{onto_first}
 use Rattle.std.proofs.lemmas.Iterator.Adapters.{position_from-zero}
-use Rattle.sh_files_base.proofs.Slashes.{first_from, only_from}
+use Rattle.sh_files_image.proofs.Slashes.{first_from, only_from}
 use Rattle.psh.specs.Lines.{parts}
 
 -- the first part ends at the first separator

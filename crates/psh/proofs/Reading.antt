@@ -1,55 +1,12 @@
 -- Numbers and lines of events.
-use Rattle.std.proofs.Common.{◌≡◌, ℕ, ◌+◌, ◌-◌, ◌*◌, ◌<◌, ◌≤◌, List, [], ◌∷◌, ◌++◌, append_assoc, Bool, true, false, ◌&&◌, length, Option, Some, None, IfSome, Ok, Err, nat_le, nat_lt, refl, sym, ap, ◌∙◌, arith, if◌then◌else◌}
+use Rattle.std.proofs.Common.{◌≡◌, ℕ, ◌+◌, ◌-◌, ◌<◌, ◌≤◌, List, [], ◌∷◌, ◌++◌, append_assoc, true, false, length, Option, Some, None, IfSome, Ok, Err, nat_lt, refl, sym, ap, ◌∙◌, arith, if◌then◌else◌}
 use Rattle.std.specs.Prelude.{option_map}
-use Rattle.std.specs.List.{list_all}
 use Rattle.std.proofs.lemmas.Bool.Decides.{nat_tests}
-use Rattle.sh_files_base.specs.Fields.{is_digit, value_behind}
 use Rattle.psh.specs.Lines.{further_parts, parts}
-use Rattle.psh.specs.Events.{Outcome, behind, events_in, line_turns, next_turns, number, run_turns, size_of, value_up_to, with_line}
+use Rattle.psh.specs.Events.{Outcome, behind, events_in, line_turns, next_turns, run_turns, size_of, with_line}
 use Rattle.psh.specs.declared.events.EventFault.TheVariants.{BadEvent}
 use Rattle.psh.specs.declared.events.Turns.{Turns}
 use Rattle.psh.proofs.Lines.{parts-some}
-
--- ---- numbers
--- more digits give no lesser value
-pub value_behind-rises : (value : ℕ) (digits : List ℕ) → value ≤ value_behind value digits
-value_behind-rises value [] = omega arith
-value_behind-rises value (d ∷ digits) = let l = value_behind-rises (10 * value + (d - 48)) digits in omega arith
-
-pub value_up_to-digit : (most value d : ℕ) (digits : List ℕ) → is_digit d ≡ true → value_up_to most value (d ∷ digits) ≡ value_up_to most (10 * value + (d - 48)) digits
-value_up_to-digit most value d digits h =
-    ap (λ b. if (b && list_all is_digit digits) && nat_le (value_behind (10 * value + (d - 48)) digits) most then Some (value_behind (10 * value + (d - 48)) digits) else None) h
-
-pub value_up_to-other : (most value d : ℕ) (digits : List ℕ) → is_digit d ≡ false → value_up_to most value (d ∷ digits) ≡ None
-value_up_to-other most value d digits h =
-    ap (λ b. if (b && list_all is_digit digits) && nat_le (value_behind (10 * value + (d - 48)) digits) most then Some (value_behind (10 * value + (d - 48)) digits) else None) h
-
-pub value_up_to-beyond : (most value : ℕ) (digits : List ℕ) → most < value → value_up_to most value digits ≡ None
-value_up_to-beyond most value digits h =
-    let l = value_behind-rises value digits in
-    let no : nat_le (value_behind value digits) most ≡ false = grind (arith, nat_tests) in
-    by (list_all is_digit digits) (nat_le (value_behind value digits) most) no
-  where
-    by : (a b : Bool) → b ≡ false → (if a && b then Some (value_behind value digits) else None) ≡ None
-    by true b e = ap (λ c. if c then Some (value_behind value digits) else None) e
-    by false b e = refl
-
-pub value_up_to-end : (most value : ℕ) → value ≤ most → value_up_to most value [] ≡ Some value
-value_up_to-end most value h =
-    let yes : nat_le value most ≡ true = grind (arith, nat_tests) in ap (λ b. if b then Some value else None) yes
-
-number-none : (most : ℕ) (digits : List ℕ) → value_up_to most 0 digits ≡ None → None ≡ number most digits
-number-none most digits h = by (nat_lt 0 (length digits) && nat_le (length digits) 10)
-  where
-    by : (b : Bool) → None ≡ (if b then value_up_to most 0 digits else None)
-    by true = sym h
-    by false = refl
-
-pub number-beyond : (most value d : ℕ) (digits rest others : List ℕ) → value_up_to most 0 digits ≡ value_up_to most value rest → rest ≡ d ∷ others → is_digit d ≡ true
-    → most < 10 * value + (d - 48) → None ≡ number most digits
-number-beyond most value d digits rest others h r digit large =
-    number-none most digits
-    (h ∙ ap (value_up_to most value) r ∙ value_up_to-digit most value d others digit ∙ value_up_to-beyond most (10 * value + (d - 48)) others large)
 
 -- ---- words
 pub next_turns-more : (xs first rest : List ℕ) → parts 32 xs ≡ first ∷ parts 32 rest → None ≡ next_turns (parts 32 xs)

@@ -2,7 +2,8 @@
 use Rattle.std.specs.Prelude.{ℕ, ◌+◌, List, [], ◌∷◌, ◌++◌, ◌&&◌, if◌then◌else◌, Option, Some, None, Result, Ok, Err, codes, length, nat_le, nat_lt, replicate, option_map}
 use Rattle.std.specs.List.{list_all}
 use Rattle.std.specs.Str.{bytes_eq}
-use Rattle.sh_files_base.specs.Fields.{is_digit, value_behind}
+use Rattle.std.specs.Char.{is_ascii_digit}
+use Rattle.sh_base.specs.Decimals.{at_most, value_of}
 use Rattle.psh.specs.Lines.{parts}
 use Rattle.sh_world.specs.declared.event.Event.{Event}
 use Rattle.sh_world.specs.declared.event.Event.TheVariants.{Run, Next}
@@ -10,14 +11,10 @@ use Rattle.psh.specs.declared.events.Turns.{Turns}
 use Rattle.psh.specs.declared.events.EventFault.{EventFault}
 use Rattle.psh.specs.declared.events.EventFault.TheVariants.{BadEvent}
 
--- the value of decimal digits behind those of this value, if it is not above that one
-abbrev pub value_up_to : ℕ → ℕ → List ℕ → Option ℕ
-value_up_to most value digits =
-    if list_all is_digit digits && nat_le (value_behind value digits) most then Some (value_behind value digits) else None
-
 -- a number of one to ten decimal digits, of at most this value
 abbrev pub number : ℕ → List ℕ → Option ℕ
-number most digits = if nat_lt 0 (length digits) && nat_le (length digits) 10 then value_up_to most 0 digits else None
+number most digits =
+    if nat_lt 0 (length digits) && (nat_le (length digits) 10 && list_all is_ascii_digit digits) then at_most most (value_of digits) else None
 
 -- K, which place: from 0 to 2147483647
 abbrev pub place_of : List ℕ → Option ℕ

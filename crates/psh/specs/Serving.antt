@@ -2,8 +2,8 @@
 use Rattle.std.specs.Prelude.{◌≡◌, ◌⊎◌, ℕ, List, [], ◌∷◌, ◌++◌, Ok, Err, codes, decimal, take}
 use Rattle.sh_files.specs.Image.{read_image}
 use Rattle.sh_files.specs.Nodes.{FileMap}
-use Rattle.sh_files_base.specs.Faults.{name_of}
-use Rattle.sh_files_base.specs.declared.image_fault.ImageFault.{ImageFault}
+use Rattle.sh_files_image.specs.Faults.{name_of}
+use Rattle.sh_files_image.specs.declared.image_fault.ImageFault.{ImageFault}
 use Rattle.sh_stock.specs.Asking.{Meaning}
 use Rattle.sh_world.specs.State.{run, start, terminal_of}
 use Rattle.sh_world.specs.declared.event.Event.{Event}

@@ -2,7 +2,7 @@
 use crate::usage::{Asked, UsageFault};
 use clap::error::ErrorKind;
 use clap::{Arg, ArgMatches, Command, Error};
-use sh_syntax::sequence::Sequence;
+use sh_base::sequence::Sequence;
 use sh_vars::{Options, Text};
 use sh_world::{Settings, Source};
 use std::alloc::{AllocError, Global};
@@ -103,7 +103,7 @@ fn source_of(alloc: Global, text: Option<&str>, zero: &str) -> Result<Source, Al
 fn parameters(alloc: Global, words: &[&str]) -> Result<Sequence<Text>, AllocError> {
     let mut args = Vec::new(alloc);
     for word in words {
-        args.push(Text::from(bytes_of(alloc, word)?))?;
+        args.push(Text::from_vec(bytes_of(alloc, word)?))?;
     }
     Ok(Sequence::from_vec(args))
 }
@@ -114,7 +114,7 @@ fn settings_of(alloc: Global, text: Option<&str>, words: &[&str]) -> Result<Sett
         [first, rest @ ..] => (*first, rest),
         [] => ("psh", words),
     };
-    let zero = Text::from(bytes_of(alloc, first)?);
+    let zero = Text::from_vec(bytes_of(alloc, first)?);
     let args = parameters(alloc, rest)?;
     let source = source_of(alloc, text, first)?;
     Ok(Settings {

@@ -1,12 +1,12 @@
 //! The file of events: lines `run K [N]` and `next [N]`.
-ghost use Rattle.sh_memory.specs.Memory.{no_memory};
+ghost use Rattle.sh_base.specs.Memory.{no_memory};
 ghost use Rattle.std.specs.Prelude.{◌≡◌, ◌≢◌, ◌==◌, ◌+◌, ◌^◌, ◌<◌, ◌≤◌, ◌∷◌, ◌++◌, IfNone, IfOk, IfErr, IfSome, OnOk, OnErr, None, Some, Ok, Err, length, option_map, position};
-ghost use Rattle.sh_files_base.specs.Fields.{is_digit};
 ghost use Rattle.psh.specs.Lines.{further_parts, parts};
 ghost use Rattle.psh.specs.Events.{events_of, line_turns, next_turns, number, place_of, run_turns, size_of, so_often, times_of, turns_of};
 ghost use Rattle.psh.specs.declared.events.EventFault.TheVariants as fault;
 
-use sh_memory::NoMemory;
+use sh_base::NoMemory;
+use sh_base::decimal::{all_digits, limited_value};
 use sh_world::Event;
 use std::alloc::{AllocError, AllocFailed, Global};
 
@@ -71,33 +71,14 @@ fn cut(bytes: &[u8], separator: u8) -> (&[u8], Option<&[u8]>)
     }
 }
 
-/// Whether a byte is a decimal digit.
-fn is_digit(byte: u8) -> bool
-    ensures { result ≡ is_digit byte }
-{
-    b'0' <= byte && byte <= b'9'
-}
-
 /// A number of one to ten decimal digits, of at most this value.
 fn number(digits: &[u8], most: u32) -> Option<u32>
-    requires { most ≤ 2147483647 }
     ensures { result ≡ number most digits.now }
 {
-    if digits.is_empty() || digits.len() > 10 {
+    if digits.is_empty() || digits.len() > 10 || !all_digits(digits) {
         return None;
     }
-    let mut value = 0u64;
-    let mut rest = digits;
-    'digits: while let Some((digit, behind)) = rest.split_first() {
-        if !is_digit(*digit) {
-            return None;
-        }
-        value = 10 * value + u64::from(*digit - b'0');
-        if value > u64::from(most) {
-            return None;
-        }
-        rest = behind;
-    }
+    let value = limited_value(digits, u64::from(most))?;
     Some(value as u32)
 }
 

@@ -1,17 +1,17 @@
 //! One run of the program, over what its files hold.
-ghost use Rattle.sh_memory.specs.Memory.{no_memory};
+ghost use Rattle.sh_base.specs.Memory.{no_memory};
 ghost use Rattle.std.specs.Prelude.{◌≡◌, ◌≢◌, ◌⊎◌, ◌++◌, ◌<◌, ℕ, OnOk, OnErr, codes, replicate, take};
-ghost use Rattle.sh_files_base.specs.Faults.{name_of};
-ghost use Rattle.sh_files_base.specs.declared.image_fault.FaultKind.TheVariants as kind;
-ghost use Rattle.sh_world.specs.Kept.{WorldStands, shown_of};
+ghost use Rattle.sh_files_image.specs.Faults.{name_of};
+ghost use Rattle.sh_files_image.specs.declared.image_fault.FaultKind.TheVariants as kind;
+ghost use Rattle.sh_world.specs.World.{WorldStands, shown_of};
 ghost use Rattle.sh_world.specs.State.{State, run, terminal_of};
 ghost use Rattle.psh.specs.Events.{each_event};
 ghost use Rattle.psh.specs.Serving.{SaysLack, Shows, ShowsSome, WasCut, WasRefused, WasRun, refusal};
 
 use crate::events::{EventFault, Turns, read_events};
 use itoa::Buffer;
+use sh_base::NoMemory;
 use sh_files::{FaultKind, Files, ImageFault};
-use sh_memory::NoMemory;
 use sh_stock::Stock;
 use sh_world::{Settings, World};
 use std::alloc::Global;

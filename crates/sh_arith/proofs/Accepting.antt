@@ -5,13 +5,13 @@ use Rattle.std.proofs.lemmas.Bool.{and_parts, cases_lt, leb-true}
 use Rattle.std.proofs.lemmas.List.{get_or_past}
 use Rattle.sh_grammar.specs.declared.Token.{Token}
 use Rattle.sh_grammar.specs.Passes.{all_below, implies}
-use Rattle.sh_arith_base.specs.declared.operators.Role.{Role}
-use Rattle.sh_arith_base.specs.declared.operators.Role.TheVariants as role
-use Rattle.sh_arith_base.specs.Classes.{class_of, roles}
-use Rattle.sh_arith_base.specs.Grammar.{arithmetic, arithmetic_grammar}
-use Rattle.sh_arith_base.specs.Precedence.{Sign, Position, Before, Between, Deciding, Choosing, Assigning, Grouping, FromLeft, FromRight, Level, level, levels}
-use Rattle.sh_arith_base.specs.Roles.{role_of}
-use Rattle.sh_arith_base.proofs.Computed.{below_at, then_true}
+use Rattle.sh_arith_grammar.specs.declared.operators.Role.{Role}
+use Rattle.sh_arith_grammar.specs.declared.operators.Role.TheVariants as role
+use Rattle.sh_arith_grammar.specs.Classes.{class_of, roles}
+use Rattle.sh_arith_grammar.specs.Grammar.{arithmetic, arithmetic_grammar}
+use Rattle.sh_arith_grammar.specs.Precedence.{Sign, Position, Before, Between, Deciding, Choosing, Assigning, Grouping, FromLeft, FromRight, Level, level, levels}
+use Rattle.sh_arith_grammar.specs.Roles.{role_of}
+use Rattle.sh_arith_grammar.proofs.Computed.{below_at, then_true}
 use Rattle.sh_arith.specs.Written.{IsOperator, is_listed}
 use Rattle.sh_arith.proofs.Constructing.{Accepts}
 

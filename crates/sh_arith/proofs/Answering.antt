@@ -1,5 +1,5 @@
 -- What the evaluation of a text's derivation says of the text.
-use Rattle.sh_memory.specs.Memory.{no_memory}
+use Rattle.sh_base.specs.Memory.{no_memory}
 use Rattle.std.proofs.Common.{◌≡◌, ◌≢◌, ℕ, ℤ, true, List, refl, sym, ap, ◌∙◌, inr, Result, Ok, Err}
 use Rattle.std.specs.Prelude.{IfOk, IfErr}
 use Rattle.sh_grammar.specs.declared.Token.{Token}
@@ -15,13 +15,13 @@ use Rattle.sh_arith.specs.declared.faults.ArithFault.{ArithFault}
 use Rattle.sh_arith.specs.declared.faults.ArithFault.TheVariants.{NoMemory}
 use Rattle.sh_arith.specs.Evaluation.{HasFault, Says}
 use Rattle.sh_arith.specs.Expression.{Expression}
-use Rattle.sh_arith_base.specs.Grammar.{arithmetic, arithmetic_grammar}
-use Rattle.sh_arith_base.specs.Levels.{are_shallow, none_open}
-use Rattle.sh_arith_base.specs.Lexical.{tokens_of}
+use Rattle.sh_arith_grammar.specs.Grammar.{arithmetic, arithmetic_grammar}
+use Rattle.sh_arith_grammar.specs.Levels.{are_shallow, none_open}
+use Rattle.sh_arith_grammar.specs.Lexical.{tokens_of}
 use Rattle.sh_arith.specs.Outcome.{Outcome, Gives, Stops}
 use Rattle.sh_arith.specs.Reading.{said}
 use Rattle.sh_arith.specs.Value.{value}
-use Rattle.sh_arith_base.proofs.Passes.{arithmetic_predictive}
+use Rattle.sh_arith_grammar.proofs.Passes.{arithmetic_predictive}
 
 pub says_one : ((d : Tabulation) → IsPredictive d → (tokens : List Token) (x y : Tree) → IsTreeOf d tokens x → IsTreeOf d tokens y → x ≡ y) → (text : List ℕ) (x y : Expression) → Says text x → Says text y → x ≡ y
 says_one h text x y a b = sym a.says ∙ (ap said (h arithmetic arithmetic_predictive (tokens_of text) a.tree b.tree a.derives b.derives) ∙ b.says)

@@ -7,12 +7,12 @@ use Rattle.sh_grammar.specs.declared.Symbol.{Symbol}
 use Rattle.sh_grammar.specs.declared.Symbol.TheVariants.{Terminal, Nonterminal}
 use Rattle.sh_grammar.specs.Grammar.{IsRule, Tree, Forest, Leaf, Node, Empty, And, IsTree, AreTrees, leaves, all_leaves, next_class}
 use Rattle.sh_grammar.specs.Passes.{all_below}
-use Rattle.sh_arith_base.specs.declared.grammar.Kind.{Kind}
-use Rattle.sh_arith_base.specs.declared.grammar.Kind.TheVariants as kind
-use Rattle.sh_arith_base.specs.Grammar.{arithmetic, arithmetic_grammar}
-use Rattle.sh_arith_base.specs.Productions.{productions}
-use Rattle.sh_arith_base.specs.Roles.{kind_of, kinds}
-use Rattle.sh_arith_base.proofs.Computed.{below_at, has_class}
+use Rattle.sh_arith_grammar.specs.declared.grammar.Kind.{Kind}
+use Rattle.sh_arith_grammar.specs.declared.grammar.Kind.TheVariants as kind
+use Rattle.sh_arith_grammar.specs.Grammar.{arithmetic, arithmetic_grammar}
+use Rattle.sh_arith_grammar.specs.Productions.{productions}
+use Rattle.sh_arith_grammar.specs.Roles.{kind_of, kinds}
+use Rattle.sh_arith_grammar.proofs.Computed.{below_at, has_class}
 use Rattle.sh_arith.specs.Reading.{Left, first_token, says, read, readers}
 
 -- ---- trees of a symbol, before whatever class

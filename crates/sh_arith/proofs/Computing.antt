@@ -12,10 +12,10 @@ use Rattle.sh_grammar.specs.Text.{BeginsText, IsText, IsTreeOf}
 use Rattle.sh_grammar.proofs.Computing.{front_text, whole_text}
 use Rattle.sh_grammar.proofs.Deriving.{tree_computed}
 use Rattle.sh_vars.specs.Environment.{Environment}
-use Rattle.sh_arith_base.specs.Grammar.{arithmetic}
-use Rattle.sh_arith_base.specs.Levels.{Open, are_shallow, is_deep, none_open, open_after, open_behind}
-use Rattle.sh_arith_base.specs.Lexical.{tokens_of}
-use Rattle.sh_arith_base.proofs.Passes.{arithmetic_predictive}
+use Rattle.sh_arith_grammar.specs.Grammar.{arithmetic}
+use Rattle.sh_arith_grammar.specs.Levels.{Open, are_shallow, is_deep, none_open, open_after, open_behind}
+use Rattle.sh_arith_grammar.specs.Lexical.{tokens_of}
+use Rattle.sh_arith_grammar.proofs.Passes.{arithmetic_predictive}
 use Rattle.sh_arith.specs.declared.faults.ArithFault.{ArithFault}
 use Rattle.sh_arith.specs.declared.faults.ArithFault.TheVariants.{Syntax, TooDeep}
 use Rattle.sh_arith.specs.Evaluated.{evaluated, outcome_unless, refusal, refusal_at_end, refusal_by, refusal_from}

@@ -7,10 +7,10 @@ use Rattle.sh_grammar.specs.declared.Token.{Token}
 use Rattle.sh_grammar.specs.declared.Symbol.{Symbol}
 use Rattle.sh_grammar.specs.declared.Symbol.TheVariants.{Terminal, Nonterminal}
 use Rattle.sh_grammar.specs.Grammar.{Tree, Forest, Leaf, Node, Empty, And, leaves, all_leaves}
-use Rattle.sh_arith_base.specs.declared.grammar.Kind.TheVariants as kind
-use Rattle.sh_arith_base.specs.declared.operators.Operator.{Operator}
-use Rattle.sh_arith_base.specs.Grammar.{arithmetic_grammar}
-use Rattle.sh_arith_base.specs.Roles.{operator_of}
+use Rattle.sh_arith_grammar.specs.declared.grammar.Kind.TheVariants as kind
+use Rattle.sh_arith_grammar.specs.declared.operators.Operator.{Operator}
+use Rattle.sh_arith_grammar.specs.Grammar.{arithmetic_grammar}
+use Rattle.sh_arith_grammar.specs.Roles.{operator_of}
 use Rattle.sh_arith.specs.Expression.{Expression, Name, Binary, Logic}
 use Rattle.sh_arith.specs.Reading.{Left, Nothing, Named, Done, expression, through, says, read, readers}
 use Rattle.sh_arith.proofs.Building.{Fine, Goods, blank, leaf, mark_by, mark_tree, marked, means_by, more, node, none, nothing_known, operand_known, operator_known, opd, reads, rests, rst, known_2, known_3, known_5, known_6, known_40, known_41, known_46}

@@ -5,15 +5,15 @@ use Rattle.std.specs.Int.{int_wrap}
 use Rattle.sh_vars.specs.Environment.{Environment, value_of}
 use Rattle.sh_grammar.specs.Derived.{tree_of}
 use Rattle.sh_grammar.specs.Table.{weight_by}
-use Rattle.sh_arith_base.specs.Classes.{operators, roles}
-use Rattle.sh_arith_base.specs.Grammar.{arithmetic}
-use Rattle.sh_arith_base.specs.Levels.{open_behind}
-use Rattle.sh_arith_base.specs.Lexical.{head}
-use Rattle.sh_arith_base.specs.Operators.{applied, turned}
-use Rattle.sh_arith_base.specs.Productions.{productions}
-use Rattle.sh_arith_base.specs.Roles.{kind_of, kinds, operator_of, role_of}
-use Rattle.sh_arith_base.specs.declared.operators.Operator.{Operator}
-use Rattle.sh_arith_base.specs.declared.operators.Operator.TheVariants as operator
+use Rattle.sh_arith_grammar.specs.Classes.{operators, roles}
+use Rattle.sh_arith_grammar.specs.Grammar.{arithmetic}
+use Rattle.sh_arith_grammar.specs.Levels.{open_behind}
+use Rattle.sh_arith_grammar.specs.Lexical.{head}
+use Rattle.sh_arith_grammar.specs.Operators.{applied, turned}
+use Rattle.sh_arith_grammar.specs.Productions.{productions}
+use Rattle.sh_arith_grammar.specs.Roles.{kind_of, kinds, operator_of, role_of}
+use Rattle.sh_arith_grammar.specs.declared.operators.Operator.{Operator}
+use Rattle.sh_arith_grammar.specs.declared.operators.Operator.TheVariants as operator
 use Rattle.sh_arith.specs.declared.faults.ArithFault.TheVariants.{Unset}
 use Rattle.sh_arith.specs.Evaluated.{evaluated, refusal}
 use Rattle.sh_arith.specs.Shown.{Comes, ComesWith, ComesWithout, IsRefusedAt}

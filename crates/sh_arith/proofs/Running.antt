@@ -2,10 +2,10 @@
 use Rattle.std.proofs.Common.{◌≡◌, ℕ, suc, Bool, true, false, ℤ, List, [], ◌∷◌, ◌++◌, refl, ap, ◌∙◌}
 use Rattle.std.specs.Prelude.{if◌then◌else◌, not}
 use Rattle.sh_vars.specs.Environment.{Environment}
-use Rattle.sh_arith_base.specs.declared.operators.Operator.{Operator}
+use Rattle.sh_arith_grammar.specs.declared.operators.Operator.{Operator}
 use Rattle.sh_arith.specs.Expression.{Expression, Zero, Number, Name, Prefix, Binary, Logic, Choice, Assign}
 use Rattle.sh_arith.specs.Outcome.{Outcome, Gives, Stops, and_then}
-use Rattle.sh_arith_base.specs.Operators.{is_zero, truth, turned}
+use Rattle.sh_arith_grammar.specs.Operators.{is_zero, truth, turned}
 use Rattle.sh_arith.specs.Value.{value, stored, worked, decides, before}
 use Rattle.sh_arith.specs.Steps.{Step, PushOp, DoPrefix, DoBinary, Test, Decide, Question, Colon, Join, Store, Stacks, Machine, Runs, Skips, Halts, outcome_on, take_name, do_prefix, do_binary, test_left, decide, question, open_assign, store, push, code, run, perform}
 

@@ -5,12 +5,12 @@ use Rattle.std.proofs.lemmas.List.{append-nil}
 use Rattle.sh_grammar.specs.declared.Token.{Token}
 use Rattle.sh_grammar.specs.declared.Symbol.TheVariants.{Terminal, Nonterminal}
 use Rattle.sh_grammar.specs.Grammar.{Tree, Leaf, Node, Empty, And, leaves}
-use Rattle.sh_arith_base.specs.declared.grammar.Kind.TheVariants as kind
-use Rattle.sh_arith_base.specs.Grammar.{arithmetic, arithmetic_grammar}
-use Rattle.sh_arith_base.specs.Levels.{are_shallow, none_open}
-use Rattle.sh_arith_base.specs.Lexical.{tokens_of}
-use Rattle.sh_arith_base.specs.Precedence.{Before, Between, Deciding, Choosing, Assigning, Grouping, FromRight}
-use Rattle.sh_arith_base.specs.Roles.{operator_of}
+use Rattle.sh_arith_grammar.specs.declared.grammar.Kind.TheVariants as kind
+use Rattle.sh_arith_grammar.specs.Grammar.{arithmetic, arithmetic_grammar}
+use Rattle.sh_arith_grammar.specs.Levels.{are_shallow, none_open}
+use Rattle.sh_arith_grammar.specs.Lexical.{tokens_of}
+use Rattle.sh_arith_grammar.specs.Precedence.{Before, Between, Deciding, Choosing, Assigning, Grouping, FromRight}
+use Rattle.sh_arith_grammar.specs.Roles.{operator_of}
 use Rattle.sh_arith.specs.Evaluation.{Says}
 use Rattle.sh_arith.specs.Expression.{Expression, Zero, Number, Prefix, Binary, Logic, Choice, Assign}
 use Rattle.sh_arith.specs.Reading.{Nothing, Named, Done, expression, read}

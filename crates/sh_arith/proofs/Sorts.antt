@@ -2,8 +2,8 @@
 use Rattle.std.specs.Prelude.{ℕ, List, [], ◌∷◌}
 use Rattle.sh_grammar.specs.declared.Symbol.{Symbol}
 use Rattle.sh_grammar.specs.declared.Symbol.TheVariants.{Terminal, Nonterminal}
-use Rattle.sh_arith_base.specs.Precedence.{Grouping, FromLeft, FromRight}
-use Rattle.sh_arith_base.specs.Roles.{nth}
+use Rattle.sh_arith_grammar.specs.Precedence.{Grouping, FromLeft, FromRight}
+use Rattle.sh_arith_grammar.specs.Roles.{nth}
 
 pub data Sort : Type 0 where
   Whole : Sort

@@ -1,5 +1,5 @@
 -- What begins an expression, and what stops one.
-use Rattle.sh_memory.specs.Memory.{no_memory}
+use Rattle.sh_base.specs.Memory.{no_memory}
 use Rattle.std.proofs.Common.{◌≡◌, ◌≢◌, true, false, List, [], ◌∷◌, ◌++◌, refl, sym, ap, ◌∙◌, subst, inl, inr, ⊎_elim}
 use Rattle.std.specs.Prelude.{Bool, not, ◌&&◌}
 use Rattle.std.proofs.lemmas.Bool.{and_parts}
@@ -7,9 +7,9 @@ use Rattle.sh_grammar.specs.declared.Token.{Token}
 use Rattle.sh_grammar.specs.Grammar.{Node, Empty}
 use Rattle.sh_grammar.specs.Tabulation.{Tabulation}
 use Rattle.sh_grammar.specs.Text.{BeginsText}
-use Rattle.sh_arith_base.specs.Grammar.{arithmetic}
-use Rattle.sh_arith_base.specs.Productions.{productions}
-use Rattle.sh_arith_base.specs.Levels.{Open, are_shallow, is_deep, none_open, open_after, open_behind}
+use Rattle.sh_arith_grammar.specs.Grammar.{arithmetic}
+use Rattle.sh_arith_grammar.specs.Productions.{productions}
+use Rattle.sh_arith_grammar.specs.Levels.{Open, are_shallow, is_deep, none_open, open_after, open_behind}
 use Rattle.sh_arith.specs.declared.faults.ArithFault.{ArithFault}
 use Rattle.sh_arith.specs.declared.faults.ArithFault.TheVariants.{NoMemory, Syntax, TooDeep}
 use Rattle.sh_arith.specs.Evaluation.{GoesOn, IsRefusedWithin}

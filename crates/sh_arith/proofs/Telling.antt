@@ -3,18 +3,18 @@ use Rattle.std.proofs.Common.{◌≡◌, ℕ, List, [], ◌∷◌, ◌++◌, ref
 use Rattle.std.proofs.lemmas.List.{append-nil}
 use Rattle.sh_grammar.specs.declared.Token.{Token}
 use Rattle.sh_grammar.specs.declared.Action.{Action}
-use Rattle.sh_arith_base.specs.declared.grammar.Kind.{Kind}
-use Rattle.sh_arith_base.specs.declared.grammar.Kind.TheVariants as kind
+use Rattle.sh_arith_grammar.specs.declared.grammar.Kind.{Kind}
+use Rattle.sh_arith_grammar.specs.declared.grammar.Kind.TheVariants as kind
 use Rattle.sh_grammar.specs.Leftmost.{preorder, preorders}
 use Rattle.sh_grammar.specs.Grammar.{Tree, Forest, Leaf, Node, Empty, And}
 use Rattle.sh_arith.specs.Expression.{Expression, Zero, Number, Name, Prefix, Binary, Logic, Choice, Assign}
 use Rattle.sh_arith.specs.Steps.{Step, PushName, PushOp, DoPrefix, DoBinary, Test, Decide, Question, Colon, Join, Open, Store, code}
-use Rattle.sh_arith_base.proofs.Sig.{Sig, Value, After, Target, DoMark, TurnMark, DecideMark, JoinMark, StoreMark, Shows}
-use Rattle.sh_arith_base.specs.declared.operators.Role.{Role}
-use Rattle.sh_arith_base.specs.declared.operators.Role.TheVariants as role
+use Rattle.sh_arith_grammar.proofs.Sig.{Sig, Value, After, Target, DoMark, TurnMark, DecideMark, JoinMark, StoreMark, Shows}
+use Rattle.sh_arith_grammar.specs.declared.operators.Role.{Role}
+use Rattle.sh_arith_grammar.specs.declared.operators.Role.TheVariants as role
 use Rattle.sh_arith.specs.Reading.{Left, Nothing, Named, Done, expression, first_token, through, says, read, readers, shift_steps, expand_steps, step_of, steps}
-use Rattle.sh_arith_base.specs.Roles.{kind_of, role_of, operator_of}
-use Rattle.sh_arith_base.proofs.Shape.{IsToken, Afters, Kinded, Shaped, AllShaped}
+use Rattle.sh_arith_grammar.specs.Roles.{kind_of, role_of, operator_of}
+use Rattle.sh_arith_grammar.proofs.Shape.{IsToken, Afters, Kinded, Shaped, AllShaped}
 
 pub steps-append : (a b : List Action) → steps (a ++ b) ≡ steps a ++ steps b
 steps-append [] b = refl

@@ -1,25 +1,25 @@
 -- The value of a text's tree is what its steps come to.
-use Rattle.sh_memory.specs.Memory.{no_memory}
+use Rattle.sh_base.specs.Memory.{no_memory}
 use Rattle.std.proofs.Common.{◌≡◌, ◌≢◌, ℕ, ℤ, pos, List, [], ◌∷◌, refl, sym, ap, ◌∙◌}
 use Rattle.sh_grammar.specs.Grammar.{Tree, IsTree}
 use Rattle.sh_grammar.specs.Leftmost.{preorder}
-use Rattle.sh_arith_base.specs.Grammar.{arithmetic, arithmetic_grammar}
+use Rattle.sh_arith_grammar.specs.Grammar.{arithmetic, arithmetic_grammar}
 use Rattle.sh_grammar.specs.declared.Symbol.TheVariants.{Nonterminal}
 use Rattle.sh_grammar.specs.declared.Action.{Action}
 use Rattle.sh_arith.specs.declared.faults.ArithFault.{ArithFault}
 use Rattle.sh_arith.specs.Outcome.{Outcome, Gives, Stops}
 use Rattle.sh_vars.specs.Environment.{Environment}
-use Rattle.sh_arith_base.specs.declared.operators.Operator.{Operator}
+use Rattle.sh_arith_grammar.specs.declared.operators.Operator.{Operator}
 use Rattle.sh_arith.specs.Value.{value}
 use Rattle.sh_arith.specs.Steps.{Stacks, Machine, Runs, Skips, Halts, run, outcome_on}
-use Rattle.sh_arith_base.specs.Stack.{top}
-use Rattle.sh_arith_base.proofs.Sig.{Value, SORTS}
+use Rattle.sh_arith_grammar.specs.Stack.{top}
+use Rattle.sh_arith_grammar.proofs.Sig.{Value, SORTS}
 use Rattle.sh_arith.specs.Reading.{expression, said, steps, step_of}
 use Rattle.sh_arith.specs.State.{none_yet, Halting, state}
 use Rattle.std.specs.Prelude.{Option, Some, None, reverse}
 use Rattle.sh_arith.specs.declared.faults.ArithFault.TheVariants.{NoMemory}
 use Rattle.sh_arith.proofs.Running.{run-append, ran, halts}
-use Rattle.sh_arith_base.proofs.Shape.{shaped}
+use Rattle.sh_arith_grammar.proofs.Shape.{shaped}
 use Rattle.sh_arith.proofs.Telling.{told, value_child}
 
 -- the steps of the whole preorder come to the value of what the tree says

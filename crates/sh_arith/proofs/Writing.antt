@@ -8,18 +8,18 @@ use Rattle.sh_grammar.specs.declared.Symbol.TheVariants.{Terminal, Nonterminal}
 use Rattle.sh_grammar.specs.Grammar.{Rule, Tree, Forest, Leaf, Node, Empty, And, IsTree, AreTrees, leaves, all_leaves}
 use Rattle.sh_grammar.specs.Passes.{all_below, implies}
 use Rattle.sh_grammar.specs.Tabulation.{has, rules_of}
-use Rattle.sh_arith_base.specs.declared.grammar.Kind.{Kind}
-use Rattle.sh_arith_base.specs.declared.grammar.Kind.TheVariants as kind
-use Rattle.sh_arith_base.specs.declared.operators.Role.{Role}
-use Rattle.sh_arith_base.specs.declared.operators.Role.TheVariants as role
-use Rattle.sh_arith_base.specs.Grammar.{arithmetic, arithmetic_grammar}
-use Rattle.sh_arith_base.specs.Lexical.{tokens_of}
-use Rattle.sh_arith_base.specs.Precedence.{Sign, Position, Before, Between, Deciding, Choosing, Assigning, Grouping, FromLeft, FromRight, level, levels}
-use Rattle.sh_arith_base.specs.Productions.{Production, productions}
-use Rattle.sh_arith_base.specs.Roles.{kind_of, kinds, nth, operator_of, role_of}
-use Rattle.sh_arith_base.proofs.Computed.{below_at, has_class, then_true}
-use Rattle.sh_arith_base.proofs.Shape.{role_known, sig}
-use Rattle.sh_arith_base.proofs.Sig.{Sig, Value, After, Target, DoMark, TurnMark, DecideMark, JoinMark, StoreMark, Shows, TERMINAL_SORTS}
+use Rattle.sh_arith_grammar.specs.declared.grammar.Kind.{Kind}
+use Rattle.sh_arith_grammar.specs.declared.grammar.Kind.TheVariants as kind
+use Rattle.sh_arith_grammar.specs.declared.operators.Role.{Role}
+use Rattle.sh_arith_grammar.specs.declared.operators.Role.TheVariants as role
+use Rattle.sh_arith_grammar.specs.Grammar.{arithmetic, arithmetic_grammar}
+use Rattle.sh_arith_grammar.specs.Lexical.{tokens_of}
+use Rattle.sh_arith_grammar.specs.Precedence.{Sign, Position, Before, Between, Deciding, Choosing, Assigning, Grouping, FromLeft, FromRight, level, levels}
+use Rattle.sh_arith_grammar.specs.Productions.{Production, productions}
+use Rattle.sh_arith_grammar.specs.Roles.{kind_of, kinds, nth, operator_of, role_of}
+use Rattle.sh_arith_grammar.proofs.Computed.{below_at, has_class, then_true}
+use Rattle.sh_arith_grammar.proofs.Shape.{role_known, sig}
+use Rattle.sh_arith_grammar.proofs.Sig.{Sig, Value, After, Target, DoMark, TurnMark, DecideMark, JoinMark, StoreMark, Shows, TERMINAL_SORTS}
 use Rattle.sh_arith.specs.Evaluation.{Says}
 use Rattle.sh_arith.specs.Expression.{Expression, Zero, Number, Name, Prefix, Binary, Logic, Choice, Assign}
 use Rattle.sh_arith.specs.Reading.{Left, Nothing, Named, Done, expression, first_token, name, through, says, read, readers}

@@ -4,9 +4,9 @@ use Rattle.sh_grammar.specs.declared.Token.{Token}
 use Rattle.sh_grammar.specs.Computed.{is_front, is_whole}
 use Rattle.sh_grammar.specs.Derived.{tree_of}
 use Rattle.sh_vars.specs.Environment.{Environment}
-use Rattle.sh_arith_base.specs.Grammar.{arithmetic}
-use Rattle.sh_arith_base.specs.Levels.{is_deep, none_open, open_after}
-use Rattle.sh_arith_base.specs.Lexical.{tokens_of}
+use Rattle.sh_arith_grammar.specs.Grammar.{arithmetic}
+use Rattle.sh_arith_grammar.specs.Levels.{is_deep, none_open, open_after}
+use Rattle.sh_arith_grammar.specs.Lexical.{tokens_of}
 use Rattle.sh_arith.specs.declared.faults.ArithFault.{ArithFault}
 use Rattle.sh_arith.specs.declared.faults.ArithFault.TheVariants.{Syntax, TooDeep}
 use Rattle.sh_arith.specs.Outcome.{Outcome, Stops}

@@ -6,9 +6,9 @@ use Rattle.sh_grammar.specs.Text.{IsTreeOf, IsText, BeginsText}
 use Rattle.sh_vars.specs.Environment.{Environment}
 use Rattle.sh_arith.specs.declared.faults.ArithFault.{ArithFault}
 use Rattle.sh_arith.specs.declared.faults.ArithFault.TheVariants.{Syntax, TooDeep}
-use Rattle.sh_arith_base.specs.Grammar.{arithmetic}
-use Rattle.sh_arith_base.specs.Levels.{are_shallow, is_deep, none_open, open_after}
-use Rattle.sh_arith_base.specs.Lexical.{tokens_of}
+use Rattle.sh_arith_grammar.specs.Grammar.{arithmetic}
+use Rattle.sh_arith_grammar.specs.Levels.{are_shallow, is_deep, none_open, open_after}
+use Rattle.sh_arith_grammar.specs.Lexical.{tokens_of}
 use Rattle.sh_arith.specs.Expression.{Expression}
 use Rattle.sh_arith.specs.Outcome.{Stops}
 use Rattle.sh_arith.specs.Reading.{said}

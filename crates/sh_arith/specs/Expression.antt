@@ -1,6 +1,6 @@
 -- What an arithmetic text says, once it is read.
 use Rattle.std.specs.Prelude.{ℕ}
-use Rattle.sh_arith_base.specs.declared.operators.Operator.{Operator}
+use Rattle.sh_arith_grammar.specs.declared.operators.Operator.{Operator}
 
 -- a constant and a name go by their places in the text; `x += y` is `Assign Plus`, and `x = y` is `Assign Assign`
 pub data Expression : Type 0 where

@@ -3,14 +3,14 @@ use Rattle.std.specs.Prelude.{ℕ, zero, suc, List, [], ◌∷◌, ◌++◌}
 use Rattle.sh_grammar.specs.declared.Token.{Token}
 use Rattle.sh_grammar.specs.declared.Action.{Action}
 use Rattle.sh_grammar.specs.declared.Action.TheVariants.{Expand, Shift}
-use Rattle.sh_arith_base.specs.declared.grammar.Kind.{Kind}
-use Rattle.sh_arith_base.specs.declared.grammar.Kind.TheVariants as kind
+use Rattle.sh_arith_grammar.specs.declared.grammar.Kind.{Kind}
+use Rattle.sh_arith_grammar.specs.declared.grammar.Kind.TheVariants as kind
 use Rattle.sh_grammar.specs.Grammar.{Tree, Forest, Leaf, Node, Empty, And}
 use Rattle.sh_arith.specs.Expression.{Expression, Zero, Number, Name, Prefix, Binary, Logic, Choice, Assign}
 use Rattle.sh_arith.specs.Steps.{Step, PushZero, PushNumber, PushName, TakeName, PushOp, DoPrefix, DoBinary, Test, Decide, Question, Colon, Join, Open, Store}
-use Rattle.sh_arith_base.specs.declared.operators.Role.{Role}
-use Rattle.sh_arith_base.specs.declared.operators.Role.TheVariants as role
-use Rattle.sh_arith_base.specs.Roles.{kind_of, operator_of, role_of}
+use Rattle.sh_arith_grammar.specs.declared.operators.Role.{Role}
+use Rattle.sh_arith_grammar.specs.declared.operators.Role.TheVariants as role
+use Rattle.sh_arith_grammar.specs.Roles.{kind_of, operator_of, role_of}
 
 -- what stands to the left: nothing, a name whose value may not be wanted, or an expression
 pub data Left : Type 0 where

@@ -1,5 +1,5 @@
 -- What the program's machine stands for.
-use Rattle.sh_memory.specs.Memory.{no_memory}
+use Rattle.sh_base.specs.Memory.{no_memory}
 use Rattle.std.specs.Prelude.{◌≡◌, ◌≢◌, ℕ, suc, [], reverse, Option, Some, None}
 use Rattle.sh_arith.specs.declared.machine.Machine.{Machine as Parts}
 use Rattle.sh_arith.specs.declared.faults.ArithFault.{ArithFault}

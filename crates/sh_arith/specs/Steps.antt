@@ -2,13 +2,13 @@
 -- skipped operands stand around.
 use Rattle.std.specs.Prelude.{ℕ, zero, suc, not, ℤ, pos, List, [], ◌∷◌, ◌++◌, if◌then◌else◌}
 use Rattle.sh_vars.specs.Environment.{Environment}
-use Rattle.sh_arith_base.specs.declared.operators.Operator.{Operator}
-use Rattle.sh_arith_base.specs.declared.operators.Operator.TheVariants as operator
+use Rattle.sh_arith_grammar.specs.declared.operators.Operator.{Operator}
+use Rattle.sh_arith_grammar.specs.declared.operators.Operator.TheVariants as operator
 use Rattle.sh_arith.specs.declared.faults.ArithFault.{ArithFault}
-use Rattle.sh_arith_base.specs.Stack.{rest, top}
+use Rattle.sh_arith_grammar.specs.Stack.{rest, top}
 use Rattle.sh_arith.specs.Expression.{Expression, Zero, Number, Name, Prefix, Binary, Logic, Choice, Assign}
 use Rattle.sh_arith.specs.Outcome.{Outcome, Gives, Stops, and_then}
-use Rattle.sh_arith_base.specs.Operators.{is_zero, truth, turned}
+use Rattle.sh_arith_grammar.specs.Operators.{is_zero, truth, turned}
 use Rattle.sh_arith.specs.Value.{constant, taken, stored, worked, decides, before}
 
 pub data Step : Type 0 where

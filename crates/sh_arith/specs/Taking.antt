@@ -3,7 +3,7 @@ use Rattle.std.specs.Prelude.{◌≡◌, true, List, [], ◌∷◌, ◌++◌, �
 use Rattle.sh_grammar.specs.declared.Token.{Token}
 use Rattle.sh_grammar.specs.Tabulation.{Tabulation}
 use Rattle.sh_grammar.specs.Text.{BeginsText}
-use Rattle.sh_arith_base.specs.Levels.{Open, are_shallow, is_deep, none_open, open_after, open_behind}
+use Rattle.sh_arith_grammar.specs.Levels.{Open, are_shallow, is_deep, none_open, open_after, open_behind}
 use Rattle.sh_arith.specs.declared.faults.ArithFault.{ArithFault}
 use Rattle.sh_arith.specs.declared.faults.ArithFault.TheVariants.{Syntax, TooDeep}
 

@@ -2,16 +2,16 @@
 use Rattle.std.specs.Prelude.{ℕ, ◌^◌, Bool, not, ◌&&◌, ℤ, pos, List, Option, Some, None, if◌then◌else◌, nat_lt}
 use Rattle.std.specs.Fmt.{signed_decimal}
 use Rattle.sh_vars.specs.Environment.{Environment, value_of, with_value, is_read_only}
-use Rattle.sh_vars.specs.Names.{is_name}
+use Rattle.sh_base.specs.Names.{is_name}
 use Rattle.sh_arith.specs.declared.faults.ArithFault.TheVariants.{DivideByZero, NotANumber, ReadOnly, Unset}
-use Rattle.sh_arith_base.specs.declared.operators.Operator.{Operator}
-use Rattle.sh_arith_base.specs.declared.operators.Operator.TheVariants as operator
-use Rattle.sh_arith_base.specs.Constants.{constant_value}
-use Rattle.sh_arith_base.specs.Numbers.{number_of}
-use Rattle.sh_arith_base.specs.Lexical.{word_at}
+use Rattle.sh_arith_grammar.specs.declared.operators.Operator.{Operator}
+use Rattle.sh_arith_grammar.specs.declared.operators.Operator.TheVariants as operator
+use Rattle.sh_arith_grammar.specs.Constants.{constant_value}
+use Rattle.sh_arith_grammar.specs.Numbers.{number_of}
+use Rattle.sh_arith_grammar.specs.Lexical.{word_at}
 use Rattle.sh_arith.specs.Expression.{Expression, Zero, Number, Name, Prefix, Binary, Logic, Choice, Assign}
 use Rattle.sh_arith.specs.Outcome.{Outcome, Gives, Stops, and_then}
-use Rattle.sh_arith_base.specs.Operators.{applied, is_zero, truth, turned}
+use Rattle.sh_arith_grammar.specs.Operators.{applied, is_zero, truth, turned}
 
 -- a constant of a text: no more than the greatest value
 unfoldable pub constant : List ℕ → ℕ → Environment → Outcome

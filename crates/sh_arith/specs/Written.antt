@@ -3,10 +3,10 @@
 use Rattle.std.specs.Prelude.{◌≡◌, ℕ, suc, Bool, true, nat_eq, List, [], ◌∷◌, ◌++◌, slice_get, Some, ◌⊎◌}
 use Rattle.std.specs.List.{list_any}
 use Rattle.sh_grammar.specs.declared.Token.{Token}
-use Rattle.sh_arith_base.specs.declared.operators.Role.TheVariants as role
-use Rattle.sh_arith_base.specs.Classes.{class_of}
-use Rattle.sh_arith_base.specs.Precedence.{Sign, Position, Before, Between, Deciding, Choosing, Assigning, Grouping, FromLeft, FromRight, level, levels}
-use Rattle.sh_arith_base.specs.Roles.{operator_of, role_of}
+use Rattle.sh_arith_grammar.specs.declared.operators.Role.TheVariants as role
+use Rattle.sh_arith_grammar.specs.Classes.{class_of}
+use Rattle.sh_arith_grammar.specs.Precedence.{Sign, Position, Before, Between, Deciding, Choosing, Assigning, Grouping, FromLeft, FromRight, level, levels}
+use Rattle.sh_arith_grammar.specs.Roles.{operator_of, role_of}
 use Rattle.sh_arith.specs.Expression.{Expression, Zero, Number, Name, Prefix, Binary, Logic, Choice, Assign}
 
 abbrev pub is_listed : ℕ → List Sign → Bool

@@ -1,9 +1,9 @@
 //! Why an arithmetic expression has no value.
-ghost use Rattle.sh_memory.specs.Memory.{no_memory};
+ghost use Rattle.sh_base.specs.Memory.{no_memory};
 ghost use Rattle.sh_arith.specs.declared.faults.ArithFault.TheVariants.{NoMemory};
 ghost use Rattle.std.specs.Prelude.{◌≡◌};
 
-use sh_memory::NoMemory;
+use sh_base::NoMemory;
 use std::alloc::AllocError;
 use thiserror::Error;
 

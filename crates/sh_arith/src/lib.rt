@@ -5,7 +5,7 @@
 //! `--`, `sizeof` and the comma, with C's precedences, in at most 500 levels.
 #![tactic(auto)]
 
-ghost use Rattle.sh_memory.specs.Memory.{no_memory};
+ghost use Rattle.sh_base.specs.Memory.{no_memory};
 ghost use Rattle.std.specs.Prelude.{◌≡◌, ◌≢◌, ◌↔◌, ℕ, ℤ, List, true, IfOk, IfErr};
 ghost use Rattle.sh_arith.specs.declared.faults.ArithFault.{ArithFault};
 ghost use Rattle.sh_vars.specs.Environment.{Environment};
@@ -15,8 +15,8 @@ ghost use Rattle.sh_arith.specs.Expression.{Expression};
 ghost use Rattle.sh_arith.specs.Outcome.{Gives, Stops};
 ghost use Rattle.sh_arith.specs.Value.{value};
 ghost use Rattle.sh_arith.specs.Written.{IsWritten};
-ghost use Rattle.sh_arith_base.specs.Levels.{are_shallow, none_open};
-ghost use Rattle.sh_arith_base.specs.Lexical.{tokens_of};
+ghost use Rattle.sh_arith_grammar.specs.Levels.{are_shallow, none_open};
+ghost use Rattle.sh_arith_grammar.specs.Lexical.{tokens_of};
 
 mod examples;
 mod faults;

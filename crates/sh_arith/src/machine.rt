@@ -1,25 +1,25 @@
 //! The evaluation of a derivation: its steps in order, over stacks of values, operators and names.
-ghost use Rattle.sh_memory.specs.Memory.{no_memory};
+ghost use Rattle.sh_base.specs.Memory.{no_memory};
 ghost use Rattle.std.specs.Prelude.{◌≡◌, ◌≢◌, ℕ, List, ◌<◌, ◌≤◌, ◌+◌, ◌^◌, ◌∷◌, [], pos, reverse, OnOk, IfOk, IfErr, Some, None};
 ghost use Rattle.sh_vars.specs.Environment.{Environment};
 ghost use Rattle.sh_grammar.specs.Grammar.{Tree, IsTree};
 ghost use Rattle.sh_grammar.specs.Leftmost.{preorder};
 ghost use Rattle.sh_grammar.specs.declared.Symbol.TheVariants.{Nonterminal};
-ghost use Rattle.sh_arith_base.specs.Grammar.{arithmetic, arithmetic_grammar};
+ghost use Rattle.sh_arith_grammar.specs.Grammar.{arithmetic, arithmetic_grammar};
 ghost use Rattle.sh_arith.specs.Outcome.{Gives, Stops};
 ghost use Rattle.sh_arith.specs.Reading.{expand_steps, said, shift_steps, step_of, steps};
-ghost use Rattle.sh_arith_base.specs.Roles.{kind_of, operator_of, role_of};
+ghost use Rattle.sh_arith_grammar.specs.Roles.{kind_of, operator_of, role_of};
 ghost use Rattle.sh_arith.specs.State.{depth, state, stacks_of, state_of, Halting};
 ghost use Rattle.sh_arith.specs.Steps.{Stacks, Runs, Skips, decide, do_binary, do_prefix, leave, open_assign, question, run, store, take_name, test_left};
-ghost use Rattle.sh_arith_base.specs.Stack.{rest, top};
+ghost use Rattle.sh_arith_grammar.specs.Stack.{rest, top};
 ghost use Rattle.sh_arith.specs.Value.{value};
 
 use crate::faults::ArithFault;
 use crate::values::{before, constant, decides, store, taken, worked};
-use sh_arith_base::{Kind, Operator, Role, kind_of, operator_of, role_of, truth};
+use sh_arith_grammar::{Kind, Operator, Role, kind_of, operator_of, role_of, truth};
+use sh_base::NoMemory;
 use sh_grammar::Action::{self, Expand, Shift};
 use sh_grammar::Token;
-use sh_memory::NoMemory;
 use sh_vars::Vars;
 use std::alloc::Global;
 

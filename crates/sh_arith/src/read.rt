@@ -1,22 +1,22 @@
 //! Reading a text whole: its tokens, and the one derivation of them.
-ghost use Rattle.sh_memory.specs.Memory.{no_memory};
+ghost use Rattle.sh_base.specs.Memory.{no_memory};
 ghost use Rattle.std.specs.Prelude.{◌≡◌, ◌≢◌, ◌+◌, ◌++◌, ◌∷◌, [], ℕ, List, true, false, IfOk, IfErr, OnOk};
 ghost use Rattle.sh_grammar.specs.Grammar.{Tree};
 ghost use Rattle.sh_grammar.specs.Leftmost.{preorder};
 ghost use Rattle.sh_grammar.specs.Text.{IsTreeOf, BeginsText};
-ghost use Rattle.sh_arith_base.specs.Grammar.{arithmetic};
-ghost use Rattle.sh_arith_base.specs.Levels.{are_shallow, is_deep, none_open, open_behind};
-ghost use Rattle.sh_arith_base.specs.Lexical.{tokens_from, tokens_of};
+ghost use Rattle.sh_arith_grammar.specs.Grammar.{arithmetic};
+ghost use Rattle.sh_arith_grammar.specs.Levels.{are_shallow, is_deep, none_open, open_behind};
+ghost use Rattle.sh_arith_grammar.specs.Lexical.{tokens_from, tokens_of};
 ghost use Rattle.sh_arith.specs.Evaluation.{GoesOn, IsRefused, IsRefusedWithin};
 ghost use Rattle.sh_arith.specs.Taking.{Reached, Refuses, Stopped};
 
 use crate::faults::ArithFault;
-use sh_arith_base::{Levels, head, is_blank, tables};
+use sh_arith_grammar::{Levels, head, is_blank, tables};
 use sh_grammar::{Actions, Recognizer, Token};
 use std::alloc::Global;
 
 /// Takes one token, where the tokens with it begin an expression and it opens no level too many.
-#[tactic(auto, unfolding(sh_arith_base::specs::Levels::open_behind))]
+#[tactic(auto, unfolding(sh_arith_grammar::specs::Levels::open_behind))]
 fn take_token(
     recognizer: &mut Recognizer<'_>,
     levels: &mut Levels,

@@ -1,15 +1,15 @@
 //! Values: of constants, variables and operators (XCU 2.6.4).
-ghost use Rattle.sh_memory.specs.Memory.{no_memory};
+ghost use Rattle.sh_base.specs.Memory.{no_memory};
 ghost use Rattle.std.specs.Prelude.{◌≡◌, ◌≢◌, Some, None, IfOk, MatchResult, string_bytes};
 ghost use Rattle.std.specs.Fmt.{signed_decimal};
 ghost use Rattle.sh_vars.specs.Environment.{Environment};
-ghost use Rattle.sh_arith_base.specs.Lexical.{word_at};
-ghost use Rattle.sh_arith_base.specs.Numbers.{number_of};
+ghost use Rattle.sh_arith_grammar.specs.Lexical.{word_at};
+ghost use Rattle.sh_arith_grammar.specs.Numbers.{number_of};
 ghost use Rattle.sh_arith.specs.Outcome.{Gives, Stops};
 ghost use Rattle.sh_arith.specs.Value.{before, constant, decides, stored, taken, worked};
 
 use crate::faults::ArithFault;
-use sh_arith_base::{Operator, constant_value, first_word, number_of};
+use sh_arith_grammar::{Operator, constant_value, first_word, number_of};
 use sh_vars::{Vars, VarsFault};
 use std::alloc::{AllocError, Global};
 

@@ -5,7 +5,7 @@ use Rattle.sh_builtin.specs.declared.act.Act.{Act}
 use Rattle.sh_builtin.specs.declared.act.Act.TheVariants.{Fault, Leave}
 use Rattle.sh_builtin.specs.declared.act.Leave.{Leave as Left}
 use Rattle.sh_builtin.specs.declared.act.Leave.TheVariants as left
-use Rattle.sh_builtin_base.specs.Integers.{number_of}
+use Rattle.sh_base.specs.Decimals.{number_of}
 use Rattle.sh_builtin_vars.specs.declared.outcome.BuiltinFault.TheVariants as fault
 
 -- an operand `--` ends the options (XBD 12.2, guideline 10)

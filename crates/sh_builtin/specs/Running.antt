@@ -8,9 +8,9 @@ use Rattle.sh_builtin.specs.declared.act.Act.TheVariants.{Finish, Write, Fault}
 use Rattle.sh_builtin.specs.declared.act.Leave.TheVariants as left
 use Rattle.sh_builtin.specs.declared.builtin.Builtin.{Builtin}
 use Rattle.sh_builtin.specs.declared.builtin.Builtin.TheVariants.{Bracket, Break, Cd, Colon, Continue, Echo, Exit, False, Pwd, Set, Shift, Test, True, Unset}
-use Rattle.sh_builtin_base.specs.Conditional.{evaluated}
-use Rattle.sh_builtin_base.specs.declared.conditional.Verdict.{Verdict}
-use Rattle.sh_builtin_base.specs.declared.conditional.Verdict.TheVariants as verdict
+use Rattle.sh_builtin.specs.Conditional.{evaluated}
+use Rattle.sh_builtin.specs.declared.conditional.Verdict.{Verdict}
+use Rattle.sh_builtin.specs.declared.conditional.Verdict.TheVariants as verdict
 use Rattle.sh_builtin_vars.specs.Directories.{cd_ran, pwd_outcome}
 use Rattle.sh_builtin_vars.specs.Outcomes.{Ran}
 use Rattle.sh_builtin_vars.specs.Setting.{set_ran}
@@ -21,9 +21,9 @@ use Rattle.sh_builtin_vars.specs.declared.outcome.Outcome.{Outcome}
 use Rattle.sh_builtin_vars.specs.declared.outcome.Outcome.TheVariants as outcome
 use Rattle.sh_files.specs.Nodes.{FileMap}
 use Rattle.sh_kernel.specs.State.{KernelState}
-use Rattle.sh_kernel_base.specs.Machine.{MachineState}
-use Rattle.sh_kernel_base.specs.Terminals.{is_terminal}
-use Rattle.sh_kernel_base.specs.declared.descriptor.Name.TheVariants.{Number}
+use Rattle.sh_kernel_descriptors.specs.Machine.{MachineState}
+use Rattle.sh_kernel_descriptors.specs.Terminals.{is_terminal}
+use Rattle.sh_kernel_descriptors.specs.declared.descriptor.Name.TheVariants.{Number}
 use Rattle.sh_vars.specs.Environment.{Environment}
 
 -- the shell's environment behind it, and what else it does

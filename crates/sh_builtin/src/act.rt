@@ -1,6 +1,6 @@
 //! What built-ins do.
+use sh_base::sequence::Text;
 use sh_builtin_vars::BuiltinFault;
-use sh_syntax::sequence::Text;
 
 /// How commands are left before their end.
 #[derive(Clone, Copy, Debug, PartialEq, Eq)]

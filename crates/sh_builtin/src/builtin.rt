@@ -7,10 +7,10 @@ ghost use Rattle.sh_kernel.specs.State.{KernelState, StandsAt};
 use crate::act::Act;
 use crate::leaving::{break_with, continue_with, exit_with, operands_of};
 use crate::testing::{bracket, test};
+use sh_base::NoMemory;
+use sh_base::sequence::{Sequence, Text};
 use sh_builtin_vars::{Outcome, cd, pwd, set, shift, unset};
 use sh_kernel::Kernel;
-use sh_memory::NoMemory;
-use sh_syntax::sequence::{Sequence, Text};
 use sh_vars::Vars;
 use std::alloc::Global;
 

@@ -3,9 +3,9 @@ ghost use Rattle.std.specs.Prelude.{◌≡◌};
 ghost use Rattle.sh_builtin.specs.Loops.{exit_by, exit_with, loop_by, loop_with, operands_of};
 
 use crate::act::{Act, Leave};
-use sh_builtin_base::number_of;
+use sh_base::decimal::number_of;
+use sh_base::sequence::Text;
 use sh_builtin_vars::BuiltinFault;
-use sh_syntax::sequence::Text;
 
 /// The operands, behind a `--` if there is one.
 pub(crate) fn operands_of(arguments: &[Text]) -> &[Text]

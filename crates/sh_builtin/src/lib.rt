@@ -3,8 +3,11 @@
 
 mod act;
 mod builtin;
+mod conditional;
 mod leaving;
+mod number;
 mod testing;
 
 pub use act::{Act, Leave};
 pub use builtin::Builtin;
+pub use conditional::{Verdict, evaluate};

@@ -4,11 +4,11 @@ ghost use Rattle.sh_builtin.specs.Running.{bracketed, front, inverted_by, judged
 ghost use Rattle.sh_kernel.specs.State.{KernelState, StandsAt};
 
 use crate::act::Act;
-use sh_builtin_base::{Verdict, evaluate};
+use crate::{Verdict, evaluate};
+use sh_base::NoMemory;
+use sh_base::sequence::Text;
 use sh_builtin_vars::BuiltinFault;
 use sh_kernel::Kernel;
-use sh_memory::NoMemory;
-use sh_syntax::sequence::Text;
 use sh_vars::Vars;
 
 /// The status of a condition.

@@ -1,7 +1,7 @@
 -- The conditions of traps (XCU 2.15 trap): EXIT, which is 0, and signals, by name or number.
 use Rattle.std.specs.Prelude.{ℕ, List, [], ◌∷◌, ◌==◌, Option, Some, None, codes, if◌then◌else◌}
 use Rattle.std.specs.Str.{bytes_eq}
-use Rattle.sh_builtin_base.specs.Integers.{number_of}
+use Rattle.sh_base.specs.Decimals.{number_of}
 use Rattle.sh_builtin_traps.specs.declared.condition.Condition.{Condition}
 use Rattle.sh_builtin_traps.specs.declared.condition.Condition.TheVariants.{Exit, Caught}
 use Rattle.sh_signal.specs.Signals as signal

@@ -1,7 +1,7 @@
 -- trap (XCU 2.15): what its operands do to the traps.
 use Rattle.std.specs.Prelude.{ℕ, List, [], ◌∷◌, Option, Some, None, codes, if◌then◌else◌}
 use Rattle.std.specs.Str.{bytes_eq}
-use Rattle.sh_builtin_base.specs.Integers.{number_of}
+use Rattle.sh_base.specs.Decimals.{number_of}
 use Rattle.sh_builtin_traps.specs.Conditions.{condition_of}
 use Rattle.sh_builtin_traps.specs.TrapMaps.{TrapMap, listed, with_action}
 use Rattle.sh_builtin_traps.specs.declared.condition.Condition.{Condition}

@@ -2,7 +2,7 @@
 ghost use Rattle.std.specs.Prelude.{◌≡◌};
 ghost use Rattle.sh_builtin_traps.specs.Conditions.{caught, condition_of, name_of, named, numbered, place_of};
 
-use sh_builtin_base::number_of;
+use sh_base::decimal::number_of;
 use sh_signal::Signal;
 
 /// What a trap waits for (XCU 2.15 trap).

@@ -4,20 +4,11 @@ ghost use Rattle.sh_builtin_traps.specs.Trapping.{action_in, set_all, set_behind
 
 use crate::condition::Condition;
 use crate::traps::Traps;
-use sh_builtin_base::number_of;
+use sh_base::NoMemory;
+use sh_base::decimal::number_of;
+use sh_base::sequence::{Sequence, Text};
 use sh_builtin_vars::{BuiltinFault, Outcome, parse_options};
-use sh_memory::NoMemory;
-use sh_syntax::sequence::{Sequence, Text};
 use std::alloc::Global;
-
-/// A copy of a text.
-fn copy_of(alloc: Global, text: &[u8]) -> Result<Text, NoMemory>
-    ensures { IfOk result (λ copy. copy ≡ text.now) }
-{
-    let mut copy = Sequence::new(alloc);
-    copy.extend_from_slice(text)?;
-    Ok(copy)
-}
 
 /// A copy of an action, if there is one.
 fn copy_action(alloc: Global, action: Option<&[u8]>) -> Result<Option<Text>, NoMemory>
@@ -25,7 +16,7 @@ fn copy_action(alloc: Global, action: Option<&[u8]>) -> Result<Option<Text>, NoM
 {
     match action {
         Some(action) => {
-            let copy = copy_of(alloc, action)?;
+            let copy = Text::copy_of(alloc, action)?;
             Ok(Some(copy))
         },
         None => Ok(None),
@@ -44,7 +35,7 @@ fn set_all(
     let mut rest = words;
     'words: while let Some((word, others)) = rest.split_first() {
         let Some(condition) = Condition::of(word.as_slice()) else {
-            let word = copy_of(alloc, word.as_slice())?;
+            let word = Text::copy_of(alloc, word.as_slice())?;
             return Ok(Outcome::Fault(BuiltinFault::BadName(word)));
         };
         let copy = copy_action(alloc, action)?;

@@ -4,10 +4,10 @@ ghost use Rattle.sh_builtin_traps.specs.TrapMaps.{action_of, ignored, in_subshel
 ghost use Rattle.sh_builtin_traps.specs.Conditions.{conditions};
 
 use crate::condition::Condition;
+use sh_base::NoMemory;
+use sh_base::sequence::{Sequence, Text};
 use sh_builtin_vars::put_quoted;
-use sh_memory::NoMemory;
 use sh_signal::Signal;
-use sh_syntax::sequence::{Sequence, Text};
 use std::alloc::Global;
 use std::marker::Model;
 

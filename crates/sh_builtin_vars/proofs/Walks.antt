@@ -5,8 +5,8 @@ use Rattle.sh_builtin_vars.specs.Walks.{through}
 use Rattle.sh_files.specs.Nodes.{FileMap, behind_entrance, entrance, found_at, is_empty, named, node_at, resolved, walked}
 use Rattle.sh_files.specs.declared.fault.FileFault.{FileFault}
 use Rattle.sh_files.specs.declared.fault.FileFault.TheVariants.{NoEntry}
-use Rattle.sh_files_base.specs.Paths.{absolute, components, fits, parted, stepped}
-use Rattle.sh_files_base.proofs.Slashes.{first_part, only_part}
+use Rattle.sh_files_image.specs.Paths.{absolute, components, fits, parted, stepped}
+use Rattle.sh_files_image.proofs.Slashes.{first_part, only_part}
 
 pub on_step : (place next rest : List ℕ) (p : List ℕ × List ℕ) → Some p ≡ parted rest → next ≡ stepped place p.0 → through next (components p.1) ≡ through place (components rest)
 on_step place next rest p h n = ap (λ (x : List ℕ). through x (components p.1)) n ∙ sym (ap (through place) (first_part rest p h))

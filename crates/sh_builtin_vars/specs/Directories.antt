@@ -8,8 +8,8 @@ use Rattle.sh_builtin_vars.specs.declared.outcome.Outcome.{Outcome}
 use Rattle.sh_builtin_vars.specs.declared.outcome.Outcome.TheVariants.{Done, Fault, Output}
 use Rattle.sh_files.specs.Nodes.{FileMap, is_empty, node_at, resolved}
 use Rattle.sh_files.specs.declared.fault.FileFault.{FileFault}
-use Rattle.sh_files_base.specs.declared.node.Node.{Node}
-use Rattle.sh_files_base.specs.declared.node.Node.TheVariants as node
+use Rattle.sh_files_image.specs.declared.node.Node.{Node}
+use Rattle.sh_files_image.specs.declared.node.Node.TheVariants as node
 use Rattle.sh_vars.specs.Environment.{Environment, is_read_only, value_of, with_directory, with_value}
 
 -- ---- where it is gone to, the variables OLDPWD and PWD tell the directory before and the one now

@@ -9,7 +9,7 @@ use Rattle.sh_builtin_vars.specs.declared.marks.Mark.TheVariants.{Export, ReadOn
 use Rattle.sh_builtin_vars.specs.declared.outcome.BuiltinFault.TheVariants as fault
 use Rattle.sh_builtin_vars.specs.declared.outcome.Outcome.TheVariants.{Done, Output}
 use Rattle.sh_vars.specs.Environment.{Environment, is_read_only, with_export, with_read_only, with_value}
-use Rattle.sh_vars.specs.Names.{is_name}
+use Rattle.sh_base.specs.Names.{is_name}
 
 -- ---- an operand is a name, or a name, `=` and a value
 abbrev pub equals_in : List ℕ → Option ℕ

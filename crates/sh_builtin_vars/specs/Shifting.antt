@@ -1,6 +1,6 @@
 -- shift (XCU 2.15): positional parameters go.
 use Rattle.std.specs.Prelude.{ℕ, List, [], ◌∷◌, Option, Some, None, length, nat_le, if◌then◌else◌}
-use Rattle.sh_builtin_base.specs.Integers.{number_of}
+use Rattle.sh_base.specs.Decimals.{number_of}
 use Rattle.sh_builtin_vars.specs.Options.{Parsed, parsed}
 use Rattle.sh_builtin_vars.specs.Outcomes.{Ran, misused, ran}
 use Rattle.sh_builtin_vars.specs.declared.outcome.Outcome.TheVariants.{Done}

@@ -5,7 +5,7 @@ use Rattle.sh_builtin_vars.specs.Outcomes.{Ran, Stepped, behind, misused, ran, s
 use Rattle.sh_builtin_vars.specs.declared.outcome.BuiltinFault.TheVariants as fault
 use Rattle.sh_builtin_vars.specs.declared.outcome.Outcome.TheVariants.{Done}
 use Rattle.sh_vars.specs.Environment.{Environment, is_read_only, without}
-use Rattle.sh_vars.specs.Names.{is_name}
+use Rattle.sh_base.specs.Names.{is_name}
 
 -- ---- one name; no function is ever defined yet, so under -f there is none to take away
 abbrev pub variable_unset : Environment → List ℕ → Stepped

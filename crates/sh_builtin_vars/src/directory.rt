@@ -4,16 +4,16 @@ ghost use Rattle.sh_builtin_vars.specs.Directories.{arrived, back, cd_ran, cd_wi
 ghost use Rattle.sh_builtin_vars.specs.Walks.{through};
 ghost use Rattle.sh_builtin_vars.specs.Outcomes.{ran};
 ghost use Rattle.sh_files.specs.Nodes.{named};
-ghost use Rattle.sh_files_base.specs.Paths.{absolute, components};
+ghost use Rattle.sh_files_image.specs.Paths.{absolute, components};
 ghost use Rattle.sh_vars.specs.Environment.{is_read_only, value_of};
 
 use crate::options::parse_options;
 use crate::outcome::{BuiltinFault, Outcome};
-use crate::variables::{copy_of, is_read_only, set_value};
+use crate::variables::{is_read_only, set_value};
+use sh_base::NoMemory;
+use sh_base::sequence::{Sequence, Text};
 use sh_files::{Files, Node};
-use sh_files_base::{absolute, split_slash, step};
-use sh_memory::NoMemory;
-use sh_syntax::sequence::{Sequence, Text};
+use sh_files_image::{absolute, split_slash, step};
 use sh_vars::Vars;
 use std::alloc::Global;
 
@@ -35,7 +35,7 @@ fn go_through(alloc: Global, path: &[u8]) -> Result<Text, NoMemory>
 fn line(alloc: Global, place: &[u8]) -> Result<Text, NoMemory>
     ensures { IfOk result (λ text. text ≡ line place.now) }
 {
-    let mut text = copy_of(alloc, place)?;
+    let mut text = Text::copy_of(alloc, place)?;
     text.push(b'\n')?;
     Ok(text)
 }
@@ -57,8 +57,8 @@ fn move_to(alloc: Global, vars: &mut Vars, place: &[u8]) -> Result<(), NoMemory>
     requires new { is_read_only vars.old new_name ≡ false }
     ensures { OnOk result (vars.new ≡ moved vars.old place.now) }
 {
-    let directory = sh_vars::Text::copy_of(alloc, place)?;
-    let old = copy_of(alloc, vars.directory())?;
+    let directory = Text::copy_of(alloc, place)?;
+    let old = Text::copy_of(alloc, vars.directory())?;
     set_value(vars, b"OLDPWD", old.as_slice())?;
     set_value(vars, b"PWD", place)?;
     vars.set_directory(directory);
@@ -69,7 +69,7 @@ fn move_to(alloc: Global, vars: &mut Vars, place: &[u8]) -> Result<(), NoMemory>
 fn read_only(alloc: Global, name: &[u8]) -> Result<Outcome, NoMemory>
     ensures { IfOk result (λ outcome. outcome ≡ Outcome.Fault (BuiltinFault.ReadOnly name.now)) }
 {
-    let name = copy_of(alloc, name)?;
+    let name = Text::copy_of(alloc, name)?;
     Ok(Outcome::Fault(BuiltinFault::ReadOnly(name)))
 }
 
@@ -77,7 +77,7 @@ fn read_only(alloc: Global, name: &[u8]) -> Result<Outcome, NoMemory>
 fn cannot_open(alloc: Global, word: &[u8]) -> Result<Outcome, NoMemory>
     ensures { IfOk result (λ outcome. outcome ≡ Outcome.Fault (BuiltinFault.CannotOpen word.now)) }
 {
-    let word = copy_of(alloc, word)?;
+    let word = Text::copy_of(alloc, word)?;
     Ok(Outcome::Fault(BuiltinFault::CannotOpen(word)))
 }
 
@@ -157,7 +157,7 @@ fn value_of(alloc: Global, vars: &Vars, name: &[u8]) -> Result<Option<Text>, NoM
 {
     match vars.get(name) {
         Some(value) => {
-            let value = copy_of(alloc, value)?;
+            let value = Text::copy_of(alloc, value)?;
             Ok(Some(value))
         },
         None => Ok(None),

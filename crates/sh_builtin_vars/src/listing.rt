@@ -3,8 +3,8 @@ ghost use Rattle.std.specs.Prelude.{◌≡◌, ◌++◌, IfOk, OnOk};
 ghost use Rattle.sh_builtin_vars.specs.Listing.{is_listed, line, lines, listed, quoted, quoted_byte, quoted_bytes, value_text, word_of};
 
 use crate::marks::Mark;
-use sh_memory::NoMemory;
-use sh_syntax::sequence::{Sequence, Text};
+use sh_base::NoMemory;
+use sh_base::sequence::{Sequence, Text};
 use sh_vars::{Entry, Vars};
 use std::alloc::Global;
 

@@ -2,15 +2,15 @@
 ghost use Rattle.std.specs.Prelude.{◌≡◌, ◌<◌, IfOk, IfSome, IsTrue, OnOk, length, option_map};
 ghost use Rattle.sh_builtin_vars.specs.Marking.{equals_in, mark_listed, mark_ran, marked, marked_all, marked_one, marked_with, name_in, value_in};
 ghost use Rattle.sh_builtin_vars.specs.Outcomes.{ran, stepped};
-ghost use Rattle.sh_vars.specs.Names as names;
+ghost use Rattle.sh_base.specs.Names as names;
 
 use crate::listing::{Listing, list};
 use crate::marks::Mark;
 use crate::options::parse_options;
 use crate::outcome::{BuiltinFault, Outcome};
-use crate::variables::{copy_of, is_read_only, set_value};
-use sh_memory::NoMemory;
-use sh_syntax::sequence::Text;
+use crate::variables::{is_read_only, set_value};
+use sh_base::NoMemory;
+use sh_base::sequence::Text;
 use sh_vars::{Vars, VarsFault, is_name};
 use std::alloc::Global;
 
@@ -77,7 +77,7 @@ fn mark_with(
         return Ok(None);
     };
     if is_read_only(vars, name) {
-        let name = copy_of(alloc, name)?;
+        let name = Text::copy_of(alloc, name)?;
         return Ok(Some(BuiltinFault::ReadOnly(name)));
     }
     set_value(vars, name, value)?;
@@ -97,7 +97,7 @@ fn mark_one(
 {
     let name = name_in(operand);
     if !is_name(name) {
-        let operand = copy_of(alloc, operand)?;
+        let operand = Text::copy_of(alloc, operand)?;
         return Ok(Some(BuiltinFault::BadName(operand)));
     }
     mark_with(alloc, mark, vars, name, value_in(operand))

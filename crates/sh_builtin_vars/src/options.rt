@@ -2,7 +2,7 @@
 ghost use Rattle.std.specs.Prelude.{◌≡◌, None, option_map, option_to_list};
 ghost use Rattle.sh_builtin_vars.specs.Options.{are_among, is_among, last_letter, letters_of, parsed, some_letters};
 
-use sh_syntax::sequence::Text;
+use sh_base::sequence::Text;
 
 /// Letters, if there are any.
 pub(crate) fn some_letters(letters: &[u8]) -> Option<&[u8]>

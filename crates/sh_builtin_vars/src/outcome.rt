@@ -1,5 +1,5 @@
 //! What built-ins come to.
-use sh_syntax::sequence::Text;
+use sh_base::sequence::Text;
 
 /// Why a built-in is refused; a message says it, behind which a special built-in ends a shell that isn't interactive (XCU 2.8.1).
 #[derive(Debug, Drop)]

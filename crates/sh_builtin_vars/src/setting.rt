@@ -7,8 +7,8 @@ ghost use Rattle.sh_builtin_vars.specs.Setting.{ended, is_settable, letter_switc
 use crate::listing::{Listing, list};
 use crate::options::some_letters;
 use crate::outcome::{BuiltinFault, Outcome};
-use sh_memory::NoMemory;
-use sh_syntax::sequence::Text;
+use sh_base::NoMemory;
+use sh_base::sequence::{Text, copies_of};
 use sh_vars::{Options, ShellOption, Vars};
 use std::alloc::Global;
 
@@ -221,17 +221,6 @@ fn read_words(options: Options, arguments: &[Text]) -> Option<(Options, Option<&
     }
     let options = state.end()?;
     Some((options, None))
-}
-
-/// Copies of operands, as positional parameters.
-fn copies_of(alloc: Global, operands: &[Text]) -> Result<Vec<sh_vars::Text>, NoMemory>
-    ensures { IfOk result (λ copies. copies.items ≡ operands.now) }
-{
-    let mut copies = Vec::with_capacity(alloc, operands.len())?;
-    for operand in operands {
-        copies.push(sh_vars::Text::copy_of(alloc, operand.as_slice())?)?;
-    }
-    Ok(copies)
 }
 
 /// Replaces the positional parameters, if there are operands.

@@ -5,8 +5,8 @@ ghost use Rattle.sh_builtin_vars.specs.Shifting.{shift_number, shift_ran, shift_
 
 use crate::options::parse_options;
 use crate::outcome::{BuiltinFault, Outcome};
-use sh_builtin_base::number_of;
-use sh_syntax::sequence::Text;
+use sh_base::decimal::number_of;
+use sh_base::sequence::Text;
 use sh_vars::Vars;
 
 /// As many parameters go, if there are as many.

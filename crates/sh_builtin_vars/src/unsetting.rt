@@ -5,9 +5,9 @@ ghost use Rattle.sh_builtin_vars.specs.Unsetting.{kind_unset, names_functions, u
 
 use crate::options::parse_options;
 use crate::outcome::{BuiltinFault, Outcome};
-use crate::variables::{copy_of, is_read_only};
-use sh_memory::NoMemory;
-use sh_syntax::sequence::Text;
+use crate::variables::is_read_only;
+use sh_base::NoMemory;
+use sh_base::sequence::Text;
 use sh_vars::{Vars, is_name};
 use std::alloc::Global;
 
@@ -24,7 +24,7 @@ fn unset_kind(
         return Ok(None);
     }
     if is_read_only(vars, name) {
-        let name = copy_of(alloc, name)?;
+        let name = Text::copy_of(alloc, name)?;
         return Ok(Some(BuiltinFault::ReadOnly(name)));
     }
     vars.forget(name);
@@ -42,7 +42,7 @@ fn unset_one(
     ensures { IfOk result (λ why. stepped vars.new why ≡ unset_one functions vars.old name.now) }
 {
     if !is_name(name) {
-        let name = copy_of(alloc, name)?;
+        let name = Text::copy_of(alloc, name)?;
         return Ok(Some(BuiltinFault::BadName(name)));
     }
     unset_kind(alloc, functions, vars, name)

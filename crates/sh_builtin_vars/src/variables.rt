@@ -1,21 +1,12 @@
 //! Single variables, as built-ins change them.
 ghost use Rattle.std.specs.Prelude.{◌≡◌, IfOk, IsTrue, OnOk, false};
 ghost use Rattle.sh_vars.specs.Environment.{is_read_only, with_value};
-ghost use Rattle.sh_vars.specs.Names.{is_name};
+ghost use Rattle.sh_base.specs.Names.{is_name};
 
-use sh_memory::NoMemory;
-use sh_syntax::sequence::{Sequence, Text};
+use sh_base::NoMemory;
+use sh_base::sequence::{Sequence, Text};
 use sh_vars::{Vars, VarsFault};
 use std::alloc::Global;
-
-/// A copy of a text.
-pub(crate) fn copy_of(alloc: Global, text: &[u8]) -> Result<Text, NoMemory>
-    ensures { IfOk result (λ copy. copy ≡ text.now) }
-{
-    let mut copy = Sequence::new(alloc);
-    copy.extend_from_slice(text)?;
-    Ok(copy)
-}
 
 /// Whether a variable is read-only.
 pub(crate) fn is_read_only(vars: &Vars, name: &[u8]) -> bool

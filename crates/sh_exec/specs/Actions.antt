@@ -6,9 +6,9 @@ use Rattle.sh_exec_command.specs.declared.running.Active.{Active}
 use Rattle.sh_exec_command.specs.declared.running.Active.TheVariants.{Acting, Next, Done, Leaving}
 use Rattle.sh_exec_command.specs.declared.running.Place.{Place}
 use Rattle.sh_exec_command.specs.declared.running.Place.TheVariants.{Reading, Expanding, Collecting, Answering, Redirecting, Forking, Starting, Staging, Giving, Waiting, Writing, Ending}
-use Rattle.sh_exec_shell_base.specs.Running.{active_of}
+use Rattle.sh_exec_forms.specs.Running.{active_of}
 use Rattle.sh_kernel.specs.Turns.{Action, Acts, ReadsBy, WaitsFor, WritesBy}
-use Rattle.sh_kernel_base.specs.declared.descriptor.Name.TheVariants.{Aside, Number}
+use Rattle.sh_kernel_descriptors.specs.declared.descriptor.Name.TheVariants.{Aside, Number}
 use Rattle.sh_stock.specs.declared.asking.Ask.{Ask}
 use Rattle.sh_stock.specs.declared.asking.Ask.TheVariants as ask
 

@@ -9,7 +9,7 @@ use Rattle.sh_exec_machine.specs.declared.transfer.Taken.{Taken}
 use Rattle.sh_exec_machine.specs.declared.transfer.Taken.TheVariants as taken
 use Rattle.sh_kernel.specs.Calls.{end_call}
 use Rattle.sh_kernel.specs.State.{KernelKept, KernelState, StandsAt}
-use Rattle.sh_kernel_base.specs.declared.descriptor.Name.TheVariants.{Number}
+use Rattle.sh_kernel_descriptors.specs.declared.descriptor.Name.TheVariants.{Number}
 use Rattle.sh_stock.specs.Asking.{Meaning}
 use Rattle.sh_stock.specs.declared.asking.Answer.{Answer}
 use Rattle.sh_stock.specs.declared.asking.Answer.TheVariants as answer

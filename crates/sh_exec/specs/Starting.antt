@@ -3,20 +3,20 @@ use Rattle.std.specs.Prelude.{ℕ, List, [], ◌∷◌, Option, Some, None, unwr
 use Rattle.sh_exec.specs.Programs.{Left, asking, left}
 use Rattle.sh_exec.specs.declared.process.Process.{Process}
 use Rattle.sh_exec.specs.declared.process.Process.TheVariants.{Runs}
-use Rattle.sh_exec_base.specs.Messages.{cannot_execute, message, not_found}
-use Rattle.sh_exec_base.specs.Scripts.{script_environment}
-use Rattle.sh_exec_search.specs.Search.{located_of}
-use Rattle.sh_exec_search.specs.declared.search.Located.{Located}
-use Rattle.sh_exec_search.specs.declared.search.Located.TheVariants as located
+use Rattle.sh_exec_parts.specs.Messages.{cannot_execute, message, not_found}
+use Rattle.sh_exec_parts.specs.Scripts.{script_environment}
+use Rattle.sh_exec.specs.Search.{located_of}
+use Rattle.sh_exec.specs.declared.search.Located.{Located}
+use Rattle.sh_exec.specs.declared.search.Located.TheVariants as located
 use Rattle.sh_exec_command.specs.declared.running.Active.{Active}
 use Rattle.sh_exec_command.specs.declared.running.Active.TheVariants.{Acting, Next, Done, Leaving}
 use Rattle.sh_exec_command.specs.declared.running.Finish.TheVariants.{Leave}
 use Rattle.sh_exec_command.specs.declared.running.Place.{Place}
 use Rattle.sh_exec_command.specs.declared.running.Place.TheVariants.{Reading, Expanding, Collecting, Answering, Redirecting, Forking, Starting, Staging, Giving, Waiting, Writing, Ending}
-use Rattle.sh_exec_shell_base.specs.Running.{At}
+use Rattle.sh_exec_forms.specs.Running.{At}
 use Rattle.sh_kernel.specs.Calls.{start_call}
 use Rattle.sh_kernel.specs.State.{KernelState}
-use Rattle.sh_kernel_base.specs.Processes.{parent_at}
+use Rattle.sh_kernel_descriptors.specs.Processes.{parent_at}
 use Rattle.sh_stock.specs.Asking.{Meaning}
 use Rattle.sh_stock.specs.declared.asking.Answer.TheVariants as answer
 use Rattle.sh_vars.specs.Environment.{Environment}

@@ -6,7 +6,7 @@ use Rattle.sh_exec.specs.declared.process.Process.{Process}
 use Rattle.sh_exec.specs.declared.process.Process.TheVariants.{Runs, Asks}
 use Rattle.sh_exec_shell.specs.Forks as shell
 use Rattle.sh_exec_shell.specs.Reduction.{shell_turn}
-use Rattle.sh_exec_shell_base.specs.Running.{ShellState, active_of}
+use Rattle.sh_exec_forms.specs.Running.{ShellState, active_of}
 use Rattle.sh_exec_shell.specs.declared.shell.Child.{Child}
 use Rattle.sh_kernel.specs.State.{KernelKept, KernelState, StandsAt}
 use Rattle.sh_stock.specs.Asking.{Meaning}

@@ -55,7 +55,7 @@ pub(crate) fn asked(ask: &Ask) -> Next<'_>
 {
     match ask {
         Ask::Read(_) => Next::Read(Name::Number(0)),
-        Ask::Write(bytes) => Next::Write(1, bytes.as_bytes().len()),
+        Ask::Write(bytes) => Next::Write(1, bytes.as_slice().len()),
         Ask::Stop => Next::Other,
         Ask::Idle => Next::Other,
         Ask::End(_) => Next::Other,

@@ -4,7 +4,9 @@
 mod action;
 mod process;
 mod program;
+mod search;
 mod shell;
 mod start;
 
 pub use process::Process;
+pub use search::{Located, MAX_SCRIPT, locate};

@@ -1,7 +1,7 @@
 //! A process: a shell, or a program.
 ghost use Rattle.std.specs.Prelude.{◌≡◌, IfOk};
 ghost use Rattle.sh_kernel.specs.State.{KernelState, StandsAt};
-ghost use Rattle.sh_tty.specs.Kept.{Extends};
+ghost use Rattle.sh_tty.specs.Terminal.{Extends};
 ghost use Rattle.sh_exec.specs.Programs.{HasLeft};
 ghost use Rattle.sh_exec.specs.Starting.{start_turn};
 ghost use Rattle.sh_exec.specs.Turns as turns;
@@ -14,11 +14,11 @@ use crate::action::{action_in, asked};
 use crate::program::ask_turn;
 use crate::shell::starting_of;
 use crate::start::start_turn;
+use sh_base::NoMemory;
+use sh_base::sequence::{Sequence, Text};
 use sh_exec_shell::{Child, Shell};
 use sh_kernel::{Kernel, Next};
-use sh_memory::NoMemory;
 use sh_stock::{Ask, Stock};
-use sh_syntax::sequence::{Sequence, Text};
 use std::alloc::Global;
 use std::mem;
 

@@ -1,13 +1,14 @@
 //! A turn of a program.
 ghost use Rattle.std.specs.Prelude.{◌≡◌, IfOk, drop};
 ghost use Rattle.sh_kernel.specs.State.{KernelState, StandsAt};
-ghost use Rattle.sh_tty.specs.Kept.{Extends};
+ghost use Rattle.sh_tty.specs.Terminal.{Extends};
 ghost use Rattle.sh_exec.specs.Programs.{HasLeft, ask_turn, asking, end_turn, read_by, read_turn, write_by, write_turn};
 
 use crate::process::Process;
+use sh_base::NoMemory;
+use sh_base::sequence::Text;
 use sh_exec_machine::{Given, Taken, give_bytes, take_bytes};
 use sh_kernel::{Kernel, Name};
-use sh_memory::NoMemory;
 use sh_stock::{Answer, Ask, Stock};
 use std::alloc::Global;
 
@@ -32,10 +33,7 @@ fn read_by<S: Stock>(
     ensures { IfOk result (λ ask. Process.Asks ask program.new ≡ read_by S.meaning count program.old taken) }
 {
     match taken {
-        Taken::Bytes(bytes) => {
-            let bytes = sh_stock::Text::from(bytes.into_vec());
-            asking(alloc, program, Answer::Bytes(bytes))
-        },
+        Taken::Bytes(bytes) => asking(alloc, program, Answer::Bytes(bytes)),
         Taken::Wait => Ok(Ask::Read(count)),
         Taken::Failed => asking(alloc, program, Answer::Failed),
     }
@@ -59,18 +57,18 @@ fn read_turn<S: Stock>(
 }
 
 /// What is left of bytes behind the first ones.
-fn rest_of(alloc: Global, bytes: &[u8], count: usize) -> Result<sh_stock::Text, NoMemory>
+fn rest_of(alloc: Global, bytes: &[u8], count: usize) -> Result<Text, NoMemory>
     ensures { IfOk result (λ rest. rest ≡ drop count bytes.now) }
 {
     let from = count.min(bytes.len());
-    let rest = sh_stock::Text::copy_of(alloc, &bytes[from..])?;
+    let rest = Text::copy_of(alloc, &bytes[from..])?;
     Ok(rest)
 }
 
 /// What follows a write.
 fn write_by<S: Stock>(
     alloc: Global,
-    bytes: sh_stock::Text,
+    bytes: Text,
     program: &mut S,
     given: Given,
 ) -> Result<Ask, NoMemory>
@@ -79,7 +77,7 @@ fn write_by<S: Stock>(
     match given {
         Given::Whole => asking(alloc, program, Answer::Done),
         Given::Part(count) => {
-            let rest = rest_of(alloc, bytes.as_bytes(), count)?;
+            let rest = rest_of(alloc, bytes.as_slice(), count)?;
             Ok(Ask::Write(rest))
         },
         Given::Wait => Ok(Ask::Write(bytes)),
@@ -94,13 +92,13 @@ fn write_turn<S: Stock>(
     alloc: Global,
     kernel: &mut Kernel,
     pid: u32,
-    bytes: sh_stock::Text,
+    bytes: Text,
     program: &mut S,
 ) -> Result<Ask, NoMemory>
     ensures state { (s : KernelState) → StandsAt kernel.old s → IfOk result (λ ask. HasLeft kernel.new (Process.Asks ask program.new) (write_turn S.meaning s pid bytes program.old)) }
     ensures terminal { Extends kernel.old.terminal.bytes kernel.new.terminal.bytes }
 {
-    let given = give_bytes(kernel, pid, 1, bytes.as_bytes())?;
+    let given = give_bytes(kernel, pid, 1, bytes.as_slice())?;
     let ask = write_by(alloc, bytes, program, given)?;
     Ok(ask)
 }

@@ -2,9 +2,9 @@
 ghost use Rattle.std.specs.Prelude.{◌≡◌, IfOk, option_map};
 ghost use Rattle.sh_exec.specs.Starting.{starting_at, starting_in};
 
-use sh_exec_command::{Active, Place, copies_of};
-use sh_memory::NoMemory;
-use sh_syntax::sequence::{Sequence, Text};
+use sh_base::NoMemory;
+use sh_base::sequence::{Sequence, Text, copies_of};
+use sh_exec_command::{Active, Place};
 use std::alloc::Global;
 
 /// What is started at a place.
@@ -48,7 +48,7 @@ pub(crate) fn starting_of(
 {
     match starting_in(active) {
         Some(fields) => {
-            let copies = copies_of(alloc, fields.as_slice())?;
+            let copies = Sequence::from_vec(copies_of(alloc, fields.as_slice())?);
             Ok(Some(copies))
         },
         None => Ok(None),

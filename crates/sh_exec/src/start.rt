@@ -2,21 +2,21 @@
 ghost use Rattle.std.specs.Prelude.{◌≡◌, IfOk};
 ghost use Rattle.sh_kernel.specs.Calls.{start_call};
 ghost use Rattle.sh_kernel.specs.State.{KernelState, StandsAt};
-ghost use Rattle.sh_exec_base.specs.Messages as messages;
+ghost use Rattle.sh_exec_parts.specs.Messages as messages;
 ghost use Rattle.sh_exec.specs.Programs.{HasLeft, asking};
 ghost use Rattle.sh_exec.specs.Starting.{parent_of, scripted, shell_at, start_named, start_turn, started_by, stocked};
 
 use crate::process::Process;
 use crate::program::asking;
-use sh_exec_base::message::{Piece, cannot_execute, not_found};
-use sh_exec_base::script_environment;
+use crate::{Located, locate};
+use sh_base::NoMemory;
+use sh_base::sequence::{Sequence, Text};
 use sh_exec_command::{Finish, Place};
-use sh_exec_search::{Located, locate};
+use sh_exec_parts::message::{Piece, cannot_execute, not_found};
+use sh_exec_parts::script_environment;
 use sh_exec_shell::Shell;
 use sh_kernel::Kernel;
-use sh_memory::NoMemory;
 use sh_stock::{Answer, Stock};
-use sh_syntax::sequence::{Sequence, Text};
 use sh_vars::Vars;
 use std::alloc::Global;
 
@@ -49,29 +49,6 @@ fn close_aside(kernel: &mut Kernel, pid: u32)
     ensures terminal { kernel.new.terminal ≡ kernel.old.terminal }
 {
     let _started = kernel.start_program(pid);
-}
-
-/// Copies of operands, for a program of the stock.
-fn operands_of(alloc: Global, operands: &[Text]) -> Result<Vec<sh_stock::Text>, NoMemory>
-    ensures { IfOk result (λ copies. copies.items ≡ operands.now) }
-{
-    let mut copies = Vec::with_capacity(alloc, operands.len())?;
-    for operand in operands {
-        copies.push(sh_stock::Text::copy_of(alloc, operand.as_slice())?)?;
-    }
-    Ok(copies)
-}
-
-/// The program of the stock of a name, before its first turn.
-fn program_of<S: Stock>(
-    alloc: Global,
-    name: &[u8],
-    operands: &[Text],
-) -> Result<Option<S>, NoMemory>
-    ensures { IfOk result (λ program. program ≡ S.meaning.start name.now operands.now) }
-{
-    let operands = operands_of(alloc, operands)?;
-    S::start(alloc, name, operands.as_slice())
 }
 
 /// A program takes its first turn.
@@ -160,7 +137,7 @@ fn start_located<S: Stock>(
             Ok(process)
         },
         Located::Stock(program) => {
-            let program = program_of(alloc, program.as_slice(), operands)?;
+            let program = S::start(alloc, program.as_slice(), operands)?;
             let process = start_stock(alloc, kernel, pid, vars, name, program)?;
             Ok(process)
         },

@@ -2,9 +2,9 @@
 use Rattle.std.proofs.Common.{◌≡◌, ◌<◌, length, arith, ℕ, zero, suc, List, [], ◌∷◌, drop, true, false, ◌==◌, refl, sym, ap, ◌∙◌}
 use Rattle.sh_parse.specs.Aliases.{no_aliases}
 use Rattle.sh_parse.specs.Reading.{reading}
-use Rattle.sh_tree.specs.declared.tree.Complete.{Complete}
+use Rattle.sh_syntax.specs.declared.tree.Complete.{Complete}
 use Rattle.sh_exec_command.specs.declared.found.Found.TheVariants.{Nothing, Command, Fault}
-use Rattle.sh_exec_base.specs.declared.message.Refusal.{Refusal}
+use Rattle.sh_exec_parts.specs.declared.message.Refusal.{Refusal}
 use Rattle.sh_exec_command.specs.declared.found.Answer.{Answer}
 use Rattle.sh_exec_command.specs.declared.found.Answer.TheVariants as answer
 use Rattle.sh_exec_command.specs.Reading.{answer_of, found_by, found_behind, next_command}

@@ -1,10 +1,10 @@
 -- Where an expansion stands that goes on with answers.
 use Rattle.std.proofs.Common.{◌≡◌, ℕ, List, []}
 use Rattle.sh_exec_command.specs.Answers.{answered}
-use Rattle.sh_expand.specs.Stand.{IsStep}
+use Rattle.sh_expand.specs.FieldProgress.{IsStep}
 use Rattle.sh_expand.specs.declared.expansion.Expansion.{Expansion}
 use Rattle.sh_expand.specs.declared.expansion.Step.{Step}
-use Rattle.sh_expand_words.specs.declared.wanted.Wanted.{Wanted}
+use Rattle.sh_expand.specs.declared.wanted.Wanted.{Wanted}
 use Rattle.sh_files.specs.Nodes.{FileMap}
 use Rattle.sh_vars.specs.Environment.{Environment}
 

@@ -1,7 +1,7 @@
 -- A turn of assignments goes on behind each that is done.
 use Rattle.std.proofs.Common.{◌≡◌, ◌<◌, ℕ, List, ◌∷◌, Bool, true, false, Option, None, length, arith, if◌then◌else◌, refl, sym, ap, subst, ◌∙◌}
-use Rattle.sh_exec_base.specs.Messages.{read_only}
-use Rattle.sh_exec_base.specs.declared.simple.Assignment.{Assignment}
+use Rattle.sh_exec_parts.specs.Messages.{read_only}
+use Rattle.sh_exec_parts.specs.declared.simple.Assignment.{Assignment}
 use Rattle.sh_exec_command.specs.Assigning.{Step, assigned, assigned_by, assigned_one, behind, may_set, noted, stopped, value_of, valued}
 use Rattle.sh_exec_command.specs.Expanding.{Turn, start_of}
 use Rattle.sh_exec_command.specs.declared.assigning.Assigned.{Assigned}

@@ -3,7 +3,7 @@ use Rattle.std.specs.Prelude.{ℕ, List, [], ◌∷◌, ◌++◌}
 use Rattle.sh_expand.specs.Expanding.{Result, Need, Fields, Stops, expand}
 use Rattle.sh_expand.specs.declared.expansion.Step.{Step}
 use Rattle.sh_expand.specs.declared.expansion.Step.TheVariants as step
-use Rattle.sh_expand_words.specs.declared.wanted.Wanted.{Wanted}
+use Rattle.sh_expand.specs.declared.wanted.Wanted.{Wanted}
 use Rattle.sh_files.specs.Nodes.{FileMap}
 use Rattle.sh_vars.specs.Environment.{Environment}
 

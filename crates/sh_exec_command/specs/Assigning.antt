@@ -1,8 +1,8 @@
 -- The assignments of a simple command (XCU 2.9.1.2), from left to right, each seeing those before it.
 use Rattle.std.specs.Prelude.{ℕ, List, [], ◌∷◌, ◌++◌, not, ◌&&◌, Bool, true, false, Option, None, slice_get, unwrap_or, if◌then◌else◌}
 use Rattle.sh_builtin.specs.Builtins.{is_special}
-use Rattle.sh_exec_base.specs.Messages.{fault_text, read_only}
-use Rattle.sh_exec_base.specs.declared.simple.Assignment.{Assignment}
+use Rattle.sh_exec_parts.specs.Messages.{fault_text, read_only}
+use Rattle.sh_exec_parts.specs.declared.simple.Assignment.{Assignment}
 use Rattle.sh_exec_command.specs.Answers.{expanded}
 use Rattle.sh_exec_command.specs.Expanding.{Turn, fatal, start_of}
 use Rattle.sh_exec_command.specs.Preparing.{performed}
@@ -19,11 +19,11 @@ use Rattle.sh_exec_command.specs.declared.running.Undo.{Undo}
 use Rattle.sh_exec_command.specs.declared.running.Wants.TheVariants.{Values}
 use Rattle.sh_expand.specs.Expanding as expanding
 use Rattle.sh_expand_parts.specs.declared.context.Context.TheVariants as context
-use Rattle.sh_expand_words.specs.declared.wanted.Wanted.{Wanted}
+use Rattle.sh_expand.specs.declared.wanted.Wanted.{Wanted}
 use Rattle.sh_files.specs.Nodes.{FileMap}
-use Rattle.sh_tree.specs.declared.tree.Parts.{Parts}
+use Rattle.sh_syntax.specs.declared.tree.Parts.{Parts}
 use Rattle.sh_vars.specs.Environment.{Environment, is_read_only, with_export, with_value}
-use Rattle.sh_vars.specs.Names.{is_name}
+use Rattle.sh_base.specs.Names.{is_name}
 
 -- before a built-in that isn't special and before a program the variable is exported while that runs; before a special built-in,
 -- and without a command name, it is set and stays (2.9.1.2, 2.15)

@@ -1,8 +1,8 @@
 -- The expansion turn of a simple command's words (XCU 2.9.1.1, steps 1 and 2): always from the first word, in the variables at
 -- its start, with the answers so far.
 use Rattle.std.specs.Prelude.{ℕ, List, [], Bool, Option, Some, None}
-use Rattle.sh_exec_base.specs.Messages.{fault_text, message}
-use Rattle.sh_exec_base.specs.Simple.{items_of, wanted_of}
+use Rattle.sh_exec_parts.specs.Messages.{fault_text, message}
+use Rattle.sh_exec_parts.specs.Simple.{items_of, wanted_of}
 use Rattle.sh_exec_command.specs.Answers.{expanded}
 use Rattle.sh_exec_command.specs.Preparing.{begun, prepared_of}
 use Rattle.sh_exec_command.specs.declared.running.Active.{Active}
@@ -16,7 +16,7 @@ use Rattle.sh_exec_command.specs.declared.running.Place.TheVariants.{Writing}
 use Rattle.sh_exec_command.specs.declared.running.Wants.TheVariants.{Words}
 use Rattle.sh_expand.specs.Expanding as expanding
 use Rattle.sh_files.specs.Nodes.{FileMap}
-use Rattle.sh_tree.specs.declared.tree.Command.{Command}
+use Rattle.sh_syntax.specs.declared.tree.Command.{Command}
 use Rattle.sh_vars.specs.Environment.{Environment}
 
 -- the environment and what comes of a turn

@@ -3,11 +3,11 @@ use Rattle.std.specs.Prelude.{ℕ, List, [], ◌∷◌, ◌||◌, not, Bool, tru
 use Rattle.std.specs.List.{list_any}
 use Rattle.sh_builtin.specs.Builtins.{builtin_of, is_special}
 use Rattle.sh_builtin.specs.declared.builtin.Builtin.{Builtin}
-use Rattle.sh_exec_base.specs.Messages.{message, not_redirected}
-use Rattle.sh_exec_base.specs.Redirections.{prepared}
-use Rattle.sh_exec_base.specs.Simple.{assignments_of, is_redirect, is_word, items_of, redirect_fields, redirects_of, word_fields}
-use Rattle.sh_exec_base.specs.declared.redirection.Redirection.{Redirection}
-use Rattle.sh_exec_base.specs.declared.simple.Assignment.{Assignment}
+use Rattle.sh_exec_parts.specs.Messages.{message, not_redirected}
+use Rattle.sh_exec_parts.specs.Redirections.{prepared}
+use Rattle.sh_exec_parts.specs.Simple.{assignments_of, is_redirect, is_word, items_of, redirect_fields, redirects_of, word_fields}
+use Rattle.sh_exec_parts.specs.declared.redirection.Redirection.{Redirection}
+use Rattle.sh_exec_parts.specs.declared.simple.Assignment.{Assignment}
 use Rattle.sh_exec_command.specs.declared.running.Active.{Active}
 use Rattle.sh_exec_command.specs.declared.running.Active.TheVariants.{Acting, Next, Done}
 use Rattle.sh_exec_command.specs.declared.running.Finish.{Finish}
@@ -22,9 +22,9 @@ use Rattle.sh_exec_command.specs.declared.running.Role.TheVariants as role
 use Rattle.sh_exec_command.specs.declared.running.Undo.{Undo}
 use Rattle.sh_exec_command.specs.declared.running.Wants.{Wants}
 use Rattle.sh_exec_command.specs.declared.running.Wants.TheVariants.{Words, Values}
-use Rattle.sh_kernel_base.specs.declared.fault.KernelFault.{KernelFault}
-use Rattle.sh_tree.specs.declared.tree.Command.{Command}
-use Rattle.sh_tree.specs.declared.tree.SimpleItem.{SimpleItem}
+use Rattle.sh_kernel_descriptors.specs.declared.fault.KernelFault.{KernelFault}
+use Rattle.sh_syntax.specs.declared.tree.Command.{Command}
+use Rattle.sh_syntax.specs.declared.tree.SimpleItem.{SimpleItem}
 use Rattle.sh_vars.specs.Environment.{Environment}
 
 abbrev pub no_undo : Undo

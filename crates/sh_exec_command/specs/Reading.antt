@@ -6,12 +6,12 @@ use Rattle.sh_parse.specs.declared.Reading.{Reading}
 use Rattle.sh_parse.specs.declared.Reading.TheVariants.{Complete, Blank, More}
 use Rattle.sh_parse.specs.declared.ParseFault.{ParseFault}
 use Rattle.sh_parse.specs.declared.ParseFault.TheVariants.{Refused, Unclosed, BadSubstitution, TooDeep, NoMemory}
-use Rattle.sh_exec_served.specs.Served.{serves}
+use Rattle.sh_exec_parts.specs.Served.{serves}
 use Rattle.sh_exec_command.specs.declared.found.Found.{Found}
 use Rattle.sh_exec_command.specs.declared.found.Found.TheVariants.{Nothing, Command, Fault}
 use Rattle.sh_exec_command.specs.declared.found.Answer.{Answer}
 use Rattle.sh_exec_command.specs.declared.found.Answer.TheVariants as answer
-use Rattle.sh_exec_base.specs.declared.message.Refusal.TheVariants as refusal
+use Rattle.sh_exec_parts.specs.declared.message.Refusal.TheVariants as refusal
 
 -- what a reading of a text that is there whole answers; a command that isn't served is refused
 abbrev pub answer_of : Result Reading ParseFault → Answer

@@ -1,7 +1,7 @@
 -- The values of a for (XCU 2.9.4.2): its words are expanded in one turn, and then its variable has one value after another.
 use Rattle.std.specs.Prelude.{ℕ, List, [], ◌∷◌, map, Option, Some, None, if◌then◌else◌}
-use Rattle.sh_exec_base.specs.Messages.{fault_text, read_only}
-use Rattle.sh_exec_base.specs.Simple.{Opened, word_wanted}
+use Rattle.sh_exec_parts.specs.Messages.{fault_text, read_only}
+use Rattle.sh_exec_parts.specs.Simple.{Opened, word_wanted}
 use Rattle.sh_exec_command.specs.Answers.{expanded}
 use Rattle.sh_exec_command.specs.Assigning.{may_set}
 use Rattle.sh_exec_command.specs.Expanding.{Turn, fatal, start_of}
@@ -19,13 +19,13 @@ use Rattle.sh_exec_command.specs.declared.series.Round.TheVariants.{Body, Over}
 use Rattle.sh_exec_command.specs.declared.series.Values.{Values}
 use Rattle.sh_exec_command.specs.declared.series.Values.TheVariants.{Words, Parameters}
 use Rattle.sh_expand.specs.Expanding as expanding
-use Rattle.sh_expand_words.specs.declared.wanted.Wanted.{Wanted}
+use Rattle.sh_expand.specs.declared.wanted.Wanted.{Wanted}
 use Rattle.sh_files.specs.Nodes.{FileMap}
-use Rattle.sh_tree.specs.declared.tree.Command.{Command}
-use Rattle.sh_tree.specs.declared.tree.Command.TheOpen as layer
-use Rattle.sh_tree.specs.declared.tree.Command.TheViews as view
-use Rattle.sh_tree.specs.declared.tree.Complete.{Complete}
-use Rattle.sh_tree.specs.declared.tree.Word.{Word}
+use Rattle.sh_syntax.specs.declared.tree.Command.{Command}
+use Rattle.sh_syntax.specs.declared.tree.Command.TheOpen as layer
+use Rattle.sh_syntax.specs.declared.tree.Command.TheViews as view
+use Rattle.sh_syntax.specs.declared.tree.Complete.{Complete}
+use Rattle.sh_syntax.specs.declared.tree.Word.{Word}
 use Rattle.sh_vars.specs.Environment.{Environment, with_value}
 
 -- ---- a for in its tree; a command of another form has no header

@@ -2,11 +2,10 @@
 ghost use Rattle.std.specs.Prelude.{◌≡◌, IfOk};
 ghost use Rattle.sh_exec_command.specs.Answers.{expanded, result_of};
 
-use sh_expand::{Expansion, Step};
-use sh_expand_words::Wanted;
+use sh_base::NoMemory;
+use sh_base::sequence::{Sequence, Text};
+use sh_expand::{Expansion, Step, Wanted};
 use sh_files::Files;
-use sh_memory::NoMemory;
-use sh_syntax::sequence::{Sequence, Text};
 use sh_vars::Vars;
 use std::alloc::Global;
 

@@ -2,7 +2,7 @@
 ghost use Rattle.std.specs.Prelude.{◌≡◌, ◌∷◌, [], IfOk, IsTrue, OnOk};
 ghost use Rattle.sh_exec_command.specs.Answers.{expanded, result_of};
 ghost use Rattle.sh_exec_command.specs.Assigning.{assign_turn, assigned, assigned_by, assigned_one, is_passing, is_undone, may_set, noted, stopped, text_of, undo_with, value_of, value_wanted, valued, with_assigned};
-ghost use Rattle.sh_exec_base.specs.Messages.{fault_text};
+ghost use Rattle.sh_exec_parts.specs.Messages.{fault_text};
 ghost use Rattle.sh_exec_command.specs.Expanding.{fatal, start_of};
 ghost use Rattle.sh_vars.specs.Environment.{with_value};
 
@@ -11,15 +11,14 @@ use crate::expanding::{fatal_message, start};
 use crate::preparing::perform;
 use crate::running::{Active, Expanded, Finish, Move, Pending, Place, Prepared, Role, Undo, Wants};
 use crate::undo::save;
-use sh_exec_base::message::{Piece, not_expanded, read_only};
-use sh_exec_base::simple::Assignment;
-use sh_expand::{Context, Fault, Step};
-use sh_expand_words::Wanted;
+use sh_base::NoMemory;
+use sh_base::sequence::{Sequence, Text};
+use sh_base::shared::Shared;
+use sh_exec_parts::message::{Piece, not_expanded, read_only};
+use sh_exec_parts::simple::Assignment;
+use sh_expand::{Context, Fault, Step, Wanted};
 use sh_files::Files;
-use sh_memory::NoMemory;
-use sh_syntax::sequence::{Sequence, Text};
-use sh_syntax::shared::Shared;
-use sh_tree::tree::{Complete, Parts};
+use sh_syntax::tree::{Complete, Parts};
 use sh_vars::{Vars, VarsFault, is_name};
 use std::alloc::Global;
 

@@ -1,8 +1,8 @@
 //! The expansion turn of a simple command's words.
 ghost use Rattle.std.specs.Prelude.{◌≡◌, IfOk};
 ghost use Rattle.sh_exec_command.specs.Answers.{expanded, result_of};
-ghost use Rattle.sh_exec_base.specs.Messages.{fault_text};
-ghost use Rattle.sh_exec_base.specs.Simple.{items_of, wanted_of};
+ghost use Rattle.sh_exec_parts.specs.Messages.{fault_text};
+ghost use Rattle.sh_exec_parts.specs.Simple.{items_of, wanted_of};
 ghost use Rattle.sh_exec_command.specs.Expanding.{fatal, start_of, words_by, words_turn};
 ghost use Rattle.sh_exec_command.specs.Preparing.{begun, prepared_of};
 ghost use Rattle.sh_expand.specs.Expanding as expanding;
@@ -10,14 +10,14 @@ ghost use Rattle.sh_expand.specs.Expanding as expanding;
 use crate::answers::expand;
 use crate::preparing::{begin_command, prepare};
 use crate::running::{Active, Expanded, Finish, Move, Pending, Place, Wants};
-use sh_exec_base::message::{Piece, not_expanded};
-use sh_exec_base::simple::{items_of, wanted_of};
+use sh_base::NoMemory;
+use sh_base::sequence::{Sequence, Text};
+use sh_base::shared::Shared;
+use sh_exec_parts::message::{Piece, not_expanded};
+use sh_exec_parts::simple::{items_of, wanted_of};
 use sh_expand::{Fault, Step};
 use sh_files::Files;
-use sh_memory::NoMemory;
-use sh_syntax::sequence::{Sequence, Text};
-use sh_syntax::shared::Shared;
-use sh_tree::tree::Command;
+use sh_syntax::tree::Command;
 use sh_vars::Vars;
 use std::alloc::Global;
 

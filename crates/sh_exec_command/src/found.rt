@@ -1,7 +1,7 @@
 //! What a reading turn finds.
-use sh_exec_base::Rest;
-use sh_exec_base::message::Refusal;
-use sh_tree::tree::Complete;
+use sh_exec_parts::Rest;
+use sh_exec_parts::message::Refusal;
+use sh_syntax::tree::Complete;
 
 /// What one reading of a text answers.
 #[derive(Drop)]

@@ -15,7 +15,7 @@ mod undo;
 pub use assigning::assign_turn;
 pub use expanding::words_turn;
 pub use found::Found;
-pub use preparing::{copies_of, first_place, go_ahead, not_done};
+pub use preparing::{first_place, go_ahead, not_done};
 pub use reading::find_command;
 pub use running::{
     Active, Expanded, Finish, Move, Pending, Place, Prepared, Role, Saved, Series, Stages,

@@ -3,18 +3,18 @@ ghost use Rattle.std.specs.Prelude.{◌≡◌, IfOk};
 ghost use Rattle.sh_exec_command.specs.Preparing.{ahead, begun, failing, failing_of, first_place, forks, nameless, no_undo, not_done, performed, prepared_of, role_by, role_of, wants_of};
 
 use crate::running::{Active, Finish, Move, Place, Prepared, Role, Undo, Wants};
+use sh_base::NoMemory;
+use sh_base::sequence::{Sequence, Text, copies_of};
+use sh_base::shared::Shared;
 use sh_builtin::Builtin;
-use sh_exec_base::Queue;
-use sh_exec_base::message::not_redirected;
-use sh_exec_base::redirection::prepared_redirections;
-use sh_exec_base::simple::{
+use sh_exec_parts::Queue;
+use sh_exec_parts::message::not_redirected;
+use sh_exec_parts::redirection::prepared_redirections;
+use sh_exec_parts::simple::{
     assignments_of, has_redirects, has_words, items_of, redirect_count, split_fields,
 };
-use sh_kernel_base::KernelFault;
-use sh_memory::NoMemory;
-use sh_syntax::sequence::{Sequence, Text};
-use sh_syntax::shared::Shared;
-use sh_tree::tree::{Command, SimpleItem};
+use sh_kernel_descriptors::KernelFault;
+use sh_syntax::tree::{Command, SimpleItem};
 use sh_vars::Vars;
 use std::alloc::Global;
 
@@ -92,28 +92,6 @@ fn role_of(fields: &[Text]) -> Role
     }
 }
 
-/// A copy of a text.
-pub(crate) fn copy_of(alloc: Global, text: &[u8]) -> Result<Text, NoMemory>
-    ensures { IfOk result (λ copy. copy ≡ text.now) }
-{
-    let mut copy = Text::new(alloc);
-    copy.extend_from_slice(text)?;
-    Ok(copy)
-}
-
-/// Copies of texts, in their order. The only error is want of memory.
-pub fn copies_of(alloc: Global, texts: &[Text]) -> Result<Sequence<Text>, NoMemory>
-    ensures { IfOk result (λ copies. copies ≡ texts.now) }
-{
-    let mut copies = Sequence::new(alloc);
-    let mut rest = texts;
-    'texts: while let Some((text, others)) = rest.split_first() {
-        copies.push(copy_of(alloc, text.as_slice())?)?;
-        rest = others;
-    }
-    Ok(copies)
-}
-
 /// A command whose words came to these fields.
 #[tactic(auto, unfolding(crate::specs::Preparing::prepared_of))]
 pub(crate) fn prepare(
@@ -130,7 +108,7 @@ pub(crate) fn prepare(
     let assignments = assignments_of(alloc, items)?;
     Ok(Prepared {
         role: role_of(words),
-        fields: copies_of(alloc, words)?,
+        fields: Sequence::from_vec(copies_of(alloc, words)?),
         redirections,
         assignments: Queue::new(assignments),
         undo: no_undo(alloc),

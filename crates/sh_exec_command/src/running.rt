@@ -1,13 +1,13 @@
 //! Where a shell stands before its next action.
+use sh_base::sequence::{Sequence, Text};
+use sh_base::shared::Shared;
 use sh_builtin::{Builtin, Leave};
-use sh_exec_base::message::Piece;
-use sh_exec_base::redirection::Redirection;
-use sh_exec_base::simple::Assignment;
-use sh_exec_base::{Queue, Rest};
 use sh_exec_machine::Undone;
-use sh_syntax::sequence::{Sequence, Text};
-use sh_syntax::shared::Shared;
-use sh_tree::tree::{Command, Complete};
+use sh_exec_parts::message::Piece;
+use sh_exec_parts::redirection::Redirection;
+use sh_exec_parts::simple::Assignment;
+use sh_exec_parts::{Queue, Rest};
+use sh_syntax::tree::{Command, Complete};
 use sh_vars::{Entry, Vars};
 
 /// What runs a simple command (XCU 2.9.1).

@@ -2,23 +2,21 @@
 ghost use Rattle.std.specs.Prelude.{◌≡◌, IfOk, map};
 ghost use Rattle.sh_exec_command.specs.Answers.{expanded, result_of};
 ghost use Rattle.sh_exec_command.specs.Expanding.{start_of};
-ghost use Rattle.sh_tree.specs.declared.tree.Command.TheViews as view;
+ghost use Rattle.sh_syntax.specs.declared.tree.Command.TheViews as view;
 ghost use Rattle.sh_exec_command.specs.Series.{begun_with, give_by, give_turn, given, header_in, header_of, header_turn, series_by, series_turn, values_turn, word_of_series};
 
 use crate::answers::expand;
 use crate::assigning::{may_set, set_plain};
 use crate::expanding::{fatal_message, start};
-use crate::preparing::copy_of;
 use crate::running::{Active, Expanded, Move, Pending, Place, Series, Wants};
-use sh_exec_base::Queue;
-use sh_exec_base::message::{not_expanded, read_only};
-use sh_expand::{Context, Step};
-use sh_expand_words::Wanted;
+use sh_base::NoMemory;
+use sh_base::sequence::{Sequence, Text, copies_of};
+use sh_base::shared::Shared;
+use sh_exec_parts::Queue;
+use sh_exec_parts::message::{not_expanded, read_only};
+use sh_expand::{Context, Step, Wanted};
 use sh_files::Files;
-use sh_memory::NoMemory;
-use sh_syntax::sequence::{Sequence, Text};
-use sh_syntax::shared::Shared;
-use sh_tree::tree::{Command, Complete, CompoundForm, Name, Word};
+use sh_syntax::tree::{Command, Complete, CompoundForm, Name, Word};
 use sh_vars::Vars;
 use std::alloc::Global;
 
@@ -64,7 +62,7 @@ fn with_header(
 ) -> Result<Header, NoMemory>
     ensures { IfOk result (λ h. h ≡ record { name = name.now.name; values = values; body = body.now }) }
 {
-    let name = copy_of(alloc, name.name.as_slice())?;
+    let name = Text::copy_of(alloc, name.name.as_slice())?;
     let body = body.share()?;
     Ok(Header { name, values, body })
 }
@@ -101,19 +99,6 @@ fn header_of(alloc: Global, command: &Command) -> Result<Option<Header>, NoMemor
         Command::Compound(compound) => header_in(alloc, &compound.get().form),
         Command::Function { .. } => Ok(None),
     }
-}
-
-/// Copies of the positional parameters, in their order.
-fn parameters_of(alloc: Global, parameters: &[sh_vars::Text]) -> Result<Sequence<Text>, NoMemory>
-    ensures { IfOk result (λ copies. copies ≡ parameters.now) }
-{
-    let mut copies = Sequence::new(alloc);
-    let mut rest = parameters;
-    'parameters: while let Some((parameter, others)) = rest.split_first() {
-        copies.push(copy_of(alloc, parameter.as_bytes())?)?;
-        rest = others;
-    }
-    Ok(copies)
 }
 
 impl Series {
@@ -189,7 +174,7 @@ pub fn series_turn(
             expand_words(alloc, command, pending, series, wanted, vars, files)
         },
         Values::Parameters => {
-            let values = parameters_of(alloc, vars.positional())?;
+            let values = Sequence::from_vec(copies_of(alloc, vars.positional())?);
             let series = Series {
                 name,
                 values: Queue::new(values),

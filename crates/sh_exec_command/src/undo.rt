@@ -3,8 +3,8 @@ ghost use Rattle.std.specs.Prelude.{◌≡◌, IfOk, OnOk};
 ghost use Rattle.sh_exec_command.specs.Undoing.{all_restored, restored, saved_of};
 
 use crate::running::Saved;
-use sh_memory::NoMemory;
-use sh_syntax::sequence::{Sequence, Text};
+use sh_base::NoMemory;
+use sh_base::sequence::{Sequence, Text};
 use sh_vars::Vars;
 use std::alloc::Global;
 

@@ -3,8 +3,8 @@
 use Rattle.std.specs.Prelude.{◌≡◌, ℕ, Bool, true, false, Option, Some, None, Result, Ok, Err}
 use Rattle.sh_kernel.specs.State.{KernelKept, KernelState, StandsAt}
 use Rattle.sh_kernel.specs.Calls.{close_call, dup_call, fork_call, pipe_call, put_back_call, set_aside_call}
-use Rattle.sh_kernel_base.specs.declared.descriptor.Name.TheVariants.{Number, Aside}
-use Rattle.sh_kernel_base.specs.declared.fault.KernelFault.{KernelFault}
+use Rattle.sh_kernel_descriptors.specs.declared.descriptor.Name.TheVariants.{Number, Aside}
+use Rattle.sh_kernel_descriptors.specs.declared.fault.KernelFault.{KernelFault}
 
 unfoldable pub closed : KernelState → ℕ → ℕ → KernelState
 closed s pid number = (close_call s pid (Number number)).after

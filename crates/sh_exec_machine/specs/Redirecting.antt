@@ -2,13 +2,13 @@
 use Rattle.std.specs.Prelude.{◌≡◌, ℕ, nat_eq, not, ◌&&◌, List, Bool, false, Option, Some, None, Result, Ok, Err, if◌then◌else◌}
 use Rattle.sh_kernel.specs.State.{KernelKept, KernelState, StandsAt}
 use Rattle.sh_kernel.specs.Calls.{close_call, dup_call, here_call, open_call, put_back_call, set_aside_call}
-use Rattle.sh_kernel_base.specs.Outcomes.{Done, done, refused}
-use Rattle.sh_kernel_base.specs.declared.descriptor.Name.TheVariants.{Number}
-use Rattle.sh_kernel_base.specs.declared.fault.KernelFault.{KernelFault}
-use Rattle.sh_kernel_base.specs.declared.fault.KernelFault.TheVariants.{BadDescriptor}
-use Rattle.sh_exec_base.specs.declared.redirection.Action.{Action}
-use Rattle.sh_exec_base.specs.declared.redirection.Action.TheVariants.{Open, Duplicate, Close, Here}
-use Rattle.sh_exec_base.specs.declared.redirection.Redirection.{Redirection}
+use Rattle.sh_kernel_descriptors.specs.Outcomes.{Done, done, refused}
+use Rattle.sh_kernel_descriptors.specs.declared.descriptor.Name.TheVariants.{Number}
+use Rattle.sh_kernel_descriptors.specs.declared.fault.KernelFault.{KernelFault}
+use Rattle.sh_kernel_descriptors.specs.declared.fault.KernelFault.TheVariants.{BadDescriptor}
+use Rattle.sh_exec_parts.specs.declared.redirection.Action.{Action}
+use Rattle.sh_exec_parts.specs.declared.redirection.Action.TheVariants.{Open, Duplicate, Close, Here}
+use Rattle.sh_exec_parts.specs.declared.redirection.Redirection.{Redirection}
 use Rattle.sh_exec_machine.specs.declared.undone.Undone.{Undone}
 use Rattle.sh_exec_machine.specs.declared.undone.Undone.TheVariants as undone
 

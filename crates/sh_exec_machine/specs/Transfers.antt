@@ -6,10 +6,10 @@ use Rattle.sh_exec_machine.specs.declared.transfer.Given.{Given}
 use Rattle.sh_exec_machine.specs.declared.transfer.Given.TheVariants as given
 use Rattle.sh_kernel.specs.Calls.{read_call, write_call}
 use Rattle.sh_kernel.specs.State.{KernelKept, KernelState, StandsAt}
-use Rattle.sh_kernel_base.specs.Waiting.{is_wait}
-use Rattle.sh_kernel_base.specs.declared.descriptor.Name.{Name}
-use Rattle.sh_kernel_base.specs.declared.fault.KernelFault.{KernelFault}
-use Rattle.sh_kernel_base.specs.declared.fault.KernelFault.TheVariants as fault
+use Rattle.sh_kernel_descriptors.specs.Waiting.{is_wait}
+use Rattle.sh_kernel_descriptors.specs.declared.descriptor.Name.{Name}
+use Rattle.sh_kernel_descriptors.specs.declared.fault.KernelFault.{KernelFault}
+use Rattle.sh_kernel_descriptors.specs.declared.fault.KernelFault.TheVariants as fault
 
 -- a read that would wait is to be made again; another refusal is a failure
 abbrev pub taken_by : Result (List ℕ) KernelFault → Taken

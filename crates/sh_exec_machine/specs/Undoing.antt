@@ -2,7 +2,7 @@
 use Rattle.std.specs.Prelude.{◌≡◌, ℕ, List, [], ◌∷◌}
 use Rattle.sh_kernel.specs.State.{KernelKept, KernelState, StandsAt}
 use Rattle.sh_kernel.specs.Calls.{close_call, put_back_call}
-use Rattle.sh_kernel_base.specs.declared.descriptor.Name.TheVariants.{Number}
+use Rattle.sh_kernel_descriptors.specs.declared.descriptor.Name.TheVariants.{Number}
 use Rattle.sh_exec_machine.specs.declared.undone.Undone.{Undone}
 use Rattle.sh_exec_machine.specs.declared.undone.Undone.TheVariants.{Restore, Close}
 

@@ -3,8 +3,8 @@ ghost use Rattle.std.specs.Prelude.{◌≡◌, IfOk, OnOk};
 ghost use Rattle.sh_kernel.specs.State.{KernelState, StandsAt};
 ghost use Rattle.sh_exec_machine.specs.Forking.{HasForked, HasLaid, closed, connected, dropped, duplicated, fork_between, forked, joined, laid, let_go, moved, piped, reads_from, set_aside, taken_up, unjoined};
 
+use sh_base::NoMemory;
 use sh_kernel::{Kernel, KernelFault, Name};
-use sh_memory::NoMemory;
 
 /// The number at which a new process finds the end of a pipe to read from, until it is moved to 0.
 const READ_END: u8 = 10;

@@ -2,14 +2,14 @@
 ghost use Rattle.std.specs.Prelude.{◌≡◌, IfOk};
 ghost use Rattle.sh_kernel.specs.Calls.{dup_call, here_call, open_call};
 ghost use Rattle.sh_kernel.specs.State.{KernelState, StandsAt};
-ghost use Rattle.sh_kernel_base.specs.declared.descriptor.Name.TheVariants.{Number};
+ghost use Rattle.sh_kernel_descriptors.specs.declared.descriptor.Name.TheVariants.{Number};
 ghost use Rattle.sh_exec_machine.specs.Redirecting.{HasAnswered, HasRedirected, beside, closed, is_itself, kept, numbered, over, placed, plainly, put_back, redirected};
 
 use crate::undone::Undone;
-use sh_exec_base::redirection::{Action, Redirection};
+use sh_base::NoMemory;
+use sh_exec_parts::redirection::{Action, Redirection};
 use sh_files::Opening;
 use sh_kernel::{Kernel, KernelFault, Name};
-use sh_memory::NoMemory;
 
 /// What a redirection comes to.
 #[derive(Clone, Copy, Debug)]

@@ -2,12 +2,12 @@
 ghost use Rattle.std.specs.Prelude.{◌≡◌, ℕ, List, IfOk, length, take};
 ghost use Rattle.sh_kernel.specs.Calls.{read_call, write_call};
 ghost use Rattle.sh_kernel.specs.State.{KernelState, StandsAt};
-ghost use Rattle.sh_tty.specs.Kept.{Extends};
+ghost use Rattle.sh_tty.specs.Terminal.{Extends};
 ghost use Rattle.sh_exec_machine.specs.Transfers.{HasGiven, HasTaken, give_bytes, given_by, refused_by, take_bytes, taken_by};
 
+use sh_base::NoMemory;
+use sh_base::sequence::Text;
 use sh_kernel::{Kernel, KernelFault, Name};
-use sh_memory::NoMemory;
-use sh_syntax::sequence::Text;
 use std::alloc::Global;
 
 /// What a read gave.

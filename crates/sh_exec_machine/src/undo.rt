@@ -4,8 +4,8 @@ ghost use Rattle.sh_kernel.specs.State.{KernelState, StandsAt};
 ghost use Rattle.sh_exec_machine.specs.Undoing.{all_restored, restored};
 
 use crate::undone::Undone;
+use sh_base::sequence::Sequence;
 use sh_kernel::{Kernel, Name};
-use sh_syntax::sequence::Sequence;
 
 /// Undoes one redirection.
 fn restore(kernel: &mut Kernel, pid: u32, undone: Undone)

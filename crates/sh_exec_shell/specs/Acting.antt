@@ -1,10 +1,10 @@
 -- The actions of a shell that make no process.
 use Rattle.std.specs.Prelude.{ℕ, List, [], ◌∷◌, ◌++◌, Bool, true, false, drop, length, nat_eq, Option, Some, None, Result, Ok, Err, if◌then◌else◌}
 use Rattle.sh_builtin.specs.Builtins.{name_of}
-use Rattle.sh_exec_base.specs.Messages.{message, refusal_text, write_error}
+use Rattle.sh_exec_parts.specs.Messages.{message, refusal_text, write_error}
 use Rattle.sh_builtin.specs.declared.act.Leave.TheVariants as leave
-use Rattle.sh_exec_base.specs.declared.message.Piece.{Piece}
-use Rattle.sh_exec_base.specs.declared.redirection.Redirection.{Redirection}
+use Rattle.sh_exec_parts.specs.declared.message.Piece.{Piece}
+use Rattle.sh_exec_parts.specs.declared.redirection.Redirection.{Redirection}
 use Rattle.sh_exec_command.specs.Assigning.{assign_turn}
 use Rattle.sh_exec_command.specs.Expanding.{Turn, fatal, words_turn}
 use Rattle.sh_exec_command.specs.Preparing.{ahead, not_done}
@@ -34,17 +34,17 @@ use Rattle.sh_exec_machine.specs.declared.transfer.Given.TheVariants as given
 use Rattle.sh_exec_machine.specs.declared.transfer.Taken.{Taken}
 use Rattle.sh_exec_machine.specs.declared.transfer.Taken.TheVariants as taken
 use Rattle.sh_exec_machine.specs.declared.undone.Undone.{Undone}
-use Rattle.sh_exec_shell_base.specs.Forms.{Acted, acted}
-use Rattle.sh_exec_shell_base.specs.Entering.{entered, list_run}
-use Rattle.sh_exec_shell_base.specs.Running.{Run, At, In, moved}
+use Rattle.sh_exec_forms.specs.Forms.{Acted, acted}
+use Rattle.sh_exec_forms.specs.Entering.{entered, list_run}
+use Rattle.sh_exec_forms.specs.Running.{Run, At, In, moved}
 use Rattle.sh_exec_shell.specs.Waits.{waited}
-use Rattle.sh_exec_shell_base.specs.declared.form.Form.TheVariants.{Text, Each}
+use Rattle.sh_exec_forms.specs.declared.form.Form.TheVariants.{Text, Each}
 use Rattle.sh_files.specs.Nodes.{FileMap}
 use Rattle.sh_kernel.specs.Calls.{close_call, end_call}
 use Rattle.sh_kernel.specs.State.{KernelState}
-use Rattle.sh_kernel_base.specs.declared.descriptor.Name.TheVariants.{Aside}
-use Rattle.sh_kernel_base.specs.declared.fault.KernelFault.{KernelFault}
-use Rattle.sh_tree.specs.declared.tree.Command.TheViews as view
+use Rattle.sh_kernel_descriptors.specs.declared.descriptor.Name.TheVariants.{Aside}
+use Rattle.sh_kernel_descriptors.specs.declared.fault.KernelFault.{KernelFault}
+use Rattle.sh_syntax.specs.declared.tree.Command.TheViews as view
 use Rattle.sh_vars.specs.Environment.{Environment}
 
 -- ---- reading (2.1): where no command follows the shell is left with the last status

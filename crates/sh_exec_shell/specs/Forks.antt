@@ -1,6 +1,6 @@
 -- The actions of a shell that make a process: of a program, of a stage of a pipeline, of a command substitution.
 use Rattle.std.specs.Prelude.{◌≡◌, ℕ, List, [], ◌∷◌, ◌++◌, Bool, true, false, length, nat_eq, not, Option, Some, None}
-use Rattle.sh_exec_base.specs.Messages.{cannot_fork}
+use Rattle.sh_exec_parts.specs.Messages.{cannot_fork}
 use Rattle.sh_exec_command.specs.Expanding.{fatal}
 use Rattle.sh_exec_command.specs.Preparing.{ahead}
 use Rattle.sh_exec_command.specs.declared.running.Active.TheVariants.{Next}
@@ -14,13 +14,13 @@ use Rattle.sh_exec_command.specs.declared.running.Stages.{Stages}
 use Rattle.sh_exec_command.specs.declared.running.Wants.{Wants}
 use Rattle.sh_exec_command.specs.declared.running.Wants.TheVariants.{Words, Values, Series}
 use Rattle.sh_exec_machine.specs.Forking.{forked}
-use Rattle.sh_exec_shell_base.specs.Forms.{Acted, acted}
-use Rattle.sh_exec_shell_base.specs.Bodies.{body_of, stage_run}
-use Rattle.sh_exec_shell_base.specs.Running.{Run, At, moved}
+use Rattle.sh_exec_forms.specs.Forms.{Acted, acted}
+use Rattle.sh_exec_forms.specs.Bodies.{body_of, stage_run}
+use Rattle.sh_exec_forms.specs.Running.{Run, At, moved}
 use Rattle.sh_exec_shell.specs.declared.shell.Child.{Child}
 use Rattle.sh_kernel.specs.State.{KernelKept, KernelState, StandsAt}
-use Rattle.sh_tree.specs.declared.tree.Command.{Command}
-use Rattle.sh_tree.specs.declared.tree.Complete.{Complete}
+use Rattle.sh_syntax.specs.declared.tree.Command.{Command}
+use Rattle.sh_syntax.specs.declared.tree.Complete.{Complete}
 use Rattle.sh_vars.specs.Environment.{Environment}
 
 -- what a turn leaves, and the process that it made

@@ -1,12 +1,12 @@
 -- Waiting for processes (2.9.2, 2.8.2).
 use Rattle.std.specs.Prelude.{ℕ, ◌+◌, ◌-◌, List, length, nat_lt, Option, Some, None, Result, Ok, Err, slice_get, unwrap_or, if◌then◌else◌}
 use Rattle.sh_kernel.specs.State.{KernelState}
-use Rattle.sh_kernel_base.specs.Machine.{wait_answer}
-use Rattle.sh_kernel_base.specs.Processes.{status_at}
-use Rattle.sh_kernel_base.specs.Waiting.{is_wait}
-use Rattle.sh_kernel_base.specs.declared.fault.KernelFault.{KernelFault}
-use Rattle.sh_kernel_base.specs.declared.process.Status.{Status}
-use Rattle.sh_kernel_base.specs.declared.process.Status.TheVariants.{Running, Stopped, Exited, Signaled}
+use Rattle.sh_kernel_descriptors.specs.Machine.{wait_answer}
+use Rattle.sh_kernel_descriptors.specs.Processes.{status_at}
+use Rattle.sh_kernel_descriptors.specs.Waiting.{is_wait}
+use Rattle.sh_kernel_descriptors.specs.declared.fault.KernelFault.{KernelFault}
+use Rattle.sh_kernel_descriptors.specs.declared.process.Status.{Status}
+use Rattle.sh_kernel_descriptors.specs.declared.process.Status.TheVariants.{Running, Stopped, Exited, Signaled}
 
 -- the exit status by which a shell knows how a process stands (2.8.2); a process that a signal ended has 128 and its number
 -- signals' numbers are below 128

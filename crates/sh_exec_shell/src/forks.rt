@@ -1,28 +1,28 @@
 //! The turns of a shell that make a process.
 ghost use Rattle.std.specs.Prelude.{◌≡◌, ◌++◌, ◌∷◌, [], IfOk, true};
 ghost use Rattle.sh_kernel.specs.State.{KernelState, StandsAt};
-ghost use Rattle.sh_exec_base.specs.Messages as messages;
+ghost use Rattle.sh_exec_parts.specs.Messages as messages;
 ghost use Rattle.sh_exec_command.specs.Expanding as expanding;
 ghost use Rattle.sh_exec_command.specs.Preparing.{ahead};
 ghost use Rattle.sh_exec_machine.specs.Forking.{HasForked};
 ghost use Rattle.sh_exec_shell.specs.Forks.{IsTurned, child_of, fork_turn, is_more, program_by, stage_by, stage_from, stage_one, stage_turn, staged, substitute_turn, substitution_by, turned, unforked};
-ghost use Rattle.sh_exec_shell_base.specs.Bodies.{body_of, stage_run};
-ghost use Rattle.sh_exec_shell_base.specs.Running.{Run, moved};
-ghost use Rattle.sh_exec_shell_base.specs.Tree.{run_of};
+ghost use Rattle.sh_exec_forms.specs.Bodies.{body_of, stage_run};
+ghost use Rattle.sh_exec_forms.specs.Running.{Run, moved};
+ghost use Rattle.sh_exec_forms.specs.Tree.{run_of};
 
 use crate::shell::{Child, child_of};
-use sh_exec_base::Queue;
-use sh_exec_base::message::cannot_fork;
+use sh_base::NoMemory;
+use sh_base::sequence::{Sequence, Text};
+use sh_base::shared::Shared;
 use sh_exec_command::{
     Active, Finish, Move, Pending, Place, Prepared, Stages, Substitution, Wants, go_ahead,
 };
+use sh_exec_forms::{Tree, body_of, stage};
 use sh_exec_machine::{Forked, fork_process};
-use sh_exec_shell_base::{Tree, body_of, stage};
+use sh_exec_parts::Queue;
+use sh_exec_parts::message::cannot_fork;
 use sh_kernel::Kernel;
-use sh_memory::NoMemory;
-use sh_syntax::sequence::{Sequence, Text};
-use sh_syntax::shared::Shared;
-use sh_tree::tree::{Command, Complete};
+use sh_syntax::tree::{Command, Complete};
 use sh_vars::Vars;
 use std::alloc::Global;
 

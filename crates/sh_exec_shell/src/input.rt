@@ -1,16 +1,16 @@
 //! Reading what a command substitution's process writes.
 ghost use Rattle.std.specs.Prelude.{◌≡◌, IfOk};
 ghost use Rattle.sh_kernel.specs.State.{KernelState, StandsAt};
-ghost use Rattle.sh_exec_shell_base.specs.Forms.{IsActed};
+ghost use Rattle.sh_exec_forms.specs.Forms.{IsActed};
 ghost use Rattle.sh_exec_shell.specs.Acting.{collect_by, collect_end, collect_from, collect_turn, collected, with_written};
-ghost use Rattle.sh_exec_shell_base.specs.Running.{Run};
-ghost use Rattle.sh_exec_shell_base.specs.Tree.{run_of};
+ghost use Rattle.sh_exec_forms.specs.Running.{Run};
+ghost use Rattle.sh_exec_forms.specs.Tree.{run_of};
 
+use sh_base::NoMemory;
 use sh_exec_command::{Active, Place, Substitution};
+use sh_exec_forms::Tree;
 use sh_exec_machine::{Taken, take_bytes};
-use sh_exec_shell_base::Tree;
 use sh_kernel::{Kernel, Name};
-use sh_memory::NoMemory;
 use sh_vars::Vars;
 use std::alloc::Global;
 

@@ -1,19 +1,19 @@
 //! The writes of a shell, and the end of its process.
 ghost use Rattle.std.specs.Prelude.{◌≡◌, IfOk, drop};
 ghost use Rattle.sh_kernel.specs.State.{KernelState, StandsAt};
-ghost use Rattle.sh_tty.specs.Kept.{Extends};
-ghost use Rattle.sh_exec_shell_base.specs.Forms.{IsActed};
+ghost use Rattle.sh_tty.specs.Terminal.{Extends};
+ghost use Rattle.sh_exec_forms.specs.Forms.{IsActed};
 ghost use Rattle.sh_exec_shell.specs.Acting.{end_turn, finished, unwritten, write_turn, written_by};
-ghost use Rattle.sh_exec_shell_base.specs.Tree.{run_of};
+ghost use Rattle.sh_exec_forms.specs.Tree.{run_of};
 
+use sh_base::NoMemory;
+use sh_base::sequence::Text;
 use sh_builtin::Leave;
-use sh_exec_base::message::{Piece, write_error};
 use sh_exec_command::{Active, Finish, Place};
+use sh_exec_forms::Tree;
 use sh_exec_machine::{Given, give_bytes};
-use sh_exec_shell_base::Tree;
+use sh_exec_parts::message::{Piece, write_error};
 use sh_kernel::Kernel;
-use sh_memory::NoMemory;
-use sh_syntax::sequence::Text;
 use sh_vars::Vars;
 use std::alloc::Global;
 

@@ -1,17 +1,17 @@
 //! The redirection turns of a command.
 ghost use Rattle.std.specs.Prelude.{◌≡◌, IfOk};
 ghost use Rattle.sh_kernel.specs.State.{KernelState, StandsAt};
-ghost use Rattle.sh_exec_shell_base.specs.Forms.{IsActed};
+ghost use Rattle.sh_exec_forms.specs.Forms.{IsActed};
 ghost use Rattle.sh_exec_shell.specs.Acting.{keeps, noted, redirect_by, redirect_from, redirect_one, redirect_turn, undone_by};
-ghost use Rattle.sh_exec_shell_base.specs.Running.{Run};
-ghost use Rattle.sh_exec_shell_base.specs.Tree.{run_of};
+ghost use Rattle.sh_exec_forms.specs.Running.{Run};
+ghost use Rattle.sh_exec_forms.specs.Tree.{run_of};
 
-use sh_exec_base::redirection::Redirection;
+use sh_base::NoMemory;
 use sh_exec_command::{Prepared, Role, go_ahead, not_done};
+use sh_exec_forms::Tree;
 use sh_exec_machine::{Redirected, Undone, redirect};
-use sh_exec_shell_base::Tree;
+use sh_exec_parts::redirection::Redirection;
 use sh_kernel::{Kernel, KernelFault};
-use sh_memory::NoMemory;
 use sh_vars::Vars;
 use std::alloc::Global;
 

@@ -1,20 +1,20 @@
 //! A shell's process.
 ghost use Rattle.std.specs.Prelude.{◌≡◌, IfOk, OnOk};
 ghost use Rattle.sh_kernel.specs.State.{KernelState, StandsAt};
-ghost use Rattle.sh_tty.specs.Kept.{Extends};
+ghost use Rattle.sh_tty.specs.Terminal.{Extends};
 ghost use Rattle.sh_exec_shell.specs.Forks.{IsTurned};
 ghost use Rattle.sh_exec_shell.specs.Reduction.{reduce, rooted, shell_turn, with_root};
-ghost use Rattle.sh_exec_shell_base.specs.Running.{Run, active_of};
-ghost use Rattle.sh_exec_shell_base.specs.Tree.{run_of};
+ghost use Rattle.sh_exec_forms.specs.Running.{Run, active_of};
+ghost use Rattle.sh_exec_forms.specs.Tree.{run_of};
 
-use crate::act::reduce;
+use crate::turn::reduce;
+use sh_base::NoMemory;
+use sh_base::sequence::Text;
 use sh_builtin::Leave;
-use sh_exec_base::Rest;
 use sh_exec_command::{Active, Place};
-use sh_exec_shell_base::Tree;
+use sh_exec_forms::Tree;
+use sh_exec_parts::Rest;
 use sh_kernel::Kernel;
-use sh_memory::NoMemory;
-use sh_syntax::sequence::Text;
 use sh_vars::Vars;
 use std::alloc::Global;
 use std::marker::Model;
@@ -30,9 +30,9 @@ pub struct Shell {
 impl Model for Shell {
     ghost use Rattle.std.specs.Coded.{codes};
     ghost use Rattle.sh_vars.specs.Codes.{map_code};
-    ghost use Rattle.sh_exec_shell_base.specs.Codes.{run_code};
-    ghost use Rattle.sh_exec_shell_base.specs.Running.{ShellState};
-    ghost use Rattle.sh_exec_shell_base.specs.Tree.{run_of};
+    ghost use Rattle.sh_exec_forms.specs.Codes.{run_code};
+    ghost use Rattle.sh_exec_forms.specs.Running.{ShellState};
+    ghost use Rattle.sh_exec_forms.specs.Tree.{run_of};
 
     ghost Value = { ShellState };
 

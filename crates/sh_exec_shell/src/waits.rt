@@ -4,10 +4,10 @@ ghost use Rattle.sh_kernel.specs.State.{KernelState, StandsAt};
 ghost use Rattle.sh_exec_shell.specs.Acting.{answer_by, answer_turn, answered, wait_by, wait_turn, with_substitution};
 ghost use Rattle.sh_exec_shell.specs.Waits.{last_of, number_of, signal_status, waited};
 
+use sh_base::NoMemory;
+use sh_base::sequence::{Sequence, Text};
 use sh_exec_command::{Active, Pending, Place, Substitution, Wants};
 use sh_kernel::{Kernel, Status};
-use sh_memory::NoMemory;
-use sh_syntax::sequence::{Sequence, Text};
 
 /// The exit status of a process that a signal ended.
 fn signal_status(signal: u8) -> u8

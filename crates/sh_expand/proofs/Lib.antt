@@ -1,1 +1,5 @@
 pub mod Paths
+pub mod Begins
+pub mod Forms
+pub mod Steps
+pub mod Turns

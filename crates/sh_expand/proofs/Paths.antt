@@ -4,11 +4,11 @@ use Rattle.std.specs.Prelude.{if◌then◌else◌}
 use Rattle.sh_vars.specs.Environment.{Environment}
 use Rattle.sh_vars.specs.declared.shell_options.Options.{Options}
 use Rattle.sh_files.specs.Nodes.{FileMap}
-use Rattle.sh_expand_base.specs.declared.item.Item.{Item}
-use Rattle.sh_expand_base.specs.Found.{expanded}
-use Rattle.sh_expand_base.specs.Pathnames.{IsExpanded}
-use Rattle.sh_expand_base.specs.Text.{text_of}
-use Rattle.sh_expand_base.proofs.Finding.{only_expanded}
+use Rattle.sh_expand_fields.specs.declared.item.Item.{Item}
+use Rattle.sh_expand_fields.specs.Found.{expanded}
+use Rattle.sh_expand_fields.specs.Pathnames.{IsExpanded}
+use Rattle.sh_expand_fields.specs.Text.{text_of}
+use Rattle.sh_expand_fields.proofs.Finding.{only_expanded}
 use Rattle.sh_expand.specs.Fields.{field_paths}
 
 pub put_behind : (files : FileMap) (env : Environment) (directory : List ℕ) (options : Options) (field : List Item) (found old new : List (List ℕ))

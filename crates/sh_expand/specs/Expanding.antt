@@ -2,11 +2,11 @@
 use Rattle.std.specs.Prelude.{ℕ, List}
 use Rattle.sh_vars.specs.Environment.{Environment}
 use Rattle.sh_files.specs.Nodes.{FileMap}
-use Rattle.sh_tree.specs.declared.tree.Complete.{Complete}
+use Rattle.sh_syntax.specs.declared.tree.Complete.{Complete}
 use Rattle.sh_expand_parts.specs.declared.fault.Fault.{Fault}
-use Rattle.sh_expand_words.specs.Expansion as words
-use Rattle.sh_expand_words.specs.Parts as words_in
-use Rattle.sh_expand_words.specs.declared.wanted.Wanted.{Wanted}
+use Rattle.sh_expand.specs.Expansion as words
+use Rattle.sh_expand.specs.Parts as words_in
+use Rattle.sh_expand.specs.declared.wanted.Wanted.{Wanted}
 use Rattle.sh_expand.specs.Fields.{all_fields}
 
 -- a program's answer is needed; these fields; or a fault: and the shell's variables then

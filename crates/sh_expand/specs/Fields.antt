@@ -1,31 +1,23 @@
 -- The fields of expanded words: field splitting (XCU 2.6.5), pathname expansion (2.6.6) and quote removal (2.6.7).
 use Rattle.std.specs.Prelude.{ℕ, List, [], ◌∷◌, map, Option, Some, None, codes, if◌then◌else◌}
 use Rattle.std.specs.List.{flat_map}
-use Rattle.sh_vars.specs.Environment.{Environment, value_of}
+use Rattle.sh_vars.specs.Environment.{Environment, separators_of}
 use Rattle.sh_files.specs.Nodes.{FileMap}
-use Rattle.sh_expand_base.specs.declared.item.Item.{Item}
-use Rattle.sh_expand_base.specs.Classes.{class_of}
-use Rattle.sh_expand_base.specs.Found.{expanded}
-use Rattle.sh_expand_base.specs.Splitting.{split}
-use Rattle.sh_expand_base.specs.Text.{text_of}
+use Rattle.sh_expand_fields.specs.declared.item.Item.{Item}
+use Rattle.sh_expand_fields.specs.Classes.{class_of}
+use Rattle.sh_expand_fields.specs.Found.{expanded}
+use Rattle.sh_expand_fields.specs.Splitting.{split}
+use Rattle.sh_expand_fields.specs.Text.{text_of}
 use Rattle.sh_expand_parts.specs.declared.context.Context.{Context}
 use Rattle.sh_expand_parts.specs.declared.context.Context.TheVariants as context
 use Rattle.sh_expand_parts.specs.declared.closing.ExpandedWord.{ExpandedWord}
-
--- the bytes of IFS; where it is unset, a space, a tab and a newline
-abbrev pub ifs_if : Option (List ℕ) → List ℕ
-ifs_if None = 32 ∷ 9 ∷ 10 ∷ []
-ifs_if (Some ifs) = ifs
-
-abbrev pub ifs_of : Environment → List ℕ
-ifs_of env = ifs_if (value_of env (codes "IFS"))
 
 -- what a field gives: under `set -f` itself, without its quotes
 abbrev pub field_paths : FileMap → Environment → List Item → List (List ℕ)
 field_paths files env field = if env.options.no_glob then text_of field ∷ [] else expanded files env.directory field
 
 abbrev pub split_fields : Environment → List Item → List (List Item)
-split_fields env items = split (map (class_of (ifs_of env)) items)
+split_fields env items = split (map (class_of (separators_of env)) items)
 
 -- only a command's words are split, and stand for paths
 abbrev pub fields_as : FileMap → Environment → Context → List Item → List (List ℕ)

@@ -1,3 +1,8 @@
 pub mod Expanding
 pub mod Fields
-pub mod Stand
+pub mod FieldProgress
+pub mod Expansion
+pub mod Laws
+pub mod Parts
+pub mod WordProgress
+pub mod Weights

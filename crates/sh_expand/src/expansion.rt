@@ -1,19 +1,20 @@
 //! Expansion to fields, which stops where an answer is needed and goes on from there.
 ghost use Rattle.std.specs.Prelude.{◌≡◌, ◌++◌, ◌∷◌, [], ℕ, List, IfOk};
 ghost use Rattle.sh_vars.specs.Environment.{Environment};
-ghost use Rattle.sh_expand_words.specs.declared.wanted.Wanted.{Wanted};
-ghost use Rattle.sh_expand_words.specs.Stand as words_stand;
-ghost use Rattle.sh_expand.specs.Stand.{IsStep};
+ghost use Rattle.sh_expand.specs.declared.wanted.Wanted.{Wanted};
+ghost use Rattle.sh_expand.specs.WordProgress as words_stand;
+ghost use Rattle.sh_expand.specs.FieldProgress.{IsStep};
 
 use crate::fields::all_fields;
-use sh_expand_base::pattern_of;
+use crate::wanted::Wanted;
+use crate::words::{self, WordExpansion};
+use sh_base::sequence::{Sequence, Text};
+use sh_base::shared::Shared;
+use sh_expand_fields::pattern_of;
 use sh_expand_parts::Fault;
-use sh_expand_words::{Wanted, WordExpansion};
 use sh_files::Files;
 use sh_pattern::Mark;
-use sh_syntax::sequence::{Sequence, Text};
-use sh_syntax::shared::Shared;
-use sh_tree::tree::Complete;
+use sh_syntax::tree::Complete;
 use sh_vars::Vars;
 use std::alloc::{AllocError, Global};
 
@@ -37,7 +38,7 @@ pub struct Expansion {
 /// What a step of the words comes to.
 fn finish(
     alloc: Global,
-    step: sh_expand_words::Step,
+    step: words::Step,
     words: &WordExpansion,
     vars: &Vars,
     files: &Files,
@@ -45,17 +46,17 @@ fn finish(
     ensures { IfOk result (λ s. (wanted : List Wanted) (before : Environment) (given : List (List ℕ)) → words_stand.IsStep step words.now vars.now wanted before given → IsStep files.now s (record { words = words.now }) vars.now wanted before given) }
 {
     match step {
-        sh_expand_words::Step::Need(program) => Ok(Step::Need(program)),
-        sh_expand_words::Step::Words => {
+        words::Step::Need(program) => Ok(Step::Need(program)),
+        words::Step::Words => {
             let fields = all_fields(alloc, vars, files, words.words())?;
             Ok(Step::Fields(fields))
         }
-        sh_expand_words::Step::Fault(fault) => Ok(Step::Fault(fault)),
+        words::Step::Fault(fault) => Ok(Step::Fault(fault)),
     }
 }
 
 impl Expansion {
-    ghost use Rattle.sh_expand.specs.Stand.{IsStep, Waits, pattern_in};
+    ghost use Rattle.sh_expand.specs.FieldProgress.{IsStep, Waits, pattern_in};
 
     /// Begins the expansion of words, in order, and goes on until an answer is needed or it ends (XCU 2.6).
     ///

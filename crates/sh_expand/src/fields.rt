@@ -1,14 +1,14 @@
 //! Fields of expanded words.
 ghost use Rattle.std.specs.Prelude.{◌≡◌, ◌++◌, ◌∷◌, [], OnOk, IfOk, map};
 ghost use Rattle.std.specs.List.{flat_map};
-ghost use Rattle.sh_expand_base.specs.Text.{text_of};
+ghost use Rattle.sh_expand_fields.specs.Text.{text_of};
 ghost use Rattle.sh_expand.specs.Fields.{all_fields, field_paths, fields_as, split_fields, word_fields};
-ghost use Rattle.sh_expand.specs.Stand.{texts_of};
+ghost use Rattle.sh_expand.specs.FieldProgress.{texts_of};
 
-use sh_expand_base::{Fields, Item, Separators, expand_pathnames, remove_quotes, split};
+use sh_base::sequence::{Sequence, Text};
+use sh_expand_fields::{Fields, Item, Separators, expand_pathnames, remove_quotes, split};
 use sh_expand_parts::{Context, ExpandedWord};
 use sh_files::Files;
-use sh_syntax::sequence::{Sequence, Text};
 use sh_vars::Vars;
 use std::alloc::{AllocError, Global};
 

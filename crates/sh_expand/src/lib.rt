@@ -4,15 +4,19 @@
 //! right; then all of them are split into fields, by IFS as it is then, and pathnames are expanded, by the files as they
 //! are then; then quotes are removed. Where a command substitution needs what a program writes, it stops with
 //! [`Step::Need`], and [`Expansion::resume`] goes on from there.
-//!
-//! The fields of a line that `read` takes aren't given yet. They will be those of `split` of `sh_expand_base`, for items
-//! that are quoted where a backslash stood before them; the text that the last name gets, from its field on to the end of
-//! the line, needs a call beside `split`.
 #![tactic(auto)]
 
 mod expansion;
 mod fields;
+mod laws;
+mod part;
+mod place;
+mod wanted;
+mod words;
 
 pub use expansion::{Expansion, Step};
+pub use laws::parts_do_what_their_forms_say;
+pub use place::Place;
 pub use sh_expand_parts::{ArithmeticError, Context, Fault};
-pub use sh_expand_words::Wanted;
+pub use wanted::Wanted;
+pub use words::WordExpansion;

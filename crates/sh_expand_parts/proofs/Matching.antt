@@ -3,10 +3,10 @@ use Rattle.std.proofs.Common.{◌≡◌, ℕ, List, length, Option, sym, ap, ◌
 use Rattle.sh_pattern.specs.declared.mark.Mark.{Mark}
 use Rattle.sh_pattern.specs.Match.{IsLongest, IsShortest, back, front}
 use Rattle.sh_pattern.proofs.Decisions.{longest_both, shortest_both}
-use Rattle.sh_tree.specs.declared.tree.Affix.{Affix}
-use Rattle.sh_tree.specs.declared.tree.Affix.TheVariants.{Prefix, Suffix}
-use Rattle.sh_tree.specs.declared.tree.Extent.{Extent}
-use Rattle.sh_tree.specs.declared.tree.Extent.TheVariants.{Smallest, Largest}
+use Rattle.sh_syntax.specs.declared.tree.Affix.{Affix}
+use Rattle.sh_syntax.specs.declared.tree.Affix.TheVariants.{Prefix, Suffix}
+use Rattle.sh_syntax.specs.declared.tree.Extent.{Extent}
+use Rattle.sh_syntax.specs.declared.tree.Extent.TheVariants.{Smallest, Largest}
 use Rattle.sh_expand_parts.specs.Removals.{matched}
 
 same : (a b : Affix) (e f : Extent) (p : List Mark) (t : List ℕ) (n : Option ℕ) → a ≡ b → e ≡ f → n ≡ matched b f p t → n ≡ matched a e p t

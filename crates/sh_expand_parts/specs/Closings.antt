@@ -2,13 +2,13 @@
 use Rattle.std.specs.Prelude.{ℕ, List, Bool, true, false, map, Some, None}
 use Rattle.std.specs.Fmt.{signed_decimal}
 use Rattle.sh_vars.specs.Environment.{Environment, is_read_only, with_value}
-use Rattle.sh_vars.specs.Names.{is_name}
+use Rattle.sh_base.specs.Names.{is_name}
 use Rattle.sh_arith.specs.declared.faults.ArithFault.{ArithFault}
 use Rattle.sh_arith.specs.declared.faults.ArithFault.TheVariants as arith_fault
 use Rattle.sh_arith.specs.Evaluated.{evaluated}
 use Rattle.sh_arith.specs.Outcome.{Outcome, Gives, Stops}
-use Rattle.sh_arith_base.specs.Lexical.{word_at}
-use Rattle.sh_expand_base.specs.Text.{marks_of, text_of}
+use Rattle.sh_arith_grammar.specs.Lexical.{word_at}
+use Rattle.sh_expand_fields.specs.Text.{marks_of, text_of}
 use Rattle.sh_expand_parts.specs.Drafts.{joined, joiner, plain, quoted, shown, text_items}
 use Rattle.sh_expand_parts.specs.Removals.{without_match}
 use Rattle.sh_expand_parts.specs.declared.closing.Closed.{Closed}

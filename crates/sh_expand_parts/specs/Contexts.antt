@@ -1,7 +1,7 @@
 -- What the bytes of a word come as, by what the word is expanded for (XCU 2.6): as themselves, quoted, or to be split.
 use Rattle.std.specs.Prelude.{ℕ}
-use Rattle.sh_expand_base.specs.declared.item.Item.{Item}
-use Rattle.sh_expand_base.specs.declared.item.Item.TheVariants as item
+use Rattle.sh_expand_fields.specs.declared.item.Item.{Item}
+use Rattle.sh_expand_fields.specs.declared.item.Item.TheVariants as item
 use Rattle.sh_expand_parts.specs.declared.context.Context.{Context}
 use Rattle.sh_expand_parts.specs.declared.context.Context.TheVariants.{Fields, Inner, Quoted, Single, Assignment, Operand, QuotedSingle}
 

@@ -1,9 +1,9 @@
 -- The items of a word so far, and what values (XCU 2.5.2) and quotes (2.2.3) put there.
 use Rattle.std.specs.Prelude.{ℕ, List, [], ◌∷◌, ◌++◌, ◌||◌, Bool, true, false, map, Option, Some, None, codes}
-use Rattle.sh_vars.specs.Environment.{Environment, value_of}
-use Rattle.sh_expand_base.specs.declared.item.Item.{Item}
-use Rattle.sh_expand_base.specs.declared.item.Item.TheVariants as item
-use Rattle.sh_expand_base.specs.Classes.{first_of}
+use Rattle.sh_vars.specs.Environment.{Environment, separators_of}
+use Rattle.sh_expand_fields.specs.declared.item.Item.{Item}
+use Rattle.sh_expand_fields.specs.declared.item.Item.TheVariants as item
+use Rattle.sh_expand_fields.specs.Classes.{first_of}
 use Rattle.sh_expand_parts.specs.Contexts.{value_item}
 use Rattle.sh_expand_parts.specs.declared.context.Context.{Context}
 use Rattle.sh_expand_parts.specs.declared.context.Context.TheVariants.{Fields, Inner, Quoted, Single, Assignment, Operand, QuotedSingle}
@@ -32,12 +32,8 @@ abbrev pub quoted : Draft → Draft
 quoted d = quoted_if d.void d.items
 
 -- the byte between joined parameters: the first of IFS, a space where IFS is unset, none where it is empty
-abbrev pub joiner_if : Option (List ℕ) → Option ℕ
-joiner_if None = Some 32
-joiner_if (Some ifs) = first_of ifs
-
 abbrev pub joiner : Environment → Option ℕ
-joiner env = joiner_if (value_of env (codes "IFS"))
+joiner env = first_of (separators_of env)
 
 -- what stands between a text and the further ones
 abbrev pub between_bytes : Option ℕ → List (List ℕ) → List ℕ

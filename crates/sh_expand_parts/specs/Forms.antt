@@ -1,14 +1,14 @@
 -- What a form comes to where it begins (XCU 2.6.2): items, a word inside it that is expanded first, or a fault.
 use Rattle.std.specs.Prelude.{ℕ, List, [], ◌∷◌, ◌&&◌, Bool, true, false, if◌then◌else◌, None, decimal, length}
 use Rattle.sh_vars.specs.Environment.{Environment}
-use Rattle.sh_tree.specs.declared.tree.Parameter.{Parameter}
-use Rattle.sh_tree.specs.declared.tree.Parameter.TheVariants.{Variable, Positional, Special}
-use Rattle.sh_tree.specs.declared.tree.Absence.{Absence}
-use Rattle.sh_tree.specs.declared.tree.Absence.TheVariants as absence
-use Rattle.sh_tree.specs.declared.tree.Affix.{Affix}
-use Rattle.sh_tree.specs.declared.tree.Extent.{Extent}
-use Rattle.sh_tree.specs.declared.tree.ConditionalAction.{ConditionalAction}
-use Rattle.sh_tree.specs.declared.tree.ConditionalAction.TheVariants as action
+use Rattle.sh_syntax.specs.declared.tree.Parameter.{Parameter}
+use Rattle.sh_syntax.specs.declared.tree.Parameter.TheVariants.{Variable, Positional, Special}
+use Rattle.sh_syntax.specs.declared.tree.Absence.{Absence}
+use Rattle.sh_syntax.specs.declared.tree.Absence.TheVariants as absence
+use Rattle.sh_syntax.specs.declared.tree.Affix.{Affix}
+use Rattle.sh_syntax.specs.declared.tree.Extent.{Extent}
+use Rattle.sh_syntax.specs.declared.tree.ConditionalAction.{ConditionalAction}
+use Rattle.sh_syntax.specs.declared.tree.ConditionalAction.TheVariants as action
 use Rattle.sh_expand_parts.specs.Contexts.{inside_default, inside_text}
 use Rattle.sh_expand_parts.specs.Drafts.{joiner, nothing, plain, shown, text_items}
 use Rattle.sh_expand_parts.specs.Values.{name_of, value_in}

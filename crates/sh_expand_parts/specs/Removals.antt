@@ -3,10 +3,10 @@ use Rattle.std.specs.Prelude.{ℕ, ◌-◌, List, Option, Some, None, drop, take
 use Rattle.sh_pattern.specs.declared.mark.Mark.{Mark}
 use Rattle.sh_pattern.specs.Deciding.{longest, shortest}
 use Rattle.sh_pattern.specs.Match.{back, front}
-use Rattle.sh_tree.specs.declared.tree.Affix.{Affix}
-use Rattle.sh_tree.specs.declared.tree.Affix.TheVariants.{Prefix, Suffix}
-use Rattle.sh_tree.specs.declared.tree.Extent.{Extent}
-use Rattle.sh_tree.specs.declared.tree.Extent.TheVariants.{Smallest, Largest}
+use Rattle.sh_syntax.specs.declared.tree.Affix.{Affix}
+use Rattle.sh_syntax.specs.declared.tree.Affix.TheVariants.{Prefix, Suffix}
+use Rattle.sh_syntax.specs.declared.tree.Extent.{Extent}
+use Rattle.sh_syntax.specs.declared.tree.Extent.TheVariants.{Smallest, Largest}
 
 -- the length of the part that a pattern matches
 abbrev pub matched : Affix → Extent → List Mark → List ℕ → Option ℕ

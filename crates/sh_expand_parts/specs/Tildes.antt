@@ -2,8 +2,8 @@
 -- word or a slash follows, is HOME; in an assignment a colon may follow too, and one may begin behind each colon.
 use Rattle.std.specs.Prelude.{ℕ, List, [], ◌∷◌, ◌++◌, ◌==◌, ◌&&◌, ◌||◌, Bool, true, false, not, map, codes, Option, Some, None}
 use Rattle.sh_vars.specs.Environment.{Environment, value_of}
-use Rattle.sh_expand_base.specs.declared.item.Item.{Item}
-use Rattle.sh_expand_base.specs.declared.item.Item.TheVariants as item
+use Rattle.sh_expand_fields.specs.declared.item.Item.{Item}
+use Rattle.sh_expand_fields.specs.declared.item.Item.TheVariants as item
 use Rattle.sh_expand_parts.specs.Contexts.{literal_item}
 use Rattle.sh_expand_parts.specs.declared.context.Context.{Context}
 use Rattle.sh_expand_parts.specs.declared.context.Context.TheVariants.{Fields, Inner, Quoted, Single, Assignment, Operand, QuotedSingle}

@@ -2,10 +2,10 @@
 use Rattle.std.specs.Prelude.{ℕ, zero, suc, List, Option, Some, None, codes, decimal, length, slice_get}
 use Rattle.sh_vars.specs.Environment.{Environment, value_of}
 use Rattle.sh_vars.specs.ShellOptions.{letters_of}
-use Rattle.sh_tree.specs.declared.tree.Parameter.{Parameter}
-use Rattle.sh_tree.specs.declared.tree.Parameter.TheVariants.{Variable, Positional, Special}
-use Rattle.sh_tree.specs.declared.tree.SpecialParameter.{SpecialParameter}
-use Rattle.sh_tree.specs.declared.tree.SpecialParameter.TheVariants.{At, Asterisk, Count, Status, Options, Process, Background, Zero}
+use Rattle.sh_syntax.specs.declared.tree.Parameter.{Parameter}
+use Rattle.sh_syntax.specs.declared.tree.Parameter.TheVariants.{Variable, Positional, Special}
+use Rattle.sh_syntax.specs.declared.tree.SpecialParameter.{SpecialParameter}
+use Rattle.sh_syntax.specs.declared.tree.SpecialParameter.TheVariants.{At, Asterisk, Count, Status, Options, Process, Background, Zero}
 use Rattle.sh_expand_parts.specs.declared.value.Value.{Value}
 use Rattle.sh_expand_parts.specs.declared.value.Value.TheVariants.{Unset, Scalar, Each, Joined}
 

@@ -1,13 +1,13 @@
 //! What a word comes to once it is expanded.
-ghost use Rattle.sh_memory.specs.Memory.{no_memory};
+ghost use Rattle.sh_base.specs.Memory.{no_memory};
 ghost use Rattle.std.specs.Prelude.{◌≡◌, ◌≢◌, IfOk, IfErr, OnOk, MatchResult};
 ghost use Rattle.std.specs.Fmt.{signed_decimal};
 ghost use Rattle.sh_vars.specs.Environment.{is_read_only};
-ghost use Rattle.sh_vars.specs.Names.{is_name};
+ghost use Rattle.sh_base.specs.Names.{is_name};
 ghost use Rattle.sh_arith.specs.Evaluated.{evaluated};
 ghost use Rattle.sh_arith.specs.Outcome.{Gives, Stops};
-ghost use Rattle.sh_arith_base.specs.Lexical.{word_at};
-ghost use Rattle.sh_expand_base.specs.Text.{marks_of, text_of};
+ghost use Rattle.sh_arith_grammar.specs.Lexical.{word_at};
+ghost use Rattle.sh_expand_fields.specs.Text.{marks_of, text_of};
 ghost use Rattle.sh_expand_parts.specs.Closings.{Closing, assigned, behind, closed, closing, computed, fault_of, removed};
 ghost use Rattle.sh_expand_parts.specs.Drafts.{joined, plain, quoted, text_items};
 ghost use Rattle.sh_expand_parts.specs.Removals.{without_match};
@@ -16,12 +16,12 @@ use crate::context::Context;
 use crate::draft::{Draft, joiner, shown, text_draft};
 use crate::fault::{ArithmeticError, Fault};
 use crate::removal::removed;
-use crate::value::{Value, signed_decimal, text_from};
+use crate::value::{Value, signed_decimal};
 use sh_arith::{ArithFault, evaluate};
-use sh_arith_base::first_word;
-use sh_expand_base::{Item, pattern_of, remove_quotes};
-use sh_syntax::sequence::{Sequence, Text};
-use sh_tree::tree::{Affix, Extent};
+use sh_arith_grammar::first_word;
+use sh_base::sequence::{Sequence, Text};
+use sh_expand_fields::{Item, pattern_of, remove_quotes};
+use sh_syntax::tree::{Affix, Extent};
 use sh_vars::{Vars, VarsFault};
 use std::alloc::{AllocError, Global};
 
@@ -134,12 +134,12 @@ fn fault_of(alloc: Global, text: &[u8], fault: ArithFault) -> Result<Fault, Allo
         ArithFault::DivideByZero => Ok(Fault::Arithmetic(ArithmeticError::DivisionByZero)),
         ArithFault::NotANumber => Ok(Fault::Arithmetic(ArithmeticError::NotANumber)),
         ArithFault::ReadOnly { at } => Ok(Fault::ReadOnly {
-            name: text_from(alloc, word_at(text, at))?,
+            name: Text::copy_of(alloc, word_at(text, at))?,
         }),
         ArithFault::TooDeep => Ok(Fault::Arithmetic(ArithmeticError::TooDeep)),
         ArithFault::NoMemory(lack) => Err(AllocError::from(lack)),
         ArithFault::Unset { at } => Ok(Fault::Unset {
-            name: text_from(alloc, word_at(text, at))?,
+            name: Text::copy_of(alloc, word_at(text, at))?,
             message: None,
         }),
     }

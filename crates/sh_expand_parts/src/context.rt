@@ -2,7 +2,7 @@
 ghost use Rattle.std.specs.Prelude.{◌≡◌};
 ghost use Rattle.sh_expand_parts.specs.Contexts.{value_item};
 
-use sh_expand_base::Item;
+use sh_expand_fields::Item;
 
 /// What a word is expanded for, or where a word inside another one stands (XCU 2.6).
 #[derive(Clone, Copy, Debug, PartialEq, Eq)]

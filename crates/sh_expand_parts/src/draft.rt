@@ -1,13 +1,13 @@
 //! The items of a word so far, and what values and quotes put there.
 ghost use Rattle.std.specs.Prelude.{◌≡◌, ◌++◌, ◌∷◌, [], OnOk, IfOk, map};
-ghost use Rattle.sh_expand_base.specs.declared.item.Item.TheVariants as item;
+ghost use Rattle.sh_expand_fields.specs.declared.item.Item.TheVariants as item;
 ghost use Rattle.sh_expand_parts.specs.Contexts.{value_item};
 ghost use Rattle.sh_expand_parts.specs.Drafts.{all_parameters, apart, between_bytes, between_items, each_parameter, field_items, joiner, plain, nothing, quoted_each, quoted_if, shown, text_items, text_of_all};
 
 use crate::context::Context;
 use crate::value::Value;
-use sh_expand_base::Item;
-use sh_syntax::sequence::{Sequence, Text};
+use sh_base::sequence::{Sequence, Text};
+use sh_expand_fields::Item;
 use sh_vars::Vars;
 use std::alloc::{AllocError, Global};
 

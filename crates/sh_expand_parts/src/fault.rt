@@ -1,5 +1,5 @@
 //! Why words can't be expanded.
-use sh_syntax::sequence::Text;
+use sh_base::sequence::Text;
 
 /// Why words can't be expanded (XCU 2.8.1), with what the shell's message prints.
 #[derive(Debug, Drop)]

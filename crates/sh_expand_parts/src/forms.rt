@@ -9,9 +9,9 @@ use crate::closing::Purpose;
 use crate::context::Context;
 use crate::draft::{Draft, joiner, shown, text_draft};
 use crate::fault::Fault;
-use crate::value::{Value, decimal, name_of, text_from};
-use sh_syntax::sequence::Text;
-use sh_tree::tree::{Absence, Affix, ConditionalAction, Extent, Parameter};
+use crate::value::{Value, decimal, name_of};
+use sh_base::sequence::Text;
+use sh_syntax::tree::{Absence, Affix, ConditionalAction, Extent, Parameter};
 use sh_vars::Vars;
 use std::alloc::{AllocError, Global};
 
@@ -196,7 +196,7 @@ fn assignment(
             }
             Ok(Begun::Enters {
                 purpose: Purpose::Assign {
-                    name: text_from(alloc, name.as_slice())?,
+                    name: Text::copy_of(alloc, name.as_slice())?,
                     context,
                 },
                 context: context.inside_text(),

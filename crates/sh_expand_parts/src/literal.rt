@@ -1,13 +1,13 @@
 //! Unquoted bytes of a word, with tilde expansion (XCU 2.6.1).
 ghost use Rattle.std.specs.Prelude.{◌≡◌, ◌++◌, ◌∷◌, [], OnOk, IfOk, map, option_map};
-ghost use Rattle.sh_expand_base.specs.declared.item.Item.TheVariants as item;
+ghost use Rattle.sh_expand_fields.specs.declared.item.Item.TheVariants as item;
 ghost use Rattle.sh_expand_parts.specs.Drafts.{field_items, plain};
 ghost use Rattle.sh_expand_parts.specs.Tildes.{byte_items, literal_begun, literal_items, prefixes_in};
 
 use crate::context::Context;
 use crate::draft::{Draft, push_field, push_quoted};
-use sh_expand_base::Item;
-use sh_syntax::sequence::Sequence;
+use sh_base::sequence::Sequence;
+use sh_expand_fields::Item;
 use sh_vars::Vars;
 use std::alloc::{AllocError, Global};
 

@@ -3,10 +3,10 @@ ghost use Rattle.std.specs.Prelude.{◌≡◌, ◌-◌, ◌≤◌, List, ℕ, If
 ghost use Rattle.sh_expand_parts.specs.Closings.{removed};
 ghost use Rattle.sh_expand_parts.specs.Removals.{matched, without_length, without_match};
 
-use crate::value::{Value, text_from};
+use crate::value::Value;
+use sh_base::sequence::{Sequence, Text};
 use sh_pattern::{Mark, longest_back, longest_front, shortest_back, shortest_front};
-use sh_syntax::sequence::{Sequence, Text};
-use sh_tree::tree::{Affix, Extent};
+use sh_syntax::tree::{Affix, Extent};
 use std::alloc::{AllocError, Global};
 
 /// How much of a text a pattern matches.
@@ -50,7 +50,7 @@ fn without_match(
     ensures { IfOk result (λ t. t ≡ without_match affix extent pattern.now text.now) }
 {
     let count = matched(affix, extent, pattern, text);
-    let rest = text_from(alloc, without_length(affix, text, count))?;
+    let rest = Text::copy_of(alloc, without_length(affix, text, count))?;
     Ok(rest)
 }
 

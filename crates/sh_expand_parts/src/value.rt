@@ -4,8 +4,8 @@ ghost use Rattle.std.specs.Fmt.{signed_decimal};
 ghost use Rattle.sh_expand_parts.specs.Values.{if_set, name_of, number_if_set, positional, special, special_name, value_in};
 
 use itoa::Buffer;
-use sh_syntax::sequence::{Sequence, Text};
-use sh_tree::tree::{Parameter, SpecialParameter};
+use sh_base::sequence::{Sequence, Text, copies_of};
+use sh_syntax::tree::{Parameter, SpecialParameter};
 use sh_vars::Vars;
 use std::alloc::{AllocError, Global};
 
@@ -22,20 +22,12 @@ pub enum Value {
     Joined(Sequence<Text>),
 }
 
-/// A text of these bytes.
-pub(crate) fn text_from(alloc: Global, bytes: &[u8]) -> Result<Text, AllocError>
-    ensures { IfOk result (λ text. text ≡ bytes.now) }
-{
-    Ok(Text::from_vec(Vec::from_slice(alloc, bytes)?))
-}
-
 /// A number's decimal digits.
 pub(crate) fn decimal(alloc: Global, number: u64) -> Result<Text, AllocError>
     ensures { IfOk result (λ text. text ≡ decimal number) }
 {
     let mut buffer = Buffer::new();
-    let text = text_from(alloc, buffer.format(number).as_bytes())?;
-    Ok(text)
+    Text::copy_of(alloc, buffer.format(number).as_bytes())
 }
 
 /// A number's decimal digits, with its sign.
@@ -46,24 +38,13 @@ pub(crate) fn signed_decimal(alloc: Global, number: i64) -> Result<Text, AllocEr
     Ok(Text::from_vec(text.into_bytes()))
 }
 
-/// Copies of texts.
-fn copies(alloc: Global, texts: &[sh_vars::Text]) -> Result<Sequence<Text>, AllocError>
-    ensures { IfOk result (λ copies. copies ≡ texts.now) }
-{
-    let mut copies = Sequence::new(alloc);
-    for text in texts {
-        copies.push(text_from(alloc, text.as_bytes())?)?;
-    }
-    Ok(copies)
-}
-
 /// The value of one text, if there is one.
 fn if_set(alloc: Global, text: Option<&[u8]>) -> Result<Value, AllocError>
     ensures { IfOk result (λ value. value ≡ if_set (option_map (λ t. t.now) text.entry)) }
 {
     match text {
         None => Ok(Value::Unset),
-        Some(text) => Ok(Value::Scalar(text_from(alloc, text)?)),
+        Some(text) => Ok(Value::Scalar(Text::copy_of(alloc, text)?)),
     }
 }
 
@@ -78,7 +59,7 @@ fn number_if_set(alloc: Global, number: Option<u32>) -> Result<Value, AllocError
 }
 
 /// The value of a positional parameter, counted from 1.
-fn positional(alloc: Global, operands: &[sh_vars::Text], number: usize) -> Result<Value, AllocError>
+fn positional(alloc: Global, operands: &[Text], number: usize) -> Result<Value, AllocError>
     ensures { IfOk result (λ value. value ≡ positional operands.now number) }
 {
     if number == 0 {
@@ -86,7 +67,7 @@ fn positional(alloc: Global, operands: &[sh_vars::Text], number: usize) -> Resul
     }
     match operands.get(number - 1) {
         None => Ok(Value::Unset),
-        Some(text) => Ok(Value::Scalar(text_from(alloc, text.as_bytes())?)),
+        Some(text) => Ok(Value::Scalar(Text::copy_of(alloc, text.as_slice())?)),
     }
 }
 
@@ -95,20 +76,23 @@ fn special(alloc: Global, vars: &Vars, parameter: SpecialParameter) -> Result<Va
     ensures { IfOk result (λ value. value ≡ special vars.now parameter) }
 {
     match parameter {
-        SpecialParameter::At => Ok(Value::Each(copies(alloc, vars.positional())?)),
-        SpecialParameter::Asterisk => Ok(Value::Joined(copies(alloc, vars.positional())?)),
+        SpecialParameter::At => Ok(Value::Each(Sequence::from_vec(copies_of(
+            alloc,
+            vars.positional(),
+        )?))),
+        SpecialParameter::Asterisk => Ok(Value::Joined(Sequence::from_vec(copies_of(
+            alloc,
+            vars.positional(),
+        )?))),
         SpecialParameter::Count => Ok(Value::Scalar(decimal(
             alloc,
             vars.positional().len() as u64,
         )?)),
         SpecialParameter::Status => Ok(Value::Scalar(decimal(alloc, u64::from(vars.status()))?)),
-        SpecialParameter::Options => {
-            let letters = vars.options().letters(alloc)?;
-            Ok(Value::Scalar(Text::from_vec(letters.into_bytes())))
-        }
+        SpecialParameter::Options => { Ok(Value::Scalar(vars.options().letters(alloc)?)) }
         SpecialParameter::Process => Ok(Value::Scalar(decimal(alloc, u64::from(vars.process()))?)),
         SpecialParameter::Background => number_if_set(alloc, vars.background()),
-        SpecialParameter::Zero => Ok(Value::Scalar(text_from(alloc, vars.zero())?)),
+        SpecialParameter::Zero => Ok(Value::Scalar(Text::copy_of(alloc, vars.zero())?)),
     }
 }
 
@@ -148,8 +132,8 @@ pub(crate) fn name_of(alloc: Global, parameter: &Parameter) -> Result<Text, Allo
     ensures { IfOk result (λ name. name ≡ name_of parameter.now) }
 {
     match parameter {
-        Parameter::Variable(name) => text_from(alloc, name.as_slice()),
+        Parameter::Variable(name) => Text::copy_of(alloc, name.as_slice()),
         Parameter::Positional(number) => decimal(alloc, *number as u64),
-        Parameter::Special(parameter) => text_from(alloc, special_name(*parameter)),
+        Parameter::Special(parameter) => Text::copy_of(alloc, special_name(*parameter)),
     }
 }

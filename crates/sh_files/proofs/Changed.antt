@@ -4,13 +4,13 @@ use Rattle.std.specs.Prelude.{◌&&◌, if◌then◌else◌, not, slice_get, tak
 use Rattle.std.specs.List.{list_all}
 use Rattle.std.specs.Option.{option_and_then}
 use Rattle.std.specs.FinMap as map
-use Rattle.sh_files_base.specs.Contents.{Regular, written}
-use Rattle.sh_files_base.specs.Paths.{parent}
-use Rattle.sh_files_base.specs.Places.{Entries}
-use Rattle.sh_files_base.specs.Texts.{is_left_out}
-use Rattle.sh_files_base.specs.declared.node.Node.{Node}
-use Rattle.sh_files_base.specs.declared.node.Node.TheVariants.{Directory, File, Null, Terminal}
-use Rattle.sh_files_base.proofs.Places.{order}
+use Rattle.sh_files_image.specs.Contents.{Regular, written}
+use Rattle.sh_files_image.specs.Paths.{parent}
+use Rattle.sh_files_image.specs.Places.{Entries}
+use Rattle.sh_files_image.specs.Texts.{is_left_out}
+use Rattle.sh_files_image.specs.declared.node.Node.{Node}
+use Rattle.sh_files_image.specs.declared.node.Node.TheVariants.{Directory, File, Null, Terminal}
+use Rattle.sh_files_image.proofs.Places.{order}
 use Rattle.sh_files.specs.Nodes.{FileMap, node_at, starting, truncate_node, truncated, with_node, write_at, write_fits, write_node}
 use Rattle.sh_files.specs.Image.{is_directory}
 use Rattle.sh_files.specs.Whole.{IsPlaced, IsWhole}

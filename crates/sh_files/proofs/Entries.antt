@@ -1,15 +1,15 @@
 -- The lines of an image, one after the other.
-use Rattle.sh_memory.specs.Memory.{no_memory}
+use Rattle.sh_base.specs.Memory.{no_memory}
 use Rattle.std.proofs.Common.{◌≡◌, ℕ, suc, zero, ◌+◌, ◌<◌, List, [], ◌∷◌, length, take, drop, Option, Some, None, Bool, true, false, Result, Ok, Err, IfErr, codes, refl, sym, ap, ◌∙◌, arith}
 use Rattle.std.specs.Prelude.{◌==◌, if◌then◌else◌, option_map}
 use Rattle.std.specs.List.{position}
 use Rattle.std.specs.Str.{bytes_eq}
 use Rattle.std.proofs.lemmas.List.Quantifiers.{position-Some}
 use Rattle.sh_files.specs.Nodes.{FileMap}
-use Rattle.sh_files_base.specs.Fields.{line_of}
+use Rattle.sh_files_image.specs.Fields.{line_of}
 use Rattle.sh_files.specs.Image.{advanced, by_line, ended, entries, entry}
-use Rattle.sh_files_base.specs.declared.image_fault.FaultKind.{FaultKind}
-use Rattle.sh_files_base.specs.declared.image_fault.FaultKind.TheVariants.{NoMemory, Trailing, Truncated}
+use Rattle.sh_files_image.specs.declared.image_fault.FaultKind.{FaultKind}
+use Rattle.sh_files_image.specs.declared.image_fault.FaultKind.TheVariants.{NoMemory, Trailing, Truncated}
 use Rattle.sh_files.specs.declared.image.Stop.{Stop}
 
 entries_behind : (files : FileMap) (k : ℕ) (bs : List ℕ) → entries files k bs ≡ entries files 0 (drop k bs)

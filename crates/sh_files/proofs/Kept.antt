@@ -5,20 +5,20 @@ use Rattle.std.specs.List.{list_any}
 use Rattle.std.specs.Option.{option_and_then}
 use Rattle.std.specs.Str.{bytes_eq}
 use Rattle.std.specs.FinMap as map
-use Rattle.sh_files_base.specs.Fields.{behind, file_fields, line_of, newlines}
-use Rattle.sh_files_base.specs.Paths.{begins_at_root, components, good_names, is_device, is_image_path, parent}
-use Rattle.sh_files_base.specs.Texts.{is_left_out}
-use Rattle.sh_files_base.specs.declared.node.Flags.{Flags}
-use Rattle.sh_files_base.specs.declared.node.Node.{Node}
-use Rattle.sh_files_base.specs.declared.node.Node.TheVariants.{Directory, File}
-use Rattle.sh_files_base.proofs.Wording as wording
-use Rattle.sh_files_base.proofs.Wording.{newline, behind_is_one, file_path_is_one, line_is_one}
+use Rattle.sh_files_image.specs.Fields.{behind, file_fields, line_of, newlines}
+use Rattle.sh_files_image.specs.Paths.{begins_at_root, components, good_names, is_device, is_image_path, parent}
+use Rattle.sh_files_image.specs.Texts.{is_left_out}
+use Rattle.sh_files_image.specs.declared.node.Flags.{Flags}
+use Rattle.sh_files_image.specs.declared.node.Node.{Node}
+use Rattle.sh_files_image.specs.declared.node.Node.TheVariants.{Directory, File}
+use Rattle.sh_files_image.proofs.Wording as wording
+use Rattle.sh_files_image.proofs.Wording.{newline, behind_is_one, file_path_is_one, line_is_one}
 use Rattle.sh_files.specs.Nodes.{FileMap, node_at, starting, with_new}
 use Rattle.sh_files.specs.Image.{advanced, beyond, by_directory, by_file, by_header, by_line, content_fault, ended, entries, entry, file_entry, first_fault, image_of, is_directory, not_directory, numbered_line, path_fault, placed, read_image, stands}
 use Rattle.sh_files.specs.Whole.{IsPlaced, IsWhole, is_kept}
-use Rattle.sh_files_base.specs.declared.image_fault.FaultKind.{FaultKind}
-use Rattle.sh_files_base.specs.declared.image_fault.FaultKind.TheVariants.{BadHeader, BadPath, Duplicate, NoParent, TooLarge}
-use Rattle.sh_files_base.specs.declared.image_fault.ImageFault.{ImageFault}
+use Rattle.sh_files_image.specs.declared.image_fault.FaultKind.{FaultKind}
+use Rattle.sh_files_image.specs.declared.image_fault.FaultKind.TheVariants.{BadHeader, BadPath, Duplicate, NoParent, TooLarge}
+use Rattle.sh_files_image.specs.declared.image_fault.ImageFault.{ImageFault}
 use Rattle.sh_files.specs.declared.image.Stop.{Stop}
 use Rattle.sh_files.proofs.Lookups.{Numbered, is, is_same, node_new, node_other, numbered_new}
 use Rattle.sh_files.proofs.Restored.{differ, second}

@@ -9,9 +9,9 @@ use Rattle.std.specs.Cmp.{tied_itself}
 use Rattle.std.specs.FinMap as map
 use Rattle.std.proofs.lemmas.Cmp.{nat_cmp_total}
 use Rattle.std.specs.FinMap.Entries.{below_all}
-use Rattle.sh_files_base.specs.Places.{Entries}
-use Rattle.sh_files_base.specs.declared.node.Node.{Node}
-use Rattle.sh_files_base.proofs.Places.{Rises, laws, left, less, order, right, same_path}
+use Rattle.sh_files_image.specs.Places.{Entries}
+use Rattle.sh_files_image.specs.declared.node.Node.{Node}
+use Rattle.sh_files_image.proofs.Places.{Rises, laws, left, less, order, right, same_path}
 use Rattle.sh_files.specs.Nodes.{FileMap, node_at, with_new}
 
 abbrev pub is : List ℕ → List ℕ → Bool

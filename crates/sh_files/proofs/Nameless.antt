@@ -3,8 +3,8 @@ use Rattle.std.proofs.Common.{◌≡◌, ℕ, ◌+◌, List, [], ◌∷◌, ◌+
 use Rattle.std.specs.Prelude.{codes, if◌then◌else◌, nat_le, slice_get}
 use Rattle.std.specs.Option.{option_and_then}
 use Rattle.std.specs.FinMap as map
-use Rattle.sh_files_base.specs.Paths.{parent}
-use Rattle.sh_files_base.specs.declared.node.Node.{Node}
+use Rattle.sh_files_image.specs.Paths.{parent}
+use Rattle.sh_files_image.specs.declared.node.Node.{Node}
 use Rattle.sh_files.specs.Nodes.{FileMap, nameless, new_file_of, node_at, with_nameless}
 use Rattle.sh_files.specs.Image.{is_directory}
 use Rattle.sh_files.specs.Whole.{IsPlaced, IsWhole}

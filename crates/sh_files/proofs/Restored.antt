@@ -6,21 +6,21 @@ use Rattle.std.specs.Option.{option_and_then}
 use Rattle.std.specs.declared.cmp.Ordering.TheVariants.{Less}
 use Rattle.std.specs.FinMap as map
 use Rattle.std.proofs.Math.Seq.{drop-append-add, take-append_seam}
-use Rattle.sh_files_base.specs.Contents.{Regular}
-use Rattle.sh_files_base.specs.Paths.{begins_at_root, has_slash, is_image_path, last_slash, parent}
-use Rattle.sh_files_base.specs.Places.{Entries}
-use Rattle.sh_files_base.specs.Texts.{directory_line, file_line, is_left_out, node_text}
-use Rattle.sh_files_base.specs.declared.node.Node.{Node}
-use Rattle.sh_files_base.specs.declared.node.Node.TheVariants.{Directory, File, Null, Terminal}
-use Rattle.sh_files_base.proofs.Places.{Rises, order, right}
-use Rattle.sh_files_base.proofs.Wording.{first_line, newline, one_line, read_file_words}
+use Rattle.sh_files_image.specs.Contents.{Regular}
+use Rattle.sh_files_image.specs.Paths.{begins_at_root, has_slash, is_image_path, last_slash, parent}
+use Rattle.sh_files_image.specs.Places.{Entries}
+use Rattle.sh_files_image.specs.Texts.{directory_line, file_line, is_left_out, node_text}
+use Rattle.sh_files_image.specs.declared.node.Node.{Node}
+use Rattle.sh_files_image.specs.declared.node.Node.TheVariants.{Directory, File, Null, Terminal}
+use Rattle.sh_files_image.proofs.Places.{Rises, order, right}
+use Rattle.sh_files_image.proofs.Wording.{first_line, newline, one_line, read_file_words}
 use Rattle.sh_files.specs.Nodes.{FileMap, node_at, with_new}
 use Rattle.sh_files.specs.Image.{by_file, content_fault, entries, first_fault, is_directory, path_fault, placed}
 use Rattle.sh_files.specs.Whole.{AreSame, IsWhole, is_kept}
-use Rattle.sh_files_base.specs.Writing.{found_text, paths_text}
+use Rattle.sh_files_image.specs.Writing.{found_text, paths_text}
 use Rattle.sh_files.specs.Writing.{last_line}
-use Rattle.sh_files_base.specs.declared.image_fault.FaultKind.{FaultKind}
-use Rattle.sh_files_base.specs.declared.image_fault.FaultKind.TheVariants.{BadPath, Duplicate, NoParent}
+use Rattle.sh_files_image.specs.declared.image_fault.FaultKind.{FaultKind}
+use Rattle.sh_files_image.specs.declared.image_fault.FaultKind.TheVariants.{BadPath, Duplicate, NoParent}
 use Rattle.sh_files.proofs.Entries.{next_line}
 use Rattle.sh_files.proofs.Lookups.{Numbered, before_first, first_found, first_once, front_before, get_within, is, is_same, node_new, node_other, not_first, number_new, numbered_new}
 

@@ -8,23 +8,23 @@ use Rattle.std.specs.FinMap as map
 use Rattle.std.specs.FinMap.Entries.{by_order}
 use Rattle.std.proofs.lemmas.Bool.Decides.{nat_tests}
 use Rattle.std.proofs.lemmas.Slice.Eq.{bytes_eq-Decides}
-use Rattle.sh_files_base.specs.Fields.{behind, file_fields, line_of, newlines}
-use Rattle.sh_files_base.specs.Places.{Entries}
-use Rattle.sh_files_base.specs.Texts.{directory_line, file_line, is_left_out, node_text}
-use Rattle.sh_files_base.specs.declared.node.Flags.{Flags}
-use Rattle.sh_files_base.specs.declared.node.Node.{Node}
-use Rattle.sh_files_base.specs.declared.node.Node.TheVariants.{Directory, File}
-use Rattle.sh_files_base.proofs.Places.{Rises, laws, order, right}
-use Rattle.sh_files_base.proofs.Wording as wording
-use Rattle.sh_files_base.proofs.Wording.{behind_is_one, behind_length, fields_length, line_is_one, line_length}
+use Rattle.sh_files_image.specs.Fields.{behind, file_fields, line_of, newlines}
+use Rattle.sh_files_image.specs.Places.{Entries}
+use Rattle.sh_files_image.specs.Texts.{directory_line, file_line, is_left_out, node_text}
+use Rattle.sh_files_image.specs.declared.node.Flags.{Flags}
+use Rattle.sh_files_image.specs.declared.node.Node.{Node}
+use Rattle.sh_files_image.specs.declared.node.Node.TheVariants.{Directory, File}
+use Rattle.sh_files_image.proofs.Places.{Rises, laws, order, right}
+use Rattle.sh_files_image.proofs.Wording as wording
+use Rattle.sh_files_image.proofs.Wording.{behind_is_one, behind_length, fields_length, line_is_one, line_length}
 use Rattle.sh_files.specs.Nodes.{FileMap, starting, with_new}
 use Rattle.sh_files.specs.Image.{advanced, beyond, by_directory, by_file, by_header, by_line, content_fault, ended, entries, entry, file_entry, first_fault, image_of, not_directory, numbered_line, path_fault, placed, read_image, stands}
 use Rattle.sh_files.specs.Whole.{IsWhole}
-use Rattle.sh_files_base.specs.Writing.{found_text, path_text, paths_text}
+use Rattle.sh_files_image.specs.Writing.{found_text, path_text, paths_text}
 use Rattle.sh_files.specs.Writing.{image_text, last_line}
-use Rattle.sh_files_base.specs.declared.image_fault.FaultKind.{FaultKind}
-use Rattle.sh_files_base.specs.declared.image_fault.FaultKind.TheVariants.{BadHeader, TooLarge}
-use Rattle.sh_files_base.specs.declared.image_fault.ImageFault.{ImageFault}
+use Rattle.sh_files_image.specs.declared.image_fault.FaultKind.{FaultKind}
+use Rattle.sh_files_image.specs.declared.image_fault.FaultKind.TheVariants.{BadHeader, TooLarge}
+use Rattle.sh_files_image.specs.declared.image_fault.ImageFault.{ImageFault}
 use Rattle.sh_files.specs.declared.image.Stop.{Stop}
 use Rattle.sh_files.proofs.Lookups.{Numbered, first_found, get_front, get_last, is, not_first}
 use Rattle.sh_files.proofs.Restored.{left_out_text, other}

@@ -1,9 +1,9 @@
 -- Steps along a path.
 use Rattle.std.proofs.Common.{◌≡◌, ℕ, List, Some, None, Result, Ok, Err, IsErrAnd, IfErr, sym, ap, subst, ◌∙◌}
-use Rattle.sh_files_base.specs.Paths.{components, parted, stepped}
+use Rattle.sh_files_image.specs.Paths.{components, parted, stepped}
 use Rattle.sh_files.specs.Nodes.{FileMap, entrance, behind_entrance, node_at, walked}
 use Rattle.sh_files.specs.declared.fault.FileFault.{FileFault}
-use Rattle.sh_files_base.proofs.Slashes.{first_part, only_part}
+use Rattle.sh_files_image.proofs.Slashes.{first_part, only_part}
 
 pub on_step : (files : FileMap) (place next rest : List ℕ) (p : List ℕ × List ℕ) (u : Unit {0}) → Some p ≡ parted rest → Ok u ≡ entrance (node_at files place) → next ≡ stepped place p.0 → walked files place (components rest) ≡ walked files next (components p.1)
 on_step files place next rest p u h e n =

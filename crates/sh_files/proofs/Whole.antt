@@ -5,16 +5,16 @@ use Rattle.std.specs.List.{list_all}
 use Rattle.std.specs.Option.{option_and_then}
 use Rattle.std.specs.FinMap as map
 use Rattle.std.proofs.lemmas.Bool.Decides.{nat_tests}
-use Rattle.sh_files_base.specs.Fields.{newlines}
-use Rattle.sh_files_base.specs.Places.{Entries}
-use Rattle.sh_files_base.specs.Starting.{starting_paths}
-use Rattle.sh_files_base.specs.Texts.{is_left_out}
-use Rattle.sh_files_base.proofs.Places.{laws, order}
-use Rattle.sh_files_base.proofs.Wording.{first_line}
+use Rattle.sh_files_image.specs.Fields.{newlines}
+use Rattle.sh_files_image.specs.Places.{Entries}
+use Rattle.sh_files_image.specs.Starting.{starting_paths}
+use Rattle.sh_files_image.specs.Texts.{is_left_out}
+use Rattle.sh_files_image.proofs.Places.{laws, order}
+use Rattle.sh_files_image.proofs.Wording.{first_line}
 use Rattle.sh_files.specs.Nodes.{FileMap, node_at, starting}
 use Rattle.sh_files.specs.Image.{beyond, by_header, image_of, numbered_line, read_image}
 use Rattle.sh_files.specs.Whole.{AreSame, IsWhole}
-use Rattle.sh_files_base.specs.Writing.{paths_text}
+use Rattle.sh_files_image.specs.Writing.{paths_text}
 use Rattle.sh_files.specs.Writing.{image_text, last_line}
 use Rattle.sh_files.proofs.Lookups.{Numbered, is, is_same, not_first}
 use Rattle.sh_files.proofs.Restored.{Reading, restore}

@@ -2,16 +2,16 @@
 use Rattle.std.specs.Prelude.{ℕ, suc, zero, ◌+◌, List, [], ◌∷◌, ◌&&◌, ◌==◌, not, Bool, true, false, if◌then◌else◌, is_some, Option, Some, None, Result, Ok, Err, codes, length, nat_le, nat_lt, take, slice_get, unwrap_or}
 use Rattle.std.specs.Str.{bytes_eq}
 use Rattle.std.specs.FinMap.{get}
-use Rattle.sh_files_base.specs.Fields.{behind, file_fields, line_before, line_of, newlines}
-use Rattle.sh_files_base.specs.Paths.{is_image_path, parent}
+use Rattle.sh_files_image.specs.Fields.{behind, file_fields, line_before, line_of, newlines}
+use Rattle.sh_files_image.specs.Paths.{is_image_path, parent}
 use Rattle.sh_files.specs.Nodes.{FileMap, node_at, with_new, starting}
-use Rattle.sh_files_base.specs.declared.node.Flags.{Flags}
-use Rattle.sh_files_base.specs.declared.node.Node.{Node}
-use Rattle.sh_files_base.specs.declared.node.Node.TheVariants.{Directory, File, Null, Terminal}
-use Rattle.sh_files_base.specs.declared.image_fault.FaultKind.{FaultKind}
-use Rattle.sh_files_base.specs.declared.image_fault.FaultKind.TheVariants.{BadHeader, BadLine, BadPath, NoParent, Duplicate, Truncated, TooLarge, Trailing, NoMemory}
+use Rattle.sh_files_image.specs.declared.node.Flags.{Flags}
+use Rattle.sh_files_image.specs.declared.node.Node.{Node}
+use Rattle.sh_files_image.specs.declared.node.Node.TheVariants.{Directory, File, Null, Terminal}
+use Rattle.sh_files_image.specs.declared.image_fault.FaultKind.{FaultKind}
+use Rattle.sh_files_image.specs.declared.image_fault.FaultKind.TheVariants.{BadHeader, BadLine, BadPath, NoParent, Duplicate, Truncated, TooLarge, Trailing, NoMemory}
 use Rattle.sh_files.specs.declared.image.Stop.{Stop}
-use Rattle.sh_files_base.specs.declared.image_fault.ImageFault.{ImageFault}
+use Rattle.sh_files_image.specs.declared.image_fault.ImageFault.{ImageFault}
 
 -- ---- one line
 abbrev pub is_directory : Option Node → Bool

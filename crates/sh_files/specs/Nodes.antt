@@ -3,13 +3,13 @@ use Rattle.std.specs.Prelude.{ℕ, ◌+◌, ◌++◌, List, [], ◌∷◌, ◌&&
 use Rattle.std.specs.Option.{option_and_then}
 use Rattle.std.specs.List.{list_any, starts_with}
 use Rattle.std.specs.FinMap.{entries, get, insert}
-use Rattle.sh_files_base.specs.Listing.{front_of, names_in}
-use Rattle.sh_files_base.specs.Paths.{PathMap, absolute, components, fits, stepped}
-use Rattle.sh_files_base.specs.Starting.{starting_paths}
-use Rattle.sh_files_base.specs.Contents.{Regular, written}
-use Rattle.sh_files_base.specs.declared.node.Flags.{Flags}
-use Rattle.sh_files_base.specs.declared.node.Node.{Node}
-use Rattle.sh_files_base.specs.declared.node.Node.TheVariants.{Directory, File, Null, Terminal}
+use Rattle.sh_files_image.specs.Listing.{front_of, names_in}
+use Rattle.sh_files_image.specs.Paths.{PathMap, absolute, components, fits, stepped}
+use Rattle.sh_files_image.specs.Starting.{starting_paths}
+use Rattle.sh_files_image.specs.Contents.{Regular, written}
+use Rattle.sh_files_image.specs.declared.node.Flags.{Flags}
+use Rattle.sh_files_image.specs.declared.node.Node.{Node}
+use Rattle.sh_files_image.specs.declared.node.Node.TheVariants.{Directory, File, Null, Terminal}
 use Rattle.sh_files.specs.declared.fault.FileFault.{FileFault}
 use Rattle.sh_files.specs.declared.fault.FileFault.TheVariants.{NoEntry, NoAccess, IsDirectory, NotDirectory, Exists, BadNumber, TooLarge}
 use Rattle.sh_files.specs.declared.opening.Opening.{Opening}

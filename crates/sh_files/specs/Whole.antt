@@ -2,10 +2,10 @@
 use Rattle.std.specs.Prelude.{◌≡◌, ℕ, ◌<◌, ◌==◌, List, Bool, true, false, Some, length}
 use Rattle.std.specs.List.{list_any}
 use Rattle.std.specs.FinMap.{get}
-use Rattle.sh_files_base.specs.Paths.{is_image_path, parent}
-use Rattle.sh_files_base.specs.Texts.{is_left_out}
-use Rattle.sh_files_base.specs.declared.node.Node.{Node}
-use Rattle.sh_files_base.specs.declared.node.Node.TheVariants.{Directory, File, Null, Terminal}
+use Rattle.sh_files_image.specs.Paths.{is_image_path, parent}
+use Rattle.sh_files_image.specs.Texts.{is_left_out}
+use Rattle.sh_files_image.specs.declared.node.Node.{Node}
+use Rattle.sh_files_image.specs.declared.node.Node.TheVariants.{Directory, File, Null, Terminal}
 use Rattle.sh_files.specs.Nodes.{FileMap, node_at, starting}
 use Rattle.sh_files.specs.Image.{is_directory}
 

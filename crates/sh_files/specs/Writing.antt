@@ -1,7 +1,7 @@
 -- The image that is written of files: its lines in the order of their paths' bytes.
 use Rattle.std.specs.Prelude.{ℕ, ◌++◌, List, [], ◌∷◌, codes}
 use Rattle.std.specs.FinMap as map
-use Rattle.sh_files_base.specs.Writing.{paths_text}
+use Rattle.sh_files_image.specs.Writing.{paths_text}
 use Rattle.sh_files.specs.Nodes.{FileMap}
 
 abbrev pub last_line : List ℕ

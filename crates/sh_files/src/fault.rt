@@ -1,9 +1,9 @@
 // Refusals.
-ghost use Rattle.sh_memory.specs.Memory.{no_memory};
+ghost use Rattle.sh_base.specs.Memory.{no_memory};
 ghost use Rattle.sh_files.specs.declared.fault.FileFault.TheVariants.{NoMemory};
 ghost use Rattle.std.specs.Prelude.{◌≡◌};
 
-use sh_memory::NoMemory;
+use sh_base::NoMemory;
 use std::alloc::AllocError;
 use thiserror::Error;
 

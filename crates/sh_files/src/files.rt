@@ -1,19 +1,19 @@
 // The files by path and by number.
-ghost use Rattle.sh_memory.specs.Memory.{no_memory};
+ghost use Rattle.sh_base.specs.Memory.{no_memory};
 ghost use Rattle.std.specs.Prelude.{◌≡◌, ◌≢◌, ◌+◌, ◌≤◌, ◌^◌, IfOk, IfErr, OnOk, OnErr, IsOk, Ok, Err, option_map, slice_get, length, codes, true, false, ◌⊎◌, take, drop, if◌then◌else◌};
 ghost use Rattle.std.specs.Prelude.{List, ℕ, map as list_map};
 ghost use Rattle.std.specs.Borrow.{Bor};
 ghost use Rattle.std.specs.FinMap as map;
-ghost use Rattle.sh_files_base.specs.Blocks.{flat};
-ghost use Rattle.sh_files_base.specs.Listing.{front_of, names_in};
-ghost use Rattle.sh_files_base.specs.Paths.{fits, components};
+ghost use Rattle.sh_files_image.specs.Blocks.{flat};
+ghost use Rattle.sh_files_image.specs.Listing.{front_of, names_in};
+ghost use Rattle.sh_files_image.specs.Paths.{fits, components};
 ghost use Rattle.std.specs.Result.{result_map_both};
-ghost use Rattle.sh_files_base.specs.Contents.{written};
+ghost use Rattle.sh_files_image.specs.Contents.{written};
 ghost use Rattle.sh_files.specs.Nodes.{allows, node_opened, node_truncated, node_written, emptied, runs, write_fits, created, entrance, is_empty, is_executable, may_create, named, nameless, node_at, open_node, open_number, opened, read_at, resolved, starting, truncated, walked, with_new, write_at};
 
 use crate::fault::FileFault;
 use crate::opening::Opening;
-use sh_files_base::{
+use sh_files_image::{
     Block, Entry, File, Flags, MAX_LENGTH, MAX_PATH, Node, Table, absolute, names_fit, split_slash,
     step,
 };
@@ -34,9 +34,9 @@ pub struct Files {
 impl Model for Files {
     ghost use Rattle.std.specs.Coded.{codes};
     ghost use Rattle.std.specs.Result.{result_map_both};
-    ghost use Rattle.sh_files_base.specs.Contents.{written};
+    ghost use Rattle.sh_files_image.specs.Contents.{written};
     ghost use Rattle.sh_files.specs.Nodes.{allows, node_opened, node_truncated, node_written, emptied, runs, write_fits, FileMap};
-    ghost use Rattle.sh_files_base.specs.Codes.{map_code};
+    ghost use Rattle.sh_files_image.specs.Codes.{map_code};
 
     ghost Value = { FileMap };
 

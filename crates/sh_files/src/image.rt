@@ -1,12 +1,12 @@
 // Reading an image.
-ghost use Rattle.sh_memory.specs.Memory.{no_memory};
+ghost use Rattle.sh_base.specs.Memory.{no_memory};
 ghost use Rattle.std.specs.Prelude.{◌≡◌, ◌≢◌, ◌≤◌, IfOk, IfErr, OnOk, OnErr, Ok, Err, None, length, [], slice_get, Some};
 ghost use Rattle.std.specs.Option.{option_and_then};
-ghost use Rattle.sh_files_base.specs.Fields.{line_of};
+ghost use Rattle.sh_files_image.specs.Fields.{line_of};
 ghost use Rattle.sh_files.specs.Image.{by_header, image_of, read_image, stands, content_fault, entries, entry, file_entry, is_directory, path_fault, placed};
 
 use crate::files::Files;
-use sh_files_base::{
+use sh_files_image::{
     FaultKind, File, Flags, ImageFault, MAX_IMAGE, Node, behind, count_newlines, file_fields,
     first, is_image_path, parent, skip, split_line,
 };

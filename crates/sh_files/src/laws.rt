@@ -1,7 +1,7 @@
 // Laws of images and lists.
 ghost use Rattle.std.specs.Prelude.{◌≡◌, ◌≤◌, List, ℕ, Ok, length, true};
 ghost use Rattle.std.specs.FinMap as map;
-ghost use Rattle.sh_files_base.specs.Listing.{front_of, names_in, rise};
+ghost use Rattle.sh_files_image.specs.Listing.{front_of, names_in, rise};
 ghost use Rattle.sh_files.specs.Nodes.{FileMap, nameless, truncated, write_at};
 ghost use Rattle.sh_files.specs.Image.{read_image};
 ghost use Rattle.sh_files.specs.Whole.{AreSame, IsWhole};

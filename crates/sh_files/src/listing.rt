@@ -1,5 +1,5 @@
 // Listing a directory.
-ghost use Rattle.sh_memory.specs.Memory.{no_memory};
+ghost use Rattle.sh_base.specs.Memory.{no_memory};
 ghost use Rattle.std.specs.Prelude.{◌≡◌, ◌≢◌, IfOk, IfErr, List, ℕ, Ok, Err, map};
 ghost use Rattle.std.specs.Borrow.{Bor};
 ghost use Rattle.sh_files.specs.Nodes.{listed};

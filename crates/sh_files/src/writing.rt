@@ -3,7 +3,7 @@ ghost use Rattle.std.specs.Prelude.{◌≡◌, IfOk};
 ghost use Rattle.sh_files.specs.Writing.{image_text};
 
 use crate::files::Files;
-use sh_files_base::write_blocks;
+use sh_files_image::write_blocks;
 use std::alloc::AllocError;
 
 impl Files {

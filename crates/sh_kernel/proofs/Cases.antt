@@ -5,21 +5,21 @@ use Rattle.sh_files.specs.Nodes.{FileMap, write_at, write_fits, is_empty}
 use Rattle.sh_files.specs.declared.fault.FileFault.{FileFault}
 use Rattle.sh_files.specs.declared.fault.FileFault.TheVariants.{TooLarge}
 use Rattle.sh_pipe.specs.Pipe.{PipeState}
-use Rattle.sh_kernel_base.specs.Outcomes.{done, refused}
-use Rattle.sh_kernel_base.specs.Machine.{MachineState, ended}
-use Rattle.sh_kernel_base.specs.Descriptors.{found, has_reader, has_writer, is_called, is_named, reads_from, writes_to}
-use Rattle.sh_kernel_base.specs.Reading.{moved, read_described, read_file, read_found, read_node, read_pipe_of, read_slot, read_target, read_call}
-use Rattle.sh_kernel_base.specs.Writing.{broken, content_written, on_files, write_call, write_described, write_end, write_file, write_found, write_limited, write_node, write_pipe_of, write_slot, write_start, write_target}
-use Rattle.sh_kernel_base.specs.Writing as writing
-use Rattle.sh_kernel_base.specs.Reading as reading
-use Rattle.sh_kernel_base.specs.declared.descriptor.Descriptor.{Descriptor}
-use Rattle.sh_kernel_base.specs.declared.descriptor.Name.{Name}
-use Rattle.sh_kernel_base.specs.declared.descriptor.Name.TheVariants.{Number}
-use Rattle.sh_kernel_base.specs.declared.description.Description.{Description}
-use Rattle.sh_kernel_base.specs.declared.description.Target.{Target}
-use Rattle.sh_kernel_base.specs.declared.description.Target.TheVariants.{File, Terminal, Null, ReadEnd, WriteEnd}
-use Rattle.sh_kernel_base.specs.declared.process.Status.TheVariants.{Signaled}
-use Rattle.sh_kernel_base.specs.declared.fault.KernelFault.TheVariants.{BadDescriptor}
+use Rattle.sh_kernel_descriptors.specs.Outcomes.{done, refused}
+use Rattle.sh_kernel_descriptors.specs.Machine.{MachineState, ended}
+use Rattle.sh_kernel_descriptors.specs.Descriptors.{found, has_reader, has_writer, is_called, is_named, reads_from, writes_to}
+use Rattle.sh_kernel_descriptors.specs.Reading.{moved, read_described, read_file, read_found, read_node, read_pipe_of, read_slot, read_target, read_call}
+use Rattle.sh_kernel_descriptors.specs.Writing.{broken, content_written, on_files, write_call, write_described, write_end, write_file, write_found, write_limited, write_node, write_pipe_of, write_slot, write_start, write_target}
+use Rattle.sh_kernel_descriptors.specs.Writing as writing
+use Rattle.sh_kernel_descriptors.specs.Reading as reading
+use Rattle.sh_kernel_descriptors.specs.declared.descriptor.Descriptor.{Descriptor}
+use Rattle.sh_kernel_descriptors.specs.declared.descriptor.Name.{Name}
+use Rattle.sh_kernel_descriptors.specs.declared.descriptor.Name.TheVariants.{Number}
+use Rattle.sh_kernel_descriptors.specs.declared.description.Description.{Description}
+use Rattle.sh_kernel_descriptors.specs.declared.description.Target.{Target}
+use Rattle.sh_kernel_descriptors.specs.declared.description.Target.TheVariants.{File, Terminal, Null, ReadEnd, WriteEnd}
+use Rattle.sh_kernel_descriptors.specs.declared.process.Status.TheVariants.{Signaled}
+use Rattle.sh_kernel_descriptors.specs.declared.fault.KernelFault.TheVariants.{BadDescriptor}
 use Rattle.sh_kernel.specs.Reaching.{reaches, is_end, is_file, is_node}
 use Rattle.sh_kernel.proofs.Lists.{or_left, or_right}
 

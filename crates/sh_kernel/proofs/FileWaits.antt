@@ -3,12 +3,12 @@ use Rattle.std.proofs.Common.{◌≡◌, ℕ, ◌+◌, List, length, false, Resu
 use Rattle.sh_files.specs.Nodes.{FileMap, read_at}
 use Rattle.sh_files.specs.declared.fault.FileFault.{FileFault}
 use Rattle.sh_files.specs.declared.fault.FileFault.TheVariants.{NoEntry, NoAccess, IsDirectory, NotDirectory, Exists, BadNumber, TooLarge, NoMemory}
-use Rattle.sh_kernel_base.specs.Outcomes.{fault_of_file}
-use Rattle.sh_kernel_base.specs.Waiting.{is_wait, waits}
-use Rattle.sh_kernel_base.specs.Machine.{MachineState}
-use Rattle.sh_kernel_base.specs.Reading.{content_read, read_file}
-use Rattle.sh_kernel_base.specs.Writing.{content_written, on_files, write_file, write_limited, write_node}
-use Rattle.sh_kernel_base.specs.declared.description.Description.{Description}
+use Rattle.sh_kernel_descriptors.specs.Outcomes.{fault_of_file}
+use Rattle.sh_kernel_descriptors.specs.Waiting.{is_wait, waits}
+use Rattle.sh_kernel_descriptors.specs.Machine.{MachineState}
+use Rattle.sh_kernel_descriptors.specs.Reading.{content_read, read_file}
+use Rattle.sh_kernel_descriptors.specs.Writing.{content_written, on_files, write_file, write_limited, write_node}
+use Rattle.sh_kernel_descriptors.specs.declared.description.Description.{Description}
 
 fault_waits : (fault : FileFault) → is_wait (fault_of_file fault) ≡ false
 fault_waits NoEntry = refl

@@ -12,26 +12,26 @@ use Rattle.sh_files.specs.Nodes.{FileMap, opened, write_at}
 use Rattle.sh_files.specs.declared.fault.FileFault.{FileFault}
 use Rattle.sh_files.specs.declared.fault.FileFault.TheVariants.{NoEntry, NoAccess}
 use Rattle.sh_files.specs.declared.opening.Opening.{Opening}
-use Rattle.sh_files_base.specs.declared.node.Node.{Node}
-use Rattle.sh_files_base.specs.declared.node.Node.TheVariants as node
+use Rattle.sh_files_image.specs.declared.node.Node.{Node}
+use Rattle.sh_files_image.specs.declared.node.Node.TheVariants as node
 use Rattle.sh_pipe.specs.Pipe.{PipeState}
-use Rattle.sh_kernel_base.specs.Closings.{Pipes, goes, is_held, left, let_go, let_go_each, let_go_of, pipe_at, pipe_of, pipes_left, stays}
-use Rattle.sh_kernel_base.specs.Descriptors.{is_called, is_named, reads_from, writes_to}
-use Rattle.sh_kernel_base.specs.Machine.{MachineState, closed, ended, forked}
-use Rattle.sh_kernel_base.specs.Naming.{end_of, put_back, renamed, renamed_at, renumbered, with_number, with_pipe}
-use Rattle.sh_kernel_base.specs.Opening.{description_of, for_reading, target_of, with_node}
-use Rattle.sh_kernel_base.specs.Processes.{copies, is_copied, next_pid, of_process, process_at, with_status, with_status_of}
-use Rattle.sh_kernel_base.specs.Reading.{moved, moved_of}
-use Rattle.sh_kernel_base.specs.declared.descriptor.Closing.{Closing}
-use Rattle.sh_kernel_base.specs.declared.descriptor.Closing.TheVariants.{Named, Asides, All}
-use Rattle.sh_kernel_base.specs.declared.descriptor.Descriptor.{Descriptor}
-use Rattle.sh_kernel_base.specs.declared.descriptor.Name.{Name}
-use Rattle.sh_kernel_base.specs.declared.descriptor.Name.TheVariants.{Number, Aside}
-use Rattle.sh_kernel_base.specs.declared.description.Description.{Description}
-use Rattle.sh_kernel_base.specs.declared.description.Target.{Target}
-use Rattle.sh_kernel_base.specs.declared.description.Target.TheVariants.{File, Terminal, Null, ReadEnd, WriteEnd}
-use Rattle.sh_kernel_base.specs.declared.process.Process.{Process}
-use Rattle.sh_kernel_base.specs.declared.process.Status.{Status}
+use Rattle.sh_kernel_descriptors.specs.Closings.{Pipes, goes, is_held, left, let_go, let_go_each, let_go_of, pipe_at, pipe_of, pipes_left, stays}
+use Rattle.sh_kernel_descriptors.specs.Descriptors.{is_called, is_named, reads_from, writes_to}
+use Rattle.sh_kernel_descriptors.specs.Machine.{MachineState, closed, ended, forked}
+use Rattle.sh_kernel_descriptors.specs.Naming.{end_of, put_back, renamed, renamed_at, renumbered, with_number, with_pipe}
+use Rattle.sh_kernel_descriptors.specs.Opening.{description_of, for_reading, target_of, with_node}
+use Rattle.sh_kernel_descriptors.specs.Processes.{copies, is_copied, next_pid, of_process, process_at, with_status, with_status_of}
+use Rattle.sh_kernel_descriptors.specs.Reading.{moved, moved_of}
+use Rattle.sh_kernel_descriptors.specs.declared.descriptor.Closing.{Closing}
+use Rattle.sh_kernel_descriptors.specs.declared.descriptor.Closing.TheVariants.{Named, Asides, All}
+use Rattle.sh_kernel_descriptors.specs.declared.descriptor.Descriptor.{Descriptor}
+use Rattle.sh_kernel_descriptors.specs.declared.descriptor.Name.{Name}
+use Rattle.sh_kernel_descriptors.specs.declared.descriptor.Name.TheVariants.{Number, Aside}
+use Rattle.sh_kernel_descriptors.specs.declared.description.Description.{Description}
+use Rattle.sh_kernel_descriptors.specs.declared.description.Target.{Target}
+use Rattle.sh_kernel_descriptors.specs.declared.description.Target.TheVariants.{File, Terminal, Null, ReadEnd, WriteEnd}
+use Rattle.sh_kernel_descriptors.specs.declared.process.Process.{Process}
+use Rattle.sh_kernel_descriptors.specs.declared.process.Status.{Status}
 use Rattle.sh_kernel.specs.Laws.{ChangesOnlyReached, RequestsChangeOnlyReached, is_opened, opens}
 use Rattle.sh_kernel.specs.Reaching.{is_end, is_file, reaches}
 use Rattle.sh_kernel.specs.Requests.{Request, Open}

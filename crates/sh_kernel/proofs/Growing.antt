@@ -10,25 +10,25 @@ use Rattle.std.specs.declared.cmp.Ordering.{Ordering}
 use Rattle.std.specs.declared.cmp.Ordering.TheVariants.{Less, Equal, Greater}
 use Rattle.std.proofs.lemmas.Cmp.{nat_list_cmp_total}
 use Rattle.std.proofs.lemmas.Map.Lookups.{exact_bytes}
-use Rattle.sh_files_base.specs.Paths.{PathMap}
+use Rattle.sh_files_image.specs.Paths.{PathMap}
 use Rattle.sh_files.specs.declared.opening.Opening.{Opening}
 use Rattle.sh_files.specs.Nodes as nodes
-use Rattle.sh_files_base.specs.declared.node.Node.{Node}
+use Rattle.sh_files_image.specs.declared.node.Node.{Node}
 use Rattle.sh_pipe.specs.Pipe.{PipeState}
-use Rattle.sh_kernel_base.specs.Machine.{MachineState, closed, ended, forked}
-use Rattle.sh_kernel_base.specs.Processes.{process_at, with_status, with_status_of}
-use Rattle.sh_kernel_base.specs.Naming.{put_back, renamed, with_number, with_pipe}
-use Rattle.sh_kernel_base.specs.Opening.{for_reading, with_node}
-use Rattle.sh_kernel_base.specs.declared.process.Process.{Process}
-use Rattle.sh_kernel_base.specs.declared.process.Status.{Status}
-use Rattle.sh_kernel_base.specs.declared.descriptor.Name.{Name}
-use Rattle.sh_kernel_base.specs.declared.descriptor.Name.TheVariants.{Number}
-use Rattle.sh_kernel_base.specs.declared.descriptor.Closing.TheVariants.{Named, All}
-use Rattle.sh_kernel_base.specs.Closings.{Pipes, let_go, let_go_of, let_go_each, pipe_at, goes, is_held, pipes_left}
-use Rattle.sh_kernel_base.specs.Reading.{moved, moved_of}
-use Rattle.sh_kernel_base.specs.declared.descriptor.Descriptor.{Descriptor}
-use Rattle.sh_kernel_base.specs.declared.descriptor.Closing.{Closing}
-use Rattle.sh_kernel_base.specs.declared.description.Description.{Description}
+use Rattle.sh_kernel_descriptors.specs.Machine.{MachineState, closed, ended, forked}
+use Rattle.sh_kernel_descriptors.specs.Processes.{process_at, with_status, with_status_of}
+use Rattle.sh_kernel_descriptors.specs.Naming.{put_back, renamed, with_number, with_pipe}
+use Rattle.sh_kernel_descriptors.specs.Opening.{for_reading, with_node}
+use Rattle.sh_kernel_descriptors.specs.declared.process.Process.{Process}
+use Rattle.sh_kernel_descriptors.specs.declared.process.Status.{Status}
+use Rattle.sh_kernel_descriptors.specs.declared.descriptor.Name.{Name}
+use Rattle.sh_kernel_descriptors.specs.declared.descriptor.Name.TheVariants.{Number}
+use Rattle.sh_kernel_descriptors.specs.declared.descriptor.Closing.TheVariants.{Named, All}
+use Rattle.sh_kernel_descriptors.specs.Closings.{Pipes, let_go, let_go_of, let_go_each, pipe_at, goes, is_held, pipes_left}
+use Rattle.sh_kernel_descriptors.specs.Reading.{moved, moved_of}
+use Rattle.sh_kernel_descriptors.specs.declared.descriptor.Descriptor.{Descriptor}
+use Rattle.sh_kernel_descriptors.specs.declared.descriptor.Closing.{Closing}
+use Rattle.sh_kernel_descriptors.specs.declared.description.Description.{Description}
 use Rattle.sh_kernel.specs.Laws.{OnlyGrows, RequestsOnlyGrow, target_at}
 use Rattle.sh_kernel.proofs.Requesting.{by_cases}
 use Rattle.sh_kernel.proofs.Nameless.{nameless_length, nameless_paths}

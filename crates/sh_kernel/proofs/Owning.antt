@@ -1,16 +1,16 @@
 -- What one process alone has stays its own.
 use Rattle.std.proofs.Common.{◌≡◌, ◌≢◌, ℕ, zero, suc, ◌+◌, List, [], ◌∷◌, ◌++◌, length, map, filter, Bool, true, false, cond, ◌&&◌, ◌||◌, ◌==◌, Option, Some, None, position, slice_get, slice_set, refl, sym, ap, ◌∙◌, arith}
 use Rattle.std.proofs.lemmas.Bool.{eqb-true}
-use Rattle.sh_kernel_base.specs.Closings.{left}
-use Rattle.sh_kernel_base.specs.Descriptors.{is_named}
-use Rattle.sh_kernel_base.specs.Machine.{MachineState}
-use Rattle.sh_kernel_base.specs.Naming.{renamed, renamed_at, renumbered, with_number, with_pipe}
-use Rattle.sh_kernel_base.specs.Opening.{for_reading, with_node}
-use Rattle.sh_kernel_base.specs.Processes.{copies, is_copied, next_pid, of_process}
-use Rattle.sh_kernel_base.specs.declared.descriptor.Closing.TheVariants.{Named}
-use Rattle.sh_kernel_base.specs.declared.descriptor.Descriptor.{Descriptor}
-use Rattle.sh_kernel_base.specs.declared.descriptor.Name.{Name}
-use Rattle.sh_kernel_base.specs.declared.descriptor.Name.TheVariants.{Number, Aside}
+use Rattle.sh_kernel_descriptors.specs.Closings.{left}
+use Rattle.sh_kernel_descriptors.specs.Descriptors.{is_named}
+use Rattle.sh_kernel_descriptors.specs.Machine.{MachineState}
+use Rattle.sh_kernel_descriptors.specs.Naming.{renamed, renamed_at, renumbered, with_number, with_pipe}
+use Rattle.sh_kernel_descriptors.specs.Opening.{for_reading, with_node}
+use Rattle.sh_kernel_descriptors.specs.Processes.{copies, is_copied, next_pid, of_process}
+use Rattle.sh_kernel_descriptors.specs.declared.descriptor.Closing.TheVariants.{Named}
+use Rattle.sh_kernel_descriptors.specs.declared.descriptor.Descriptor.{Descriptor}
+use Rattle.sh_kernel_descriptors.specs.declared.descriptor.Name.{Name}
+use Rattle.sh_kernel_descriptors.specs.declared.descriptor.Name.TheVariants.{Number, Aside}
 use Rattle.sh_kernel.specs.Laws.{IsOwned, OwnedStaysOwned}
 use Rattle.sh_kernel.specs.Reaching.{reaches}
 use Rattle.sh_kernel.proofs.Frames.{true≢false}

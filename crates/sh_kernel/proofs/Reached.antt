@@ -6,22 +6,22 @@ use borrow.Author.Tests.{ltb-true, ltb-false}
 use Rattle.sh_files.specs.Nodes.{FileMap}
 use Rattle.sh_files.specs.declared.fault.FileFault.{FileFault}
 use Rattle.sh_files.specs.declared.opening.Opening.{Opening}
-use Rattle.sh_files_base.specs.declared.node.Node.{Node}
-use Rattle.sh_files_base.specs.declared.node.Node.TheVariants as node
-use Rattle.sh_kernel_base.specs.Closings.{left}
-use Rattle.sh_kernel_base.specs.Descriptors.{is_named, reads_from, writes_to}
-use Rattle.sh_kernel_base.specs.Machine.{MachineState}
-use Rattle.sh_kernel_base.specs.Naming.{end_of, renamed, renamed_at, renumbered, with_number, with_pipe}
-use Rattle.sh_kernel_base.specs.Opening.{description_of, for_reading, target_of}
-use Rattle.sh_kernel_base.specs.Processes.{copies, is_copied, next_pid, of_process}
-use Rattle.sh_kernel_base.specs.Reading.{moved}
-use Rattle.sh_kernel_base.specs.declared.descriptor.Closing.TheVariants.{Named, All}
-use Rattle.sh_kernel_base.specs.declared.descriptor.Descriptor.{Descriptor}
-use Rattle.sh_kernel_base.specs.declared.descriptor.Name.{Name}
-use Rattle.sh_kernel_base.specs.declared.descriptor.Name.TheVariants.{Number, Aside}
-use Rattle.sh_kernel_base.specs.declared.description.Description.{Description}
-use Rattle.sh_kernel_base.specs.declared.description.Target.{Target}
-use Rattle.sh_kernel_base.specs.declared.description.Target.TheVariants.{ReadEnd, WriteEnd}
+use Rattle.sh_files_image.specs.declared.node.Node.{Node}
+use Rattle.sh_files_image.specs.declared.node.Node.TheVariants as node
+use Rattle.sh_kernel_descriptors.specs.Closings.{left}
+use Rattle.sh_kernel_descriptors.specs.Descriptors.{is_named, reads_from, writes_to}
+use Rattle.sh_kernel_descriptors.specs.Machine.{MachineState}
+use Rattle.sh_kernel_descriptors.specs.Naming.{end_of, renamed, renamed_at, renumbered, with_number, with_pipe}
+use Rattle.sh_kernel_descriptors.specs.Opening.{description_of, for_reading, target_of}
+use Rattle.sh_kernel_descriptors.specs.Processes.{copies, is_copied, next_pid, of_process}
+use Rattle.sh_kernel_descriptors.specs.Reading.{moved}
+use Rattle.sh_kernel_descriptors.specs.declared.descriptor.Closing.TheVariants.{Named, All}
+use Rattle.sh_kernel_descriptors.specs.declared.descriptor.Descriptor.{Descriptor}
+use Rattle.sh_kernel_descriptors.specs.declared.descriptor.Name.{Name}
+use Rattle.sh_kernel_descriptors.specs.declared.descriptor.Name.TheVariants.{Number, Aside}
+use Rattle.sh_kernel_descriptors.specs.declared.description.Description.{Description}
+use Rattle.sh_kernel_descriptors.specs.declared.description.Target.{Target}
+use Rattle.sh_kernel_descriptors.specs.declared.description.Target.TheVariants.{ReadEnd, WriteEnd}
 use Rattle.sh_kernel.specs.State.{KernelState}
 use Rattle.sh_kernel.specs.Laws.{ChangesOnlyReached, ListsChangeOnlyReached, ListsLeaveOwned, ListsOnlyGrow, ListsReachNoMore, OnlyGrows, ReachesNoMore, RequestsReachNoMore, is_opened, opens, opens_any, target_at}
 use Rattle.sh_kernel.specs.Reaching.{is_end, is_file, is_node, reaches}

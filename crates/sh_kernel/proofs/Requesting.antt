@@ -4,28 +4,28 @@ use Rattle.sh_files.specs.Nodes.{FileMap, nameless, opened, write_at}
 use Rattle.sh_files.specs.declared.fault.FileFault.{FileFault}
 use Rattle.sh_files.specs.declared.opening.Opening.{Opening}
 use Rattle.sh_pipe.specs.Pipe.{PipeState}
-use Rattle.sh_kernel_base.specs.Outcomes.{done, refused}
-use Rattle.sh_kernel_base.specs.Machine.{MachineState, closed, ended, forked}
-use Rattle.sh_kernel_base.specs.Descriptors.{found}
-use Rattle.sh_kernel_base.specs.Processes.{lives, may_fork, next_pid}
-use Rattle.sh_kernel_base.specs.Reading.{moved}
-use Rattle.sh_kernel_base.specs.Naming.{aside_found, back_found, close_found, dup_found, is_allowed, is_description, put_back, renamed, with_number, with_pipe}
-use Rattle.sh_kernel_base.specs.Opening.{for_reading, open_result, with_node}
-use Rattle.sh_kernel_base.specs.Terminals.{reads_terminal, writes_terminal}
-use Rattle.sh_kernel_base.specs.declared.descriptor.Closing.{Closing}
-use Rattle.sh_kernel_base.specs.declared.descriptor.Closing.TheVariants.{Named, Asides}
-use Rattle.sh_kernel_base.specs.declared.descriptor.Name.{Name}
-use Rattle.sh_kernel_base.specs.declared.descriptor.Name.TheVariants.{Number, Aside}
-use Rattle.sh_kernel_base.specs.declared.process.Status.{Status}
-use Rattle.sh_kernel_base.specs.declared.process.Status.TheVariants.{Exited, Signaled}
-use Rattle.sh_kernel_base.specs.declared.fault.KernelFault.TheVariants.{NoProcess, TooManyProcesses, TooManyDescriptors}
+use Rattle.sh_kernel_descriptors.specs.Outcomes.{done, refused}
+use Rattle.sh_kernel_descriptors.specs.Machine.{MachineState, closed, ended, forked}
+use Rattle.sh_kernel_descriptors.specs.Descriptors.{found}
+use Rattle.sh_kernel_descriptors.specs.Processes.{lives, may_fork, next_pid}
+use Rattle.sh_kernel_descriptors.specs.Reading.{moved}
+use Rattle.sh_kernel_descriptors.specs.Naming.{aside_found, back_found, close_found, dup_found, is_allowed, is_description, put_back, renamed, with_number, with_pipe}
+use Rattle.sh_kernel_descriptors.specs.Opening.{for_reading, open_result, with_node}
+use Rattle.sh_kernel_descriptors.specs.Terminals.{reads_terminal, writes_terminal}
+use Rattle.sh_kernel_descriptors.specs.declared.descriptor.Closing.{Closing}
+use Rattle.sh_kernel_descriptors.specs.declared.descriptor.Closing.TheVariants.{Named, Asides}
+use Rattle.sh_kernel_descriptors.specs.declared.descriptor.Name.{Name}
+use Rattle.sh_kernel_descriptors.specs.declared.descriptor.Name.TheVariants.{Number, Aside}
+use Rattle.sh_kernel_descriptors.specs.declared.process.Status.{Status}
+use Rattle.sh_kernel_descriptors.specs.declared.process.Status.TheVariants.{Exited, Signaled}
+use Rattle.sh_kernel_descriptors.specs.declared.fault.KernelFault.TheVariants.{NoProcess, TooManyProcesses, TooManyDescriptors}
 use Rattle.sh_tty.specs.Happenings.{entries_of}
 use Rattle.sh_tty.specs.Keys.{read_of}
 use Rattle.sh_kernel.specs.State.{KernelState}
 use Rattle.sh_kernel.specs.Calls.{on_machine, read_terminal, write_terminal}
 use Rattle.sh_kernel.specs.Requests.{Request, Read, Write, Close, Duplicate, MakePipe, Open, Here, SetAside, PutBack, Fork, StartProgram, End, after_request}
-use Rattle.sh_kernel_base.specs.Reading as reading
-use Rattle.sh_kernel_base.specs.Writing as writing
+use Rattle.sh_kernel_descriptors.specs.Reading as reading
+use Rattle.sh_kernel_descriptors.specs.Writing as writing
 use Rattle.sh_kernel.specs.Reaching.{is_end, is_file}
 use Rattle.sh_kernel.proofs.Cases.{IsHeld, ReadChanges, WriteChanges, found_held, read_by_cases, write_by_cases}
 

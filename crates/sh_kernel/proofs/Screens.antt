@@ -1,14 +1,14 @@
 -- The terminal has part in a request only where the process reaches it.
 use Rattle.std.proofs.Common.{List, sym, ◌≡◌, ℕ, Bool, false, cond, ◌&&◌, Option, Some, None, slice_get, refl, ap, option_and_then, [], ◌++◌, append-nil, true}
 use Rattle.std.specs.Option.{option_map_or}
-use Rattle.sh_kernel_base.specs.Descriptors.{found}
-use Rattle.sh_kernel_base.specs.Machine.{MachineState}
-use Rattle.sh_kernel_base.specs.Terminals.{is_of_terminal, reads_terminal, writes_terminal}
-use Rattle.sh_kernel_base.specs.declared.descriptor.Name.{Name}
-use Rattle.sh_kernel_base.specs.declared.descriptor.Name.TheVariants.{Number}
-use Rattle.sh_kernel_base.specs.declared.description.Description.{Description}
-use Rattle.sh_kernel_base.specs.Reading as reading
-use Rattle.sh_kernel_base.specs.Writing as writing
+use Rattle.sh_kernel_descriptors.specs.Descriptors.{found}
+use Rattle.sh_kernel_descriptors.specs.Machine.{MachineState}
+use Rattle.sh_kernel_descriptors.specs.Terminals.{is_of_terminal, reads_terminal, writes_terminal}
+use Rattle.sh_kernel_descriptors.specs.declared.descriptor.Name.{Name}
+use Rattle.sh_kernel_descriptors.specs.declared.descriptor.Name.TheVariants.{Number}
+use Rattle.sh_kernel_descriptors.specs.declared.description.Description.{Description}
+use Rattle.sh_kernel_descriptors.specs.Reading as reading
+use Rattle.sh_kernel_descriptors.specs.Writing as writing
 use Rattle.sh_tty.specs.Happenings.{bytes_of, entries_of}
 use Rattle.sh_tty.specs.Keys.{read_of}
 use Rattle.sh_kernel.specs.Calls.{on_machine, read_terminal, write_terminal}

@@ -8,15 +8,15 @@ use Rattle.sh_files.specs.Nodes.{FileMap, nameless, opened, write_fits}
 use Rattle.sh_files.specs.declared.fault.FileFault.{FileFault}
 use Rattle.sh_files.specs.declared.fault.FileFault.TheVariants.{Exists, NoAccess, NoEntry, TooLarge}
 use Rattle.sh_files.specs.declared.opening.Opening.{Opening}
-use Rattle.sh_files_base.specs.Contents.{Regular, written}
-use Rattle.sh_files_base.specs.declared.node.Node.{Node}
-use Rattle.sh_files_base.specs.declared.node.Node.TheVariants.{Directory, File, Null, Terminal}
-use Rattle.sh_kernel_base.specs.Machine.{MachineState}
-use Rattle.sh_kernel_base.specs.Naming.{end_of}
-use Rattle.sh_kernel_base.specs.Opening.{description_of, for_reading, target_of}
-use Rattle.sh_kernel_base.specs.Reading.{moved}
-use Rattle.sh_kernel_base.specs.Terminals.{is_of_terminal, is_terminal_target}
-use Rattle.sh_kernel_base.specs.declared.description.Target.TheVariants.{ReadEnd, WriteEnd}
+use Rattle.sh_files_image.specs.Contents.{Regular, written}
+use Rattle.sh_files_image.specs.declared.node.Node.{Node}
+use Rattle.sh_files_image.specs.declared.node.Node.TheVariants.{Directory, File, Null, Terminal}
+use Rattle.sh_kernel_descriptors.specs.Machine.{MachineState}
+use Rattle.sh_kernel_descriptors.specs.Naming.{end_of}
+use Rattle.sh_kernel_descriptors.specs.Opening.{description_of, for_reading, target_of}
+use Rattle.sh_kernel_descriptors.specs.Reading.{moved}
+use Rattle.sh_kernel_descriptors.specs.Terminals.{is_of_terminal, is_terminal_target}
+use Rattle.sh_kernel_descriptors.specs.declared.description.Target.TheVariants.{ReadEnd, WriteEnd}
 use Rattle.sh_tty.specs.Happenings.{bytes_of}
 use Rattle.sh_kernel.specs.Laws.{ListsLeaveTheTerminal, ListsOnlyGrowTheTerminal, is_opened, opens, opens_any}
 use Rattle.sh_kernel.specs.Reaching.{is_screen, reaches}

@@ -1,17 +1,17 @@
 -- Each call of a kernel as one change of its state.
 use Rattle.std.specs.Prelude.{ℕ, List, ◌∷◌, length, Bool, Option, Some, None, if◌then◌else◌}
 use Rattle.sh_files.specs.declared.opening.Opening.{Opening}
-use Rattle.sh_kernel_base.specs.Outcomes.{Done, done, refused}
-use Rattle.sh_kernel_base.specs.Machine as machine
-use Rattle.sh_kernel_base.specs.Machine.{MachineState}
-use Rattle.sh_kernel_base.specs.Naming as naming
-use Rattle.sh_kernel_base.specs.Opening as opening
-use Rattle.sh_kernel_base.specs.Reading as reading
-use Rattle.sh_kernel_base.specs.Writing as writing
-use Rattle.sh_kernel_base.specs.Terminals.{reads_terminal, writes_terminal}
-use Rattle.sh_kernel_base.specs.declared.descriptor.Name.{Name}
-use Rattle.sh_kernel_base.specs.declared.descriptor.Name.TheVariants.{Number}
-use Rattle.sh_kernel_base.specs.declared.fault.KernelFault.TheVariants.{WouldWait}
+use Rattle.sh_kernel_descriptors.specs.Outcomes.{Done, done, refused}
+use Rattle.sh_kernel_descriptors.specs.Machine as machine
+use Rattle.sh_kernel_descriptors.specs.Machine.{MachineState}
+use Rattle.sh_kernel_descriptors.specs.Naming as naming
+use Rattle.sh_kernel_descriptors.specs.Opening as opening
+use Rattle.sh_kernel_descriptors.specs.Reading as reading
+use Rattle.sh_kernel_descriptors.specs.Writing as writing
+use Rattle.sh_kernel_descriptors.specs.Terminals.{reads_terminal, writes_terminal}
+use Rattle.sh_kernel_descriptors.specs.declared.descriptor.Name.{Name}
+use Rattle.sh_kernel_descriptors.specs.declared.descriptor.Name.TheVariants.{Number}
+use Rattle.sh_kernel_descriptors.specs.declared.fault.KernelFault.TheVariants.{WouldWait}
 use Rattle.sh_tty.specs.Happenings.{Took, Wrote, entries_of}
 use Rattle.sh_tty.specs.Keys.{read_of}
 use Rattle.sh_kernel.specs.State.{KernelState}

@@ -6,12 +6,12 @@ use Rattle.sh_tty.specs.Happenings.{bytes_of}
 use Rattle.std.specs.Option.{option_map}
 use Rattle.sh_files.specs.Nodes.{FileMap, nameless, opened}
 use Rattle.sh_files.specs.declared.fault.FileFault.{FileFault}
-use Rattle.sh_files_base.specs.declared.node.Node.TheVariants.{Terminal}
-use Rattle.sh_kernel_base.specs.Machine.{MachineState}
-use Rattle.sh_kernel_base.specs.Processes.{next_pid, process_at}
-use Rattle.sh_kernel_base.specs.declared.descriptor.Descriptor.{Descriptor}
-use Rattle.sh_kernel_base.specs.declared.description.Description.{Description}
-use Rattle.sh_kernel_base.specs.declared.description.Target.{Target}
+use Rattle.sh_files_image.specs.declared.node.Node.TheVariants.{Terminal}
+use Rattle.sh_kernel_descriptors.specs.Machine.{MachineState}
+use Rattle.sh_kernel_descriptors.specs.Processes.{next_pid, process_at}
+use Rattle.sh_kernel_descriptors.specs.declared.descriptor.Descriptor.{Descriptor}
+use Rattle.sh_kernel_descriptors.specs.declared.description.Description.{Description}
+use Rattle.sh_kernel_descriptors.specs.declared.description.Target.{Target}
 use Rattle.sh_kernel.specs.State.{KernelState}
 use Rattle.sh_kernel.specs.Requests.{Request, Read, Write, Close, Duplicate, MakePipe, Open, Here, SetAside, PutBack, Fork, StartProgram, End, after_request, after_requests}
 use Rattle.sh_kernel.specs.Reaching.{reaches, is_end, is_file, is_screen}

@@ -1,9 +1,9 @@
 -- What a contract says of a call of a kernel.
-use Rattle.sh_memory.specs.Memory.{no_memory}
+use Rattle.sh_base.specs.Memory.{no_memory}
 use Rattle.std.specs.Prelude.{◌≡◌, ◌≢◌, ℕ, List, take, drop, Result, Ok, Err}
-use Rattle.sh_kernel_base.specs.Outcomes.{Done}
-use Rattle.sh_kernel_base.specs.declared.fault.KernelFault.{KernelFault}
-use Rattle.sh_kernel_base.specs.declared.fault.KernelFault.TheVariants.{NoMemory}
+use Rattle.sh_kernel_descriptors.specs.Outcomes.{Done}
+use Rattle.sh_kernel_descriptors.specs.declared.fault.KernelFault.{KernelFault}
+use Rattle.sh_kernel_descriptors.specs.declared.fault.KernelFault.TheVariants.{NoMemory}
 use Rattle.sh_kernel.specs.State.{KernelKept, KernelState, StandsAt}
 
 -- the answer is that of the call, and what is kept then is that of the state after it

@@ -2,12 +2,12 @@
 use Rattle.std.specs.Prelude.{ℕ, ◌==◌, ◌&&◌, ◌||◌, List, Bool, false, slice_get}
 use Rattle.std.specs.List.{list_any}
 use Rattle.std.specs.Option.{option_map_or}
-use Rattle.sh_kernel_base.specs.Descriptors.{reads_from, writes_to}
-use Rattle.sh_kernel_base.specs.Terminals.{is_of_terminal}
-use Rattle.sh_kernel_base.specs.declared.descriptor.Descriptor.{Descriptor}
-use Rattle.sh_kernel_base.specs.declared.description.Description.{Description}
-use Rattle.sh_kernel_base.specs.declared.description.Target.{Target}
-use Rattle.sh_kernel_base.specs.declared.description.Target.TheVariants.{File, Terminal, Null, ReadEnd, WriteEnd}
+use Rattle.sh_kernel_descriptors.specs.Descriptors.{reads_from, writes_to}
+use Rattle.sh_kernel_descriptors.specs.Terminals.{is_of_terminal}
+use Rattle.sh_kernel_descriptors.specs.declared.descriptor.Descriptor.{Descriptor}
+use Rattle.sh_kernel_descriptors.specs.declared.description.Description.{Description}
+use Rattle.sh_kernel_descriptors.specs.declared.description.Target.{Target}
+use Rattle.sh_kernel_descriptors.specs.declared.description.Target.TheVariants.{File, Terminal, Null, ReadEnd, WriteEnd}
 
 -- a descriptor of the process refers to a description whose number passes
 abbrev pub reaches : List Descriptor → ℕ → (ℕ → Bool) → Bool

@@ -1,7 +1,7 @@
 -- What a process may ask of the kernel. Nothing else changes a kernel's state.
 use Rattle.std.specs.Prelude.{ℕ, List, [], ◌∷◌, Bool}
 use Rattle.sh_files.specs.declared.opening.Opening.{Opening}
-use Rattle.sh_kernel_base.specs.declared.descriptor.Name.{Name}
+use Rattle.sh_kernel_descriptors.specs.declared.descriptor.Name.{Name}
 use Rattle.sh_kernel.specs.State.{KernelState}
 use Rattle.sh_kernel.specs.Calls.{close_call, dup_call, end_call, fork_call, here_call, open_call, pipe_call, put_back_call, read_call, set_aside_call, start_call, write_call}
 

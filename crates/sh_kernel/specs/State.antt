@@ -1,10 +1,10 @@
 -- A kernel: its processes with what they have open, its files, and its terminal.
 use Rattle.std.specs.Prelude.{◌≡◌, ℕ, List, []}
 use Rattle.sh_files.specs.Nodes.{FileMap}
-use Rattle.sh_kernel_base.specs.Machine.{MachineState}
-use Rattle.sh_kernel_base.specs.Starting as machine
+use Rattle.sh_kernel_descriptors.specs.Machine.{MachineState}
+use Rattle.sh_kernel_descriptors.specs.Starting as machine
 use Rattle.sh_tty.specs.Happenings.{Happening}
-use Rattle.sh_tty.specs.Kept as tty
+use Rattle.sh_tty.specs.Terminal as tty
 
 -- the terminal is the list of all that happened to it, the newest first; its foreground process group has a number
 pub record KernelState : Type 0 where

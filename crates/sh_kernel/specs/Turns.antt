@@ -1,10 +1,10 @@
 -- Which processes can take a turn: those that are neither stopped nor ended and whose next action can be done.
 use Rattle.std.specs.Prelude.{ℕ, List, ◌&&◌, Bool, false, not, replicate, Option}
 use Rattle.std.specs.Option.{option_map_or}
-use Rattle.sh_kernel_base.specs.Machine.{wait_answer}
-use Rattle.sh_kernel_base.specs.Processes.{status_at}
-use Rattle.sh_kernel_base.specs.Waiting.{is_running, waits}
-use Rattle.sh_kernel_base.specs.declared.descriptor.Name.{Name}
+use Rattle.sh_kernel_descriptors.specs.Machine.{wait_answer}
+use Rattle.sh_kernel_descriptors.specs.Processes.{status_at}
+use Rattle.sh_kernel_descriptors.specs.Waiting.{is_running, waits}
+use Rattle.sh_kernel_descriptors.specs.declared.descriptor.Name.{Name}
 use Rattle.sh_kernel.specs.State.{KernelState}
 use Rattle.sh_kernel.specs.Calls.{read_call, write_call}
 use Rattle.sh_kernel.specs.declared.next.Next.{Next}

@@ -1,14 +1,14 @@
 //! The kernel.
-ghost use Rattle.sh_memory.specs.Memory.{no_memory};
+ghost use Rattle.sh_base.specs.Memory.{no_memory};
 ghost use Rattle.std.specs.Prelude.{◌≡◌, ◌∷◌, ℕ, List, IfErr, IfOk, OnErr, OnOk, length};
 ghost use Rattle.sh_tty.specs.Happenings.{Happening};
-ghost use Rattle.sh_tty.specs.Kept as tty;
-ghost use Rattle.sh_tty.specs.Kept.{Extends};
+ghost use Rattle.sh_tty.specs.Terminal as tty;
+ghost use Rattle.sh_tty.specs.Terminal.{Extends};
 
 use crate::machine::Machine;
 use crate::next::Next;
 use sh_files::{Files, Opening};
-use sh_kernel_base::{FIRST_PID, KernelFault, Name, Status};
+use sh_kernel_descriptors::{FIRST_PID, KernelFault, Name, Status};
 use sh_tty::{Tty, TtyFault};
 use std::alloc::{AllocError, Global};
 use std::marker::Model;
@@ -29,7 +29,7 @@ pub struct Kernel {
 
 impl Model for Kernel {
     ghost use Rattle.sh_kernel.specs.State.{KernelKept};
-    ghost use Rattle.sh_files_base.specs.Codes.{map_code};
+    ghost use Rattle.sh_files_image.specs.Codes.{map_code};
     ghost use Rattle.std.specs.Coded.{codes};
 
     ghost Value = { KernelKept };
@@ -57,14 +57,14 @@ fn show(terminal: &mut Tty, bytes: &[u8]) -> Result<usize, KernelFault>
 }
 
 impl Kernel {
-    ghost use Rattle.sh_kernel_base.specs.Machine.{wait_answer};
-    ghost use Rattle.sh_kernel_base.specs.Processes.{parent_at, status_at};
-    ghost use Rattle.sh_kernel_base.specs.Terminals.{is_terminal};
-    ghost use Rattle.sh_kernel_base.specs.Waiting.{waits};
+    ghost use Rattle.sh_kernel_descriptors.specs.Machine.{wait_answer};
+    ghost use Rattle.sh_kernel_descriptors.specs.Processes.{parent_at, status_at};
+    ghost use Rattle.sh_kernel_descriptors.specs.Terminals.{is_terminal};
+    ghost use Rattle.sh_kernel_descriptors.specs.Waiting.{waits};
     ghost use Rattle.sh_kernel.specs.Turns.{action_of, action_waits, can_do};
     ghost use Rattle.sh_tty.specs.Happenings.{bytes_of};
     ghost use Rattle.sh_kernel.specs.State.{KernelState, StandsAt, starting};
-    ghost use Rattle.sh_kernel_base.specs.Outcomes.{LacksWhereGiven};
+    ghost use Rattle.sh_kernel_descriptors.specs.Outcomes.{LacksWhereGiven};
     ghost use Rattle.sh_kernel.specs.Outcomes.{Gives, GivesOrLacks, GivesRead};
     ghost use Rattle.sh_kernel.specs.Calls.{close_call, dup_call, end_call, fork_call, here_call, open_call, pipe_call, put_back_call, read_call, set_aside_call, start_call, write_call};
 

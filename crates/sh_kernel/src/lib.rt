@@ -12,6 +12,6 @@ pub use laws::{
     the_terminal_is_reached, the_terminal_only_grows,
 };
 pub use next::Next;
-pub use sh_kernel_base::{
+pub use sh_kernel_descriptors::{
     CAPACITY, FIRST_PID, KernelFault, MAX_DESCRIPTORS, MAX_LIVE, MAX_PID, Name, Status,
 };

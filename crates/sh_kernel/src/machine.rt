@@ -1,10 +1,10 @@
 //! The machine under the processes.
-ghost use Rattle.sh_memory.specs.Memory.{no_memory};
+ghost use Rattle.sh_base.specs.Memory.{no_memory};
 ghost use Rattle.std.specs.Prelude.{◌≡◌, ◌++◌, ◌+◌, ◌∷◌, []};
 ghost use Rattle.std.specs.Prelude.{length, ◌<◌, ◌≢◌, IfErr, IfOk, ℕ, List};
 
 use sh_files::{FileFault, Files, MAX_LENGTH, Opening};
-use sh_kernel_base::{
+use sh_kernel_descriptors::{
     Channel, Closing, Description, Descriptor, FIRST_PID, KernelFault, Name, Process, Status,
     Target, all_children, all_ended, close, copy_all, description_of, end_of, fault_of_file, find,
     give_number, has_reader, has_writer, is_allowed, is_description, is_of_terminal, is_running,
@@ -40,8 +40,8 @@ pub struct Machine {
 }
 
 impl Model for Machine {
-    ghost use Rattle.sh_kernel_base.specs.Machine.{MachineState};
-    ghost use Rattle.sh_files_base.specs.Codes.{map_code};
+    ghost use Rattle.sh_kernel_descriptors.specs.Machine.{MachineState};
+    ghost use Rattle.sh_files_image.specs.Codes.{map_code};
     ghost use Rattle.std.specs.Coded.{codes};
 
     ghost Value = { MachineState };
@@ -58,17 +58,17 @@ impl Model for Machine {
 }
 
 impl Machine {
-    ghost use Rattle.sh_kernel_base.specs.Machine.{end_call, fork_call, start_call, wait_answer};
-    ghost use Rattle.sh_kernel_base.specs.Naming.{close_call, dup_call, pipe_call, put_back_call, set_aside_call};
-    ghost use Rattle.sh_kernel_base.specs.Opening.{here_call, open_call};
-    ghost use Rattle.sh_kernel_base.specs.Processes.{parent_at, status_at};
-    ghost use Rattle.sh_kernel_base.specs.Starting.{starting};
-    ghost use Rattle.sh_kernel_base.specs.Terminals.{described, is_terminal, reads_terminal, writes_terminal};
-    ghost use Rattle.sh_kernel_base.specs.Outcomes.{Gives, GivesOrLacks, GivesRead, LacksWhereGiven};
-    ghost use Rattle.sh_kernel_base.specs.Reading.{read_call, read_target};
-    ghost use Rattle.sh_kernel_base.specs.Waiting.{is_running, waits};
-    ghost use Rattle.sh_kernel_base.specs.Writing.{broken, write_call, write_end, write_file, write_target};
-    ghost use Rattle.sh_kernel_base.specs.Writing.{write_node as node_written};
+    ghost use Rattle.sh_kernel_descriptors.specs.Machine.{end_call, fork_call, start_call, wait_answer};
+    ghost use Rattle.sh_kernel_descriptors.specs.Naming.{close_call, dup_call, pipe_call, put_back_call, set_aside_call};
+    ghost use Rattle.sh_kernel_descriptors.specs.Opening.{here_call, open_call};
+    ghost use Rattle.sh_kernel_descriptors.specs.Processes.{parent_at, status_at};
+    ghost use Rattle.sh_kernel_descriptors.specs.Starting.{starting};
+    ghost use Rattle.sh_kernel_descriptors.specs.Terminals.{described, is_terminal, reads_terminal, writes_terminal};
+    ghost use Rattle.sh_kernel_descriptors.specs.Outcomes.{Gives, GivesOrLacks, GivesRead, LacksWhereGiven};
+    ghost use Rattle.sh_kernel_descriptors.specs.Reading.{read_call, read_target};
+    ghost use Rattle.sh_kernel_descriptors.specs.Waiting.{is_running, waits};
+    ghost use Rattle.sh_kernel_descriptors.specs.Writing.{broken, write_call, write_end, write_file, write_target};
+    ghost use Rattle.sh_kernel_descriptors.specs.Writing.{write_node as node_written};
 
     /// The first process, whose descriptors 0, 1 and 2 refer to one description of the terminal, over these files. The
     /// only error is want of memory.

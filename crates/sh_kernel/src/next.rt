@@ -1,5 +1,5 @@
 //! What processes are about to do.
-use sh_kernel_base::Name;
+use sh_kernel_descriptors::Name;
 
 /// What a process does in its next turn, as far as it may have to wait.
 #[derive(Clone, Copy, Debug)]

@@ -3,22 +3,22 @@ use Rattle.std.proofs.Common.{◌≡◌, ◌⊎◌, inl, inr, ◌↔◌, ℕ, Bo
 use Rattle.std.specs.Option.{unwrap_or}
 use Rattle.std.proofs.lemmas.List.{append-nil}
 use Rattle.sh_grammar.specs.Computed.{is_whole}
-use Rattle.sh_token_base.specs.Shell.{complete}
-use Rattle.sh_tree.specs.declared.tree.Complete.{Complete as Tree}
-use Rattle.sh_tree.specs.declared.tree.Parts.{Parts}
-use Rattle.sh_scanner.specs.declared.token.TokenKind.{TokenKind}
-use Rattle.sh_parse_lines.specs.declared.item.Item.{Item}
-use Rattle.sh_parse_lines.specs.Waiting.{Waiting, nothing, due_at}
-use Rattle.sh_parse_lines.specs.Stream.{Ending, AtEnd, Cut, items_of, waiting_behind}
+use Rattle.sh_token_grammar.specs.Shell.{complete}
+use Rattle.sh_syntax.specs.declared.tree.Complete.{Complete as Tree}
+use Rattle.sh_syntax.specs.declared.tree.Parts.{Parts}
+use Rattle.sh_token.specs.declared.token.TokenKind.{TokenKind}
+use Rattle.sh_parse_documents.specs.declared.item.Item.{Item}
+use Rattle.sh_parse_documents.specs.Waiting.{Waiting, nothing, due_at}
+use Rattle.sh_parse_documents.specs.Stream.{Ending, AtEnd, Cut, items_of, waiting_behind}
 use Rattle.sh_parse_words.specs.declared.fault.PartFault.{PartFault}
-use Rattle.sh_parse_programs.specs.Inputs.{inputs_of}
-use Rattle.sh_parse_programs.specs.Results.{and_then}
-use Rattle.sh_parse_programs.specs.Judging.{IsShell, Judged, with_item, are_no, tree_by}
-use Rattle.sh_parse_programs.specs.Programs.{read_text}
-use Rattle.sh_parse_programs.specs.Defined.{Judge, Derive, AreFaultless, AreTree, AreTokens}
-use Rattle.sh_parse_programs.proofs.Taking.{behind, judged_next, Told, next_told, next_fault}
-use Rattle.sh_parse_programs.proofs.Faultless.{waiting_push, judged, JudgedSo, judged_told, judged_push, faultless_judged, fault_judged}
-use Rattle.sh_parse_programs.proofs.Texts.{derive_whole, whole_not_derive, derive_not_whole, whole_derive, tree_found, tree_gives, tree_whole, tree_alone, alone_gives, none_told, some_told, some_leaves, tokens_of}
+use Rattle.sh_parse_commands.specs.Inputs.{inputs_of}
+use Rattle.sh_parse_commands.specs.Results.{and_then}
+use Rattle.sh_parse_commands.specs.Judging.{IsShell, Judged, with_item, are_no, tree_by}
+use Rattle.sh_parse_commands.specs.Programs.{read_text}
+use Rattle.sh_parse_commands.specs.Defined.{Judge, Derive, AreFaultless, AreTree, AreTokens}
+use Rattle.sh_parse_commands.proofs.Taking.{behind, judged_next, Told, next_told, next_fault}
+use Rattle.sh_parse_commands.proofs.Faultless.{waiting_push, judged, JudgedSo, judged_told, judged_push, faultless_judged, fault_judged}
+use Rattle.sh_parse_commands.proofs.Texts.{derive_whole, whole_not_derive, derive_not_whole, whole_derive, tree_found, tree_gives, tree_whole, tree_alone, alone_gives, none_told, some_told, some_leaves, tokens_of}
 use Rattle.sh_parse.specs.Aliases.{AliasTable}
 use Rattle.sh_parse.specs.Reading.{Answer, is_newline, nul_in, unless_nul, with_nul, taken, completed, refusal, said, at_end, at_cut, at_last, decided, reading}
 use Rattle.sh_parse.specs.declared.Reading.TheVariants.{Complete, Blank}

@@ -2,26 +2,26 @@
 use Rattle.std.proofs.Common.{◌≡◌, inl, inr, ℕ, zero, suc, ◌+◌, ◌-◌, ◌<◌, ◌≤◌, Bool, true, List, [], ◌∷◌, ◌++◌, length, drop, Option, Some, None, Result, refl, sym, subst, arith}
 use Rattle.std.specs.Option.{unwrap_or}
 use Rattle.std.proofs.lemmas.List.{length-drop}
-use Rattle.sh_scanner.specs.declared.token.TokenKind.{TokenKind}
-use Rattle.sh_scanner.specs.FirstToken.{FirstToken, Found, Unfinished, DeepAt, IsFirst}
-use Rattle.sh_scanner.specs.Found.{first_token}
-use Rattle.sh_scanner.proofs.Laws.{is_first}
-use Rattle.sh_tree.specs.declared.tree.Complete.{Complete}
-use Rattle.sh_parse_lines.specs.declared.item.Item.{Item}
-use Rattle.sh_parse_lines.specs.Bodies.{bodies_size}
-use Rattle.sh_parse_lines.specs.Waiting.{Waiting, nothing, behind_token, due_at}
-use Rattle.sh_parse_lines.specs.Items.{FirstItem, FoundItem, NoItem, first_item, item_of, with_bodies}
-use Rattle.sh_parse_lines.specs.Stream.{Ending, AtEnd, Cut, Items, with_item, with_first, items_from, items_of, waiting_behind}
+use Rattle.sh_token.specs.declared.token.TokenKind.{TokenKind}
+use Rattle.sh_token.specs.FirstToken.{FirstToken, Found, Unfinished, DeepAt, IsFirst}
+use Rattle.sh_token.specs.Found.{first_token}
+use Rattle.sh_token.proofs.Laws.{is_first}
+use Rattle.sh_syntax.specs.declared.tree.Complete.{Complete}
+use Rattle.sh_parse_documents.specs.declared.item.Item.{Item}
+use Rattle.sh_parse_documents.specs.Bodies.{bodies_size}
+use Rattle.sh_parse_documents.specs.Waiting.{Waiting, nothing, behind_token, due_at}
+use Rattle.sh_parse_documents.specs.Items.{FirstItem, FoundItem, NoItem, first_item, item_of, with_bodies}
+use Rattle.sh_parse_documents.specs.Stream.{Ending, AtEnd, Cut, Items, with_item, with_first, items_from, items_of, waiting_behind}
 use Rattle.sh_parse_words.specs.declared.fault.PartFault.{PartFault}
-use Rattle.sh_parse_programs.specs.Words.{Reader}
+use Rattle.sh_parse_commands.specs.Words.{Reader}
 use Rattle.sh_parse_words.specs.declared.fault.PartFault.TheVariants as fault
-use Rattle.sh_parse_programs.specs.Cuts.{told_of, cut_fault}
-use Rattle.sh_parse_programs.specs.Programs.{program_in, programs, read_text}
-use Rattle.sh_parse_programs.specs.Defined.{Judge, opened, cut_at, HasFault, refused, too_deep, in_word, in_body, FirstFault, EndIs, inner, IsProgram}
-use Rattle.sh_parse_programs.proofs.Texts.{program_defined}
+use Rattle.sh_parse_commands.specs.Cuts.{told_of, cut_fault}
+use Rattle.sh_parse_commands.specs.Programs.{program_in, programs, read_text}
+use Rattle.sh_parse_commands.specs.Defined.{Judge, opened, cut_at, HasFault, refused, too_deep, in_word, in_body, FirstFault, EndIs, inner, IsProgram}
+use Rattle.sh_parse_commands.proofs.Texts.{program_defined}
 use Rattle.sh_parse.specs.Insides.{AreInside}
 use Rattle.sh_parse.proofs.Insides.{found_inside, inside_of}
-use Rattle.sh_parse_programs.proofs.Within.{FaultIn, FaultsIn, leaf_in, bodies_in}
+use Rattle.sh_parse_commands.proofs.Within.{FaultIn, FaultsIn, leaf_in, bodies_in}
 
 -- what ends the items of a text
 abbrev pub EndingIn : ℕ → Ending → Type 0

@@ -1,20 +1,20 @@
 -- The items of a text stand in it.
 use Rattle.std.proofs.Common.{◌≡◌, inl, inr, ℕ, zero, suc, ◌+◌, ◌-◌, ◌<◌, ◌≤◌, Bool, List, [], ◌∷◌, ◌++◌, length, drop, Option, Some, None, refl, sym, ap, subst, ◌∙◌, arith}
 use Rattle.std.proofs.lemmas.List.{length-drop}
-use Rattle.sh_scanner_base.specs.declared.here.Delimiter.{Delimiter}
-use Rattle.sh_scanner.specs.declared.token.TokenKind.{TokenKind}
-use Rattle.sh_scanner.specs.FirstToken.{FirstToken, Found, Unfinished, DeepAt, IsFirst}
-use Rattle.sh_scanner.specs.Found.{first_token}
-use Rattle.sh_scanner.specs.Placed.{IsPlaced}
-use Rattle.sh_scanner.proofs.Complete.{complete}
-use Rattle.sh_scanner.proofs.Laws.{is_first}
-use Rattle.sh_scanner.proofs.Places.{placed_shown}
-use Rattle.sh_parse_lines.specs.declared.item.Item.{Item}
-use Rattle.sh_parse_lines.specs.Bodies.{AreBodies, bodies_size}
-use Rattle.sh_parse_lines.specs.Waiting.{Waiting, nothing, behind_token, due_at}
-use Rattle.sh_parse_lines.specs.Items.{FirstItem, FoundItem, NoItem, first_item, item_of, with_bodies}
-use Rattle.sh_parse_lines.specs.Stream.{Items, with_item, with_first, items_from, items_of}
-use Rattle.sh_parse_lines.proofs.Defined.{bodies_defined}
+use Rattle.sh_token_pieces.specs.declared.here.Delimiter.{Delimiter}
+use Rattle.sh_token.specs.declared.token.TokenKind.{TokenKind}
+use Rattle.sh_token.specs.FirstToken.{FirstToken, Found, Unfinished, DeepAt, IsFirst}
+use Rattle.sh_token.specs.Found.{first_token}
+use Rattle.sh_token.specs.Placed.{IsPlaced}
+use Rattle.sh_token.proofs.Complete.{complete}
+use Rattle.sh_token.proofs.Laws.{is_first}
+use Rattle.sh_token.proofs.Places.{placed_shown}
+use Rattle.sh_parse_documents.specs.declared.item.Item.{Item}
+use Rattle.sh_parse_documents.specs.Bodies.{AreBodies, bodies_size}
+use Rattle.sh_parse_documents.specs.Waiting.{Waiting, nothing, behind_token, due_at}
+use Rattle.sh_parse_documents.specs.Items.{FirstItem, FoundItem, NoItem, first_item, item_of, with_bodies}
+use Rattle.sh_parse_documents.specs.Stream.{Items, with_item, with_first, items_from, items_of}
+use Rattle.sh_parse_documents.proofs.Defined.{bodies_defined}
 use Rattle.sh_parse.specs.Insides.{AreInside}
 
 -- the first token stands in its text

@@ -1,11 +1,11 @@
 -- What a newline says.
 use Rattle.std.proofs.Common.{◌≡◌, ℕ, true, false, List, Option, Some, Result, Ok, Err, ap, ◌∙◌, if◌then◌else◌}
-use Rattle.sh_parse_lines.specs.declared.item.Item.{Item}
-use Rattle.sh_parse_lines.specs.Waiting.{Waiting, due_at}
+use Rattle.sh_parse_documents.specs.declared.item.Item.{Item}
+use Rattle.sh_parse_documents.specs.Waiting.{Waiting, due_at}
 use Rattle.sh_parse_words.specs.declared.fault.PartFault.{PartFault}
-use Rattle.sh_parse_programs.specs.Documents.{bodies_of}
-use Rattle.sh_parse_programs.specs.Judging.{Judged, is_none, are_whole}
-use Rattle.sh_parse_programs.specs.Programs.{read_text}
+use Rattle.sh_parse_commands.specs.Documents.{bodies_of}
+use Rattle.sh_parse_commands.specs.Judging.{Judged, is_none, are_whole}
+use Rattle.sh_parse_commands.specs.Programs.{read_text}
 use Rattle.sh_parse.specs.Aliases.{AliasTable}
 use Rattle.sh_parse.specs.Reading.{Answer, Answers, completed, refusal, said, taken}
 use Rattle.sh_parse.specs.Turns.{SaysFault, Tells, turn_of}

@@ -3,15 +3,15 @@ use Rattle.std.proofs.Common.{◌≡◌, ◌⊎◌, inl, inr, ℕ, ◌<◌, ◌�
 use Rattle.std.proofs.Math.Nat.{min-le_right}
 use Rattle.std.proofs.lemmas.List.{length-take}
 use Rattle.std.specs.Option.{option_map, unwrap_or}
-use Rattle.sh_parse_lines.specs.declared.item.Item.{Item}
-use Rattle.sh_parse_lines.specs.Waiting.{nothing, due_at}
-use Rattle.sh_parse_lines.specs.Items.{first_item}
-use Rattle.sh_parse_lines.specs.Stream.{Ending, AtEnd, Cut, items_of, waiting_behind}
-use Rattle.sh_scanner.specs.Found.{first_token}
+use Rattle.sh_parse_documents.specs.declared.item.Item.{Item}
+use Rattle.sh_parse_documents.specs.Waiting.{nothing, due_at}
+use Rattle.sh_parse_documents.specs.Items.{first_item}
+use Rattle.sh_parse_documents.specs.Stream.{Ending, AtEnd, Cut, items_of, waiting_behind}
+use Rattle.sh_token.specs.Found.{first_token}
 use Rattle.sh_parse_words.specs.declared.fault.PartFault.{PartFault}
 use Rattle.sh_parse_words.specs.declared.fault.PartFault.TheVariants as fault
-use Rattle.sh_parse_programs.specs.Programs.{read_text}
-use Rattle.sh_parse_programs.specs.Defined.{FirstFault, opened, cut_at}
+use Rattle.sh_parse_commands.specs.Programs.{read_text}
+use Rattle.sh_parse_commands.specs.Defined.{FirstFault, opened, cut_at}
 use Rattle.sh_parse.specs.Aliases.{AliasTable}
 use Rattle.sh_parse.specs.Reading.{Answer, fault_of, nul_in, stands_before, unless_nul, reading}
 use Rattle.sh_parse.specs.declared.Reading.TheVariants.{Complete, Blank, More}
@@ -21,7 +21,7 @@ use Rattle.sh_parse.specs.Insides.{IsInside, AreInside}
 use Rattle.sh_parse.proofs.Decisions.{reading_defined}
 use Rattle.sh_parse.proofs.Nuls.{nul_within}
 use Rattle.sh_parse.proofs.Insides.{inside_of, one_inside, some_inside}
-use Rattle.sh_parse_programs.proofs.Within.{FaultIn, FaultsIn, bodies_in}
+use Rattle.sh_parse_commands.proofs.Within.{FaultIn, FaultsIn, bodies_in}
 use Rattle.sh_parse.proofs.Faults.{SomeIn, cut_fault_in, EndingIn, ending_in, token_in, has_fault_in, first_fault_in, texts_in}
 
 front_inside : (at size : ℕ) (before after : List Item) → AreInside at size (before ++ after) → AreInside at size before

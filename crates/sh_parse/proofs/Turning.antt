@@ -1,18 +1,18 @@
 -- Turns of a reading, one after another.
 use Rattle.std.proofs.Common.{◌≡◌, ℕ, zero, suc, ◌+◌, ◌<◌, ◌≤◌, Bool, List, ◌∷◌, length, take, drop, Option, None, Result, Ok, Err, refl, sym, ap, subst, ◌∙◌, arith}
-use Rattle.sh_scanner.specs.declared.token.TokenKind.{TokenKind}
-use Rattle.sh_parse_lines.specs.declared.item.Item.{Item}
-use Rattle.sh_scanner.specs.FirstToken.{FirstToken, Found, Unfinished, DeepAt}
-use Rattle.sh_parse_lines.specs.Places.{IsItemPlaced}
-use Rattle.sh_parse_lines.specs.Waiting.{Waiting, nothing, behind_token}
-use Rattle.sh_parse_lines.specs.Items.{FirstItem, FoundItem, NoItem, first_item, item_at}
+use Rattle.sh_token.specs.declared.token.TokenKind.{TokenKind}
+use Rattle.sh_parse_documents.specs.declared.item.Item.{Item}
+use Rattle.sh_token.specs.FirstToken.{FirstToken, Found, Unfinished, DeepAt}
+use Rattle.sh_parse_documents.specs.Places.{IsItemPlaced}
+use Rattle.sh_parse_documents.specs.Waiting.{Waiting, nothing, behind_token}
+use Rattle.sh_parse_documents.specs.Items.{FirstItem, FoundItem, NoItem, first_item, item_at}
 use Rattle.sh_parse.specs.declared.Reading.{Reading}
 use Rattle.sh_parse.specs.declared.ParseFault.{ParseFault}
 use Rattle.sh_parse.specs.declared.turn.Turn.{Turn}
-use Rattle.sh_parse_lines.specs.Stream.{Items, AtEnd, none, with_item, with_first, items_from}
-use Rattle.sh_token_base.specs.Shell.{complete}
+use Rattle.sh_parse_documents.specs.Stream.{Items, AtEnd, none, with_item, with_first, items_from}
+use Rattle.sh_token_grammar.specs.Shell.{complete}
 use Rattle.sh_parse_words.specs.declared.fault.PartFault.{PartFault}
-use Rattle.sh_parse_programs.specs.Judging.{Judged, none_of}
+use Rattle.sh_parse_commands.specs.Judging.{Judged, none_of}
 use Rattle.sh_parse.specs.Aliases.{AliasTable}
 use Rattle.sh_parse.specs.Reading.{at_last, decided, nul_in, reading, Answers}
 use Rattle.sh_parse.specs.Turns.{read_from, Turns, Takes, turn_of}

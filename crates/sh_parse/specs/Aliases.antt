@@ -1,7 +1,7 @@
 -- Aliases (XCU 2.3.1): a command name that is one is replaced before the grammar is shown it.
 use Rattle.std.specs.Prelude.{ℕ, List, []}
-use Rattle.sh_parse_lines.specs.declared.item.Item.{Item}
-use Rattle.sh_parse_programs.specs.Judging.{Judged}
+use Rattle.sh_parse_documents.specs.declared.item.Item.{Item}
+use Rattle.sh_parse_commands.specs.Judging.{Judged}
 
 -- names, each with what it is replaced by
 abbrev pub AliasTable : Type 0

@@ -1,16 +1,16 @@
 -- What a text reads as, by derivations: which answer it has at its first decision place that says anything (XCU 2.1, 2.3, 2.10).
 use Rattle.std.specs.Prelude.{◌≡◌, ◌⊎◌, ℕ, Bool, true, false, List, [], ◌∷◌, ◌++◌, length, take, Option, Some, None, Result, Ok, Err}
 use Rattle.std.specs.Option.{option_map, unwrap_or}
-use Rattle.sh_token_base.specs.Shell.{complete}
-use Rattle.sh_tree.specs.declared.tree.Complete.{Complete as Tree}
-use Rattle.sh_tree.specs.declared.tree.Parts.{Parts}
-use Rattle.sh_parse_lines.specs.declared.item.Item.{Item}
-use Rattle.sh_parse_lines.specs.Waiting.{nothing, due_at}
-use Rattle.sh_parse_lines.specs.Stream.{Ending, AtEnd, Cut, items_of, waiting_behind}
+use Rattle.sh_token_grammar.specs.Shell.{complete}
+use Rattle.sh_syntax.specs.declared.tree.Complete.{Complete as Tree}
+use Rattle.sh_syntax.specs.declared.tree.Parts.{Parts}
+use Rattle.sh_parse_documents.specs.declared.item.Item.{Item}
+use Rattle.sh_parse_documents.specs.Waiting.{nothing, due_at}
+use Rattle.sh_parse_documents.specs.Stream.{Ending, AtEnd, Cut, items_of, waiting_behind}
 use Rattle.sh_parse_words.specs.declared.fault.PartFault.{PartFault}
-use Rattle.sh_parse_programs.specs.Documents.{bodies_of}
-use Rattle.sh_parse_programs.specs.Programs.{read_text}
-use Rattle.sh_parse_programs.specs.Defined.{Judge, Derive, HasFault, AreFaultless, FirstFault, AreTree, cut_at}
+use Rattle.sh_parse_commands.specs.Documents.{bodies_of}
+use Rattle.sh_parse_commands.specs.Programs.{read_text}
+use Rattle.sh_parse_commands.specs.Defined.{Judge, Derive, HasFault, AreFaultless, FirstFault, AreTree, cut_at}
 use Rattle.sh_parse.specs.Aliases.{AliasTable}
 use Rattle.sh_parse.specs.Reading.{Answer, fault_of, nul_in, unless_nul, is_newline}
 use Rattle.sh_parse.specs.declared.Reading.TheVariants.{Complete, Blank, More}

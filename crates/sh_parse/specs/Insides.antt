@@ -1,7 +1,7 @@
 -- Where the items of a text stand in it; and what each answer tells of its text: how many of its bytes are read, where it ends, that more
 -- is asked for only before the end, and that the place of a fault is one of the text, as is the decision place behind which reading goes on.
 use Rattle.std.specs.Prelude.{◌≡◌, ◌⊎◌, ℕ, ◌<◌, ◌≤◌, Bool, false, List, [], ◌∷◌, length, Ok, Err}
-use Rattle.sh_parse_lines.specs.declared.item.Item.{Item}
+use Rattle.sh_parse_documents.specs.declared.item.Item.{Item}
 use Rattle.sh_parse.specs.Reading.{Answer}
 use Rattle.sh_parse.specs.declared.Reading.TheVariants.{Complete, Blank, More}
 use Rattle.sh_parse.specs.declared.ParseFault.TheVariants.{Refused, Unclosed, BadSubstitution, TooDeep, NoMemory}

@@ -1,20 +1,20 @@
 -- What a text reads as: its first complete command, blank lines, a fault, or nothing yet (XCU 2.1, 2.3, 2.10).
 use Rattle.std.specs.Prelude.{◌≡◌, ℕ, ◌-◌, Bool, true, false, nat_eq, nat_lt, List, [], ◌∷◌, ◌++◌, length, take, position, Option, Some, None, Result, Ok, Err, if◌then◌else◌}
 use Rattle.std.specs.Option.{option_map, unwrap_or}
-use Rattle.sh_token_base.specs.Shell.{complete}
-use Rattle.sh_scanner_base.specs.declared.operator.Operator.{Operator}
-use Rattle.sh_scanner.specs.declared.token.TokenKind.{TokenKind}
-use Rattle.sh_tree.specs.declared.tree.Parts.{Parts}
-use Rattle.sh_parse_lines.specs.declared.item.Item.{Item}
-use Rattle.sh_parse_lines.specs.Waiting.{Waiting, nothing, behind_token, due_at}
-use Rattle.sh_parse_lines.specs.Stream.{Ending, AtEnd, Cut, items_of}
+use Rattle.sh_token_grammar.specs.Shell.{complete}
+use Rattle.sh_token_pieces.specs.declared.operator.Operator.{Operator}
+use Rattle.sh_token.specs.declared.token.TokenKind.{TokenKind}
+use Rattle.sh_syntax.specs.declared.tree.Parts.{Parts}
+use Rattle.sh_parse_documents.specs.declared.item.Item.{Item}
+use Rattle.sh_parse_documents.specs.Waiting.{Waiting, nothing, behind_token, due_at}
+use Rattle.sh_parse_documents.specs.Stream.{Ending, AtEnd, Cut, items_of}
 use Rattle.sh_parse_words.specs.declared.fault.PartFault.{PartFault}
 use Rattle.sh_parse_words.specs.declared.fault.PartFault.TheVariants as fault
-use Rattle.sh_parse_programs.specs.Results.{and_then}
-use Rattle.sh_parse_programs.specs.Documents.{bodies_of}
-use Rattle.sh_parse_programs.specs.Judging.{Judged, none_of, open_in, with_item, is_none, are_whole, tree_by}
-use Rattle.sh_parse_programs.specs.Cuts.{cut_fault}
-use Rattle.sh_parse_programs.specs.Programs.{read_text}
+use Rattle.sh_parse_commands.specs.Results.{and_then}
+use Rattle.sh_parse_commands.specs.Documents.{bodies_of}
+use Rattle.sh_parse_commands.specs.Judging.{Judged, none_of, open_in, with_item, is_none, are_whole, tree_by}
+use Rattle.sh_parse_commands.specs.Cuts.{cut_fault}
+use Rattle.sh_parse_commands.specs.Programs.{read_text}
 use Rattle.sh_parse.specs.Aliases.{AliasTable, aliased}
 use Rattle.sh_parse.specs.declared.Reading.{Reading}
 use Rattle.sh_parse.specs.declared.Reading.TheVariants.{Complete, Blank, More}

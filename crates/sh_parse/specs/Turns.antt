@@ -1,13 +1,13 @@
 -- One turn of a reading: the next token, and what it decides. Only proofs need this.
-use Rattle.sh_memory.specs.Memory.{no_memory}
+use Rattle.sh_base.specs.Memory.{no_memory}
 use Rattle.std.specs.Prelude.{◌≡◌, ℕ, suc, ◌<◌, ◌≤◌, Bool, List, ◌∷◌, length, take, Option, Some, None, Result, Ok, Err, if◌then◌else◌}
-use Rattle.sh_parse_lines.specs.declared.item.Item.{Item}
-use Rattle.sh_parse_lines.specs.Waiting.{Waiting, behind_token}
-use Rattle.sh_parse_lines.specs.Stream.{Ending, items_from}
+use Rattle.sh_parse_documents.specs.declared.item.Item.{Item}
+use Rattle.sh_parse_documents.specs.Waiting.{Waiting, behind_token}
+use Rattle.sh_parse_documents.specs.Stream.{Ending, items_from}
 use Rattle.sh_parse_words.specs.declared.fault.PartFault.{PartFault}
-use Rattle.sh_parse_programs.specs.Judging.{Judged}
+use Rattle.sh_parse_commands.specs.Judging.{Judged}
 use Rattle.sh_parse.specs.Aliases.{AliasTable}
-use Rattle.sh_parse_programs.specs.Results.{and_then}
+use Rattle.sh_parse_commands.specs.Results.{and_then}
 use Rattle.sh_parse.specs.Reading.{Answer, nul_in, stands_before, taken, said, decided, Answers}
 use Rattle.sh_parse.specs.declared.Reading.{Reading}
 use Rattle.sh_parse.specs.declared.ParseFault.{ParseFault}

@@ -2,8 +2,8 @@
 ghost use Rattle.std.specs.Prelude.{◌≡◌};
 ghost use Rattle.sh_parse.specs.Aliases.{aliased, no_aliases};
 
-use sh_parse_lines::item::Item;
-use sh_parse_programs::front::Front;
+use sh_parse_commands::front::Front;
+use sh_parse_documents::item::Item;
 use std::alloc::Global;
 use std::marker::Model;
 

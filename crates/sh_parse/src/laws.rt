@@ -1,6 +1,6 @@
 //! Laws on readings.
 ghost use Rattle.std.specs.Prelude.{◌≡◌, ◌↔◌, ℕ, Bool, List, length};
-ghost use Rattle.sh_parse_lines.specs.Stream.{items_of};
+ghost use Rattle.sh_parse_documents.specs.Stream.{items_of};
 ghost use Rattle.sh_parse.specs.Aliases.{AliasTable};
 ghost use Rattle.sh_parse.specs.Reading.{Answer, reading};
 ghost use Rattle.sh_parse.specs.Defined.{IsReading};

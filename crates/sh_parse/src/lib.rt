@@ -5,7 +5,7 @@
 //! the commands of its substitutions), and at a newline or the end of the input the reading is decided.
 #![tactic(auto)]
 
-ghost use Rattle.sh_memory.specs.Memory.{no_memory};
+ghost use Rattle.sh_base.specs.Memory.{no_memory};
 ghost use Rattle.sh_parse.specs.Reading.{Answers, reading};
 
 mod aliases;
@@ -18,10 +18,10 @@ pub use aliases::Aliases;
 pub use laws::{
     items_are_inside, no_text_has_two_readings, reading_is_the_defined_one, readings_are_inside,
 };
-use sh_memory::NoMemory;
-use sh_parse_lines::waiting::Waiting;
-use sh_parse_programs::front::Front;
-use sh_tree::tree;
+use sh_base::NoMemory;
+use sh_parse_commands::front::Front;
+use sh_parse_documents::waiting::Waiting;
+use sh_syntax::tree;
 use std::alloc::{AllocError, Global};
 use thiserror::Error;
 use turn::{Turn, next_turn};

@@ -1,12 +1,12 @@
 //! One turn of a reading: the next token, and what it decides.
 ghost use Rattle.std.specs.Prelude.{◌≡◌, ◌≤◌, ℕ, Bool, List, true, length, take, drop, IfOk, IfErr};
-ghost use Rattle.sh_parse_lines.specs.Stream.{AtEnd, Cut};
-ghost use Rattle.sh_parse_lines.specs.Waiting.{Waiting};
-ghost use Rattle.sh_parse_programs.specs.Results.{and_then};
-ghost use Rattle.sh_parse_programs.specs.Documents.{bodies_of};
-ghost use Rattle.sh_parse_programs.specs.Judging.{with_item, are_whole};
-ghost use Rattle.sh_parse_programs.specs.Programs.{read_text};
-ghost use Rattle.sh_memory.specs.Memory.{no_memory};
+ghost use Rattle.sh_parse_documents.specs.Stream.{AtEnd, Cut};
+ghost use Rattle.sh_parse_documents.specs.Waiting.{Waiting};
+ghost use Rattle.sh_parse_commands.specs.Results.{and_then};
+ghost use Rattle.sh_parse_commands.specs.Documents.{bodies_of};
+ghost use Rattle.sh_parse_commands.specs.Judging.{with_item, are_whole};
+ghost use Rattle.sh_parse_commands.specs.Programs.{read_text};
+ghost use Rattle.sh_base.specs.Memory.{no_memory};
 ghost use Rattle.sh_parse.specs.declared.ParseFault.TheVariants.{NoMemory};
 ghost use Rattle.sh_parse.specs.Aliases.{aliased};
 ghost use Rattle.sh_parse.specs.Reading.{Answer, Answers, at_cut, at_end, at_last, completed, is_newline, nul_in, unless_nul};
@@ -16,15 +16,15 @@ use crate::aliases::{Aliases, aliased};
 use crate::fault::{fault_of, fault_with_nul};
 use crate::nul::first_nul;
 use crate::{ParseFault, Reading};
-use sh_parse_lines::item::{Item, next_item};
-use sh_parse_lines::waiting::Waiting;
-use sh_parse_programs::cut::cut_fault;
-use sh_parse_programs::front::Front;
-use sh_parse_programs::text::{bodies_of, judge};
+use sh_parse_commands::cut::cut_fault;
+use sh_parse_commands::front::Front;
+use sh_parse_commands::text::{bodies_of, judge};
+use sh_parse_documents::item::{Item, next_item};
+use sh_parse_documents::waiting::Waiting;
 use sh_parse_words::fault::PartFault;
-use sh_scanner::token::{TokenFault, TokenKind};
-use sh_scanner_base::here::Delimiter;
-use sh_scanner_base::operator::Operator;
+use sh_token::token::{TokenFault, TokenKind};
+use sh_token_pieces::here::Delimiter;
+use sh_token_pieces::operator::Operator;
 use std::alloc::Global;
 
 /// How many levels may open.

@@ -2,8 +2,8 @@
 use Rattle.std.proofs.Common.{◌≡◌, ℕ, suc, ◌+◌, ◌-◌, ◌<◌, ◌≤◌, Bool, true, false, ◌&&◌, not, List, [], ◌∷◌, ◌++◌, length, take, drop, Some, None, refl, sym, ap, ◌∙◌, subst, append_assoc, arith}
 use Rattle.std.specs.List.{position}
 use Rattle.std.proofs.lemmas.List.{append-nil, length-drop, length-take-le}
-use Rattle.sh_scanner_base.specs.declared.here.Delimiter.{Delimiter}
-use Rattle.sh_scanner_base.specs.Here.{lines, is_end_line, joins_next}
+use Rattle.sh_token_pieces.specs.declared.here.Delimiter.{Delimiter}
+use Rattle.sh_token_pieces.specs.Here.{lines, is_end_line, joins_next}
 use Rattle.sh_parse_documents.specs.Documents.{Line, placed, lines_from, kept, kept_places, Cut, over, with_line, cut, cut_all, documents}
 use Rattle.sh_parse_documents.specs.Cutting.{lines_before, behind_taken}
 use Rattle.sh_parse_documents.proofs.Lines.{is_line_end, first_line, only_line, Full, full}

@@ -1,3 +1,7 @@
 mod Places
 mod Lines
 mod Cutting
+pub mod Defined
+pub mod Sizes
+pub mod Firsts
+pub mod Scanning

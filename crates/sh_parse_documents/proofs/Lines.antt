@@ -3,7 +3,7 @@ use Rattle.std.proofs.Common.{◌≡◌, ℕ, suc, ◌+◌, ◌-◌, ◌≤◌, 
 use Rattle.std.specs.List.{position, position_from}
 use Rattle.std.proofs.lemmas.List.{append-nil}
 use Rattle.std.proofs.lemmas.Iterator.Adapters.{position_from-zero}
-use Rattle.sh_scanner_base.specs.Here.{lines}
+use Rattle.sh_token_pieces.specs.Here.{lines}
 
 abbrev pub is_line_end : ℕ → Bool
 is_line_end b = nat_eq b 10

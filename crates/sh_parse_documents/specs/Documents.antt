@@ -1,7 +1,7 @@
 -- The bodies of here-documents, with the places at which their bytes stand in the text (XCU 2.7.4).
 use Rattle.std.specs.Prelude.{ℕ, zero, suc, ◌+◌, ◌-◌, Bool, false, ◌&&◌, not, List, [], ◌∷◌, ◌++◌, length, take, drop, unwrap_or, slice_get, if◌then◌else◌}
-use Rattle.sh_scanner_base.specs.declared.here.Delimiter.{Delimiter}
-use Rattle.sh_scanner_base.specs.Here.{lines, line_in, is_end_line, joins_next}
+use Rattle.sh_token_pieces.specs.declared.here.Delimiter.{Delimiter}
+use Rattle.sh_token_pieces.specs.Here.{lines, line_in, is_end_line, joins_next}
 use Rattle.sh_parse_documents.specs.declared.document.Document.{Document}
 
 -- a line without its newline, and the place of its first byte in the text

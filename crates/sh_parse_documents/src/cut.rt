@@ -1,11 +1,11 @@
 //! One body at a time.
 ghost use Rattle.std.specs.Prelude.{◌≡◌, ◌+◌, ◌^◌, ◌<◌, ◌≤◌, ◌++◌, ◌&&◌, not, false, length, IfOk, OnOk};
-ghost use Rattle.sh_scanner_base.specs.Here.{is_end_line};
+ghost use Rattle.sh_token_pieces.specs.Here.{is_end_line};
 ghost use Rattle.sh_parse_documents.specs.Documents.{kept, kept_places, places_from, cut};
 ghost use Rattle.sh_parse_documents.specs.Cutting.{lines_before};
 
 use crate::line::{behind_place, first_newline, front, kept, up_to};
-use sh_scanner_base::here::Delimiter;
+use sh_token_pieces::here::Delimiter;
 use std::alloc::{AllocError, Global};
 
 /// A body: its bytes, the place of each, the place at which it ends, and the bytes behind its end line.

@@ -4,8 +4,8 @@ ghost use Rattle.sh_parse_documents.specs.Documents.{documents, between, place_a
 
 use crate::cut::cut_body;
 use crate::line::between;
-use sh_scanner_base::here::Delimiter;
-use sh_syntax::sequence::{Sequence, Text};
+use sh_base::sequence::{Sequence, Text};
+use sh_token_pieces::here::Delimiter;
 use std::alloc::{AllocError, Global};
 
 /// The body of a here-document, and where it stands in the text that it was cut from.

@@ -1,9 +1,9 @@
 //! Lines of bodies.
 ghost use Rattle.std.specs.Prelude.{◌≡◌, ◌<◌, ◌≤◌, ◌-◌, IfSome, suc, length, drop, take, position, nat_eq};
-ghost use Rattle.sh_scanner_base.specs.Here.{without_tabs};
+ghost use Rattle.sh_token_pieces.specs.Here.{without_tabs};
 ghost use Rattle.sh_parse_documents.specs.Documents.{kept, between};
 
-use sh_scanner_base::here::{Delimiter, Tabs};
+use sh_token_pieces::here::{Delimiter, Tabs};
 
 /// The place of the first newline.
 pub(crate) fn first_newline(bytes: &[u8]) -> Option<usize>

@@ -8,14 +8,14 @@
 //! which it ends. Offsets behind its end have that place too; where they don't, `unlike` stands behind.
 //!
 //! `quoted WANTED DUE TEXT`: for each body `quoted` or `expanded`, by its delimiter.
-use sh_memory::NoMemory;
+use sh_base::NoMemory;
+use sh_base::sequence::Text;
 use sh_parse_documents::document::{Document, documents};
 use sh_parse_rows_tokens::by_kind;
 use sh_parse_rows_tokens::fields::{Found, number};
 use sh_parse_rows_tokens::show::{put_place, put_word};
 use sh_rows::Row;
-use sh_scanner_base::here::{Delimiter, Tabs};
-use sh_syntax::sequence::Text;
+use sh_token_pieces::here::{Delimiter, Tabs};
 use std::alloc::{AllocError, Global};
 
 /// The delimiter that a piece of DUE writes.

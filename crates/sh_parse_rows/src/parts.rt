@@ -13,7 +13,8 @@
 //! `form WANTED LEVELS PIECES PLACES`: the form alone that is asked for.
 //!
 //! PIECES stand between blanks, each a sign and its bytes as in the module `pieces`.
-use sh_memory::NoMemory;
+use sh_base::NoMemory;
+use sh_base::sequence::Text;
 use sh_parse_rows_tokens::by_kind;
 use sh_parse_rows_tokens::fields::{Found, number, pieces};
 use sh_parse_rows_tokens::show::{put_number, put_place, put_word, word_of};
@@ -22,11 +23,10 @@ use sh_parse_words::build::{Builder, Request, Substitution};
 use sh_parse_words::fault::PartFault;
 use sh_parse_words::parameter::Braces;
 use sh_rows::Row;
-use sh_scanner_base::mark::Mark;
-use sh_syntax::sequence::Text;
-use sh_tree::tree::{
+use sh_syntax::tree::{
     Absence, Affix, ConditionalAction, Extent, Parameter, Part, Parts, SpecialParameter,
 };
+use sh_token_pieces::mark::Mark;
 use std::alloc::{AllocError, Global};
 
 /// The sign of a special parameter.

@@ -14,14 +14,14 @@
 //! where nothing is decided yet.
 //!
 //! The first four with a text of six fields (`fields::built`): the tree isn't shown, and like signs in a row are counted, as `u1000`.
-use sh_memory::NoMemory;
+use sh_base::NoMemory;
 use sh_parse::{Aliases, ParseFault, Reading, read_command};
 use sh_parse_rows_tokens::by_kind;
 use sh_parse_rows_tokens::fields::{Found, built, marked};
 use sh_parse_rows_tokens::show::{put_number, put_place, put_word};
 use sh_rows::Row;
-use sh_tree::text::command_text;
-use sh_tree::tree::{Complete, ListItem, Separator};
+use sh_syntax::text::command_text;
+use sh_syntax::tree::{Complete, ListItem, Separator};
 use std::alloc::{AllocError, Global};
 
 /// What a text reads as, its tree left out. A place is a number of bytes.

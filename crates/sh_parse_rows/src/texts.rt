@@ -10,13 +10,13 @@
 //!
 //! What isn't complete comes to `none`.
 use crate::reading::read;
-use sh_memory::NoMemory;
+use sh_base::NoMemory;
 use sh_parse_rows_tokens::by_kind;
 use sh_parse_rows_tokens::fields::{Found, built};
 use sh_parse_rows_tokens::show::{put_number, word_of};
 use sh_rows::Row;
-use sh_tree::text::{command_text, pipeline_text};
-use sh_tree::tree::{AndOr, Command, Complete, Part, Parts, SimpleItem, Target};
+use sh_syntax::text::{command_text, pipeline_text};
+use sh_syntax::tree::{AndOr, Command, Complete, Part, Parts, SimpleItem, Target};
 use std::alloc::{AllocError, Global};
 
 /// What is shown of a tree.

@@ -11,12 +11,13 @@
 use crate::by_kind;
 use crate::fields::{Found, pieces};
 use crate::show::{put_number, put_place, put_word, word_of};
+use sh_base::NoMemory;
+use sh_base::name::is_name;
 use sh_grammar::{Recognizer, Token};
-use sh_memory::NoMemory;
 use sh_rows::Row;
-use sh_token_base::class::{TokenClass, is_name};
-use sh_token_base::grammar::{complete_command, substituted};
-use sh_token_base::levels::{end_of_compound, open_compounds};
+use sh_token_grammar::class::TokenClass;
+use sh_token_grammar::grammar::{complete_command, substituted};
+use sh_token_grammar::levels::{end_of_compound, open_compounds};
 use std::alloc::{AllocError, Global};
 
 /// What a text is read as.

@@ -1,5 +1,5 @@
 //! What the fields of rows mean, and what rows come to by their kinds.
-use sh_memory::NoMemory;
+use sh_base::NoMemory;
 use sh_rows::Row;
 use std::alloc::{AllocError, Global};
 

@@ -9,10 +9,10 @@
 use crate::by_kind;
 use crate::fields::{Found, built};
 use crate::show::{put_place, put_word};
-use sh_memory::NoMemory;
+use sh_base::NoMemory;
 use sh_rows::Row;
-use sh_scanner::document::{BodyFault, body_pieces};
-use sh_scanner_base::mark::Mark;
+use sh_token::body_pieces::{BodyFault, body_pieces};
+use sh_token_pieces::mark::Mark;
 use std::alloc::{AllocError, Global};
 
 /// How many levels may be open in a body.

@@ -1,6 +1,6 @@
 //! What is written of what a row comes to.
 use itoa::Buffer;
-use sh_memory::NoMemory;
+use sh_base::NoMemory;
 use std::alloc::{AllocError, Global};
 
 /// Writes a number.

@@ -10,9 +10,9 @@
 use crate::by_kind;
 use crate::fields::{Found, built};
 use crate::show::{put_place, put_word};
-use sh_memory::NoMemory;
+use sh_base::NoMemory;
 use sh_rows::Row;
-use sh_scanner::token::{Token, TokenFault, TokenKind, next_token};
+use sh_token::token::{Token, TokenFault, TokenKind, next_token};
 use std::alloc::{AllocError, Global};
 
 /// What stands first in a text. Places are numbers of bytes.

@@ -15,20 +15,20 @@
 //! `leaves WANTED TEXT OTHERS`: the text of the tree of a TEXT's derivation over the leaves of other tokens, `none` where they don't fit.
 //!
 //! What has no such tree comes to `none`.
-use crate::derivations::{Start, class_of};
 use crate::by_kind;
+use crate::derivations::{Start, class_of};
 use crate::fields::{Found, built, number, pieces};
 use crate::show::{put_number, put_word, word_of};
+use sh_base::NoMemory;
+use sh_base::name::is_name;
+use sh_base::sequence::{Sequence, Text};
+use sh_base::shared::Shared;
 use sh_grammar::{Action, Actions, Token};
-use sh_memory::NoMemory;
+use sh_parse_actions::leaf::Leaf;
 use sh_parse_trees::syntax_tree;
-use sh_parse_trees_base::leaf::Leaf;
 use sh_rows::Row;
-use sh_syntax::sequence::{Sequence, Text};
-use sh_syntax::shared::Shared;
-use sh_token_base::class::is_name;
-use sh_tree::text::command_text;
-use sh_tree::tree::{
+use sh_syntax::text::command_text;
+use sh_syntax::tree::{
     Command, Complete, HereDocumentOperator, Parts, RedirectOperator, Separator, SimpleItem, Word,
 };
 use std::alloc::{AllocError, Global};

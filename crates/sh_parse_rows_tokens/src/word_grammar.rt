@@ -15,9 +15,9 @@ ghost use Rattle.sh_grammar.specs.Tabulation.{tabulation_of};
 use crate::by_kind;
 use crate::fields::{Found, number, pieces};
 use crate::show::{put_number, put_place, put_word, word_of};
+use sh_base::NoMemory;
 use sh_grammar::Symbol::{Nonterminal, Terminal};
 use sh_grammar::{Action, Recognizer, Symbol, Tables, Token};
-use sh_memory::NoMemory;
 use sh_rows::Row;
 use std::alloc::{AllocError, Global};
 

@@ -3,7 +3,7 @@ use Rattle.std.proofs.Common.{◌≡◌, refl, subst, ℕ, zero, suc, Bool, List
 use Rattle.sh_grammar.specs.declared.Symbol.{Symbol}
 use Rattle.sh_grammar.specs.Grammar.{Rule, IsRule}
 use Rattle.sh_grammar.specs.Tabulation.{grammar_of}
-use Rattle.sh_token_base.specs.Shell.{complete, substitution}
+use Rattle.sh_token_grammar.specs.Shell.{complete, substitution}
 use Rattle.sh_parse_trees.specs.Productions.{kept_symbols, productions}
 use Rattle.sh_parse_trees.proofs.Whole.{Counts}
 

@@ -8,10 +8,10 @@ use Rattle.sh_grammar.specs.Grammar.{Tree}
 use Rattle.sh_grammar.specs.Leftmost.{preorder}
 use Rattle.sh_grammar.specs.Tabulation.{Tabulation, grammar_of}
 use Rattle.sh_grammar.specs.Text.{IsTreeOf}
-use Rattle.sh_token_base.specs.Shell.{complete, substitution}
-use Rattle.sh_tree.specs.declared.tree.Complete.{Complete}
-use Rattle.sh_parse_trees_base.specs.declared.leaf.Leaf.{Leaf as TokenLeaf}
-use Rattle.sh_parse_trees_base.specs.declared.value.Value.{Value}
+use Rattle.sh_token_grammar.specs.Shell.{complete, substitution}
+use Rattle.sh_syntax.specs.declared.tree.Complete.{Complete}
+use Rattle.sh_parse_actions.specs.declared.leaf.Leaf.{Leaf as TokenLeaf}
+use Rattle.sh_parse_actions.specs.declared.value.Value.{Value}
 use Rattle.sh_parse_trees.specs.declared.stack.Making.{Making}
 use Rattle.sh_parse_trees.specs.Meaning.{IsSyntaxWhere, whole_list, syntax_of, value_of, width}
 use Rattle.sh_parse_trees.specs.Stack.{finished, finished_with, made_all, run_from, started}

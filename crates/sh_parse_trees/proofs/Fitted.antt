@@ -6,12 +6,12 @@ use Rattle.sh_grammar.specs.declared.Symbol.TheVariants.{Terminal, Nonterminal}
 use Rattle.sh_grammar.specs.declared.Token.{Token}
 use Rattle.sh_grammar.specs.Grammar.{Grammar, IsRule, IsTree, AreTrees, Tree, Forest, Leaf, Node, Empty, And, leaves, all_leaves, next_class}
 use Rattle.sh_grammar.specs.Tabulation.{grammar_of}
-use Rattle.sh_token_base.specs.Shell.{complete, substitution}
-use Rattle.sh_parse_trees_base.specs.declared.kind.Kind.{Kind}
-use Rattle.sh_parse_trees_base.specs.declared.leaf.Leaf.{Leaf as TokenLeaf}
-use Rattle.sh_parse_trees_base.specs.declared.value.Value.{Value}
-use Rattle.sh_parse_trees_base.specs.Made.{made}
-use Rattle.sh_parse_trees_base.specs.Values.{list_in}
+use Rattle.sh_token_grammar.specs.Shell.{complete, substitution}
+use Rattle.sh_parse_actions.specs.declared.kind.Kind.{Kind}
+use Rattle.sh_parse_actions.specs.declared.leaf.Leaf.{Leaf as TokenLeaf}
+use Rattle.sh_parse_actions.specs.declared.value.Value.{Value}
+use Rattle.sh_parse_actions.specs.Actions.{made}
+use Rattle.sh_parse_actions.specs.Values.{list_in}
 use Rattle.sh_parse_trees.specs.Fitting.{FittingHaveSyntax, all_fit, fits}
 use Rattle.sh_parse_trees.specs.Meaning.{whole_list, kept_by, kept_values, syntax_of, value_made, value_of, values_of, width}
 use Rattle.sh_parse_trees.specs.Productions.{kinds}

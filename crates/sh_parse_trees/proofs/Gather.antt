@@ -1,12 +1,12 @@
 -- Taking a production's values off the stack, and putting its own there.
 use Rattle.std.proofs.Common.{◌≡◌, refl, ap, ◌∙◌, arith, ℕ, zero, suc, ◌≤◌, nat_le, Bool, true, false, ◌&&◌, List, [], ◌∷◌, ◌++◌, length, Option, Some, None, option_map, option_and_then, slice_get, slice_index_or}
 use Rattle.std.proofs.lemmas.Bool.{leb-true}
-use Rattle.sh_parse_trees_base.specs.declared.kind.Kind.{Kind}
-use Rattle.sh_parse_trees_base.specs.declared.value.Children.{Children}
-use Rattle.sh_parse_trees_base.specs.declared.value.Children.TheVariants as children
-use Rattle.sh_parse_trees_base.specs.declared.value.Value.{Value}
-use Rattle.sh_parse_trees_base.specs.Made.{made}
-use Rattle.sh_parse_trees_base.specs.Values.{children_values, joined}
+use Rattle.sh_parse_actions.specs.declared.kind.Kind.{Kind}
+use Rattle.sh_parse_actions.specs.declared.value.Children.{Children}
+use Rattle.sh_parse_actions.specs.declared.value.Children.TheVariants as children
+use Rattle.sh_parse_actions.specs.declared.value.Value.{Value}
+use Rattle.sh_parse_actions.specs.Actions.{made}
+use Rattle.sh_parse_actions.specs.Values.{children_values, joined}
 use Rattle.sh_parse_trees.specs.Meaning.{kept_by, kept_values, value_made}
 use Rattle.sh_parse_trees.specs.Productions.{productions, kept_symbols, kinds}
 use Rattle.sh_parse_trees.specs.Stack.{expanded, gathered, made_on, put}

@@ -7,8 +7,8 @@ use Rattle.sh_grammar.specs.declared.Action.{Action}
 use Rattle.sh_grammar.specs.declared.Action.TheVariants.{Expand, Shift}
 use Rattle.sh_grammar.specs.Grammar.{Tree, Forest, Leaf, Node, Empty, And, leaves, all_leaves}
 use Rattle.sh_grammar.specs.Leftmost.{preorder, preorders}
-use Rattle.sh_parse_trees_base.specs.declared.leaf.Leaf.{Leaf as TokenLeaf}
-use Rattle.sh_parse_trees_base.specs.declared.value.Value.{Value}
+use Rattle.sh_parse_actions.specs.declared.leaf.Leaf.{Leaf as TokenLeaf}
+use Rattle.sh_parse_actions.specs.declared.value.Value.{Value}
 use Rattle.sh_parse_trees.specs.declared.stack.Making.{Making}
 use Rattle.sh_parse_trees.specs.Meaning.{kept_by, value_made, value_of, values_of, width}
 use Rattle.sh_parse_trees.specs.Stack.{run_from, stepped}

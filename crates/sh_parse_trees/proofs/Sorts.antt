@@ -2,27 +2,27 @@
 use Rattle.std.proofs.Common.{◌≡◌, refl, sym, subst, ℕ, nat_eq, Bool, true, false, ◌&&◌, ◌||◌, List, [], ◌∷◌, get_or, Option, Some, None, is_some, option_map, option_and_then}
 use Rattle.std.specs.Option.{option_zip}
 use Rattle.std.proofs.lemmas.Bool.{eqb-true}
-use Rattle.sh_tree.specs.declared.tree.Compound.{Compound}
-use Rattle.sh_tree.specs.declared.tree.Name.{Name}
-use Rattle.sh_tree.specs.declared.tree.Word.{Word}
-use Rattle.sh_parse_trees_base.specs.declared.kind.Item.{Item}
-use Rattle.sh_parse_trees_base.specs.declared.kind.Item.TheVariants as item
-use Rattle.sh_parse_trees_base.specs.declared.kind.Kind.{Kind}
-use Rattle.sh_parse_trees_base.specs.declared.kind.Kind.TheVariants.{Nothing, One, Two, Three}
-use Rattle.sh_parse_trees_base.specs.declared.kind.Unary.{Unary}
-use Rattle.sh_parse_trees_base.specs.declared.kind.Unary.TheVariants as one
-use Rattle.sh_parse_trees_base.specs.declared.kind.Binary.{Binary}
-use Rattle.sh_parse_trees_base.specs.declared.kind.Binary.TheVariants as two
-use Rattle.sh_parse_trees_base.specs.declared.kind.Ternary.{Ternary}
-use Rattle.sh_parse_trees_base.specs.declared.kind.Ternary.TheVariants as three
-use Rattle.sh_parse_trees_base.specs.declared.leaf.Leaf.{Leaf}
-use Rattle.sh_parse_trees_base.specs.declared.leaf.Leaf.TheVariants as leaf
-use Rattle.sh_parse_trees_base.specs.declared.value.Parameters.{Parameters}
-use Rattle.sh_parse_trees_base.specs.declared.value.Values.{Values}
-use Rattle.sh_parse_trees_base.specs.declared.value.Value.{Value}
-use Rattle.sh_parse_trees_base.specs.declared.value.Value.TheVariants as value
-use Rattle.sh_parse_trees_base.specs.Made.{made, made_for, made_named, made_one, made_redirect, made_three, made_two}
-use Rattle.sh_parse_trees_base.specs.Values.{leaf_target, and_or_in, body_in, case_items_in, command_in, commands_in, complete_in, else_in, form_in, item_body_in, item_end_in, item_in, items_in, leaf_in, list_in, loop_in, name_in, number_in, parameters_in, patterns_in, pipeline_in, pipelines_in, redirect_in, redirects_in, tail_in, target_in, values_in, word_in}
+use Rattle.sh_syntax.specs.declared.tree.Compound.{Compound}
+use Rattle.sh_syntax.specs.declared.tree.Name.{Name}
+use Rattle.sh_syntax.specs.declared.tree.Word.{Word}
+use Rattle.sh_parse_actions.specs.declared.kind.Item.{Item}
+use Rattle.sh_parse_actions.specs.declared.kind.Item.TheVariants as item
+use Rattle.sh_parse_actions.specs.declared.kind.Kind.{Kind}
+use Rattle.sh_parse_actions.specs.declared.kind.Kind.TheVariants.{Nothing, One, Two, Three}
+use Rattle.sh_parse_actions.specs.declared.kind.Unary.{Unary}
+use Rattle.sh_parse_actions.specs.declared.kind.Unary.TheVariants as one
+use Rattle.sh_parse_actions.specs.declared.kind.Binary.{Binary}
+use Rattle.sh_parse_actions.specs.declared.kind.Binary.TheVariants as two
+use Rattle.sh_parse_actions.specs.declared.kind.Ternary.{Ternary}
+use Rattle.sh_parse_actions.specs.declared.kind.Ternary.TheVariants as three
+use Rattle.sh_parse_actions.specs.declared.leaf.Leaf.{Leaf}
+use Rattle.sh_parse_actions.specs.declared.leaf.Leaf.TheVariants as leaf
+use Rattle.sh_parse_actions.specs.declared.value.Parameters.{Parameters}
+use Rattle.sh_parse_actions.specs.declared.value.Values.{Values}
+use Rattle.sh_parse_actions.specs.declared.value.Value.{Value}
+use Rattle.sh_parse_actions.specs.declared.value.Value.TheVariants as value
+use Rattle.sh_parse_actions.specs.Actions.{made, made_for, made_named, made_one, made_redirect, made_three, made_two}
+use Rattle.sh_parse_actions.specs.Values.{leaf_target, and_or_in, body_in, case_items_in, command_in, commands_in, complete_in, else_in, form_in, item_body_in, item_end_in, item_in, items_in, leaf_in, list_in, loop_in, name_in, number_in, parameters_in, patterns_in, pipeline_in, pipelines_in, redirect_in, redirects_in, tail_in, target_in, values_in, word_in}
 use Rattle.sh_parse_trees.proofs.Bools.{left_true, right_true, or_true, second_true}
 
 -- sorts by number: a value is of a sort where it has a part of that sort

@@ -5,12 +5,12 @@ use Rattle.sh_grammar.specs.declared.Token.{Token}
 use Rattle.sh_grammar.specs.Grammar.{Tree}
 use Rattle.sh_grammar.specs.Tabulation.{Tabulation}
 use Rattle.sh_grammar.specs.Text.{IsTreeOf}
-use Rattle.sh_token_base.specs.declared.class.TokenClass.{TokenClass}
-use Rattle.sh_token_base.specs.declared.class.TokenClass.TheVariants as class
-use Rattle.sh_token_base.specs.Classes.{class_number}
-use Rattle.sh_token_base.specs.Shell.{names}
-use Rattle.sh_parse_trees_base.specs.declared.leaf.Leaf.{Leaf}
-use Rattle.sh_parse_trees_base.specs.declared.leaf.Leaf.TheVariants as leaf
+use Rattle.sh_token_grammar.specs.declared.class.TokenClass.{TokenClass}
+use Rattle.sh_token_grammar.specs.declared.class.TokenClass.TheVariants as class
+use Rattle.sh_token_grammar.specs.Classes.{class_number}
+use Rattle.sh_token_grammar.specs.Shell.{names}
+use Rattle.sh_parse_actions.specs.declared.leaf.Leaf.{Leaf}
+use Rattle.sh_parse_actions.specs.declared.leaf.Leaf.TheVariants as leaf
 use Rattle.sh_parse_trees.specs.Meaning.{syntax_of}
 
 -- operators that stand for themselves, and the newline

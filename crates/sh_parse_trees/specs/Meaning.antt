@@ -7,13 +7,13 @@ use Rattle.sh_grammar.specs.Leftmost.{preorder}
 use Rattle.sh_grammar.specs.Tabulation.{Tabulation}
 use Rattle.sh_grammar.specs.Text.{IsTreeOf}
 use Rattle.sh_grammar.specs.Grammar.{Tree, Forest, Leaf, Node, Empty, And, leaves}
-use Rattle.sh_tree.specs.declared.tree.Complete.{Complete}
-use Rattle.sh_parse_trees_base.specs.declared.leaf.Leaf.{Leaf as TokenLeaf}
-use Rattle.sh_parse_trees_base.specs.declared.value.Value.{Value}
-use Rattle.sh_parse_trees_base.specs.declared.value.Value.TheVariants as value
-use Rattle.sh_parse_trees_base.specs.Forms.{complete}
-use Rattle.sh_parse_trees_base.specs.Made.{made}
-use Rattle.sh_parse_trees_base.specs.Values.{list_in}
+use Rattle.sh_syntax.specs.declared.tree.Complete.{Complete}
+use Rattle.sh_parse_actions.specs.declared.leaf.Leaf.{Leaf as TokenLeaf}
+use Rattle.sh_parse_actions.specs.declared.value.Value.{Value}
+use Rattle.sh_parse_actions.specs.declared.value.Value.TheVariants as value
+use Rattle.sh_parse_actions.specs.Forms.{complete}
+use Rattle.sh_parse_actions.specs.Actions.{made}
+use Rattle.sh_parse_actions.specs.Values.{list_in}
 use Rattle.sh_parse_trees.specs.Productions.{kept_symbols, kinds}
 
 -- the values of the symbols that matter

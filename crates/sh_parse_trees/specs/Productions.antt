@@ -5,16 +5,16 @@ use Rattle.std.specs.Prelude.{◌≡◌, Bool, true, false, List, [], ◌∷◌,
 use Rattle.sh_grammar.specs.declared.Symbol.{Symbol}
 use Rattle.sh_grammar.specs.Grammar.{Rule}
 use Rattle.sh_grammar.specs.Tabulation.{Tabulation, grammar_of}
-use Rattle.sh_token_base.specs.declared.class.TokenClass.TheVariants.{And, AndIf, Bang, Case, Do, Done, DoubleSemicolon, Elif, Else, Esac, Fi, For, If, In, LeftBrace, LeftParenthesis, Newline, Number, OrIf, Pipe, Redirection, RightBrace, RightParenthesis, Semicolon, Then}
-use Rattle.sh_token_base.specs.Shell.{number_of, token, and_or, any_word, arguments, assignment, behind_name, behind_separator, behind_variable, command, command_word, complete_command, compound, compound_end, compound_list, else_part, for_lines, function_name, item_body, item_end, item_list, items, last_and_ors, loop, more_and_ors, more_commands, more_patterns, more_pipelines, newlines, other_word, others, pattern_word, pipeline, prefix, redirect, redirects, substituted, substituted_list, values, variable_name}
-use Rattle.sh_tree.specs.declared.tree.Connector.TheVariants as connector
-use Rattle.sh_tree.specs.declared.tree.Separator.TheVariants as separator
-use Rattle.sh_parse_trees_base.specs.declared.kind.Item.TheVariants as item
-use Rattle.sh_parse_trees_base.specs.declared.kind.Kind.{Kind}
-use Rattle.sh_parse_trees_base.specs.declared.kind.Kind.TheVariants.{Nothing, One, Two, Three}
-use Rattle.sh_parse_trees_base.specs.declared.kind.Unary.TheVariants as one
-use Rattle.sh_parse_trees_base.specs.declared.kind.Binary.TheVariants as two
-use Rattle.sh_parse_trees_base.specs.declared.kind.Ternary.TheVariants as three
+use Rattle.sh_token_grammar.specs.declared.class.TokenClass.TheVariants.{And, AndIf, Bang, Case, Do, Done, DoubleSemicolon, Elif, Else, Esac, Fi, For, If, In, LeftBrace, LeftParenthesis, Newline, Number, OrIf, Pipe, Redirection, RightBrace, RightParenthesis, Semicolon, Then}
+use Rattle.sh_token_grammar.specs.Shell.{number_of, token, and_or, any_word, arguments, assignment, behind_name, behind_separator, behind_variable, command, command_word, complete_command, compound, compound_end, compound_list, else_part, for_lines, function_name, item_body, item_end, item_list, items, last_and_ors, loop, more_and_ors, more_commands, more_patterns, more_pipelines, newlines, other_word, others, pattern_word, pipeline, prefix, redirect, redirects, substituted, substituted_list, values, variable_name}
+use Rattle.sh_syntax.specs.declared.tree.Connector.TheVariants as connector
+use Rattle.sh_syntax.specs.declared.tree.Separator.TheVariants as separator
+use Rattle.sh_parse_actions.specs.declared.kind.Item.TheVariants as item
+use Rattle.sh_parse_actions.specs.declared.kind.Kind.{Kind}
+use Rattle.sh_parse_actions.specs.declared.kind.Kind.TheVariants.{Nothing, One, Two, Three}
+use Rattle.sh_parse_actions.specs.declared.kind.Unary.TheVariants as one
+use Rattle.sh_parse_actions.specs.declared.kind.Binary.TheVariants as two
+use Rattle.sh_parse_actions.specs.declared.kind.Ternary.TheVariants as three
 
 -- a symbol of a body
 pub record BodySymbol : Type 0 where

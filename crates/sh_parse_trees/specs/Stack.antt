@@ -4,18 +4,18 @@ use Rattle.std.specs.Prelude.{ℕ, Bool, true, false, Option, Some, None, List, 
 use Rattle.std.specs.Option.{option_and_then}
 use Rattle.sh_grammar.specs.declared.Action.{Action}
 use Rattle.sh_grammar.specs.declared.Action.TheVariants.{Expand, Shift}
-use Rattle.sh_parse_trees_base.specs.declared.kind.Kind.{Kind}
-use Rattle.sh_parse_trees_base.specs.declared.leaf.Leaf.{Leaf}
-use Rattle.sh_parse_trees_base.specs.declared.value.Children.{Children}
-use Rattle.sh_parse_trees_base.specs.declared.value.Children.TheVariants as children
-use Rattle.sh_parse_trees_base.specs.declared.value.Value.{Value}
-use Rattle.sh_parse_trees_base.specs.declared.value.Value.TheVariants as value
-use Rattle.sh_parse_trees_base.specs.Made.{made}
-use Rattle.sh_parse_trees_base.specs.Values.{children_values, joined}
+use Rattle.sh_parse_actions.specs.declared.kind.Kind.{Kind}
+use Rattle.sh_parse_actions.specs.declared.leaf.Leaf.{Leaf}
+use Rattle.sh_parse_actions.specs.declared.value.Children.{Children}
+use Rattle.sh_parse_actions.specs.declared.value.Children.TheVariants as children
+use Rattle.sh_parse_actions.specs.declared.value.Value.{Value}
+use Rattle.sh_parse_actions.specs.declared.value.Value.TheVariants as value
+use Rattle.sh_parse_actions.specs.Actions.{made}
+use Rattle.sh_parse_actions.specs.Values.{children_values, joined}
 use Rattle.sh_parse_trees.specs.declared.stack.Making.{Making}
 use Rattle.sh_parse_trees.specs.Meaning.{whole_list, kept_by, only}
 use Rattle.sh_parse_trees.specs.Productions.{kinds}
-use Rattle.sh_tree.specs.declared.tree.Complete.{Complete}
+use Rattle.sh_syntax.specs.declared.tree.Complete.{Complete}
 
 -- a value that matters is one of the children
 abbrev pub put : Bool → Value → Children × List Value → Option (Children × List Value)

@@ -1,5 +1,5 @@
 //! Laws on the syntax of derivations.
-ghost use Rattle.sh_token_base.specs.Shell.{complete, substitution};
+ghost use Rattle.sh_token_grammar.specs.Shell.{complete, substitution};
 ghost use Rattle.sh_parse_trees.specs.Fitting.{FittingHaveSyntax};
 ghost use Rattle.sh_parse_trees.specs.Productions.{AreThoseOf};
 

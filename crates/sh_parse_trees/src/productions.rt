@@ -2,8 +2,8 @@
 ghost use Rattle.std.specs.Prelude.{◌≡◌, slice_get, slice_index_or, map, []};
 ghost use Rattle.sh_parse_trees.specs.Productions.{kept_symbols, kinds};
 
-use sh_parse_trees_base::kind::{Binary, Item, Kind, Ternary, Unary};
-use sh_tree::tree::{Connector, Separator};
+use sh_parse_actions::kind::{Binary, Item, Kind, Ternary, Unary};
+use sh_syntax::tree::{Connector, Separator};
 
 /// What each production makes of the symbols that matter.
 const KINDS: [Kind; 73] = [

@@ -4,11 +4,11 @@ ghost use Rattle.sh_parse_trees.specs.Stack.{expanded, gathered, made_on, put, r
 
 use crate::productions::{kept, kind};
 use sh_grammar::Action;
-use sh_parse_trees_base::backward::Backward;
-use sh_parse_trees_base::kind::Kind;
-use sh_parse_trees_base::leaf::Leaf;
-use sh_parse_trees_base::make::make;
-use sh_parse_trees_base::value::{Children, Value};
+use sh_parse_actions::backward::Backward;
+use sh_parse_actions::kind::Kind;
+use sh_parse_actions::leaf::Leaf;
+use sh_parse_actions::make::make;
+use sh_parse_actions::value::{Children, Value};
 use std::alloc::{AllocError, Global};
 
 /// A tree that is being made.

@@ -1,16 +1,16 @@
 //! The syntax tree of a derivation.
 ghost use Rattle.std.specs.Prelude.{◌≡◌, IfOk};
 ghost use Rattle.std.specs.Option.{is_some};
-ghost use Rattle.sh_token_base.specs.Shell.{complete, substitution};
+ghost use Rattle.sh_token_grammar.specs.Shell.{complete, substitution};
 ghost use Rattle.sh_parse_trees.specs.Meaning.{IsSyntaxWhere, whole_list, only};
 ghost use Rattle.sh_parse_trees.specs.Stack.{finished, made_all};
 
 use crate::stack::{Making, run};
 use sh_grammar::Action;
-use sh_parse_trees_base::backward::Backward;
-use sh_parse_trees_base::leaf::Leaf;
-use sh_parse_trees_base::value::Value;
-use sh_tree::tree::Complete;
+use sh_parse_actions::backward::Backward;
+use sh_parse_actions::leaf::Leaf;
+use sh_parse_actions::value::Value;
+use sh_syntax::tree::Complete;
 use std::alloc::{AllocError, Global};
 
 /// The list of commands of a derivation, which the recognizer gives as its actions: of a complete command (XCU 2.10.2), or of the

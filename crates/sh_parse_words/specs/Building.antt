@@ -1,14 +1,14 @@
 -- The parts of a word, piece by piece.
 use Rattle.std.specs.Prelude.{◌≡◌, ℕ, zero, suc, ◌-◌, Bool, true, false, nat_eq, List, [], ◌∷◌, ◌++◌, Option, Some, None, Result, Ok, Err, if◌then◌else◌}
-use Rattle.sh_scanner_base.specs.declared.mark.Mark.{Mark}
-use Rattle.sh_scanner_base.specs.declared.mark.Mark.TheVariants as mark
-use Rattle.sh_tree.specs.declared.tree.Part.{Part}
-use Rattle.sh_tree.specs.declared.tree.Parts.{Parts}
-use Rattle.sh_tree.specs.declared.tree.Part.TheVariants as part
-use Rattle.sh_tree.specs.declared.tree.Command.TheViews as view
-use Rattle.sh_tree.specs.declared.tree.Complete.{Complete}
-use Rattle.sh_tree.specs.declared.tree.Parameter.{Parameter}
-use Rattle.sh_tree.specs.declared.tree.Parameter.TheVariants.{Variable}
+use Rattle.sh_token_pieces.specs.declared.mark.Mark.{Mark}
+use Rattle.sh_token_pieces.specs.declared.mark.Mark.TheVariants as mark
+use Rattle.sh_syntax.specs.declared.tree.Part.{Part}
+use Rattle.sh_syntax.specs.declared.tree.Parts.{Parts}
+use Rattle.sh_syntax.specs.declared.tree.Part.TheVariants as part
+use Rattle.sh_syntax.specs.declared.tree.Command.TheViews as view
+use Rattle.sh_syntax.specs.declared.tree.Complete.{Complete}
+use Rattle.sh_syntax.specs.declared.tree.Parameter.{Parameter}
+use Rattle.sh_syntax.specs.declared.tree.Parameter.TheVariants.{Variable}
 use Rattle.sh_parse_words.specs.declared.parameter.Braces.{Braces}
 use Rattle.sh_parse_words.specs.declared.parameter.Braces.TheVariants as braces
 use Rattle.sh_parse_words.specs.declared.build.Form.{Form}

@@ -1,18 +1,19 @@
 -- What a `${..}` asks for (XCU 2.6.2), by the bytes between `${` and its word, and by whether anything stands behind these.
 use Rattle.std.specs.Prelude.{ℕ, zero, suc, ◌+◌, ◌*◌, ◌-◌, ◌^◌, min, Bool, true, false, ◌||◌, not, nat_eq, List, [], ◌∷◌, length, take, drop, position, Option, Some, None, if◌then◌else◌}
 use Rattle.std.specs.Option.{option_map, option_and_then, unwrap_or}
-use Rattle.sh_scanner_base.specs.Bytes.{is_digit, is_name_start, is_name_byte}
-use Rattle.sh_tree.specs.declared.tree.Parameter.{Parameter}
-use Rattle.sh_tree.specs.declared.tree.Parameter.TheVariants.{Variable, Positional, Special}
-use Rattle.sh_tree.specs.declared.tree.SpecialParameter.{SpecialParameter}
-use Rattle.sh_tree.specs.declared.tree.SpecialParameter.TheVariants.{At, Asterisk, Count, Status, Options, Process, Background, Zero}
-use Rattle.sh_tree.specs.declared.tree.Absence.{Absence}
-use Rattle.sh_tree.specs.declared.tree.Absence.TheVariants.{Unset, UnsetOrNull}
-use Rattle.sh_tree.specs.declared.tree.ConditionalAction.{ConditionalAction}
-use Rattle.sh_tree.specs.declared.tree.ConditionalAction.TheVariants.{Default, Assign, Error, Alternative}
-use Rattle.sh_tree.specs.declared.tree.Affix.TheVariants.{Prefix, Suffix}
-use Rattle.sh_tree.specs.declared.tree.Extent.{Extent}
-use Rattle.sh_tree.specs.declared.tree.Extent.TheVariants.{Smallest, Largest}
+use Rattle.std.specs.Char.{is_ascii_digit}
+use Rattle.sh_base.specs.Names.{begins_name, continues_name}
+use Rattle.sh_syntax.specs.declared.tree.Parameter.{Parameter}
+use Rattle.sh_syntax.specs.declared.tree.Parameter.TheVariants.{Variable, Positional, Special}
+use Rattle.sh_syntax.specs.declared.tree.SpecialParameter.{SpecialParameter}
+use Rattle.sh_syntax.specs.declared.tree.SpecialParameter.TheVariants.{At, Asterisk, Count, Status, Options, Process, Background, Zero}
+use Rattle.sh_syntax.specs.declared.tree.Absence.{Absence}
+use Rattle.sh_syntax.specs.declared.tree.Absence.TheVariants.{Unset, UnsetOrNull}
+use Rattle.sh_syntax.specs.declared.tree.ConditionalAction.{ConditionalAction}
+use Rattle.sh_syntax.specs.declared.tree.ConditionalAction.TheVariants.{Default, Assign, Error, Alternative}
+use Rattle.sh_syntax.specs.declared.tree.Affix.TheVariants.{Prefix, Suffix}
+use Rattle.sh_syntax.specs.declared.tree.Extent.{Extent}
+use Rattle.sh_syntax.specs.declared.tree.Extent.TheVariants.{Smallest, Largest}
 use Rattle.sh_parse_words.specs.declared.parameter.Braces.{Braces}
 use Rattle.sh_parse_words.specs.declared.parameter.Braces.TheVariants as braces
 
@@ -25,7 +26,7 @@ abbrev pub number_behind : ℕ → List ℕ → ℕ
 number_behind n [] = n
 number_behind n (b ∷ bs) = number_behind (capped (capped (n * 10) + (b - 48))) bs
 
--- `$01` is `$1`, and `$00` is `$0`
+-- `${01}` is `$1`, and `${00}` is `$0`
 abbrev pub numbered : ℕ → Parameter
 numbered zero = Special Zero
 numbered (suc n) = Positional (suc n)
@@ -48,13 +49,13 @@ count_while f bytes = unwrap_or (position (λ b. not (f b)) bytes) (length bytes
 abbrev pub parameter_size : List ℕ → ℕ
 parameter_size [] = 0
 parameter_size (b ∷ bs) =
-    if is_name_start b then count_while is_name_byte (b ∷ bs) else if is_digit b then count_while is_digit (b ∷ bs) else 1
+    if begins_name b then count_while continues_name (b ∷ bs) else if is_ascii_digit b then count_while is_ascii_digit (b ∷ bs) else 1
 
 -- the parameter that the bytes are
 abbrev pub parameter : List ℕ → Option Parameter
 parameter [] = None
 parameter (b ∷ bs) =
-    if is_name_start b then Some (Variable (b ∷ bs)) else if is_digit b then Some (numbered (number_behind 0 (b ∷ bs))) else special b
+    if begins_name b then Some (Variable (b ∷ bs)) else if is_ascii_digit b then Some (numbered (number_behind 0 (b ∷ bs))) else special b
 
 abbrev pub action : ℕ → Option ConditionalAction
 action b =

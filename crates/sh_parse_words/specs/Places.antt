@@ -1,9 +1,9 @@
 -- Where pieces stand in their text: each takes the bytes that it is written as, joined lines before a character being skipped (XCU 2.2.1).
 use Rattle.std.specs.Prelude.{ℕ, zero, suc, ◌-◌, ◌&&◌, nat_eq, List, [], ◌∷◌, length, drop, if◌then◌else◌}
-use Rattle.sh_scanner_base.specs.declared.character.Character.{Character}
-use Rattle.sh_scanner_base.specs.declared.character.Character.TheVariants.{Plain, Quoted, Raw}
-use Rattle.sh_scanner_base.specs.declared.mark.Mark.{Mark}
-use Rattle.sh_scanner_base.specs.Spelling.{spell_mark}
+use Rattle.sh_token_pieces.specs.declared.character.Character.{Character}
+use Rattle.sh_token_pieces.specs.declared.character.Character.TheVariants.{Plain, Quoted, Raw}
+use Rattle.sh_token_pieces.specs.declared.mark.Mark.{Mark}
+use Rattle.sh_token_pieces.specs.Spelling.{spell_mark}
 
 abbrev pub behind_joins : List ℕ → List ℕ
 behind_joins [] = []

@@ -1,6 +1,6 @@
 //! The commands between backquotes.
 ghost use Rattle.std.specs.Prelude.{◌≡◌, IfOk};
-ghost use Rattle.sh_scanner_base.specs.Bytes.{is_quoted_escape};
+ghost use Rattle.sh_token_pieces.specs.Bytes.{is_quoted_escape};
 ghost use Rattle.sh_parse_words.specs.Backquotes.{is_escape, unescaped};
 
 use std::alloc::{AllocError, Global};

@@ -1,6 +1,6 @@
 //! The parts of a word, put together piece by piece.
 ghost use Rattle.std.specs.Prelude.{◌≡◌, ◌++◌, ◌∷◌, [], suc, ◌-◌, not, nat_eq, if◌then◌else◌, Err, IfOk, OnOk, None, Some, Ok, option_map};
-ghost use Rattle.sh_tree.specs.declared.tree.Part.{Part as PartTree};
+ghost use Rattle.sh_syntax.specs.declared.tree.Part.{Part as PartTree};
 ghost use Rattle.sh_parse_words.specs.Parameters.{braces_of, short};
 ghost use Rattle.sh_parse_words.specs.declared.fault.PartFault.TheVariants as fault;
 ghost use Rattle.sh_parse_words.specs.declared.build.Form.TheVariants as form;
@@ -8,10 +8,10 @@ ghost use Rattle.sh_parse_words.specs.Building.{Building, Takes, begun, parts_of
 
 use crate::fault::PartFault;
 use crate::parameter::{Braces, parameter};
-use sh_scanner_base::mark::Mark;
-use sh_syntax::sequence::{Sequence, Text};
-use sh_syntax::shared::Shared;
-use sh_tree::tree::{Complete, Parameter, Part, Parts};
+use sh_base::sequence::{Sequence, Text};
+use sh_base::shared::Shared;
+use sh_syntax::tree::{Complete, Parameter, Part, Parts};
+use sh_token_pieces::mark::Mark;
 use std::alloc::{AllocError, Global};
 use std::marker::Model;
 use std::mem;
@@ -88,7 +88,7 @@ pub struct Builder {
 impl Model for Builder {
     ghost use Rattle.std.specs.Coded.{codes};
     ghost use Rattle.sh_parse_words.specs.Building.{Building};
-    ghost use Rattle.sh_tree.specs.contracts.tree.Part as part_row;
+    ghost use Rattle.sh_syntax.specs.contracts.tree.Part as part_row;
 
     ghost Value = { Building };
 

@@ -1,7 +1,7 @@
 //! Why a word has no parts.
-ghost use Rattle.sh_memory.specs.Memory.{no_memory};
+ghost use Rattle.sh_base.specs.Memory.{no_memory};
 
-use sh_memory::NoMemory;
+use sh_base::NoMemory;
 use std::alloc::{AllocError, AllocFailed};
 use thiserror::Error;
 

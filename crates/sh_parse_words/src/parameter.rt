@@ -2,11 +2,12 @@
 ghost use Rattle.std.specs.Prelude.{◌≡◌, ◌≤◌, IfOk, suc, length, position, not, take, drop, ◌∷◌, []};
 ghost use Rattle.std.specs.Option.{option_map, unwrap_or};
 ghost use Rattle.sh_parse_words.specs.Parameters.{number_behind, numbered, special, count_while, parameter_size, parameter, action, removal, by_operator, whole_parameter, length_of, behind_hash, behind_other, braces_of, short};
-ghost use Rattle.sh_scanner_base.specs.Bytes.{is_digit, is_name_byte};
+ghost use Rattle.std.specs.Char.{is_ascii_digit};
+ghost use Rattle.sh_base.specs.Names.{continues_name};
 
-use sh_scanner_base::byte;
-use sh_syntax::sequence::Sequence;
-use sh_tree::tree::{Absence, Affix, ConditionalAction, Extent, Parameter, SpecialParameter};
+use sh_base::name::{begins_name, continues_name};
+use sh_base::sequence::Sequence;
+use sh_syntax::tree::{Absence, Affix, ConditionalAction, Extent, Parameter, SpecialParameter};
 use std::alloc::{AllocError, Global};
 
 /// What a `${..}` asks for (XCU 2.6.2). The word or pattern is what stands behind its operator.
@@ -70,32 +71,26 @@ fn special(b: u8) -> Option<Parameter>
     }
 }
 
-fn is_digit(b: u8) -> bool
-    ensures { result ≡ is_digit b }
-{
-    b.is_ascii_digit()
-}
-
 fn ends_name(b: u8) -> bool
-    ensures { result ≡ not (is_name_byte b) }
+    ensures { result ≡ not (continues_name b) }
 {
-    !byte::continues_name(b)
+    !continues_name(b)
 }
 
 fn ends_number(b: u8) -> bool
-    ensures { result ≡ not (is_digit b) }
+    ensures { result ≡ not (is_ascii_digit b) }
 {
-    !is_digit(b)
+    !b.is_ascii_digit()
 }
 
 fn end_of_name(bytes: &[u8]) -> Option<usize>
-    ensures { result ≡ position (λ b. not (is_name_byte b)) bytes.now }
+    ensures { result ≡ position (λ b. not (continues_name b)) bytes.now }
 {
     bytes.iter().position(|b| ends_name(*b))
 }
 
 fn end_of_number(bytes: &[u8]) -> Option<usize>
-    ensures { result ≡ position (λ b. not (is_digit b)) bytes.now }
+    ensures { result ≡ position (λ b. not (is_ascii_digit b)) bytes.now }
 {
     bytes.iter().position(|b| ends_number(*b))
 }
@@ -107,9 +102,9 @@ fn parameter_size(bytes: &[u8]) -> usize
     let Some((first, _)) = bytes.split_first() else {
         return 0;
     };
-    if byte::begins_name(*first) {
+    if begins_name(*first) {
         end_of_name(bytes).unwrap_or(bytes.len())
-    } else if is_digit(*first) {
+    } else if first.is_ascii_digit() {
         end_of_number(bytes).unwrap_or(bytes.len())
     } else {
         1
@@ -124,11 +119,11 @@ pub fn parameter(alloc: Global, bytes: &[u8]) -> Result<Option<Parameter>, Alloc
     let Some((first, _)) = bytes.split_first() else {
         return Ok(None);
     };
-    if byte::begins_name(*first) {
+    if begins_name(*first) {
         let name = bytes.to_vec(alloc)?;
         return Ok(Some(Parameter::Variable(Sequence::from_vec(name))));
     }
-    if is_digit(*first) {
+    if first.is_ascii_digit() {
         return Ok(Some(numbered(number(bytes))));
     }
     Ok(special(*first))

@@ -1,9 +1,9 @@
 //! Where pieces stand in their text.
 ghost use Rattle.std.specs.Prelude.{◌≡◌, drop};
-ghost use Rattle.sh_scanner_base.specs.Spelling.{spell_mark};
+ghost use Rattle.sh_token_pieces.specs.Spelling.{spell_mark};
 ghost use Rattle.sh_parse_words.specs.Places.{behind_joins, behind_plain, behind_piece};
 
-use sh_scanner_base::mark::Mark;
+use sh_token_pieces::mark::Mark;
 
 /// The text behind the joined lines at its beginning (XCU 2.2.1).
 pub fn behind_joins(bytes: &[u8]) -> &[u8]

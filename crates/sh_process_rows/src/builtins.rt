@@ -1,11 +1,11 @@
 //! `builtin COMMANDS ANSWERS`: commands, with `|` between them, and what comes of each, on a directory and a file in it. There are no
 //! variables at first. `args` writes the positional parameters, `flags` the options' letters.
 use crate::outcomes::{put_next, words_of};
+use sh_base::NoMemory;
+use sh_base::sequence::{Sequence, Text};
 use sh_builtin_vars::{Mark, Outcome, cd, mark, pwd, set, shift, unset};
 use sh_files::Files;
-use sh_memory::NoMemory;
 use sh_rows::RowFault;
-use sh_syntax::sequence::{Sequence, Text};
 use sh_vars::{Options, Vars};
 use std::alloc::Global;
 
@@ -19,15 +19,14 @@ fn parameters(alloc: Global, vars: &Vars) -> Result<Outcome, NoMemory> {
         if place > 0 {
             text.push(b',')?;
         }
-        text.extend_from_slice(parameter.as_bytes())?;
+        text.extend_from_slice(parameter.as_slice())?;
     }
     Ok(Outcome::Output(text))
 }
 
 /// The letters of the options that are on.
 fn flags(alloc: Global, options: Options) -> Result<Outcome, NoMemory> {
-    let letters = options.letters(alloc)?;
-    Ok(Outcome::Output(Sequence::from_vec(letters.into_bytes())))
+    Ok(Outcome::Output(options.letters(alloc)?))
 }
 
 /// What a command comes to.

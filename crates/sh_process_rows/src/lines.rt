@@ -1,7 +1,7 @@
 //! `line IFS COUNT LINE TEXTS`: the texts that a line is split into for so many variables, with `|` between them. IFS is `-` where it is
 //! unset, `_` where it is empty. A backslash quotes the byte behind it.
-use sh_expand_line::split_line;
-use sh_memory::NoMemory;
+use sh_base::NoMemory;
+use sh_expand_fields::split_line;
 use sh_pattern::Mark;
 use sh_rows::RowFault;
 use sh_vars::Vars;

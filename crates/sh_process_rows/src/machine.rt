@@ -1,12 +1,12 @@
 //! `machine pipes ANSWER`, `machine redirects ANSWER`: processes between pipes, and a redirection that is undone.
 use crate::calls::opening;
 use crate::steps::truth;
-use sh_exec_base::redirection::{Action, Redirection};
+use sh_base::sequence::Sequence;
 use sh_exec_machine::{fork_process, redirect, restore_all};
+use sh_exec_parts::redirection::{Action, Redirection};
 use sh_files::Files;
 use sh_kernel::{Kernel, KernelFault, Name};
 use sh_rows::RowFault;
-use sh_syntax::sequence::Sequence;
 use std::alloc::{AllocError, Global};
 
 /// The first process, which is the shell.

@@ -4,7 +4,7 @@
 //! end, `..` behind 20 turns. `twice` is the same of programs with one more beside them. `name WORD` is a word that names no program.
 use crate::steps::{number_of, truth};
 use crate::twice::WithTwice;
-use sh_memory::NoMemory;
+use sh_base::NoMemory;
 use sh_rows::{Row, RowFault};
 use sh_stock::{Answer, Ask, Program, Stock, Text};
 use std::alloc::Global;
@@ -63,7 +63,7 @@ impl Machine<'_> {
             },
             Ask::Write(text) => {
                 notes.extend_from_slice(b"[")?;
-                notes.extend_from_slice(text.as_bytes())?;
+                notes.extend_from_slice(text.as_slice())?;
                 notes.extend_from_slice(b"]")?;
                 Ok(Some(self.write()))
             },
@@ -123,7 +123,7 @@ fn noted<S: Stock>(alloc: Global, words: &[Text], machine: Machine) -> Result<Ve
     let Some((name, operands)) = words.split_first() else {
         return Ok(Vec::new(alloc));
     };
-    match S::start(alloc, name.as_bytes(), operands)? {
+    match S::start(alloc, name.as_slice(), operands)? {
         Some(program) => notes(alloc, program, machine),
         None => Ok(Vec::new(alloc)),
     }

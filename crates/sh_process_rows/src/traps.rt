@@ -1,12 +1,12 @@
 //! `trap COMMANDS ANSWERS`: commands, with `|` between them, and what comes of each. `sub` makes the traps those of a subshell, `action`
 //! tells the action of a condition. `default SIGNAL ACTION`: what a signal does by default.
 use crate::outcomes::{put_next, words_of};
+use sh_base::NoMemory;
+use sh_base::sequence::{Sequence, Text};
 use sh_builtin_traps::{Condition, Traps, trap};
 use sh_builtin_vars::Outcome;
-use sh_memory::NoMemory;
 use sh_rows::RowFault;
 use sh_signal::{DefaultAction, Signal};
-use sh_syntax::sequence::{Sequence, Text};
 use std::alloc::Global;
 
 /// The action of the condition that a word names.

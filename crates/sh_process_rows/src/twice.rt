@@ -2,7 +2,7 @@
 ghost use Rattle.std.specs.Prelude.{◌≡◌, IfOk, Option};
 ghost use Rattle.sh_process_rows.specs.Twice.{twice, twice_ask};
 
-use sh_memory::NoMemory;
+use sh_base::NoMemory;
 use sh_stock::{Answer, Ask, Filter, Stock, Text};
 use std::alloc::Global;
 use std::marker::Model;
@@ -70,7 +70,7 @@ fn twice(alloc: Global, bytes: &[u8]) -> Result<Text, NoMemory>
         doubled.extend_from_slice(&[*byte, *byte])?;
         rest = others;
     }
-    Ok(Text::from(doubled))
+    Ok(Text::from_vec(doubled))
 }
 
 /// What `twice` asks next.
@@ -80,10 +80,10 @@ fn twice_ask(alloc: Global, answer: Answer) -> Result<Ask, NoMemory>
     match answer {
         Answer::Started => Ok(Ask::Read(1024)),
         Answer::Bytes(bytes) => {
-            if bytes.as_bytes().is_empty() {
+            if bytes.as_slice().is_empty() {
                 return Ok(Ask::End(0));
             }
-            Ok(Ask::Write(twice(alloc, bytes.as_bytes())?))
+            Ok(Ask::Write(twice(alloc, bytes.as_slice())?))
         },
         Answer::Done => Ok(Ask::Read(1024)),
         Answer::Failed => Ok(Ask::End(1)),

@@ -8,7 +8,8 @@ use Rattle.sh_stock.specs.Filtering.{Filtering, IsFilter, KeepsFilterLaws, Keeps
 use Rattle.sh_stock.specs.Filters.{cat_filter, count_filter, filter_alone, filtering_of, filterings, head_filter}
 use Rattle.sh_stock.specs.HavingLaw.{having_is_filter, having_keeps_parts}
 use Rattle.sh_stock.specs.HeadLaw.{head_is_filter, head_keeps_parts}
-use Rattle.sh_stock.specs.Programs.{alone, head_of, is_number, misused, name_of, programs, started_by, value_behind}
+use Rattle.sh_stock.specs.Programs.{alone, head_of, misused, name_of, programs, started_by}
+use Rattle.sh_base.specs.Decimals.{is_number, value_of}
 use Rattle.sh_stock.specs.declared.name.Name.{Name}
 use Rattle.sh_stock.specs.declared.name.Name.TheVariants.{Cat, Echo, True, False, Yes, Spin, Head, Having, Count, ReadStop}
 use Rattle.sh_stock.specs.declared.program.Program.{Program}
@@ -42,7 +43,7 @@ made_well (Some Yes) operands = tt
 made_well (Some Spin) operands = tt
 made_well (Some Head) [] = tt
 made_well (Some Head) (option ∷ []) = tt
-made_well (Some Head) (option ∷ number ∷ []) = head_well (bytes_eq option (codes "-n") && is_number number) (value_behind 0 number)
+made_well (Some Head) (option ∷ number ∷ []) = head_well (bytes_eq option (codes "-n") && is_number number) (value_of number)
 made_well (Some Head) (option ∷ number ∷ other ∷ others) = tt
 made_well (Some Having) [] = tt
 made_well (Some Having) (text ∷ []) = record { parts = having_keeps_parts text; filters = having_is_filter text }

@@ -3,7 +3,8 @@ use Rattle.std.specs.Prelude.{ℕ, List, [], ◌∷◌, ◌++◌, ◌&&◌, not,
 use Rattle.std.specs.Str.{bytes_eq}
 use Rattle.sh_stock.specs.Filtering.{Filtering}
 use Rattle.sh_stock.specs.Lines.{contains, first_lines, is_empty, kept_lines, unfinished}
-use Rattle.sh_stock.specs.Programs.{count_limit, count_text, is_number, name_of, value_behind}
+use Rattle.sh_stock.specs.Programs.{count_limit, count_text, name_of}
+use Rattle.sh_base.specs.Decimals.{is_number, value_of}
 use Rattle.sh_stock.specs.declared.name.Name.{Name}
 use Rattle.sh_stock.specs.declared.name.Name.TheVariants.{Cat, Echo, True, False, Yes, Spin, Head, Having, Count, ReadStop}
 
@@ -49,7 +50,7 @@ abbrev pub head_filtering : List (List ℕ) → Option Filtering
 head_filtering [] = None
 head_filtering (option ∷ []) = None
 head_filtering (option ∷ number ∷ []) =
-    if bytes_eq option (codes "-n") && is_number number then Some (head_filter (value_behind 0 number)) else None
+    if bytes_eq option (codes "-n") && is_number number then Some (head_filter (value_of number)) else None
 head_filtering (option ∷ number ∷ other ∷ others) = None
 
 abbrev pub having_filtering : List (List ℕ) → Option Filtering

@@ -1,8 +1,8 @@
 -- The stock programs: what each asks in its first turn, at the bytes of a read (none at end of file), when a write or a
 -- stop is done, and when a read or a write failed.
-use Rattle.std.specs.Prelude.{ℕ, List, [], ◌∷◌, ◌++◌, ◌+◌, ◌*◌, ◌-◌, ◌^◌, Bool, true, false, ◌&&◌, ◌==◌, not, min, nat_le, length, codes, decimal, Option, Some, None, if◌then◌else◌}
-use Rattle.std.specs.List.{join_with_byte, list_all, list_any}
-use Rattle.std.specs.Char.{is_ascii_digit}
+use Rattle.std.specs.Prelude.{ℕ, List, [], ◌∷◌, ◌++◌, ◌+◌, ◌-◌, ◌^◌, true, false, ◌&&◌, ◌==◌, not, min, length, codes, decimal, Option, Some, None, if◌then◌else◌}
+use Rattle.std.specs.List.{join_with_byte, list_any}
+use Rattle.sh_base.specs.Decimals.{is_number, value_of}
 use Rattle.std.specs.Str.{bytes_eq}
 use Rattle.sh_stock.specs.Asking.{Meaning}
 use Rattle.sh_stock.specs.Lines.{first_lines, newlines, unfinished, contains, kept_lines, is_empty, is_newline}
@@ -150,15 +150,6 @@ program_turn (Having search) answer = having_turn search answer
 program_turn (Count count) answer = count_turn count answer
 program_turn (ReadStop line) answer = readstop_turn line answer
 
--- the value of decimal digits behind a number
-abbrev pub value_behind : ℕ → List ℕ → ℕ
-value_behind value [] = value
-value_behind value (digit ∷ digits) = value_behind (10 * value + (digit - 48)) digits
-
--- a number operand has one to 18 decimal digits
-abbrev pub is_number : List ℕ → Bool
-is_number operand = nat_le 1 (length operand) && (nat_le (length operand) 18 && list_all is_ascii_digit operand)
-
 -- what wrong operands make of a program
 abbrev pub misused : Program
 misused = Ending 2
@@ -174,7 +165,7 @@ echo_text operands = join_with_byte 32 operands ++ 10 ∷ []
 -- head -n NUMBER
 abbrev pub head_started_by : List ℕ → List ℕ → Program
 head_started_by option number =
-    if bytes_eq option (codes "-n") && is_number number then head_of (value_behind 0 number) else misused
+    if bytes_eq option (codes "-n") && is_number number then head_of (value_of number) else misused
 
 abbrev pub head_started : List (List ℕ) → Program
 head_started [] = misused

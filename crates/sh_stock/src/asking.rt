@@ -1,5 +1,5 @@
 // Asks and answers.
-use crate::text::Text;
+use sh_base::sequence::Text;
 
 /// What a program asks of the machine that runs it.
 #[derive(Drop)]

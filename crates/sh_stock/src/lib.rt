@@ -14,10 +14,9 @@ mod name;
 mod program;
 mod start;
 mod stock;
-mod text;
 
 pub use asking::{Answer, Ask, Turn};
 pub use laws::laws_of_lines;
 pub use program::{Program, Search};
+pub use sh_base::sequence::Text;
 pub use stock::{Filter, Stock};
-pub use text::Text;

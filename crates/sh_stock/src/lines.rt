@@ -3,8 +3,8 @@ ghost use Rattle.std.specs.Prelude.{◌≡◌, ◌-◌, IfOk, OnOk, take};
 ghost use Rattle.sh_stock.specs.Lines.{contains, first_lines, is_newline, kept_lines, newlines, unfinished};
 ghost use Rattle.std.specs.List.{list_any};
 
-use crate::text::Text;
-use sh_memory::NoMemory;
+use sh_base::NoMemory;
+use sh_base::sequence::Text;
 use std::alloc::Global;
 
 /// Whether a newline is among the bytes.
@@ -64,8 +64,8 @@ pub(crate) fn keep_lines(
     let mut kept = Text::new(alloc);
     'bytes: for byte in bytes {
         if is_newline(*byte) {
-            if contains(text, line.as_bytes()) {
-                kept.extend(line.as_bytes())?;
+            if contains(text, line.as_slice()) {
+                kept.extend_from_slice(line.as_slice())?;
                 kept.push(b'\n')?;
             }
             line.clear();

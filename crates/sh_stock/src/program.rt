@@ -7,9 +7,9 @@ use crate::lines::{contains, find_end, has_newline, keep_lines};
 use crate::name::Name;
 use crate::start::started;
 use crate::stock::{Filter, Stock};
-use crate::text::Text;
 use itoa::Buffer;
-use sh_memory::NoMemory;
+use sh_base::NoMemory;
+use sh_base::sequence::Text;
 use std::alloc::Global;
 use std::mem;
 
@@ -222,9 +222,10 @@ fn head_turn(lines: u64, answer: Answer) -> Turn<Program>
 {
     match answer {
         Answer::Started => reads(Program::Head(lines)),
-        Answer::Bytes(bytes) => {
-            let (len, missing) = find_end(lines, bytes.as_bytes());
-            writes_any(bytes.front(len), head_of(missing))
+        Answer::Bytes(mut bytes) => {
+            let (len, missing) = find_end(lines, bytes.as_slice());
+            bytes.truncate(len);
+            writes_any(bytes, head_of(missing))
         },
         Answer::Done => reads(Program::Head(lines)),
         Answer::Failed => ends(1),
@@ -236,7 +237,7 @@ fn having_ends(search: Search) -> Turn<Program>
     ensures { result ≡ having_ends search }
 {
     let Search { text, line, found } = search;
-    if !line.is_empty() && contains(text.as_bytes(), line.as_bytes()) {
+    if !line.is_empty() && contains(text.as_slice(), line.as_slice()) {
         return Turn {
             program: Program::Ending(0),
             ask: Ask::Write(line),
@@ -268,7 +269,7 @@ fn having_read(alloc: Global, search: Search, bytes: &[u8]) -> Result<Turn<Progr
     }
     let Search { text, line, found } = search;
     let mut line = line;
-    let kept = keep_lines(alloc, text.as_bytes(), &mut line, bytes)?;
+    let kept = keep_lines(alloc, text.as_slice(), &mut line, bytes)?;
     Ok(having_goes_on(Search { text, line, found }, kept))
 }
 
@@ -277,7 +278,7 @@ fn having_turn(alloc: Global, search: Search, answer: Answer) -> Result<Turn<Pro
 {
     match answer {
         Answer::Started => Ok(reads(Program::Having(search))),
-        Answer::Bytes(bytes) => having_read(alloc, search, bytes.as_bytes()),
+        Answer::Bytes(bytes) => having_read(alloc, search, bytes.as_slice()),
         Answer::Done => Ok(reads(Program::Having(search))),
         Answer::Failed => Ok(ends(1)),
     }
@@ -305,7 +306,7 @@ fn count_turn(alloc: Global, count: u128, answer: Answer) -> Result<Turn<Program
 {
     match answer {
         Answer::Started => Ok(reads(Program::Count(count))),
-        Answer::Bytes(bytes) => count_read(alloc, count, bytes.as_bytes()),
+        Answer::Bytes(bytes) => count_read(alloc, count, bytes.as_slice()),
         Answer::Done => Ok(reads(Program::Count(count))),
         Answer::Failed => Ok(ends(1)),
     }
@@ -326,7 +327,7 @@ fn readstop_read(line: Text, bytes: &[u8]) -> Result<Turn<Program>, NoMemory>
     ensures { IfOk result (λ turn. turn ≡ readstop_read line bytes.now) }
 {
     let mut line = line;
-    line.extend(bytes)?;
+    line.extend_from_slice(bytes)?;
     if !bytes.is_empty() && !has_newline(bytes) {
         return Ok(reads_one(line));
     }
@@ -341,7 +342,7 @@ fn readstop_turn(line: Text, answer: Answer) -> Result<Turn<Program>, NoMemory>
 {
     match answer {
         Answer::Started => Ok(reads_one(line)),
-        Answer::Bytes(bytes) => readstop_read(line, bytes.as_bytes()),
+        Answer::Bytes(bytes) => readstop_read(line, bytes.as_slice()),
         Answer::Done => Ok(reads_one(line)),
         Answer::Failed => Ok(ends(1)),
     }

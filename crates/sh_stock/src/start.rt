@@ -1,13 +1,12 @@
 // The programs before their first turn, by name and operands.
-ghost use Rattle.std.specs.Prelude.{◌≡◌, IfOk, IsTrue};
-ghost use Rattle.std.specs.List.{list_all};
-ghost use Rattle.std.specs.Char.{is_ascii_digit};
-ghost use Rattle.sh_stock.specs.Programs.{alone, echo_text, head_started, head_started_by, having_started, is_number, misused, started, value_behind};
+ghost use Rattle.std.specs.Prelude.{◌≡◌, IfOk};
+ghost use Rattle.sh_stock.specs.Programs.{alone, echo_text, head_started, head_started_by, having_started, misused, started};
 
 use crate::name::Name;
 use crate::program::{Program, Search, head_of};
-use crate::text::Text;
-use sh_memory::NoMemory;
+use sh_base::NoMemory;
+use sh_base::decimal::number_of;
+use sh_base::sequence::Text;
 use std::alloc::Global;
 
 /// The program of a name with its operands.
@@ -52,7 +51,7 @@ fn echo_text(alloc: Global, operands: &[Text]) -> Result<Text, NoMemory>
     let mut text = Text::new(alloc);
     let mut rest = operands;
     'operands: while let Some((first, others)) = rest.split_first() {
-        text.extend(first.as_bytes())?;
+        text.extend_from_slice(first.as_slice())?;
         if !others.is_empty() {
             text.push(b' ')?;
         }
@@ -62,40 +61,17 @@ fn echo_text(alloc: Global, operands: &[Text]) -> Result<Text, NoMemory>
     Ok(text)
 }
 
-/// Whether each byte is a decimal digit.
-fn all_digits(operand: &[u8]) -> bool
-    ensures { result ≡ list_all is_ascii_digit operand.now }
-{
-    operand.iter().all(|byte| byte.is_ascii_digit())
-}
-
-/// Whether an operand is a number.
-fn is_number(operand: &[u8]) -> bool
-    ensures { result ≡ is_number operand.now }
-{
-    1 <= operand.len() && operand.len() <= 18 && all_digits(operand)
-}
-
-/// The value of a number.
-fn value(digits: &[u8]) -> u64
-    requires { IsTrue (is_number digits.now) }
-    ensures { result ≡ value_behind 0 digits.now }
-{
-    let mut value = 0;
-    'digits: for digit in digits {
-        value = 10 * value + u64::from(digit.saturating_sub(b'0'));
-    }
-    value
-}
-
 /// `head` with an option and its number.
 fn head_started_by(option: &[u8], number: &[u8]) -> Program
     ensures { result ≡ head_started_by option.now number.now }
 {
-    if option == b"-n".as_slice() && is_number(number) {
-        return head_of(value(number));
+    if option != b"-n".as_slice() {
+        return misused();
     }
-    misused()
+    match number_of(number) {
+        Some(lines) => head_of(lines),
+        None => misused(),
+    }
 }
 
 /// `head` with its operands.
@@ -103,7 +79,7 @@ fn head_started(operands: &[Text]) -> Program
     ensures { result ≡ head_started operands.now }
 {
     match operands {
-        [option, number] => head_started_by(option.as_bytes(), number.as_bytes()),
+        [option, number] => head_started_by(option.as_slice(), number.as_slice()),
         _ => misused(),
     }
 }
@@ -114,7 +90,7 @@ fn having_started(alloc: Global, operands: &[Text]) -> Result<Program, NoMemory>
 {
     match operands {
         [text] => Ok(Program::Having(Search {
-            text: Text::copy_of(alloc, text.as_bytes())?,
+            text: Text::copy_of(alloc, text.as_slice())?,
             line: Text::new(alloc),
             found: false,
         })),

@@ -4,8 +4,8 @@ ghost use Rattle.sh_stock.specs.Asking.{Meaning, KeepsLaws};
 ghost use Rattle.sh_stock.specs.Filtering.{Filtering, KeepsFilterLaws};
 
 use crate::asking::{Answer, Ask};
-use crate::text::Text;
-use sh_memory::NoMemory;
+use sh_base::NoMemory;
+use sh_base::sequence::Text;
 use std::alloc::Global;
 
 /// A kind of program that a machine can run turn by turn.

@@ -1,7 +1,5 @@
-//! Syntax of the Shell Command Language as values: words with their parts, and commands.
+//! Syntax trees of the Shell Command Language, and the text by which a command is shown.
 #![tactic(auto)]
 
-pub mod command;
-pub mod sequence;
-pub mod shared;
-pub mod word;
+pub mod text;
+pub mod tree;

@@ -1,3 +1,3 @@
 pub mod Keys
 pub mod Happenings
-pub mod Kept
+pub mod Terminal

@@ -1,14 +1,14 @@
 //! The terminal.
-ghost use Rattle.sh_memory.specs.Memory.{no_memory};
+ghost use Rattle.sh_base.specs.Memory.{no_memory};
 ghost use Rattle.std.specs.Prelude.{◌≡◌, ◌++◌, ◌∷◌, [], ℕ, List, Some, None, is_some, IfOk, OnOk, OnErr, IfErr, MatchResult, drop, length, take};
 ghost use Rattle.sh_tty.specs.Happenings.{Happening, after_key, bytes_of};
 ghost use Rattle.sh_tty.specs.Keys.{echo, key_of, read_of, signal_of};
-ghost use Rattle.sh_tty.specs.Kept.{Extends, StandsAt, kept_entries, kept_line};
+ghost use Rattle.sh_tty.specs.Terminal.{Extends, StandsAt, kept_entries, kept_line};
 ghost use Rattle.sh_tty.specs.declared.tty.TtyFault.TheVariants as fault;
 
 use crate::entry::{Entry, Line, copy_first, take_first};
 use crate::key::{Key, Signal};
-use sh_memory::NoMemory;
+use sh_base::NoMemory;
 use std::alloc::{AllocError, AllocFailed, Global};
 use std::collections::VecDeque;
 use std::marker::Model;
@@ -58,7 +58,7 @@ pub struct Tty {
 }
 
 impl Model for Tty {
-    ghost use Rattle.sh_tty.specs.Kept.{TtyKept};
+    ghost use Rattle.sh_tty.specs.Terminal.{TtyKept};
 
     ghost Value = { TtyKept };
 

@@ -5,7 +5,7 @@ use sh_arith::{
     ArithFault, evaluate, evaluation_is_computed, operators_are_spelled_as_in_c,
     operators_bind_as_in_c, operators_group_as_in_c, says_one_expression, texts_are_read_as_in_c,
 };
-use sh_arith_base::levels_are_nested;
+use sh_arith_grammar::levels_are_nested;
 use sh_rows::{Row, RowFault};
 use sh_vars::Vars;
 use std::alloc::Global;

@@ -3,11 +3,11 @@ use crate::fields::ifs_of;
 use crate::steps::{answers, joined, parts, said};
 use crate::variables::value_of;
 use crate::words;
+use sh_base::sequence::{Sequence, Text};
 use sh_expand::{ArithmeticError, Context, Expansion, Fault, Step, Wanted};
 use sh_files::Files;
 use sh_pattern::Mark;
 use sh_rows::RowFault;
-use sh_syntax::sequence::{Sequence, Text};
 use sh_vars::{Options, Vars, VarsFault};
 use std::alloc::{AllocError, Global};
 
@@ -64,17 +64,17 @@ fn command(words: &[u8]) -> Case<'_> {
 }
 
 /// The positional parameters of a case.
-fn operands_of(alloc: Global, column: &[u8]) -> Result<Vec<sh_vars::Text>, RowFault> {
+fn operands_of(alloc: Global, column: &[u8]) -> Result<Vec<Text>, RowFault> {
     let mut operands = Vec::new(alloc);
     if column.is_empty() {
         return Ok(operands);
     }
     if column == b"empty".as_slice() {
-        operands.push(sh_vars::Text::copy_of(alloc, b"")?)?;
+        operands.push(Text::copy_of(alloc, b"")?)?;
         return Ok(operands);
     }
     for operand in parts(alloc, column, b'&')?.as_slice() {
-        operands.push(sh_vars::Text::copy_of(alloc, operand)?)?;
+        operands.push(Text::copy_of(alloc, operand)?)?;
     }
     Ok(operands)
 }

@@ -1,6 +1,6 @@
 //! Fields, and the paths that they stand for.
 use crate::steps::{bracketed, said};
-use sh_expand_base::{
+use sh_expand_fields::{
     Fields, Item, Separators, expand_pathnames, pattern_of, remove_quotes, split,
 };
 use sh_files::Files;

@@ -1,5 +1,5 @@
 //! Lists, variables, arithmetic, patterns, fields, paths, pipes and expansions, and what they come to: tests of `sh_syntax`, `sh_vars`,
-//! `sh_arith`, `sh_pattern`, `sh_expand_base`, `sh_pipe` and, over words that `sh_parse` reads, `sh_expand`.
+//! `sh_arith`, `sh_pattern`, `sh_expand_fields`, `sh_pipe` and, over words that `sh_parse` reads, `sh_expand`.
 //!
 //! `sh_value_rows ROWS ..` says which rows of the files ROWS come to something else. The last field of a row is what it has to come to;
 //! the function that serves a kind of row says what the fields before it are.

@@ -1,7 +1,7 @@
 //! Lists of the crates' own.
 use crate::steps::{Acted, answers, bracketed, decimal, parts, said, yes_or_no};
+use sh_base::sequence::{Sequence, Text};
 use sh_rows::RowFault;
-use sh_syntax::sequence::{Sequence, Text};
 use std::alloc::Global;
 
 impl Acted for Text {

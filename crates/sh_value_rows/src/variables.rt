@@ -108,12 +108,12 @@ fn parameters(alloc: Global, vars: &Vars) -> Result<Vec<u8>, RowFault> {
             blank,
             vars.directory(),
             b" -".as_slice(),
-            letters.as_bytes(),
+            letters.as_slice(),
         ],
     )?;
     for operand in vars.positional() {
         text.push(b' ')?;
-        text.extend_from_slice(operand.as_bytes())?;
+        text.extend_from_slice(operand.as_slice())?;
     }
     Ok(text)
 }
@@ -176,7 +176,7 @@ fn set_text(alloc: Global, vars: &mut Vars, word: &[u8], rest: &[u8]) -> Result<
     if word == b"zero".as_slice() {
         vars.set_zero(Text::copy_of(alloc, rest)?);
     } else if word == b"directory".as_slice() {
-        vars.set_directory(Text::from(rest.to_vec(alloc)?));
+        vars.set_directory(Text::from_vec(rest.to_vec(alloc)?));
     } else if word == b"operands".as_slice() {
         vars.set_positional(operands(alloc, rest)?);
     } else if word == b"copy".as_slice() {
@@ -273,15 +273,15 @@ pub fn options(alloc: Global, letters: &[u8]) -> Result<Vec<u8>, RowFault> {
             text.push(if options.is_on(option) { b'+' } else { b'-' })?;
         }
     }
-    text.extend_from_slice(&bracketed(alloc, options.letters(alloc)?.as_bytes())?)?;
+    text.extend_from_slice(&bracketed(alloc, options.letters(alloc)?.as_slice())?)?;
     Ok(text)
 }
 
 /// `copy TEXT`: the bytes of a copy of a copy.
 pub fn copy(alloc: Global, bytes: &[u8]) -> Result<Vec<u8>, RowFault> {
     let text = Text::copy_of(alloc, bytes)?;
-    let copy = text.copy(alloc)?;
-    Ok(copy.into_bytes())
+    let copy = Text::copy_of(alloc, text.as_slice())?;
+    Ok(copy.into_vec())
 }
 
 /// `memory CRATE`: the text of the fault that is want of memory, of `variables` and of `arithmetic`, for more bytes than there can be.

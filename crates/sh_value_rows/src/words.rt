@@ -1,11 +1,11 @@
 //! Words as a command has them, each for what it is to be expanded for.
 use crate::steps::joined;
+use sh_base::sequence::Sequence;
+use sh_base::shared::Shared;
 use sh_expand::{Context, Wanted};
 use sh_parse::{Aliases, ParseFault, Reading, read_command};
 use sh_rows::RowFault;
-use sh_syntax::sequence::Sequence;
-use sh_syntax::shared::Shared;
-use sh_tree::tree::{Command, Complete, Parts, SimpleItem, Target};
+use sh_syntax::tree::{Command, Complete, Parts, SimpleItem, Target};
 use std::alloc::Global;
 
 /// A command with these words behind its name, or with a here-document that has them as its body.

@@ -1,9 +1,10 @@
 -- The shell's variables and parameters (XCU 2.5), options (2.15 `set`) and working directory.
-use Rattle.std.specs.Prelude.{ℕ, List, ◌||◌, Bool, true, false, Option, Some, None, unwrap_or, drop}
+use Rattle.std.specs.Prelude.{ℕ, List, ◌||◌, Bool, true, false, Option, Some, None, codes, unwrap_or, drop}
 use Rattle.std.specs.Option.{option_and_then}
 use Rattle.std.specs.Ordering.{nat_cmp}
 use Rattle.std.specs.Cmp.Lexicographic.{slice_cmp}
 use Rattle.std.specs.FinMap.{FinMap, get, insert, remove}
+use Rattle.sh_base.specs.Separators.{separators_by}
 use Rattle.sh_vars.specs.declared.shell_options.Options.{Options}
 
 -- a variable, which may be exported or read-only without a value (2.5.3)
@@ -50,6 +51,10 @@ variable_of env name = get env.variables name
 -- the value that a name expands to, if it is set
 abbrev pub value_of : Environment → List ℕ → Option (List ℕ)
 value_of env name = option_and_then (λ v. v.value) (variable_of env name)
+
+-- the bytes that separate fields (2.5.3)
+abbrev pub separators_of : Environment → List ℕ
+separators_of env = separators_by (value_of env (codes "IFS"))
 
 abbrev pub is_read_only : Environment → List ℕ → Bool
 is_read_only env name = (named env.variables name).read_only

@@ -1,6 +1,5 @@
 pub mod Codes
 pub mod Environment
-pub mod Names
 pub mod Places
 pub mod Refusals
 pub mod ShellOptions

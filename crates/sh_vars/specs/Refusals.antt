@@ -1,7 +1,7 @@
 -- When a change of a variable is refused.
 use Rattle.std.specs.Prelude.{ℕ, List, if◌then◌else◌, Result, Ok, Err}
 use Rattle.sh_vars.specs.Environment.{Environment, is_read_only}
-use Rattle.sh_vars.specs.Names.{is_name}
+use Rattle.sh_base.specs.Names.{is_name}
 use Rattle.sh_vars.specs.declared.faults.VarsFault.{VarsFault}
 use Rattle.sh_vars.specs.declared.faults.VarsFault.TheVariants.{BadName, ReadOnly}
 

@@ -2,6 +2,7 @@
 use Rattle.std.specs.Prelude.{ℕ, List, [], ◌∷◌, Bool, false, true, Some, None, codes}
 use Rattle.std.specs.FinMap.{from_entries}
 use Rattle.sh_vars.specs.Environment.{Environment, VariableMap, Variable}
+use Rattle.sh_base.specs.Separators.{default_separators}
 use Rattle.sh_vars.specs.declared.shell_options.Options.{Options}
 
 -- a variable with a value that can be changed
@@ -12,7 +13,7 @@ changeable value exported = record { value = Some value; exported = exported; re
 unfoldable pub starting_variables : VariableMap
 starting_variables = from_entries (
     (codes "HOME", changeable (codes "/") true)
-    ∷ (codes "IFS", changeable (32 ∷ 9 ∷ 10 ∷ []) false)
+    ∷ (codes "IFS", changeable default_separators false)
     ∷ (codes "PATH", changeable (codes "/bin") true)
     ∷ (codes "PPID", changeable (codes "1") false)
     ∷ (codes "PS1", changeable (codes "$ ") false)

@@ -1,7 +1,7 @@
 // Variables with their names.
 ghost use Rattle.std.specs.Prelude.{◌≡◌, IfOk, option_map, true};
 
-use crate::texts::Text;
+use sh_base::sequence::Text;
 use std::alloc::{AllocError, Global};
 use std::marker::Model;
 
@@ -62,11 +62,11 @@ impl Entry {
         ensures { IfOk result (λ entry. entry ≡ self.now) }
     {
         let value = match &self.value {
-            Some(value) => Some(value.copy(alloc)?),
+            Some(value) => Some(Text::copy_of(alloc, value.as_slice())?),
             None => None,
         };
         Ok(Entry {
-            name: self.name.copy(alloc)?,
+            name: Text::copy_of(alloc, self.name.as_slice())?,
             value,
             exported: self.exported,
             read_only: self.read_only,
@@ -99,7 +99,7 @@ impl Entry {
     pub fn name(&self) -> &[u8]
         ensures { result.now ≡ self.now.0 }
     {
-        self.name.as_bytes()
+        self.name.as_slice()
     }
 
     /// The variable's value, `None` where it is unset.
@@ -107,7 +107,7 @@ impl Entry {
         ensures { option_map (λ value. value.now) result ≡ self.now.1.value }
     {
         match &self.value {
-            Some(value) => Some(value.as_bytes()),
+            Some(value) => Some(value.as_slice()),
             None => None,
         }
     }

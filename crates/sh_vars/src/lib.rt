@@ -10,20 +10,18 @@ ghost use Rattle.std.specs.FinMap as map;
 
 mod entries;
 mod faults;
-mod names;
 mod shell_options;
 mod table;
-mod texts;
 
 pub use entries::Entry;
 pub use faults::VarsFault;
-pub use names::is_name;
+pub use sh_base::name::is_name;
+pub use sh_base::sequence::Text;
+use sh_base::sequence::copies_of;
 pub use shell_options::{Options, ShellOption};
 use std::alloc::{AllocError, Global};
 use std::marker::Model;
 use table::Table;
-pub use texts::Text;
-use texts::copy_texts;
 
 /// What a shell keeps between its commands: variables, options, parameters and directory (XCU 2.5, 2.13).
 ///
@@ -62,7 +60,7 @@ impl Model for Vars {
 impl Vars {
     ghost use Rattle.sh_vars.specs.Environment.{variable_of, value_of, is_read_only, with_variable, with_value, with_export, with_read_only, without, with_options, with_positional, shifted, with_directory, with_zero, with_process, with_background, with_status};
     ghost use Rattle.sh_vars.specs.Refusals.{refusal};
-    ghost use Rattle.sh_vars.specs.Names.{is_name};
+    ghost use Rattle.sh_base.specs.Names.{is_name};
     ghost use Rattle.sh_vars.specs.Starting.{starting};
 
     /// What the first shell begins with: PATH `/bin`, HOME and PWD `/`, these three exported, IFS space, tab and newline,
@@ -209,12 +207,12 @@ impl Vars {
             alloc: self.alloc,
             variables: self.variables.copy(self.alloc)?,
             options: self.options,
-            positional: copy_texts(self.alloc, &self.positional)?,
-            zero: self.zero.copy(self.alloc)?,
+            positional: copies_of(self.alloc, &self.positional)?,
+            zero: Text::copy_of(self.alloc, self.zero.as_slice())?,
             process: self.process,
             status: self.status,
             background: self.background,
-            directory: self.directory.copy(self.alloc)?,
+            directory: Text::copy_of(self.alloc, self.directory.as_slice())?,
         })
     }
 
@@ -259,7 +257,7 @@ impl Vars {
     pub fn directory(&self) -> &[u8]
         ensures { result.now ≡ self.now.directory }
     {
-        self.directory.as_bytes()
+        self.directory.as_slice()
     }
 
     /// Sets the working directory. PWD is left as it is.
@@ -273,7 +271,7 @@ impl Vars {
     pub fn zero(&self) -> &[u8]
         ensures { result.now ≡ self.now.special.zero }
     {
-        self.zero.as_bytes()
+        self.zero.as_slice()
     }
 
     /// Sets `$0`.

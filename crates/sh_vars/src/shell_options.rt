@@ -3,7 +3,7 @@ ghost use Rattle.std.specs.Prelude.{◌≡◌, IfOk};
 ghost use Rattle.std.specs.List.{filter, filter_map};
 ghost use Rattle.sh_vars.specs.ShellOptions.{is_on, letter_of};
 
-use crate::texts::Text;
+use sh_base::sequence::Text;
 use std::alloc::{AllocError, Global};
 
 /// Which options are on (XCU 2.15 `set`). By default none is.
@@ -164,7 +164,7 @@ impl Options {
         ensures { IfOk result (λ text. text ≡ letters_of self) }
     {
         let letters = letters_among(alloc, self, &ShellOption::ALL)?;
-        Ok(Text::from(letters))
+        Ok(Text::from_vec(letters))
     }
 }
 

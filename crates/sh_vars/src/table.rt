@@ -8,7 +8,8 @@ ghost use Rattle.sh_vars.specs.Places.{IsPlace, IsHeld};
 ghost use Rattle.sh_vars.specs.Starting.{changeable, starting_variables};
 
 use crate::entries::Entry;
-use crate::texts::Text;
+use sh_base::separator::default_separators;
+use sh_base::sequence::Text;
 use std::alloc::{AllocError, Global};
 use std::marker::Model;
 
@@ -50,7 +51,7 @@ impl Table {
     {
         let mut entries = Vec::with_capacity(alloc, 8)?;
         add(&mut entries, alloc, b"HOME", b"/", true)?;
-        add(&mut entries, alloc, b"IFS", b" \t\n", false)?;
+        add(&mut entries, alloc, b"IFS", default_separators(), false)?;
         add(&mut entries, alloc, b"PATH", b"/bin", true)?;
         add(&mut entries, alloc, b"PPID", b"1", false)?;
         add(&mut entries, alloc, b"PS1", b"$ ", false)?;

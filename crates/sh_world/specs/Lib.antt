@@ -1,5 +1,5 @@
 pub mod Choice
-pub mod Kept
+pub mod World
 pub mod Order
 pub mod Scripts
 pub mod State

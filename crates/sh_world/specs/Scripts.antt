@@ -1,12 +1,12 @@
 -- The script that a shell is given as its operand (the page of sh): the text of its file, which need not be executable.
 use Rattle.std.specs.Prelude.{ℕ, List, [], ◌&&◌, nat_le, codes, Option, Some, None, length, if◌then◌else◌}
-use Rattle.sh_exec_base.specs.Messages.{cannot_execute, message, not_found}
+use Rattle.sh_exec_parts.specs.Messages.{cannot_execute, message, not_found}
 use Rattle.sh_exec_command.specs.declared.running.Finish.TheVariants.{Leave}
 use Rattle.sh_exec_command.specs.declared.running.Place.{Place}
 use Rattle.sh_exec_command.specs.declared.running.Place.TheVariants.{Reading, Writing}
 use Rattle.sh_files.specs.Nodes.{FileMap, named}
-use Rattle.sh_files_base.specs.declared.node.Node.{Node}
-use Rattle.sh_files_base.specs.declared.node.Node.TheVariants.{Directory, File, Null, Terminal}
+use Rattle.sh_files_image.specs.declared.node.Node.{Node}
+use Rattle.sh_files_image.specs.declared.node.Node.TheVariants.{Directory, File, Null, Terminal}
 
 abbrev pub missing : List ℕ → Place
 missing path = Writing (message (not_found path)) (Leave 127)

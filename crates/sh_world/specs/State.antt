@@ -4,13 +4,13 @@ use Rattle.sh_exec.specs.declared.process.Process.TheVariants.{Runs}
 use Rattle.sh_exec_command.specs.declared.running.Active.TheVariants.{Next}
 use Rattle.sh_exec_command.specs.declared.running.Place.{Place}
 use Rattle.sh_exec_command.specs.declared.running.Place.TheVariants.{Reading}
-use Rattle.sh_exec_shell_base.specs.Running.{At}
+use Rattle.sh_exec_forms.specs.Running.{At}
 use Rattle.sh_files.specs.Nodes.{FileMap}
 use Rattle.sh_kernel.specs.State as kernel
 use Rattle.sh_kernel.specs.State.{KernelState}
-use Rattle.sh_kernel_base.specs.Processes.{lives, status_at}
-use Rattle.sh_kernel_base.specs.declared.process.Status.{Status}
-use Rattle.sh_kernel_base.specs.declared.process.Status.TheVariants.{Running, Stopped, Exited, Signaled}
+use Rattle.sh_kernel_descriptors.specs.Processes.{lives, status_at}
+use Rattle.sh_kernel_descriptors.specs.declared.process.Status.{Status}
+use Rattle.sh_kernel_descriptors.specs.declared.process.Status.TheVariants.{Running, Stopped, Exited, Signaled}
 use Rattle.sh_stock.specs.Asking.{Meaning}
 use Rattle.sh_tty.specs.Happenings.{bytes_of}
 use Rattle.sh_vars.specs.Environment.{Environment, with_options, with_positional, with_zero}

@@ -7,7 +7,7 @@ use Rattle.sh_exec.specs.declared.process.Process.TheVariants.{Runs}
 use Rattle.sh_exec_shell.specs.declared.shell.Child.{Child}
 use Rattle.sh_kernel.specs.State.{KernelKept, KernelState, StandsAt}
 use Rattle.sh_kernel.specs.Turns.{can_do}
-use Rattle.sh_kernel_base.specs.Processes.{lives}
+use Rattle.sh_kernel_descriptors.specs.Processes.{lives}
 use Rattle.sh_stock.specs.Asking.{Meaning}
 use Rattle.sh_world.specs.declared.task.Task.{Task}
 

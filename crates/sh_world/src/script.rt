@@ -1,15 +1,15 @@
 //! The script that a shell is given as its operand.
 ghost use Rattle.std.specs.Prelude.{◌≡◌, IfOk, Some, option_map};
-ghost use Rattle.sh_files_base.specs.declared.node.Node.TheVariants as node;
+ghost use Rattle.sh_files_image.specs.declared.node.Node.TheVariants as node;
 ghost use Rattle.sh_world.specs.Scripts.{missing, place_by, script_place, unreadable};
 
-use sh_exec_base::Rest;
-use sh_exec_base::message::{cannot_execute, not_found};
+use sh_base::NoMemory;
+use sh_base::sequence::Text;
+use sh_exec::MAX_SCRIPT;
 use sh_exec_command::{Finish, Place};
-use sh_exec_search::MAX_SCRIPT;
+use sh_exec_parts::Rest;
+use sh_exec_parts::message::{cannot_execute, not_found};
 use sh_files::{File, Files, Node};
-use sh_memory::NoMemory;
-use sh_syntax::sequence::Text;
 use std::alloc::Global;
 
 /// There is no such file.

@@ -1,5 +1,5 @@
 //! How a shell is started.
-use sh_syntax::sequence::{Sequence, Text};
+use sh_base::sequence::{Sequence, Text};
 use sh_vars::Options;
 
 /// Where the first shell's commands come from (the page of sh, "Operands").
@@ -18,9 +18,9 @@ pub struct Settings {
     /// Where its commands come from.
     pub source: Source,
     /// The name of the shell or script, `$0`.
-    pub zero: sh_vars::Text,
+    pub zero: Text,
     /// The positional parameters from `$1` on.
-    pub args: Sequence<sh_vars::Text>,
+    pub args: Sequence<Text>,
     /// The options that are on (XCU 2.15 `set`): `-a`, `-f` and `-u` act so far.
     pub options: Options,
 }

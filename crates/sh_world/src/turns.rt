@@ -1,18 +1,18 @@
 //! The processes that live: which of them can take a turn, and a turn of one.
 ghost use Rattle.std.specs.Prelude.{◌≡◌, ◌++◌, ◌∷◌, [], IfOk, OnOk};
 ghost use Rattle.sh_kernel.specs.State.{KernelState, StandsAt};
-ghost use Rattle.sh_kernel_base.specs.Processes.{lives};
-ghost use Rattle.sh_tty.specs.Kept.{Extends};
+ghost use Rattle.sh_kernel_descriptors.specs.Processes.{lives};
+ghost use Rattle.sh_tty.specs.Terminal.{Extends};
 ghost use Rattle.sh_exec.specs.Actions.{action_of};
 ghost use Rattle.sh_kernel.specs.Turns.{can_do};
 ghost use Rattle.sh_exec.specs.Turns as processes;
 ghost use Rattle.sh_world.specs.Tasks.{HaveTurned, living, pid_before, place_of, runnable_pids, turn_among, with_child};
 
 use crate::task::Task;
+use sh_base::NoMemory;
 use sh_exec::Process;
 use sh_exec_shell::Child;
 use sh_kernel::{Kernel, Status};
-use sh_memory::NoMemory;
 use sh_stock::Stock;
 use std::alloc::Global;
 

@@ -1,9 +1,9 @@
 //! A world: processes over a kernel, moved by events.
 ghost use Rattle.std.specs.Prelude.{◌≡◌, ℕ, ◌<◌, List, OnOk, OnErr, IsErr, IfOk, Some, None, length, take, option_copied};
 ghost use Rattle.sh_kernel.specs.State.{KernelState, StandsAt};
-ghost use Rattle.sh_tty.specs.Kept.{Extends};
+ghost use Rattle.sh_tty.specs.Terminal.{Extends};
 ghost use Rattle.sh_world.specs.Choice.{chosen};
-ghost use Rattle.sh_world.specs.Kept.{IsSpent, PartsStand, WorldKept, WorldStands, shown_of};
+ghost use Rattle.sh_world.specs.World.{IsSpent, PartsStand, WorldKept, WorldStands, shown_of};
 ghost use Rattle.sh_world.specs.State.{State, end_of, ended_of, files_of, first_place, first_task, run, runnables, start, status_of, step, terminal_of, turn_of, turned};
 
 use crate::event::{Event, choose};
@@ -12,13 +12,13 @@ use crate::script::script_place;
 use crate::settings::{Settings, Source};
 use crate::task::Task;
 use crate::turns::{is_living, keep_living, put_child, runnable_pids, turn_among};
+use sh_base::NoMemory;
 use sh_exec::Process;
-use sh_exec_base::Rest;
 use sh_exec_command::Place;
+use sh_exec_parts::Rest;
 use sh_exec_shell::Shell;
 use sh_files::Files;
 use sh_kernel::{FIRST_PID, Kernel, Status};
-use sh_memory::NoMemory;
 use sh_stock::Stock;
 use sh_vars::Vars;
 use std::alloc::Global;
@@ -41,10 +41,10 @@ pub struct World<S: Stock> {
 impl<S: Stock> Model for World<S> {
     ghost use Rattle.std.specs.Prelude.{◌≤◌, is_some, length};
     ghost use Rattle.std.specs.Coded.{codes};
-    ghost use Rattle.sh_files_base.specs.Codes as paths;
+    ghost use Rattle.sh_files_image.specs.Codes as paths;
     ghost use Rattle.sh_vars.specs.Codes as variables;
-    ghost use Rattle.sh_exec_shell_base.specs.Codes.{run_code};
-    ghost use Rattle.sh_world.specs.Kept.{WorldKept};
+    ghost use Rattle.sh_exec_forms.specs.Codes.{run_code};
+    ghost use Rattle.sh_world.specs.World.{WorldKept};
 
     ghost Value = { WorldKept S };
 

@@ -1,10 +1,10 @@
 //! Worlds that run a script, and where they stand after some turns.
 use crate::fields::words_of;
+use sh_base::NoMemory;
+use sh_base::sequence::Sequence;
 use sh_files::Files;
-use sh_memory::NoMemory;
 use sh_rows::RowFault;
 use sh_stock::Program;
-use sh_syntax::sequence::Sequence;
 use sh_vars::{Options, Text};
 use sh_world::{Event, Settings, Source, Status, World};
 use std::alloc::{AllocError, Global};

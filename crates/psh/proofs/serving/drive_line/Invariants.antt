@@ -1,5 +1,5 @@
 use Rattle.std.proofs.Common.{replicate}
-use Rattle.sh_world.specs.Kept.{WorldStands}
+use Rattle.sh_world.specs.World.{WorldStands}
 use Rattle.sh_world.specs.State.{State, run}
 use Rattle.psh.proofs.serving.drive_line.Given as goal
 

@@ -1,6 +1,6 @@
 use Rattle.std.proofs.Common.{arith, ap}
-use Rattle.sh_arith_base.specs.Levels.{is_deep}
-use Rattle.sh_arith_base.specs.Lexical.{tokens_from}
+use Rattle.sh_arith_grammar.specs.Levels.{is_deep}
+use Rattle.sh_arith_grammar.specs.Lexical.{tokens_from}
 use Rattle.sh_arith.proofs.Starting.{starts, started_with, stops}
 use Rattle.sh_arith.proofs.read.take_all.Goals as goal
 

@@ -1,7 +1,7 @@
 use Rattle.std.proofs.Common.{◌≡◌, ◌+◌, ◌++◌, false, length}
-use Rattle.sh_arith_base.specs.Grammar.{arithmetic}
-use Rattle.sh_arith_base.specs.Levels.{is_deep}
-use Rattle.sh_arith_base.specs.Lexical.{tokens_from, tokens_of}
+use Rattle.sh_arith_grammar.specs.Grammar.{arithmetic}
+use Rattle.sh_arith_grammar.specs.Levels.{is_deep}
+use Rattle.sh_arith_grammar.specs.Lexical.{tokens_from, tokens_of}
 use Rattle.sh_arith.specs.Taking.{Reached}
 use Rattle.sh_arith.proofs.read.take_all.Given as goal
 

@@ -1,6 +1,6 @@
 use Rattle.std.proofs.Common.{◌≡◌, length, codes}
 use Rattle.sh_builtin_vars.specs.Walks.{through}
-use Rattle.sh_files_base.specs.Paths.{components}
+use Rattle.sh_files_image.specs.Paths.{components}
 use Rattle.sh_builtin_vars.proofs.directory.go_through.Given as goal
 
 abbrev pub invariant-names : goal.invariant-names

@@ -1,4 +1,4 @@
-use Rattle.sh_expand.specs.Stand.{texts_of}
+use Rattle.sh_expand.specs.FieldProgress.{texts_of}
 use Rattle.sh_expand.proofs.Paths.{put_behind}
 use Rattle.sh_expand.proofs.fields.push_paths.Goals as goal
 

@@ -1,5 +1,5 @@
 use Rattle.std.proofs.Common.{◌≡◌, ◌++◌}
-use Rattle.sh_expand.specs.Stand.{texts_of}
+use Rattle.sh_expand.specs.FieldProgress.{texts_of}
 use Rattle.sh_expand.proofs.fields.push_texts.Given as goal
 
 abbrev pub invariant-loop-text : goal.invariant-loop-text

@@ -1,5 +1,5 @@
 use Rattle.std.proofs.Common.{◌≡◌, ◌++◌, map, take}
-use Rattle.sh_expand_base.specs.declared.item.Item.TheVariants.{Quoted}
+use Rattle.sh_expand_fields.specs.declared.item.Item.TheVariants.{Quoted}
 use Rattle.sh_expand_parts.proofs.draft.push_quoted.Given as goal
 
 abbrev pub invariant-loop-byte : goal.invariant-loop-byte

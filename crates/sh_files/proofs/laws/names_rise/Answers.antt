@@ -1,6 +1,6 @@
 use Rattle.std.specs.FinMap as map
-use Rattle.sh_files_base.specs.Listing.{front_of}
-use Rattle.sh_files_base.proofs.Held as held
+use Rattle.sh_files_image.specs.Listing.{front_of}
+use Rattle.sh_files_image.proofs.Held as held
 use Rattle.sh_files.proofs.laws.names_rise.Goals as goal
 
 pub returns : goal.returns

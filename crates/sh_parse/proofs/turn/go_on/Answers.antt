@@ -1,7 +1,7 @@
 use Rattle.std.proofs.Common.{refl, ap, ◌∙◌}
-use Rattle.sh_parse_programs.specs.Results.{and_then}
-use Rattle.sh_parse_programs.specs.Judging.{with_item}
-use Rattle.sh_parse_programs.specs.Programs.{read_text}
+use Rattle.sh_parse_commands.specs.Results.{and_then}
+use Rattle.sh_parse_commands.specs.Judging.{with_item}
+use Rattle.sh_parse_commands.specs.Programs.{read_text}
 use Rattle.sh_parse.specs.Aliases.{aliased}
 use Rattle.sh_parse.proofs.turn.go_on.Goals as goal
 

@@ -1,6 +1,6 @@
 use Rattle.std.proofs.Common.{sym, ap, ◌∙◌, Some}
-use Rattle.sh_parse_programs.specs.Documents.{bodies_of}
-use Rattle.sh_parse_programs.specs.Programs.{read_text}
+use Rattle.sh_parse_commands.specs.Documents.{bodies_of}
+use Rattle.sh_parse_commands.specs.Programs.{read_text}
 use Rattle.sh_parse.specs.Reading.{completed}
 use Rattle.sh_parse.proofs.Lines.{whole_said, whole_tells}
 use Rattle.sh_parse.proofs.turn.tell.Goals as goal

@@ -1,7 +1,7 @@
 use Rattle.std.proofs.Common.{rules, ◌≡◌, ◌∙◌, ap, ◌-◌, ◌<◌, ◌++◌, ◌&&◌, not, true, false, [], Some, None, suc, length, take, drop, arith}
 use Rattle.std.specs.List.{position}
 use Rattle.std.proofs.lemmas.List.{length-drop}
-use Rattle.sh_scanner_base.specs.Here.{is_end_line, joins_next}
+use Rattle.sh_token_pieces.specs.Here.{is_end_line, joins_next}
 use Rattle.sh_parse_documents.specs.Documents.{kept, kept_places, lines_from, over, cut}
 use Rattle.sh_parse_documents.specs.Cutting.{lines_before}
 use Rattle.sh_parse_documents.proofs.Lines.{is_line_end}

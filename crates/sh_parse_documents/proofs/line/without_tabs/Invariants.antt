@@ -1,5 +1,5 @@
 use Rattle.std.proofs.Common.{◌≡◌, ◌≤◌, length}
-use Rattle.sh_scanner_base.specs.Here.{without_tabs}
+use Rattle.sh_token_pieces.specs.Here.{without_tabs}
 use Rattle.sh_parse_documents.proofs.line.without_tabs.Given as goal
 
 abbrev pub invariant-loop-first : goal.invariant-loop-first

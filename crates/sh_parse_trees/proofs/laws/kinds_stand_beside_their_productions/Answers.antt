@@ -1,5 +1,5 @@
 use Rattle.std.proofs.Common.{refl}
-use Rattle.sh_token_base.specs.Shell.{complete, substitution}
+use Rattle.sh_token_grammar.specs.Shell.{complete, substitution}
 use Rattle.sh_parse_trees.specs.Productions.{productions}
 use Rattle.sh_parse_trees.proofs.laws.kinds_stand_beside_their_productions.Goals as goal
 

@@ -1,5 +1,5 @@
 use Rattle.std.proofs.Common.{◌≡◌, length, codes}
-use Rattle.sh_files_base.specs.Paths.{components}
+use Rattle.sh_files_image.specs.Paths.{components}
 use Rattle.sh_files.specs.Nodes.{walked}
 use Rattle.sh_files.proofs.files.Files.walk.Given as goal
 

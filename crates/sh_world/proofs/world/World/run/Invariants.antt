@@ -1,6 +1,6 @@
 use Rattle.std.proofs.Common.{take}
 use Rattle.sh_world.specs.State.{State, run}
-use Rattle.sh_world.specs.Kept.{WorldStands}
+use Rattle.sh_world.specs.World.{WorldStands}
 use Rattle.sh_world.proofs.world.World.run.Given as goal
 
 abbrev pub invariant-loop-event : goal.invariant-loop-event

@@ -1,5 +1,0 @@
-use Rattle.sh_arith_base.proofs.Nested.{nested}
-use Rattle.sh_arith_base.proofs.laws.levels_are_nested.Goals as goal
-
-pub returns : goal.returns
-returns c = nested

@@ -1,9 +1,0 @@
-use Rattle.std.proofs.Common.{◌≡◌, length}
-use Rattle.sh_arith_base.specs.Lexical.{begins_with}
-use Rattle.sh_arith_base.proofs.tokens.begins_with.Given as goal
-
-abbrev pub invariant-loop-first : goal.invariant-loop-first
-invariant-loop-first l = begins_with l.spelled l.left ≡ begins_with l.spelling l.text
-
-abbrev pub decreases-loop-first : goal.decreases-loop-first
-decreases-loop-first l = length l.spelled

@@ -1,0 +1,5 @@
+pub mod Decimals
+pub mod Memory
+pub mod Names
+pub mod Separators
+pub mod formers

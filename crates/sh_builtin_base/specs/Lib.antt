@@ -1,2 +1,0 @@
-pub mod Conditional
-pub mod Integers

@@ -1,0 +1,96 @@
+-- The search for a command (XCU 2.9.1.4), by the variable PATH (XBD 8.3).
+use Rattle.std.specs.Prelude.{ℕ, List, [], ◌∷◌, ◌++◌, ◌+◌, ◌&&◌, ◌==◌, Bool, true, false, Option, Some, None, codes, drop, find, if◌then◌else◌, length, map, nat_eq, nat_le, position, take}
+use Rattle.std.specs.List.{list_any, slice_split, starts_with}
+use Rattle.sh_exec.specs.declared.search.Located.{Located}
+use Rattle.sh_exec.specs.declared.search.Located.TheVariants.{Missing, Unfit, Stock, Script}
+use Rattle.sh_files.specs.Nodes.{FileMap, is_executable, named}
+use Rattle.sh_files_image.specs.Contents.{Regular}
+use Rattle.sh_files_image.specs.declared.node.Node.{Node}
+use Rattle.sh_files_image.specs.declared.node.Node.TheVariants.{Directory, File, Null, Terminal}
+use Rattle.sh_vars.specs.Environment.{Environment, value_of}
+
+-- ---- what a file is that may be executed
+-- the text of a line: what stands before its newline, which is the last byte and the only newline; an empty line is none
+abbrev pub line_by : List ℕ → Option ℕ → Option (List ℕ)
+line_by text None = None
+line_by text (Some at) = if nat_le 1 at && nat_eq (at + 1) (length text) then Some (take at text) else None
+
+abbrev pub line_of : List ℕ → Option (List ℕ)
+line_of text = line_by text (position (λ b. b == 10) text)
+
+-- the name in a file that is the one line `#!stock NAME`
+abbrev pub stock_name : List ℕ → Option (List ℕ)
+stock_name text = if starts_with nat_eq text (codes "#!stock ") then line_of (drop 8 text) else None
+
+-- any other file is the text of a script, which has to be readable, and of at most 2^24 bytes
+abbrev pub script_of : List ℕ → Regular → Located
+script_of path file = if file.flags.read && nat_le (length file.bytes) 16777216 then Script path file.bytes else Unfit
+
+abbrev pub program_by : List ℕ → Regular → Option (List ℕ) → Located
+program_by path file (Some name) = Stock name
+program_by path file None = script_of path file
+
+abbrev pub program_of : List ℕ → Regular → Located
+program_of path file = program_by path file (stock_name file.bytes)
+
+-- ---- a path
+-- what a path leads to: only a regular file with the flag x can be executed
+abbrev pub node_leads : List ℕ → Option Node → Located
+node_leads path None = Missing
+node_leads path (Some Directory) = Unfit
+node_leads path (Some (File file)) = if file.flags.execute then program_of path file else Unfit
+node_leads path (Some Null) = Unfit
+node_leads path (Some Terminal) = Unfit
+
+-- the path is one from the working directory, unless it begins with a slash
+unfoldable pub path_leads : FileMap → List ℕ → List ℕ → Located
+path_leads files directory path = node_leads path (named files directory path)
+
+-- ---- the search
+-- the elements of PATH, with a colon between each two
+abbrev pub elements : List ℕ → List (List ℕ)
+elements value = slice_split (λ b. b == 58) value
+
+-- the path of a name in an element; an empty element is the working directory
+abbrev pub path_in : List ℕ → List ℕ → List ℕ
+path_in name [] = name
+path_in name (b ∷ bs) = (b ∷ bs) ++ 47 ∷ name
+
+-- the paths that are tried, in order; none where PATH is unset
+abbrev pub tried : Option (List ℕ) → List ℕ → List (List ℕ)
+tried None name = []
+tried (Some value) name = map (path_in name) (elements value)
+
+abbrev pub is_regular : Option Node → Bool
+is_regular None = false
+is_regular (Some Directory) = false
+is_regular (Some (File file)) = true
+is_regular (Some Null) = false
+is_regular (Some Terminal) = false
+
+-- a path names a regular file
+abbrev pub names_regular : FileMap → List ℕ → List ℕ → Bool
+names_regular files directory path = is_regular (named files directory path)
+
+-- where no path names a file that can be executed (126 and 127)
+abbrev pub not_executed : Bool → Located
+not_executed true = Unfit
+not_executed false = Missing
+
+abbrev pub found_by : FileMap → List ℕ → List (List ℕ) → Option (List ℕ) → Located
+found_by files directory paths (Some path) = path_leads files directory path
+found_by files directory paths None = not_executed (list_any (names_regular files directory) paths)
+
+-- the first path that names a regular file with the flag x is taken
+unfoldable pub searched : FileMap → List ℕ → List (List ℕ) → Located
+searched files directory paths = found_by files directory paths (find (is_executable files directory) paths)
+
+-- ---- a command's name
+abbrev pub has_slash : List ℕ → Bool
+has_slash name = list_any (λ b. b == 47) name
+
+-- a name with a slash is a path, and isn't searched for
+unfoldable pub located_of : FileMap → Environment → List ℕ → Located
+located_of files env name =
+    if has_slash name then path_leads files env.directory name
+    else searched files env.directory (tried (value_of env (codes "PATH")) name)

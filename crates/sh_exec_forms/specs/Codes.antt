@@ -1,0 +1,30 @@
+-- Codes of a process, by which a proof tells its values apart.
+use Rattle.std.specs.Prelude.{◌≡◌, List, [], ◌∷◌, refl}
+use Rattle.std.specs.Coded.{Coded, code_by, coded×, coded_list}
+use Rattle.std.proofs.Common.{ap}
+use Rattle.sh_exec_forms.specs.contracts.form.Form as form
+use Rattle.sh_exec_command.specs.contracts.running.Active as active
+use Rattle.sh_exec_command.specs.declared.running.Active.{Active}
+use Rattle.sh_exec_forms.specs.declared.form.Form.{Form}
+use Rattle.sh_exec_forms.specs.Running.{Run, At, In}
+
+-- the forms of a tree, the outermost first, and its active place
+abbrev pub forms_of : Run → List Form
+forms_of (At place) = []
+forms_of (In f run) = f ∷ forms_of run
+
+abbrev pub place_in : Run → Active
+place_in (At place) = place
+place_in (In f run) = place_in run
+
+-- the tree of these forms and this place
+abbrev pub plugged : List Form → Active → Run
+plugged [] place = At place
+plugged (f ∷ fs) place = In f (plugged fs place)
+
+pub plugged-forms_of : (run : Run) → plugged (forms_of run) (place_in run) ≡ run
+plugged-forms_of (At place) = refl
+plugged-forms_of (In f run) = ap (In f) (plugged-forms_of run)
+
+abbrev pub run_code : Coded Run
+run_code = code_by (List Form × Active) (coded× (coded_list form.the_row.coded) active.the_row.coded) (λ run. (forms_of run, place_in run)) (λ p. plugged p.0 p.1) plugged-forms_of

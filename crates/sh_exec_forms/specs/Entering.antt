@@ -1,0 +1,150 @@
+-- Commands are entered (2.9): the forms that begin with them, inward to the first place. All this is part of the turn before.
+use Rattle.std.specs.Prelude.{ℕ, List, [], ◌∷◌, map, Bool, true, false, None, option_map}
+use Rattle.sh_exec_command.specs.Preparing.{first_place}
+use Rattle.sh_exec_command.specs.declared.running.Active.TheVariants.{Next, Done}
+use Rattle.sh_exec_command.specs.declared.running.Place.{Place}
+use Rattle.sh_exec_command.specs.declared.running.Place.TheVariants.{Expanding, Staging}
+use Rattle.sh_exec_command.specs.declared.running.Wants.TheVariants.{Series}
+use Rattle.sh_exec_forms.specs.Running.{Run, At, In}
+use Rattle.sh_exec_forms.specs.declared.form.Form.TheVariants.{Commands, Condition, If, Joined, Negated}
+use Rattle.sh_syntax.specs.declared.tree.AndOr.{AndOr}
+use Rattle.sh_syntax.specs.declared.tree.CaseItem.{CaseItem}
+use Rattle.sh_syntax.specs.declared.tree.Command.{Command}
+use Rattle.sh_syntax.specs.declared.tree.Command.TheFolds as folds
+use Rattle.sh_syntax.specs.declared.tree.Command.TheOpen as layer
+use Rattle.sh_syntax.specs.declared.tree.Command.TheViews as view
+use Rattle.sh_syntax.specs.declared.tree.Complete.{Complete}
+use Rattle.sh_syntax.specs.declared.tree.Compound.{Compound}
+use Rattle.sh_syntax.specs.declared.tree.CompoundForm.{CompoundForm}
+use Rattle.sh_syntax.specs.declared.tree.Connected.{Connected}
+use Rattle.sh_syntax.specs.declared.tree.ElseIf.{ElseIf}
+use Rattle.sh_syntax.specs.declared.tree.ListItem.{ListItem}
+use Rattle.sh_syntax.specs.declared.tree.Part.{Part}
+use Rattle.sh_syntax.specs.declared.tree.Parts.{Parts}
+use Rattle.sh_syntax.specs.declared.tree.Pipeline.{Pipeline}
+use Rattle.sh_syntax.specs.declared.tree.Redirect.{Redirect}
+use Rattle.sh_syntax.specs.declared.tree.SimpleItem.{SimpleItem}
+use Rattle.sh_syntax.specs.declared.tree.Target.{Target}
+use Rattle.sh_syntax.specs.declared.tree.Word.{Word}
+
+-- how a command is entered, which is then told; so are the forms that it is made of
+abbrev pub Entry : Type 0
+Entry = Command → Run
+
+-- one form of the syntax, each of its parts beside how it is entered; pipelines and what is made of them are entered in this way, and
+-- parts of words, redirections and their like in none
+abbrev pub Layer : Type 0 → (Type 0 → Type 0 → Type 0 → Type 0 → Type 0 → Type 0 → Type 0 → Type 0
+    → Type 0 → Type 0 → Type 0 → Type 0 → Type 0 → Type 0 → Type 0 → Type 0 → Type 0) → Type 0
+Layer Way F = F (Command × Entry) (CompoundForm × Entry) (Part × Unit {0}) (SimpleItem × Unit {0}) (Target × Unit {0}) (AndOr × Way)
+    (CaseItem × Unit {0}) (Complete × Run) (Compound × Entry) (Connected × Unit {0}) (ElseIf × Unit {0}) (ListItem × Way) (Parts × Unit {0})
+    (Pipeline × Way) (Redirect × Unit {0}) (Word × Unit {0})
+
+abbrev pub unentered : {A : Type 0} → A → Unit {0}
+unentered form = tt
+
+-- parts by themselves again
+abbrev pub tree : {A B : Type 0} → A × B → A
+tree part = part.0
+
+abbrev pub trees : {A B : Type 0} → List (A × B) → List A
+trees parts = map tree parts
+
+-- processes are made for these commands, one after another (2.9.2)
+abbrev pub staging : List Command → Place
+staging commands = Staging (record { commands = commands; aside = None; children = [] })
+
+-- ---- compound commands (2.9.4): a subshell is a pipeline of one process; those that aren't served are never entered
+abbrev pub form_step : Layer Run layer.CompoundForm-F → Entry
+form_step (layer.Group list) command = list.1
+form_step (layer.Subshell list) command = At (Next (staging (command ∷ [])))
+form_step (layer.If condition body else_ifs else_body) command =
+    In (If (record { body = body.0; else_ifs = trees else_ifs; else_body = option_map tree else_body })) condition.1
+form_step (layer.Loop kind condition body) command =
+    In (Condition (record { kind = kind; condition = condition.0; body = body.0 }) 0) condition.1
+form_step (layer.For name words body) command = At (Next (Expanding (Series command) None))
+form_step (layer.ForParameters name is_separated body) command = At (Next (Expanding (Series command) None))
+form_step (layer.Case word items) command = At (Done 0)
+
+abbrev pub compound_step : {Way : Type 0} → Layer Way layer.Compound-F → Entry
+compound_step compound command = compound.form.1 command
+
+abbrev pub command_step : Layer Run layer.Command-F → Entry
+command_step (layer.Simple items) command = At (Next (first_place false command))
+command_step (layer.Compound compound) command = compound.1 command
+command_step (layer.Function name body) command = At (Done 0)
+
+-- ---- pipelines (2.9.2): a command alone runs in the shell, of several each in a process of its own
+abbrev pub commands_step : Command × Entry → List (Command × Entry) → Run
+commands_step command [] = command.1 command.0
+commands_step command (next ∷ others) = At (Next (staging (command.0 ∷ next.0 ∷ trees others)))
+
+abbrev pub negated : Bool → Run → Run
+negated false run = run
+negated true run = In Negated run
+
+abbrev pub pipeline_step : Layer Run layer.Pipeline-F → Run
+pipeline_step pipeline = negated pipeline.is_negated (commands_step pipeline.first pipeline.rest)
+
+-- ---- AND-OR lists (2.9.3)
+abbrev pub joined : List Connected → Run → Run
+joined [] run = run
+joined (next ∷ others) run = In (Joined (next ∷ others)) run
+
+abbrev pub and_or_step : Layer Run layer.AndOr-F → Run
+and_or_step list = joined (trees list.rest) list.first.1
+
+abbrev pub list_item_step : {Way : Type 0} → Layer Way layer.ListItem-F → Way
+list_item_step item = item.list.1
+
+-- ---- AND-OR lists one after another (2.9.3), entered behind a command that had this status
+abbrev pub items_step : List (ListItem × Run) → ℕ → Run
+items_step [] status = At (Done status)
+items_step (item ∷ items) status = In (Commands (trees items)) item.1
+
+abbrev pub complete_step : Layer Run layer.Complete-F → Run
+complete_step list = items_step list.items 0
+
+-- ---- each form of the syntax, from the innermost outward
+unfoldable pub list_run : Complete → Run
+list_run = folds.para-Complete Entry Entry (Unit {0}) (Unit {0}) (Unit {0}) Run (Unit {0}) Run Entry (Unit {0}) (Unit {0}) Run (Unit {0}) Run (Unit {0}) (Unit {0})
+    command_step form_step unentered unentered unentered and_or_step unentered complete_step compound_step unentered unentered list_item_step unentered pipeline_step unentered unentered
+
+unfoldable pub item_run : ListItem → Run
+item_run = folds.para-ListItem Entry Entry (Unit {0}) (Unit {0}) (Unit {0}) Run (Unit {0}) Run Entry (Unit {0}) (Unit {0}) Run (Unit {0}) Run (Unit {0}) (Unit {0})
+    command_step form_step unentered unentered unentered and_or_step unentered complete_step compound_step unentered unentered list_item_step unentered pipeline_step unentered unentered
+
+unfoldable pub and_or_run : AndOr → Run
+and_or_run = folds.para-AndOr Entry Entry (Unit {0}) (Unit {0}) (Unit {0}) Run (Unit {0}) Run Entry (Unit {0}) (Unit {0}) Run (Unit {0}) Run (Unit {0}) (Unit {0})
+    command_step form_step unentered unentered unentered and_or_step unentered complete_step compound_step unentered unentered list_item_step unentered pipeline_step unentered unentered
+
+unfoldable pub pipeline_run : Pipeline → Run
+pipeline_run = folds.para-Pipeline Entry Entry (Unit {0}) (Unit {0}) (Unit {0}) Run (Unit {0}) Run Entry (Unit {0}) (Unit {0}) Run (Unit {0}) Run (Unit {0}) (Unit {0})
+    command_step form_step unentered unentered unentered and_or_step unentered complete_step compound_step unentered unentered list_item_step unentered pipeline_step unentered unentered
+
+unfoldable pub command_entry : Command → Entry
+command_entry = folds.para-Command Entry Entry (Unit {0}) (Unit {0}) (Unit {0}) Run (Unit {0}) Run Entry (Unit {0}) (Unit {0}) Run (Unit {0}) Run (Unit {0}) (Unit {0})
+    command_step form_step unentered unentered unentered and_or_step unentered complete_step compound_step unentered unentered list_item_step unentered pipeline_step unentered unentered
+
+unfoldable pub compound_entry : Compound → Entry
+compound_entry = folds.para-Compound Entry Entry (Unit {0}) (Unit {0}) (Unit {0}) Run (Unit {0}) Run Entry (Unit {0}) (Unit {0}) Run (Unit {0}) Run (Unit {0}) (Unit {0})
+    command_step form_step unentered unentered unentered and_or_step unentered complete_step compound_step unentered unentered list_item_step unentered pipeline_step unentered unentered
+
+unfoldable pub form_entry : CompoundForm → Entry
+form_entry = folds.para-CompoundForm Entry Entry (Unit {0}) (Unit {0}) (Unit {0}) Run (Unit {0}) Run Entry (Unit {0}) (Unit {0}) Run (Unit {0}) Run (Unit {0}) (Unit {0})
+    command_step form_step unentered unentered unentered and_or_step unentered complete_step compound_step unentered unentered list_item_step unentered pipeline_step unentered unentered
+
+abbrev pub command_run : Command → Run
+command_run command = command_entry command command
+
+-- the commands of a pipeline, without its `!`
+abbrev pub to_enter : Command → Command × Entry
+to_enter command = (command, command_entry command)
+
+abbrev pub commands_run : Pipeline → Run
+commands_run pipeline = commands_step (to_enter (view.out-Pipeline pipeline).first) (map to_enter (view.out-Pipeline pipeline).rest)
+
+abbrev pub beside : ListItem → ListItem × Run
+beside item = (item, item_run item)
+
+abbrev pub entered : List ListItem → ℕ → Run
+entered items status = items_step (map beside items) status

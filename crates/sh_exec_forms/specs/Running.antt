@@ -1,0 +1,27 @@
+-- What a shell's process runs: a tree of running forms, with the one place at which it acts.
+use Rattle.sh_exec_command.specs.declared.running.Active.{Active}
+use Rattle.sh_exec_command.specs.declared.running.Move.{Move}
+use Rattle.sh_exec_command.specs.declared.running.Move.TheVariants as move
+use Rattle.sh_exec_forms.specs.declared.form.Form.{Form}
+use Rattle.sh_exec_forms.specs.declared.form.Form.TheVariants.{Restoring}
+use Rattle.sh_vars.specs.Environment.{Environment}
+
+-- at its place, or in a form round another tree
+pub data Run : Type 0 where
+  At : Active → Run
+  In : Form → Run → Run
+
+-- a shell: its environment (2.13) and what it runs
+pub record ShellState : Type 0 where
+  pub environment : Environment
+  pub run : Run
+
+-- where a command goes on
+abbrev pub moved : Move → Run
+moved (move.At active) = At active
+moved (move.Held undo active) = In (Restoring undo) (At active)
+
+-- the one active place of a tree
+abbrev pub active_of : Run → Active
+active_of (At active) = active
+active_of (In form run) = active_of run

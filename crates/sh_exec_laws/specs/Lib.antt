@@ -1,3 +1,0 @@
-pub mod Forking
-pub mod Redirecting
-pub mod Undoing

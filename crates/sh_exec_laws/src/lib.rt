@@ -1,4 +1,0 @@
-//! Laws on what a shell does with the kernel, as requests of its processes.
-#![tactic(auto)]
-
-pub mod laws;

@@ -1,0 +1,6 @@
+pub mod Messages
+pub mod Pipelines
+pub mod Redirections
+pub mod Scripts
+pub mod Simple
+pub mod Served

@@ -1,9 +1,0 @@
-use Rattle.std.proofs.Common.{◌≡◌, length}
-use Rattle.sh_exec_shell_base.specs.Forms.{connected}
-use Rattle.sh_exec_shell_base.proofs.forms.connect.Given as goal
-
-abbrev pub invariant-others : goal.invariant-others
-invariant-others l = connected l.others l.status ≡ connected l.initial.others l.status
-
-abbrev pub decreases-others : goal.decreases-others
-decreases-others l = length l.others

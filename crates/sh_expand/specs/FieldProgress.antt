@@ -1,0 +1,44 @@
+-- Where an expansion stands.
+use Rattle.std.specs.Prelude.{◌≡◌, ℕ, List, [], ◌∷◌, map}
+use Rattle.std.specs.declared.vec.Vec.{Vec}
+use Rattle.std.specs.declared.alloc.Global.{Global}
+use Rattle.sh_vars.specs.Environment.{Environment}
+use Rattle.sh_files.specs.Nodes.{FileMap}
+use Rattle.sh_expand.specs.WordProgress as words
+use Rattle.sh_expand.specs.Parts as words_in
+use Rattle.sh_expand.specs.Expansion.{Done}
+use Rattle.sh_expand.specs.declared.wanted.Wanted.{Wanted}
+use Rattle.sh_pattern.specs.declared.mark.Mark.{Mark}
+use Rattle.sh_expand_fields.specs.Text.{marks_of}
+use Rattle.sh_expand_parts.specs.declared.closing.ExpandedWord.{ExpandedWord}
+use Rattle.sh_expand.specs.Expanding.{Need, Fields, Stops, expand}
+use Rattle.sh_expand.specs.declared.expansion.Expansion.{Expansion}
+use Rattle.sh_expand.specs.declared.expansion.Step.{Step}
+use Rattle.sh_expand.specs.declared.expansion.Step.TheVariants as step
+
+abbrev pub texts_of : List (Vec ℕ Global) → List (List ℕ)
+texts_of fields = map (λ f. f.items) fields
+
+-- it waits for an answer, those so far being as given
+abbrev pub Waits : Expansion → Environment → List Wanted → Environment → List (List ℕ) → Type 0
+Waits e env wanted before given = words.Waits e.words env wanted before given
+
+-- it holds the words as they are before they are split, those that the definition has
+abbrev pub HasWords : Expansion → Environment → List Wanted → Environment → List (List ℕ) → Type 0
+HasWords e env wanted before given = words_in.expand wanted before given ≡ Done (words.state_of e.words env [])
+
+-- the pattern that the first word is (2.14.1)
+abbrev pub first_pattern : List ExpandedWord → List Mark
+first_pattern [] = []
+first_pattern (w ∷ ws) = marks_of w.items
+
+abbrev pub pattern_in : Expansion → List Mark
+pattern_in e = first_pattern e.words.done
+
+-- a step is the expansion with the answers so far
+abbrev pub IsStep : FileMap → Step → Expansion → Environment → List Wanted → Environment → List (List ℕ) → Type 0
+IsStep files (step.Need program) e env wanted before given =
+    (expand files wanted before given ≡ Need program env) × Waits e env wanted before given
+IsStep files (step.Fields fields) e env wanted before given =
+    (expand files wanted before given ≡ Fields fields env) × HasWords e env wanted before given
+IsStep files (step.Fault fault) e env wanted before given = expand files wanted before given ≡ Stops fault env

@@ -1,0 +1,13 @@
+//! Words that are to be expanded.
+use sh_base::shared::Shared;
+use sh_expand_parts::Context;
+use sh_syntax::tree::Parts;
+
+/// A word that is to be expanded.
+#[derive(Drop)]
+pub struct Wanted {
+    /// Its parts.
+    pub parts: Shared<Parts>,
+    /// What it is expanded for.
+    pub context: Context,
+}

@@ -1,9 +1,0 @@
-use Rattle.std.proofs.Common.{◌≡◌, length}
-use Rattle.sh_expand_line.specs.Lines.{behind_field}
-use Rattle.sh_expand_line.proofs.fields.behind_field.Given as goal
-
-abbrev pub invariant-marks : goal.invariant-marks
-invariant-marks l = behind_field l.ifs l.rest ≡ behind_field l.ifs l.line
-
-abbrev pub decreases-marks : goal.decreases-marks
-decreases-marks l = length l.rest

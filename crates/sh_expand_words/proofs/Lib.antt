@@ -1,4 +1,0 @@
-pub mod Begins
-pub mod Forms
-pub mod Steps
-pub mod Turns

@@ -1,9 +1,0 @@
-use Rattle.std.proofs.Common.{◌≡◌, length}
-use Rattle.sh_files_base.specs.Paths.{components, names_fit}
-use Rattle.sh_files_base.proofs.paths.names_fit.Given as goal
-
-abbrev pub invariant-names : goal.invariant-names
-invariant-names l = names_fit (components l.rest) ≡ names_fit (components l.path)
-
-abbrev pub decreases-names : goal.decreases-names
-decreases-names l = length l.rest

@@ -1,0 +1,18 @@
+-- A regular file and its bytes (XSH write).
+use Rattle.std.specs.Prelude.{ℕ, ◌+◌, ◌-◌, ◌++◌, List, [], ◌∷◌, length, take, drop, replicate}
+use Rattle.sh_files_image.specs.declared.node.Flags.{Flags}
+
+pub record Regular : Type 0 where
+  pub flags : Flags
+  pub bytes : List ℕ
+
+-- the bytes with NUL bytes behind them up to this length
+abbrev pub widened : List ℕ → ℕ → List ℕ
+widened content end = content ++ replicate (end - length content) 0
+
+-- the content after bytes are written at a place; a write of none changes nothing
+abbrev pub written : List ℕ → ℕ → List ℕ → List ℕ
+written content offset [] = content
+written content offset (b ∷ bs) =
+    let end = offset + length (b ∷ bs) in
+    take offset (widened content end) ++ (b ∷ bs) ++ drop end content

@@ -1,4 +1,0 @@
-pub mod Names
-pub mod Walking
-pub mod Opening
-pub mod Requesting

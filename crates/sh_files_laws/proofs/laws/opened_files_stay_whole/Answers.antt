@@ -1,5 +1,0 @@
-use Rattle.sh_files_laws.proofs.Opening.{opened_whole}
-use Rattle.sh_files_laws.proofs.laws.opened_files_stay_whole.Goals as goal
-
-pub returns : goal.returns
-returns c = opened_whole

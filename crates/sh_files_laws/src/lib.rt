@@ -1,4 +1,0 @@
-//! Laws of files that processes open.
-#![tactic(auto)]
-
-pub mod laws;

@@ -1,0 +1,82 @@
+//! Writes, over the parts that they change.
+ghost use Rattle.sh_base.specs.Memory.{no_memory};
+ghost use Rattle.std.specs.Prelude.{◌≡◌, ◌≢◌, IfErr, ◌<◌, length, slice_get};
+ghost use Rattle.sh_kernel_descriptors.specs.Outcomes.{Gives, GivesOrLacks, LacksWhereGiven};
+ghost use Rattle.sh_kernel_descriptors.specs.Writing as writing;
+
+use crate::channel::Channel;
+use crate::fault::{KernelFault, fault_of_file, fault_of_pipe};
+use sh_files::{FileFault, Files, MAX_LENGTH, Node};
+
+/// The length of a file.
+fn size_of(files: &Files, node: usize) -> usize
+    ensures { result ≡ writing.size_of (slice_get files.now.nodes node) }
+{
+    match files.node(node) {
+        Some(Node::File(file)) => file.bytes().len(),
+        Some(Node::Null) => 0,
+        Some(Node::Directory) => 0,
+        Some(Node::Terminal) => 0,
+        None => 0,
+    }
+}
+
+/// Where a write begins.
+pub fn write_start(files: &Files, node: usize, append: bool, offset: usize) -> usize
+    ensures { result ≡ writing.write_start files.now node append offset }
+{
+    if append {
+        return size_of(files, node);
+    }
+    offset
+}
+
+/// Writes bytes into a file, and says where they end.
+pub fn write_node(
+    files: &mut Files,
+    node: usize,
+    start: usize,
+    bytes: &[u8],
+) -> Result<usize, KernelFault>
+    requires { 0 < length bytes.now }
+    ensures call { GivesOrLacks result files.old files.new (writing.write_node files.old node start bytes.now) }
+    ensures room { LacksWhereGiven result (writing.write_node files.old node start bytes.now) }
+{
+    if bytes.len() > MAX_LENGTH || start > MAX_LENGTH - bytes.len() {
+        return Err(fault_of_file(FileFault::TooLarge));
+    }
+    match files.write(node, start, bytes) {
+        Ok(()) => Ok(start + bytes.len()),
+        Err(fault) => Err(fault_of_file(fault)),
+    }
+}
+
+/// Writes to a pipe that has a reader, if it is there.
+fn write_slot(slot: &mut Option<Channel>, bytes: &[u8]) -> Result<usize, KernelFault>
+    ensures memory { IfErr result (λ fault. fault ≢ KernelFault.NoMemory no_memory) }
+    ensures gives { Gives result slot.new (writing.write_slot bytes.now slot.old) }
+{
+    let Some(pipe) = slot else {
+        return Err(KernelFault::BadDescriptor);
+    };
+    match pipe.write(bytes, true) {
+        Ok(count) => Ok(count),
+        Err(fault) => Err(fault_of_pipe(fault)),
+    }
+}
+
+/// Writes to the pipe of a number, which has a reader.
+pub fn write_pipe(
+    pipes: &mut Vec<Option<Channel>>,
+    pipe: usize,
+    bytes: &[u8],
+) -> Result<usize, KernelFault>
+    ensures memory { IfErr result (λ fault. fault ≢ KernelFault.NoMemory no_memory) }
+    ensures gives { Gives result pipes.new.items (writing.write_pipe pipes.old.items pipe bytes.now) }
+{
+    if pipe >= pipes.len() {
+        return Err(KernelFault::BadDescriptor);
+    }
+    let slot = &mut pipes[pipe];
+    write_slot(slot, bytes)
+}

@@ -1,0 +1,115 @@
+-- What a turn changes.
+use Rattle.std.proofs.Common.{◌≡◌, ℕ, ◌<◌, List, [], ◌∷◌, ◌++◌, Bool, false, ◌||◌, Option, None, refl, sym, ap, ◌∙◌, subst, arith}
+use Rattle.sh_exec.specs.Turns.{turn}
+use Rattle.sh_exec.specs.declared.process.Process.{Process}
+use Rattle.sh_laws.specs.Forking.{UnmadeReachNothing}
+use Rattle.sh_laws.proofs.RequestChanges.{forking_changes, forking_grows}
+use Rattle.sh_laws.proofs.RequestLists.{changes_reached, reaches_as_before}
+use Rattle.sh_laws.proofs.Reaching.{forking_reaches}
+use Rattle.sh_laws.proofs.Unmade.{unmade_stay, unmade_stay_forking}
+use Rattle.sh_exec_machine.specs.Forking.{forked}
+use Rattle.sh_kernel_descriptors.specs.Processes.{next_pid}
+use Rattle.sh_kernel.specs.Laws.{ChangesOnlyReached, OnlyGrows, ReachesNoMore, opens}
+use Rattle.sh_kernel.specs.Requests.{Request, after_request}
+use Rattle.sh_kernel.specs.State.{KernelState}
+use Rattle.sh_kernel.proofs.Frames.{requests_change}
+use Rattle.sh_kernel.proofs.Growing.{grows_then, requests_grow}
+use Rattle.sh_kernel.proofs.Lists.{or_left, or_right}
+use Rattle.sh_kernel.proofs.Reached.{changes_then, lists_grow, reach_no_more, reaches_then}
+use Rattle.sh_stock.specs.Asking.{Meaning}
+use Rattle.sh_laws.specs.Requests.{ByRequests, ChangesByRequests, after_all, directory_of, number_of, opens_by}
+use Rattle.sh_laws.proofs.Lists.{by_then, fork_by, opens_append, own_more}
+use Rattle.sh_laws.proofs.Processes.{turn_keeps}
+use Rattle.sh_laws.proofs.TurnRequests.{IsForked, IsKept}
+
+both_false : (a b : Bool) → a ≡ false → b ≡ false → (a || b) ≡ false
+both_false a b h k = ap (λ (x : Bool). x || b) h ∙ k
+
+-- what is true along a turn: the files that may have changed are among those that its requests opened
+record Along (s : KernelState) (pid : ℕ) (directory : List ℕ) (made : Option ℕ) (t : KernelState) : Type 0 where
+  asked : ByRequests pid made directory s t
+  op : ℕ → Bool
+  within : (node : ℕ) → opens_by s asked.0 node ≡ false → op node ≡ false
+  changes : ChangesOnlyReached pid op s.machine t.machine
+  less : ReachesNoMore pid op s.machine t.machine
+  grows : OnlyGrows s.machine t.machine
+  unmade : UnmadeReachNothing t.machine
+
+abbrev of_process : ℕ → Request → ℕ × Request
+of_process pid r = (pid, r)
+
+module _ (s : KernelState) (pid : ℕ) (directory : List ℕ) (born : pid < next_pid s.machine.processes) where
+  still_born : (t : KernelState) → OnlyGrows s.machine t.machine → pid < next_pid t.machine.processes
+  still_born t grows = omega (arith, born, grows.processes)
+
+  one_within : (t : KernelState) (rs : List (ℕ × Request)) (r : Request) (op : ℕ → Bool) → t ≡ after_all s rs → ((node : ℕ) → opens_by s rs node ≡ false → op node ≡ false)
+      → (node : ℕ) → opens_by s (rs ++ of_process pid r ∷ []) node ≡ false → (op node || opens t.machine r node) ≡ false
+  one_within t rs r op is within node h =
+      let x = of_process pid r in
+      let two = sym (opens_append s rs (x ∷ []) node) ∙ h in
+      let last = or_right (opens_by s rs node) (opens_by (after_all s rs) (x ∷ []) node) two in
+      both_false (op node) (opens t.machine r node) (within node (or_left (opens_by s rs node) (opens_by (after_all s rs) (x ∷ []) node) two))
+      (subst (λ (u : KernelState). opens u.machine r node ≡ false) (sym is) (or_left (opens (after_all s rs).machine r node) false last))
+
+  one_along : (made : Option ℕ) → IsKept directory pid (Along s pid directory made)
+  one_along made t r f a =
+      let u = after_request t pid r in
+      record {
+        asked = own_more pid directory made s t r f a.asked;
+        op = λ node. a.op node || opens t.machine r node;
+        within = one_within t a.asked.0 r a.op a.asked.1.1 a.within;
+        changes = changes_then pid a.op (opens t.machine r) s.machine t.machine u.machine a.grows a.less a.changes (requests_change t pid r);
+        less = reaches_then pid a.op (opens t.machine r) s.machine t.machine u.machine a.grows a.less (reach_no_more t pid r);
+        grows = grows_then s.machine t.machine u.machine a.grows (requests_grow t pid r);
+        unmade = unmade_stay t pid r (still_born t a.grows) a.unmade;
+      }
+
+  forks_along : IsForked pid (Along s pid directory)
+  forks_along t before writes a =
+      let u = (forked t pid before writes).after in
+      let child = (forked t pid before writes).child in
+      let more = fork_by pid directory t before writes in
+      record {
+        asked = by_then pid directory child s t u a.asked more;
+        op = λ node. a.op node || false;
+        within = λ node h. both_false (a.op node) false (a.within node (or_left (opens_by s a.asked.0 node) (opens_by (after_all s a.asked.0) more.0 node) (sym (opens_append s a.asked.0 more.0 node) ∙ h))) refl;
+        changes = changes_then pid a.op (λ node. false) s.machine t.machine u.machine a.grows a.less a.changes (forking_changes t pid before writes a.unmade);
+        less = reaches_then pid a.op (λ node. false) s.machine t.machine u.machine a.grows a.less (forking_reaches t pid before writes a.unmade);
+        grows = grows_then s.machine t.machine u.machine a.grows (forking_grows t pid before writes);
+        unmade = unmade_stay_forking t pid before writes (still_born t a.grows) a.unmade;
+      }
+
+  start_along : UnmadeReachNothing s.machine → Along s pid directory None s
+  start_along none = record {
+    asked = ([], (tt, refl));
+    op = λ node. false;
+    within = λ node h. refl;
+    changes = changes_reached s pid [] (λ node. refl);
+    less = reaches_as_before s pid [] (λ node. refl);
+    grows = lists_grow s pid [];
+    unmade = none;
+  }
+
+  of_along : (made : Option ℕ) (t : KernelState) → Along s pid directory made t → ChangesByRequests pid made directory s t
+  of_along made t a =
+      let c = a.changes in
+      record {
+        requests = a.asked.0;
+        of_process = a.asked.1.0;
+        after = a.asked.1.1;
+        changes = record {
+          pipes = c.pipes;
+          files = λ node within h unopened. c.files node within h (a.within node unopened);
+          descriptions = c.descriptions;
+          descriptors = c.descriptors;
+          processes = c.processes;
+        };
+      }
+
+pub turns_change : {S : Type 0} (m : Meaning S) (s : KernelState) (pid : ℕ) (process : Process S) → pid < next_pid s.machine.processes → UnmadeReachNothing s.machine
+    → let t = turn m s pid process in ChangesByRequests pid (number_of t.child) (directory_of process) s t.machine
+turns_change m s pid process born none =
+    let directory = directory_of process in
+    let t = turn m s pid process in
+    of_along s pid directory born (number_of t.child) t.machine
+    (turn_keeps m directory pid (Along s pid directory) (one_along s pid directory born) (forks_along s pid directory born) s process refl (start_along s pid directory born none))

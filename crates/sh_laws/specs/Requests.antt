@@ -1,0 +1,57 @@
+-- What processes do to a kernel by requests.
+use Rattle.std.specs.Prelude.{◌≡◌, ℕ, List, [], ◌∷◌, ◌++◌, Bool, false, ◌||◌, Option, Some, option_map, ◌⊎◌}
+use Rattle.sh_exec.specs.declared.process.Process.{Process}
+use Rattle.sh_exec.specs.declared.process.Process.TheVariants.{Runs, Asks}
+use Rattle.sh_exec_shell.specs.declared.shell.Child.{Child}
+use Rattle.sh_laws.specs.Rooted.{OpensFrom}
+use Rattle.sh_kernel.specs.Laws.{ChangesOnlyReached, opens}
+use Rattle.sh_kernel.specs.Requests.{Request, after_request}
+use Rattle.sh_kernel.specs.State.{KernelState}
+use Rattle.sh_tty.specs.Happenings.{bytes_of}
+
+-- the paths of files go from this directory
+abbrev pub IsFrom : List ℕ → Request → Type 0
+IsFrom directory = OpensFrom (λ other. other ≡ directory)
+
+-- the process that a turn made, if it made one
+abbrev pub number_of : Option Child → Option ℕ
+number_of child = option_map (λ made. made.pid) child
+
+-- a program opens no files
+abbrev pub directory_of : {S : Type 0} → Process S → List ℕ
+directory_of (Runs shell) = shell.environment.directory
+directory_of (Asks ask program) = []
+
+-- each request is of this process, or of the one that it makes, and paths go from the directory
+abbrev pub AllBy : (pid : ℕ) → (made : Option ℕ) → List ℕ → List (ℕ × Request) → Type 0
+AllBy pid made directory [] = Unit {0}
+AllBy pid made directory (r ∷ rs) = ((r.0 ≡ pid) ⊎ (made ≡ Some r.0)) × (IsFrom directory r.1 × AllBy pid made directory rs)
+
+-- the state after requests, each of the process beside it
+abbrev pub after_all : KernelState → List (ℕ × Request) → KernelState
+after_all s [] = s
+after_all s (r ∷ rs) = after_all (after_request s r.0 r.1) rs
+
+-- one state comes of the other by requests of this process alone, and of the one that it makes
+abbrev pub ByRequests : (pid : ℕ) → (made : Option ℕ) → List ℕ → KernelState → KernelState → Type 0
+ByRequests pid made directory s t = (rs : List (ℕ × Request)) × (AllBy pid made directory rs × (t ≡ after_all s rs))
+
+-- one of the requests opens the file of this node
+abbrev pub opens_by : KernelState → List (ℕ × Request) → ℕ → Bool
+opens_by s [] node = false
+opens_by s (r ∷ rs) node = opens s.machine r.1 node || opens_by (after_request s r.0 r.1) rs node
+
+-- the same, and of what was there nothing changed but what the process reached at first or what its requests opened
+pub record ChangesByRequests (pid : ℕ) (made : Option ℕ) (directory : List ℕ) (s t : KernelState) : Type 0 where
+  pub requests : List (ℕ × Request)
+  pub of_process : AllBy pid made directory requests
+  pub after : t ≡ after_all s requests
+  pub changes : ChangesOnlyReached pid (opens_by s requests) s.machine t.machine
+
+-- one comes of the other by requests of processes, from whatever directories
+abbrev pub ComesByRequests : KernelState → KernelState → Type 0
+ComesByRequests s t = (rs : List (ℕ × Request)) × (t ≡ after_all s rs)
+
+-- what the terminal shows goes on
+abbrev pub Shows : KernelState → KernelState → Type 0
+Shows s t = (more : List ℕ) × (bytes_of t.terminal ≡ bytes_of s.terminal ++ more)

@@ -1,0 +1,351 @@
+//! The list of commands of a text: its tokens are judged, the words of these have substitutions, and those are texts again.
+ghost use Rattle.std.specs.Prelude.{◌≡◌, IfOk, OnOk, length};
+ghost use Rattle.sh_parse_documents.specs.Scanned.{ending_of};
+ghost use Rattle.sh_parse_words.specs.Building.{Takes, take_piece};
+ghost use Rattle.sh_parse_words.specs.Places.{behind_joins, behind_piece, place_of};
+ghost use Rattle.sh_parse_commands.specs.Results.{Gives, GivesBodies, Changes};
+ghost use Rattle.sh_parse_commands.specs.Words.{answer_of, with_piece, whole, parts_in};
+ghost use Rattle.sh_parse_commands.specs.Leaves.{word_leaf, leaf_of};
+ghost use Rattle.sh_parse_commands.specs.Documents.{expanded_body, document_parts, bodies_of};
+ghost use Rattle.sh_parse_commands.specs.Judging.{with_item};
+ghost use Rattle.sh_parse_commands.specs.Programs.{programs, ended_by};
+
+use crate::body_front::{fault_at, front_of, literal_parts, unless};
+use crate::cut::cut_fault;
+use crate::front::Front;
+use crate::input::input;
+use crate::leaf::{assignment_leaf, name_size, operator_leaf, plain_leaf};
+use crate::source::{
+    behind_pieces, digits_in, pieces_behind, pieces_through, text_between, text_from,
+};
+use crate::word::{at_its_level, begins_closed, fault_in, level_fault, place_of, text_of};
+use sh_base::sequence::Sequence;
+use sh_base::shared::Shared;
+use sh_base::span::Span;
+use sh_parse_actions::leaf::Leaf;
+use sh_parse_documents::document::{Document, documents};
+use sh_parse_documents::item::Item;
+use sh_parse_documents::items::scan_items;
+use sh_parse_documents::waiting::Waiting;
+use sh_parse_words::build::{Builder, Request};
+use sh_parse_words::fault::PartFault;
+use sh_parse_words::place::{behind_joins, behind_piece};
+use sh_syntax::tree::{Complete, Parts};
+use sh_token::token::TokenKind;
+use sh_token_pieces::here::Delimiter;
+use sh_token_pieces::mark::{Mark, literal_front};
+use std::alloc::{AllocError, Global};
+
+/// The commands that the parts of a word wait for.
+#[tactic(auto, using(crate::proofs::Steps::answer_gives, crate::proofs::Steps::answer_fault))]
+#[cycle(program)]
+fn answer(
+    alloc: Global,
+    depth: usize,
+    text: &[u8],
+    request: &Request,
+) -> Result<Complete, PartFault>
+    ensures { Gives result (answer_of (programs depth) text.now request.now) }
+{
+    let inner = text_of(alloc, request, text)?;
+    match program(alloc, depth, request.left, inner.as_slice()) {
+        Ok(program) => at_its_level(request, program),
+        Err(fault) => Err(level_fault(request, fault_in(request, fault))),
+    }
+}
+
+/// Takes a piece, which the bytes that are left of the text begin with.
+fn take_piece(
+    text: &[u8],
+    builder: &mut Builder,
+    piece: &Mark,
+    is_empty: bool,
+    bytes: &[u8],
+) -> Result<Option<Request>, PartFault>
+    ensures { Takes result builder.new (take_piece builder.old piece.now is_empty (place_of (length text.now) (behind_joins bytes.now)) (place_of (length text.now) (behind_piece piece.now bytes.now))) }
+{
+    let place = place_of(text.len(), behind_joins(bytes));
+    let behind = place_of(text.len(), behind_piece(piece, bytes));
+    builder.take(piece, is_empty, place, behind)
+}
+
+/// Takes a piece more, with the commands that it asks for.
+#[tactic(auto, using(crate::proofs::Steps::piece_alone, crate::proofs::Steps::piece_answered, crate::proofs::Steps::piece_fault, crate::proofs::Steps::piece_answer_fault))]
+#[cycle(program)]
+fn put_piece(
+    alloc: Global,
+    depth: usize,
+    text: &[u8],
+    builder: &mut Builder,
+    piece: &Mark,
+    is_empty: bool,
+    bytes: &[u8],
+) -> Result<(), PartFault>
+    ensures { Changes result builder.new (with_piece (programs depth) text.now builder.old piece.now is_empty bytes.now) }
+{
+    let request = match take_piece(text, builder, piece, is_empty, bytes) {
+        Ok(Some(request)) => request,
+        Ok(None) => return Ok(()),
+        Err(fault) => return Err(fault),
+    };
+    match answer(alloc, depth, text, &request) {
+        Ok(program) => {
+            let program = Shared::new(alloc, program)?;
+            builder.put_program(request.form, program)?;
+            Ok(())
+        },
+        Err(fault) => Err(fault),
+    }
+}
+
+/// The parts of pieces with which the bytes begin that are left of the text.
+#[tactic(auto, using(crate::proofs::Steps::parts_done, crate::proofs::Steps::parts_fault))]
+#[cycle(program)]
+fn parts_in(
+    alloc: Global,
+    depth: usize,
+    left: usize,
+    text: &[u8],
+    pieces: &[Mark],
+    bytes: &[u8],
+) -> Result<Parts, PartFault>
+    ensures { Gives result (parts_in (programs depth) left text.now pieces.now bytes.now) }
+{
+    let mut builder = Builder::new(alloc, left);
+    let mut rest = pieces;
+    let mut behind = bytes;
+    while let Some((piece, others)) = rest.split_first() {
+        let is_empty = begins_closed(others);
+        if let Err(fault) = put_piece(alloc, depth, text, &mut builder, piece, is_empty, behind) {
+            return Err(fault);
+        }
+        behind = behind_piece(piece, behind);
+        rest = others;
+    }
+    let parts = whole(alloc, builder)?;
+    Ok(parts)
+}
+
+/// The parts of pieces that close what they open.
+fn whole(alloc: Global, builder: Builder) -> Result<Parts, AllocError>
+    ensures { IfOk result (λ parts. parts ≡ whole builder) }
+{
+    match builder.finish()? {
+        Some(parts) => Ok(parts),
+        None => Ok(Parts {
+            items: Sequence::new(alloc),
+        }),
+    }
+}
+
+/// What a word is to the tree.
+#[tactic(auto, using(crate::proofs::Steps::word_plain, crate::proofs::Steps::word_plain_fault, crate::proofs::Steps::word_assigned, crate::proofs::Steps::word_assigned_fault))]
+#[cycle(program)]
+fn word_leaf(
+    alloc: Global,
+    depth: usize,
+    left: usize,
+    text: &[u8],
+    pieces: &[Mark],
+    span: Span,
+) -> Result<Leaf, PartFault>
+    ensures { Gives result (word_leaf (programs depth) left text.now pieces.now span) }
+{
+    let bytes = text_from(text, span.start);
+    let source = text_between(text, span.start, span.end);
+    let front = literal_front(alloc, pieces)?;
+    let Some(size) = name_size(front.as_slice()) else {
+        return match parts_in(alloc, depth, left, text, pieces, bytes) {
+            Ok(parts) => {
+                let leaf = plain_leaf(alloc, pieces, front, parts, source)?;
+                Ok(leaf)
+            },
+            Err(fault) => Err(fault),
+        };
+    };
+    let behind = behind_pieces(pieces_through(pieces, size), bytes);
+    let others = pieces_behind(pieces, size);
+    match parts_in(alloc, depth, left, text, others, behind) {
+        Ok(value) => {
+            let leaf = assignment_leaf(alloc, front.as_slice(), size, value, source)?;
+            Ok(leaf)
+        },
+        Err(fault) => Err(fault),
+    }
+}
+
+/// What a token is to the tree.
+#[cycle(program)]
+fn leaf_of(
+    alloc: Global,
+    depth: usize,
+    left: usize,
+    text: &[u8],
+    kind: &TokenKind,
+    span: Span,
+) -> Result<Leaf, PartFault>
+    ensures { Gives result (leaf_of (programs depth) left text.now kind.now span) }
+{
+    match kind {
+        TokenKind::Operator(operator) => {
+            let leaf = operator_leaf(alloc, *operator)?;
+            Ok(leaf)
+        },
+        TokenKind::Number => {
+            let digits = digits_in(alloc, text_between(text, span.start, span.end))?;
+            Ok(Leaf::Number(Sequence::from_vec(digits)))
+        },
+        TokenKind::Word(pieces) => { word_leaf(alloc, depth, left, text, pieces.as_slice(), span) },
+        TokenKind::End => Ok(Leaf::Operator),
+    }
+}
+
+/// The parts of a body that is expanded.
+#[tactic(auto, using(crate::proofs::Steps::body_gives, crate::proofs::Steps::body_fault))]
+#[cycle(program)]
+fn expanded_body(alloc: Global, depth: usize, left: usize, body: &[u8]) -> Result<Parts, PartFault>
+    ensures { Gives result (expanded_body (programs depth) left body.now) }
+{
+    let front = front_of(alloc, body)?;
+    match parts_in(alloc, depth, left, body, front.pieces.as_slice(), body) {
+        Ok(parts) => unless(front.fault, parts),
+        Err(fault) => Err(fault),
+    }
+}
+
+/// The parts of a body.
+#[tactic(auto, using(crate::proofs::Steps::document_quoted, crate::proofs::Steps::document_expanded, crate::proofs::Steps::document_fault))]
+#[cycle(program)]
+fn document_parts(
+    alloc: Global,
+    depth: usize,
+    left: usize,
+    document: &Document,
+) -> Result<Parts, PartFault>
+    ensures { Gives result (document_parts (programs depth) left document.now) }
+{
+    if document.is_quoted {
+        let parts = literal_parts(alloc, &document.text)?;
+        return Ok(parts);
+    }
+    match expanded_body(alloc, depth, left, document.text.as_slice()) {
+        Ok(parts) => Ok(parts),
+        Err(fault) => Err(fault_at(document, fault)),
+    }
+}
+
+/// The parts of the bodies behind an item, of the here-documents that are due there, where so many levels may open. `depth` is how deep
+/// texts may nest in them.
+#[tactic(auto, using(crate::proofs::Steps::bodies_done, crate::proofs::Steps::bodies_fault))]
+#[cycle(program)]
+pub(crate) fn bodies_within(
+    alloc: Global,
+    depth: usize,
+    left: usize,
+    text: &[u8],
+    due: &[Delimiter],
+    item: &Item,
+) -> Result<Vec<Shared<Parts>>, PartFault>
+    ensures { GivesBodies result (bodies_of (programs depth) left text.now due.now item.now) }
+{
+    let found = documents(alloc, due, text, item.token.span.end, item.end)?;
+    let mut bodies = Vec::new(alloc);
+    let mut rest = found.as_slice();
+    while let Some((document, others)) = rest.split_first() {
+        let parts = match document_parts(alloc, depth, left, document) {
+            Ok(parts) => parts,
+            Err(fault) => return Err(fault),
+        };
+        let parts = Shared::new(alloc, parts)?;
+        bodies.push(parts)?;
+        rest = others;
+    }
+    Ok(bodies)
+}
+
+/// Takes a token more of a text in which so many levels may open, with the bodies behind it of the here-documents that are due there.
+/// `depth` is how deep texts may nest in it.
+#[tactic(auto, using(crate::proofs::Steps::item_refused, crate::proofs::Steps::item_deep, crate::proofs::Steps::leaf_fault, crate::proofs::Steps::item_bodies_fault, crate::proofs::Steps::item_taken))]
+#[cycle(program)]
+pub(crate) fn judge_within(
+    alloc: Global,
+    depth: usize,
+    left: usize,
+    text: &[u8],
+    due: &[Delimiter],
+    item: &Item,
+    front: &mut Front,
+) -> Result<(), PartFault>
+    ensures { Changes result front.new (with_item (programs depth) left text.now due.now item.now front.old) }
+{
+    let input = input(alloc, item)?;
+    let start = item.token.span.start;
+    if !front.show(input)? {
+        return Err(PartFault::Refused { at: start });
+    }
+    let open = front.open();
+    if left < open {
+        return Err(PartFault::TooDeep { at: start });
+    }
+    let inner = left - open;
+    let leaf = match leaf_of(alloc, depth, inner, text, &item.token.kind, item.token.span) {
+        Ok(leaf) => leaf,
+        Err(fault) => return Err(fault),
+    };
+    match bodies_within(alloc, depth, inner, text, due, item) {
+        Ok(bodies) => {
+            front.put(leaf, bodies)?;
+            Ok(())
+        },
+        Err(fault) => Err(fault),
+    }
+}
+
+/// What comes behind the tokens of a text, in which so many levels may open, where this waits: its end, or at this place no token.
+fn ended_by(
+    alloc: Global,
+    left: usize,
+    text: &[u8],
+    waiting: Waiting,
+    front: Front,
+    cut: Option<usize>,
+) -> Result<Complete, PartFault>
+    ensures { Gives result (ended_by left text.now waiting front (ending_of cut)) }
+{
+    let size = text.len();
+    let Some(at) = cut else {
+        return match front.into_tree()? {
+            Some(tree) => Ok(tree),
+            None => Err(PartFault::Refused { at: size }),
+        };
+    };
+    let left = left.saturating_sub(front.open());
+    match cut_fault(alloc, left, text, &waiting, at)? {
+        Some(fault) => Err(fault),
+        None => Err(PartFault::Refused { at: size }),
+    }
+}
+
+/// The list of commands of a text, in which so many levels may open, and whose substitutions nest so deep.
+#[tactic(auto, using(crate::proofs::Steps::text_fault, crate::proofs::Steps::text_ended))]
+#[cycle(program)]
+fn program(alloc: Global, depth: usize, left: usize, text: &[u8]) -> Result<Complete, PartFault>
+    ensures { Gives result (programs depth left text.now) }
+{
+    if depth == 0 {
+        return Err(PartFault::TooDeep { at: 0 });
+    }
+    let found = scan_items(alloc, text, true)?;
+    let mut front = Front::of_substitution(alloc)?;
+    let mut waiting = Waiting::new(alloc);
+    let mut rest = found.items.as_slice();
+    while let Some((item, others)) = rest.split_first() {
+        let due = waiting.due_at(&item.token.kind);
+        if let Err(fault) = judge_within(alloc, depth - 1, left, text, due, item, &mut front) {
+            return Err(fault);
+        }
+        waiting.pass(&item.token.kind)?;
+        rest = others;
+    }
+    ended_by(alloc, left, text, waiting, front, found.cut)
+}

@@ -1,5 +1,0 @@
-use Rattle.sh_parse_laws.proofs.Given.{spelled_parts}
-use Rattle.sh_parse_laws.proofs.laws.given_parts_are_spelled.Goals as goal
-
-pub returns : goal.returns
-returns c = spelled_parts

@@ -1,4 +1,0 @@
-//! Laws on what the reader reads, in the words of the standard.
-#![tactic(auto)]
-
-pub mod laws;

@@ -1,4 +1,0 @@
-pub mod Defined
-pub mod Sizes
-pub mod Firsts
-pub mod Scanning

@@ -1,6 +1,0 @@
-pub mod Bodies
-pub mod Waiting
-pub mod Items
-pub mod Places
-pub mod Stream
-pub mod Scanned

@@ -1,5 +1,0 @@
-use Rattle.sh_parse_programs.proofs.Texts.{tokens_of}
-use Rattle.sh_parse_programs.proofs.laws.items_are_tokens.Goals as goal
-
-pub returns : goal.returns
-returns c = tokens_of

@@ -1,5 +1,0 @@
-use Rattle.sh_parse_programs.proofs.Texts.{program_defined}
-use Rattle.sh_parse_programs.proofs.laws.program_is_the_defined_one.Goals as goal
-
-pub returns : goal.returns
-returns c = program_defined

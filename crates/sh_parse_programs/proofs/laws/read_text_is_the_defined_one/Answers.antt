@@ -1,5 +1,0 @@
-use Rattle.sh_parse_programs.proofs.Deeper.{text_defined}
-use Rattle.sh_parse_programs.proofs.laws.read_text_is_the_defined_one.Goals as goal
-
-pub returns : goal.returns
-returns c = text_defined

@@ -1,8 +1,0 @@
--- How many compound commands are open behind tokens. The law `open_compounds_are_nested` of `sh_token_base` ties it to derivations.
-use Rattle.std.specs.Prelude.{ℕ, List}
-use Rattle.sh_grammar.specs.declared.Token.{Token as Input}
-use Rattle.sh_grammar.specs.Tabulation.{Tabulation}
-use Rattle.sh_token_base.specs.Levels as levels
-
-unfoldable pub open_compounds : Tabulation → List Input → ℕ
-open_compounds d tokens = levels.open_compounds d tokens

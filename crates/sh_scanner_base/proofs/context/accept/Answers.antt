@@ -1,5 +1,0 @@
-use Rattle.sh_scanner_base.proofs.Tokens.{front_shown}
-use Rattle.sh_scanner_base.proofs.context.accept.Goals as goal
-
-pub returns-clause-told : goal.returns-clause-told
-returns-clause-told c = front_shown _ _ _ c.requires c.in_ok-taken.ensures.front

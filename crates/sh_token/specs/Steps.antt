@@ -1,0 +1,33 @@
+-- What the scanner's calls answer, against the machine.
+use Rattle.sh_token.specs.declared.step.Step.{Step}
+use Rattle.sh_token.specs.declared.scanner.Event.{Event}
+use Rattle.sh_token.specs.declared.scanner.Outcome.{Outcome}
+use Rattle.sh_token.specs.declared.scanner.Ending.{Ending as Told}
+use Rattle.sh_token.specs.declared.scanner.Marked.{Marked}
+use Rattle.sh_token.specs.Machine.{State, Stepped, On, Before, After, TooDeep, DollarTooDeep, WordTooDeep}
+use Rattle.sh_token.specs.Run.{Fed, Waits, Takes, Scanned, Ended, Deep, Open, Places, Ending, EndsIn, EndsDeep, EndsNot}
+
+abbrev pub stepped : Step → State → Stepped
+stepped Step.On s = On s
+stepped Step.Before s = Before s
+stepped Step.After s = After s
+stepped Step.TooDeep s = TooDeep s
+stepped Step.DollarTooDeep s = DollarTooDeep s
+stepped Step.WordTooDeep s = WordTooDeep s
+
+abbrev pub event : Event → State → Fed
+event (Event.Waits h) s = Waits h s
+event (Event.Takes step) s = Takes (stepped step s)
+
+abbrev pub outcome : Outcome → Scanned
+outcome (Outcome.Ended state front rest) = Ended state front.now rest.now
+outcome (Outcome.Deep rest) = Deep rest.now
+outcome (Outcome.Open form) = Open form.now
+
+abbrev pub places : Marked → Places
+places m = record { front = m.front.now; previous = m.previous.now; behind = m.behind.now; next = m.next.now; form = m.form.now; word = m.word.now }
+
+abbrev pub ending : Told → State → Ending
+ending Told.Ended s = EndsIn s
+ending Told.TooDeep s = EndsDeep
+ending Told.Open s = EndsNot

@@ -1,8 +1,0 @@
-use Rattle.sh_token_base.proofs.Marking.{complete_nested, substitution_nested}
-use Rattle.sh_token_base.proofs.levels.open_compounds_are_nested.Goals as goal
-
-pub returns-clause-command : goal.returns-clause-command
-returns-clause-command c = complete_nested
-
-pub returns-clause-substitution : goal.returns-clause-substitution
-returns-clause-substitution c = substitution_nested

@@ -1,0 +1,12 @@
+pub mod Bytes
+pub mod Operators
+pub mod Growth
+pub mod Characters
+pub mod Heads
+pub mod Pendings
+pub mod Taken
+pub mod Spelling
+pub mod Here
+pub mod Nested
+pub mod TokenClasses
+pub mod Marks

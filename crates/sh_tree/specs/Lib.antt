@@ -1,4 +1,0 @@
-pub mod Forms
-pub mod Spelling
-pub mod Text
-pub mod Tokens

@@ -1,5 +1,0 @@
-use Rattle.sh_turn_laws.proofs.Changing.{turns_change}
-use Rattle.sh_turn_laws.proofs.laws.turns_change_what_is_reached.Goals as goal
-
-pub returns : goal.returns
-returns c d = turns_change _

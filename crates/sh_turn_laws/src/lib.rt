@@ -1,4 +1,0 @@
-//! Laws of the turns of processes.
-#![tactic(auto)]
-
-pub mod laws;
