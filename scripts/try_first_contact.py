@@ -101,10 +101,9 @@ def examples(copy):
     """The commands of the README's examples, each with the lines that it says they write."""
     with open(f"{copy}/README.md", encoding="utf-8") as it:
         text = it.read()
-    for block, said in re.findall(r"^((?:    \.\./psh .*\n)+)\nwrites ((?:`[^`]*`|[^`.])*)", text, re.M):
+    for words, said in re.findall(r"^\| `(-c .*?)` \| ((?:`[^`]*`(?:, )?)+) \| ", text, re.M):
         lines = "".join(f"{line}\n" for line in re.findall(r"`([^`]*)`", said))
-        for command in block.strip().split("\n"):
-            yield command.strip(), lines.encode()
+        yield "../psh " + words.replace("\\|", "|"), lines.replace("\\|", "|").encode()
 
 
 def try_examples(checks, copy):
