@@ -1,6 +1,6 @@
 //! Calls with what they answer: files, a terminal and a kernel, the stock programs, what shells do by calls of a kernel, and built-ins by
 //! themselves. Tests of `sh_files`, `sh_tty`, `sh_kernel`, `sh_stock`, `sh_exec_machine`, `sh_builtin`, `sh_builtin_vars`,
-//! `sh_signal`, `sh_builtin_traps` and `sh_expand_fields`.
+//! `sh_signal` and `sh_builtin_traps`.
 //!
 //! `sh_process_rows ROWS ..` makes the calls of each row of the files, and says which come to something else.
 #![tactic(auto)]
@@ -9,7 +9,6 @@ mod builtins;
 mod calls;
 mod conditions;
 mod files;
-mod lines;
 mod machine;
 mod outcomes;
 mod programs;
@@ -18,7 +17,6 @@ mod terminal;
 mod traps;
 mod twice;
 
-use crate::steps::number_of;
 use sh_rows::{Judge, Row, RowFault, Verdict, judge_files};
 use std::alloc::Global;
 use std::process::ExitCode;
@@ -90,10 +88,6 @@ fn longer(alloc: Global, row: &Row) -> Result<Option<Vec<u8>>, RowFault> {
     }
     if row.is("many", 3) {
         return Ok(Some(files::many(alloc, row.field(1), row.field(2))?));
-    }
-    if row.is("line", 4) {
-        let count = number_of(row.field(2)).unwrap_or(0);
-        return Ok(Some(lines::texts(alloc, row.field(1), count, row.field(3))?));
     }
     if row.is("program", 5) || row.is("twice", 5) {
         return Ok(Some(programs::notes_of(alloc, row)?));

@@ -1,4 +1,4 @@
-//! Lists, variables, arithmetic, patterns, fields, paths, pipes and expansions, and what they come to: tests of `sh_syntax`, `sh_vars`,
+//! Lists, variables, arithmetic, patterns, fields, paths, pipes and expansions, and what they come to: tests of `sh_base`, `sh_vars`,
 //! `sh_arith`, `sh_pattern`, `sh_expand_fields`, `sh_pipe` and, over words that `sh_parse` reads, `sh_expand`.
 //!
 //! `sh_value_rows ROWS ..` says which rows of the files ROWS come to something else. The last field of a row is what it has to come to;
@@ -8,6 +8,7 @@
 mod arithmetic;
 mod expansions;
 mod fields;
+mod lines;
 mod patterns;
 mod pipes;
 mod sequences;
@@ -67,6 +68,13 @@ fn judge_fields(alloc: Global, row: &Row) -> Result<Verdict, RowFault> {
         return verdict(
             fields::paths(alloc, row.field(1), row.field(2)),
             row.field(3),
+        );
+    }
+    if row.is("line", 4) {
+        let count = steps::number(row.field(2));
+        return verdict(
+            lines::texts(alloc, row.field(1), count, row.field(3)),
+            row.field(4),
         );
     }
     judge_expansions(alloc, row)
