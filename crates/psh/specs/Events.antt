@@ -54,7 +54,7 @@ named_turns [] = None
 named_turns (name ∷ words) =
     if bytes_eq name (codes "run") then run_turns words else if bytes_eq name (codes "next") then next_turns words else None
 
--- the event of a line, and how often it comes; one space stands between two words
+-- the event of a line, and how often it comes; one space is between two words
 abbrev pub turns_of : List ℕ → Option Turns
 turns_of line = named_turns (parts 32 line)
 
@@ -80,15 +80,15 @@ abbrev pub size_of : List ℕ → List (List ℕ) → ℕ
 size_of text [] = length text
 size_of text (next ∷ texts) = length text + 1
 
--- the events of lines, behind so many lines and so many bytes; or the first line that is no event, or that has a byte behind the first
--- 2^28 (268435456). Lines are counted from 1
+-- the events of lines, after so many lines and so many bytes; or the first line that is no event, or that has
+-- a byte after the first 2^28 (268435456). Lines are counted from 1
 abbrev pub events_in : ℕ → ℕ → List (List ℕ) → Outcome
 events_in before place [] = Ok []
 events_in before place (text ∷ texts) =
     if nat_lt 268435456 (place + size_of text texts) then Err (BadEvent (before + 1))
     else with_line (before + 1) (line_turns text) (events_in (before + 1) (place + size_of text texts) texts)
 
--- the events of a file, or the first line that is none
+-- the events of a file, or the first line that is no event
 unfoldable pub events_of : List ℕ → Outcome
 events_of bytes = events_in 0 0 (parts 10 bytes)
 

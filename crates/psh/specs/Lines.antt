@@ -2,7 +2,7 @@
 use Rattle.std.specs.Prelude.{ℕ, List, [], ◌==◌, Option, Some, None}
 use Rattle.std.specs.List.{slice_split}
 
--- what stands between the separators
+-- what is between the separators
 abbrev pub parts : ℕ → List ℕ → List (List ℕ)
 parts separator bytes = slice_split (λ b. b == separator) bytes
 

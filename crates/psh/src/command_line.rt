@@ -7,7 +7,8 @@ use sh_vars::{Options, Text};
 use sh_world::{Settings, Source};
 use std::alloc::{AllocError, Global};
 
-/// The text in which clap reads a word: a word may be any bytes, and each is the character of its number, as in ISO 8859-1.
+/// A word as the text that clap reads: a word may be any bytes, and each byte becomes the character of its
+/// number, as in ISO 8859-1.
 fn text_of(alloc: Global, word: &[u8]) -> Result<String, AllocError> {
     let mut text = String::new(alloc);
     for byte in word {
@@ -16,7 +17,7 @@ fn text_of(alloc: Global, word: &[u8]) -> Result<String, AllocError> {
     Ok(text)
 }
 
-/// The bytes of such a text. A character that stands for none becomes a question mark.
+/// The bytes of such a text. A character that is no byte's becomes a question mark.
 fn bytes_of(alloc: Global, text: &str) -> Result<Vec<u8>, AllocError> {
     let mut bytes = Vec::new(alloc);
     for character in text.chars() {
@@ -42,7 +43,7 @@ fn file_operand<'a>(alloc: Global, id: &'a str, shown: &'a str, help: &'a str) -
         .required(true)
 }
 
-/// The operands behind the two files.
+/// The operands after the two files.
 fn words_operand<'a>(alloc: Global) -> Result<Arg<'a>, AllocError> {
     Arg::new(alloc, "words")
         .value_name("WORDS")
@@ -91,7 +92,7 @@ fn fault_of(alloc: Global, error: &Error) -> UsageFault {
     }
 }
 
-/// Where the commands come from: of a text, or of the script that the first word names.
+/// Where the commands come from: a text, or the script that the first word names.
 fn source_of(alloc: Global, text: Option<&str>, zero: &str) -> Result<Source, AllocError> {
     match text {
         Some(text) => Ok(Source::Text(Sequence::from_vec(bytes_of(alloc, text)?))),
@@ -152,7 +153,8 @@ fn asked_by(alloc: Global, matches: &ArgMatches) -> Result<Asked, UsageFault> {
     })
 }
 
-/// What the words behind the program's name ask for. They may be any bytes, but for the two paths, which are UTF-8.
+/// What the words after the program's name ask for. They may be any bytes, but for the two paths, which are
+/// UTF-8.
 pub fn asked(alloc: Global, words: &[Vec<u8>]) -> Result<Asked, UsageFault> {
     let mut texts = Vec::new(alloc);
     for word in words {

@@ -10,7 +10,7 @@ use sh_base::decimal::{all_digits, limited_value};
 use sh_world::Event;
 use std::alloc::{AllocError, AllocFailed, Global};
 
-/// The bytes of events that are read; the line of the first byte beyond is refused.
+/// How many bytes of events are read; the line of the first byte beyond is refused.
 pub const MOST_BYTES: usize = 268_435_456;
 
 /// How often a line's event may come.
@@ -59,10 +59,12 @@ fn first(bytes: &[u8], byte: u8) -> Option<usize>
     bytes.iter().position(|it| *it == byte)
 }
 
-/// The bytes up to the first separator, and those behind it, if there is one.
+/// The bytes up to the first separator, and those after it, if there is one.
 fn cut(bytes: &[u8], separator: u8) -> (&[u8], Option<&[u8]>)
-    ensures parts { parts separator bytes.now ≡ result.0.now ∷ further_parts separator (option_map (λ rest. rest.now) result.1) }
-    ensures size { IfSome result.1 (λ rest. length result.0.now + 1 + length rest.now ≡ length bytes.now) }
+    ensures parts { parts separator bytes.now ≡ result.0.now ∷ further_parts separator
+        (option_map (λ rest. rest.now) result.1) }
+    ensures size { IfSome result.1 (λ rest.
+        length result.0.now + 1 + length rest.now ≡ length bytes.now) }
     ensures whole { IfNone result.1 (result.0.now ≡ bytes.now) }
 {
     match first(bytes, separator) {
@@ -152,10 +154,13 @@ fn turns_of(line: &[u8]) -> Option<Turns>
     None
 }
 
-/// Puts what a line has behind the others.
+/// Adds the event of a line, if it has one, after the others.
 fn add_line(all: &mut Vec<Turns>, text: &[u8], line: u64) -> Result<(), EventFault>
-    ensures ok { OnOk result (option_map (λ turns. all.old.items ++ turns) (line_turns text.now) ≡ Some all.new.items) }
-    ensures refused { IfErr result (λ fault. fault ≢ EventFault.NoMemory no_memory → (fault ≡ EventFault.BadEvent line) × (line_turns text.now ≡ None)) }
+    ensures ok { OnOk result
+        (option_map (λ turns. all.old.items ++ turns) (line_turns text.now) ≡ Some all.new.items) }
+    ensures refused { IfErr result (λ fault.
+        fault ≢ EventFault.NoMemory no_memory → (fault ≡ EventFault.BadEvent line)
+        × (line_turns text.now ≡ None)) }
 {
     if text.is_empty() {
         return Ok(());
@@ -170,7 +175,8 @@ fn add_line(all: &mut Vec<Turns>, text: &[u8], line: u64) -> Result<(), EventFau
 /// How many bytes a line has, with its newline where something follows it.
 fn size_of(text: &[u8], behind: Option<&[u8]>) -> usize
     requires { IfSome behind (λ rest. length text.now + 1 + length rest.now < 2 ^ 64) }
-    ensures { result ≡ size_of text.now (further_parts 10 (option_map (λ rest. rest.now) behind.entry)) }
+    ensures { result ≡ size_of text.now
+        (further_parts 10 (option_map (λ rest. rest.now) behind.entry)) }
 {
     match behind {
         Some(_) => text.len() + 1,
@@ -178,11 +184,13 @@ fn size_of(text: &[u8], behind: Option<&[u8]>) -> usize
     }
 }
 
-/// The events of a file's bytes. Empty lines are skipped, and the last newline may be missing. The first line that is no event
-/// is refused, and the line of the first byte behind [`MOST_BYTES`], if none before it is.
+/// The events of a file's bytes. Empty lines are skipped, and the last newline may be missing. The first line
+/// that is no event is refused, and the line of the first byte after [`MOST_BYTES`], if no line before it is
+/// refused.
 pub fn read_events(alloc: Global, bytes: &[u8]) -> Result<Vec<Turns>, EventFault>
     ensures ok { IfOk result (λ all. events_of bytes.now ≡ Ok all.items) }
-    ensures refused { IfErr result (λ fault. fault ≢ EventFault.NoMemory no_memory → events_of bytes.now ≡ Err fault) }
+    ensures refused { IfErr result (λ fault.
+        fault ≢ EventFault.NoMemory no_memory → events_of bytes.now ≡ Err fault) }
 {
     let mut all = Vec::new(alloc);
     let mut line = 0u64;

@@ -42,7 +42,7 @@ fn argument(rt: &HostRuntime, place: usize) -> Result<Option<Vec<u8>>, UsageFaul
     })
 }
 
-/// The words of the command line behind the program's name.
+/// The words of the command line after the program's name.
 fn words(rt: &HostRuntime) -> Result<Vec<Vec<u8>>, UsageFault> {
     let mut words = Vec::new(rt.alloc());
     for place in 1..usize::MAX {
@@ -60,7 +60,8 @@ fn lack(rt: &HostRuntime) -> u8 {
     3
 }
 
-/// Writes to standard output, and answers the program's exit status: `status`, or what stands for bytes that can't be written.
+/// Writes to standard output, and answers the program's exit status: `status`, or 4 where the bytes can't be
+/// written.
 fn write(rt: &HostRuntime, bytes: &[u8], status: u8) -> u8 {
     if rt.stdout().write_all(bytes).is_err() {
         let _ = eprintln!(rt; "psh: cannot write");
@@ -69,7 +70,8 @@ fn write(rt: &HostRuntime, bytes: &[u8], status: u8) -> u8 {
     status
 }
 
-/// The bytes of a file. After an `Err`, which is the program's exit status, it is said why there are none.
+/// The bytes of a file. On an `Err`, which is the program's exit status, standard error has been told why
+/// there are none.
 fn read(rt: &HostRuntime, name: &str) -> Result<Vec<u8>, u8> {
     match fs::read(rt, name) {
         Ok(bytes) => Ok(bytes),
@@ -81,7 +83,8 @@ fn read(rt: &HostRuntime, name: &str) -> Result<Vec<u8>, u8> {
     }
 }
 
-/// The bytes of the image and of the events. After an `Err`, which is the program's exit status, it is said why there are none.
+/// The bytes of the image and of the events. On an `Err`, which is the program's exit status, standard error
+/// has been told why there are none.
 fn read_both(rt: &HostRuntime, image: &str, events: &str) -> Result<(Vec<u8>, Vec<u8>), u8> {
     let image = read(rt, image)?;
     let events = read(rt, events)?;

@@ -54,10 +54,11 @@ fn refuse(alloc: Global, err: &mut Vec<u8>, name: &str, line: u64) -> u8
     }
 }
 
-/// The same of an image.
+/// The same for an image.
 fn refuse_image(alloc: Global, err: &mut Vec<u8>, fault: ImageFault) -> u8
     ensures statuses { (result ≡ 1) ⊎ (result ≡ 3) }
-    ensures told { result ≡ 1 → (fault.kind ≢ kind.NoMemory no_memory) × (err.new.items ≡ err.old.items ++ refusal (name_of fault.kind) fault.line) }
+    ensures told { result ≡ 1 → (fault.kind ≢ kind.NoMemory no_memory)
+        × (err.new.items ≡ err.old.items ++ refusal (name_of fault.kind) fault.line) }
     ensures lacks { result ≡ 3 → SaysLack err.old.items err.new.items }
 {
     if let FaultKind::NoMemory(_) = fault.kind {
@@ -66,10 +67,11 @@ fn refuse_image(alloc: Global, err: &mut Vec<u8>, fault: ImageFault) -> u8
     refuse(alloc, err, fault.kind.name(), fault.line as u64)
 }
 
-/// The same of events.
+/// The same for events.
 fn refuse_events(alloc: Global, err: &mut Vec<u8>, fault: EventFault) -> u8
     ensures statuses { (result ≡ 1) ⊎ (result ≡ 3) }
-    ensures told { result ≡ 1 → (line : ℕ) × (fault ≡ EventFault.BadEvent line) × (err.new.items ≡ err.old.items ++ refusal (codes "BadEvent") line) }
+    ensures told { result ≡ 1 → (line : ℕ) × (fault ≡ EventFault.BadEvent line)
+        × (err.new.items ≡ err.old.items ++ refusal (codes "BadEvent") line) }
     ensures lacks { result ≡ 3 → SaysLack err.old.items err.new.items }
 {
     match fault {
@@ -80,7 +82,9 @@ fn refuse_events(alloc: Global, err: &mut Vec<u8>, fault: EventFault) -> u8
 
 /// Gives a world the events of one line.
 fn drive_line<S: Stock>(world: &mut World<S>, turns: Turns) -> Result<(), NoMemory>
-    ensures run { (s : State S) → WorldStands world.old s → OnOk result (WorldStands world.new (run S.meaning s (replicate turns.times turns.event))) }
+    ensures run { (s : State S) → WorldStands world.old s
+        → OnOk result
+        (WorldStands world.new (run S.meaning s (replicate turns.times turns.event))) }
     ensures shown { (s : State S) → WorldStands world.old s → OnErr result
         ((j : ℕ) × (j < turns.times) × (shown_of world.new ≡ terminal_of (run S.meaning s (replicate j turns.event)))) }
 {
@@ -92,7 +96,8 @@ fn drive_line<S: Stock>(world: &mut World<S>, turns: Turns) -> Result<(), NoMemo
 
 /// Gives a world its turns.
 fn drive<S: Stock>(world: &mut World<S>, all: &[Turns]) -> Result<(), NoMemory>
-    ensures run { (s : State S) → WorldStands world.old s → OnOk result (WorldStands world.new (run S.meaning s (each_event all.now))) }
+    ensures run { (s : State S) → WorldStands world.old s
+        → OnOk result (WorldStands world.new (run S.meaning s (each_event all.now))) }
     ensures shown { (s : State S) → WorldStands world.old s → OnErr result
         ((j : ℕ) × (shown_of world.new ≡ terminal_of (run S.meaning s (take j (each_event all.now))))) }
 {
@@ -105,7 +110,8 @@ fn drive<S: Stock>(world: &mut World<S>, all: &[Turns]) -> Result<(), NoMemory>
 /// Shows a world's terminal. After an `Err` nothing is shown.
 fn show<S: Stock>(world: &World<S>, out: &mut Vec<u8>) -> Result<(), NoMemory>
     ensures shown { OnOk result (out.new.items ≡ out.old.items ++ shown_of world.now) }
-    ensures view { (s : State S) → WorldStands world.now s → OnOk result (out.new.items ≡ out.old.items ++ terminal_of s) }
+    ensures view { (s : State S) → WorldStands world.now s
+        → OnOk result (out.new.items ≡ out.old.items ++ terminal_of s) }
     ensures kept { OnErr result (out.new.items ≡ out.old.items) }
 {
     out.extend_from_slice(world.terminal())?;
@@ -115,7 +121,8 @@ fn show<S: Stock>(world: &World<S>, out: &mut Vec<u8>) -> Result<(), NoMemory>
 /// Gives a world its turns, and shows its terminal.
 fn lead<S: Stock>(mut world: World<S>, all: &[Turns], out: &mut Vec<u8>, err: &mut Vec<u8>) -> u8
     ensures statuses { (result ≡ 0) ⊎ (result ≡ 3) }
-    ensures done { (s : State S) → WorldStands world s → result ≡ 0 → out.new.items ≡ out.old.items ++ terminal_of (run S.meaning s (each_event all.now)) }
+    ensures done { (s : State S) → WorldStands world s → result ≡ 0 → out.new.items ≡ out.old.items
+        ++ terminal_of (run S.meaning s (each_event all.now)) }
     ensures cut { (s : State S) → WorldStands world s → result ≡ 3 →
         (out.new.items ≡ out.old.items) ⊎ ((j : ℕ) × (out.new.items ≡ out.old.items ++ terminal_of (run S.meaning s (take j (each_event all.now))))) }
     ensures silent { result ≡ 0 → err.new.items ≡ err.old.items }
@@ -143,7 +150,8 @@ fn run<S: Stock>(
 ) -> u8
     ensures statuses { (result ≡ 0) ⊎ (result ≡ 3) }
     ensures done { result ≡ 0 → Shows S.meaning files settings all.now out.old.items out.new.items }
-    ensures cut { result ≡ 3 → ShowsSome S.meaning files settings all.now out.old.items out.new.items }
+    ensures cut { result ≡ 3 → ShowsSome S.meaning files settings all.now out.old.items
+        out.new.items }
     ensures silent { result ≡ 0 → err.new.items ≡ err.old.items }
     ensures lacks { result ≡ 3 → SaysLack err.old.items err.new.items }
 {
@@ -157,10 +165,10 @@ fn run<S: Stock>(
 /// checked first, then all events, before any event happens. `out` gets the terminal's bytes after the last
 /// event, `err` what the program says itself.
 ///
-/// It answers the program's exit status: 0 where the run is done; 1 where the image or the events are
-/// refused (`psh: NAME: line N` in `err`, nothing in `out`); 3 where memory was wanting
-/// (`psh: out of memory` in `err`, or nothing where there is no memory for that, and in `out` the terminal's
-/// bytes of the events that went through). At 0 nothing is said in `err`. No report is asked for yet.
+/// It answers the program's exit status: 0 where the run is done; 1 where the image or the events are refused
+/// (`psh: NAME: line N` in `err`, nothing in `out`); 3 where memory was wanting (`psh: out of memory` in
+/// `err`, or nothing where there is no memory for that, and in `out` the terminal's bytes of the events that
+/// went through). At 0 nothing is said in `err`. `_report` changes nothing yet.
 pub fn serve<S: Stock>(
     alloc: Global,
     settings: Settings,
@@ -171,9 +179,12 @@ pub fn serve<S: Stock>(
     err: &mut Vec<u8>,
 ) -> u8
     ensures statuses { (result ≡ 0) ⊎ ((result ≡ 1) ⊎ (result ≡ 3)) }
-    ensures done { result ≡ 0 → WasRun S.meaning image.now events.now settings out.old.items out.new.items }
-    ensures refused { result ≡ 1 → (out.new.items ≡ out.old.items) × WasRefused image.now events.now err.old.items err.new.items }
-    ensures cut { result ≡ 3 → WasCut S.meaning image.now events.now settings out.old.items out.new.items }
+    ensures done { result ≡ 0 → WasRun S.meaning image.now events.now settings out.old.items
+        out.new.items }
+    ensures refused { result ≡ 1 → (out.new.items ≡ out.old.items)
+        × WasRefused image.now events.now err.old.items err.new.items }
+    ensures cut { result ≡ 3 → WasCut S.meaning image.now events.now settings out.old.items
+        out.new.items }
     ensures silent { result ≡ 0 → err.new.items ≡ err.old.items }
     ensures lacks { result ≡ 3 → SaysLack err.old.items err.new.items }
 {

@@ -5,8 +5,8 @@ use Rattle.sh_vars.specs.Environment.{Environment}
 use Rattle.sh_arith_grammar.specs.declared.operators.Operator.{Operator}
 use Rattle.sh_arith.specs.Expression.{Expression, Zero, Number, Name, Prefix, Binary, Logic, Choice, Assign}
 use Rattle.sh_arith.specs.Outcome.{Outcome, Gives, Stops, and_then}
-use Rattle.sh_arith_grammar.specs.Operators.{is_zero, truth, turned}
-use Rattle.sh_arith.specs.Value.{value, stored, worked, decides, before}
+use Rattle.sh_arith_grammar.specs.Operators.{is_zero, truth, unary_result}
+use Rattle.sh_arith.specs.Value.{value, assignment, operation, decides, before}
 use Rattle.sh_arith.specs.Steps.{Step, PushOp, DoPrefix, DoBinary, Test, Decide, Question, Colon, Join, Store, Stacks, Machine, Runs, Skips, Halts, outcome_on, take_name, do_prefix, do_binary, test_left, decide, question, open_assign, store, push, code, run, perform}
 
 pub run-append : (text : List ℕ) → (a b : List Step) (m : Machine) → run text (a ++ b) m ≡ run text b (run text a m)
@@ -42,12 +42,12 @@ skipped text (Choice c x y) n s env =
     ∙ (run-between text (code y) Join [] (Skips (suc n) s env) ∙ ap (perform text Join) (skipped text y (suc n) s env)))))
 skipped text (Assign op t x) n s env = run-between text (code x) Store [] (Skips n s env) ∙ ap (perform text Store) (skipped text x n s env)
 
-prefix_end : (text : List ℕ) → (op : Operator) (s : Stacks) (o : Outcome) → perform text DoPrefix (outcome_on (record { values = s.values; ops = op ∷ s.ops; names = s.names }) o) ≡ outcome_on s (and_then o (λ v. Gives (turned op v)))
+prefix_end : (text : List ℕ) → (op : Operator) (s : Stacks) (o : Outcome) → perform text DoPrefix (outcome_on (record { values = s.values; ops = op ∷ s.ops; names = s.names }) o) ≡ outcome_on s (and_then o (λ v. Gives (unary_result op v)))
 unfolding take_name do_prefix do_binary test_left decide question open_assign store
 prefix_end text op s (Gives v e) = refl
 prefix_end text op s (Stops f e) = refl
 
-binary_end : (text : List ℕ) → (op : Operator) (v : ℤ) (s : Stacks) (o : Outcome) → perform text DoBinary (outcome_on (record { values = v ∷ s.values; ops = op ∷ s.ops; names = s.names }) o) ≡ outcome_on s (and_then o (worked op v))
+binary_end : (text : List ℕ) → (op : Operator) (v : ℤ) (s : Stacks) (o : Outcome) → perform text DoBinary (outcome_on (record { values = v ∷ s.values; ops = op ∷ s.ops; names = s.names }) o) ≡ outcome_on s (and_then o (operation op v))
 unfolding take_name do_prefix do_binary test_left decide question open_assign store
 binary_end text op v s (Gives w e) = refl
 binary_end text op v s (Stops f e) = refl
@@ -61,7 +61,7 @@ join_end : (text : List ℕ) → (s : Stacks) (o : Outcome) → perform text Joi
 join_end text s (Gives w e) = refl
 join_end text s (Stops f e) = refl
 
-store_end : (text : List ℕ) → (op : Operator) (t : ℕ) (v : ℤ) (s : Stacks) (o : Outcome) → perform text Store (outcome_on (record { values = v ∷ s.values; ops = op ∷ s.ops; names = t ∷ s.names }) o) ≡ outcome_on s (and_then o (λ w f. and_then (worked op v w f) (stored text t)))
+store_end : (text : List ℕ) → (op : Operator) (t : ℕ) (v : ℤ) (s : Stacks) (o : Outcome) → perform text Store (outcome_on (record { values = v ∷ s.values; ops = op ∷ s.ops; names = t ∷ s.names }) o) ≡ outcome_on s (and_then o (λ w f. and_then (operation op v w f) (assignment text t)))
 unfolding take_name do_prefix do_binary test_left decide question open_assign store
 store_end text op t v s (Gives w e) = refl
 store_end text op t v s (Stops f e) = refl
@@ -71,7 +71,7 @@ pub record Means (text : List ℕ) (a : List Step) (f : Environment → Outcome)
   pub runs : (s : Stacks) (env : Environment) → run text a (Runs s env) ≡ outcome_on s (f env)
   pub skips : (n : ℕ) (s : Stacks) (env : Environment) → run text a (Skips n s env) ≡ Skips n s env
 
-binary_rest : (text : List ℕ) → (op : Operator) (y : List Step) (g : Environment → Outcome) (s : Stacks) (o : Outcome) → Means text y g → run text (y ++ DoBinary ∷ []) (perform text (PushOp op) (outcome_on s o)) ≡ outcome_on s (and_then o (λ v e. and_then (g e) (worked op v)))
+binary_rest : (text : List ℕ) → (op : Operator) (y : List Step) (g : Environment → Outcome) (s : Stacks) (o : Outcome) → Means text y g → run text (y ++ DoBinary ∷ []) (perform text (PushOp op) (outcome_on s o)) ≡ outcome_on s (and_then o (λ v e. and_then (g e) (operation op v)))
 binary_rest text op y g s (Stops f e) h = halts text (y ++ DoBinary ∷ []) f e
 binary_rest text op y g s (Gives v e) h =
     run-between text y DoBinary [] (Runs (record { values = v ∷ s.values; ops = op ∷ s.ops; names = s.names }) e)
@@ -106,7 +106,7 @@ unfolding take_name do_prefix do_binary test_left decide question open_assign st
 choice_rest text x y f g s (Stops fault e) hx hy = halts text (x ++ Colon ∷ (y ++ Join ∷ [])) fault e
 choice_rest text x y f g s (Gives v e) hx hy = choice_taken text (is_zero v) x y f g s e hx hy
 
-assign_rest : (text : List ℕ) → (op : Operator) (t : ℕ) (x : List Step) (g : Environment → Outcome) (s : Stacks) (o : Outcome) → Means text x g → run text (x ++ Store ∷ []) (outcome_on (record { values = s.values; ops = op ∷ s.ops; names = t ∷ s.names }) o) ≡ outcome_on s (and_then o (λ v e. and_then (g e) (λ w f. and_then (worked op v w f) (stored text t))))
+assign_rest : (text : List ℕ) → (op : Operator) (t : ℕ) (x : List Step) (g : Environment → Outcome) (s : Stacks) (o : Outcome) → Means text x g → run text (x ++ Store ∷ []) (outcome_on (record { values = s.values; ops = op ∷ s.ops; names = t ∷ s.names }) o) ≡ outcome_on s (and_then o (λ v e. and_then (g e) (λ w f. and_then (operation op v w f) (assignment text t))))
 unfolding take_name do_prefix do_binary test_left decide question open_assign store
 assign_rest text op t x g s (Stops f e) h = halts text (x ++ Store ∷ []) f e
 assign_rest text op t x g s (Gives v e) h =

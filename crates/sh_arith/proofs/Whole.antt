@@ -14,7 +14,7 @@ use Rattle.sh_arith.specs.Value.{value}
 use Rattle.sh_arith.specs.Steps.{Stacks, Machine, Runs, Skips, Halts, run, outcome_on}
 use Rattle.sh_arith_grammar.specs.Stack.{top}
 use Rattle.sh_arith_grammar.proofs.Sig.{Value, SORTS}
-use Rattle.sh_arith.specs.Reading.{expression, said, steps, step_of}
+use Rattle.sh_arith.specs.Reading.{expression, expression_of, steps, step_of}
 use Rattle.sh_arith.specs.State.{none_yet, Halting, state}
 use Rattle.std.specs.Prelude.{Option, Some, None, reverse}
 use Rattle.sh_arith.specs.declared.faults.ArithFault.TheVariants.{NoMemory}
@@ -23,7 +23,7 @@ use Rattle.sh_arith_grammar.proofs.Shape.{shaped}
 use Rattle.sh_arith.proofs.Telling.{told, value_child}
 
 -- the steps of the whole preorder come to the value of what the tree says
-pub whole : (text : List ℕ) → (tree : Tree) (actions : List Action) (env : Environment) → IsTree arithmetic_grammar arithmetic_grammar.ending (Nonterminal arithmetic.start) tree → preorder tree ≡ actions → run text (steps actions) (Runs none_yet env) ≡ outcome_on none_yet (value text (said tree) env)
+pub whole : (text : List ℕ) → (tree : Tree) (actions : List Action) (env : Environment) → IsTree arithmetic_grammar arithmetic_grammar.ending (Nonterminal arithmetic.start) tree → preorder tree ≡ actions → run text (steps actions) (Runs none_yet env) ≡ outcome_on none_yet (value text (expression_of tree) env)
 unfolding SORTS arithmetic
 whole text tree actions env h e =
     let t = value_child tree (told Value tree (shaped arithmetic_grammar.ending (Nonterminal arithmetic.start) tree h)) in
@@ -46,10 +46,10 @@ back (Gives v env) = refl
 back (Stops f env) = refl
 
 -- what the machine comes to is what the tree says
-pub comes_to_fault : (text : List ℕ) → (actions : List Action) (env after : Environment) (f : ArithFault) → Halting f after (run text (steps actions) (Runs none_yet env)) → f ≢ NoMemory no_memory → (tree : Tree) → IsTree arithmetic_grammar arithmetic_grammar.ending (Nonterminal arithmetic.start) tree → preorder tree ≡ actions → value text (said tree) env ≡ Stops f after
+pub comes_to_fault : (text : List ℕ) → (actions : List Action) (env after : Environment) (f : ArithFault) → Halting f after (run text (steps actions) (Runs none_yet env)) → f ≢ NoMemory no_memory → (tree : Tree) → IsTree arithmetic_grammar arithmetic_grammar.ending (Nonterminal arithmetic.start) tree → preorder tree ≡ actions → value text (expression_of tree) env ≡ Stops f after
 unfolding halt_of
 comes_to_fault text actions env after f h w tree t e =
-    let o = value text (said tree) env in
+    let o = value text (expression_of tree) env in
     sym (back o) ∙ ap (λ m. halt_of m o) (sym (h w ∙ whole text tree actions env t e))
 
 state_gives : (k : Option ℕ) (s : Stacks) (env : Environment) (o : Outcome) → state k s env ≡ outcome_on none_yet o → o ≡ Gives (top (pos 0) s.values) env
@@ -58,9 +58,9 @@ state_gives None s env o e = sym (back o) ∙ ap (λ m. halt_of m o) (sym e)
 state_gives (Some n) s env (Gives v f) e = absurd (cc)
 state_gives (Some n) s env (Stops v f) e = absurd (cc)
 
-pub comes_to_value : (text : List ℕ) → (actions : List Action) (env after : Environment) (k : Option ℕ) (s : Stacks) (v : ℤ) → state k s after ≡ run text (steps actions) (Runs none_yet env) → v ≡ top (pos 0) s.values → (tree : Tree) → IsTree arithmetic_grammar arithmetic_grammar.ending (Nonterminal arithmetic.start) tree → preorder tree ≡ actions → value text (said tree) env ≡ Gives v after
+pub comes_to_value : (text : List ℕ) → (actions : List Action) (env after : Environment) (k : Option ℕ) (s : Stacks) (v : ℤ) → state k s after ≡ run text (steps actions) (Runs none_yet env) → v ≡ top (pos 0) s.values → (tree : Tree) → IsTree arithmetic_grammar arithmetic_grammar.ending (Nonterminal arithmetic.start) tree → preorder tree ≡ actions → value text (expression_of tree) env ≡ Gives v after
 comes_to_value text actions env after k s v h w tree t e =
-    state_gives k s after (value text (said tree) env) (h ∙ whole text tree actions env t e) ∙ ap (λ x. Gives x after) (sym w)
+    state_gives k s after (value text (expression_of tree) env) (h ∙ whole text tree actions env t e) ∙ ap (λ x. Gives x after) (sym w)
 
 abbrev pub empty : List ℤ → List Operator → List ℕ → Stacks
 empty a b d = record { values = a; ops = b; names = d }

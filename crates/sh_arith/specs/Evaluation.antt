@@ -11,14 +11,14 @@ use Rattle.sh_arith_grammar.specs.Levels.{are_shallow, is_deep, none_open, open_
 use Rattle.sh_arith_grammar.specs.Lexical.{tokens_of}
 use Rattle.sh_arith.specs.Expression.{Expression}
 use Rattle.sh_arith.specs.Outcome.{Stops}
-use Rattle.sh_arith.specs.Reading.{said}
+use Rattle.sh_arith.specs.Reading.{expression_of}
 use Rattle.sh_arith.specs.Value.{value}
 
--- the text says this expression, in at most 500 levels: the law 'says_one_expression' has it that it says no other
+-- the text says this expression, in at most 500 levels; by the law 'says_one_expression' it says no other
 pub record Says (text : List ℕ) (e : Expression) : Type 0 where
   pub tree : Tree
   pub derives : IsTreeOf arithmetic (tokens_of text) tree
-  pub says : said tree ≡ e
+  pub says : expression_of tree ≡ e
   pub shallow : are_shallow none_open (tokens_of text) ≡ true
 
 -- the tokens begin an expression, in at most 500 levels so far
@@ -26,7 +26,7 @@ pub record GoesOn (tokens : List Token) : Type 0 where
   pub begins : BeginsText arithmetic tokens
   pub shallow : are_shallow none_open tokens ≡ true
 
--- what comes before this place goes on, and with the token there it begins no expression
+-- the tokens before this place begin an expression, and with the token there they begin none
 pub record StopsAt (tokens : List Token) (place : ℕ) : Type 0 where
   pub front : List Token
   pub token : Token
@@ -36,12 +36,12 @@ pub record StopsAt (tokens : List Token) (place : ℕ) : Type 0 where
   pub before : GoesOn front
   pub none : BeginsText arithmetic (front ++ token ∷ []) → ⊥
 
--- the tokens go on, and are no expression
+-- the tokens begin an expression, and are no whole one
 pub record EndsEarly (tokens : List Token) : Type 0 where
   pub before : GoesOn tokens
   pub none : IsText arithmetic tokens → ⊥
 
--- what comes before one of the tokens goes on, and that token opens level 501 of an expression
+-- the tokens before one token begin an expression, and with that token they do too, but it opens level 501
 pub record OpensTooMany (tokens : List Token) : Type 0 where
   pub front : List Token
   pub token : Token

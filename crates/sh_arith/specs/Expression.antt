@@ -2,7 +2,8 @@
 use Rattle.std.specs.Prelude.{ℕ}
 use Rattle.sh_arith_grammar.specs.declared.operators.Operator.{Operator}
 
--- a constant and a name go by their places in the text; `x += y` is `Assign Plus`, and `x = y` is `Assign Assign`
+-- a constant and a name are given by their places in the text; `x += y` is `Assign Plus`, and `x = y` is
+-- `Assign Assign`
 pub data Expression : Type 0 where
   Zero : Expression
   Number : (place : ℕ) → Expression

@@ -12,7 +12,7 @@ use Rattle.sh_arith_grammar.specs.declared.operators.Role.{Role}
 use Rattle.sh_arith_grammar.specs.declared.operators.Role.TheVariants as role
 use Rattle.sh_arith_grammar.specs.Roles.{kind_of, operator_of, role_of}
 
--- what stands to the left: nothing, a name whose value may not be wanted, or an expression
+-- what is to the left: nothing, a name whose value may not be needed, or an expression
 pub data Left : Type 0 where
   Nothing : Left
   Named : (place : ℕ) → Left
@@ -33,7 +33,7 @@ first_token Empty = record { class = 0; id = 0 }
 first_token (And (Leaf t) others) = t
 first_token (And (Node p ts) others) = record { class = 0; id = 0 }
 
--- each takes what stands to its left
+-- the readers one after another, each on what is to its left
 abbrev pub through : List (Left → Left) → Left → Left
 through [] l = l
 through (r ∷ rs) l = through rs (r l)
@@ -115,5 +115,5 @@ steps [] = []
 steps (a ∷ actions) = step_of a ++ steps actions
 
 -- what the tree of a text says
-abbrev pub said : Tree → Expression
-said tree = expression (read tree Nothing)
+abbrev pub expression_of : Tree → Expression
+expression_of tree = expression (read tree Nothing)

@@ -1,4 +1,4 @@
--- What the program's machine stands for.
+-- The machine of `Steps.antt` that the program's machine represents.
 use Rattle.sh_base.specs.Memory.{no_memory}
 use Rattle.std.specs.Prelude.{◌≡◌, ◌≢◌, ℕ, suc, [], reverse, Option, Some, None}
 use Rattle.sh_arith.specs.declared.machine.Machine.{Machine as Parts}
@@ -17,7 +17,7 @@ state (Some n) s env = Skips n s env
 abbrev pub state_of : Parts → Environment → Machine
 state_of m env = state m.skip (stacks_of m) env
 
--- a fault other than want of memory is the definition's
+-- a fault other than want of memory is the one of the definition
 abbrev pub Halting : ArithFault → Environment → Machine → Type 0
 Halting f env m = f ≢ NoMemory no_memory → Halts f env ≡ m
 
@@ -25,7 +25,7 @@ Halting f env m = f ≢ NoMemory no_memory → Halts f env ≡ m
 abbrev pub none_yet : Stacks
 none_yet = record { values = []; ops = []; names = [] }
 
--- how many skipped operands stand around
+-- 0 where nothing is skipped, else one more than the number of `Skips`
 abbrev pub depth : Option ℕ → ℕ
 depth None = 0
 depth (Some n) = suc n

@@ -1,5 +1,5 @@
--- The same value step by step, in the order of the tree's preorder: a stack of values, of operators, of names, and how many
--- skipped operands stand around.
+-- The value of `Value.antt` step by step, in the order of the tree's preorder, with stacks of values,
+-- operators and names. `Skips` has how many `&&`, `||` and `?` are open inside the skipped operand.
 use Rattle.std.specs.Prelude.{ℕ, zero, suc, not, ℤ, pos, List, [], ◌∷◌, ◌++◌, if◌then◌else◌}
 use Rattle.sh_vars.specs.Environment.{Environment}
 use Rattle.sh_arith_grammar.specs.declared.operators.Operator.{Operator}
@@ -8,8 +8,8 @@ use Rattle.sh_arith.specs.declared.faults.ArithFault.{ArithFault}
 use Rattle.sh_arith_grammar.specs.Stack.{rest, top}
 use Rattle.sh_arith.specs.Expression.{Expression, Zero, Number, Name, Prefix, Binary, Logic, Choice, Assign}
 use Rattle.sh_arith.specs.Outcome.{Outcome, Gives, Stops, and_then}
-use Rattle.sh_arith_grammar.specs.Operators.{is_zero, truth, turned}
-use Rattle.sh_arith.specs.Value.{constant, taken, stored, worked, decides, before}
+use Rattle.sh_arith_grammar.specs.Operators.{is_zero, truth, unary_result}
+use Rattle.sh_arith.specs.Value.{constant, variable_value, assignment, operation, decides, before}
 
 pub data Step : Type 0 where
   PushZero : Step
@@ -44,7 +44,7 @@ abbrev pub outcome_on : Stacks → Outcome → Machine
 outcome_on s (Gives v env) = Runs (push s v) env
 outcome_on s (Stops f env) = Halts f env
 
--- the code of an expression
+-- the steps of an expression
 abbrev pub code : Expression → List Step
 code Zero = PushZero ∷ []
 code (Number t) = PushNumber t ∷ []
@@ -56,13 +56,13 @@ code (Choice c x y) = code c ++ Question ∷ (code x ++ Colon ∷ (code y ++ Joi
 code (Assign op t x) = PushName t ∷ Open op ∷ (code x ++ Store ∷ [])
 
 unfoldable pub take_name : List ℕ → Stacks → Environment → Machine
-take_name text s env = outcome_on (record { values = s.values; ops = s.ops; names = rest s.names }) (taken text (top 0 s.names) env)
+take_name text s env = outcome_on (record { values = s.values; ops = s.ops; names = rest s.names }) (variable_value text (top 0 s.names) env)
 
 unfoldable pub do_prefix : Stacks → Environment → Machine
-do_prefix s env = Runs (record { values = turned (top operator.Assign s.ops) (top (pos 0) s.values) ∷ rest s.values; ops = rest s.ops; names = s.names }) env
+do_prefix s env = Runs (record { values = unary_result (top operator.Assign s.ops) (top (pos 0) s.values) ∷ rest s.values; ops = rest s.ops; names = s.names }) env
 
 unfoldable pub do_binary : Stacks → Environment → Machine
-do_binary s env = outcome_on (record { values = rest (rest s.values); ops = rest s.ops; names = s.names }) (worked (top operator.Assign s.ops) (top (pos 0) (rest s.values)) (top (pos 0) s.values) env)
+do_binary s env = outcome_on (record { values = rest (rest s.values); ops = rest s.ops; names = s.names }) (operation (top operator.Assign s.ops) (top (pos 0) (rest s.values)) (top (pos 0) s.values) env)
 
 unfoldable pub test_left : Operator → Stacks → Environment → Machine
 test_left op s env =
@@ -83,7 +83,7 @@ open_assign text op s env = outcome_on (record { values = s.values; ops = op ∷
 unfoldable pub store : List ℕ → Stacks → Environment → Machine
 store text s env =
     outcome_on (record { values = rest (rest s.values); ops = rest s.ops; names = rest s.names })
-    (and_then (worked (top operator.Assign s.ops) (top (pos 0) (rest s.values)) (top (pos 0) s.values) env) (stored text (top 0 s.names)))
+    (and_then (operation (top operator.Assign s.ops) (top (pos 0) (rest s.values)) (top (pos 0) s.values) env) (assignment text (top 0 s.names)))
 
 abbrev pub live : List ℕ → Step → Stacks → Environment → Machine
 live text PushZero s env = Runs (push s (pos 0)) env
@@ -109,7 +109,7 @@ abbrev pub colon : ℕ → Stacks → Environment → Machine
 colon zero s env = Runs s env
 colon (suc n) s env = Skips (suc n) s env
 
--- in a skipped operand only what opens and closes one counts
+-- in a skipped operand only those steps count that open and close `&&`, `||` and `?`
 abbrev pub skip : Step → ℕ → Stacks → Environment → Machine
 skip PushZero n s env = Skips n s env
 skip (PushNumber t) n s env = Skips n s env

@@ -11,9 +11,9 @@ use Rattle.sh_arith_grammar.specs.Numbers.{number_of}
 use Rattle.sh_arith_grammar.specs.Lexical.{word_at}
 use Rattle.sh_arith.specs.Expression.{Expression, Zero, Number, Name, Prefix, Binary, Logic, Choice, Assign}
 use Rattle.sh_arith.specs.Outcome.{Outcome, Gives, Stops, and_then}
-use Rattle.sh_arith_grammar.specs.Operators.{applied, is_zero, truth, turned}
+use Rattle.sh_arith_grammar.specs.Operators.{binary_result, is_zero, truth, unary_result}
 
--- a constant of a text: no more than the greatest value
+-- the constant at a place of a text; above the greatest value it is no number
 unfoldable pub constant : List ℕ → ℕ → Environment → Outcome
 constant text place env =
     if nat_lt (constant_value (word_at text place)) (2 ^ 63) then Gives (pos (constant_value (word_at text place))) env
@@ -23,21 +23,21 @@ abbrev pub outcome_of_number : Option ℤ → Environment → Outcome
 outcome_of_number None env = Stops NotANumber env
 outcome_of_number (Some v) env = Gives v env
 
--- an unset variable is 0, but under `set -u` a fault
+-- an unset variable is 0, and under `set -u` a fault
 abbrev pub outcome_of_value : Option (List ℕ) → ℕ → Environment → Outcome
 outcome_of_value None place env = if env.options.no_unset then Stops (Unset place) env else Gives (pos 0) env
 outcome_of_value (Some bytes) place env = outcome_of_number (number_of bytes) env
 
 -- the value of the variable that is named at a place
-unfoldable pub taken : List ℕ → ℕ → Environment → Outcome
-taken text place env = outcome_of_value (value_of env (word_at text place)) place env
+unfoldable pub variable_value : List ℕ → ℕ → Environment → Outcome
+variable_value text place env = outcome_of_value (value_of env (word_at text place)) place env
 
 abbrev pub may_assign : Environment → List ℕ → Bool
 may_assign env name = is_name name && not (is_read_only env name)
 
 -- an assignment of a number, in decimal, to the variable that is named at a place
-unfoldable pub stored : List ℕ → ℕ → ℤ → Environment → Outcome
-stored text place v env =
+unfoldable pub assignment : List ℕ → ℕ → ℤ → Environment → Outcome
+assignment text place v env =
     if may_assign env (word_at text place) then Gives v (with_value env (word_at text place) (signed_decimal v))
     else Stops (ReadOnly place) env
 
@@ -45,27 +45,27 @@ abbrev pub outcome_of_result : Option ℤ → Environment → Outcome
 outcome_of_result None env = Stops DivideByZero env
 outcome_of_result (Some v) env = Gives v env
 
--- an operator with two operands
-unfoldable pub worked : Operator → ℤ → ℤ → Environment → Outcome
-worked op v w env = outcome_of_result (applied op v w) env
+-- the outcome of an operator between two operands
+unfoldable pub operation : Operator → ℤ → ℤ → Environment → Outcome
+operation op v w env = outcome_of_result (binary_result op v w) env
 
--- whether the left operand decides: 0 before `&&`, all else before `||`
+-- whether the left operand decides: 0 does before `&&`, any other value before `||`
 unfoldable pub decides : Operator → ℤ → Bool
 decides operator.BothTrue v = is_zero v
 decides _ v = not (is_zero v)
 
--- the variable's own value, where the operator takes it: `=` doesn't
+-- the variable's value before an assignment, where the operator needs it: `=` doesn't
 unfoldable pub before : List ℕ → Operator → ℕ → Environment → Outcome
 before text operator.Assign place env = Gives (pos 0) env
-before text _ place env = taken text place env
+before text _ place env = variable_value text place env
 
 -- operands from left to right; what is skipped is not evaluated
 abbrev pub value : List ℕ → Expression → Environment → Outcome
 value text Zero env = Gives (pos 0) env
 value text (Number place) env = constant text place env
-value text (Name place) env = taken text place env
-value text (Prefix op x) env = and_then (value text x env) (λ v. Gives (turned op v))
-value text (Binary op x y) env = and_then (value text x env) (λ v e. and_then (value text y e) (worked op v))
+value text (Name place) env = variable_value text place env
+value text (Prefix op x) env = and_then (value text x env) (λ v. Gives (unary_result op v))
+value text (Binary op x y) env = and_then (value text x env) (λ v e. and_then (value text y e) (operation op v))
 value text (Logic op x y) env = and_then (value text x env) (λ v e. if decides op v then Gives (truth (not (is_zero v))) e else and_then (value text y e) (λ w. Gives (truth (not (is_zero w)))))
 value text (Choice c x y) env = and_then (value text c env) (λ v e. if is_zero v then value text y e else value text x e)
-value text (Assign op place x) env = and_then (before text op place env) (λ v e. and_then (value text x e) (λ w f. and_then (worked op v w f) (stored text place)))
+value text (Assign op place x) env = and_then (before text op place env) (λ v e. and_then (value text x e) (λ w f. and_then (operation op v w f) (assignment text place)))

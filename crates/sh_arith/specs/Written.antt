@@ -1,5 +1,5 @@
--- The expressions that tokens write, level by level of the table of operators, as C's grammar has them (C 6.5). The law
--- 'texts_are_read_as_in_c' has it that a text says no other.
+-- The expressions that tokens write, level by level of the table of operators, as C's grammar has them (C
+-- 6.5). By the law 'texts_are_read_as_in_c' a text says no other.
 use Rattle.std.specs.Prelude.{◌≡◌, ℕ, suc, Bool, true, nat_eq, List, [], ◌∷◌, ◌++◌, slice_get, Some, ◌⊎◌}
 use Rattle.std.specs.List.{list_any}
 use Rattle.sh_grammar.specs.declared.Token.{Token}
@@ -12,13 +12,14 @@ use Rattle.sh_arith.specs.Expression.{Expression, Zero, Number, Name, Prefix, Bi
 abbrev pub is_listed : ℕ → List Sign → Bool
 is_listed c signs = list_any (λ s. nat_eq (class_of s.spelling) c) signs
 
--- the token is an operator of the level of this number, the loosest being 0, whose operators stand and group so
+-- the token is an operator of level i, where 0 is the loosest; its operators have this position and grouping
 pub record IsOperator (i : ℕ) (position : Position) (grouping : Grouping) (t : Token) : Type 0 where
   pub signs : List Sign
   pub there : slice_get levels i ≡ Some (level position grouping signs)
   pub listed : is_listed t.class signs ≡ true
 
--- the levels of the first and the last operand: where operators group from the left, only the first may have some of them
+-- the levels of the first and the last operand: where operators group from the left, only the first operand
+-- may have operators of the same level
 abbrev pub first_level : Grouping → ℕ → ℕ
 first_level FromLeft i = i
 first_level FromRight i = suc i
@@ -27,8 +28,8 @@ abbrev pub last_level : Grouping → ℕ → ℕ
 last_level FromLeft i = suc i
 last_level FromRight i = i
 
--- the tokens write this expression, by operators of this level or tighter ones; behind the last level are constants, names
--- and parentheses
+-- the tokens write this expression, by operators of this level or tighter ones; after the last level come
+-- constants, names and parentheses
 pub data Writes : ℕ → List Token → Expression → Type 0 where
   constant : (t : Token) → role_of t.class ≡ role.Number → Writes 13 (t ∷ []) (Number t.id)
   name : (t : Token) → role_of t.class ≡ role.Name → Writes 13 (t ∷ []) (Name t.id)

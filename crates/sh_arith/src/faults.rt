@@ -7,11 +7,13 @@ use sh_base::NoMemory;
 use std::alloc::AllocError;
 use thiserror::Error;
 
-/// Why an arithmetic expression has no value (XCU 2.6.4). Places count the bytes of the text before them.
+/// Why an arithmetic expression has no value (XCU 2.6.4). A place is how many bytes of the text are before
+/// it. After `Syntax` and `TooDeep` no variable has changed; after `NoMemory` it is open which assignments
+/// were done; after any other fault, what was assigned before it stays.
 #[derive(Clone, Copy, Debug, PartialEq, Eq, Error)]
 pub enum ArithFault {
-    /// The token at this place is the first that no expression goes on with. It is the text's length where the text ends
-    /// too early. No variable has changed.
+    /// The token at this place is the first that no expression goes on with. The place is the text's length
+    /// where the text ends too early.
     #[error("syntax")]
     Syntax {
         /// The place of the token.
@@ -29,7 +31,7 @@ pub enum ArithFault {
         /// The place of the name.
         at: usize,
     },
-    /// A token before any that is refused opens level 501. No variable has changed.
+    /// A token opens level 501, and none up to it is refused.
     #[error("too deep")]
     TooDeep,
     /// There was no memory.

@@ -7,7 +7,7 @@ ghost use Rattle.sh_grammar.specs.Leftmost.{preorder};
 ghost use Rattle.sh_grammar.specs.declared.Symbol.TheVariants.{Nonterminal};
 ghost use Rattle.sh_arith_grammar.specs.Grammar.{arithmetic, arithmetic_grammar};
 ghost use Rattle.sh_arith.specs.Outcome.{Gives, Stops};
-ghost use Rattle.sh_arith.specs.Reading.{expand_steps, said, shift_steps, step_of, steps};
+ghost use Rattle.sh_arith.specs.Reading.{expand_steps, expression_of, shift_steps, step_of, steps};
 ghost use Rattle.sh_arith_grammar.specs.Roles.{kind_of, operator_of, role_of};
 ghost use Rattle.sh_arith.specs.State.{depth, state, stacks_of, state_of, Halting};
 ghost use Rattle.sh_arith.specs.Steps.{Stacks, Runs, Skips, decide, do_binary, do_prefix, leave, open_assign, question, run, store, take_name, test_left};
@@ -23,7 +23,8 @@ use sh_grammar::Token;
 use sh_vars::Vars;
 use std::alloc::Global;
 
-/// The stacks of an evaluation, and how many skipped operands stand around.
+/// The stacks of an evaluation. `skip` is `None` where nothing is skipped. Otherwise it is how many `&&`,
+/// `||` and `?` are open inside the skipped operand.
 #[derive(Drop)]
 pub struct Machine {
     values: Vec<i64>,
@@ -76,8 +77,10 @@ fn pop_op(stack: &mut Vec<Operator>) -> Operator
 #[tactic(auto, unfolding(crate::specs::Steps::do_binary))]
 fn run_binary(machine: &mut Machine) -> Result<(), ArithFault>
     requires { machine.old.skip ≡ None }
-    ensures ok { OnOk result ((env : Environment) → state_of machine.new env ≡ do_binary (stacks_of machine.old) env) }
-    ensures fault { IfErr result (λ f. (env : Environment) → Halting f env (do_binary (stacks_of machine.old) env)) }
+    ensures ok { OnOk result
+        ((env : Environment) → state_of machine.new env ≡ do_binary (stacks_of machine.old) env) }
+    ensures fault { IfErr result (λ f.
+        (env : Environment) → Halting f env (do_binary (stacks_of machine.old) env)) }
     ensures depth { depth machine.new.skip ≤ 1 }
 {
     let op = pop_op(&mut machine.operators);
@@ -90,7 +93,9 @@ fn run_binary(machine: &mut Machine) -> Result<(), ArithFault>
 #[tactic(auto, unfolding(crate::specs::Steps::test_left))]
 fn run_test(machine: &mut Machine, op: Operator) -> Result<(), ArithFault>
     requires { machine.old.skip ≡ None }
-    ensures ok { OnOk result ((env : Environment) → state_of machine.new env ≡ test_left op (stacks_of machine.old) env) }
+    ensures ok { OnOk result
+        ((env : Environment) → state_of machine.new env ≡ test_left op (stacks_of machine.old)
+        env) }
     ensures fault { IfErr result (λ f. f ≡ ArithFault.NoMemory no_memory) }
     ensures depth { depth machine.new.skip ≤ 1 }
 {
@@ -105,7 +110,8 @@ fn run_test(machine: &mut Machine, op: Operator) -> Result<(), ArithFault>
 #[tactic(auto, unfolding(crate::specs::Steps::question))]
 fn run_question(machine: &mut Machine)
     requires { machine.old.skip ≡ None }
-    ensures ok { (env : Environment) → state_of machine.new env ≡ question (stacks_of machine.old) env }
+    ensures ok { (env : Environment) → state_of machine.new env
+        ≡ question (stacks_of machine.old) env }
     ensures depth { depth machine.new.skip ≤ 1 }
 {
     let v = pop_value(&mut machine.values);
@@ -117,7 +123,8 @@ fn run_question(machine: &mut Machine)
 #[tactic(auto, unfolding(crate::specs::Steps::decide))]
 fn run_decide(machine: &mut Machine) -> Result<(), ArithFault>
     requires { machine.old.skip ≡ None }
-    ensures ok { OnOk result ((env : Environment) → state_of machine.new env ≡ decide (stacks_of machine.old) env) }
+    ensures ok { OnOk result
+        ((env : Environment) → state_of machine.new env ≡ decide (stacks_of machine.old) env) }
     ensures fault { IfErr result (λ f. f ≡ ArithFault.NoMemory no_memory) }
     ensures depth { depth machine.new.skip ≤ 1 }
 {
@@ -157,7 +164,8 @@ fn top_name(names: &[usize]) -> usize
 #[tactic(auto, unfolding(crate::specs::Steps::do_prefix))]
 fn run_prefix(machine: &mut Machine) -> Result<(), ArithFault>
     requires { machine.old.skip ≡ None }
-    ensures ok { OnOk result ((env : Environment) → state_of machine.new env ≡ do_prefix (stacks_of machine.old) env) }
+    ensures ok { OnOk result
+        ((env : Environment) → state_of machine.new env ≡ do_prefix (stacks_of machine.old) env) }
     ensures fault { IfErr result (λ f. f ≡ ArithFault.NoMemory no_memory) }
     ensures depth { depth machine.new.skip ≤ 1 }
 {
@@ -169,8 +177,10 @@ fn run_prefix(machine: &mut Machine) -> Result<(), ArithFault>
 #[tactic(auto, unfolding(crate::specs::Steps::take_name))]
 fn run_take(machine: &mut Machine, text: &[u8], vars: &Vars) -> Result<(), ArithFault>
     requires { machine.old.skip ≡ None }
-    ensures ok { OnOk result (state_of machine.new vars.now ≡ take_name text.now (stacks_of machine.old) vars.now) }
-    ensures fault { IfErr result (λ f. Halting f vars.now (take_name text.now (stacks_of machine.old) vars.now)) }
+    ensures ok { OnOk result
+        (state_of machine.new vars.now ≡ take_name text.now (stacks_of machine.old) vars.now) }
+    ensures fault { IfErr result (λ f.
+        Halting f vars.now (take_name text.now (stacks_of machine.old) vars.now)) }
     ensures depth { depth machine.new.skip ≤ 1 }
 {
     let place = pop_name(&mut machine.names);
@@ -181,8 +191,10 @@ fn run_take(machine: &mut Machine, text: &[u8], vars: &Vars) -> Result<(), Arith
 #[tactic(auto, unfolding(crate::specs::Steps::open_assign))]
 fn run_open(machine: &mut Machine, text: &[u8], op: Operator, vars: &Vars) -> Result<(), ArithFault>
     requires { machine.old.skip ≡ None }
-    ensures ok { OnOk result (state_of machine.new vars.now ≡ open_assign text.now op (stacks_of machine.old) vars.now) }
-    ensures fault { IfErr result (λ f. Halting f vars.now (open_assign text.now op (stacks_of machine.old) vars.now)) }
+    ensures ok { OnOk result
+        (state_of machine.new vars.now ≡ open_assign text.now op (stacks_of machine.old) vars.now) }
+    ensures fault { IfErr result (λ f.
+        Halting f vars.now (open_assign text.now op (stacks_of machine.old) vars.now)) }
     ensures depth { depth machine.new.skip ≤ 1 }
 {
     let place = top_name(&machine.names);
@@ -199,8 +211,10 @@ fn run_store(
     vars: &mut Vars,
 ) -> Result<(), ArithFault>
     requires { machine.old.skip ≡ None }
-    ensures ok { OnOk result (state_of machine.new vars.new ≡ store text.now (stacks_of machine.old) vars.old) }
-    ensures fault { IfErr result (λ f. Halting f vars.new (store text.now (stacks_of machine.old) vars.old)) }
+    ensures ok { OnOk result
+        (state_of machine.new vars.new ≡ store text.now (stacks_of machine.old) vars.old) }
+    ensures fault { IfErr result (λ f.
+        Halting f vars.new (store text.now (stacks_of machine.old) vars.old)) }
     ensures depth { depth machine.new.skip ≤ 1 }
 {
     let op = pop_op(&mut machine.operators);
@@ -219,8 +233,12 @@ fn live_shift(
     vars: &Vars,
 ) -> Result<(), ArithFault>
     requires { machine.old.skip ≡ None }
-    ensures ok { OnOk result (state_of machine.new vars.now ≡ run text.now (shift_steps (role_of token.class) token) (state_of machine.old vars.now)) }
-    ensures fault { IfErr result (λ f. Halting f vars.now (run text.now (shift_steps (role_of token.class) token) (state_of machine.old vars.now))) }
+    ensures ok { OnOk result
+        (state_of machine.new vars.now ≡ run text.now (shift_steps (role_of token.class) token)
+        (state_of machine.old vars.now)) }
+    ensures fault { IfErr result (λ f.
+        Halting f vars.now
+        (run text.now (shift_steps (role_of token.class) token) (state_of machine.old vars.now))) }
     ensures depth { depth machine.new.skip ≤ depth machine.old.skip + 1 }
 {
     match role_of(token.class) {
@@ -252,8 +270,12 @@ fn live_expand(
     vars: &mut Vars,
 ) -> Result<(), ArithFault>
     requires { machine.old.skip ≡ None }
-    ensures ok { OnOk result (state_of machine.new vars.new ≡ run text.now (expand_steps (kind_of rule)) (state_of machine.old vars.old)) }
-    ensures fault { IfErr result (λ f. Halting f vars.new (run text.now (expand_steps (kind_of rule)) (state_of machine.old vars.old))) }
+    ensures ok { OnOk result
+        (state_of machine.new vars.new ≡ run text.now (expand_steps (kind_of rule))
+        (state_of machine.old vars.old)) }
+    ensures fault { IfErr result (λ f.
+        Halting f vars.new
+        (run text.now (expand_steps (kind_of rule)) (state_of machine.old vars.old))) }
     ensures depth { depth machine.new.skip ≤ depth machine.old.skip + 1 }
 {
     match kind_of(rule) {
@@ -270,7 +292,8 @@ fn live_expand(
 fn skip_shift(machine: &mut Machine, token: Token, around: u64)
     requires skips { machine.old.skip ≡ Some around }
     requires few { around + 1 < 2 ^ 64 }
-    ensures ok { (text : List ℕ) (env : Environment) → state_of machine.new env ≡ run text (shift_steps (role_of token.class) token) (state_of machine.old env) }
+    ensures ok { (text : List ℕ) (env : Environment) → state_of machine.new env
+        ≡ run text (shift_steps (role_of token.class) token) (state_of machine.old env) }
     ensures depth { depth machine.new.skip ≤ depth machine.old.skip + 1 }
 {
     match role_of(token.class) {
@@ -294,7 +317,8 @@ fn left_operand(around: u64) -> Option<u64>
 
 fn skip_expand(machine: &mut Machine, rule: u8, around: u64)
     requires skips { machine.old.skip ≡ Some around }
-    ensures ok { (text : List ℕ) (env : Environment) → state_of machine.new env ≡ run text (expand_steps (kind_of rule)) (state_of machine.old env) }
+    ensures ok { (text : List ℕ) (env : Environment) → state_of machine.new env
+        ≡ run text (expand_steps (kind_of rule)) (state_of machine.old env) }
     ensures depth { depth machine.new.skip ≤ depth machine.old.skip + 1 }
 {
     match kind_of(rule) {
@@ -304,7 +328,7 @@ fn skip_expand(machine: &mut Machine, rule: u8, around: u64)
     }
 }
 
-/// One step of the preorder.
+/// Does the step of one action of the preorder.
 fn step(
     machine: &mut Machine,
     alloc: Global,
@@ -313,8 +337,11 @@ fn step(
     vars: &mut Vars,
 ) -> Result<(), ArithFault>
     requires { depth machine.old.skip < 2 ^ 64 }
-    ensures ok { OnOk result (state_of machine.new vars.new ≡ run text.now (step_of action) (state_of machine.old vars.old)) }
-    ensures fault { IfErr result (λ f. Halting f vars.new (run text.now (step_of action) (state_of machine.old vars.old))) }
+    ensures ok { OnOk result
+        (state_of machine.new vars.new ≡ run text.now (step_of action)
+        (state_of machine.old vars.old)) }
+    ensures fault { IfErr result (λ f.
+        Halting f vars.new (run text.now (step_of action) (state_of machine.old vars.old))) }
     ensures depth { depth machine.new.skip ≤ depth machine.old.skip + 1 }
 {
     match machine.skip {
@@ -337,7 +364,7 @@ fn step(
     }
 }
 
-/// The steps of a preorder, one after another.
+/// Does the steps of a preorder, one after another.
 fn run_all(
     machine: &mut Machine,
     alloc: Global,
@@ -346,8 +373,11 @@ fn run_all(
     vars: &mut Vars,
 ) -> Result<(), ArithFault>
     requires { machine.old.skip ≡ None }
-    ensures ok { OnOk result (state_of machine.new vars.new ≡ run text.now (steps actions.now) (state_of machine.old vars.old)) }
-    ensures fault { IfErr result (λ f. Halting f vars.new (run text.now (steps actions.now) (state_of machine.old vars.old))) }
+    ensures ok { OnOk result
+        (state_of machine.new vars.new ≡ run text.now (steps actions.now)
+        (state_of machine.old vars.old)) }
+    ensures fault { IfErr result (λ f.
+        Halting f vars.new (run text.now (steps actions.now) (state_of machine.old vars.old))) }
 {
     let mut left = actions;
     while let Some((first, others)) = left.split_first() {
@@ -359,15 +389,22 @@ fn run_all(
     Ok(())
 }
 
-/// The value of a text that was read whole: of the preorder of its tree.
+/// The value of a text that was read whole. `actions` is the preorder of its tree.
 pub(crate) fn value_of(
     alloc: Global,
     text: &[u8],
     actions: &[Action],
     vars: &mut Vars,
 ) -> Result<i64, ArithFault>
-    ensures value { IfOk result (λ v. (tree : Tree) → IsTree arithmetic_grammar arithmetic_grammar.ending (Nonterminal arithmetic.start) tree → preorder tree ≡ actions.now → value text.now (said tree) vars.old ≡ Gives v vars.new) }
-    ensures fault { IfErr result (λ f. f ≢ ArithFault.NoMemory no_memory → (tree : Tree) → IsTree arithmetic_grammar arithmetic_grammar.ending (Nonterminal arithmetic.start) tree → preorder tree ≡ actions.now → value text.now (said tree) vars.old ≡ Stops f vars.new) }
+    ensures value { IfOk result (λ v.
+        (tree : Tree) → IsTree arithmetic_grammar arithmetic_grammar.ending
+        (Nonterminal arithmetic.start) tree → preorder tree ≡ actions.now
+        → value text.now (expression_of tree) vars.old ≡ Gives v vars.new) }
+    ensures fault { IfErr result (λ f.
+        f ≢ ArithFault.NoMemory no_memory → (tree : Tree)
+        → IsTree arithmetic_grammar arithmetic_grammar.ending (Nonterminal arithmetic.start) tree
+        → preorder tree ≡ actions.now → value text.now (expression_of tree) vars.old
+        ≡ Stops f vars.new) }
 {
     let mut machine = Machine {
         values: Vec::new(alloc),

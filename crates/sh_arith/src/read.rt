@@ -15,7 +15,7 @@ use sh_arith_grammar::{Levels, head, is_blank, tables};
 use sh_grammar::{Actions, Recognizer, Token};
 use std::alloc::Global;
 
-/// Takes one token, where the tokens with it begin an expression and it opens no level too many.
+/// Takes one token, if the tokens with it begin an expression and it doesn't open level 501.
 #[tactic(auto, unfolding(sh_arith_grammar::specs::Levels::open_behind))]
 fn take_token(
     recognizer: &mut Recognizer<'_>,
@@ -25,10 +25,13 @@ fn take_token(
     requires { is_deep levels.old ≡ false }
     ensures ok { OnOk result (recognizer.new.tokens ≡ recognizer.old.tokens ++ token ∷ []) }
     ensures grammar { recognizer.new.grammar ≡ recognizer.old.grammar }
-    ensures begins { OnOk result (BeginsText recognizer.old.grammar (recognizer.old.tokens ++ token ∷ [])) }
+    ensures begins { OnOk result
+        (BeginsText recognizer.old.grammar (recognizer.old.tokens ++ token ∷ [])) }
     ensures levels { OnOk result (levels.new ≡ open_behind levels.old token) }
     ensures shallow { OnOk result (is_deep levels.new ≡ false) }
-    ensures fault { IfErr result (λ f. f ≢ ArithFault.NoMemory no_memory → Refuses recognizer.old.grammar recognizer.old.tokens levels.old token f) }
+    ensures fault { IfErr result (λ f.
+        f ≢ ArithFault.NoMemory no_memory → Refuses recognizer.old.grammar recognizer.old.tokens
+        levels.old token f) }
 {
     if !recognizer.take(token)? {
         return Err(ArithFault::Syntax { at: token.id });
@@ -40,8 +43,9 @@ fn take_token(
     Ok(())
 }
 
-/// Takes the token that begins at the head of `rest`, if one does there: not among so many bytes, and not at a blank.
-/// The result is how many bytes of the token follow.
+/// Takes the token that begins with the first byte of `rest`, if one begins there. None does at a blank, nor
+/// where `skipped` isn't 0: that is how many bytes still belong to an earlier token. The result is how many
+/// bytes after this one belong to a token that was taken.
 fn take_at(
     recognizer: &mut Recognizer<'_>,
     levels: &mut Levels,
@@ -50,11 +54,17 @@ fn take_at(
     skipped: usize,
 ) -> Result<usize, ArithFault>
     requires { is_deep levels.old ≡ false }
-    ensures ok { IfOk result (λ more. (b : ℕ) (bytes : List ℕ) → rest.now ≡ b ∷ bytes → recognizer.new.tokens ++ tokens_from (place + 1) more bytes ≡ recognizer.old.tokens ++ tokens_from place skipped rest.now) }
+    ensures ok { IfOk result (λ more.
+        (b : ℕ) (bytes : List ℕ) → rest.now ≡ b ∷ bytes → recognizer.new.tokens ++ tokens_from
+        (place + 1) more bytes ≡ recognizer.old.tokens ++ tokens_from place skipped rest.now) }
     ensures grammar { recognizer.new.grammar ≡ recognizer.old.grammar }
-    ensures reached { OnOk result (Reached recognizer.old.grammar recognizer.old.tokens levels.old → Reached recognizer.new.grammar recognizer.new.tokens levels.new) }
+    ensures reached { OnOk result
+        (Reached recognizer.old.grammar recognizer.old.tokens levels.old
+        → Reached recognizer.new.grammar recognizer.new.tokens levels.new) }
     ensures shallow { OnOk result (is_deep levels.new ≡ false) }
-    ensures fault { IfErr result (λ f. f ≢ ArithFault.NoMemory no_memory → Stopped recognizer.old.grammar recognizer.old.tokens levels.old (recognizer.old.tokens ++ tokens_from place skipped rest.now) f) }
+    ensures fault { IfErr result (λ f.
+        f ≢ ArithFault.NoMemory no_memory → Stopped recognizer.old.grammar recognizer.old.tokens
+        levels.old (recognizer.old.tokens ++ tokens_from place skipped rest.now) f) }
 {
     if skipped > 0 {
         return Ok(skipped - 1);
@@ -85,7 +95,8 @@ fn take_all(
     ensures ok { OnOk result (recognizer.new.tokens ≡ tokens_of text.now) }
     ensures grammar { recognizer.new.grammar ≡ arithmetic }
     ensures goes_on { OnOk result (GoesOn (tokens_of text.now)) }
-    ensures fault { IfErr result (λ f. f ≢ ArithFault.NoMemory no_memory → IsRefusedWithin (tokens_of text.now) f) }
+    ensures fault { IfErr result (λ f.
+        f ≢ ArithFault.NoMemory no_memory → IsRefusedWithin (tokens_of text.now) f) }
 {
     let mut rest = text;
     let mut place: usize = 0;
@@ -103,7 +114,8 @@ fn take_all(
 
 /// The one derivation of a text, or why it is refused.
 pub(crate) fn read(alloc: Global, text: &[u8]) -> Result<Actions, ArithFault>
-    ensures tree { IfOk result (λ actions. (tree : Tree) × IsTreeOf arithmetic (tokens_of text.now) tree × (preorder tree ≡ actions)) }
+    ensures tree { IfOk result (λ actions.
+        (tree : Tree) × IsTreeOf arithmetic (tokens_of text.now) tree × (preorder tree ≡ actions)) }
     ensures shallow { OnOk result (are_shallow none_open (tokens_of text.now) ≡ true) }
     ensures fault { IfErr result (λ f. f ≢ ArithFault.NoMemory no_memory → IsRefused text.now f) }
 {

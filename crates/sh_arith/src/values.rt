@@ -6,14 +6,14 @@ ghost use Rattle.sh_vars.specs.Environment.{Environment};
 ghost use Rattle.sh_arith_grammar.specs.Lexical.{word_at};
 ghost use Rattle.sh_arith_grammar.specs.Numbers.{number_of};
 ghost use Rattle.sh_arith.specs.Outcome.{Gives, Stops};
-ghost use Rattle.sh_arith.specs.Value.{before, constant, decides, stored, taken, worked};
+ghost use Rattle.sh_arith.specs.Value.{before, constant, decides, assignment, variable_value, operation};
 
 use crate::faults::ArithFault;
 use sh_arith_grammar::{Operator, constant_value, first_word, number_of};
 use sh_vars::{Vars, VarsFault};
 use std::alloc::{AllocError, Global};
 
-/// The word that stands at a place.
+/// The word at a place of a text.
 fn word_at(text: &[u8], place: usize) -> &[u8]
     ensures { result.now ≡ word_at text.now place }
 {
@@ -26,7 +26,10 @@ fn word_at(text: &[u8], place: usize) -> &[u8]
 /// The value of a constant.
 #[tactic(auto, unfolding(crate::specs::Value::constant))]
 pub(crate) fn constant(text: &[u8], place: usize) -> Result<i64, ArithFault>
-    ensures { MatchResult result (λ r. (env : Environment) → constant text.now place env ≡ Gives r env) (λ f. (f ≢ ArithFault.NoMemory no_memory) × ((env : Environment) → constant text.now place env ≡ Stops f env)) }
+    ensures { MatchResult result (λ r.
+        (env : Environment) → constant text.now place env ≡ Gives r env)
+        (λ f. (f ≢ ArithFault.NoMemory no_memory)
+        × ((env : Environment) → constant text.now place env ≡ Stops f env)) }
 {
     match constant_value(word_at(text, place)) {
         Some(number) => {
@@ -40,9 +43,10 @@ pub(crate) fn constant(text: &[u8], place: usize) -> Result<i64, ArithFault>
     }
 }
 
-/// The number of a variable's value.
+/// The number that a variable's value writes.
 fn number_or_fault(bytes: &[u8]) -> Result<i64, ArithFault>
-    ensures { MatchResult result (λ r. number_of bytes.now ≡ Some r) (λ f. (f ≡ ArithFault.NotANumber) × (number_of bytes.now ≡ None)) }
+    ensures { MatchResult result (λ r. number_of bytes.now ≡ Some r) (λ f.
+        (f ≡ ArithFault.NotANumber) × (number_of bytes.now ≡ None)) }
 {
     match number_of(bytes) {
         Some(number) => Ok(number),
@@ -51,9 +55,11 @@ fn number_or_fault(bytes: &[u8]) -> Result<i64, ArithFault>
 }
 
 /// The value of the variable that is named at a place.
-#[tactic(auto, unfolding(crate::specs::Value::taken))]
+#[tactic(auto, unfolding(crate::specs::Value::variable_value))]
 pub(crate) fn taken(text: &[u8], place: usize, vars: &Vars) -> Result<i64, ArithFault>
-    ensures { MatchResult result (λ r. taken text.now place vars.now ≡ Gives r vars.now) (λ f. (f ≢ ArithFault.NoMemory no_memory) × (taken text.now place vars.now ≡ Stops f vars.now)) }
+    ensures { MatchResult result (λ r. variable_value text.now place vars.now ≡ Gives r vars.now)
+        (λ f. (f ≢ ArithFault.NoMemory no_memory)
+        × (variable_value text.now place vars.now ≡ Stops f vars.now)) }
 {
     match vars.get(word_at(text, place)) {
         Some(bytes) => number_or_fault(bytes),
@@ -75,7 +81,7 @@ fn decimal(alloc: Global, number: i64) -> Result<String, AllocError>
 }
 
 /// Assigns a number to the variable that is named at a place.
-#[tactic(auto, unfolding(crate::specs::Value::stored))]
+#[tactic(auto, unfolding(crate::specs::Value::assignment))]
 pub(crate) fn store(
     alloc: Global,
     text: &[u8],
@@ -83,7 +89,10 @@ pub(crate) fn store(
     number: i64,
     vars: &mut Vars,
 ) -> Result<i64, ArithFault>
-    ensures { MatchResult result (λ r. stored text.now place number vars.old ≡ Gives r vars.new) (λ f. f ≢ ArithFault.NoMemory no_memory → stored text.now place number vars.old ≡ Stops f vars.new) }
+    ensures { MatchResult result (λ r.
+        assignment text.now place number vars.old ≡ Gives r vars.new)
+        (λ f. f ≢ ArithFault.NoMemory no_memory → assignment text.now place number vars.old
+        ≡ Stops f vars.new) }
 {
     let digits = decimal(alloc, number)?;
     match vars.set(word_at(text, place), digits.as_bytes()) {
@@ -94,10 +103,12 @@ pub(crate) fn store(
     }
 }
 
-/// What an operator makes of its two operands.
-#[tactic(auto, unfolding(crate::specs::Value::worked))]
+/// The result of an operator between two operands.
+#[tactic(auto, unfolding(crate::specs::Value::operation))]
 pub(crate) fn worked(op: Operator, v: i64, w: i64) -> Result<i64, ArithFault>
-    ensures { MatchResult result (λ r. (env : Environment) → worked op v w env ≡ Gives r env) (λ f. (f ≢ ArithFault.NoMemory no_memory) × ((env : Environment) → worked op v w env ≡ Stops f env)) }
+    ensures { MatchResult result (λ r. (env : Environment) → operation op v w env ≡ Gives r env)
+        (λ f. (f ≢ ArithFault.NoMemory no_memory)
+        × ((env : Environment) → operation op v w env ≡ Stops f env)) }
 {
     match op.apply(v, w) {
         Some(value) => Ok(value),
@@ -105,7 +116,7 @@ pub(crate) fn worked(op: Operator, v: i64, w: i64) -> Result<i64, ArithFault>
     }
 }
 
-/// Whether the left operand of `&&` or `||` decides.
+/// Whether the left operand of `&&` or `||` decides, so that the right one is skipped.
 #[tactic(auto, unfolding(crate::specs::Value::decides))]
 pub(crate) fn decides(op: Operator, v: i64) -> bool
     ensures { result ≡ decides op v }
@@ -116,7 +127,7 @@ pub(crate) fn decides(op: Operator, v: i64) -> bool
     }
 }
 
-/// The own value of a variable that is assigned to, where the operator takes it.
+/// The value that a variable has before an assignment to it. It is not needed for `=`, which gives 0 here.
 #[tactic(auto, unfolding(crate::specs::Value::before))]
 pub(crate) fn before(
     text: &[u8],
@@ -124,7 +135,9 @@ pub(crate) fn before(
     place: usize,
     vars: &Vars,
 ) -> Result<i64, ArithFault>
-    ensures { MatchResult result (λ r. before text.now op place vars.now ≡ Gives r vars.now) (λ f. (f ≢ ArithFault.NoMemory no_memory) × (before text.now op place vars.now ≡ Stops f vars.now)) }
+    ensures { MatchResult result (λ r. before text.now op place vars.now ≡ Gives r vars.now) (λ f.
+        (f ≢ ArithFault.NoMemory no_memory)
+        × (before text.now op place vars.now ≡ Stops f vars.now)) }
 {
     match op {
         Operator::Assign => Ok(0),

@@ -1,7 +1,7 @@
 -- Digits that follow make no number smaller.
 use Rattle.std.proofs.Common.{◌≡◌, ℕ, ◌+◌, ◌*◌, ◌^◌, ◌<◌, ◌≤◌, false, List, [], ◌∷◌, sym, ap, ◌∙◌, arith, rules, Some, None}
 use Rattle.std.specs.Prelude.{nat_le, if◌then◌else◌}
-use Rattle.sh_arith_grammar.specs.Constants.{number_after, digit_value, bounded}
+use Rattle.sh_arith_grammar.specs.Constants.{number_after, digit_value, number_in_bounds}
 
 multiple : (n radix : ℕ) → 1 ≤ radix → n ≤ n * radix
 multiple n radix h = grind (arith, h)
@@ -16,7 +16,7 @@ grows radix n (b ∷ digits) h =
 above : (n : ℕ) → 2 ^ 63 < n → nat_le n (2 ^ 63) ≡ false
 above n h = search (rules, h)
 
-pub past : (radix n b x y : ℕ) (left others whole : List ℕ) → 1 ≤ radix → left ≡ b ∷ others → number_after radix n left ≡ number_after radix 0 whole → x ≡ radix → y ≡ digit_value b → 2 ^ 63 < n * x + y → None ≡ bounded (number_after radix 0 whole)
+pub past : (radix n b x y : ℕ) (left others whole : List ℕ) → 1 ≤ radix → left ≡ b ∷ others → number_after radix n left ≡ number_after radix 0 whole → x ≡ radix → y ≡ digit_value b → 2 ^ 63 < n * x + y → None ≡ number_in_bounds (number_after radix 0 whole)
 past radix n b x y left others whole h e same f g o =
     let m : n * x + y ≡ n * radix + digit_value b = ap (λ z. n * z + y) f ∙ ap (λ z. n * radix + z) g in
     let p : 2 ^ 63 < n * radix + digit_value b = omega (arith, m, o) in

@@ -15,7 +15,7 @@ abbrev pub numeral : List ℕ → Numeral
 numeral [] = record { radix = 10; digits = [] }
 numeral (b ∷ bytes) = if nat_eq b 48 then after_zero bytes else record { radix = 10; digits = b ∷ bytes }
 
--- what a byte is worth as a digit; 16 for what is none
+-- the value of a byte as a digit; 16 for a byte that is no digit
 abbrev pub digit_value : ℕ → ℕ
 digit_value b =
     if nat_le 48 b && nat_le b 57 then b - 48
@@ -26,11 +26,11 @@ digit_value b =
 abbrev pub is_digit : ℕ → ℕ → Bool
 is_digit radix b = nat_lt (digit_value b) radix
 
--- a word is a constant
+-- whether a word is a constant
 abbrev pub is_constant : List ℕ → Bool
 is_constant word = nat_lt 0 (length (numeral word).digits) && list_all (is_digit (numeral word).radix) (numeral word).digits
 
--- the number that digits write behind those of n
+-- the number that digits write after the digits of n
 abbrev pub number_after : ℕ → ℕ → List ℕ → ℕ
 number_after radix n [] = n
 number_after radix n (b ∷ digits) = number_after radix (n * radix + digit_value b) digits
@@ -39,6 +39,6 @@ number_after radix n (b ∷ digits) = number_after radix (n * radix + digit_valu
 abbrev pub constant_value : List ℕ → ℕ
 constant_value word = number_after (numeral word).radix 0 (numeral word).digits
 
--- a number, if it is at most 2^63, which is past the greatest value by one
-abbrev pub bounded : ℕ → Option ℕ
-bounded n = if nat_le n (2 ^ 63) then Some n else None
+-- a number, if it is at most 2^63, which is one more than the greatest value
+abbrev pub number_in_bounds : ℕ → Option ℕ
+number_in_bounds n = if nat_le n (2 ^ 63) then Some n else None

@@ -1,5 +1,5 @@
--- The grammar of arithmetic expressions (XCU 2.6.4): the productions of the levels of operators. The parser's table says
--- nothing of what derives, and is the program's.
+-- The grammar of arithmetic expressions (XCU 2.6.4): the productions of the levels of operators. The parser's
+-- table, which is the program's own, does not change what derives.
 use Rattle.std.specs.Prelude.{ℕ, suc, ◌-◌, ◌^◌, codes, List, [], ◌∷◌, ◌++◌, map, reverse}
 use Rattle.sh_grammar.specs.Grammar.{Grammar}
 use Rattle.sh_grammar.specs.Tabulation.{Tabulation, grammar_of}

@@ -1,5 +1,5 @@
--- How many levels of an expression are open: each parenthesis, prefix operator, `?` and assignment operator opens one, and
--- operators between two operands none (XCU 2.6.4 sets no bound; this is ours).
+-- How many levels of an expression are open: each parenthesis, prefix operator, `?` and assignment operator
+-- opens one; operators between two operands open none (XCU 2.6.4 sets no bound; this is ours).
 use Rattle.std.specs.Prelude.{ℕ, ◌+◌, ◌-◌, Bool, true, false, not, ◌&&◌, nat_lt, List, [], ◌∷◌, if◌then◌else◌}
 use Rattle.sh_grammar.specs.declared.Token.{Token}
 use Rattle.sh_arith_grammar.specs.declared.operators.Role.{Role}
@@ -7,23 +7,24 @@ use Rattle.sh_arith_grammar.specs.declared.operators.Role.TheVariants as role
 use Rattle.sh_arith_grammar.specs.Roles.{role_of}
 use Rattle.sh_arith_grammar.specs.Stack.{rest, top}
 
--- what is open behind some tokens
+-- what is open after some tokens
 pub record Open : Type 0 where
   -- how many levels
   pub levels : ℕ
-  -- how many of them prefix operators opened that have no operand yet
+  -- how many of them were opened by prefix operators that have no operand yet
   pub prefixes : ℕ
-  -- of each `(` and each `?` whose `)` or `:` is to come, the innermost first: how many levels are open behind that one
+  -- for each `(` and `?` whose `)` or `:` is to come, the innermost first: how many levels are open after
+  -- that one
   pub behind : List ℕ
-  -- whether an operand came last, so that an operator stands between two
+  -- whether an operand came last, so that an operator that follows is between two operands
   pub operand : Bool
 
 abbrev pub none_open : Open
 none_open = record { levels = 0; prefixes = 0; behind = []; operand = false }
 
 -- an operand is complete, and so are the prefix operators before it
-abbrev pub completed : Open → Open
-completed o = record { levels = o.levels - o.prefixes; prefixes = 0; behind = o.behind; operand = true }
+abbrev pub after_operand : Open → Open
+after_operand o = record { levels = o.levels - o.prefixes; prefixes = 0; behind = o.behind; operand = true }
 
 abbrev pub opens_prefix : Open → Open
 opens_prefix o = record { levels = o.levels + 1; prefixes = o.prefixes + 1; behind = o.behind; operand = false }
@@ -31,11 +32,11 @@ opens_prefix o = record { levels = o.levels + 1; prefixes = o.prefixes + 1; behi
 abbrev pub between : Open → Open
 between o = record { levels = o.levels; prefixes = 0; behind = o.behind; operand = false }
 
--- the right side of an assignment stands inside it
+-- the right side of an assignment is inside its level
 abbrev pub opens_assignment : Open → Open
 opens_assignment o = record { levels = o.levels + 1; prefixes = 0; behind = o.behind; operand = false }
 
--- both parts of a choice stand inside it
+-- both parts of a choice are inside its level
 abbrev pub opens_choice : Open → Open
 opens_choice o = record { levels = o.levels + 1; prefixes = 0; behind = (o.levels + 1) ∷ o.behind; operand = false }
 
@@ -43,23 +44,23 @@ opens_choice o = record { levels = o.levels + 1; prefixes = 0; behind = (o.level
 abbrev pub opens_parenthesis : Open → Open
 opens_parenthesis o = record { levels = o.levels + 1; prefixes = 0; behind = (o.levels - o.prefixes) ∷ o.behind; operand = false }
 
--- `)` and `:` close what stands since their `(` or `?`
-abbrev pub closed : List ℕ → Bool → Open
-closed behind operand = record { levels = top 0 behind; prefixes = 0; behind = rest behind; operand = operand }
+-- `)` and `:` close what was opened after their `(` or `?`, and `)` closes the level of its `(` too
+abbrev pub after_closing : List ℕ → Bool → Open
+after_closing behind operand = record { levels = top 0 behind; prefixes = 0; behind = rest behind; operand = operand }
 
 abbrev pub opened : Role → Open → Open
-opened role.Number o = completed o
-opened role.Name o = completed o
+opened role.Number o = after_operand o
+opened role.Name o = after_operand o
 opened role.Operator o = if o.operand then between o else opens_prefix o
 opened role.Logic o = between o
 opened role.Question o = opens_choice o
-opened role.Colon o = closed o.behind false
+opened role.Colon o = after_closing o.behind false
 opened role.Assign o = opens_assignment o
 opened role.Opening o = opens_parenthesis o
-opened role.Closing o = closed o.behind true
+opened role.Closing o = after_closing o.behind true
 opened role.Nothing o = o
 
--- what is open behind one token more
+-- what is open after one more token
 unfoldable pub open_behind : Open → Token → Open
 open_behind o t = opened (role_of t.class) o
 
@@ -67,7 +68,7 @@ open_behind o t = opened (role_of t.class) o
 abbrev pub is_deep : Open → Bool
 is_deep o = nat_lt 500 o.levels
 
--- what is open behind all the tokens
+-- what is open after all the tokens
 abbrev pub open_after : Open → List Token → Open
 open_after o [] = o
 open_after o (t ∷ tokens) = open_after (open_behind o t) tokens

@@ -19,7 +19,7 @@ word_length (b ∷ bytes) = if continues_name b then word_length bytes + 1 else 
 abbrev pub first_word : List ℕ → List ℕ
 first_word text = take (word_length text) text
 
--- the word that stands at a place of a text
+-- the word at a place of a text
 abbrev pub word_at : List ℕ → ℕ → List ℕ
 word_at text place = first_word (drop place text)
 
@@ -37,11 +37,11 @@ abbrev pub begins_with_digit : List ℕ → Bool
 begins_with_digit [] = false
 begins_with_digit (b ∷ bytes) = is_ascii_digit b
 
--- a word that begins with a digit is a constant, or stands in no text
+-- a word that begins with a digit is a constant, or a token that no expression has
 abbrev pub word_class : List ℕ → ℕ
 word_class word = if begins_with_digit word then (if is_constant word then constant_class else unknown_class) else name_class
 
--- what is no operator is one byte that stands in no text
+-- where no operator begins, one byte is a token that no expression has
 abbrev pub operator_head : Option (ℕ × ℕ) → ℕ × ℕ
 operator_head None = (unknown_class, 1)
 operator_head (Some found) = (first_operator + found.0, found.1)
@@ -52,7 +52,8 @@ head text =
     if nat_lt 0 (word_length text) then (word_class (first_word text), word_length text)
     else operator_head (first_spelling 0 spellings text)
 
--- the tokens of the bytes from a place on, but for so many bytes; each token has its place
+-- the tokens of the bytes from a place on, without the first `skipped` bytes; each token has its place as its
+-- id
 abbrev pub tokens_from : ℕ → ℕ → List ℕ → List Token
 tokens_from place skipped [] = []
 tokens_from place (suc skipped) (b ∷ bytes) = tokens_from (place + 1) skipped bytes

@@ -1,5 +1,5 @@
--- The levels of a tree of the grammar: each parenthesis, prefix operator, choice and assignment is one, around what stands
--- inside it.
+-- The levels of a tree of the grammar: each parenthesis, prefix operator, choice and assignment is one,
+-- around what is inside it.
 use Rattle.std.specs.Prelude.{ℕ, ◌+◌, Bool, true, false, not, ◌&&◌, nat_lt, if◌then◌else◌}
 use Rattle.sh_grammar.specs.Grammar.{Tree, Forest, Leaf, Node, Empty, And}
 use Rattle.sh_arith_grammar.specs.declared.grammar.Kind.{Kind}
@@ -27,7 +27,7 @@ is_level kind.Join = false
 is_level kind.Store = false
 
 abbrev mutual
-  -- where so many levels are around the tree, no more than 500 are around any part of it
+  -- whether no more than 500 levels are around any part of the tree, where m are around the whole tree
   pub is_few : Tree → ℕ → Bool
   is_few (Leaf t) = λ m. true
   is_few (Node p children) = λ m. if is_level (kind_of p) then not (nat_lt 500 (m + 1)) && are_few children (m + 1) else are_few children m

@@ -11,8 +11,9 @@ pub record Sign : Type 0 where
 abbrev pub sign : List ℕ → Operator → Sign
 sign spelling operator = record { spelling = spelling; does = Some operator }
 
--- where the operators of a level stand: before one operand; between two that are both evaluated; between two of which
--- the first may decide; after the first of three, with `:` before the third; between a name and what it is given
+-- the place of a level's operators: before one operand; between two that are both evaluated; between two
+-- where the first may decide; after the first of three, with `:` before the third; between a name and the
+-- value assigned to it
 pub data Position : Type 0 where
   Before : Position
   Between : Position
@@ -20,7 +21,7 @@ pub data Position : Type 0 where
   Choosing : Position
   Assigning : Position
 
--- how operators of one level group that stand in a row: `a-b-c` is `(a-b)-c`, `a=b=c` is `a=(b=c)`
+-- how several operators of one level group: `a-b-c` is `(a-b)-c`, `a=b=c` is `a=(b=c)`
 pub data Grouping : Type 0 where
   FromLeft : Grouping
   FromRight : Grouping
@@ -33,7 +34,7 @@ pub record Level : Type 0 where
 abbrev pub level : Position → Grouping → List Sign → Level
 level position grouping signs = record { position = position; grouping = grouping; signs = signs }
 
--- the operators that bind loosest first; `+=` does what `+` does
+-- the levels, the one that binds loosest first; `+=` does what `+` does
 abbrev pub levels : List Level
 levels =
     level Assigning FromRight

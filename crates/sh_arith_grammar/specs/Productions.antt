@@ -1,5 +1,6 @@
--- The productions of arithmetic expressions (XCU 2.6.4), made from the levels of operators. Each has its meaning, its kind.
--- An operand and the rests of the levels from the tightest on stand in a row, so that one token of lookahead decides.
+-- The productions of arithmetic expressions (XCU 2.6.4), made from the levels of operators. Each has a kind,
+-- its meaning. An operand is followed by the rests of the levels, the tightest first, so that one token of
+-- lookahead decides.
 use Rattle.std.specs.Prelude.{ℕ, zero, suc, ◌+◌, ◌-◌, ◌*◌, List, [], ◌∷◌, ◌++◌, length}
 use Rattle.sh_grammar.specs.declared.Symbol.{Symbol}
 use Rattle.sh_grammar.specs.declared.Symbol.TheVariants.{Terminal, Nonterminal}
@@ -26,9 +27,11 @@ opening = Terminal (length levels + 3)
 abbrev pub closing : Symbol
 closing = Terminal (length levels + 4)
 
--- the nonterminals: a whole text; an expression, and what follows a name and another operand that it begins with; of each
--- level behind the first an operand of the looser one, and operators with what they stand before; a constant, parentheses
--- or an operator with its operand; and marks, which stand for nothing: here something is done
+-- the nonterminals: `whole` is a whole text; `expression` is an expression, and `behind_name` and
+-- `behind_operand` are what follows a name or another operand at its start. For a level i after the first,
+-- `operand i` is an operand of the level before, and `rest i` the operators of level i with their right
+-- operands. `other_operand` is a constant, parentheses, or an operator with its operand. The others are
+-- empty: there something is done
 abbrev pub whole : Symbol
 whole = Nonterminal 0
 
@@ -80,13 +83,15 @@ pub record Production : Type 0 where
 abbrev pub rule : Symbol → Kind → List Symbol → Production
 rule head means body = record { head = number_of head; body = body; means = means }
 
--- the right operand and what follows it: from the left it is one of the next level, and more operators may follow; from
--- the right it is one of this level, which has them
+-- the right operand and what follows it. Where operators group from the left, the operand is of the next
+-- level, and more operators may follow. Where they group from the right, it is of this level, which has those
+-- operators itself
 abbrev pub right : Grouping → (looser tighter mark others : Symbol) → List Symbol
 right FromLeft looser tighter mark others = tighter ∷ mark ∷ others ∷ []
 right FromRight looser tighter mark others = looser ∷ mark ∷ []
 
--- operators between operands: an operand of the next level, and behind it nothing, or an operator and what it stands before
+-- operators between operands: an operand of the next level, and after it nothing, or an operator and what
+-- follows the operator
 abbrev pub between : ℕ → Grouping → Kind → Symbol → List Symbol → List Production
 between i grouping means mark before =
     rule (operand i) kind.Chain (operand (i + 1) ∷ rest i ∷ [])
@@ -94,12 +99,12 @@ between i grouping means mark before =
     ∷ rule (rest i) means (before ++ right grouping (operand i) (operand (i + 1)) mark (rest i))
     ∷ []
 
--- what may follow an operand, of the tightest level first
+-- what may follow an operand, the tightest level first
 abbrev pub rests : ℕ → List Symbol
 rests zero = []
 rests (suc i) = rest (suc i) ∷ rests i
 
--- the level of this number
+-- the productions of the level of this number
 abbrev pub level_rules : ℕ → Position → Grouping → List Production
 level_rules i Assigning grouping =
     rule expression kind.Named (name ∷ behind_name ∷ [])
@@ -119,12 +124,12 @@ level_rules i Before grouping =
     ∷ rule other_operand kind.Prefix (operator_at i ∷ operand i ∷ turn ∷ [])
     ∷ []
 
--- the levels from this number on
+-- the productions of the levels from this number on
 abbrev pub rules_from : ℕ → List Level → List Production
 rules_from i [] = []
 rules_from i (l ∷ others) = level_rules i l.position l.grouping ++ rules_from (i + 1) others
 
--- a blank text is an expression
+-- a blank text is a whole text too
 unfoldable pub productions : List Production
 productions =
     rule whole kind.Zero []

@@ -1,4 +1,5 @@
--- What the grammar's numbers stand for: of a production its kind, of a class of tokens its role and its operator.
+-- What the grammar's numbers mean: the kind of a production, and the role and the operator of a class of
+-- tokens.
 use Rattle.std.specs.Prelude.{ℕ, List, get_or, map}
 use Rattle.sh_arith_grammar.specs.declared.grammar.Kind.{Kind}
 use Rattle.sh_arith_grammar.specs.declared.grammar.Kind.TheVariants as kind
@@ -19,10 +20,10 @@ kinds = map (λ p. p.means) productions
 unfoldable pub kind_of : ℕ → Kind
 kind_of p = nth kind.Rest kinds p
 
--- what a token is
+-- what a token of a class is
 unfoldable pub role_of : ℕ → Role
 role_of c = nth role.Nothing roles c
 
--- which operator a token is
+-- which operator a token of a class is
 unfoldable pub operator_of : ℕ → Operator
 operator_of c = nth operator.Assign operators c

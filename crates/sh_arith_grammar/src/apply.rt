@@ -1,6 +1,6 @@
-//! What the operators make of their operands (XCU 2.6.4).
+//! The results of the operators (XCU 2.6.4).
 ghost use Rattle.std.specs.Prelude.{◌≡◌};
-ghost use Rattle.sh_arith_grammar.specs.Operators.{applied, truth, turned};
+ghost use Rattle.sh_arith_grammar.specs.Operators.{binary_result, truth, unary_result};
 
 use crate::integer;
 use crate::operators::Operator;
@@ -13,11 +13,11 @@ pub fn truth(holds: bool) -> i64
 }
 
 impl Operator {
-    /// What the operator makes of the two operands it stands between; `None` for a division by 0. An operator that
-    /// has no two operands gives the second, as `=` does.
-    #[tactic(auto, unfolding(crate::specs::Operators::applied))]
+    /// The result of the operator between two operands (C 6.5); `None` for `/` or `%` by 0. An operator that
+    /// isn't applied to two operands gives the second, as `=` does.
+    #[tactic(auto, unfolding(crate::specs::Operators::binary_result))]
     pub fn apply(self, v: i64, w: i64) -> Option<i64>
-        ensures { result ≡ applied self v w }
+        ensures { result ≡ binary_result self v w }
     {
         match self {
             Operator::Divide => {
@@ -52,11 +52,11 @@ impl Operator {
         }
     }
 
-    /// What the operator makes of the operand behind it. One that stands before no operand leaves it as it is, as `+`
-    /// does.
-    #[tactic(auto, unfolding(crate::specs::Operators::turned))]
+    /// The result of the operator before one operand (C 6.5.3.3). An operator that isn't applied to one
+    /// operand gives the operand unchanged, as `+` does.
+    #[tactic(auto, unfolding(crate::specs::Operators::unary_result))]
     pub fn turn(self, v: i64) -> i64
-        ensures { result ≡ turned self v }
+        ensures { result ≡ unary_result self v }
     {
         match self {
             Operator::Minus => integer::negate(v),

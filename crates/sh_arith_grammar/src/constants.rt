@@ -1,7 +1,7 @@
 //! Integer constants (XCU 2.6.4, C 6.4.4.1).
 ghost use Rattle.std.specs.Prelude.{◌≡◌, ◌≤◌};
 ghost use Rattle.std.specs.List.{list_all};
-ghost use Rattle.sh_arith_grammar.specs.Constants.{bounded, constant_value, digit_value, is_constant, is_digit, number_after, numeral};
+ghost use Rattle.sh_arith_grammar.specs.Constants.{number_in_bounds, constant_value, digit_value, is_constant, is_digit, number_after, numeral};
 
 /// A word's radix and digits.
 #[derive(Clone, Copy)]
@@ -10,7 +10,7 @@ struct Digits<'t> {
     digits: &'t [u8],
 }
 
-/// The radix and the digits of a word, which is a constant or isn't.
+/// The radix and the digits of a word, whether or not the word is a constant.
 fn digits_of<'t>(word: &'t [u8]) -> Digits<'t>
     ensures radix { result.radix ≡ (numeral word.now).radix }
     ensures digits { result.digits.now ≡ (numeral word.now).digits }
@@ -44,7 +44,7 @@ fn digits_of<'t>(word: &'t [u8]) -> Digits<'t>
     }
 }
 
-/// What a byte is worth as a digit; 16 for what is none.
+/// The value of a byte as a digit; 16 for a byte that is no digit.
 fn digit_value(byte: u8) -> u8
     ensures value { result ≡ digit_value byte }
     ensures small { result ≤ 16 }
@@ -80,11 +80,11 @@ pub(crate) fn is_constant(word: &[u8]) -> bool
     !digits.is_empty() && are_digits(radix, digits)
 }
 
-/// The number that digits write, if it is at most 2^63.
+/// The number that the digits write; `None` where it is above 2^63.
 fn number_of(radix: u8, digits: &[u8]) -> Option<u64>
     requires positive { 1 ≤ radix }
     requires small { radix ≤ 16 }
-    ensures { result ≡ bounded (number_after radix 0 digits.now) }
+    ensures { result ≡ number_in_bounds (number_after radix 0 digits.now) }
 {
     let mut number: u128 = 0;
     let mut left = digits;
@@ -98,10 +98,10 @@ fn number_of(radix: u8, digits: &[u8]) -> Option<u64>
     Some(number as u64)
 }
 
-/// The number that a constant writes: in octal behind a 0, in hexadecimal behind 0x or 0X, else in decimal (C 6.4.4.1).
-/// `None` for one above 2^63. Of a word that is no constant the number means nothing.
+/// The number that a constant writes: octal after 0, hexadecimal after 0x or 0X, otherwise decimal (C
+/// 6.4.4.1). `None` where it is above 2^63. For a word that is no constant, the number means nothing.
 pub fn constant_value(word: &[u8]) -> Option<u64>
-    ensures { result ≡ bounded (constant_value word.now) }
+    ensures { result ≡ number_in_bounds (constant_value word.now) }
 {
     let Digits { radix, digits } = digits_of(word);
     number_of(radix, digits)

@@ -1,5 +1,5 @@
 //! The grammar of arithmetic expressions (XCU 2.6.4; the operators and precedences of C's integer expressions), and its
-//! parsing table. Symbols and classes go by their numbers.
+//! parsing table. Symbols and classes are numbers; a set of classes has a bit for each.
 ghost use Rattle.std.specs.Prelude.{◌≡◌, slice_index_or};
 ghost use Rattle.sh_arith_grammar.specs.Grammar.{arithmetic};
 ghost use Rattle.sh_arith_grammar.specs.Roles.{kind_of};
@@ -9,7 +9,7 @@ ghost use Rattle.sh_grammar.specs.Tabulation.{tabulation_of};
 use sh_grammar::Symbol::{self, Nonterminal, Terminal};
 use sh_grammar::Tables;
 
-/// What a production means.
+/// What a production means. Those from `Load` on have empty bodies: there something is done.
 #[derive(Clone, Copy)]
 pub enum Kind {
     /// An operand, and operators that may follow it.
@@ -18,11 +18,11 @@ pub enum Kind {
     Rest,
     /// An expression in parentheses.
     Within,
-    /// What follows a name.
+    /// What follows a name whose value is needed.
     Takes,
     /// A blank text.
     Zero,
-    /// A name.
+    /// A name, and what follows it.
     Named,
     /// A constant.
     Number,
@@ -36,17 +36,17 @@ pub enum Kind {
     Chooses,
     /// An assignment.
     Assigns,
-    /// A name's value is taken.
+    /// The value of a name is read.
     Load,
-    /// An operator with one operand has it.
+    /// The operator before an operand is applied.
     Turn,
-    /// An operator with two operands has them.
+    /// The operator between two operands is applied.
     Do,
-    /// `&&` or `||` has its operands.
+    /// `&&` or `||` has its result.
     Decide,
-    /// `?` with `:` has its operands.
+    /// `?` with `:` has its result.
     Join,
-    /// An assignment has its value.
+    /// The assignment is done.
     Store,
 }
 
@@ -111,7 +111,7 @@ const GUARDS: [u64; 51] = [
     549755813887,
 ];
 
-/// What each production stands for.
+/// The body of each production.
 const BODIES: [&[Symbol]; 51] = [
     // Whole ->
     &[],
@@ -307,7 +307,7 @@ const TERMINALS: [u64; 18] = [
     68719476736,
 ];
 
-/// The class of what is after the last token.
+/// The class of the end, after the last token.
 const ENDING: u8 = 38;
 
 /// The nonterminal of a whole text.
@@ -351,7 +351,7 @@ const FIRSTS: [u64; 34] = [
     0,
 ];
 
-/// The classes before which each nonterminal may stand for nothing.
+/// The classes before which each nonterminal may be empty.
 const NULLABLES: [u64; 34] = [
     549755813887,
     0,
@@ -493,7 +493,7 @@ const KINDS: [Kind; 51] = [
     Kind::Turn,
 ];
 
-/// The grammar with its table, of which one token of lookahead decides.
+/// The grammar with its parsing table. One token of lookahead decides.
 pub fn tables() -> Tables<'static>
     ensures grammar { tabulation_of result ≡ arithmetic }
     ensures passes { IsPredictive (tabulation_of result) }

@@ -1,31 +1,31 @@
-//! Integers of 64 bits with a sign: what is past them wraps (XCU 2.6.4).
+//! Integers of 64 bits with a sign, which wrap on overflow (XCU 2.6.4).
 ghost use Rattle.std.specs.Prelude.{◌≡◌, ◌≢◌, pos};
-ghost use Rattle.sh_arith_grammar.specs.Integers.{multiplied, added, subtracted, shifted_left, shifted_right, divided, remained, joined_and, joined_or, joined_xor, inverted, negated};
+ghost use Rattle.sh_arith_grammar.specs.Integers.{product_of, sum_of, difference_of, shifted_left, shifted_right, quotient, remainder, joined_and, joined_or, joined_xor, complement, negation};
 
 /// The product.
 pub(crate) fn multiply(x: i64, y: i64) -> i64
-    ensures { result ≡ multiplied x y }
+    ensures { result ≡ product_of x y }
 {
     x.wrapping_mul(y)
 }
 
 /// The sum.
 pub(crate) fn add(x: i64, y: i64) -> i64
-    ensures { result ≡ added x y }
+    ensures { result ≡ sum_of x y }
 {
     x.wrapping_add(y)
 }
 
 /// The difference.
 pub(crate) fn subtract(x: i64, y: i64) -> i64
-    ensures { result ≡ subtracted x y }
+    ensures { result ≡ difference_of x y }
 {
     x.wrapping_sub(y)
 }
 
-/// The number with its sign turned.
+/// The negated number.
 pub(crate) fn negate(x: i64) -> i64
-    ensures { result ≡ negated x }
+    ensures { result ≡ negation x }
 {
     x.wrapping_neg()
 }
@@ -47,7 +47,7 @@ pub(crate) fn shift_right(x: i64, y: i64) -> i64
 /// The quotient, rounded towards zero.
 pub(crate) fn divide(x: i64, y: i64) -> i64
     requires { y ≢ pos 0 }
-    ensures { result ≡ divided x y }
+    ensures { result ≡ quotient x y }
 {
     x.wrapping_div(y)
 }
@@ -55,7 +55,7 @@ pub(crate) fn divide(x: i64, y: i64) -> i64
 /// The remainder, with the dividend's sign.
 pub(crate) fn remain(x: i64, y: i64) -> i64
     requires { y ≢ pos 0 }
-    ensures { result ≡ remained x y }
+    ensures { result ≡ remainder x y }
 {
     x.wrapping_rem(y)
 }
@@ -67,23 +67,23 @@ pub(crate) fn bit_and(x: i64, y: i64) -> i64
     x & y
 }
 
-/// The bits that one of them has.
+/// The bits that at least one of them has.
 pub(crate) fn bit_or(x: i64, y: i64) -> i64
     ensures { result ≡ joined_or x y }
 {
     x | y
 }
 
-/// The bits that just one of them has.
+/// The bits that exactly one of them has.
 pub(crate) fn bit_xor(x: i64, y: i64) -> i64
     ensures { result ≡ joined_xor x y }
 {
     x ^ y
 }
 
-/// Each bit turned.
+/// Each bit inverted.
 pub(crate) fn invert(x: i64) -> i64
-    ensures { result ≡ inverted x }
+    ensures { result ≡ complement x }
 {
     !x
 }

@@ -7,8 +7,9 @@ ghost use Rattle.sh_arith_grammar.specs.Grammar.{arithmetic};
 ghost use Rattle.sh_arith_grammar.specs.Levels.{are_shallow, none_open};
 ghost use Rattle.sh_arith_grammar.specs.Nesting.{is_few};
 
-/// Law: the tokens of an expression open no level past the 500th exactly where nothing in its tree stands in more than
-/// 500 levels.
+/// Law: the tokens of an expression open no level past the 500th exactly where no part of its tree is inside
+/// more than 500 levels.
 pub fn levels_are_nested()
-    ensures { (tokens : List Token) (tree : Tree) → IsTreeOf arithmetic tokens tree → are_shallow none_open tokens ≡ is_few tree 0 }
+    ensures { (tokens : List Token) (tree : Tree) → IsTreeOf arithmetic tokens tree
+        → are_shallow none_open tokens ≡ is_few tree 0 }
 {}

@@ -1,6 +1,6 @@
 //! How many levels of an expression are open while it is read.
 ghost use Rattle.std.specs.Prelude.{◌≡◌, ◌≤◌, ◌∷◌, false, reverse, OnOk, OnErr};
-ghost use Rattle.sh_arith_grammar.specs.Levels.{Open, between, closed, completed, is_deep, none_open, opened, opens_assignment, opens_choice, opens_parenthesis};
+ghost use Rattle.sh_arith_grammar.specs.Levels.{Open, between, after_closing, after_operand, is_deep, none_open, opened, opens_assignment, opens_choice, opens_parenthesis};
 ghost use Rattle.sh_arith_grammar.specs.Stack.{rest, top};
 ghost use Rattle.sh_arith_grammar.specs.Roles.{role_of};
 
@@ -11,15 +11,17 @@ use std::marker::Model;
 /// How many levels may be open.
 const LIMIT: usize = 500;
 
-/// The levels that are open in an expression that is read from left to right. Each parenthesis, prefix operator, `?`
-/// and assignment operator opens one; a row of operators between operands opens none. Contracts see what is open.
+/// The levels that are open in an expression, after the tokens so far. Each parenthesis, prefix operator, `?`
+/// and assignment operator opens a level; operators between operands open none. Contracts see a `Levels` as
+/// the record `Open` of `specs/Levels.antt`.
 #[derive(Drop)]
 pub struct Levels {
     open: usize,
     // the prefix operators that have no operand yet
     prefixes: usize,
-    // what is open again behind each `)` and `:` to come
+    // how many levels are open after each `)` and `:` that is still to come, the innermost last
     behind: Vec<usize>,
+    // whether an operand came last
     operand: bool,
 }
 
@@ -52,7 +54,7 @@ fn pop_count(stack: &mut Vec<usize>) -> usize
 }
 
 impl Levels {
-    /// No level is open. It takes no memory.
+    /// No level is open: the count before the first token. Takes no memory.
     pub fn new(alloc: Global) -> Self
         ensures { result ≡ none_open }
     {
@@ -71,7 +73,8 @@ impl Levels {
         self.open > LIMIT
     }
 
-    /// Goes on behind a token of a class. An `Err` is want of memory, and changes nothing.
+    /// Takes the next token, by its class. Before it at most 500 levels may be open. The only error is want
+    /// of memory, after which the count is as it was.
     pub fn take(&mut self, class: u8) -> Result<(), AllocError>
         requires { is_deep self.old ≡ false }
         ensures ok { OnOk result (self.new ≡ opened (role_of class) self.old) }
@@ -92,9 +95,9 @@ impl Levels {
         Ok(())
     }
 
-    /// An operand is complete, and the prefix operators before it.
+    /// An operand is complete, and so are the prefix operators before it.
     fn complete(&mut self)
-        ensures { self.new ≡ completed self.old }
+        ensures { self.new ≡ after_operand self.old }
     {
         self.open = self.open.saturating_sub(self.prefixes);
         self.prefixes = 0;
@@ -109,7 +112,7 @@ impl Levels {
         self.operand = false;
     }
 
-    /// An operator before its operand, or between two.
+    /// Takes an operator, before its operand or between two.
     fn take_operator(&mut self)
         requires { is_deep self.old ≡ false }
         ensures { self.new ≡ opened Role.Operator self.old }
@@ -151,9 +154,9 @@ impl Levels {
         Ok(())
     }
 
-    /// `)`, which completes an operand, or `:`.
+    /// Takes `)`, which completes an operand, or `:`, which doesn't.
     fn close(&mut self, operand: bool)
-        ensures { self.new ≡ closed self.old.behind operand }
+        ensures { self.new ≡ after_closing self.old.behind operand }
     {
         self.open = pop_count(&mut self.behind);
         self.prefixes = 0;

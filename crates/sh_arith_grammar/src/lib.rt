@@ -1,8 +1,8 @@
 //! What arithmetic expressions of the Shell Command Language are made of (IEEE Std 1003.1-2024, XCU 2.6.4).
 //!
-//! The tokens of a text and the numbers that they write, the operators on integers of 64 bits, the grammar with C's
-//! precedences, and a count of the levels that are open in an expression, of which 500 are served: for a reader of
-//! texts and an evaluator above.
+//! The tokens of a text and the numbers that they write, the operators on integers of 64 bits, the grammar
+//! with C's precedences, and a count of the levels that are open in an expression, at most 500. A reader and
+//! an evaluator of texts use this crate.
 #![tactic(auto)]
 
 mod apply;

@@ -1,14 +1,14 @@
 //! The number that a variable's value writes.
 ghost use Rattle.std.specs.Prelude.{◌≡◌, None, if◌then◌else◌};
 ghost use Rattle.std.specs.List.{list_all};
-ghost use Rattle.sh_arith_grammar.specs.Constants.{bounded, constant_value};
+ghost use Rattle.sh_arith_grammar.specs.Constants.{number_in_bounds, constant_value};
 ghost use Rattle.sh_arith_grammar.specs.Lexical.{first_word};
-ghost use Rattle.sh_arith_grammar.specs.Numbers.{is_magnitude, is_value_blank, negative, number_of, positive, signed, without_blanks};
+ghost use Rattle.sh_arith_grammar.specs.Numbers.{is_magnitude, is_value_blank, negative, number_of, positive, signed_number, without_blanks};
 
 use crate::constants::{constant_value, is_constant};
 use crate::tokens::word_length;
 
-/// Whether a byte may stand around a number: space, tab.
+/// Whether a byte may be before or after a number: space, tab.
 fn is_value_blank(byte: u8) -> bool
     ensures { result ≡ is_value_blank byte }
 {
@@ -21,7 +21,7 @@ fn are_value_blanks(bytes: &[u8]) -> bool
     bytes.iter().all(|byte| is_value_blank(*byte))
 }
 
-/// What stands behind the blanks.
+/// The bytes after the leading blanks.
 fn without_blanks(bytes: &[u8]) -> &[u8]
     ensures { result.now ≡ without_blanks bytes.now }
 {
@@ -35,9 +35,11 @@ fn without_blanks(bytes: &[u8]) -> &[u8]
     left
 }
 
-/// The number that a constant with blanks behind it writes, if it is at most 2^63.
+/// The number that a constant with blanks after it writes, if it is at most 2^63.
 fn magnitude(bytes: &[u8]) -> Option<u64>
-    ensures { result ≡ (if is_magnitude bytes.now then bounded (constant_value (first_word bytes.now)) else None) }
+    ensures { result ≡
+        (if is_magnitude bytes.now then number_in_bounds (constant_value (first_word bytes.now))
+        else None) }
 {
     let length = word_length(bytes);
     let word = &bytes[..length];
@@ -50,7 +52,7 @@ fn magnitude(bytes: &[u8]) -> Option<u64>
     constant_value(word)
 }
 
-/// The number without a sign.
+/// The number of a constant and blanks, without a minus sign.
 fn positive(bytes: &[u8]) -> Option<i64>
     ensures { result ≡ positive bytes.now }
 {
@@ -66,7 +68,7 @@ fn positive(bytes: &[u8]) -> Option<i64>
     }
 }
 
-/// The number with `-` before it.
+/// The number of a constant and blanks, with `-` before them.
 fn negative(bytes: &[u8]) -> Option<i64>
     ensures { result ≡ negative bytes.now }
 {
@@ -82,9 +84,9 @@ fn negative(bytes: &[u8]) -> Option<i64>
     }
 }
 
-/// The number of a sign or none, a constant and blanks.
+/// The number of an optional sign, a constant and blanks.
 fn signed(bytes: &[u8]) -> Option<i64>
-    ensures { result ≡ signed bytes.now }
+    ensures { result ≡ signed_number bytes.now }
 {
     match bytes.split_first() {
         None => None,
@@ -100,9 +102,9 @@ fn signed(bytes: &[u8]) -> Option<i64>
     }
 }
 
-/// The number that a variable's value writes (XCU 2.6.4): spaces and tabs, a sign or none, a constant, spaces and tabs.
-/// An empty value is 0. `None` for what is no number, and for one past 64 bits with a sign; behind `-` the constant may
-/// be 9223372036854775808.
+/// The number that a variable's value writes (XCU 2.6.4): spaces and tabs, an optional sign, a constant,
+/// spaces and tabs. An empty value is 0. `None` where the value is no such number, or the number isn't in 64
+/// bits with a sign. After `-` the constant may be 9223372036854775808.
 pub fn number_of(bytes: &[u8]) -> Option<i64>
     ensures { result ≡ number_of bytes.now }
 {

@@ -1,4 +1,4 @@
-//! The operators, and what each class of tokens is.
+//! The operators, and the role and the operator of each class of tokens.
 ghost use Rattle.std.specs.Prelude.{◌≡◌, slice_index_or};
 ghost use Rattle.sh_arith_grammar.specs.Roles.{operator_of, role_of};
 
@@ -70,7 +70,7 @@ pub enum Role {
     Opening,
     /// `)`.
     Closing,
-    /// What stands in no expression.
+    /// A token that no expression has, or the end.
     Nothing,
 }
 
@@ -117,7 +117,7 @@ const ROLES: [Role; 39] = [
     Role::Nothing, // the end
 ];
 
-/// The operator of each class of tokens; of `+=` it is `+`.
+/// The operator of each class of tokens; for `+=` it is `+`.
 const OPERATORS: [Operator; 39] = [
     Operator::Assign, // a constant
     Operator::Assign, // a name
@@ -186,7 +186,7 @@ fn operator_in(operators: &[Operator], place: usize) -> Operator
     }
 }
 
-/// The operator of a class of tokens; `Assign` where the class is no operator's.
+/// The operator of a class of tokens; for `+=` it is `Plus`. `Assign` where the class is no operator.
 #[tactic(auto, using(crate::proofs::Tied::operator_is))]
 pub fn operator_of(class: u8) -> Operator
     ensures { result ≡ operator_of class }

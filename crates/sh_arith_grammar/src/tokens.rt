@@ -14,7 +14,7 @@ const NAME: u8 = 1;
 /// The class of the first operator.
 const FIRST_OPERATOR: u8 = 2;
 
-/// The class of what stands in no expression.
+/// The class of a token that no expression has.
 const UNKNOWN: u8 = 37;
 
 /// The operators in the order of their classes, longer ones first.
@@ -105,9 +105,9 @@ fn word_class(word: &[u8]) -> u8
     if is_constant(word) { NUMBER } else { UNKNOWN }
 }
 
-/// The class and the length in bytes of the longest token that a text begins with: a constant, a name or an operator.
-/// A word that begins with a digit and is no constant is a token that stands in no expression, and so is one byte of
-/// what begins nothing else.
+/// The class and the length in bytes of the longest token that a text begins with (C 6.4): a constant, a name
+/// or an operator. A word that begins with a digit and is no constant is a token that no expression has. So
+/// is a byte that begins no other token, also a blank. An empty text gives the same answer as such a byte.
 #[tactic(auto, unfolding(crate::specs::Lexical::head))]
 pub fn head(text: &[u8]) -> (u8, usize)
     ensures { result ≡ head text.now }

@@ -3,7 +3,7 @@ use Rattle.std.specs.Prelude.{ℕ, List, [], ◌∷◌, ◌+◌, ◌*◌, ◌-�
 use Rattle.std.specs.List.{list_all}
 use Rattle.std.specs.Char.{is_ascii_digit}
 
--- the value of decimal digits behind others of a value; the first digit counts most
+-- the value of decimal digits after others whose value is given; the first digit counts most
 abbrev pub value_behind : ℕ → List ℕ → ℕ
 value_behind value [] = value
 value_behind value (digit ∷ digits) = value_behind (10 * value + (digit - 48)) digits
@@ -11,11 +11,11 @@ value_behind value (digit ∷ digits) = value_behind (10 * value + (digit - 48))
 abbrev pub value_of : List ℕ → ℕ
 value_of digits = value_behind 0 digits
 
--- a number, if it is at most that
+-- a number, if it is at most the limit
 abbrev pub at_most : ℕ → ℕ → Option ℕ
 at_most limit n = if nat_le n limit then Some n else None
 
--- the number of an operand, which has one to 18 decimal digits
+-- the operand has one to 18 decimal digits and nothing else
 abbrev pub is_number : List ℕ → Bool
 is_number operand = nat_le 1 (length operand) && (nat_le (length operand) 18 && list_all is_ascii_digit operand)
 

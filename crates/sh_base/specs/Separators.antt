@@ -4,7 +4,7 @@ use Rattle.std.specs.Prelude.{ℕ, List, [], ◌∷◌, Option, Some, None}
 abbrev pub default_separators : List ℕ
 default_separators = 32 ∷ 9 ∷ 10 ∷ []
 
--- by the value of IFS
+-- by the value of IFS, None where it is unset, None where it is unset
 abbrev pub separators_by : Option (List ℕ) → List ℕ
 separators_by None = default_separators
 separators_by (Some bytes) = bytes

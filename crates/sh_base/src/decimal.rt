@@ -7,14 +7,15 @@ ghost use Rattle.sh_base.specs.Decimals.{at_most, is_number, number_of, value_of
 /// The greatest number of 18 digits.
 const MAX_NUMBER: u64 = 999_999_999_999_999_999;
 
-/// Whether each byte is a decimal digit; so it is where there is none.
+/// Whether each byte is a decimal digit. It is true of an empty text.
 pub fn all_digits(text: &[u8]) -> bool
     ensures { result ≡ list_all is_ascii_digit text.now }
 {
     text.iter().all(|byte| byte.is_ascii_digit())
 }
 
-/// The value of decimal digits, if it is at most the limit. Other bytes count as digits too: `all_digits` tells them.
+/// The value of decimal digits if that value is at most the limit, else `None`. The value of no digits is 0.
+/// Bytes that aren't digits aren't refused: check them with `all_digits` first.
 pub fn limited_value(digits: &[u8], limit: u64) -> Option<u64>
     ensures { result ≡ at_most limit (value_of digits.now) }
 {

@@ -1,5 +1,5 @@
-//! What most crates stand on: want of memory, lists and shared values that contracts see as plain data, spans of texts, names, decimal
-//! numbers.
+//! What most crates depend on: want of memory, lists and shared values that contracts see as plain data,
+//! spans of texts, names, decimal numbers.
 #![tactic(auto)]
 
 pub mod decimal;

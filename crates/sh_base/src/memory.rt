@@ -1,10 +1,11 @@
-//! Want of memory: the one refusal that every call which grows something may answer, and that no other can be told as.
+//! Want of memory: the one refusal that any call which takes memory may answer. No other refusal becomes it.
 use std::alloc::{AllocError, AllocFailed};
 use thiserror::Error;
 
-/// No memory was found. It is made from an [`AllocError`] alone, the refusal of an allocator; whoever answers it hands that refusal
-/// on, but for the few places that the repository's script of made-up refusals lists. What the call was to change is as it was,
-/// unless the call says otherwise.
+/// No memory was found. It is made from an allocator's refusal alone, an [`AllocError`] or an
+/// [`AllocFailed`]. A function that answers it hands such a refusal on, except at the few places that
+/// `scripts/find_made_refusals.py` lists. What the call was to change is as it was, unless the call says
+/// otherwise.
 #[derive(Clone, Copy, Debug, PartialEq, Eq, Error)]
 #[error("out of memory")]
 pub struct NoMemory {

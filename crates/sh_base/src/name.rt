@@ -10,14 +10,14 @@ pub fn begins_name(byte: u8) -> bool
     byte.is_ascii_lowercase() || byte.is_ascii_uppercase() || byte == b'_'
 }
 
-/// Whether a byte may stand in a name behind its first: a letter, an underscore or a digit.
+/// Whether a byte may be in a name after the first byte: a letter, an underscore or a digit.
 pub fn continues_name(byte: u8) -> bool
     ensures { result ≡ continues_name byte }
 {
     begins_name(byte) || byte.is_ascii_digit()
 }
 
-/// Whether each byte may stand in a name behind its first.
+/// Whether each byte may be in a name after the first byte.
 fn continue_name(bytes: &[u8]) -> bool
     ensures { result ≡ list_all continues_name bytes.now }
 {

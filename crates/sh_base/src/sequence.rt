@@ -72,7 +72,7 @@ impl<T> Sequence<T> {
 }
 
 impl<T: Drop> Sequence<T> {
-    /// Puts an item behind the others. After an `Err`, which only want of memory gives, the items are
+    /// Puts an item after the others. After an `Err`, which only want of memory gives, the items are
     /// as they were.
     pub fn push(&mut self, item: T) -> Result<(), AllocError>
         ensures pushed { OnOk result (self.new ≡ self.old ++ item ∷ []) }
@@ -82,7 +82,7 @@ impl<T: Drop> Sequence<T> {
         Ok(())
     }
 
-    /// Takes the last item.
+    /// Takes the last item off and gives it; `None` where there is no item.
     pub fn pop(&mut self) -> Option<T>
         ensures items { self.old ≡ self.new ++ option_to_list result }
         ensures some { IsSome result ↔ (0 < length self.old) }
@@ -90,14 +90,14 @@ impl<T: Drop> Sequence<T> {
         self.items.pop()
     }
 
-    /// Lets all items go but the first, of which so many stay. Takes no memory.
+    /// Keeps the first `len` items and drops the others. Takes no memory.
     pub fn truncate(&mut self, len: usize)
         ensures { self.new ≡ take len self.old }
     {
         self.items.truncate(len);
     }
 
-    /// Lets all items go. Takes no memory.
+    /// Drops all items. Takes no memory.
     pub fn clear(&mut self)
         ensures { self.new ≡ [] }
     {
@@ -114,7 +114,7 @@ impl<T: Copy> Sequence<T> {
         Ok(Sequence { items })
     }
 
-    /// Puts copies of the items behind the others. After an `Err`, which only want of memory gives, the
+    /// Puts copies of the items after the others. After an `Err`, which only want of memory gives, the
     /// items are as they were.
     pub fn extend_from_slice(&mut self, items: &[T]) -> Result<(), AllocError>
         ensures extended { OnOk result (self.new ≡ self.old ++ items.now) }

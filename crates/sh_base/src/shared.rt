@@ -38,7 +38,7 @@ impl<T: Drop> Shared<T> {
         Ok(Shared { inner })
     }
 
-    /// One more owner. An error is want of memory: there are as many owners as can be counted.
+    /// One more owner. The only error is want of memory; it says that no more owners can be counted.
     pub fn share(&self) -> Result<Self, AllocError>
         ensures { IfOk result (λ shared. shared ≡ self.now) }
     {

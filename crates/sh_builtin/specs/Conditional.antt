@@ -1,7 +1,7 @@
 -- The utility test (XCU test): what it evaluates, by the number of its arguments.
 use Rattle.std.specs.Prelude.{ℕ, List, [], ◌∷◌, ◌||◌, Bool, true, false, not, Option, Some, None, codes, if◌then◌else◌}
 use Rattle.std.specs.Str.{bytes_eq}
-use Rattle.sh_files.specs.Nodes.{FileMap, named}
+use Rattle.sh_files.specs.Nodes.{FileMap, node_of_path}
 use Rattle.sh_files_image.specs.declared.node.Flags.{Flags}
 use Rattle.sh_files_image.specs.declared.node.Node.{Node}
 use Rattle.sh_files_image.specs.declared.node.Node.TheVariants as node
@@ -66,12 +66,12 @@ file_holds file.Filled n = is_filled n
 file_holds file.Writable n = (flags_of n).write
 file_holds file.Executable n = (flags_of n).execute
 
--- what no path names passes no test
+-- where a path names nothing no test passes
 abbrev pub found_holds : FileTest → Option Node → Bool
 found_holds asked None = false
 found_holds asked (Some n) = file_holds asked n
 
--- ---- one operand, behind a primary
+-- ---- one operand, after a primary
 abbrev pub terminal_of : Option ℕ → Verdict
 terminal_of None = verdict.Usage
 terminal_of (Some n) = verdict.Terminal n false
@@ -85,7 +85,7 @@ text_unary word operand =
 
 abbrev pub unary_by : FileMap → List ℕ → List ℕ → List ℕ → Option FileTest → Verdict
 unary_by files directory word operand None = text_unary word operand
-unary_by files directory word operand (Some asked) = verdict.Is (found_holds asked (named files directory operand))
+unary_by files directory word operand (Some asked) = verdict.Is (found_holds asked (node_of_path files directory operand))
 
 unfoldable pub unary : FileMap → List ℕ → List ℕ → List ℕ → Verdict
 unary files directory word operand = unary_by files directory word operand (file_test_of word)
@@ -136,10 +136,10 @@ unfoldable pub is_binary : List ℕ → Bool
 is_binary word = is_binary_by word (comparison_of word)
 
 -- ---- by the number of arguments
-abbrev pub negated : Verdict → Verdict
-negated (verdict.Is holds) = verdict.Is (not holds)
-negated (verdict.Terminal descriptor inverted) = verdict.Terminal descriptor (not inverted)
-negated verdict.Usage = verdict.Usage
+abbrev pub negation : Verdict → Verdict
+negation (verdict.Is holds) = verdict.Is (not holds)
+negation (verdict.Terminal descriptor inverted) = verdict.Terminal descriptor (not inverted)
+negation verdict.Usage = verdict.Usage
 
 abbrev pub is_negation : List ℕ → Bool
 is_negation word = bytes_eq word (codes "!")
@@ -150,24 +150,24 @@ one word = verdict.Is (has_bytes word)
 
 -- two: `!` and one, or a primary and its operand
 unfoldable pub two : FileMap → List ℕ → List ℕ → List ℕ → Verdict
-two files directory first second = if is_negation first then negated (one second) else unary files directory first second
+two files directory first second = if is_negation first then negation (one second) else unary files directory first second
 
 -- three: a primary between its operands, or `!` and two
 unfoldable pub three : FileMap → List ℕ → List ℕ → List ℕ → List ℕ → Verdict
 three files directory first second third =
     if is_binary second then binary first second third
-    else if is_negation first then negated (two files directory second third)
+    else if is_negation first then negation (two files directory second third)
     else verdict.Usage
 
 -- four: `!` and three
 unfoldable pub four : FileMap → List ℕ → List ℕ → List ℕ → List ℕ → List ℕ → Verdict
 four files directory first second third fourth =
-    if is_negation first then negated (three files directory second third fourth) else verdict.Usage
+    if is_negation first then negation (three files directory second third fourth) else verdict.Usage
 
-unfoldable pub evaluated : FileMap → List ℕ → List (List ℕ) → Verdict
-evaluated files directory [] = verdict.Is false
-evaluated files directory (a ∷ []) = one a
-evaluated files directory (a ∷ b ∷ []) = two files directory a b
-evaluated files directory (a ∷ b ∷ c ∷ []) = three files directory a b c
-evaluated files directory (a ∷ b ∷ c ∷ d ∷ []) = four files directory a b c d
-evaluated files directory (a ∷ b ∷ c ∷ d ∷ e ∷ more) = verdict.Usage
+unfoldable pub verdict_of : FileMap → List ℕ → List (List ℕ) → Verdict
+verdict_of files directory [] = verdict.Is false
+verdict_of files directory (a ∷ []) = one a
+verdict_of files directory (a ∷ b ∷ []) = two files directory a b
+verdict_of files directory (a ∷ b ∷ c ∷ []) = three files directory a b c
+verdict_of files directory (a ∷ b ∷ c ∷ d ∷ []) = four files directory a b c d
+verdict_of files directory (a ∷ b ∷ c ∷ d ∷ e ∷ more) = verdict.Usage

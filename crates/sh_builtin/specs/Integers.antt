@@ -11,7 +11,7 @@ abbrev pub negative : Option ℕ → Option Whole
 negative None = None
 negative (Some n) = Some (record { plus = 0; minus = n })
 
--- a number operand behind a sign, or behind none
+-- a number operand after a sign, or without one
 abbrev pub whole_of : List ℕ → Option Whole
 whole_of [] = None
 whole_of (b ∷ bs) =

@@ -23,7 +23,8 @@ exit_with last [] = Leave (left.Shell last)
 exit_with last (operand ∷ []) = exit_by (number_of operand)
 exit_with last (operand ∷ more ∷ others) = Fault fault.Usage
 
--- ---- break and continue name a loop by its number, from 1 for the innermost on; how many loops stand inside it is told
+-- ---- break and continue name a loop by its number, from 1 for the innermost on; what leaves commands tells
+-- how many loops are inside that one
 abbrev pub loop_by : (ℕ → Left) → Option ℕ → Act
 loop_by leave None = Fault fault.Usage
 loop_by leave (Some zero) = Fault fault.Usage

@@ -7,9 +7,9 @@ use sh_builtin_vars::BuiltinFault;
 pub enum Leave {
     /// The shell is left with this status.
     Shell(u8),
-    /// A loop is left, inside which there are so many others around the place.
+    /// A loop is left: the one with so many other loops inside it around the place, so 0 is the innermost.
     Break(u64),
-    /// The run of a loop's body is left, and the loop goes on; inside it there are so many others.
+    /// A run of a loop's body is left, and the loop goes on: the one with so many other loops inside it.
     Continue(u64),
 }
 
@@ -18,7 +18,7 @@ pub enum Leave {
 pub enum Act {
     /// It is done with this status.
     Finish(u8),
-    /// It writes this, and is done with 0; at once where this is empty.
+    /// It writes this text, and is done with 0; at once where the text is empty.
     Write(Text),
     /// Commands are left.
     Leave(Leave),

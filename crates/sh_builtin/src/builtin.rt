@@ -1,7 +1,7 @@
 //! Built-in utilities.
 ghost use Rattle.std.specs.Prelude.{◌≡◌, ◌++◌, IfOk};
 ghost use Rattle.sh_builtin.specs.Builtins.{builtin_of, is_special, name_of};
-ghost use Rattle.sh_builtin.specs.Running.{act_of, built_in, done, echo_text};
+ghost use Rattle.sh_builtin.specs.Running.{act_of, built_in, with_act, echo_text};
 ghost use Rattle.sh_kernel.specs.State.{KernelState, StandsAt};
 
 use crate::act::Act;
@@ -140,7 +140,8 @@ impl Builtin {
         vars: &mut Vars,
         arguments: &[Text],
     ) -> Result<Act, NoMemory>
-        ensures { (s : KernelState) → StandsAt kernel.now s → IfOk result (λ act. done vars.new act ≡ built_in s.machine pid vars.old self arguments.now) }
+        ensures { (s : KernelState) → StandsAt kernel.now s → IfOk result (λ act.
+            with_act vars.new act ≡ built_in s.machine pid vars.old self arguments.now) }
     {
         match self {
             Builtin::Bracket => bracket(kernel, pid, vars, arguments),
@@ -173,7 +174,7 @@ impl Builtin {
     }
 }
 
-/// What an outcome comes to.
+/// The act of an outcome.
 fn act_of(outcome: Outcome) -> Act
     ensures { result ≡ act_of outcome }
 {

@@ -1,6 +1,6 @@
 //! The utility test (XCU test).
 ghost use Rattle.std.specs.Prelude.{◌≡◌, IfOk, option_map};
-ghost use Rattle.sh_builtin.specs.Conditional.{binary, compared_by, comparison_of, compares, evaluated, file_holds, file_test_of, flags_of, found_holds, four, has_bytes, is_binary, is_directory, is_filled, is_negation, is_regular, negated, one, terminal_of, text_binary, text_unary, three, two, unary};
+ghost use Rattle.sh_builtin.specs.Conditional.{binary, compared_by, comparison_of, compares, verdict_of, file_holds, file_test_of, flags_of, found_holds, four, has_bytes, is_binary, is_directory, is_filled, is_negation, is_regular, negation, one, terminal_of, text_binary, text_unary, three, two, unary};
 ghost use Rattle.sh_builtin.specs.Integers.{whole_of};
 
 use crate::number::Whole;
@@ -9,7 +9,7 @@ use sh_base::decimal::number_of;
 use sh_base::sequence::Text;
 use sh_files::{Files, Flags, Node};
 
-/// What `test` comes to.
+/// What `test` answers.
 #[derive(Clone, Copy, Debug, PartialEq, Eq)]
 pub enum Verdict {
     /// Whether the condition holds: the status is 0 or 1.
@@ -18,7 +18,7 @@ pub enum Verdict {
     Terminal {
         /// The descriptor's number.
         descriptor: u64,
-        /// Whether the condition stands behind an odd number of `!`.
+        /// Whether an odd number of `!` is before the condition.
         inverted: bool,
     },
     /// The operands are wrong: the status is 2.
@@ -150,7 +150,7 @@ impl Comparison {
 impl Verdict {
     /// The opposite.
     fn negated(self) -> Verdict
-        ensures { result ≡ negated self }
+        ensures { result ≡ negation self }
     {
         match self {
             Verdict::Is(holds) => Verdict::Is(!holds),
@@ -223,7 +223,7 @@ fn has_bytes(text: &[u8]) -> bool
     !text.is_empty()
 }
 
-/// Whether what was found passes; nothing passes no test.
+/// Whether what was found passes; where nothing was found no test passes.
 fn found_holds(asked: FileTest, found: Option<&Node>) -> bool
     ensures { result ≡ found_holds asked (option_map (λ node. node.now) found.entry) }
 {
@@ -262,7 +262,7 @@ fn text_unary(word: &[u8], operand: &[u8]) -> Verdict
     Verdict::Usage
 }
 
-/// A primary with the operand behind it.
+/// A primary with the operand after it.
 #[tactic(auto, unfolding(crate::specs::Conditional::unary))]
 fn unary(files: &Files, directory: &[u8], word: &[u8], operand: &[u8]) -> Result<Verdict, NoMemory>
     ensures { IfOk result (λ verdict. verdict ≡ unary files.now directory.now word.now operand.now) }
@@ -356,7 +356,8 @@ fn three(
     second: &[u8],
     third: &[u8],
 ) -> Result<Verdict, NoMemory>
-    ensures { IfOk result (λ verdict. verdict ≡ three files.now directory.now first.now second.now third.now) }
+    ensures { IfOk result (λ verdict.
+        verdict ≡ three files.now directory.now first.now second.now third.now) }
 {
     if is_binary(second) {
         return Ok(binary(first, second, third));
@@ -378,7 +379,8 @@ fn four(
     third: &[u8],
     fourth: &[u8],
 ) -> Result<Verdict, NoMemory>
-    ensures { IfOk result (λ verdict. verdict ≡ four files.now directory.now first.now second.now third.now fourth.now) }
+    ensures { IfOk result (λ verdict.
+        verdict ≡ four files.now directory.now first.now second.now third.now fourth.now) }
 {
     if is_negation(first) {
         let verdict = three(files, directory, second, third, fourth)?;
@@ -387,13 +389,14 @@ fn four(
     Ok(Verdict::Usage)
 }
 
-/// What the arguments of `test` come to, those of `[` without the last `]` (XCU test): by their number, with up to four of them. Paths
-/// are those of these files from this directory. The primaries are `-d -e -f -r -s -w -x` with a path, `-t` with a descriptor, `-n -z`
-/// with a text, `= !=` between texts, `-eq -ne -gt -ge -lt -le` between whole numbers of up to 18 digits, and `!`. The only error is
-/// want of memory.
-#[tactic(auto, unfolding(crate::specs::Conditional::evaluated))]
+/// What `test` answers for its arguments, or `[` for those before its `]` (XCU test). It goes by their
+/// number, up to four; more are `Verdict::Usage`. Paths name these files, from this directory. The primaries
+/// are `-d -e -f -r -s -w -x` with a path, `-t` with a descriptor, `-n -z` with a text, `= !=` between texts,
+/// `-eq -ne -gt -ge -lt -le` between whole numbers of up to 18 digits, and `!`. The only error is want of
+/// memory.
+#[tactic(auto, unfolding(crate::specs::Conditional::verdict_of))]
 pub fn evaluate(files: &Files, directory: &[u8], arguments: &[Text]) -> Result<Verdict, NoMemory>
-    ensures { IfOk result (λ verdict. verdict ≡ evaluated files.now directory.now arguments.now) }
+    ensures { IfOk result (λ verdict. verdict ≡ verdict_of files.now directory.now arguments.now) }
 {
     match arguments {
         [] => Ok(Verdict::Is(false)),

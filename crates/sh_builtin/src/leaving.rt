@@ -7,7 +7,7 @@ use sh_base::decimal::number_of;
 use sh_base::sequence::Text;
 use sh_builtin_vars::BuiltinFault;
 
-/// The operands, behind a `--` if there is one.
+/// The operands, after a `--` if there is one.
 pub(crate) fn operands_of(arguments: &[Text]) -> &[Text]
     ensures { result.now ≡ operands_of arguments.now }
 {

@@ -5,12 +5,12 @@ ghost use Rattle.sh_builtin.specs.Integers.{is_equal, is_less, negative, positiv
 
 use sh_base::decimal::number_of;
 
-/// A whole number, as a natural number less another.
+/// A whole number, as the difference of two natural numbers.
 #[derive(Clone, Copy, Debug)]
 pub(crate) struct Whole {
-    /// What it is more than zero.
+    /// The number from which the other is taken.
     pub(crate) plus: u64,
-    /// What it is less than zero.
+    /// The number that is taken from it.
     pub(crate) minus: u64,
 }
 
@@ -52,7 +52,7 @@ fn positive(number: Option<u64>) -> Option<Whole>
     Some(Whole { plus, minus: 0 })
 }
 
-/// A number behind a minus sign as a whole number.
+/// A number after a minus sign as a whole number.
 fn negative(number: Option<u64>) -> Option<Whole>
     ensures { result ≡ negative number }
 {

@@ -1,6 +1,6 @@
 //! The built-ins test and `[` (XCU test).
 ghost use Rattle.std.specs.Prelude.{◌≡◌, IfOk, option_map};
-ghost use Rattle.sh_builtin.specs.Running.{bracketed, front, inverted_by, judged, terminal_at, tested, truth};
+ghost use Rattle.sh_builtin.specs.Running.{bracket_act, prefix, inverted_by, verdict_act, terminal_at, test_act, truth};
 ghost use Rattle.sh_kernel.specs.State.{KernelState, StandsAt};
 
 use crate::act::Act;
@@ -33,7 +33,8 @@ fn inverted_by(inverted: bool, holds: bool) -> bool
 
 /// Whether a descriptor refers to the terminal.
 fn terminal_at(kernel: &Kernel, pid: u32, descriptor: u64) -> bool
-    ensures { (s : KernelState) → StandsAt kernel.now s → result ≡ terminal_at s.machine pid descriptor }
+    ensures { (s : KernelState) → StandsAt kernel.now s
+        → result ≡ terminal_at s.machine pid descriptor }
 {
     if descriptor > 255 {
         return false;
@@ -41,9 +42,9 @@ fn terminal_at(kernel: &Kernel, pid: u32, descriptor: u64) -> bool
     kernel.is_terminal(pid, descriptor as u8)
 }
 
-/// What a verdict comes to.
+/// The act of a verdict.
 fn judge(kernel: &Kernel, pid: u32, verdict: Verdict) -> Act
-    ensures { (s : KernelState) → StandsAt kernel.now s → result ≡ judged s.machine pid verdict }
+    ensures { (s : KernelState) → StandsAt kernel.now s → result ≡ verdict_act s.machine pid verdict }
 {
     match verdict {
         Verdict::Is(holds) => truth(holds),
@@ -56,22 +57,23 @@ fn judge(kernel: &Kernel, pid: u32, verdict: Verdict) -> Act
 }
 
 /// test with its arguments.
-#[tactic(auto, unfolding(crate::specs::Running::tested))]
+#[tactic(auto, unfolding(crate::specs::Running::test_act))]
 pub(crate) fn test(
     kernel: &Kernel,
     pid: u32,
     vars: &Vars,
     arguments: &[Text],
 ) -> Result<Act, NoMemory>
-    ensures { (s : KernelState) → StandsAt kernel.now s → IfOk result (λ act. act ≡ tested s.machine pid vars.now arguments.now) }
+    ensures { (s : KernelState) → StandsAt kernel.now s → IfOk result (λ act.
+        act ≡ test_act s.machine pid vars.now arguments.now) }
 {
     let verdict = evaluate(kernel.files(), vars.directory(), arguments)?;
     Ok(judge(kernel, pid, verdict))
 }
 
 /// The operands of `[`, before its `]`.
-fn front(arguments: &[Text]) -> Option<&[Text]>
-    ensures { option_map (λ operands. operands.now) result ≡ front arguments.now }
+fn prefix(arguments: &[Text]) -> Option<&[Text]>
+    ensures { option_map (λ operands. operands.now) result ≡ prefix arguments.now }
 {
     match arguments.split_last() {
         Some((last, operands)) => {
@@ -91,9 +93,10 @@ pub(crate) fn bracket(
     vars: &Vars,
     arguments: &[Text],
 ) -> Result<Act, NoMemory>
-    ensures { (s : KernelState) → StandsAt kernel.now s → IfOk result (λ act. act ≡ bracketed s.machine pid vars.now (front arguments.now)) }
+    ensures { (s : KernelState) → StandsAt kernel.now s → IfOk result (λ act.
+        act ≡ bracket_act s.machine pid vars.now (prefix arguments.now)) }
 {
-    let Some(operands) = front(arguments) else {
+    let Some(operands) = prefix(arguments) else {
         return Ok(Act::Fault(BuiltinFault::Usage));
     };
     let act = test(kernel, pid, vars, operands)?;

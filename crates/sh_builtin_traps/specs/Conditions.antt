@@ -20,15 +20,15 @@ abbrev pub caught : Option Signal → Option Condition
 caught None = None
 caught (Some s) = Some (Caught s)
 
-abbrev pub numbered : ℕ → Option Condition
-numbered n = if n == 0 then Some Exit else caught (signal.numbered n)
+abbrev pub condition_by_number : ℕ → Option Condition
+condition_by_number n = if n == 0 then Some Exit else caught (signal.signal_with_number n)
 
-abbrev pub named : List ℕ → Option Condition
-named word = if bytes_eq word (codes "EXIT") then Some Exit else caught (signal.named word)
+abbrev pub condition_by_name : List ℕ → Option Condition
+condition_by_name word = if bytes_eq word (codes "EXIT") then Some Exit else caught (signal.signal_with_name word)
 
 abbrev pub condition_by : List ℕ → Option ℕ → Option Condition
-condition_by word None = named word
-condition_by word (Some n) = numbered n
+condition_by word None = condition_by_name word
+condition_by word (Some n) = condition_by_number n
 
 -- the condition of an operand
 abbrev pub condition_of : List ℕ → Option Condition

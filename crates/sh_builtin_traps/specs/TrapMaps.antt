@@ -3,9 +3,10 @@ use Rattle.std.specs.Prelude.{ℕ, List, [], ◌∷◌, ◌++◌, Option, Some, 
 use Rattle.std.specs.Option.{option_and_then}
 use Rattle.sh_builtin_traps.specs.Conditions.{conditions, name_of, place_of}
 use Rattle.sh_builtin_traps.specs.declared.condition.Condition.{Condition}
-use Rattle.sh_builtin_vars.specs.Listing.{quoted}
+use Rattle.sh_builtin_vars.specs.Listing.{in_quotes}
 
--- by the conditions' numbers, from 0 to 22; where there is no action, the default is done, and an empty one ignores a signal
+-- by the conditions' numbers, from 0 to 22; where there is no action, the default is done; an empty action
+-- ignores a signal
 abbrev pub TrapMap : Type 0
 TrapMap = List (Option (List ℕ))
 
@@ -23,21 +24,21 @@ abbrev pub ignored_by : List ℕ → Option (List ℕ)
 ignored_by [] = Some []
 ignored_by (b ∷ bs) = None
 
-abbrev pub ignored : Option (List ℕ) → Option (List ℕ)
-ignored None = None
-ignored (Some action) = ignored_by action
+abbrev pub subshell_action : Option (List ℕ) → Option (List ℕ)
+subshell_action None = None
+subshell_action (Some action) = ignored_by action
 
 abbrev pub in_subshell : TrapMap → TrapMap
-in_subshell traps = map ignored traps
+in_subshell traps = map subshell_action traps
 
 -- ---- as they are listed: lines that a shell can read again, in the order of the numbers
 abbrev pub line : Condition → Option (List ℕ) → List ℕ
 line condition None = []
-line condition (Some action) = codes "trap -- " ++ quoted action ++ 32 ∷ name_of condition ++ 10 ∷ []
+line condition (Some action) = codes "trap -- " ++ in_quotes action ++ 32 ∷ name_of condition ++ 10 ∷ []
 
 abbrev pub lines : TrapMap → List Condition → List ℕ
 lines traps [] = []
 lines traps (condition ∷ others) = line condition (action_of traps condition) ++ lines traps others
 
-abbrev pub listed : TrapMap → List ℕ
-listed traps = lines traps conditions
+abbrev pub trap_listing : TrapMap → List ℕ
+trap_listing traps = lines traps conditions

@@ -1,6 +1,6 @@
 //! The conditions of traps.
 ghost use Rattle.std.specs.Prelude.{◌≡◌};
-ghost use Rattle.sh_builtin_traps.specs.Conditions.{caught, condition_of, name_of, named, numbered, place_of};
+ghost use Rattle.sh_builtin_traps.specs.Conditions.{caught, condition_of, name_of, condition_by_name, condition_by_number, place_of};
 
 use sh_base::decimal::number_of;
 use sh_signal::Signal;
@@ -26,7 +26,7 @@ fn caught(signal: Option<Signal>) -> Option<Condition>
 
 /// The condition of a number.
 fn numbered(number: u64) -> Option<Condition>
-    ensures { result ≡ numbered number }
+    ensures { result ≡ condition_by_number number }
 {
     if number == 0 {
         return Some(Condition::Exit);
@@ -36,7 +36,7 @@ fn numbered(number: u64) -> Option<Condition>
 
 /// The condition of a name.
 fn named(word: &[u8]) -> Option<Condition>
-    ensures { result ≡ named word.now }
+    ensures { result ≡ condition_by_name word.now }
 {
     if word == b"EXIT".as_slice() {
         return Some(Condition::Exit);

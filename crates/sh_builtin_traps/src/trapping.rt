@@ -1,6 +1,6 @@
 //! The built-in trap (XCU 2.15).
 ghost use Rattle.std.specs.Prelude.{◌≡◌, IfOk, option_map};
-ghost use Rattle.sh_builtin_traps.specs.Trapping.{action_in, set_all, set_behind, trap_ran, trap_with, trapped};
+ghost use Rattle.sh_builtin_traps.specs.Trapping.{action_in, set_all, set_behind, trap_ran, trap_with, with_outcome};
 
 use crate::condition::Condition;
 use crate::traps::Traps;
@@ -23,14 +23,16 @@ fn copy_action(alloc: Global, action: Option<&[u8]>) -> Result<Option<Text>, NoM
     }
 }
 
-/// Conditions, up to one that is none.
+/// Gives conditions an action, or the default, up to a word that is no condition.
 fn set_all(
     alloc: Global,
     traps: &mut Traps,
     action: Option<&[u8]>,
     words: &[Text],
 ) -> Result<Outcome, NoMemory>
-    ensures { IfOk result (λ outcome. trapped traps.new outcome ≡ set_all traps.old (option_map (λ action. action.now) action.entry) words.now) }
+    ensures { IfOk result (λ outcome.
+        with_outcome traps.new outcome ≡ set_all traps.old
+        (option_map (λ action. action.now) action.entry) words.now) }
 {
     let mut rest = words;
     'words: while let Some((word, others)) = rest.split_first() {
@@ -45,7 +47,7 @@ fn set_all(
     Ok(Outcome::Done(0))
 }
 
-/// The action that a word is.
+/// The action that a word gives; `None` for `-`, which means the default.
 fn action_in(word: &[u8]) -> Option<&[u8]>
     ensures { option_map (λ action. action.now) result ≡ action_in word.now }
 {
@@ -55,14 +57,15 @@ fn action_in(word: &[u8]) -> Option<&[u8]>
     Some(word)
 }
 
-/// An action, and conditions.
+/// Gives the conditions after an action that action.
 fn set_behind(
     alloc: Global,
     traps: &mut Traps,
     action: &[u8],
     words: &[Text],
 ) -> Result<Outcome, NoMemory>
-    ensures { IfOk result (λ outcome. trapped traps.new outcome ≡ set_behind traps.old action.now words.now) }
+    ensures { IfOk result (λ outcome.
+        with_outcome traps.new outcome ≡ set_behind traps.old action.now words.now) }
 {
     if words.is_empty() {
         return Ok(Outcome::Fault(BuiltinFault::Usage));
@@ -72,7 +75,8 @@ fn set_behind(
 
 /// trap with its operands.
 fn trap_with(alloc: Global, traps: &mut Traps, operands: &[Text]) -> Result<Outcome, NoMemory>
-    ensures { IfOk result (λ outcome. trapped traps.new outcome ≡ trap_with traps.old operands.now) }
+    ensures { IfOk result (λ outcome.
+        with_outcome traps.new outcome ≡ trap_with traps.old operands.now) }
 {
     let Some((first, others)) = operands.split_first() else {
         let text = traps.list(alloc)?;
@@ -84,14 +88,17 @@ fn trap_with(alloc: Global, traps: &mut Traps, operands: &[Text]) -> Result<Outc
     set_behind(alloc, traps, first.as_slice(), others)
 }
 
-/// trap with its arguments (XCU 2.15): the first operand becomes the action of the conditions behind it, from left to right; `-` brings
-/// back the default, an empty one ignores a signal. Where the first operand is a number, all are conditions, and have the default. A
-/// condition is `EXIT` or a signal's name without SIG, in capital letters, or its number, 0 for the exit; one on KILL or STOP is kept and
-/// never taken. Without operands the traps are listed. Refused are options, an action alone, and a word that is no condition; conditions
-/// before that have the action. The only error is want of memory; what the traps are then is left open.
+/// `trap` with its arguments (XCU 2.15). The first operand becomes the action of the conditions after it,
+/// from left to right; `-` brings back the default, and an empty action ignores a signal. Where the first
+/// operand is a number, all operands are conditions, and get the default. A condition is `EXIT` or a signal's
+/// name without SIG, in capital letters, or its number, 0 for the exit. A trap on KILL or STOP is kept and
+/// never taken. Without operands the traps are listed. Refused are options, an action alone, and a word that
+/// is no condition; the conditions before that word have the action. The only error is want of memory; what
+/// the traps are then is left open.
 #[tactic(auto, unfolding(crate::specs::Trapping::trap_ran))]
 pub fn trap(alloc: Global, traps: &mut Traps, arguments: &[Text]) -> Result<Outcome, NoMemory>
-    ensures { IfOk result (λ outcome. trapped traps.new outcome ≡ trap_ran traps.old arguments.now) }
+    ensures { IfOk result (λ outcome.
+        with_outcome traps.new outcome ≡ trap_ran traps.old arguments.now) }
 {
     let Some((_, operands)) = parse_options(b"", arguments) else {
         return Ok(Outcome::Fault(BuiltinFault::Usage));

@@ -1,6 +1,6 @@
 //! The traps of a shell.
 ghost use Rattle.std.specs.Prelude.{◌≡◌, ◌++◌, IfOk, OnOk, None, option_map, replicate};
-ghost use Rattle.sh_builtin_traps.specs.TrapMaps.{action_of, ignored, in_subshell, line, lines, listed, none_set, with_action};
+ghost use Rattle.sh_builtin_traps.specs.TrapMaps.{action_of, subshell_action, in_subshell, line, lines, trap_listing, none_set, with_action};
 ghost use Rattle.sh_builtin_traps.specs.Conditions.{conditions};
 
 use crate::condition::Condition;
@@ -25,7 +25,7 @@ impl Model for Traps {
     ghost view = { λ traps. traps.actions.items };
 }
 
-/// How many numbers there are, from 0 on.
+/// How many numbers there are of conditions, from 0 on.
 const NUMBERS: usize = 23;
 
 /// The conditions in the order in which they are listed.
@@ -62,7 +62,7 @@ fn no_actions(alloc: Global) -> Result<Vec<Option<Text>>, NoMemory>
 
 /// What a subshell does in place of an action.
 fn ignored(alloc: Global, action: &Option<Text>) -> Option<Text>
-    ensures { result ≡ ignored action.now }
+    ensures { result ≡ subshell_action action.now }
 {
     match action {
         Some(action) => {
@@ -88,9 +88,10 @@ fn all_ignored(alloc: Global, actions: &[Option<Text>]) -> Result<Vec<Option<Tex
     Ok(left)
 }
 
-/// Puts the line of a condition behind a text, if it has an action.
+/// Adds the line of a condition to a text, if the condition has an action.
 fn put_line(text: &mut Text, condition: Condition, action: Option<&[u8]>) -> Result<(), NoMemory>
-    ensures { OnOk result (text.new ≡ text.old ++ line condition (option_map (λ action. action.now) action.entry)) }
+    ensures { OnOk result
+        (text.new ≡ text.old ++ line condition (option_map (λ action. action.now) action.entry)) }
 {
     match action {
         Some(action) => {
@@ -158,7 +159,7 @@ impl Traps {
     /// The traps as `trap` lists them: a line for each that has an action, which a shell can read again, the exit first and signals by
     /// their numbers. The only error is want of memory.
     pub fn list(&self, alloc: Global) -> Result<Text, NoMemory>
-        ensures { IfOk result (λ text. text ≡ listed self.now) }
+        ensures { IfOk result (λ text. text ≡ trap_listing self.now) }
     {
         self.lines(alloc, &CONDITIONS)
     }

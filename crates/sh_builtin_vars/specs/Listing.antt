@@ -3,10 +3,10 @@ use Rattle.std.specs.Prelude.{ℕ, List, [], ◌∷◌, ◌++◌, ◌==◌, Bool
 use Rattle.std.specs.FinMap.{entries}
 use Rattle.sh_builtin_vars.specs.declared.listing.Listing.{Listing}
 use Rattle.sh_builtin_vars.specs.declared.listing.Listing.TheVariants.{Values, Marked}
-use Rattle.sh_builtin_vars.specs.declared.marks.Mark.TheVariants.{Export, ReadOnly}
+use Rattle.sh_builtin_vars.specs.declared.attribute.Attribute.TheVariants.{Export, ReadOnly}
 use Rattle.sh_vars.specs.Environment.{Environment, Variable}
 
--- ---- a value stands in single quotes, each single quote of its own behind a backslash between two such texts (2.2.1, 2.2.2)
+-- ---- a value is put in single quotes, and each single quote in it becomes '\'' (2.2.1, 2.2.2)
 abbrev pub quoted_byte : ℕ → List ℕ
 quoted_byte b = if b == 39 then 39 ∷ 92 ∷ 39 ∷ 39 ∷ [] else b ∷ []
 
@@ -14,8 +14,8 @@ abbrev pub quoted_bytes : List ℕ → List ℕ
 quoted_bytes [] = []
 quoted_bytes (b ∷ bs) = quoted_byte b ++ quoted_bytes bs
 
-abbrev pub quoted : List ℕ → List ℕ
-quoted value = 39 ∷ quoted_bytes value ++ 39 ∷ []
+abbrev pub in_quotes : List ℕ → List ℕ
+in_quotes value = 39 ∷ quoted_bytes value ++ 39 ∷ []
 
 -- ---- a line: the built-in that makes the variable so, its name, and its value if it is set
 abbrev pub word_of : Listing → List ℕ
@@ -25,7 +25,7 @@ word_of (Marked ReadOnly) = codes "readonly "
 
 abbrev pub value_text : Option (List ℕ) → List ℕ
 value_text None = []
-value_text (Some value) = 61 ∷ quoted value
+value_text (Some value) = 61 ∷ in_quotes value
 
 unfoldable pub line : Listing → List ℕ → Variable → List ℕ
 line how name variable = word_of how ++ name ++ value_text variable.value ++ 10 ∷ []
@@ -45,5 +45,5 @@ lines how [] = []
 lines how (entry ∷ others) = if is_listed how entry.1 then line how entry.0 entry.1 ++ lines how others else lines how others
 
 -- in the order of the names' bytes
-abbrev pub listed : Listing → Environment → List ℕ
-listed how env = lines how (entries env.variables)
+abbrev pub listing_text : Listing → Environment → List ℕ
+listing_text how env = lines how (entries env.variables)

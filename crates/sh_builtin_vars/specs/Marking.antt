@@ -1,11 +1,11 @@
 -- export and readonly (XCU 2.15): variables are marked, and given values.
 use Rattle.std.specs.Prelude.{ℕ, ◌+◌, List, [], ◌∷◌, ◌==◌, Option, Some, None, codes, drop, take, position, if◌then◌else◌}
-use Rattle.sh_builtin_vars.specs.Listing.{listed}
-use Rattle.sh_builtin_vars.specs.Options.{Parsed, parsed}
-use Rattle.sh_builtin_vars.specs.Outcomes.{Ran, Stepped, behind, misused, ran, stepped}
+use Rattle.sh_builtin_vars.specs.Listing.{listing_text}
+use Rattle.sh_builtin_vars.specs.Options.{Parsed, options_and_operands}
+use Rattle.sh_builtin_vars.specs.Outcomes.{Ran, Stepped, behind, misuse, with_outcome, with_fault}
 use Rattle.sh_builtin_vars.specs.declared.listing.Listing.TheVariants.{Marked}
-use Rattle.sh_builtin_vars.specs.declared.marks.Mark.{Mark}
-use Rattle.sh_builtin_vars.specs.declared.marks.Mark.TheVariants.{Export, ReadOnly}
+use Rattle.sh_builtin_vars.specs.declared.attribute.Attribute.{Attribute}
+use Rattle.sh_builtin_vars.specs.declared.attribute.Attribute.TheVariants.{Export, ReadOnly}
 use Rattle.sh_builtin_vars.specs.declared.outcome.BuiltinFault.TheVariants as fault
 use Rattle.sh_builtin_vars.specs.declared.outcome.Outcome.TheVariants.{Done, Output}
 use Rattle.sh_vars.specs.Environment.{Environment, is_read_only, with_export, with_read_only, with_value}
@@ -30,36 +30,36 @@ abbrev pub value_in : List ℕ → Option (List ℕ)
 value_in operand = value_by operand (equals_in operand)
 
 -- ---- one operand; a value is given before the mark
-abbrev pub marked : Mark → Environment → List ℕ → Environment
-marked Export env name = with_export env name
-marked ReadOnly env name = with_read_only env name
+abbrev pub with_attribute : Attribute → Environment → List ℕ → Environment
+with_attribute Export env name = with_export env name
+with_attribute ReadOnly env name = with_read_only env name
 
-abbrev pub marked_with : Mark → Environment → List ℕ → Option (List ℕ) → Stepped
-marked_with mark env name None = stepped (marked mark env name) None
-marked_with mark env name (Some value) =
-    if is_read_only env name then stepped env (Some (fault.ReadOnly name))
-    else stepped (marked mark (with_value env name value) name) None
+abbrev pub marked_with : Attribute → Environment → List ℕ → Option (List ℕ) → Stepped
+marked_with attribute env name None = with_fault (with_attribute attribute env name) None
+marked_with attribute env name (Some value) =
+    if is_read_only env name then with_fault env (Some (fault.ReadOnly name))
+    else with_fault (with_attribute attribute (with_value env name value) name) None
 
-unfoldable pub marked_one : Mark → Environment → List ℕ → Stepped
-marked_one mark env operand =
-    if is_name (name_in operand) then marked_with mark env (name_in operand) (value_in operand)
-    else stepped env (Some (fault.BadName operand))
+unfoldable pub marked_one : Attribute → Environment → List ℕ → Stepped
+marked_one attribute env operand =
+    if is_name (name_in operand) then marked_with attribute env (name_in operand) (value_in operand)
+    else with_fault env (Some (fault.BadName operand))
 
 -- ---- operands from left to right, up to one that is refused
-abbrev pub marked_all : Mark → Environment → List (List ℕ) → Ran
-marked_all mark env [] = ran env (Done 0)
-marked_all mark env (operand ∷ others) =
-    let step = marked_one mark env operand in behind step.environment step.fault (λ after. marked_all mark after others)
+abbrev pub marked_all : Attribute → Environment → List (List ℕ) → Ran
+marked_all attribute env [] = with_outcome env (Done 0)
+marked_all attribute env (operand ∷ others) =
+    let step = marked_one attribute env operand in behind step.environment step.fault (λ after. marked_all attribute after others)
 
 -- ---- without operands, or with -p, the variables that are marked are listed
-abbrev pub mark_listed : Mark → Environment → Ran
-mark_listed mark env = ran env (Output (listed (Marked mark) env))
+abbrev pub mark_listed : Attribute → Environment → Ran
+mark_listed attribute env = with_outcome env (Output (listing_text (Marked attribute) env))
 
-abbrev pub mark_by : Mark → Environment → Option Parsed → Ran
-mark_by mark env None = misused env
-mark_by mark env (Some (last, [])) = mark_listed mark env
-mark_by mark env (Some (None, operand ∷ others)) = marked_all mark env (operand ∷ others)
-mark_by mark env (Some (Some letter, operand ∷ others)) = misused env
+abbrev pub mark_by : Attribute → Environment → Option Parsed → Ran
+mark_by attribute env None = misuse env
+mark_by attribute env (Some (last, [])) = mark_listed attribute env
+mark_by attribute env (Some (None, operand ∷ others)) = marked_all attribute env (operand ∷ others)
+mark_by attribute env (Some (Some letter, operand ∷ others)) = misuse env
 
-unfoldable pub mark_ran : Mark → Environment → List (List ℕ) → Ran
-mark_ran mark env arguments = mark_by mark env (parsed (codes "p") arguments)
+unfoldable pub mark_ran : Attribute → Environment → List (List ℕ) → Ran
+mark_ran attribute env arguments = mark_by attribute env (options_and_operands (codes "p") arguments)

@@ -1,9 +1,9 @@
 //! The built-ins cd and pwd (XCU cd, pwd).
 ghost use Rattle.std.specs.Prelude.{◌≡◌, [], IfOk, OnOk, codes, false};
-ghost use Rattle.sh_builtin_vars.specs.Directories.{arrived, back, cd_ran, cd_with, directory_at, gone, is_directory, line, moved, new_name, old_name, pwd_outcome, shown};
+ghost use Rattle.sh_builtin_vars.specs.Directories.{arrival, back, cd_ran, cd_with, directory_at, directory_change, is_directory, line, environment_at, new_name, old_name, pwd_outcome, cd_outcome};
 ghost use Rattle.sh_builtin_vars.specs.Walks.{through};
-ghost use Rattle.sh_builtin_vars.specs.Outcomes.{ran};
-ghost use Rattle.sh_files.specs.Nodes.{named};
+ghost use Rattle.sh_builtin_vars.specs.Outcomes.{with_outcome};
+ghost use Rattle.sh_files.specs.Nodes.{node_of_path};
 ghost use Rattle.sh_files_image.specs.Paths.{absolute, components};
 ghost use Rattle.sh_vars.specs.Environment.{is_read_only, value_of};
 
@@ -17,7 +17,7 @@ use sh_files_image::{absolute, split_slash, step};
 use sh_vars::Vars;
 use std::alloc::Global;
 
-/// From the root along the components of a path.
+/// Where the components of a path lead from the root by their text.
 fn go_through(alloc: Global, path: &[u8]) -> Result<Text, NoMemory>
     ensures { IfOk result (λ place. place ≡ through (codes "/") (components path.now)) }
 {
@@ -40,9 +40,9 @@ fn line(alloc: Global, place: &[u8]) -> Result<Text, NoMemory>
     Ok(text)
 }
 
-/// What is written on arriving.
+/// What `cd` writes on arriving.
 fn shown(alloc: Global, shows: bool, place: &[u8]) -> Result<Outcome, NoMemory>
-    ensures { IfOk result (λ outcome. outcome ≡ shown shows place.now) }
+    ensures { IfOk result (λ outcome. outcome ≡ cd_outcome shows place.now) }
 {
     if !shows {
         return Ok(Outcome::Done(0));
@@ -55,7 +55,7 @@ fn shown(alloc: Global, shows: bool, place: &[u8]) -> Result<Outcome, NoMemory>
 fn move_to(alloc: Global, vars: &mut Vars, place: &[u8]) -> Result<(), NoMemory>
     requires old { is_read_only vars.old old_name ≡ false }
     requires new { is_read_only vars.old new_name ≡ false }
-    ensures { OnOk result (vars.new ≡ moved vars.old place.now) }
+    ensures { OnOk result (vars.new ≡ environment_at vars.old place.now) }
 {
     let directory = Text::copy_of(alloc, place)?;
     let old = Text::copy_of(alloc, vars.directory())?;
@@ -81,9 +81,10 @@ fn cannot_open(alloc: Global, word: &[u8]) -> Result<Outcome, NoMemory>
     Ok(Outcome::Fault(BuiltinFault::CannotOpen(word)))
 }
 
-/// At a directory.
+/// Arrives at a directory: OLDPWD and PWD are set, unless one of them is read-only.
 fn arrive(alloc: Global, shows: bool, vars: &mut Vars, place: &[u8]) -> Result<Outcome, NoMemory>
-    ensures { IfOk result (λ outcome. ran vars.new outcome ≡ arrived shows vars.old place.now) }
+    ensures { IfOk result (λ outcome.
+        with_outcome vars.new outcome ≡ arrival shows vars.old place.now) }
 {
     if is_read_only(vars, b"OLDPWD") {
         return read_only(alloc, b"OLDPWD");
@@ -96,9 +97,10 @@ fn arrive(alloc: Global, shows: bool, vars: &mut Vars, place: &[u8]) -> Result<O
     Ok(outcome)
 }
 
-/// From the root to where a path leads by its text.
+/// Where a path leads by its text.
 fn place_of(alloc: Global, directory: &[u8], path: &[u8]) -> Result<Text, NoMemory>
-    ensures { IfOk result (λ place. place ≡ through (codes "/") (components (absolute directory.now path.now))) }
+    ensures { IfOk result (λ place.
+        place ≡ through (codes "/") (components (absolute directory.now path.now))) }
 {
     let whole = absolute(alloc, directory, path)?;
     go_through(alloc, whole.as_slice())
@@ -106,7 +108,8 @@ fn place_of(alloc: Global, directory: &[u8], path: &[u8]) -> Result<Text, NoMemo
 
 /// Whether a path leads to a directory.
 fn leads_to_directory(files: &Files, directory: &[u8], path: &[u8]) -> Result<bool, NoMemory>
-    ensures { IfOk result (λ leads. leads ≡ is_directory (named files.now directory.now path.now)) }
+    ensures { IfOk result (λ leads.
+        leads ≡ is_directory (node_of_path files.now directory.now path.now)) }
 {
     match files.find(directory, path)? {
         Some(Node::Directory) => Ok(true),
@@ -117,7 +120,7 @@ fn leads_to_directory(files: &Files, directory: &[u8], path: &[u8]) -> Result<bo
     }
 }
 
-/// The path from the root of the directory that a path leads to, if it leads to one.
+/// The absolute path of the directory that a path leads to, if it leads to one.
 fn find_directory(
     alloc: Global,
     files: &Files,
@@ -133,8 +136,8 @@ fn find_directory(
     Ok(Some(place))
 }
 
-/// To where a path leads that was asked for by a word.
-#[tactic(auto, unfolding(crate::specs::Directories::gone))]
+/// Goes to the directory that a path leads to. A refusal names the word by which the path was asked for.
+#[tactic(auto, unfolding(crate::specs::Directories::directory_change))]
 fn go(
     alloc: Global,
     shows: bool,
@@ -143,7 +146,9 @@ fn go(
     word: &[u8],
     path: &[u8],
 ) -> Result<Outcome, NoMemory>
-    ensures { IfOk result (λ outcome. ran vars.new outcome ≡ gone shows files.now vars.old word.now path.now) }
+    ensures { IfOk result (λ outcome.
+        with_outcome vars.new outcome ≡ directory_change shows files.now vars.old word.now
+        path.now) }
 {
     match find_directory(alloc, files, vars.directory(), path)? {
         Some(place) => arrive(alloc, shows, vars, place.as_slice()),
@@ -164,9 +169,10 @@ fn value_of(alloc: Global, vars: &Vars, name: &[u8]) -> Result<Option<Text>, NoM
     }
 }
 
-/// Back to the directory before.
+/// Goes back to the directory of OLDPWD.
 fn go_back(alloc: Global, files: &Files, vars: &mut Vars) -> Result<Outcome, NoMemory>
-    ensures { IfOk result (λ outcome. ran vars.new outcome ≡ back files.now vars.old (value_of vars.old old_name)) }
+    ensures { IfOk result (λ outcome.
+        with_outcome vars.new outcome ≡ back files.now vars.old (value_of vars.old old_name)) }
 {
     let Some(path) = value_of(alloc, vars, b"OLDPWD")? else {
         return cannot_open(alloc, b"-");
@@ -177,9 +183,9 @@ fn go_back(alloc: Global, files: &Files, vars: &mut Vars) -> Result<Outcome, NoM
     go(alloc, true, files, vars, b"-", path.as_slice())
 }
 
-/// To the user's own directory.
+/// Goes to the directory of HOME.
 fn go_home(alloc: Global, files: &Files, vars: &mut Vars) -> Result<Outcome, NoMemory>
-    ensures { IfOk result (λ outcome. ran vars.new outcome ≡ cd_with files.now vars.old []) }
+    ensures { IfOk result (λ outcome. with_outcome vars.new outcome ≡ cd_with files.now vars.old []) }
 {
     match value_of(alloc, vars, b"HOME")? {
         Some(home) => go(alloc, false, files, vars, home.as_slice(), home.as_slice()),
@@ -194,7 +200,8 @@ fn cd_with(
     vars: &mut Vars,
     operands: &[Text],
 ) -> Result<Outcome, NoMemory>
-    ensures { IfOk result (λ outcome. ran vars.new outcome ≡ cd_with files.now vars.old operands.now) }
+    ensures { IfOk result (λ outcome.
+        with_outcome vars.new outcome ≡ cd_with files.now vars.old operands.now) }
 {
     match operands {
         [] => go_home(alloc, files, vars),
@@ -215,11 +222,13 @@ fn cd_with(
     }
 }
 
-/// cd with its arguments (XCU cd): the working directory is the one that its operand leads to from there, without an operand that of
-/// HOME; `-` leads to that of OLDPWD, which is written. OLDPWD and PWD have the directory before and the one now. Dot and dot-dot are
-/// taken by the path's text, and each part has to be a directory; `-L` and `-P` come to the same, as there are no symbolic links.
-/// Refused are other options, two operands, a path to no directory (the operand is named, also where it is `-`, or else HOME's value), and
-/// a change of OLDPWD or PWD where that is read-only; all is then as before. The only error is want of memory; what the variables are then is left open.
+/// `cd` with its arguments (XCU cd). The working directory becomes the one that the operand leads to. Without
+/// an operand it becomes the one of HOME, with `-` the one of OLDPWD, which is then written. OLDPWD is then
+/// the directory before, and PWD the new one. Dot and dot-dot are resolved by the path's text, and each part
+/// of the path has to be a directory. `-L` and `-P` do the same, as there are no symbolic links. Refused are
+/// other options, two operands, a path that leads to no directory, and a read-only OLDPWD or PWD; nothing has
+/// changed then. The refusal of a path names the operand or, without one, HOME's value. The only error is
+/// want of memory; what the variables are then is left open.
 #[tactic(auto, unfolding(crate::specs::Directories::cd_ran))]
 pub fn cd(
     alloc: Global,
@@ -227,7 +236,8 @@ pub fn cd(
     vars: &mut Vars,
     arguments: &[Text],
 ) -> Result<Outcome, NoMemory>
-    ensures { IfOk result (λ outcome. ran vars.new outcome ≡ cd_ran files.now vars.old arguments.now) }
+    ensures { IfOk result (λ outcome.
+        with_outcome vars.new outcome ≡ cd_ran files.now vars.old arguments.now) }
 {
     let Some((_, operands)) = parse_options(b"LP", arguments) else {
         return Ok(Outcome::Fault(BuiltinFault::Usage));
@@ -235,8 +245,8 @@ pub fn cd(
     cd_with(alloc, files, vars, operands)
 }
 
-/// pwd with its arguments (XCU pwd): the working directory is written; `-L` and `-P` come to the same. Refused are other options, and
-/// operands. The only error is want of memory.
+/// pwd with its arguments (XCU pwd): the working directory is written; `-L` and `-P` do the same. Other
+/// options and operands are refused. The only error is want of memory.
 #[tactic(auto, unfolding(crate::specs::Directories::pwd_outcome))]
 pub fn pwd(alloc: Global, vars: &Vars, arguments: &[Text]) -> Result<Outcome, NoMemory>
     ensures { IfOk result (λ outcome. outcome ≡ pwd_outcome vars.now arguments.now) }

@@ -1,8 +1,8 @@
 //! Variables as built-ins list them.
 ghost use Rattle.std.specs.Prelude.{◌≡◌, ◌++◌, IfOk, OnOk};
-ghost use Rattle.sh_builtin_vars.specs.Listing.{is_listed, line, lines, listed, quoted, quoted_byte, quoted_bytes, value_text, word_of};
+ghost use Rattle.sh_builtin_vars.specs.Listing.{is_listed, line, lines, listing_text, in_quotes, quoted_byte, quoted_bytes, value_text, word_of};
 
-use crate::marks::Mark;
+use crate::attribute::Attribute;
 use sh_base::NoMemory;
 use sh_base::sequence::{Sequence, Text};
 use sh_vars::{Entry, Vars};
@@ -14,7 +14,7 @@ pub(crate) enum Listing {
     /// Variables that are set, with their values.
     Values,
     /// Variables that are marked.
-    Marked(Mark),
+    Marked(Attribute),
 }
 
 impl Listing {
@@ -24,8 +24,8 @@ impl Listing {
     {
         match self {
             Listing::Values => b"",
-            Listing::Marked(Mark::Export) => b"export ",
-            Listing::Marked(Mark::ReadOnly) => b"readonly ",
+            Listing::Marked(Attribute::Export) => b"export ",
+            Listing::Marked(Attribute::ReadOnly) => b"readonly ",
         }
     }
 
@@ -35,13 +35,13 @@ impl Listing {
     {
         match self {
             Listing::Values => entry.value().is_some(),
-            Listing::Marked(Mark::Export) => entry.is_exported(),
-            Listing::Marked(Mark::ReadOnly) => entry.is_read_only(),
+            Listing::Marked(Attribute::Export) => entry.is_exported(),
+            Listing::Marked(Attribute::ReadOnly) => entry.is_read_only(),
         }
     }
 }
 
-/// Puts a byte of a value behind a text.
+/// Adds a byte of a value to a text.
 fn put_byte(text: &mut Text, byte: u8) -> Result<(), NoMemory>
     ensures { OnOk result (text.new ≡ text.old ++ quoted_byte byte) }
 {
@@ -53,7 +53,7 @@ fn put_byte(text: &mut Text, byte: u8) -> Result<(), NoMemory>
     Ok(())
 }
 
-/// Puts the bytes of a value behind a text.
+/// Adds the bytes of a value to a text.
 fn put_bytes(text: &mut Text, value: &[u8]) -> Result<(), NoMemory>
     ensures { OnOk result (text.new ≡ text.old ++ quoted_bytes value.now) }
 {
@@ -65,10 +65,10 @@ fn put_bytes(text: &mut Text, value: &[u8]) -> Result<(), NoMemory>
     Ok(())
 }
 
-/// Puts a value in single quotes behind a text, so that a shell can read it again; each single quote in it becomes `'\''` (XCU 2.2.1,
-/// 2.2.2). The only error is want of memory; what the text is then is left open.
+/// Adds a value in single quotes to a text, so that a shell can read it again; each single quote in it
+/// becomes `'\''` (XCU 2.2.1, 2.2.2). The only error is want of memory; what the text is then is left open.
 pub fn put_quoted(text: &mut Text, value: &[u8]) -> Result<(), NoMemory>
-    ensures { OnOk result (text.new ≡ text.old ++ quoted value.now) }
+    ensures { OnOk result (text.new ≡ text.old ++ in_quotes value.now) }
 {
     text.push(b'\'')?;
     put_bytes(text, value)?;
@@ -76,7 +76,7 @@ pub fn put_quoted(text: &mut Text, value: &[u8]) -> Result<(), NoMemory>
     Ok(())
 }
 
-/// Puts a variable's value behind a text, if it is set.
+/// Adds a variable's value to a text, if the variable is set.
 fn put_value(text: &mut Text, entry: &Entry) -> Result<(), NoMemory>
     ensures { OnOk result (text.new ≡ text.old ++ value_text entry.now.1.value) }
 {
@@ -89,7 +89,7 @@ fn put_value(text: &mut Text, entry: &Entry) -> Result<(), NoMemory>
     }
 }
 
-/// Puts a variable's line behind a text.
+/// Adds a variable's line to a text.
 #[tactic(auto, unfolding(crate::specs::Listing::line))]
 fn put_line(text: &mut Text, how: Listing, entry: &Entry) -> Result<(), NoMemory>
     ensures { OnOk result (text.new ≡ text.old ++ line how entry.now.0 entry.now.1) }
@@ -118,7 +118,7 @@ fn lines(alloc: Global, how: Listing, entries: &[Entry]) -> Result<Text, NoMemor
 
 /// The variables that are listed.
 pub(crate) fn list(alloc: Global, how: Listing, vars: &Vars) -> Result<Text, NoMemory>
-    ensures { IfOk result (λ text. text ≡ listed how vars.now) }
+    ensures { IfOk result (λ text. text ≡ listing_text how vars.now) }
 {
     lines(alloc, how, vars.variables())
 }

@@ -1,6 +1,6 @@
-//! Options in front of operands (XBD 12.2).
+//! Options before operands (XBD 12.2).
 ghost use Rattle.std.specs.Prelude.{◌≡◌, None, option_map, option_to_list};
-ghost use Rattle.sh_builtin_vars.specs.Options.{are_among, is_among, last_letter, letters_of, parsed, some_letters};
+ghost use Rattle.sh_builtin_vars.specs.Options.{are_among, is_among, last_letter, letters_of, options_and_operands, some_letters};
 
 use sh_base::sequence::Text;
 
@@ -38,7 +38,7 @@ fn are_among(allowed: &[u8], letters: &[u8]) -> bool
     letters.iter().all(|letter| is_among(allowed, *letter))
 }
 
-/// The last of some letters, or the one before them.
+/// The last of these letters or, where there is none, the last letter before them.
 fn last_letter(last: Option<u8>, letters: &[u8]) -> Option<u8>
     ensures { result ≡ last_letter last letters.now }
 {
@@ -49,11 +49,12 @@ fn last_letter(last: Option<u8>, letters: &[u8]) -> Option<u8>
     last
 }
 
-/// Options of a built-in in front of its operands (XBD 12.2): words of a hyphen and letters, up to a word `--`, which goes, or to the
-/// first other word; a hyphen alone is an operand. The letter of the last option, and the operands; `None` where a letter isn't among
-/// those allowed. Takes no memory.
+/// Reads the options before a built-in's operands (XBD 12.2): words of a hyphen and letters, up to a word
+/// `--`, which is dropped, or to the first other word; a hyphen alone is an operand. The answer is the letter
+/// of the last option, and the operands; `None` where a letter isn't among those allowed. Takes no memory.
 pub fn parse_options<'a>(allowed: &[u8], arguments: &'a [Text]) -> Option<(Option<u8>, &'a [Text])>
-    ensures { option_map (λ p. (p.0, p.1.now)) result ≡ parsed allowed.now arguments.now }
+    ensures { option_map (λ p. (p.0, p.1.now)) result
+        ≡ options_and_operands allowed.now arguments.now }
 {
     let mut last = None;
     let mut rest = arguments;

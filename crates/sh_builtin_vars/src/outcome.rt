@@ -1,12 +1,13 @@
-//! What built-ins come to.
+//! What built-ins answer.
 use sh_base::sequence::Text;
 
-/// Why a built-in is refused; a message says it, behind which a special built-in ends a shell that isn't interactive (XCU 2.8.1).
+/// Why a built-in is refused. A message says it; after the message a special built-in ends a shell that isn't
+/// interactive (XCU 2.8.1).
 #[derive(Debug, Drop)]
 pub enum BuiltinFault {
     /// Its options are wrong, or its operands or their number.
     Usage,
-    /// This operand has no name in front.
+    /// This operand has no name where one is needed; of `trap`, it is no condition.
     BadName(Text),
     /// The variable of this name is read-only.
     ReadOnly(Text),
@@ -14,13 +15,14 @@ pub enum BuiltinFault {
     CannotOpen(Text),
 }
 
-/// What a built-in comes to, beside what it changes.
+/// What a built-in answers, beside what it changes.
 #[derive(Debug, Drop)]
 pub enum Outcome {
     /// It is done with this status, and writes nothing.
     Done(u8),
-    /// It writes this, and is done with 0. Where this is empty it writes nothing, also to a closed descriptor.
+    /// It writes this text, and is done with 0. Where the text is empty it writes nothing, also to a closed
+    /// descriptor.
     Output(Text),
-    /// It is refused. What it did before stands.
+    /// It is refused. What it did before stays done.
     Fault(BuiltinFault),
 }

@@ -1,8 +1,8 @@
 //! The built-in set (XCU 2.15).
 ghost use Rattle.std.specs.Prelude.{◌≡◌, IfOk, None, OnOk, option_map};
 ghost use Rattle.sh_builtin_vars.specs.Options.{some_letters};
-ghost use Rattle.sh_builtin_vars.specs.Outcomes.{ran};
-ghost use Rattle.sh_builtin_vars.specs.Setting.{ended, is_settable, letter_switched, lettered, letters_switched, name_awaited, named, no_name_awaited, option_switched, set_from, set_ran, signed, switched_word, with_operands, with_sign, word_of};
+ghost use Rattle.sh_builtin_vars.specs.Outcomes.{with_outcome};
+ghost use Rattle.sh_builtin_vars.specs.Setting.{setting_at_end, is_settable, letter_switched, option_by_letter, letters_switched, name_awaited, option_by_name, no_name_awaited, option_switched, set_from, set_ran, sign_and_letters, switched_word, with_operands, with_sign, word_of};
 
 use crate::listing::{Listing, list};
 use crate::options::some_letters;
@@ -12,25 +12,26 @@ use sh_base::sequence::{Text, copies_of};
 use sh_vars::{Options, ShellOption, Vars};
 use std::alloc::Global;
 
-/// What words of options came to so far.
+/// What the words of options so far give.
 #[derive(Clone, Copy, Debug)]
 pub(crate) struct Switched {
     /// The options.
     pub(crate) options: Options,
-    /// Whether one is to be switched on or off whose name stands in the next word.
+    /// Whether the option that the next word names is switched on, or off; `None` where the next word names
+    /// none.
     pub(crate) awaited: Option<bool>,
 }
 
 /// What a word among the arguments is.
 #[derive(Clone, Copy, Debug)]
 pub(crate) enum Word {
-    /// Options, or the name of one, which come to this.
+    /// Options, or the name of one. With it the words so far give this.
     Options(Switched),
     /// `--`: operands follow.
     End,
     /// The first operand.
     Operand,
-    /// Options that are none.
+    /// Options that there aren't.
     Bad,
 }
 
@@ -51,7 +52,7 @@ fn is_settable(option: ShellOption) -> bool
 
 /// The option of a letter.
 fn lettered(letter: u8) -> Option<ShellOption>
-    ensures { result ≡ lettered letter }
+    ensures { result ≡ option_by_letter letter }
 {
     let option = ShellOption::from_letter(letter)?;
     if is_settable(option) {
@@ -62,7 +63,7 @@ fn lettered(letter: u8) -> Option<ShellOption>
 
 /// The option of a name.
 fn named(name: &[u8]) -> Option<ShellOption>
-    ensures { result ≡ named name.now }
+    ensures { result ≡ option_by_name name.now }
 {
     if name == b"allexport".as_slice() {
         return Some(ShellOption::AllExport);
@@ -107,7 +108,7 @@ impl Switched {
         })
     }
 
-    /// With an option that is to be named, if there is no other such.
+    /// With an option that the next word names, if no other is awaited.
     fn awaiting(self, on: bool) -> Option<Switched>
         ensures { result ≡ name_awaited on self self.awaited }
     {
@@ -144,7 +145,7 @@ impl Switched {
         Some(state)
     }
 
-    /// What a word is behind these.
+    /// What a word is after these.
     #[tactic(auto, unfolding(crate::specs::Setting::word_of))]
     fn read(self, word: &[u8]) -> Word
         ensures { result ≡ word_of self word.now }
@@ -163,7 +164,7 @@ impl Switched {
 
     /// The options at the end of the arguments.
     fn end(self) -> Option<Options>
-        ensures { option_map (λ options. (options, None)) result ≡ ended self self.awaited }
+        ensures { option_map (λ options. (options, None)) result ≡ setting_at_end self self.awaited }
     {
         match self.awaited {
             Some(_) => None,
@@ -173,7 +174,7 @@ impl Switched {
 }
 
 impl Word {
-    /// A word of options that came to this.
+    /// A word of options that gives this.
     fn of(switched: Option<Switched>) -> Word
         ensures { result ≡ switched_word switched }
     {
@@ -184,7 +185,7 @@ impl Word {
     }
 }
 
-/// The letters behind a sign, with whether that switches on.
+/// The letters after a sign, with whether the sign switches on.
 fn with_sign(on: bool, letters: &[u8]) -> Option<(bool, &[u8])>
     ensures { option_map (λ p. (p.0, p.1.now)) result ≡ with_sign on (some_letters letters.now) }
 {
@@ -194,7 +195,7 @@ fn with_sign(on: bool, letters: &[u8]) -> Option<(bool, &[u8])>
 
 /// The letters of a word of options, with whether they are switched on.
 fn signed(word: &[u8]) -> Option<(bool, &[u8])>
-    ensures { option_map (λ p. (p.0, p.1.now)) result ≡ signed word.now }
+    ensures { option_map (λ p. (p.0, p.1.now)) result ≡ sign_and_letters word.now }
 {
     match word.split_first() {
         Some((b'-', letters)) => with_sign(true, letters),
@@ -206,7 +207,8 @@ fn signed(word: &[u8]) -> Option<(bool, &[u8])>
 
 /// The options that are then on, and the operands if there are any; `None` where a word is bad.
 fn read_words(options: Options, arguments: &[Text]) -> Option<(Options, Option<&[Text]>)>
-    ensures { option_map (λ p. (p.0, option_map (λ operands. operands.now) p.1)) result ≡ set_from (no_name_awaited options) arguments.now }
+    ensures { option_map (λ p. (p.0, option_map (λ operands. operands.now) p.1)) result
+        ≡ set_from (no_name_awaited options) arguments.now }
 {
     let mut state = Switched::new(options);
     let mut rest = arguments;
@@ -225,7 +227,8 @@ fn read_words(options: Options, arguments: &[Text]) -> Option<(Options, Option<&
 
 /// Replaces the positional parameters, if there are operands.
 fn set_operands(alloc: Global, vars: &mut Vars, operands: Option<&[Text]>) -> Result<(), NoMemory>
-    ensures { OnOk result (vars.new ≡ with_operands vars.old (option_map (λ operands. operands.now) operands.entry)) }
+    ensures { OnOk result
+        (vars.new ≡ with_operands vars.old (option_map (λ operands. operands.now) operands.entry)) }
 {
     if let Some(operands) = operands {
         let copies = copies_of(alloc, operands)?;
@@ -234,13 +237,16 @@ fn set_operands(alloc: Global, vars: &mut Vars, operands: Option<&[Text]>) -> Re
     Ok(())
 }
 
-/// set with its arguments (XCU 2.15): words of a hyphen and letters of `aCefmu` switch options on, with a plus sign off, as does `o` with
-/// the option's name in the next word; operands, also none behind `--`, become the positional parameters. A sign alone is an operand.
-/// Without arguments the variables that are set are listed. Where an option is none, or has no name, nothing is changed. The only error is
-/// want of memory; what the variables are then is left open.
+/// `set` with its arguments (XCU 2.15). A hyphen and letters of `aCefmu` switch options on, a plus sign and
+/// letters switch them off; the letter `o` switches the option that the next word names. Operands become the
+/// positional parameters; after `--` there may be none. A sign alone is an operand. Without arguments the
+/// variables that are set are listed. Where there is no such option, or no name after `o`, the call is
+/// refused and nothing has changed. The only error is want of memory; what the variables are then is left
+/// open.
 #[tactic(auto, unfolding(crate::specs::Setting::set_ran))]
 pub fn set(alloc: Global, vars: &mut Vars, arguments: &[Text]) -> Result<Outcome, NoMemory>
-    ensures { IfOk result (λ outcome. ran vars.new outcome ≡ set_ran vars.old arguments.now) }
+    ensures { IfOk result (λ outcome.
+        with_outcome vars.new outcome ≡ set_ran vars.old arguments.now) }
 {
     if arguments.is_empty() {
         let text = list(alloc, Listing::Values, vars)?;

@@ -1,6 +1,6 @@
 //! The built-in unset (XCU 2.15).
 ghost use Rattle.std.specs.Prelude.{◌≡◌, IfOk};
-ghost use Rattle.sh_builtin_vars.specs.Outcomes.{ran, stepped};
+ghost use Rattle.sh_builtin_vars.specs.Outcomes.{with_outcome, with_fault};
 ghost use Rattle.sh_builtin_vars.specs.Unsetting.{kind_unset, names_functions, unset_all, unset_one, unset_ran};
 
 use crate::options::parse_options;
@@ -11,14 +11,14 @@ use sh_base::sequence::Text;
 use sh_vars::{Vars, is_name};
 use std::alloc::Global;
 
-/// A variable, or a function, goes.
+/// Unsets a variable, or a function.
 fn unset_kind(
     alloc: Global,
     functions: bool,
     vars: &mut Vars,
     name: &[u8],
 ) -> Result<Option<BuiltinFault>, NoMemory>
-    ensures { IfOk result (λ why. stepped vars.new why ≡ kind_unset functions vars.old name.now) }
+    ensures { IfOk result (λ why. with_fault vars.new why ≡ kind_unset functions vars.old name.now) }
 {
     if functions {
         return Ok(None);
@@ -31,7 +31,7 @@ fn unset_kind(
     Ok(None)
 }
 
-/// One operand.
+/// Unsets one operand.
 #[tactic(auto, unfolding(crate::specs::Unsetting::unset_one))]
 fn unset_one(
     alloc: Global,
@@ -39,7 +39,7 @@ fn unset_one(
     vars: &mut Vars,
     name: &[u8],
 ) -> Result<Option<BuiltinFault>, NoMemory>
-    ensures { IfOk result (λ why. stepped vars.new why ≡ unset_one functions vars.old name.now) }
+    ensures { IfOk result (λ why. with_fault vars.new why ≡ unset_one functions vars.old name.now) }
 {
     if !is_name(name) {
         let name = Text::copy_of(alloc, name)?;
@@ -48,14 +48,15 @@ fn unset_one(
     unset_kind(alloc, functions, vars, name)
 }
 
-/// Operands, up to one that is refused.
+/// Unsets operands, up to one that is refused.
 fn unset_all(
     alloc: Global,
     functions: bool,
     vars: &mut Vars,
     names: &[Text],
 ) -> Result<Outcome, NoMemory>
-    ensures { IfOk result (λ outcome. ran vars.new outcome ≡ unset_all functions vars.old names.now) }
+    ensures { IfOk result (λ outcome.
+        with_outcome vars.new outcome ≡ unset_all functions vars.old names.now) }
 {
     let mut rest = names;
     'names: while let Some((name, others)) = rest.split_first() {
@@ -77,13 +78,15 @@ fn names_functions(last: Option<u8>) -> bool
     }
 }
 
-/// unset with its arguments (XCU 2.15): the variables of these names go, from left to right, with value and attributes; one that isn't
-/// there stays so. Under `-f` functions are meant, of which there is none yet; of `-f` and `-v` the last counts. An operand that is no
-/// name, or names a read-only variable, is refused, as are other options, and no operand; those before it are gone. The only error is
-/// want of memory; what the variables are then is left open.
+/// `unset` with its arguments (XCU 2.15): removes the variables of these names, from left to right, with
+/// value and attributes; a name without a variable is no error. `-f` means functions, of which there is none
+/// yet; of `-f` and `-v` the last counts. Refused are other options, no operand, and an operand that is no
+/// name or names a read-only variable; the operands before that one stay unset. The only error is want of
+/// memory; what the variables are then is left open.
 #[tactic(auto, unfolding(crate::specs::Unsetting::unset_ran))]
 pub fn unset(alloc: Global, vars: &mut Vars, arguments: &[Text]) -> Result<Outcome, NoMemory>
-    ensures { IfOk result (λ outcome. ran vars.new outcome ≡ unset_ran vars.old arguments.now) }
+    ensures { IfOk result (λ outcome.
+        with_outcome vars.new outcome ≡ unset_ran vars.old arguments.now) }
 {
     let Some((last, operands)) = parse_options(b"fv", arguments) else {
         return Ok(Outcome::Fault(BuiltinFault::Usage));

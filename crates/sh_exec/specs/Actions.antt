@@ -8,11 +8,11 @@ use Rattle.sh_exec_command.specs.declared.running.Place.{Place}
 use Rattle.sh_exec_command.specs.declared.running.Place.TheVariants.{Reading, Expanding, Collecting, Answering, Redirecting, Forking, Starting, Staging, Giving, Waiting, Writing, Ending}
 use Rattle.sh_exec_forms.specs.Running.{active_of}
 use Rattle.sh_kernel.specs.Turns.{Action, Acts, ReadsBy, WaitsFor, WritesBy}
-use Rattle.sh_kernel_descriptors.specs.declared.descriptor.Name.TheVariants.{Aside, Number}
+use Rattle.sh_kernel_descriptors.specs.declared.descriptor.DescriptorRef.TheVariants.{Aside, Number}
 use Rattle.sh_stock.specs.declared.asking.Ask.{Ask}
 use Rattle.sh_stock.specs.declared.asking.Ask.TheVariants as ask
 
--- what is written to a pipe that was set aside is collected, as long as there is one
+-- a shell reads by the end of a pipe that was set aside, as long as there is one
 abbrev pub collecting : Option ℕ → Action
 collecting None = Acts
 collecting (Some aside) = ReadsBy (Aside aside)
@@ -38,13 +38,13 @@ action_in (Done status) = Acts
 action_in (Leaving status) = Acts
 
 -- a program reads by descriptor 0, and writes by descriptor 1
-abbrev pub asked : Ask → Action
-asked (ask.Read count) = ReadsBy (Number 0)
-asked (ask.Write bytes) = WritesBy 1 (length bytes)
-asked ask.Stop = Acts
-asked ask.Idle = Acts
-asked (ask.End status) = Acts
+abbrev pub action_for : Ask → Action
+action_for (ask.Read count) = ReadsBy (Number 0)
+action_for (ask.Write bytes) = WritesBy 1 (length bytes)
+action_for ask.Stop = Acts
+action_for ask.Idle = Acts
+action_for (ask.End status) = Acts
 
 abbrev pub action_of : {S : Type 0} → Process S → Action
 action_of (Runs shell) = action_in (active_of shell.run)
-action_of (Asks ask program) = asked ask
+action_of (Asks ask program) = action_for ask

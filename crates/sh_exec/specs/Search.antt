@@ -3,14 +3,15 @@ use Rattle.std.specs.Prelude.{ℕ, List, [], ◌∷◌, ◌++◌, ◌+◌, ◌&&
 use Rattle.std.specs.List.{list_any, slice_split, starts_with}
 use Rattle.sh_exec.specs.declared.search.Located.{Located}
 use Rattle.sh_exec.specs.declared.search.Located.TheVariants.{Missing, Unfit, Stock, Script}
-use Rattle.sh_files.specs.Nodes.{FileMap, is_executable, named}
+use Rattle.sh_files.specs.Nodes.{FileMap, is_executable, node_of_path}
 use Rattle.sh_files_image.specs.Contents.{Regular}
 use Rattle.sh_files_image.specs.declared.node.Node.{Node}
 use Rattle.sh_files_image.specs.declared.node.Node.TheVariants.{Directory, File, Null, Terminal}
 use Rattle.sh_vars.specs.Environment.{Environment, value_of}
 
 -- ---- what a file is that may be executed
--- the text of a line: what stands before its newline, which is the last byte and the only newline; an empty line is none
+-- the text of a line: what is before its newline, which is the last byte and the only newline; none for an
+-- empty line
 abbrev pub line_by : List ℕ → Option ℕ → Option (List ℕ)
 line_by text None = None
 line_by text (Some at) = if nat_le 1 at && nat_eq (at + 1) (length text) then Some (take at text) else None
@@ -44,7 +45,7 @@ node_leads path (Some Terminal) = Unfit
 
 -- the path is one from the working directory, unless it begins with a slash
 unfoldable pub path_leads : FileMap → List ℕ → List ℕ → Located
-path_leads files directory path = node_leads path (named files directory path)
+path_leads files directory path = node_leads path (node_of_path files directory path)
 
 -- ---- the search
 -- the elements of PATH, with a colon between each two
@@ -57,9 +58,9 @@ path_in name [] = name
 path_in name (b ∷ bs) = (b ∷ bs) ++ 47 ∷ name
 
 -- the paths that are tried, in order; none where PATH is unset
-abbrev pub tried : Option (List ℕ) → List ℕ → List (List ℕ)
-tried None name = []
-tried (Some value) name = map (path_in name) (elements value)
+abbrev pub candidate_paths : Option (List ℕ) → List ℕ → List (List ℕ)
+candidate_paths None name = []
+candidate_paths (Some value) name = map (path_in name) (elements value)
 
 abbrev pub is_regular : Option Node → Bool
 is_regular None = false
@@ -70,7 +71,7 @@ is_regular (Some Terminal) = false
 
 -- a path names a regular file
 abbrev pub names_regular : FileMap → List ℕ → List ℕ → Bool
-names_regular files directory path = is_regular (named files directory path)
+names_regular files directory path = is_regular (node_of_path files directory path)
 
 -- where no path names a file that can be executed (126 and 127)
 abbrev pub not_executed : Bool → Located
@@ -82,8 +83,8 @@ found_by files directory paths (Some path) = path_leads files directory path
 found_by files directory paths None = not_executed (list_any (names_regular files directory) paths)
 
 -- the first path that names a regular file with the flag x is taken
-unfoldable pub searched : FileMap → List ℕ → List (List ℕ) → Located
-searched files directory paths = found_by files directory paths (find (is_executable files directory) paths)
+unfoldable pub program_among : FileMap → List ℕ → List (List ℕ) → Located
+program_among files directory paths = found_by files directory paths (find (is_executable files directory) paths)
 
 -- ---- a command's name
 abbrev pub has_slash : List ℕ → Bool
@@ -93,4 +94,4 @@ has_slash name = list_any (λ b. b == 47) name
 unfoldable pub located_of : FileMap → Environment → List ℕ → Located
 located_of files env name =
     if has_slash name then path_leads files env.directory name
-    else searched files env.directory (tried (value_of env (codes "PATH")) name)
+    else program_among files env.directory (candidate_paths (value_of env (codes "PATH")) name)

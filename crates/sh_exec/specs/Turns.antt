@@ -35,7 +35,7 @@ abbrev pub turn : {S : Type 0} → Meaning S → KernelState → ℕ → Process
 turn m s pid (Runs shell) = runs_by m s pid shell (starting_in (active_of shell.run))
 turn m s pid (Asks ask program) = alone (ask_turn m s pid ask program)
 
--- a kernel and a process stand at what a turn leaves, and this process was made
+-- the kernel and the process are what a turn leaves, and this process was made
 pub record IsTurned {S : Type 0} (kernel : KernelKept) (next : Process S) (made : Option Child) (t : Turned S) : Type 0 where
   pub state : StandsAt kernel t.machine
   pub process : next ≡ t.process

@@ -1,10 +1,10 @@
 //! What processes are about to do.
 ghost use Rattle.std.specs.Prelude.{◌≡◌};
 ghost use Rattle.sh_kernel.specs.Turns.{action_of};
-ghost use Rattle.sh_exec.specs.Actions.{action_at, action_in, asked, collecting};
+ghost use Rattle.sh_exec.specs.Actions.{action_at, action_in, action_for, collecting};
 
 use sh_exec_command::{Active, Place};
-use sh_kernel::{Name, Next};
+use sh_kernel::{DescriptorRef, Next};
 use sh_stock::Ask;
 
 /// Where the end of a pipe was set aside, a shell reads by it.
@@ -12,7 +12,7 @@ fn collecting(aside: Option<usize>) -> Next<'static>
     ensures { action_of result ≡ collecting aside }
 {
     match aside {
-        Some(aside) => Next::Read(Name::Aside(aside)),
+        Some(aside) => Next::Read(DescriptorRef::Aside(aside)),
         None => Next::Other,
     }
 }
@@ -51,10 +51,10 @@ pub(crate) fn action_in(active: &Active) -> Next<'_>
 
 /// What a program asks.
 pub(crate) fn asked(ask: &Ask) -> Next<'_>
-    ensures { action_of result ≡ asked ask.now }
+    ensures { action_of result ≡ action_for ask.now }
 {
     match ask {
-        Ask::Read(_) => Next::Read(Name::Number(0)),
+        Ask::Read(_) => Next::Read(DescriptorRef::Number(0)),
         Ask::Write(bytes) => Next::Write(1, bytes.as_slice().len()),
         Ask::Stop => Next::Other,
         Ask::Idle => Next::Other,

@@ -38,7 +38,9 @@ fn shell_turn<S: Stock>(
     pid: u32,
     shell: &mut Shell,
 ) -> Result<Option<Child>, NoMemory>
-    ensures state { (s : KernelState) → StandsAt kernel.old s → IfOk result (λ child. turns.IsTurned {S = S} kernel.new (Process.Runs shell.new) child (turns.by_shell (shell_turn s pid shell.old))) }
+    ensures state { (s : KernelState) → StandsAt kernel.old s → IfOk result (λ child.
+        turns.IsTurned {S = S} kernel.new (Process.Runs shell.new) child
+        (turns.by_shell (shell_turn s pid shell.old))) }
     ensures terminal { Extends kernel.old.terminal.bytes kernel.new.terminal.bytes }
 {
     let child = shell.turn(alloc, kernel, pid)?;
@@ -53,7 +55,8 @@ fn start_from<S: Stock>(
     shell: &Shell,
     fields: Sequence<Text>,
 ) -> Result<Process<S>, NoMemory>
-    ensures state { (s : KernelState) → StandsAt kernel.old s → IfOk result (λ process. HasLeft kernel.new process (start_turn S.meaning s pid shell.now.environment fields)) }
+    ensures state { (s : KernelState) → StandsAt kernel.old s → IfOk result (λ process.
+        HasLeft kernel.new process (start_turn S.meaning s pid shell.now.environment fields)) }
     ensures terminal { kernel.new.terminal ≡ kernel.old.terminal }
 {
     match shell.vars().copy() {
@@ -75,7 +78,8 @@ impl<S: Stock> Process<S> {
         kernel: &mut Kernel,
         pid: u32,
     ) -> Result<Option<Child>, NoMemory>
-        ensures state { (s : KernelState) → StandsAt kernel.old s → IfOk result (λ child. turns.IsTurned kernel.new self.new child (turns.turn S.meaning s pid self.old)) }
+        ensures state { (s : KernelState) → StandsAt kernel.old s → IfOk result (λ child.
+            turns.IsTurned kernel.new self.new child (turns.turn S.meaning s pid self.old)) }
         ensures terminal { Extends kernel.old.terminal.bytes kernel.new.terminal.bytes }
     {
         match self {
@@ -109,9 +113,11 @@ impl<S: Stock> Process<S> {
         }
     }
 
-    /// Whether the process `pid` can take a turn: it has not ended, and its next action need not wait. Takes no memory.
+    /// Whether the process `pid` can take a turn: it is neither stopped nor ended, and its next action need
+    /// not wait. Takes no memory.
     pub fn is_runnable(&self, kernel: &Kernel, pid: u32) -> bool
-        ensures { (s : KernelState) → StandsAt kernel.now s → result ≡ can_do s pid (action_of self.now) }
+        ensures { (s : KernelState) → StandsAt kernel.now s
+            → result ≡ can_do s pid (action_of self.now) }
     {
         kernel.runnable(pid, self.next())
     }

@@ -7,8 +7,8 @@ ghost use Rattle.sh_exec.specs.Programs.{HasLeft, ask_turn, asking, end_turn, re
 use crate::process::Process;
 use sh_base::NoMemory;
 use sh_base::sequence::Text;
-use sh_exec_machine::{Given, Taken, give_bytes, take_bytes};
-use sh_kernel::{Kernel, Name};
+use sh_exec_machine::{ReadOutcome, WriteOutcome, give_bytes, take_bytes};
+use sh_kernel::{DescriptorRef, Kernel};
 use sh_stock::{Answer, Ask, Stock};
 use std::alloc::Global;
 
@@ -18,7 +18,8 @@ pub(crate) fn asking<S: Stock>(
     program: &mut S,
     answer: Answer,
 ) -> Result<Ask, NoMemory>
-    ensures { IfOk result (λ ask. Process.Asks ask program.new ≡ asking S.meaning program.old answer) }
+    ensures { IfOk result (λ ask.
+        Process.Asks ask program.new ≡ asking S.meaning program.old answer) }
 {
     program.turn(alloc, answer)
 }
@@ -28,14 +29,15 @@ fn read_by<S: Stock>(
     alloc: Global,
     count: usize,
     program: &mut S,
-    taken: Taken,
+    taken: ReadOutcome,
 ) -> Result<Ask, NoMemory>
-    ensures { IfOk result (λ ask. Process.Asks ask program.new ≡ read_by S.meaning count program.old taken) }
+    ensures { IfOk result (λ ask.
+        Process.Asks ask program.new ≡ read_by S.meaning count program.old taken) }
 {
     match taken {
-        Taken::Bytes(bytes) => asking(alloc, program, Answer::Bytes(bytes)),
-        Taken::Wait => Ok(Ask::Read(count)),
-        Taken::Failed => asking(alloc, program, Answer::Failed),
+        ReadOutcome::Bytes(bytes) => asking(alloc, program, Answer::Bytes(bytes)),
+        ReadOutcome::Wait => Ok(Ask::Read(count)),
+        ReadOutcome::Failed => asking(alloc, program, Answer::Failed),
     }
 }
 
@@ -48,15 +50,17 @@ fn read_turn<S: Stock>(
     count: usize,
     program: &mut S,
 ) -> Result<Ask, NoMemory>
-    ensures state { (s : KernelState) → StandsAt kernel.old s → IfOk result (λ ask. HasLeft kernel.new (Process.Asks ask program.new) (read_turn S.meaning s pid count program.old)) }
+    ensures state { (s : KernelState) → StandsAt kernel.old s → IfOk result (λ ask.
+        HasLeft kernel.new (Process.Asks ask program.new)
+        (read_turn S.meaning s pid count program.old)) }
     ensures terminal { kernel.new.terminal.bytes ≡ kernel.old.terminal.bytes }
 {
-    let taken = take_bytes(alloc, kernel, pid, Name::Number(0), count)?;
+    let taken = take_bytes(alloc, kernel, pid, DescriptorRef::Number(0), count)?;
     let ask = read_by(alloc, count, program, taken)?;
     Ok(ask)
 }
 
-/// What is left of bytes behind the first ones.
+/// What is left of bytes after the first ones.
 fn rest_of(alloc: Global, bytes: &[u8], count: usize) -> Result<Text, NoMemory>
     ensures { IfOk result (λ rest. rest ≡ drop count bytes.now) }
 {
@@ -70,19 +74,20 @@ fn write_by<S: Stock>(
     alloc: Global,
     bytes: Text,
     program: &mut S,
-    given: Given,
+    given: WriteOutcome,
 ) -> Result<Ask, NoMemory>
-    ensures { IfOk result (λ ask. Process.Asks ask program.new ≡ write_by S.meaning bytes program.old given) }
+    ensures { IfOk result (λ ask.
+        Process.Asks ask program.new ≡ write_by S.meaning bytes program.old given) }
 {
     match given {
-        Given::Whole => asking(alloc, program, Answer::Done),
-        Given::Part(count) => {
+        WriteOutcome::Whole => asking(alloc, program, Answer::Done),
+        WriteOutcome::Part(count) => {
             let rest = rest_of(alloc, bytes.as_slice(), count)?;
             Ok(Ask::Write(rest))
         },
-        Given::Wait => Ok(Ask::Write(bytes)),
-        Given::Ended => Ok(Ask::Write(bytes)),
-        Given::Failed => asking(alloc, program, Answer::Failed),
+        WriteOutcome::Wait => Ok(Ask::Write(bytes)),
+        WriteOutcome::Ended => Ok(Ask::Write(bytes)),
+        WriteOutcome::Failed => asking(alloc, program, Answer::Failed),
     }
 }
 
@@ -95,7 +100,9 @@ fn write_turn<S: Stock>(
     bytes: Text,
     program: &mut S,
 ) -> Result<Ask, NoMemory>
-    ensures state { (s : KernelState) → StandsAt kernel.old s → IfOk result (λ ask. HasLeft kernel.new (Process.Asks ask program.new) (write_turn S.meaning s pid bytes program.old)) }
+    ensures state { (s : KernelState) → StandsAt kernel.old s → IfOk result (λ ask.
+        HasLeft kernel.new (Process.Asks ask program.new)
+        (write_turn S.meaning s pid bytes program.old)) }
     ensures terminal { Extends kernel.old.terminal.bytes kernel.new.terminal.bytes }
 {
     let given = give_bytes(kernel, pid, 1, bytes.as_slice())?;
@@ -106,7 +113,9 @@ fn write_turn<S: Stock>(
 /// A program ends.
 #[tactic(auto, unfolding(crate::specs::Programs::end_turn))]
 fn end_turn<S: Stock>(kernel: &mut Kernel, pid: u32, status: u8, _program: &mut S) -> Ask
-    ensures state { (s : KernelState) → StandsAt kernel.old s → HasLeft kernel.new (Process.Asks result _program.new) (end_turn s pid status _program.old) }
+    ensures state { (s : KernelState) → StandsAt kernel.old s
+        → HasLeft kernel.new (Process.Asks result _program.new)
+        (end_turn s pid status _program.old) }
     ensures terminal { kernel.new.terminal.bytes ≡ kernel.old.terminal.bytes }
 {
     let _ended = kernel.end(pid, status);
@@ -122,7 +131,9 @@ pub(crate) fn ask_turn<S: Stock>(
     ask: Ask,
     program: &mut S,
 ) -> Result<Ask, NoMemory>
-    ensures state { (s : KernelState) → StandsAt kernel.old s → IfOk result (λ next. HasLeft kernel.new (Process.Asks next program.new) (ask_turn S.meaning s pid ask program.old)) }
+    ensures state { (s : KernelState) → StandsAt kernel.old s → IfOk result (λ next.
+        HasLeft kernel.new (Process.Asks next program.new)
+        (ask_turn S.meaning s pid ask program.old)) }
     ensures terminal { Extends kernel.old.terminal.bytes kernel.new.terminal.bytes }
 {
     match ask {

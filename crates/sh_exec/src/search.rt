@@ -3,7 +3,7 @@ ghost use Rattle.std.specs.Prelude.{◌≡◌, ◌∷◌, ◌==◌, ◌<◌, [],
 ghost use Rattle.std.specs.List.{list_any};
 ghost use Rattle.sh_files.specs.Nodes.{is_executable};
 ghost use Rattle.sh_files_image.specs.declared.node.Node.TheVariants as node;
-ghost use Rattle.sh_exec.specs.Search.{elements, has_slash, is_regular, line_of, located_of, names_regular, node_leads, not_executed, path_in, path_leads, program_of, script_of, searched, stock_name, tried};
+ghost use Rattle.sh_exec.specs.Search.{elements, has_slash, is_regular, line_of, located_of, names_regular, node_leads, not_executed, path_in, path_leads, program_of, script_of, program_among, stock_name, candidate_paths};
 
 use sh_base::NoMemory;
 use sh_base::sequence::{Sequence, Text};
@@ -35,7 +35,7 @@ fn first_newline(text: &[u8]) -> Option<usize>
     text.iter().position(|byte| *byte == b'\n')
 }
 
-/// The text of a line, which has a byte at least before its newline and none behind it.
+/// The text of a line, which has at least one byte before its newline and none after it.
 fn line_of(text: &[u8]) -> Option<&[u8]>
     ensures { option_map (λ line. line.now) result ≡ line_of text.now }
 {
@@ -71,7 +71,7 @@ fn script_of(alloc: Global, path: &[u8], file: &File) -> Result<Located, NoMemor
     })
 }
 
-/// What a file is that may be executed.
+/// What a file that may be executed leads to.
 fn program_of(alloc: Global, path: &[u8], file: &File) -> Result<Located, NoMemory>
     ensures { IfOk result (λ located. located ≡ program_of path.now file.now) }
 {
@@ -91,9 +91,10 @@ fn file_leads(alloc: Global, path: &[u8], file: &File) -> Result<Located, NoMemo
     program_of(alloc, path, file)
 }
 
-/// What a path leads to that names this.
+/// What a path leads to, where it names this node.
 fn node_leads(alloc: Global, path: &[u8], found: Option<&Node>) -> Result<Located, NoMemory>
-    ensures { IfOk result (λ located. located ≡ node_leads path.now (option_map (λ node. node.now) found.entry)) }
+    ensures { IfOk result (λ located.
+        located ≡ node_leads path.now (option_map (λ node. node.now) found.entry)) }
 {
     match found {
         Some(Node::File(file)) => file_leads(alloc, path, file),
@@ -124,9 +125,10 @@ fn first_colon(value: &[u8]) -> Option<usize>
     value.iter().position(|byte| *byte == b':')
 }
 
-/// The first element, and what is behind its colon; nothing where there is one element.
+/// The first element, and what is after its colon; `None` where there is only one element.
 fn split_element(value: &[u8]) -> Option<(&[u8], &[u8])>
-    ensures parts { MatchOption result (elements value.now ≡ value.now ∷ []) (λ parts. elements value.now ≡ parts.0.now ∷ elements parts.1.now) }
+    ensures parts { MatchOption result (elements value.now ≡ value.now ∷ []) (λ parts.
+        elements value.now ≡ parts.0.now ∷ elements parts.1.now) }
     ensures shorter { IfSome result (λ parts. length parts.1.now < length value.now) }
 {
     match first_colon(value) {
@@ -164,7 +166,8 @@ fn paths_in(alloc: Global, value: &[u8], name: &[u8]) -> Result<Sequence<Text>, 
 
 /// The paths that are tried.
 fn tried(alloc: Global, value: Option<&[u8]>, name: &[u8]) -> Result<Sequence<Text>, NoMemory>
-    ensures { IfOk result (λ paths. paths ≡ tried (option_map (λ value. value.now) value.entry) name.now) }
+    ensures { IfOk result (λ paths.
+        paths ≡ candidate_paths (option_map (λ value. value.now) value.entry) name.now) }
 {
     let Some(value) = value else {
         return Ok(Sequence::new(alloc));
@@ -210,7 +213,9 @@ fn first_executable<'a>(
     directory: &[u8],
     paths: &'a [Text],
 ) -> Result<Option<&'a Text>, NoMemory>
-    ensures { IfOk result (λ found. option_map (λ path. path.now) found ≡ find (is_executable files.now directory.now) paths.now) }
+    ensures { IfOk result (λ found.
+        option_map (λ path. path.now) found ≡ find (is_executable files.now directory.now)
+        paths.now) }
 {
     let mut rest = paths;
     'paths: while let Some((path, others)) = rest.split_first() {
@@ -224,7 +229,8 @@ fn first_executable<'a>(
 
 /// What a search leads to where no path names a file that may be executed.
 fn not_executed(files: &Files, directory: &[u8], paths: &[Text]) -> Result<Located, NoMemory>
-    ensures { IfOk result (λ located. located ≡ not_executed (list_any (names_regular files.now directory.now) paths.now)) }
+    ensures { IfOk result (λ located.
+        located ≡ not_executed (list_any (names_regular files.now directory.now) paths.now)) }
 {
     if any_regular(files, directory, paths)? {
         return Ok(Located::Unfit);
@@ -233,14 +239,14 @@ fn not_executed(files: &Files, directory: &[u8], paths: &[Text]) -> Result<Locat
 }
 
 /// What the paths that are tried lead to.
-#[tactic(auto, unfolding(crate::specs::Search::searched))]
+#[tactic(auto, unfolding(crate::specs::Search::program_among))]
 fn searched(
     alloc: Global,
     files: &Files,
     directory: &[u8],
     paths: &[Text],
 ) -> Result<Located, NoMemory>
-    ensures { IfOk result (λ located. located ≡ searched files.now directory.now paths.now) }
+    ensures { IfOk result (λ located. located ≡ program_among files.now directory.now paths.now) }
 {
     let Some(path) = first_executable(files, directory, paths)? else {
         return not_executed(files, directory, paths);

@@ -4,7 +4,7 @@ ghost use Rattle.sh_kernel.specs.Calls.{start_call};
 ghost use Rattle.sh_kernel.specs.State.{KernelState, StandsAt};
 ghost use Rattle.sh_exec_parts.specs.Messages as messages;
 ghost use Rattle.sh_exec.specs.Programs.{HasLeft, asking};
-ghost use Rattle.sh_exec.specs.Starting.{parent_of, scripted, shell_at, start_named, start_turn, started_by, stocked};
+ghost use Rattle.sh_exec.specs.Starting.{parent_of, script_start, shell_at, start_named, start_turn, started_by, stock_start};
 
 use crate::process::Process;
 use crate::program::asking;
@@ -29,7 +29,9 @@ fn failed<S: Stock>(vars: Vars, piece: Piece, status: u8) -> Process<S>
 
 /// No program has this name.
 fn missing<S: Stock>(alloc: Global, vars: Vars, name: &[u8]) -> Result<Process<S>, NoMemory>
-    ensures { IfOk result (λ process. process ≡ shell_at vars (Place.Writing (messages.message (messages.not_found name.now)) (Finish.Leave 127))) }
+    ensures { IfOk result (λ process.
+        process ≡ shell_at vars
+        (Place.Writing (messages.message (messages.not_found name.now)) (Finish.Leave 127))) }
 {
     let piece = not_found(alloc, name)?;
     Ok(failed(vars, piece, 127))
@@ -37,7 +39,9 @@ fn missing<S: Stock>(alloc: Global, vars: Vars, name: &[u8]) -> Result<Process<S
 
 /// It can't be run.
 fn unfit<S: Stock>(alloc: Global, vars: Vars, name: &[u8]) -> Result<Process<S>, NoMemory>
-    ensures { IfOk result (λ process. process ≡ shell_at vars (Place.Writing (messages.message (messages.cannot_execute name.now)) (Finish.Leave 126))) }
+    ensures { IfOk result (λ process.
+        process ≡ shell_at vars
+        (Place.Writing (messages.message (messages.cannot_execute name.now)) (Finish.Leave 126))) }
 {
     let piece = cannot_execute(alloc, name)?;
     Ok(failed(vars, piece, 126))
@@ -45,7 +49,8 @@ fn unfit<S: Stock>(alloc: Global, vars: Vars, name: &[u8]) -> Result<Process<S>,
 
 /// What the shell had set aside is closed.
 fn close_aside(kernel: &mut Kernel, pid: u32)
-    ensures state { (s : KernelState) → StandsAt kernel.old s → StandsAt kernel.new (start_call s pid).after }
+    ensures state { (s : KernelState) → StandsAt kernel.old s
+        → StandsAt kernel.new (start_call s pid).after }
     ensures terminal { kernel.new.terminal ≡ kernel.old.terminal }
 {
     let _started = kernel.start_program(pid);
@@ -69,7 +74,8 @@ fn start_stock<S: Stock>(
     name: &[u8],
     program: Option<S>,
 ) -> Result<Process<S>, NoMemory>
-    ensures state { (s : KernelState) → StandsAt kernel.old s → IfOk result (λ process. HasLeft kernel.new process (stocked S.meaning s pid vars name.now program)) }
+    ensures state { (s : KernelState) → StandsAt kernel.old s → IfOk result (λ process.
+        HasLeft kernel.new process (stock_start S.meaning s pid vars name.now program)) }
     ensures terminal { kernel.new.terminal ≡ kernel.old.terminal }
 {
     match program {
@@ -105,7 +111,8 @@ fn start_script<S: Stock>(
     text: Text,
     operands: &[Text],
 ) -> Result<Process<S>, NoMemory>
-    ensures state { (s : KernelState) → StandsAt kernel.old s → IfOk result (λ process. HasLeft kernel.new process (scripted s pid vars.now path.now text operands.now)) }
+    ensures state { (s : KernelState) → StandsAt kernel.old s → IfOk result (λ process.
+        HasLeft kernel.new process (script_start s pid vars.now path.now text operands.now)) }
     ensures terminal { kernel.new.terminal ≡ kernel.old.terminal }
 {
     let parent = parent_of(kernel, pid);
@@ -124,7 +131,9 @@ fn start_located<S: Stock>(
     operands: &[Text],
     located: Located,
 ) -> Result<Process<S>, NoMemory>
-    ensures state { (s : KernelState) → StandsAt kernel.old s → IfOk result (λ process. HasLeft kernel.new process (started_by S.meaning s pid vars name.now operands.now located)) }
+    ensures state { (s : KernelState) → StandsAt kernel.old s → IfOk result (λ process.
+        HasLeft kernel.new process
+        (started_by S.meaning s pid vars name.now operands.now located)) }
     ensures terminal { kernel.new.terminal ≡ kernel.old.terminal }
 {
     match located {
@@ -158,7 +167,8 @@ fn start_named<S: Stock>(
     name: &[u8],
     operands: &[Text],
 ) -> Result<Process<S>, NoMemory>
-    ensures state { (s : KernelState) → StandsAt kernel.old s → IfOk result (λ process. HasLeft kernel.new process (start_named S.meaning s pid vars name.now operands.now)) }
+    ensures state { (s : KernelState) → StandsAt kernel.old s → IfOk result (λ process.
+        HasLeft kernel.new process (start_named S.meaning s pid vars name.now operands.now)) }
     ensures terminal { kernel.new.terminal ≡ kernel.old.terminal }
 {
     let located = locate(alloc, kernel.files(), &vars, name)?;
@@ -174,7 +184,8 @@ pub(crate) fn start_turn<S: Stock>(
     vars: Vars,
     fields: Sequence<Text>,
 ) -> Result<Process<S>, NoMemory>
-    ensures state { (s : KernelState) → StandsAt kernel.old s → IfOk result (λ process. HasLeft kernel.new process (start_turn S.meaning s pid vars fields)) }
+    ensures state { (s : KernelState) → StandsAt kernel.old s → IfOk result (λ process.
+        HasLeft kernel.new process (start_turn S.meaning s pid vars fields)) }
     ensures terminal { kernel.new.terminal ≡ kernel.old.terminal }
 {
     let Some((name, operands)) = fields.as_slice().split_first() else {

@@ -2,7 +2,7 @@
 use Rattle.std.proofs.Common.{◌≡◌, ◌<◌, length, arith, ℕ, zero, suc, List, [], ◌∷◌, drop, true, false, ◌==◌, refl, sym, ap, ◌∙◌}
 use Rattle.sh_parse.specs.Aliases.{no_aliases}
 use Rattle.sh_parse.specs.Reading.{reading}
-use Rattle.sh_syntax.specs.declared.tree.Complete.{Complete}
+use Rattle.sh_syntax.specs.declared.tree.CompoundList.{CompoundList}
 use Rattle.sh_exec_command.specs.declared.found.Found.TheVariants.{Nothing, Command, Fault}
 use Rattle.sh_exec_parts.specs.declared.message.Refusal.{Refusal}
 use Rattle.sh_exec_command.specs.declared.found.Answer.{Answer}
@@ -21,7 +21,7 @@ pub record IsText (text : List ℕ) : Type 0 where
   pub others : List ℕ
   pub is : text ≡ first ∷ others
 
-pub by_command : (text : List ℕ) → IsText text → (tree : Complete) (used : ℕ) → answer.Command tree used ≡ answer_of (reading no_aliases true text) → Command tree (drop used text) ≡ next_command text
+pub by_command : (text : List ℕ) → IsText text → (tree : CompoundList) (used : ℕ) → answer.Command tree used ≡ answer_of (reading no_aliases true text) → Command tree (drop used text) ≡ next_command text
 by_command text t tree used e =
     rw t.is (ap (λ a. found_by a (t.first ∷ t.others) (found_behind t.others)) (e ∙ ap (λ x. answer_of (reading no_aliases true x)) t.is))
 

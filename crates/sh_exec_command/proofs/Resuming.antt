@@ -1,6 +1,6 @@
 -- Where an expansion stands that goes on with answers.
 use Rattle.std.proofs.Common.{◌≡◌, ℕ, List, []}
-use Rattle.sh_exec_command.specs.Answers.{answered}
+use Rattle.sh_exec_command.specs.Answers.{expansion_after}
 use Rattle.sh_expand.specs.FieldProgress.{IsStep}
 use Rattle.sh_expand.specs.declared.expansion.Expansion.{Expansion}
 use Rattle.sh_expand.specs.declared.expansion.Step.{Step}
@@ -12,4 +12,4 @@ use Rattle.sh_vars.specs.Environment.{Environment}
 pub record Stands (files : FileMap) (wanted : List Wanted) (start : Environment) (answers : List (List ℕ)) (reached : Step) (expansion : Expansion) (env : Environment) (rest : List (List ℕ)) : Type 0 where
   pub given : List (List ℕ)
   pub is_step : IsStep files reached expansion env wanted start given
-  pub same : answered files wanted start given rest ≡ answered files wanted start [] answers
+  pub same : expansion_after files wanted start given rest ≡ expansion_after files wanted start [] answers

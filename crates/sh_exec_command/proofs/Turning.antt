@@ -2,7 +2,7 @@
 use Rattle.std.proofs.Common.{◌≡◌, ◌<◌, ℕ, List, ◌∷◌, Bool, true, false, Option, None, length, arith, if◌then◌else◌, refl, sym, ap, subst, ◌∙◌}
 use Rattle.sh_exec_parts.specs.Messages.{read_only}
 use Rattle.sh_exec_parts.specs.declared.simple.Assignment.{Assignment}
-use Rattle.sh_exec_command.specs.Assigning.{Step, assigned, assigned_by, assigned_one, behind, may_set, noted, stopped, value_of, valued}
+use Rattle.sh_exec_command.specs.Assigning.{Step, assignments_turn, assigned_by, assigned_one, behind, may_set, with_saved_variable, fatal_step, value_of, value_step}
 use Rattle.sh_exec_command.specs.Expanding.{Turn, start_of}
 use Rattle.sh_exec_command.specs.declared.assigning.Assigned.{Assigned}
 use Rattle.sh_exec_command.specs.declared.assigning.Assigned.TheVariants.{On, Over}
@@ -19,15 +19,15 @@ Leaves others (Over outcome) = Unit {0}
 
 -- what follows an assignment
 abbrev follows : FileMap → List Assignment → Step → Turn
-follows files others s = behind s.environment s.outcome (λ env p. assigned files others env p None)
+follows files others s = behind s.environment s.outcome (λ env p. assignments_turn files others env p None)
 
 valued_leaves : (b : Bool) (p : Prepared) (env after : Environment) (name text : List ℕ) (s : Step)
-    → s ≡ (if b then record { environment = after; outcome = On (noted p env name) } else stopped p env text) → Leaves p.assignments s.outcome
+    → s ≡ (if b then record { environment = after; outcome = On (with_saved_variable p env name) } else fatal_step p env text) → Leaves p.assignments s.outcome
 valued_leaves true p env after name text s e = subst (λ (t : Step). Leaves p.assignments t.outcome) (sym e) refl
 valued_leaves false p env after name text s e = subst (λ (t : Step). Leaves p.assignments t.outcome) (sym e) tt
 
 by_leaves : (p : Prepared) (a : Assignment) (pending : Pending) (r : expanding.Result) → Leaves p.assignments (assigned_by p a pending r).outcome
-unfolding valued
+unfolding value_step
 by_leaves p a pending (expanding.Need program env) = tt
 by_leaves p a pending (expanding.Fields fields env) = valued_leaves (may_set env a.name) p env _ a.name (read_only a.name) _ refl
 by_leaves p a pending (expanding.Stops fault env) = tt
@@ -42,15 +42,15 @@ pub on_leaves : (files : FileMap) (env : Environment) (p next : Prepared) (a : A
 on_leaves files env p next a pending s e on = subst (Leaves p.assignments) (sym (ap (λ (t : Step). t.outcome) e) ∙ on) (one_leaves files env p a pending)
 
 turned : (files : FileMap) (env : Environment) (p : Prepared) (a : Assignment) (others : List Assignment) (pending : Option Pending) (s : Step)
-    → p.assignments ≡ a ∷ others → s ≡ assigned_one files env (record p { assignments = others }) a pending → follows files others s ≡ assigned files p.assignments env p pending
-turned files env p a others pending s first e = ap (follows files others) e ∙ ap (λ xs. assigned files xs env p pending) (sym first)
+    → p.assignments ≡ a ∷ others → s ≡ assigned_one files env (record p { assignments = others }) a pending → follows files others s ≡ assignments_turn files p.assignments env p pending
+turned files env p a others pending s first e = ap (follows files others) e ∙ ap (λ xs. assignments_turn files xs env p pending) (sym first)
 
 pub goes_on : (files : FileMap) (env : Environment) (p next : Prepared) (a : Assignment) (others : List Assignment) (pending : Option Pending) (s : Step)
     → p.assignments ≡ a ∷ others → s ≡ assigned_one files env (record p { assignments = others }) a pending → s.outcome ≡ On next
-    → assigned files next.assignments s.environment next None ≡ assigned files p.assignments env p pending
+    → assignments_turn files next.assignments s.environment next None ≡ assignments_turn files p.assignments env p pending
 goes_on files env p next a others pending s first e on =
-    ap (λ xs. assigned files xs s.environment next None) (on_leaves files env (record p { assignments = others }) next a pending s e on)
-    ∙ ap (λ o. behind s.environment o (λ env p. assigned files others env p None)) (sym on)
+    ap (λ xs. assignments_turn files xs s.environment next None) (on_leaves files env (record p { assignments = others }) next a pending s e on)
+    ∙ ap (λ o. behind s.environment o (λ env p. assignments_turn files others env p None)) (sym on)
     ∙ turned files env p a others pending s first e
 
 pub falls : (others left : List Assignment) (p : Prepared) (a : Assignment) → p.assignments ≡ a ∷ others → left ≡ others → length left < length p.assignments

@@ -8,19 +8,19 @@ use Rattle.sh_files.specs.Nodes.{FileMap}
 use Rattle.sh_vars.specs.Environment.{Environment}
 
 -- the next answer serves a need; what ends needs none
-abbrev pub resumed : Result → Result → Result
-resumed (Need program env) next = next
-resumed (Fields fields env) next = Fields fields env
-resumed (Stops fault env) next = Stops fault env
+abbrev pub resumption : Result → Result → Result
+resumption (Need program env) next = next
+resumption (Fields fields env) next = Fields fields env
+resumption (Stops fault env) next = Stops fault env
 
 -- the expansion that has had the answers `given`, when these come too
-abbrev pub answered : FileMap → List Wanted → Environment → (given answers : List (List ℕ)) → Result
-answered files wanted env given [] = expand files wanted env given
-answered files wanted env given (answer ∷ answers) =
-    resumed (expand files wanted env given) (answered files wanted env (given ++ answer ∷ []) answers)
+abbrev pub expansion_after : FileMap → List Wanted → Environment → (given answers : List (List ℕ)) → Result
+expansion_after files wanted env given [] = expand files wanted env given
+expansion_after files wanted env given (answer ∷ answers) =
+    resumption (expand files wanted env given) (expansion_after files wanted env (given ++ answer ∷ []) answers)
 
-unfoldable pub expanded : FileMap → List Wanted → Environment → List (List ℕ) → Result
-expanded files wanted env answers = answered files wanted env [] answers
+unfoldable pub expansion_with : FileMap → List Wanted → Environment → List (List ℕ) → Result
+expansion_with files wanted env answers = expansion_after files wanted env [] answers
 
 -- a step and the variables with it, as what the expansion comes to
 abbrev pub result_of : Step → Environment → Result

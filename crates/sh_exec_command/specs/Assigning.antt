@@ -3,9 +3,9 @@ use Rattle.std.specs.Prelude.{ℕ, List, [], ◌∷◌, ◌++◌, not, ◌&&◌,
 use Rattle.sh_builtin.specs.Builtins.{is_special}
 use Rattle.sh_exec_parts.specs.Messages.{fault_text, read_only}
 use Rattle.sh_exec_parts.specs.declared.simple.Assignment.{Assignment}
-use Rattle.sh_exec_command.specs.Answers.{expanded}
+use Rattle.sh_exec_command.specs.Answers.{expansion_with}
 use Rattle.sh_exec_command.specs.Expanding.{Turn, fatal, start_of}
-use Rattle.sh_exec_command.specs.Preparing.{performed}
+use Rattle.sh_exec_command.specs.Preparing.{final_move}
 use Rattle.sh_exec_command.specs.Undoing.{saved_of}
 use Rattle.sh_exec_command.specs.declared.assigning.Assigned.{Assigned}
 use Rattle.sh_exec_command.specs.declared.assigning.Assigned.TheVariants.{On, Over}
@@ -45,8 +45,8 @@ unfoldable pub undo_with : Role → Environment → Undo → List ℕ → Undo
 undo_with r env undo name = if is_undone r then record undo { variables = undo.variables ++ saved_of env name ∷ [] } else undo
 
 -- the command after an assignment
-abbrev pub noted : Prepared → Environment → List ℕ → Prepared
-noted p env name = record p { undo = undo_with p.role env p.undo name }
+abbrev pub with_saved_variable : Prepared → Environment → List ℕ → Prepared
+with_saved_variable p env name = record p { undo = undo_with p.role env p.undo name }
 
 -- the one text that a value comes to
 abbrev pub text_of : List (List ℕ) → List ℕ
@@ -56,33 +56,33 @@ abbrev pub value_wanted : Parts → Wanted
 value_wanted parts = record { parts = parts; context = context.Assignment }
 
 abbrev pub value_of : FileMap → Pending → Assignment → expanding.Result
-value_of files pending assignment = expanded files (value_wanted assignment.value ∷ []) pending.start pending.answers
+value_of files pending assignment = expansion_with files (value_wanted assignment.value ∷ []) pending.start pending.answers
 
 -- what the shell's variables and the command are after one assignment
 pub record Step : Type 0 where
   pub environment : Environment
   pub outcome : Assigned
 
--- a fault ends the shell; what the command changed is undone behind the message
-abbrev pub stopped : Prepared → Environment → List ℕ → Step
-stopped p env text = record { environment = env; outcome = Over (expanded_as.Go (Held p.undo (fatal text))) }
+-- a fault ends the shell; what the command changed is undone after the message
+abbrev pub fatal_step : Prepared → Environment → List ℕ → Step
+fatal_step p env text = record { environment = env; outcome = Over (expanded_as.Go (Held p.undo (fatal text))) }
 
 -- an assignment to a read-only variable is refused (2.8.1)
 abbrev pub may_set : Environment → List ℕ → Bool
 may_set env name = is_name name && not (is_read_only env name)
 
-unfoldable pub valued : Prepared → Environment → List ℕ → List ℕ → Step
-valued p env name value =
+unfoldable pub value_step : Prepared → Environment → List ℕ → List ℕ → Step
+value_step p env name value =
     if may_set env name
-    then record { environment = with_assigned p.role env name value; outcome = On (noted p env name) }
-    else stopped p env (read_only name)
+    then record { environment = with_assigned p.role env name value; outcome = On (with_saved_variable p env name) }
+    else fatal_step p env (read_only name)
 
--- an assignment that needs an answer is the next one again; those behind it are still the command's
+-- an assignment that needs an answer is the next one again; those after it are still the command's
 abbrev pub assigned_by : Prepared → Assignment → Pending → expanding.Result → Step
 assigned_by p assignment pending (expanding.Need program env) =
     record { environment = env; outcome = Over (expanded_as.Need program (Values (record p { assignments = assignment ∷ p.assignments })) pending) }
-assigned_by p assignment pending (expanding.Fields fields env) = valued p env assignment.name (text_of fields)
-assigned_by p assignment pending (expanding.Stops fault env) = stopped p env (fault_text fault)
+assigned_by p assignment pending (expanding.Fields fields env) = value_step p env assignment.name (text_of fields)
+assigned_by p assignment pending (expanding.Stops fault env) = fatal_step p env (fault_text fault)
 
 unfoldable pub assigned_one : FileMap → Environment → Prepared → Assignment → Option Pending → Step
 assigned_one files env p assignment pending =
@@ -94,12 +94,12 @@ behind env (On p) next = next env p
 behind env (Over outcome) next = record { environment = env; outcome = outcome }
 
 -- these assignments; the answers so far are for the first of them
-abbrev pub assigned : FileMap → List Assignment → Environment → Prepared → Option Pending → Turn
-assigned files [] env p pending = record { environment = env; outcome = expanded_as.Go (performed p) }
-assigned files (assignment ∷ others) env p pending =
+abbrev pub assignments_turn : FileMap → List Assignment → Environment → Prepared → Option Pending → Turn
+assignments_turn files [] env p pending = record { environment = env; outcome = expanded_as.Go (final_move p) }
+assignments_turn files (assignment ∷ others) env p pending =
     let step = assigned_one files env (record p { assignments = others }) assignment pending in
-    behind step.environment step.outcome (λ after command. assigned files others after command None)
+    behind step.environment step.outcome (λ after command. assignments_turn files others after command None)
 
 -- what the command then does, or what it needs first
 unfoldable pub assign_turn : FileMap → Environment → Prepared → Option Pending → Turn
-assign_turn files env p pending = assigned files p.assignments env p pending
+assign_turn files env p pending = assignments_turn files p.assignments env p pending

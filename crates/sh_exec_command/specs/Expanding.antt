@@ -3,8 +3,8 @@
 use Rattle.std.specs.Prelude.{ℕ, List, [], Bool, Option, Some, None}
 use Rattle.sh_exec_parts.specs.Messages.{fault_text, message}
 use Rattle.sh_exec_parts.specs.Simple.{items_of, wanted_of}
-use Rattle.sh_exec_command.specs.Answers.{expanded}
-use Rattle.sh_exec_command.specs.Preparing.{begun, prepared_of}
+use Rattle.sh_exec_command.specs.Answers.{expansion_with}
+use Rattle.sh_exec_command.specs.Preparing.{first_move, prepared_of}
 use Rattle.sh_exec_command.specs.declared.running.Active.{Active}
 use Rattle.sh_exec_command.specs.declared.running.Active.TheVariants.{Next}
 use Rattle.sh_exec_command.specs.declared.running.Expanded.{Expanded}
@@ -38,13 +38,13 @@ abbrev pub words_by : Command → (in_place : Bool) → (status : ℕ) → Pendi
 words_by command in_place status pending (expanding.Need program env) =
     record { environment = env; outcome = Need program (Words command in_place status) pending }
 words_by command in_place status pending (expanding.Fields fields env) =
-    record { environment = env; outcome = Go (begun in_place (prepared_of env (items_of command) fields status)) }
+    record { environment = env; outcome = Go (first_move in_place (prepared_of env (items_of command) fields status)) }
 words_by command in_place status pending (expanding.Stops fault env) =
     record { environment = env; outcome = Go (At (fatal (fault_text fault))) }
 
 abbrev pub words_from : FileMap → Command → (in_place : Bool) → (status : ℕ) → Pending → Turn
 words_from files command in_place status pending =
-    words_by command in_place status pending (expanded files (wanted_of (items_of command)) pending.start pending.answers)
+    words_by command in_place status pending (expansion_with files (wanted_of (items_of command)) pending.start pending.answers)
 
 unfoldable pub words_turn : FileMap → Environment → Command → (in_place : Bool) → (status : ℕ) → Option Pending → Turn
 words_turn files env command in_place status pending = words_from files command in_place status (start_of env pending)

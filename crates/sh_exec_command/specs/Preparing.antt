@@ -4,7 +4,7 @@ use Rattle.std.specs.List.{list_any}
 use Rattle.sh_builtin.specs.Builtins.{builtin_of, is_special}
 use Rattle.sh_builtin.specs.declared.builtin.Builtin.{Builtin}
 use Rattle.sh_exec_parts.specs.Messages.{message, not_redirected}
-use Rattle.sh_exec_parts.specs.Redirections.{prepared}
+use Rattle.sh_exec_parts.specs.Redirections.{redirections_of}
 use Rattle.sh_exec_parts.specs.Simple.{assignments_of, is_redirect, is_word, items_of, redirect_fields, redirects_of, word_fields}
 use Rattle.sh_exec_parts.specs.declared.redirection.Redirection.{Redirection}
 use Rattle.sh_exec_parts.specs.declared.simple.Assignment.{Assignment}
@@ -50,7 +50,7 @@ wants_of in_place command =
 unfoldable pub first_place : Bool → Command → Place
 first_place in_place command = Expanding (wants_of in_place command) None
 
--- ---- the command of these fields (2.9.1.4): a built-in's name goes before a program's
+-- ---- the command of these fields (2.9.1.4): a built-in is found before a program of that name
 abbrev pub role_by : Option Builtin → Role
 role_by (Some builtin) = role.Builtin builtin
 role_by None = role.Program
@@ -65,7 +65,7 @@ prepared_of env items fields status =
     record {
       role = role_of (word_fields fields count);
       fields = word_fields fields count;
-      redirections = prepared env.options.no_clobber (redirects_of items) (redirect_fields fields count);
+      redirections = redirections_of env.options.no_clobber (redirects_of items) (redirect_fields fields count);
       assignments = assignments_of items;
       undo = no_undo;
       status = status;
@@ -88,14 +88,14 @@ performed_by p (role.Builtin builtin) = Held p.undo (Acting builtin p.fields)
 performed_by p role.Program = At (Next (Starting p.fields))
 
 -- a command without a name has the status of its last substitution; a built-in acts in the same turn; a program is started
-unfoldable pub performed : Prepared → Move
-performed p = performed_by p p.role
+unfoldable pub final_move : Prepared → Move
+final_move p = performed_by p p.role
 
 -- first the redirections, then the assignments (2.9.1.1)
 abbrev pub ahead_by : Prepared → List Redirection → List Assignment → Move
 ahead_by p (redirection ∷ redirections) assignments = At (Next (Redirecting p))
 ahead_by p [] (assignment ∷ assignments) = At (Next (Expanding (Values p) None))
-ahead_by p [] [] = performed p
+ahead_by p [] [] = final_move p
 
 unfoldable pub ahead : Prepared → Move
 ahead p = ahead_by p p.redirections p.assignments
@@ -106,9 +106,10 @@ forks role.Nameless in_place = false
 forks (role.Builtin builtin) in_place = false
 forks role.Program in_place = not in_place
 
-unfoldable pub begun : (in_place : Bool) → Prepared → Move
-begun in_place p = if forks p.role in_place then At (Next (Forking p)) else ahead p
+unfoldable pub first_move : (in_place : Bool) → Prepared → Move
+first_move in_place p = if forks p.role in_place then At (Next (Forking p)) else ahead p
 
--- a redirection that can't be done (2.8.1): its message is written while those before it still stand
+-- a redirection that can't be done (2.8.1): its message is written while the redirections before it still
+-- hold
 unfoldable pub not_done : Prepared → List ℕ → KernelFault → Move
 not_done p word fault = Held p.undo (Next (Writing (message (not_redirected word fault)) (failing_of p.role)))

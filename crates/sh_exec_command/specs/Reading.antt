@@ -24,14 +24,14 @@ answer_of (Err (BadSubstitution at used)) = answer.Fault refusal.BadSubstitution
 answer_of (Err (TooDeep at used)) = answer.Fault refusal.TooDeep
 answer_of (Err (NoMemory _)) = answer.Fault refusal.Syntax
 
--- what is found by such an answer; a blank text leads on to the bytes behind it
+-- what is found by such an answer; a blank text leads on to the bytes after it
 abbrev pub found_by : Answer → List ℕ → (ℕ → Found) → Found
 found_by (answer.Command tree used) text on = Command tree (drop used text)
 found_by (answer.Blank zero) text on = Nothing
 found_by (answer.Blank (suc count)) text on = on count
 found_by (answer.Fault refusal) text on = Fault refusal
 
--- what is found in a text behind as many bytes
+-- what is found in a text after so many bytes
 abbrev pub found_behind : List ℕ → ℕ → Found
 found_behind [] count = Nothing
 found_behind (byte ∷ bytes) (suc count) = found_behind bytes count

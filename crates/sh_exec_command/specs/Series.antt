@@ -2,7 +2,7 @@
 use Rattle.std.specs.Prelude.{ℕ, List, [], ◌∷◌, map, Option, Some, None, if◌then◌else◌}
 use Rattle.sh_exec_parts.specs.Messages.{fault_text, read_only}
 use Rattle.sh_exec_parts.specs.Simple.{Opened, word_wanted}
-use Rattle.sh_exec_command.specs.Answers.{expanded}
+use Rattle.sh_exec_command.specs.Answers.{expansion_with}
 use Rattle.sh_exec_command.specs.Assigning.{may_set}
 use Rattle.sh_exec_command.specs.Expanding.{Turn, fatal, start_of}
 use Rattle.sh_exec_command.specs.declared.running.Active.{Active}
@@ -24,7 +24,7 @@ use Rattle.sh_files.specs.Nodes.{FileMap}
 use Rattle.sh_syntax.specs.declared.tree.Command.{Command}
 use Rattle.sh_syntax.specs.declared.tree.Command.TheOpen as layer
 use Rattle.sh_syntax.specs.declared.tree.Command.TheViews as view
-use Rattle.sh_syntax.specs.declared.tree.Complete.{Complete}
+use Rattle.sh_syntax.specs.declared.tree.CompoundList.{CompoundList}
 use Rattle.sh_syntax.specs.declared.tree.Word.{Word}
 use Rattle.sh_vars.specs.Environment.{Environment, with_value}
 
@@ -54,14 +54,14 @@ abbrev pub given_by : Series → List (List ℕ) → ℕ → Active
 given_by series [] status = Done status
 given_by series (value ∷ values) status = Next (Giving series)
 
-abbrev pub given : Series → ℕ → Active
-given series status = given_by series series.values status
+abbrev pub rest_of_series : Series → ℕ → Active
+rest_of_series series status = given_by series series.values status
 
-abbrev pub begun_with : List ℕ → List (List ℕ) → Complete → Active
-begun_with name values body = given (record { name = name; values = values; body = body }) 0
+abbrev pub begun_with : List ℕ → List (List ℕ) → CompoundList → Active
+begun_with name values body = rest_of_series (record { name = name; values = values; body = body }) 0
 
 -- ---- the turn of the words
-abbrev pub series_by : Command → Pending → List ℕ → Complete → expanding.Result → Turn
+abbrev pub series_by : Command → Pending → List ℕ → CompoundList → expanding.Result → Turn
 series_by command pending name body (expanding.Need program env) =
     record { environment = env; outcome = Need program (wants.Series command) pending }
 series_by command pending name body (expanding.Fields fields env) =
@@ -69,9 +69,9 @@ series_by command pending name body (expanding.Fields fields env) =
 series_by command pending name body (expanding.Stops fault env) =
     record { environment = env; outcome = Go (At (fatal (fault_text fault))) }
 
-abbrev pub values_turn : FileMap → Environment → Command → Option Pending → List ℕ → Complete → Values → Turn
+abbrev pub values_turn : FileMap → Environment → Command → Option Pending → List ℕ → CompoundList → Values → Turn
 values_turn files env command pending name body (Words wanted) =
-    let p = start_of env pending in series_by command p name body (expanded files wanted p.start p.answers)
+    let p = start_of env pending in series_by command p name body (expansion_with files wanted p.start p.answers)
 values_turn files env command pending name body Parameters =
     record { environment = env; outcome = Go (At (begun_with name env.positional body)) }
 

@@ -12,11 +12,11 @@ saved_by name None = saved.Absent name
 unfoldable pub saved_of : Environment → List ℕ → Saved
 saved_of env name = saved_by name (variable_of env name)
 
-abbrev pub restored : Saved → Environment → Environment
-restored (saved.Variable entry) env = with_variable env entry.0 entry.1
-restored (saved.Absent name) env = without env name
+abbrev pub with_saved : Saved → Environment → Environment
+with_saved (saved.Variable entry) env = with_variable env entry.0 entry.1
+with_saved (saved.Absent name) env = without env name
 
--- they stand in the order in which they were saved
+-- the list is in the order in which they were saved; the last is restored first
 abbrev pub all_restored : List Saved → Environment → Environment
 all_restored [] env = env
-all_restored (s ∷ ss) env = restored s (all_restored ss env)
+all_restored (s ∷ ss) env = with_saved s (all_restored ss env)

@@ -1,6 +1,6 @@
 //! Expansions with answers.
 ghost use Rattle.std.specs.Prelude.{◌≡◌, IfOk};
-ghost use Rattle.sh_exec_command.specs.Answers.{expanded, result_of};
+ghost use Rattle.sh_exec_command.specs.Answers.{expansion_with, result_of};
 
 use sh_base::NoMemory;
 use sh_base::sequence::{Sequence, Text};
@@ -10,7 +10,7 @@ use sh_vars::Vars;
 use std::alloc::Global;
 
 /// What words come to in these variables, with these answers, in the files of this turn.
-#[tactic(auto, unfolding(crate::specs::Answers::expanded))]
+#[tactic(auto, unfolding(crate::specs::Answers::expansion_with))]
 pub(crate) fn expand(
     alloc: Global,
     wanted: Sequence<Wanted>,
@@ -18,7 +18,8 @@ pub(crate) fn expand(
     files: &Files,
     answers: &[Text],
 ) -> Result<Step, NoMemory>
-    ensures { IfOk result (λ step. result_of step vars.new ≡ expanded files.now wanted vars.old answers.now) }
+    ensures { IfOk result (λ step.
+        result_of step vars.new ≡ expansion_with files.now wanted vars.old answers.now) }
 {
     let (started, first) = Expansion::start(alloc, wanted, vars, files)?;
     let mut expansion = started;

@@ -1,7 +1,7 @@
 //! The assignment turn of a simple command.
 ghost use Rattle.std.specs.Prelude.{◌≡◌, ◌∷◌, [], IfOk, IsTrue, OnOk};
-ghost use Rattle.sh_exec_command.specs.Answers.{expanded, result_of};
-ghost use Rattle.sh_exec_command.specs.Assigning.{assign_turn, assigned, assigned_by, assigned_one, is_passing, is_undone, may_set, noted, stopped, text_of, undo_with, value_of, value_wanted, valued, with_assigned};
+ghost use Rattle.sh_exec_command.specs.Answers.{expansion_with, result_of};
+ghost use Rattle.sh_exec_command.specs.Assigning.{assign_turn, assignments_turn, assigned_by, assigned_one, is_passing, is_undone, may_set, with_saved_variable, fatal_step, text_of, undo_with, value_of, value_wanted, value_step, with_assigned};
 ghost use Rattle.sh_exec_parts.specs.Messages.{fault_text};
 ghost use Rattle.sh_exec_command.specs.Expanding.{fatal, start_of};
 ghost use Rattle.sh_vars.specs.Environment.{with_value};
@@ -18,7 +18,7 @@ use sh_exec_parts::message::{Piece, not_expanded, read_only};
 use sh_exec_parts::simple::Assignment;
 use sh_expand::{Context, Fault, Step, Wanted};
 use sh_files::Files;
-use sh_syntax::tree::{Complete, Parts};
+use sh_syntax::tree::{CompoundList, Parts};
 use sh_vars::{Vars, VarsFault, is_name};
 use std::alloc::Global;
 
@@ -42,7 +42,7 @@ fn is_passing(role: Role) -> bool
     }
 }
 
-/// Whether they are brought back behind the command.
+/// Whether they are brought back after the command.
 fn is_undone(role: Role) -> bool
     ensures { result ≡ is_undone role }
 {
@@ -116,7 +116,7 @@ fn undo_with(
 
 /// A command with one assignment more to be undone.
 fn note(alloc: Global, prepared: Prepared, vars: &Vars, name: &[u8]) -> Result<Prepared, NoMemory>
-    ensures { IfOk result (λ next. next ≡ noted prepared vars.now name.now) }
+    ensures { IfOk result (λ next. next ≡ with_saved_variable prepared vars.now name.now) }
 {
     let Prepared {
         role,
@@ -139,14 +139,16 @@ fn note(alloc: Global, prepared: Prepared, vars: &Vars, name: &[u8]) -> Result<P
 
 /// The turn is over with a fault, whose message is this.
 fn stop(prepared: Prepared, piece: Piece) -> Assigned
-    ensures { result ≡ Assigned.Over (Expanded.Go (Move.Held prepared.undo (Active.Next (Place.Writing piece (Finish.Leave 2))))) }
+    ensures { result ≡ Assigned.Over
+        (Expanded.Go
+        (Move.Held prepared.undo (Active.Next (Place.Writing piece (Finish.Leave 2))))) }
 {
     let Prepared { undo, .. } = prepared;
     Assigned::Over(Expanded::Go(Move::Held(undo, fatal_message(piece))))
 }
 
 /// The assignment of a value.
-#[tactic(auto, unfolding(crate::specs::Assigning::valued))]
+#[tactic(auto, unfolding(crate::specs::Assigning::value_step))]
 fn assign(
     alloc: Global,
     prepared: Prepared,
@@ -154,7 +156,9 @@ fn assign(
     value: &[u8],
     vars: &mut Vars,
 ) -> Result<Assigned, NoMemory>
-    ensures { IfOk result (λ a. record { environment = vars.new; outcome = a } ≡ valued prepared vars.old name.now value.now) }
+    ensures { IfOk result (λ a.
+        record { environment = vars.new; outcome = a } ≡ value_step prepared vars.old name.now
+        value.now) }
 {
     if !may_set(vars, name) {
         let piece = match read_only(alloc, name) {
@@ -195,7 +199,9 @@ fn expand_value(
     vars: &mut Vars,
     files: &Files,
 ) -> Result<Step, NoMemory>
-    ensures { IfOk result (λ step. result_of step vars.new ≡ expanded files.now (value_wanted value.now ∷ []) pending.now.start pending.now.answers) }
+    ensures { IfOk result (λ step.
+        result_of step vars.new ≡ expansion_with files.now (value_wanted value.now ∷ [])
+        pending.now.start pending.now.answers) }
 {
     let mut wanted = Sequence::new(alloc);
     wanted.push(Wanted {
@@ -208,7 +214,8 @@ fn expand_value(
 
 /// A command whose next assignment is this one again.
 fn put_again(prepared: Prepared, assignment: Assignment) -> Result<Prepared, NoMemory>
-    ensures { IfOk result (λ next. next ≡ record prepared { assignments = assignment ∷ prepared.assignments }) }
+    ensures { IfOk result (λ next.
+        next ≡ record prepared { assignments = assignment ∷ prepared.assignments }) }
 {
     let mut prepared = prepared;
     prepared.assignments.put_front(assignment)?;
@@ -219,10 +226,14 @@ fn put_again(prepared: Prepared, assignment: Assignment) -> Result<Prepared, NoM
 fn wait(
     prepared: Prepared,
     assignment: Assignment,
-    program: Shared<Complete>,
+    program: Shared<CompoundList>,
     pending: Pending,
 ) -> Result<Assigned, NoMemory>
-    ensures { IfOk result (λ next. next ≡ Assigned.Over (Expanded.Need program (Wants.Values (record prepared { assignments = assignment ∷ prepared.assignments })) pending)) }
+    ensures { IfOk result (λ next.
+        next ≡ Assigned.Over
+        (Expanded.Need program
+        (Wants.Values (record prepared { assignments = assignment ∷ prepared.assignments }))
+        pending)) }
 {
     let again = match put_again(prepared, assignment) {
         Ok(again) => again,
@@ -247,7 +258,9 @@ fn assign_fields(
     fields: Sequence<Text>,
     vars: &mut Vars,
 ) -> Result<Assigned, NoMemory>
-    ensures { IfOk result (λ a. record { environment = vars.new; outcome = a } ≡ valued prepared vars.old assignment.name (text_of fields)) }
+    ensures { IfOk result (λ a.
+        record { environment = vars.new; outcome = a }
+        ≡ value_step prepared vars.old assignment.name (text_of fields)) }
 {
     let name = assignment.name.as_slice();
     let next = assign(alloc, prepared, name, text_of(fields.as_slice()), vars);
@@ -258,7 +271,8 @@ fn assign_fields(
 
 /// The turn is over with the fault of a value.
 fn fail(alloc: Global, prepared: Prepared, fault: Fault) -> Result<Assigned, NoMemory>
-    ensures { IfOk result (λ a. a ≡ Assigned.Over (Expanded.Go (Move.Held prepared.undo (fatal (fault_text fault))))) }
+    ensures { IfOk result (λ a.
+        a ≡ Assigned.Over (Expanded.Go (Move.Held prepared.undo (fatal (fault_text fault))))) }
 {
     let piece = match not_expanded(alloc, fault) {
         Ok(piece) => piece,
@@ -270,7 +284,7 @@ fn fail(alloc: Global, prepared: Prepared, fault: Fault) -> Result<Assigned, NoM
     Ok(stop(prepared, piece))
 }
 
-/// The next assignment of a command, which has those behind it.
+/// The next assignment of a command, which has those after it.
 #[tactic(auto, unfolding(crate::specs::Assigning::assigned_one))]
 fn assign_one(
     alloc: Global,
@@ -280,7 +294,9 @@ fn assign_one(
     vars: &mut Vars,
     files: &Files,
 ) -> Result<Assigned, NoMemory>
-    ensures { IfOk result (λ a. record { environment = vars.new; outcome = a } ≡ assigned_one files.now vars.old prepared assignment pending) }
+    ensures { IfOk result (λ a.
+        record { environment = vars.new; outcome = a } ≡ assigned_one files.now vars.old prepared
+        assignment pending) }
 {
     let pending = match start(alloc, vars, pending) {
         Ok(pending) => pending,
@@ -320,7 +336,9 @@ pub fn assign_turn(
     vars: &mut Vars,
     files: &Files,
 ) -> Result<Expanded, NoMemory>
-    ensures { IfOk result (λ e. record { environment = vars.new; outcome = e } ≡ assign_turn files.now vars.old prepared pending) }
+    ensures { IfOk result (λ e.
+        record { environment = vars.new; outcome = e } ≡ assign_turn files.now vars.old prepared
+        pending) }
 {
     let mut prepared = prepared;
     let mut pending = pending;

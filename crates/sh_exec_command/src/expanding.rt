@@ -1,10 +1,10 @@
 //! The expansion turn of a simple command's words.
 ghost use Rattle.std.specs.Prelude.{◌≡◌, IfOk};
-ghost use Rattle.sh_exec_command.specs.Answers.{expanded, result_of};
+ghost use Rattle.sh_exec_command.specs.Answers.{expansion_with, result_of};
 ghost use Rattle.sh_exec_parts.specs.Messages.{fault_text};
 ghost use Rattle.sh_exec_parts.specs.Simple.{items_of, wanted_of};
 ghost use Rattle.sh_exec_command.specs.Expanding.{fatal, start_of, words_by, words_turn};
-ghost use Rattle.sh_exec_command.specs.Preparing.{begun, prepared_of};
+ghost use Rattle.sh_exec_command.specs.Preparing.{first_move, prepared_of};
 ghost use Rattle.sh_expand.specs.Expanding as expanding;
 
 use crate::answers::expand;
@@ -53,7 +53,9 @@ fn expand_words(
     vars: &mut Vars,
     files: &Files,
 ) -> Result<Step, NoMemory>
-    ensures { IfOk result (λ step. result_of step vars.new ≡ expanded files.now (wanted_of (items_of command.now)) pending.now.start pending.now.answers) }
+    ensures { IfOk result (λ step.
+        result_of step vars.new ≡ expansion_with files.now (wanted_of (items_of command.now))
+        pending.now.start pending.now.answers) }
 {
     let wanted = wanted_of(alloc, items_of(command))?;
     let start = match pending.start.copy() {
@@ -76,7 +78,9 @@ fn begin(
     fields: Sequence<Text>,
     vars: &Vars,
 ) -> Result<Expanded, NoMemory>
-    ensures { IfOk result (λ e. e ≡ Expanded.Go (begun in_place (prepared_of vars.now (items_of command) fields status))) }
+    ensures { IfOk result (λ e.
+        e ≡ Expanded.Go
+        (first_move in_place (prepared_of vars.now (items_of command) fields status))) }
 {
     let items = items_of(command.get());
     let prepared = prepare(alloc, vars, items, fields.as_slice(), status);
@@ -106,7 +110,9 @@ pub fn words_turn(
     vars: &mut Vars,
     files: &Files,
 ) -> Result<Expanded, NoMemory>
-    ensures { IfOk result (λ e. record { environment = vars.new; outcome = e } ≡ words_turn files.now vars.old command in_place status pending) }
+    ensures { IfOk result (λ e.
+        record { environment = vars.new; outcome = e } ≡ words_turn files.now vars.old command
+        in_place status pending) }
 {
     let pending = match start(alloc, vars, pending) {
         Ok(pending) => pending,

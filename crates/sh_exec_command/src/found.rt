@@ -1,13 +1,13 @@
 //! What a reading turn finds.
 use sh_exec_parts::Rest;
 use sh_exec_parts::message::Refusal;
-use sh_syntax::tree::Complete;
+use sh_syntax::tree::CompoundList;
 
 /// What one reading of a text answers.
 #[derive(Drop)]
 pub enum Answer {
     /// A complete command, and how many bytes it takes.
-    Command(Complete, usize),
+    Command(CompoundList, usize),
     /// As many bytes without a command.
     Blank(usize),
     /// The text of the next command is refused.
@@ -19,8 +19,8 @@ pub enum Answer {
 pub enum Found {
     /// No command follows.
     Nothing,
-    /// The next complete command, and the text behind it.
-    Command(Complete, Rest),
+    /// The next complete command, and the text after it.
+    Command(CompoundList, Rest),
     /// The text of the next command is refused.
     Fault(Refusal),
 }

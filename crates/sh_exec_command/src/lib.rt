@@ -1,5 +1,6 @@
-//! A simple command of a shell between its turns (XCU 2.9.1): what its words, its redirections and its assignments come to, and
-//! what it does then. Nothing here calls a kernel; what a turn asks of one is said by the place at which the shell then stands.
+//! A simple command of a shell between its turns (XCU 2.9.1): what its words, its redirections and its
+//! assignments come to, and what it does then. Nothing here calls a kernel; what a turn asks of one is told
+//! by the shell's next place.
 #![tactic(auto)]
 
 mod answers;

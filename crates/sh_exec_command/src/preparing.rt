@@ -1,6 +1,6 @@
 //! A simple command from its tree to its first place, and from its expanded words to what it does.
 ghost use Rattle.std.specs.Prelude.{◌≡◌, IfOk};
-ghost use Rattle.sh_exec_command.specs.Preparing.{ahead, begun, failing, failing_of, first_place, forks, nameless, no_undo, not_done, performed, prepared_of, role_by, role_of, wants_of};
+ghost use Rattle.sh_exec_command.specs.Preparing.{ahead, first_move, failing, failing_of, first_place, forks, nameless, no_undo, not_done, final_move, prepared_of, role_by, role_of, wants_of};
 
 use crate::running::{Active, Finish, Move, Place, Prepared, Role, Undo, Wants};
 use sh_base::NoMemory;
@@ -138,9 +138,9 @@ fn failing_of(role: Role) -> Finish
 }
 
 /// What a command does, once all else is done.
-#[tactic(auto, unfolding(crate::specs::Preparing::performed))]
+#[tactic(auto, unfolding(crate::specs::Preparing::final_move))]
 pub(crate) fn perform(prepared: Prepared) -> Move
-    ensures { result ≡ performed prepared }
+    ensures { result ≡ final_move prepared }
 {
     let Prepared {
         role,
@@ -156,8 +156,8 @@ pub(crate) fn perform(prepared: Prepared) -> Move
     }
 }
 
-/// Where a command whose words are expanded, or of which a redirection is done, goes on: first its redirections, then its
-/// assignments. Takes no memory.
+/// Where a command goes on once its words are expanded, or a redirection is done: first its redirections,
+/// then its assignments. Takes no memory.
 #[tactic(auto, unfolding(crate::specs::Preparing::ahead))]
 pub fn go_ahead(prepared: Prepared) -> Move
     ensures { result ≡ ahead prepared }
@@ -184,9 +184,9 @@ fn forks(role: Role, in_place: bool) -> bool
 }
 
 /// Where a command whose words are expanded goes on.
-#[tactic(auto, unfolding(crate::specs::Preparing::begun))]
+#[tactic(auto, unfolding(crate::specs::Preparing::first_move))]
 pub(crate) fn begin_command(in_place: bool, prepared: Prepared) -> Move
-    ensures { result ≡ begun in_place prepared }
+    ensures { result ≡ first_move in_place prepared }
 {
     if forks(prepared.role, in_place) {
         return Move::At(Active::Next(Place::Forking(prepared)));
@@ -194,7 +194,7 @@ pub(crate) fn begin_command(in_place: bool, prepared: Prepared) -> Move
     go_ahead(prepared)
 }
 
-/// Where a command goes on of which a redirection can't be done, which a message names by this word.
+/// Where a command goes on after a redirection that can't be done, which a message names by this word.
 #[tactic(auto, unfolding(crate::specs::Preparing::not_done))]
 pub fn not_done(
     alloc: Global,

@@ -32,7 +32,7 @@ fn read_once(alloc: Global, text: &[u8]) -> Result<Answer, NoMemory>
     }
 }
 
-/// The next complete command of a text that is there whole, and what is left behind it.
+/// The next complete command of a text that is there whole, and what is left after it.
 pub fn find_command(alloc: Global, text: Rest) -> Result<Found, NoMemory>
     ensures { IfOk result (λ found. found ≡ next_command text) }
 {

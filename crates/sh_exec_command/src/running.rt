@@ -1,4 +1,4 @@
-//! Where a shell stands before its next action.
+//! The place of a shell: its next action, with all that this needs.
 use sh_base::sequence::{Sequence, Text};
 use sh_base::shared::Shared;
 use sh_builtin::{Builtin, Leave};
@@ -7,7 +7,7 @@ use sh_exec_parts::message::Piece;
 use sh_exec_parts::redirection::Redirection;
 use sh_exec_parts::simple::Assignment;
 use sh_exec_parts::{Queue, Rest};
-use sh_syntax::tree::{Command, Complete};
+use sh_syntax::tree::{Command, CompoundList};
 use sh_vars::{Entry, Vars};
 
 /// What runs a simple command (XCU 2.9.1).
@@ -30,7 +30,8 @@ pub enum Saved {
     Absent(Text),
 }
 
-/// How what a command changed is undone behind it; in both the last one comes first.
+/// How what a command changed is undone after it. Both lists are in the order of the changes, of which the
+/// last is undone first.
 #[derive(Drop)]
 pub struct Undo {
     pub descriptors: Sequence<Undone>,
@@ -59,7 +60,7 @@ pub struct Series {
     pub name: Text,
     /// The values that the variable is still to have.
     pub values: Queue<Text>,
-    pub body: Shared<Complete>,
+    pub body: Shared<CompoundList>,
 }
 
 /// What is expanded.
@@ -177,7 +178,7 @@ pub enum Move {
 pub enum Expanded {
     /// What this program writes is needed.
     Need {
-        program: Shared<Complete>,
+        program: Shared<CompoundList>,
         wants: Wants,
         pending: Pending,
     },

@@ -1,9 +1,9 @@
 //! The values of a `for`.
 ghost use Rattle.std.specs.Prelude.{◌≡◌, IfOk, map};
-ghost use Rattle.sh_exec_command.specs.Answers.{expanded, result_of};
+ghost use Rattle.sh_exec_command.specs.Answers.{expansion_with, result_of};
 ghost use Rattle.sh_exec_command.specs.Expanding.{start_of};
 ghost use Rattle.sh_syntax.specs.declared.tree.Command.TheViews as view;
-ghost use Rattle.sh_exec_command.specs.Series.{begun_with, give_by, give_turn, given, header_in, header_of, header_turn, series_by, series_turn, values_turn, word_of_series};
+ghost use Rattle.sh_exec_command.specs.Series.{begun_with, give_by, give_turn, rest_of_series, header_in, header_of, header_turn, series_by, series_turn, values_turn, word_of_series};
 
 use crate::answers::expand;
 use crate::assigning::{may_set, set_plain};
@@ -16,7 +16,7 @@ use sh_exec_parts::Queue;
 use sh_exec_parts::message::{not_expanded, read_only};
 use sh_expand::{Context, Step, Wanted};
 use sh_files::Files;
-use sh_syntax::tree::{Command, Complete, CompoundForm, Name, Word};
+use sh_syntax::tree::{Command, CompoundForm, CompoundList, Name, Word};
 use sh_vars::Vars;
 use std::alloc::Global;
 
@@ -34,7 +34,7 @@ pub(crate) enum Values {
 pub(crate) struct Header {
     name: Text,
     values: Values,
-    body: Shared<Complete>,
+    body: Shared<CompoundList>,
 }
 
 /// The words of a `for`, to be expanded.
@@ -58,9 +58,10 @@ fn with_header(
     alloc: Global,
     name: &Name,
     values: Values,
-    body: &Shared<Complete>,
+    body: &Shared<CompoundList>,
 ) -> Result<Header, NoMemory>
-    ensures { IfOk result (λ h. h ≡ record { name = name.now.name; values = values; body = body.now }) }
+    ensures { IfOk result (λ h.
+        h ≡ record { name = name.now.name; values = values; body = body.now }) }
 {
     let name = Text::copy_of(alloc, name.name.as_slice())?;
     let body = body.share()?;
@@ -104,7 +105,7 @@ fn header_of(alloc: Global, command: &Command) -> Result<Option<Header>, NoMemor
 impl Series {
     /// What a `for` goes on with: its next value, or its end with this status where none is left. Takes no memory.
     pub fn go_on(self, status: u8) -> Active
-        ensures { result ≡ given self status }
+        ensures { result ≡ rest_of_series self status }
     {
         if self.values.is_empty() {
             return Active::Done(status);
@@ -123,7 +124,9 @@ fn expand_words(
     vars: &mut Vars,
     files: &Files,
 ) -> Result<Expanded, NoMemory>
-    ensures { IfOk result (λ e. record { environment = vars.new; outcome = e } ≡ series_by command pending series.name series.body (expanded files.now wanted pending.start pending.answers)) }
+    ensures { IfOk result (λ e.
+        record { environment = vars.new; outcome = e } ≡ series_by command pending series.name
+        series.body (expansion_with files.now wanted pending.start pending.answers)) }
 {
     *vars = pending.start.copy()?;
     match expand(alloc, wanted, vars, files, pending.answers.as_slice())? {
@@ -158,7 +161,9 @@ pub fn series_turn(
     vars: &mut Vars,
     files: &Files,
 ) -> Result<Expanded, NoMemory>
-    ensures { IfOk result (λ e. record { environment = vars.new; outcome = e } ≡ series_turn files.now vars.old command pending) }
+    ensures { IfOk result (λ e.
+        record { environment = vars.new; outcome = e } ≡ series_turn files.now vars.old command
+        pending) }
 {
     let Some(Header { name, values, body }) = header_of(alloc, command.get())? else {
         return Ok(Expanded::Go(Move::At(Active::Done(0))));
@@ -198,7 +203,8 @@ pub enum Round {
 /// left open.
 #[tactic(auto, unfolding(crate::specs::Series::give_turn))]
 pub fn give_turn(alloc: Global, series: Series, vars: &mut Vars) -> Result<Round, NoMemory>
-    ensures { IfOk result (λ r. record { environment = vars.new; round = r } ≡ give_turn vars.old series) }
+    ensures { IfOk result (λ r.
+        record { environment = vars.new; round = r } ≡ give_turn vars.old series) }
 {
     let Series { name, values, body } = series;
     let mut values = values;

@@ -1,6 +1,6 @@
 //! Undoing a command's assignments.
 ghost use Rattle.std.specs.Prelude.{◌≡◌, IfOk, OnOk};
-ghost use Rattle.sh_exec_command.specs.Undoing.{all_restored, restored, saved_of};
+ghost use Rattle.sh_exec_command.specs.Undoing.{all_restored, with_saved, saved_of};
 
 use crate::running::Saved;
 use sh_base::NoMemory;
@@ -25,7 +25,7 @@ pub(crate) fn save(alloc: Global, vars: &Vars, name: &[u8]) -> Result<Saved, NoM
 
 /// Brings a variable back.
 fn restore(vars: &mut Vars, saved: Saved) -> Result<(), NoMemory>
-    ensures { OnOk result (vars.new ≡ restored saved vars.old) }
+    ensures { OnOk result (vars.new ≡ with_saved saved vars.old) }
 {
     match saved {
         Saved::Variable(entry) => {

@@ -5,12 +5,12 @@ use Rattle.sh_exec_command.specs.Preparing.{first_place}
 use Rattle.sh_exec_command.specs.declared.running.Active.TheVariants.{Next, Done}
 use Rattle.sh_exec_command.specs.declared.running.Place.TheVariants.{Expanding}
 use Rattle.sh_exec_command.specs.declared.running.Wants.TheVariants.{Series}
-use Rattle.sh_exec_forms.specs.Entering.{Entry, and_or_run, and_or_step, command_entry, command_run, command_step, commands_run, commands_step, complete_step, compound_entry, compound_step, entered, form_entry, form_step, item_run, joined, list_item_step, list_run, negated, pipeline_run, pipeline_step, staging, to_enter, tree, trees, unentered}
+use Rattle.sh_exec_forms.specs.Entering.{Entry, and_or_run, and_or_step, command_entry, command_run, command_step, commands_run, commands_step, compound_list_step, compound_entry, compound_step, items_run, form_entry, form_step, item_run, with_others, list_item_step, list_run, with_negation, pipeline_run, pipeline_step, staging, to_enter, tree, trees, no_entry}
 use Rattle.sh_exec_forms.specs.Running.{Run, At, In}
 use Rattle.sh_exec_forms.specs.declared.form.Form.TheVariants.{Commands, Condition, If}
 use Rattle.sh_syntax.specs.declared.tree.AndOr.{AndOr}
 use Rattle.sh_syntax.specs.declared.tree.Command.{Command}
-use Rattle.sh_syntax.specs.declared.tree.Complete.{Complete}
+use Rattle.sh_syntax.specs.declared.tree.CompoundList.{CompoundList}
 use Rattle.sh_syntax.specs.declared.tree.Compound.{Compound}
 use Rattle.sh_syntax.specs.declared.tree.ElseIf.{ElseIf}
 use Rattle.sh_syntax.specs.declared.tree.ListItem.{ListItem}
@@ -36,36 +36,36 @@ tree_beside f None = refl
 tree_beside f (Some x) = refl
 
 -- ---- lists
-pub behind_first : (item : ListItem) (items : List ListItem) (status : ℕ) → entered (item ∷ items) status ≡ In (Commands items) (item_run item)
+pub behind_first : (item : ListItem) (items : List ListItem) (status : ℕ) → items_run (item ∷ items) status ≡ In (Commands items) (item_run item)
 behind_first item items status = ap (λ others. In (Commands others) (item_run item)) (trees_beside item_run items)
 
-pub list_is : (x : Complete) → list_run x ≡ entered (view.out-Complete x).items 0
+pub list_is : (x : CompoundList) → list_run x ≡ items_run (view.out-CompoundList x).items 0
 unfolding list_run item_run
-list_is x = ap list_run (sym (view.roll-out-Complete x)) ∙ folds.para-roll-Complete Entry Entry (Unit {0}) (Unit {0}) (Unit {0}) Run (Unit {0}) Run Entry (Unit {0}) (Unit {0}) Run (Unit {0}) Run (Unit {0}) (Unit {0})
-    command_step form_step unentered unentered unentered and_or_step unentered complete_step compound_step unentered unentered list_item_step unentered pipeline_step unentered unentered (view.out-Complete x)
+list_is x = ap list_run (sym (view.roll-out-CompoundList x)) ∙ folds.para-roll-CompoundList Entry Entry (Unit {0}) (Unit {0}) (Unit {0}) Run (Unit {0}) Entry Run (Unit {0}) (Unit {0}) Run (Unit {0}) Run (Unit {0}) (Unit {0})
+    command_step form_step no_entry no_entry no_entry and_or_step no_entry compound_step compound_list_step no_entry no_entry list_item_step no_entry pipeline_step no_entry no_entry (view.out-CompoundList x)
 
 pub item_is : (x : ListItem) → item_run x ≡ and_or_run (view.out-ListItem x).list
 unfolding item_run and_or_run
-item_is x = ap item_run (sym (view.roll-out-ListItem x)) ∙ folds.para-roll-ListItem Entry Entry (Unit {0}) (Unit {0}) (Unit {0}) Run (Unit {0}) Run Entry (Unit {0}) (Unit {0}) Run (Unit {0}) Run (Unit {0}) (Unit {0})
-    command_step form_step unentered unentered unentered and_or_step unentered complete_step compound_step unentered unentered list_item_step unentered pipeline_step unentered unentered (view.out-ListItem x)
+item_is x = ap item_run (sym (view.roll-out-ListItem x)) ∙ folds.para-roll-ListItem Entry Entry (Unit {0}) (Unit {0}) (Unit {0}) Run (Unit {0}) Entry Run (Unit {0}) (Unit {0}) Run (Unit {0}) Run (Unit {0}) (Unit {0})
+    command_step form_step no_entry no_entry no_entry and_or_step no_entry compound_step compound_list_step no_entry no_entry list_item_step no_entry pipeline_step no_entry no_entry (view.out-ListItem x)
 
-pub and_or_is : (x : AndOr) → and_or_run x ≡ joined (view.out-AndOr x).rest (pipeline_run (view.out-AndOr x).first)
+pub and_or_is : (x : AndOr) → and_or_run x ≡ with_others (view.out-AndOr x).rest (pipeline_run (view.out-AndOr x).first)
 unfolding and_or_run pipeline_run
-and_or_is x = ap and_or_run (sym (view.roll-out-AndOr x)) ∙ folds.para-roll-AndOr Entry Entry (Unit {0}) (Unit {0}) (Unit {0}) Run (Unit {0}) Run Entry (Unit {0}) (Unit {0}) Run (Unit {0}) Run (Unit {0}) (Unit {0})
-    command_step form_step unentered unentered unentered and_or_step unentered complete_step compound_step unentered unentered list_item_step unentered pipeline_step unentered unentered (view.out-AndOr x)
-    ∙ ap (λ rest. joined rest (pipeline_run (view.out-AndOr x).first)) (trees_beside _ (view.out-AndOr x).rest)
+and_or_is x = ap and_or_run (sym (view.roll-out-AndOr x)) ∙ folds.para-roll-AndOr Entry Entry (Unit {0}) (Unit {0}) (Unit {0}) Run (Unit {0}) Entry Run (Unit {0}) (Unit {0}) Run (Unit {0}) Run (Unit {0}) (Unit {0})
+    command_step form_step no_entry no_entry no_entry and_or_step no_entry compound_step compound_list_step no_entry no_entry list_item_step no_entry pipeline_step no_entry no_entry (view.out-AndOr x)
+    ∙ ap (λ rest. with_others rest (pipeline_run (view.out-AndOr x).first)) (trees_beside _ (view.out-AndOr x).rest)
 
-pub entered_with : (items : List ListItem) (item : ListItem) (others : List ListItem) (status : ℕ) → items ≡ item ∷ others → entered items status ≡ In (Commands others) (and_or_run (view.out-ListItem item).list)
-entered_with items item others status e = ap (λ these. entered these status) e ∙ behind_first item others status ∙ ap (In (Commands others)) (item_is item)
+pub entered_with : (items : List ListItem) (item : ListItem) (others : List ListItem) (status : ℕ) → items ≡ item ∷ others → items_run items status ≡ In (Commands others) (and_or_run (view.out-ListItem item).list)
+entered_with items item others status e = ap (λ these. items_run these status) e ∙ behind_first item others status ∙ ap (In (Commands others)) (item_is item)
 
-pub list_with : (x : Complete) (item : ListItem) (others : List ListItem) → (view.out-Complete x).items ≡ item ∷ others → list_run x ≡ In (Commands others) (and_or_run (view.out-ListItem item).list)
-list_with x item others e = list_is x ∙ entered_with (view.out-Complete x).items item others 0 e
+pub list_with : (x : CompoundList) (item : ListItem) (others : List ListItem) → (view.out-CompoundList x).items ≡ item ∷ others → list_run x ≡ In (Commands others) (and_or_run (view.out-ListItem item).list)
+list_with x item others e = list_is x ∙ entered_with (view.out-CompoundList x).items item others 0 e
 
 -- ---- pipelines
-pub pipeline_is : (x : Pipeline) → pipeline_run x ≡ negated (view.out-Pipeline x).is_negated (commands_run x)
+pub pipeline_is : (x : Pipeline) → pipeline_run x ≡ with_negation (view.out-Pipeline x).is_negated (commands_run x)
 unfolding pipeline_run command_entry
-pipeline_is x = ap pipeline_run (sym (view.roll-out-Pipeline x)) ∙ folds.para-roll-Pipeline Entry Entry (Unit {0}) (Unit {0}) (Unit {0}) Run (Unit {0}) Run Entry (Unit {0}) (Unit {0}) Run (Unit {0}) Run (Unit {0}) (Unit {0})
-    command_step form_step unentered unentered unentered and_or_step unentered complete_step compound_step unentered unentered list_item_step unentered pipeline_step unentered unentered (view.out-Pipeline x)
+pipeline_is x = ap pipeline_run (sym (view.roll-out-Pipeline x)) ∙ folds.para-roll-Pipeline Entry Entry (Unit {0}) (Unit {0}) (Unit {0}) Run (Unit {0}) Entry Run (Unit {0}) (Unit {0}) Run (Unit {0}) Run (Unit {0}) (Unit {0})
+    command_step form_step no_entry no_entry no_entry and_or_step no_entry compound_step compound_list_step no_entry no_entry list_item_step no_entry pipeline_step no_entry no_entry (view.out-Pipeline x)
 
 pub alone : (x : Pipeline) → (view.out-Pipeline x).rest ≡ [] → commands_run x ≡ command_run (view.out-Pipeline x).first
 alone x e = ap (λ rest. commands_step (to_enter (view.out-Pipeline x).first) (map to_enter rest)) e
@@ -90,63 +90,63 @@ several_long x h = long_as (view.out-Pipeline x).first (view.out-Pipeline x).res
 -- ---- compound commands
 pub compound_is : (x : Compound) → compound_entry x ≡ form_entry (view.out-Compound x).form
 unfolding compound_entry form_entry
-compound_is x = ap compound_entry (sym (view.roll-out-Compound x)) ∙ folds.para-roll-Compound Entry Entry (Unit {0}) (Unit {0}) (Unit {0}) Run (Unit {0}) Run Entry (Unit {0}) (Unit {0}) Run (Unit {0}) Run (Unit {0}) (Unit {0})
-    command_step form_step unentered unentered unentered and_or_step unentered complete_step compound_step unentered unentered list_item_step unentered pipeline_step unentered unentered (view.out-Compound x)
+compound_is x = ap compound_entry (sym (view.roll-out-Compound x)) ∙ folds.para-roll-Compound Entry Entry (Unit {0}) (Unit {0}) (Unit {0}) Run (Unit {0}) Entry Run (Unit {0}) (Unit {0}) Run (Unit {0}) Run (Unit {0}) (Unit {0})
+    command_step form_step no_entry no_entry no_entry and_or_step no_entry compound_step compound_list_step no_entry no_entry list_item_step no_entry pipeline_step no_entry no_entry (view.out-Compound x)
 
 pub compound_at : (x : Compound) (whole : Command) → compound_entry x whole ≡ form_entry (view.out-Compound x).form whole
 compound_at x whole = ap (λ entry. entry whole) (compound_is x)
 
-pub group_entered : (list : Complete) (whole : Command) → form_entry (form.Group list) whole ≡ list_run list
+pub group_entered : (list : CompoundList) (whole : Command) → form_entry (form.Group list) whole ≡ list_run list
 unfolding form_entry list_run
-group_entered list whole = ap (λ entry. form_entry entry whole) (sym (form.rolls-Group list)) ∙ ap (λ entry. entry whole) (folds.para-roll-CompoundForm Entry Entry (Unit {0}) (Unit {0}) (Unit {0}) Run (Unit {0}) Run Entry (Unit {0}) (Unit {0}) Run (Unit {0}) Run (Unit {0}) (Unit {0})
-    command_step form_step unentered unentered unentered and_or_step unentered complete_step compound_step unentered unentered list_item_step unentered pipeline_step unentered unentered (layer.Group list))
+group_entered list whole = ap (λ entry. form_entry entry whole) (sym (form.rolls-Group list)) ∙ ap (λ entry. entry whole) (folds.para-roll-CompoundForm Entry Entry (Unit {0}) (Unit {0}) (Unit {0}) Run (Unit {0}) Entry Run (Unit {0}) (Unit {0}) Run (Unit {0}) Run (Unit {0}) (Unit {0})
+    command_step form_step no_entry no_entry no_entry and_or_step no_entry compound_step compound_list_step no_entry no_entry list_item_step no_entry pipeline_step no_entry no_entry (layer.Group list))
 
-pub subshell_entered : (list : Complete) (whole : Command) → form_entry (form.Subshell list) whole ≡ At (Next (staging (whole ∷ [])))
+pub subshell_entered : (list : CompoundList) (whole : Command) → form_entry (form.Subshell list) whole ≡ At (Next (staging (whole ∷ [])))
 unfolding form_entry list_run
-subshell_entered list whole = ap (λ entry. form_entry entry whole) (sym (form.rolls-Subshell list)) ∙ ap (λ entry. entry whole) (folds.para-roll-CompoundForm Entry Entry (Unit {0}) (Unit {0}) (Unit {0}) Run (Unit {0}) Run Entry (Unit {0}) (Unit {0}) Run (Unit {0}) Run (Unit {0}) (Unit {0})
-    command_step form_step unentered unentered unentered and_or_step unentered complete_step compound_step unentered unentered list_item_step unentered pipeline_step unentered unentered (layer.Subshell list))
+subshell_entered list whole = ap (λ entry. form_entry entry whole) (sym (form.rolls-Subshell list)) ∙ ap (λ entry. entry whole) (folds.para-roll-CompoundForm Entry Entry (Unit {0}) (Unit {0}) (Unit {0}) Run (Unit {0}) Entry Run (Unit {0}) (Unit {0}) Run (Unit {0}) Run (Unit {0}) (Unit {0})
+    command_step form_step no_entry no_entry no_entry and_or_step no_entry compound_step compound_list_step no_entry no_entry list_item_step no_entry pipeline_step no_entry no_entry (layer.Subshell list))
 
-pub if_entered : (condition : Complete) (body : Complete) (else_ifs : List ElseIf) (else_body : Option Complete) (whole : Command) → form_entry (form.If condition body else_ifs else_body) whole ≡ In (If (record { body = body; else_ifs = else_ifs; else_body = else_body })) (list_run condition)
+pub if_entered : (condition : CompoundList) (body : CompoundList) (else_ifs : List ElseIf) (else_body : Option CompoundList) (whole : Command) → form_entry (form.If condition body else_ifs else_body) whole ≡ In (If (record { body = body; else_ifs = else_ifs; else_body = else_body })) (list_run condition)
 unfolding form_entry list_run
-if_entered condition body else_ifs None whole = ap (λ entry. form_entry entry whole) (sym (form.rolls-If condition body else_ifs None)) ∙ ap (λ entry. entry whole) (folds.para-roll-CompoundForm Entry Entry (Unit {0}) (Unit {0}) (Unit {0}) Run (Unit {0}) Run Entry (Unit {0}) (Unit {0}) Run (Unit {0}) Run (Unit {0}) (Unit {0})
-    command_step form_step unentered unentered unentered and_or_step unentered complete_step compound_step unentered unentered list_item_step unentered pipeline_step unentered unentered (layer.If condition body else_ifs None))
-    ∙ ap (λ others. In (If (record { body = body; else_ifs = others; else_body = None })) (list_run condition)) (trees_beside unentered else_ifs)
-if_entered condition body else_ifs (Some list) whole = ap (λ entry. form_entry entry whole) (sym (form.rolls-If condition body else_ifs (Some list))) ∙ ap (λ entry. entry whole) (folds.para-roll-CompoundForm Entry Entry (Unit {0}) (Unit {0}) (Unit {0}) Run (Unit {0}) Run Entry (Unit {0}) (Unit {0}) Run (Unit {0}) Run (Unit {0}) (Unit {0})
-    command_step form_step unentered unentered unentered and_or_step unentered complete_step compound_step unentered unentered list_item_step unentered pipeline_step unentered unentered (layer.If condition body else_ifs (Some list)))
-    ∙ ap (λ others. In (If (record { body = body; else_ifs = others; else_body = (Some list) })) (list_run condition)) (trees_beside unentered else_ifs)
+if_entered condition body else_ifs None whole = ap (λ entry. form_entry entry whole) (sym (form.rolls-If condition body else_ifs None)) ∙ ap (λ entry. entry whole) (folds.para-roll-CompoundForm Entry Entry (Unit {0}) (Unit {0}) (Unit {0}) Run (Unit {0}) Entry Run (Unit {0}) (Unit {0}) Run (Unit {0}) Run (Unit {0}) (Unit {0})
+    command_step form_step no_entry no_entry no_entry and_or_step no_entry compound_step compound_list_step no_entry no_entry list_item_step no_entry pipeline_step no_entry no_entry (layer.If condition body else_ifs None))
+    ∙ ap (λ others. In (If (record { body = body; else_ifs = others; else_body = None })) (list_run condition)) (trees_beside no_entry else_ifs)
+if_entered condition body else_ifs (Some list) whole = ap (λ entry. form_entry entry whole) (sym (form.rolls-If condition body else_ifs (Some list))) ∙ ap (λ entry. entry whole) (folds.para-roll-CompoundForm Entry Entry (Unit {0}) (Unit {0}) (Unit {0}) Run (Unit {0}) Entry Run (Unit {0}) (Unit {0}) Run (Unit {0}) Run (Unit {0}) (Unit {0})
+    command_step form_step no_entry no_entry no_entry and_or_step no_entry compound_step compound_list_step no_entry no_entry list_item_step no_entry pipeline_step no_entry no_entry (layer.If condition body else_ifs (Some list)))
+    ∙ ap (λ others. In (If (record { body = body; else_ifs = others; else_body = (Some list) })) (list_run condition)) (trees_beside no_entry else_ifs)
 
-pub loop_entered : (kind : LoopKind) (condition : Complete) (body : Complete) (whole : Command) → form_entry (form.Loop kind condition body) whole ≡ In (Condition (record { kind = kind; condition = condition; body = body }) 0) (list_run condition)
+pub loop_entered : (kind : LoopKind) (condition : CompoundList) (body : CompoundList) (whole : Command) → form_entry (form.Loop kind condition body) whole ≡ In (Condition (record { kind = kind; condition = condition; body = body }) 0) (list_run condition)
 unfolding form_entry list_run
-loop_entered kind condition body whole = ap (λ entry. form_entry entry whole) (sym (form.rolls-Loop kind condition body)) ∙ ap (λ entry. entry whole) (folds.para-roll-CompoundForm Entry Entry (Unit {0}) (Unit {0}) (Unit {0}) Run (Unit {0}) Run Entry (Unit {0}) (Unit {0}) Run (Unit {0}) Run (Unit {0}) (Unit {0})
-    command_step form_step unentered unentered unentered and_or_step unentered complete_step compound_step unentered unentered list_item_step unentered pipeline_step unentered unentered (layer.Loop kind condition body))
+loop_entered kind condition body whole = ap (λ entry. form_entry entry whole) (sym (form.rolls-Loop kind condition body)) ∙ ap (λ entry. entry whole) (folds.para-roll-CompoundForm Entry Entry (Unit {0}) (Unit {0}) (Unit {0}) Run (Unit {0}) Entry Run (Unit {0}) (Unit {0}) Run (Unit {0}) Run (Unit {0}) (Unit {0})
+    command_step form_step no_entry no_entry no_entry and_or_step no_entry compound_step compound_list_step no_entry no_entry list_item_step no_entry pipeline_step no_entry no_entry (layer.Loop kind condition body))
 
-pub for_entered : (name : Name) (words : List Word) (body : Complete) (whole : Command) → form_entry (form.For name words body) whole ≡ At (Next (Expanding (Series whole) None))
+pub for_entered : (name : Name) (words : List Word) (body : CompoundList) (whole : Command) → form_entry (form.For name words body) whole ≡ At (Next (Expanding (Series whole) None))
 unfolding form_entry list_run
-for_entered name words body whole = ap (λ entry. form_entry entry whole) (sym (form.rolls-For name words body)) ∙ ap (λ entry. entry whole) (folds.para-roll-CompoundForm Entry Entry (Unit {0}) (Unit {0}) (Unit {0}) Run (Unit {0}) Run Entry (Unit {0}) (Unit {0}) Run (Unit {0}) Run (Unit {0}) (Unit {0})
-    command_step form_step unentered unentered unentered and_or_step unentered complete_step compound_step unentered unentered list_item_step unentered pipeline_step unentered unentered (layer.For name words body))
+for_entered name words body whole = ap (λ entry. form_entry entry whole) (sym (form.rolls-For name words body)) ∙ ap (λ entry. entry whole) (folds.para-roll-CompoundForm Entry Entry (Unit {0}) (Unit {0}) (Unit {0}) Run (Unit {0}) Entry Run (Unit {0}) (Unit {0}) Run (Unit {0}) Run (Unit {0}) (Unit {0})
+    command_step form_step no_entry no_entry no_entry and_or_step no_entry compound_step compound_list_step no_entry no_entry list_item_step no_entry pipeline_step no_entry no_entry (layer.For name words body))
 
-pub for_parameters_entered : (name : Name) (is_separated : Bool) (body : Complete) (whole : Command) → form_entry (form.ForParameters name is_separated body) whole ≡ At (Next (Expanding (Series whole) None))
+pub for_parameters_entered : (name : Name) (is_separated : Bool) (body : CompoundList) (whole : Command) → form_entry (form.ForParameters name is_separated body) whole ≡ At (Next (Expanding (Series whole) None))
 unfolding form_entry list_run
-for_parameters_entered name is_separated body whole = ap (λ entry. form_entry entry whole) (sym (form.rolls-ForParameters name is_separated body)) ∙ ap (λ entry. entry whole) (folds.para-roll-CompoundForm Entry Entry (Unit {0}) (Unit {0}) (Unit {0}) Run (Unit {0}) Run Entry (Unit {0}) (Unit {0}) Run (Unit {0}) Run (Unit {0}) (Unit {0})
-    command_step form_step unentered unentered unentered and_or_step unentered complete_step compound_step unentered unentered list_item_step unentered pipeline_step unentered unentered (layer.ForParameters name is_separated body))
+for_parameters_entered name is_separated body whole = ap (λ entry. form_entry entry whole) (sym (form.rolls-ForParameters name is_separated body)) ∙ ap (λ entry. entry whole) (folds.para-roll-CompoundForm Entry Entry (Unit {0}) (Unit {0}) (Unit {0}) Run (Unit {0}) Entry Run (Unit {0}) (Unit {0}) Run (Unit {0}) Run (Unit {0}) (Unit {0})
+    command_step form_step no_entry no_entry no_entry and_or_step no_entry compound_step compound_list_step no_entry no_entry list_item_step no_entry pipeline_step no_entry no_entry (layer.ForParameters name is_separated body))
 
 pub case_entered : (word : Word) (items : List CaseItem) (whole : Command) → form_entry (form.Case word items) whole ≡ At (Done 0)
 unfolding form_entry list_run
-case_entered word items whole = ap (λ entry. form_entry entry whole) (sym (form.rolls-Case word items)) ∙ ap (λ entry. entry whole) (folds.para-roll-CompoundForm Entry Entry (Unit {0}) (Unit {0}) (Unit {0}) Run (Unit {0}) Run Entry (Unit {0}) (Unit {0}) Run (Unit {0}) Run (Unit {0}) (Unit {0})
-    command_step form_step unentered unentered unentered and_or_step unentered complete_step compound_step unentered unentered list_item_step unentered pipeline_step unentered unentered (layer.Case word items))
+case_entered word items whole = ap (λ entry. form_entry entry whole) (sym (form.rolls-Case word items)) ∙ ap (λ entry. entry whole) (folds.para-roll-CompoundForm Entry Entry (Unit {0}) (Unit {0}) (Unit {0}) Run (Unit {0}) Entry Run (Unit {0}) (Unit {0}) Run (Unit {0}) Run (Unit {0}) (Unit {0})
+    command_step form_step no_entry no_entry no_entry and_or_step no_entry compound_step compound_list_step no_entry no_entry list_item_step no_entry pipeline_step no_entry no_entry (layer.Case word items))
 
 -- ---- commands
 pub simple_entered : (items : List SimpleItem) (whole : Command) → command_entry (command.Simple items) whole ≡ At (Next (first_place false whole))
 unfolding command_entry compound_entry
-simple_entered items whole = ap (λ entry. command_entry entry whole) (sym (command.rolls-Simple items)) ∙ ap (λ entry. entry whole) (folds.para-roll-Command Entry Entry (Unit {0}) (Unit {0}) (Unit {0}) Run (Unit {0}) Run Entry (Unit {0}) (Unit {0}) Run (Unit {0}) Run (Unit {0}) (Unit {0})
-    command_step form_step unentered unentered unentered and_or_step unentered complete_step compound_step unentered unentered list_item_step unentered pipeline_step unentered unentered (layer.Simple items))
+simple_entered items whole = ap (λ entry. command_entry entry whole) (sym (command.rolls-Simple items)) ∙ ap (λ entry. entry whole) (folds.para-roll-Command Entry Entry (Unit {0}) (Unit {0}) (Unit {0}) Run (Unit {0}) Entry Run (Unit {0}) (Unit {0}) Run (Unit {0}) Run (Unit {0}) (Unit {0})
+    command_step form_step no_entry no_entry no_entry and_or_step no_entry compound_step compound_list_step no_entry no_entry list_item_step no_entry pipeline_step no_entry no_entry (layer.Simple items))
 
 pub compound_entered : (compound : Compound) (whole : Command) → command_entry (command.Compound compound) whole ≡ compound_entry compound whole
 unfolding command_entry compound_entry
-compound_entered compound whole = ap (λ entry. command_entry entry whole) (sym (command.rolls-Compound compound)) ∙ ap (λ entry. entry whole) (folds.para-roll-Command Entry Entry (Unit {0}) (Unit {0}) (Unit {0}) Run (Unit {0}) Run Entry (Unit {0}) (Unit {0}) Run (Unit {0}) Run (Unit {0}) (Unit {0})
-    command_step form_step unentered unentered unentered and_or_step unentered complete_step compound_step unentered unentered list_item_step unentered pipeline_step unentered unentered (layer.Compound compound))
+compound_entered compound whole = ap (λ entry. command_entry entry whole) (sym (command.rolls-Compound compound)) ∙ ap (λ entry. entry whole) (folds.para-roll-Command Entry Entry (Unit {0}) (Unit {0}) (Unit {0}) Run (Unit {0}) Entry Run (Unit {0}) (Unit {0}) Run (Unit {0}) Run (Unit {0}) (Unit {0})
+    command_step form_step no_entry no_entry no_entry and_or_step no_entry compound_step compound_list_step no_entry no_entry list_item_step no_entry pipeline_step no_entry no_entry (layer.Compound compound))
 
 pub function_entered : (name : Name) (body : Compound) (whole : Command) → command_entry (command.Function name body) whole ≡ At (Done 0)
 unfolding command_entry compound_entry
-function_entered name body whole = ap (λ entry. command_entry entry whole) (sym (command.rolls-Function name body)) ∙ ap (λ entry. entry whole) (folds.para-roll-Command Entry Entry (Unit {0}) (Unit {0}) (Unit {0}) Run (Unit {0}) Run Entry (Unit {0}) (Unit {0}) Run (Unit {0}) Run (Unit {0}) (Unit {0})
-    command_step form_step unentered unentered unentered and_or_step unentered complete_step compound_step unentered unentered list_item_step unentered pipeline_step unentered unentered (layer.Function name body))
+function_entered name body whole = ap (λ entry. command_entry entry whole) (sym (command.rolls-Function name body)) ∙ ap (λ entry. entry whole) (folds.para-roll-Command Entry Entry (Unit {0}) (Unit {0}) (Unit {0}) Run (Unit {0}) Entry Run (Unit {0}) (Unit {0}) Run (Unit {0}) Run (Unit {0}) (Unit {0})
+    command_step form_step no_entry no_entry no_entry and_or_step no_entry compound_step compound_list_step no_entry no_entry list_item_step no_entry pipeline_step no_entry no_entry (layer.Function name body))

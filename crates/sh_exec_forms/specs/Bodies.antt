@@ -1,16 +1,16 @@
--- Commands for which a process is made (2.12): where a simple command or a subshell is all that it runs, no other process is made for
--- that; a substitution without commands ends at once, with 0.
+-- Commands for which a process is made (2.13): where a simple command or a subshell is all that it runs, no
+-- other process is made for that; a substitution without commands ends at once, with 0.
 use Rattle.std.specs.Prelude.{List, [], ◌∷◌, Bool, true, false, Option, Some, None}
 use Rattle.sh_exec_command.specs.Preparing.{first_place}
 use Rattle.sh_exec_command.specs.declared.running.Active.TheVariants.{Next}
 use Rattle.sh_exec_command.specs.declared.running.Place.TheVariants.{Ending}
-use Rattle.sh_exec_forms.specs.Entering.{Entry, Layer, command_run, compound_step, entered, list_item_step, trees, unentered}
+use Rattle.sh_exec_forms.specs.Entering.{Entry, Layer, command_run, compound_step, items_run, list_item_step, trees, no_entry}
 use Rattle.sh_exec_forms.specs.Running.{Run, At}
 use Rattle.sh_syntax.specs.declared.tree.AndOr.{AndOr}
 use Rattle.sh_syntax.specs.declared.tree.Command.{Command}
 use Rattle.sh_syntax.specs.declared.tree.Command.TheFolds as folds
 use Rattle.sh_syntax.specs.declared.tree.Command.TheOpen as layer
-use Rattle.sh_syntax.specs.declared.tree.Complete.{Complete}
+use Rattle.sh_syntax.specs.declared.tree.CompoundList.{CompoundList}
 use Rattle.sh_syntax.specs.declared.tree.Compound.{Compound}
 use Rattle.sh_syntax.specs.declared.tree.CompoundForm.{CompoundForm}
 use Rattle.sh_syntax.specs.declared.tree.ListItem.{ListItem}
@@ -40,54 +40,54 @@ sole_command false command (next ∷ others) = None
 abbrev pub sole_pipeline_step : Layer (Option Run) layer.Pipeline-F → Option Run
 sole_pipeline_step pipeline = sole_command pipeline.is_negated pipeline.first pipeline.rest
 
-abbrev pub unjoined : {A : Type 0} → Option Run → List A → Option Run
-unjoined run [] = run
-unjoined run (next ∷ others) = None
+abbrev pub sole_run : {A : Type 0} → Option Run → List A → Option Run
+sole_run run [] = run
+sole_run run (next ∷ others) = None
 
 abbrev pub sole_and_or_step : Layer (Option Run) layer.AndOr-F → Option Run
-sole_and_or_step list = unjoined list.first.1 list.rest
+sole_and_or_step list = sole_run list.first.1 list.rest
 
 -- ---- a list that is all that a process runs
 abbrev pub sole_or_entered : ListItem → Option Run → Run
-sole_or_entered item None = entered (item ∷ []) 0
+sole_or_entered item None = items_run (item ∷ []) 0
 sole_or_entered item (Some run) = run
 
 abbrev pub body_items : List (ListItem × Option Run) → Run
 body_items [] = At (Next (Ending 0))
 body_items (item ∷ []) = sole_or_entered item.0 item.1
-body_items (item ∷ next ∷ items) = entered (item.0 ∷ next.0 ∷ trees items) 0
+body_items (item ∷ next ∷ items) = items_run (item.0 ∷ next.0 ∷ trees items) 0
 
-abbrev pub body_step : Layer (Option Run) layer.Complete-F → Run
+abbrev pub body_step : Layer (Option Run) layer.CompoundList-F → Run
 body_step list = body_items list.items
 
 -- ---- each form of the syntax, from the innermost outward
-unfoldable pub body_of : Complete → Run
-body_of = folds.para-Complete Entry Entry (Unit {0}) (Unit {0}) (Unit {0}) (Option Run) (Unit {0}) Run Entry (Unit {0}) (Unit {0}) (Option Run) (Unit {0}) (Option Run) (Unit {0}) (Unit {0})
-    own_command_step own_form_step unentered unentered unentered sole_and_or_step unentered body_step compound_step unentered unentered list_item_step unentered sole_pipeline_step unentered unentered
+unfoldable pub body_of : CompoundList → Run
+body_of = folds.para-CompoundList Entry Entry (Unit {0}) (Unit {0}) (Unit {0}) (Option Run) (Unit {0}) Entry Run (Unit {0}) (Unit {0}) (Option Run) (Unit {0}) (Option Run) (Unit {0}) (Unit {0})
+    own_command_step own_form_step no_entry no_entry no_entry sole_and_or_step no_entry compound_step body_step no_entry no_entry list_item_step no_entry sole_pipeline_step no_entry no_entry
 
 unfoldable pub sole_item : ListItem → Option Run
-sole_item = folds.para-ListItem Entry Entry (Unit {0}) (Unit {0}) (Unit {0}) (Option Run) (Unit {0}) Run Entry (Unit {0}) (Unit {0}) (Option Run) (Unit {0}) (Option Run) (Unit {0}) (Unit {0})
-    own_command_step own_form_step unentered unentered unentered sole_and_or_step unentered body_step compound_step unentered unentered list_item_step unentered sole_pipeline_step unentered unentered
+sole_item = folds.para-ListItem Entry Entry (Unit {0}) (Unit {0}) (Unit {0}) (Option Run) (Unit {0}) Entry Run (Unit {0}) (Unit {0}) (Option Run) (Unit {0}) (Option Run) (Unit {0}) (Unit {0})
+    own_command_step own_form_step no_entry no_entry no_entry sole_and_or_step no_entry compound_step body_step no_entry no_entry list_item_step no_entry sole_pipeline_step no_entry no_entry
 
 unfoldable pub sole_and_or : AndOr → Option Run
-sole_and_or = folds.para-AndOr Entry Entry (Unit {0}) (Unit {0}) (Unit {0}) (Option Run) (Unit {0}) Run Entry (Unit {0}) (Unit {0}) (Option Run) (Unit {0}) (Option Run) (Unit {0}) (Unit {0})
-    own_command_step own_form_step unentered unentered unentered sole_and_or_step unentered body_step compound_step unentered unentered list_item_step unentered sole_pipeline_step unentered unentered
+sole_and_or = folds.para-AndOr Entry Entry (Unit {0}) (Unit {0}) (Unit {0}) (Option Run) (Unit {0}) Entry Run (Unit {0}) (Unit {0}) (Option Run) (Unit {0}) (Option Run) (Unit {0}) (Unit {0})
+    own_command_step own_form_step no_entry no_entry no_entry sole_and_or_step no_entry compound_step body_step no_entry no_entry list_item_step no_entry sole_pipeline_step no_entry no_entry
 
 unfoldable pub sole_pipeline : Pipeline → Option Run
-sole_pipeline = folds.para-Pipeline Entry Entry (Unit {0}) (Unit {0}) (Unit {0}) (Option Run) (Unit {0}) Run Entry (Unit {0}) (Unit {0}) (Option Run) (Unit {0}) (Option Run) (Unit {0}) (Unit {0})
-    own_command_step own_form_step unentered unentered unentered sole_and_or_step unentered body_step compound_step unentered unentered list_item_step unentered sole_pipeline_step unentered unentered
+sole_pipeline = folds.para-Pipeline Entry Entry (Unit {0}) (Unit {0}) (Unit {0}) (Option Run) (Unit {0}) Entry Run (Unit {0}) (Unit {0}) (Option Run) (Unit {0}) (Option Run) (Unit {0}) (Unit {0})
+    own_command_step own_form_step no_entry no_entry no_entry sole_and_or_step no_entry compound_step body_step no_entry no_entry list_item_step no_entry sole_pipeline_step no_entry no_entry
 
 unfoldable pub own_entry : Command → Entry
-own_entry = folds.para-Command Entry Entry (Unit {0}) (Unit {0}) (Unit {0}) (Option Run) (Unit {0}) Run Entry (Unit {0}) (Unit {0}) (Option Run) (Unit {0}) (Option Run) (Unit {0}) (Unit {0})
-    own_command_step own_form_step unentered unentered unentered sole_and_or_step unentered body_step compound_step unentered unentered list_item_step unentered sole_pipeline_step unentered unentered
+own_entry = folds.para-Command Entry Entry (Unit {0}) (Unit {0}) (Unit {0}) (Option Run) (Unit {0}) Entry Run (Unit {0}) (Unit {0}) (Option Run) (Unit {0}) (Option Run) (Unit {0}) (Unit {0})
+    own_command_step own_form_step no_entry no_entry no_entry sole_and_or_step no_entry compound_step body_step no_entry no_entry list_item_step no_entry sole_pipeline_step no_entry no_entry
 
 unfoldable pub own_compound : Compound → Entry
-own_compound = folds.para-Compound Entry Entry (Unit {0}) (Unit {0}) (Unit {0}) (Option Run) (Unit {0}) Run Entry (Unit {0}) (Unit {0}) (Option Run) (Unit {0}) (Option Run) (Unit {0}) (Unit {0})
-    own_command_step own_form_step unentered unentered unentered sole_and_or_step unentered body_step compound_step unentered unentered list_item_step unentered sole_pipeline_step unentered unentered
+own_compound = folds.para-Compound Entry Entry (Unit {0}) (Unit {0}) (Unit {0}) (Option Run) (Unit {0}) Entry Run (Unit {0}) (Unit {0}) (Option Run) (Unit {0}) (Option Run) (Unit {0}) (Unit {0})
+    own_command_step own_form_step no_entry no_entry no_entry sole_and_or_step no_entry compound_step body_step no_entry no_entry list_item_step no_entry sole_pipeline_step no_entry no_entry
 
 unfoldable pub own_form : CompoundForm → Entry
-own_form = folds.para-CompoundForm Entry Entry (Unit {0}) (Unit {0}) (Unit {0}) (Option Run) (Unit {0}) Run Entry (Unit {0}) (Unit {0}) (Option Run) (Unit {0}) (Option Run) (Unit {0}) (Unit {0})
-    own_command_step own_form_step unentered unentered unentered sole_and_or_step unentered body_step compound_step unentered unentered list_item_step unentered sole_pipeline_step unentered unentered
+own_form = folds.para-CompoundForm Entry Entry (Unit {0}) (Unit {0}) (Unit {0}) (Option Run) (Unit {0}) Entry Run (Unit {0}) (Unit {0}) (Option Run) (Unit {0}) (Option Run) (Unit {0}) (Unit {0})
+    own_command_step own_form_step no_entry no_entry no_entry sole_and_or_step no_entry compound_step body_step no_entry no_entry list_item_step no_entry sole_pipeline_step no_entry no_entry
 
 -- a stage of a pipeline, or a subshell
 unfoldable pub stage_run : Command → Run

@@ -16,7 +16,8 @@ use Rattle.sh_exec_command.specs.declared.running.Place.TheVariants.{Writing}
 use Rattle.sh_kernel.specs.State.{KernelState}
 use Rattle.sh_vars.specs.Environment.{Environment}
 
--- ---- why it is refused is said by a message that begins with its name, but for a variable that is read-only
+-- ---- a message says why it is refused; but for a variable that is read-only, the message begins with the
+-- built-in's name
 abbrev pub fault_text : List ℕ → BuiltinFault → List ℕ
 fault_text name fault.Usage = usage name
 fault_text name (fault.BadName word) = name ++ codes ": " ++ word ++ codes ": bad name"
@@ -34,34 +35,34 @@ abbrev pub failing : (is_special : Bool) → ℕ → Finish
 failing true status = Leave 2
 failing false status = Status status
 
-abbrev pub refused : Builtin → BuiltinFault → Active
-refused builtin why = Next (Writing (message (fault_text (name_of builtin) why)) (failing (is_special builtin) (status_of why)))
+abbrev pub refusal : Builtin → BuiltinFault → Active
+refusal builtin why = Next (Writing (message (fault_text (name_of builtin) why)) (failing (is_special builtin) (status_of why)))
 
 -- ---- what follows: its output is written to descriptor 1 from the next turn on; one that has none to write is done, with no turn more
-abbrev pub written : Builtin → List ℕ → Active
-written builtin [] = Done 0
-written builtin (byte ∷ bytes) = Next (Writing (record { descriptor = 1; bytes = byte ∷ bytes }) (Output builtin))
+abbrev pub output_of : Builtin → List ℕ → Active
+output_of builtin [] = Done 0
+output_of builtin (byte ∷ bytes) = Next (Writing (record { descriptor = 1; bytes = byte ∷ bytes }) (Output builtin))
 
 abbrev pub behind : Builtin → Act → Active
 behind builtin (act.Finish status) = Done status
-behind builtin (act.Write text) = written builtin text
+behind builtin (act.Write text) = output_of builtin text
 behind builtin (act.Leave leave) = Leaving leave
-behind builtin (act.Fault why) = refused builtin why
+behind builtin (act.Fault why) = refusal builtin why
 
 -- the environment, and the active place then
 pub record Performed : Type 0 where
   pub environment : Environment
   pub active : Active
 
-abbrev pub performed : Environment → Active → Performed
-performed env active = record { environment = env; active = active }
+abbrev pub with_active : Environment → Active → Performed
+with_active env active = record { environment = env; active = active }
 
-unfoldable pub built : KernelState → ℕ → Environment → Builtin → List (List ℕ) → Performed
-built s pid env builtin fields =
-    let d = built_in s.machine pid env builtin (drop 1 fields) in performed d.environment (behind builtin d.act)
+unfoldable pub builtin_effect : KernelState → ℕ → Environment → Builtin → List (List ℕ) → Performed
+builtin_effect s pid env builtin fields =
+    let d = built_in s.machine pid env builtin (drop 1 fields) in with_active d.environment (behind builtin d.act)
 
-abbrev pub placed : KernelState → ℕ → Environment → Active → Performed
-placed s pid env (Acting builtin fields) = built s pid env builtin fields
-placed s pid env (Next place) = performed env (Next place)
-placed s pid env (Done status) = performed env (Done status)
-placed s pid env (Leaving leave) = performed env (Leaving leave)
+abbrev pub effect_at : KernelState → ℕ → Environment → Active → Performed
+effect_at s pid env (Acting builtin fields) = builtin_effect s pid env builtin fields
+effect_at s pid env (Next place) = with_active env (Next place)
+effect_at s pid env (Done status) = with_active env (Done status)
+effect_at s pid env (Leaving leave) = with_active env (Leaving leave)

@@ -18,13 +18,13 @@ place_in (At place) = place
 place_in (In f run) = place_in run
 
 -- the tree of these forms and this place
-abbrev pub plugged : List Form → Active → Run
-plugged [] place = At place
-plugged (f ∷ fs) place = In f (plugged fs place)
+abbrev pub tree_of : List Form → Active → Run
+tree_of [] place = At place
+tree_of (f ∷ fs) place = In f (tree_of fs place)
 
-pub plugged-forms_of : (run : Run) → plugged (forms_of run) (place_in run) ≡ run
+pub plugged-forms_of : (run : Run) → tree_of (forms_of run) (place_in run) ≡ run
 plugged-forms_of (At place) = refl
 plugged-forms_of (In f run) = ap (In f) (plugged-forms_of run)
 
 abbrev pub run_code : Coded Run
-run_code = code_by (List Form × Active) (coded× (coded_list form.the_row.coded) active.the_row.coded) (λ run. (forms_of run, place_in run)) (λ p. plugged p.0 p.1) plugged-forms_of
+run_code = code_by (List Form × Active) (coded× (coded_list form.the_row.coded) active.the_row.coded) (λ run. (forms_of run, place_in run)) (λ p. tree_of p.0 p.1) plugged-forms_of

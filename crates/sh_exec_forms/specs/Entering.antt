@@ -13,7 +13,7 @@ use Rattle.sh_syntax.specs.declared.tree.Command.{Command}
 use Rattle.sh_syntax.specs.declared.tree.Command.TheFolds as folds
 use Rattle.sh_syntax.specs.declared.tree.Command.TheOpen as layer
 use Rattle.sh_syntax.specs.declared.tree.Command.TheViews as view
-use Rattle.sh_syntax.specs.declared.tree.Complete.{Complete}
+use Rattle.sh_syntax.specs.declared.tree.CompoundList.{CompoundList}
 use Rattle.sh_syntax.specs.declared.tree.Compound.{Compound}
 use Rattle.sh_syntax.specs.declared.tree.CompoundForm.{CompoundForm}
 use Rattle.sh_syntax.specs.declared.tree.Connected.{Connected}
@@ -27,7 +27,7 @@ use Rattle.sh_syntax.specs.declared.tree.SimpleItem.{SimpleItem}
 use Rattle.sh_syntax.specs.declared.tree.Target.{Target}
 use Rattle.sh_syntax.specs.declared.tree.Word.{Word}
 
--- how a command is entered, which is then told; so are the forms that it is made of
+-- how a command is entered; the command itself is given then. The same for the forms that it is made of
 abbrev pub Entry : Type 0
 Entry = Command → Run
 
@@ -36,11 +36,11 @@ Entry = Command → Run
 abbrev pub Layer : Type 0 → (Type 0 → Type 0 → Type 0 → Type 0 → Type 0 → Type 0 → Type 0 → Type 0
     → Type 0 → Type 0 → Type 0 → Type 0 → Type 0 → Type 0 → Type 0 → Type 0 → Type 0) → Type 0
 Layer Way F = F (Command × Entry) (CompoundForm × Entry) (Part × Unit {0}) (SimpleItem × Unit {0}) (Target × Unit {0}) (AndOr × Way)
-    (CaseItem × Unit {0}) (Complete × Run) (Compound × Entry) (Connected × Unit {0}) (ElseIf × Unit {0}) (ListItem × Way) (Parts × Unit {0})
+    (CaseItem × Unit {0}) (Compound × Entry) (CompoundList × Run) (Connected × Unit {0}) (ElseIf × Unit {0}) (ListItem × Way) (Parts × Unit {0})
     (Pipeline × Way) (Redirect × Unit {0}) (Word × Unit {0})
 
-abbrev pub unentered : {A : Type 0} → A → Unit {0}
-unentered form = tt
+abbrev pub no_entry : {A : Type 0} → A → Unit {0}
+no_entry form = tt
 
 -- parts by themselves again
 abbrev pub tree : {A B : Type 0} → A × B → A
@@ -78,60 +78,60 @@ abbrev pub commands_step : Command × Entry → List (Command × Entry) → Run
 commands_step command [] = command.1 command.0
 commands_step command (next ∷ others) = At (Next (staging (command.0 ∷ next.0 ∷ trees others)))
 
-abbrev pub negated : Bool → Run → Run
-negated false run = run
-negated true run = In Negated run
+abbrev pub with_negation : Bool → Run → Run
+with_negation false run = run
+with_negation true run = In Negated run
 
 abbrev pub pipeline_step : Layer Run layer.Pipeline-F → Run
-pipeline_step pipeline = negated pipeline.is_negated (commands_step pipeline.first pipeline.rest)
+pipeline_step pipeline = with_negation pipeline.is_negated (commands_step pipeline.first pipeline.rest)
 
 -- ---- AND-OR lists (2.9.3)
-abbrev pub joined : List Connected → Run → Run
-joined [] run = run
-joined (next ∷ others) run = In (Joined (next ∷ others)) run
+abbrev pub with_others : List Connected → Run → Run
+with_others [] run = run
+with_others (next ∷ others) run = In (Joined (next ∷ others)) run
 
 abbrev pub and_or_step : Layer Run layer.AndOr-F → Run
-and_or_step list = joined (trees list.rest) list.first.1
+and_or_step list = with_others (trees list.rest) list.first.1
 
 abbrev pub list_item_step : {Way : Type 0} → Layer Way layer.ListItem-F → Way
 list_item_step item = item.list.1
 
--- ---- AND-OR lists one after another (2.9.3), entered behind a command that had this status
+-- ---- AND-OR lists one after another (2.9.3), entered after a command that had this status
 abbrev pub items_step : List (ListItem × Run) → ℕ → Run
 items_step [] status = At (Done status)
 items_step (item ∷ items) status = In (Commands (trees items)) item.1
 
-abbrev pub complete_step : Layer Run layer.Complete-F → Run
-complete_step list = items_step list.items 0
+abbrev pub compound_list_step : Layer Run layer.CompoundList-F → Run
+compound_list_step list = items_step list.items 0
 
 -- ---- each form of the syntax, from the innermost outward
-unfoldable pub list_run : Complete → Run
-list_run = folds.para-Complete Entry Entry (Unit {0}) (Unit {0}) (Unit {0}) Run (Unit {0}) Run Entry (Unit {0}) (Unit {0}) Run (Unit {0}) Run (Unit {0}) (Unit {0})
-    command_step form_step unentered unentered unentered and_or_step unentered complete_step compound_step unentered unentered list_item_step unentered pipeline_step unentered unentered
+unfoldable pub list_run : CompoundList → Run
+list_run = folds.para-CompoundList Entry Entry (Unit {0}) (Unit {0}) (Unit {0}) Run (Unit {0}) Entry Run (Unit {0}) (Unit {0}) Run (Unit {0}) Run (Unit {0}) (Unit {0})
+    command_step form_step no_entry no_entry no_entry and_or_step no_entry compound_step compound_list_step no_entry no_entry list_item_step no_entry pipeline_step no_entry no_entry
 
 unfoldable pub item_run : ListItem → Run
-item_run = folds.para-ListItem Entry Entry (Unit {0}) (Unit {0}) (Unit {0}) Run (Unit {0}) Run Entry (Unit {0}) (Unit {0}) Run (Unit {0}) Run (Unit {0}) (Unit {0})
-    command_step form_step unentered unentered unentered and_or_step unentered complete_step compound_step unentered unentered list_item_step unentered pipeline_step unentered unentered
+item_run = folds.para-ListItem Entry Entry (Unit {0}) (Unit {0}) (Unit {0}) Run (Unit {0}) Entry Run (Unit {0}) (Unit {0}) Run (Unit {0}) Run (Unit {0}) (Unit {0})
+    command_step form_step no_entry no_entry no_entry and_or_step no_entry compound_step compound_list_step no_entry no_entry list_item_step no_entry pipeline_step no_entry no_entry
 
 unfoldable pub and_or_run : AndOr → Run
-and_or_run = folds.para-AndOr Entry Entry (Unit {0}) (Unit {0}) (Unit {0}) Run (Unit {0}) Run Entry (Unit {0}) (Unit {0}) Run (Unit {0}) Run (Unit {0}) (Unit {0})
-    command_step form_step unentered unentered unentered and_or_step unentered complete_step compound_step unentered unentered list_item_step unentered pipeline_step unentered unentered
+and_or_run = folds.para-AndOr Entry Entry (Unit {0}) (Unit {0}) (Unit {0}) Run (Unit {0}) Entry Run (Unit {0}) (Unit {0}) Run (Unit {0}) Run (Unit {0}) (Unit {0})
+    command_step form_step no_entry no_entry no_entry and_or_step no_entry compound_step compound_list_step no_entry no_entry list_item_step no_entry pipeline_step no_entry no_entry
 
 unfoldable pub pipeline_run : Pipeline → Run
-pipeline_run = folds.para-Pipeline Entry Entry (Unit {0}) (Unit {0}) (Unit {0}) Run (Unit {0}) Run Entry (Unit {0}) (Unit {0}) Run (Unit {0}) Run (Unit {0}) (Unit {0})
-    command_step form_step unentered unentered unentered and_or_step unentered complete_step compound_step unentered unentered list_item_step unentered pipeline_step unentered unentered
+pipeline_run = folds.para-Pipeline Entry Entry (Unit {0}) (Unit {0}) (Unit {0}) Run (Unit {0}) Entry Run (Unit {0}) (Unit {0}) Run (Unit {0}) Run (Unit {0}) (Unit {0})
+    command_step form_step no_entry no_entry no_entry and_or_step no_entry compound_step compound_list_step no_entry no_entry list_item_step no_entry pipeline_step no_entry no_entry
 
 unfoldable pub command_entry : Command → Entry
-command_entry = folds.para-Command Entry Entry (Unit {0}) (Unit {0}) (Unit {0}) Run (Unit {0}) Run Entry (Unit {0}) (Unit {0}) Run (Unit {0}) Run (Unit {0}) (Unit {0})
-    command_step form_step unentered unentered unentered and_or_step unentered complete_step compound_step unentered unentered list_item_step unentered pipeline_step unentered unentered
+command_entry = folds.para-Command Entry Entry (Unit {0}) (Unit {0}) (Unit {0}) Run (Unit {0}) Entry Run (Unit {0}) (Unit {0}) Run (Unit {0}) Run (Unit {0}) (Unit {0})
+    command_step form_step no_entry no_entry no_entry and_or_step no_entry compound_step compound_list_step no_entry no_entry list_item_step no_entry pipeline_step no_entry no_entry
 
 unfoldable pub compound_entry : Compound → Entry
-compound_entry = folds.para-Compound Entry Entry (Unit {0}) (Unit {0}) (Unit {0}) Run (Unit {0}) Run Entry (Unit {0}) (Unit {0}) Run (Unit {0}) Run (Unit {0}) (Unit {0})
-    command_step form_step unentered unentered unentered and_or_step unentered complete_step compound_step unentered unentered list_item_step unentered pipeline_step unentered unentered
+compound_entry = folds.para-Compound Entry Entry (Unit {0}) (Unit {0}) (Unit {0}) Run (Unit {0}) Entry Run (Unit {0}) (Unit {0}) Run (Unit {0}) Run (Unit {0}) (Unit {0})
+    command_step form_step no_entry no_entry no_entry and_or_step no_entry compound_step compound_list_step no_entry no_entry list_item_step no_entry pipeline_step no_entry no_entry
 
 unfoldable pub form_entry : CompoundForm → Entry
-form_entry = folds.para-CompoundForm Entry Entry (Unit {0}) (Unit {0}) (Unit {0}) Run (Unit {0}) Run Entry (Unit {0}) (Unit {0}) Run (Unit {0}) Run (Unit {0}) (Unit {0})
-    command_step form_step unentered unentered unentered and_or_step unentered complete_step compound_step unentered unentered list_item_step unentered pipeline_step unentered unentered
+form_entry = folds.para-CompoundForm Entry Entry (Unit {0}) (Unit {0}) (Unit {0}) Run (Unit {0}) Entry Run (Unit {0}) (Unit {0}) Run (Unit {0}) Run (Unit {0}) (Unit {0})
+    command_step form_step no_entry no_entry no_entry and_or_step no_entry compound_step compound_list_step no_entry no_entry list_item_step no_entry pipeline_step no_entry no_entry
 
 abbrev pub command_run : Command → Run
 command_run command = command_entry command command
@@ -146,5 +146,5 @@ commands_run pipeline = commands_step (to_enter (view.out-Pipeline pipeline).fir
 abbrev pub beside : ListItem → ListItem × Run
 beside item = (item, item_run item)
 
-abbrev pub entered : List ListItem → ℕ → Run
-entered items status = items_step (map beside items) status
+abbrev pub items_run : List ListItem → ℕ → Run
+items_run items status = items_step (map beside items) status

@@ -2,15 +2,15 @@
 use Rattle.std.specs.Prelude.{◌≡◌, ℕ, zero, suc, List, [], ◌∷◌, ◌||◌, Bool, true, false, Option, Some, None, if◌then◌else◌}
 use Rattle.sh_builtin.specs.declared.act.Leave.{Leave}
 use Rattle.sh_builtin.specs.declared.act.Leave.TheVariants as leave
-use Rattle.sh_exec_command.specs.Series.{given}
+use Rattle.sh_exec_command.specs.Series.{rest_of_series}
 use Rattle.sh_exec_command.specs.Undoing as variables
 use Rattle.sh_exec_command.specs.declared.running.Active.{Active}
 use Rattle.sh_exec_command.specs.declared.running.Active.TheVariants.{Acting, Next, Done, Leaving}
 use Rattle.sh_exec_command.specs.declared.running.Place.TheVariants.{Reading}
 use Rattle.sh_exec_command.specs.declared.running.Undo.{Undo}
 use Rattle.sh_exec_machine.specs.Undoing as descriptors
-use Rattle.sh_exec_forms.specs.Builtins.{placed}
-use Rattle.sh_exec_forms.specs.Entering.{entered, joined, list_run, pipeline_run}
+use Rattle.sh_exec_forms.specs.Builtins.{effect_at}
+use Rattle.sh_exec_forms.specs.Entering.{items_run, with_others, list_run, pipeline_run}
 use Rattle.sh_exec_forms.specs.Running.{Run, At, In}
 use Rattle.sh_exec_forms.specs.declared.form.Branches.{Branches}
 use Rattle.sh_exec_forms.specs.declared.form.Form.{Form}
@@ -20,7 +20,7 @@ use Rattle.sh_exec_forms.specs.declared.loops.Onward.{Onward}
 use Rattle.sh_exec_forms.specs.declared.loops.Onward.TheVariants.{Left, Over, On}
 use Rattle.sh_kernel.specs.State.{KernelKept, KernelState, StandsAt}
 use Rattle.sh_syntax.specs.declared.tree.Command.TheViews as view
-use Rattle.sh_syntax.specs.declared.tree.Complete.{Complete}
+use Rattle.sh_syntax.specs.declared.tree.CompoundList.{CompoundList}
 use Rattle.sh_syntax.specs.declared.tree.Connected.{Connected}
 use Rattle.sh_syntax.specs.declared.tree.Connector.{Connector}
 use Rattle.sh_syntax.specs.declared.tree.Connector.TheVariants.{And, Or}
@@ -35,15 +35,15 @@ pub record Acted : Type 0 where
   pub environment : Environment
   pub run : Run
 
-abbrev pub acted : KernelState → Environment → Run → Acted
-acted s env run = record { machine = s; environment = env; run = run }
+abbrev pub with_run : KernelState → Environment → Run → Acted
+with_run s env run = record { machine = s; environment = env; run = run }
 
 -- `!` (2.9.2)
 abbrev pub negation : ℕ → ℕ
 negation zero = 1
 negation (suc n) = 0
 
--- ---- AND-OR lists (2.9.3): what stands behind `&&` is run behind 0, what stands behind `||` behind any other status
+-- ---- AND-OR lists (2.9.3): what is after `&&` is run after 0, what is after `||` after any other status
 abbrev pub goes_on : Connector → ℕ → Bool
 goes_on And zero = true
 goes_on And (suc n) = false
@@ -51,15 +51,15 @@ goes_on Or zero = false
 goes_on Or (suc n) = true
 
 -- what isn't run has no status
-abbrev pub connected : List Connected → ℕ → Run
-connected [] status = At (Done status)
-connected (next ∷ others) status =
+abbrev pub connected_run : List Connected → ℕ → Run
+connected_run [] status = At (Done status)
+connected_run (next ∷ others) status =
     if goes_on (view.out-Connected next).connector status
-    then joined others (pipeline_run (view.out-Connected next).pipeline)
-    else connected others status
+    then with_others others (pipeline_run (view.out-Connected next).pipeline)
+    else connected_run others status
 
 -- ---- `if` (2.9.4.4): 0 where no list is run but conditions
-abbrev pub otherwise : List ElseIf → Option Complete → Run
+abbrev pub otherwise : List ElseIf → Option CompoundList → Run
 otherwise [] None = At (Done 0)
 otherwise [] (Some list) = list_run list
 otherwise (next ∷ others) else_body =
@@ -76,11 +76,11 @@ runs While (suc n) = false
 runs Until zero = false
 runs Until (suc n) = true
 
-unfoldable pub tested : Loop → ℕ → ℕ → Run
-tested loop last status = if runs loop.kind status then In (Body loop) (list_run loop.body) else At (Done last)
+unfoldable pub behind_condition : Loop → ℕ → ℕ → Run
+behind_condition loop last status = if runs loop.kind status then In (Body loop) (list_run loop.body) else At (Done last)
 
-unfoldable pub repeated : Loop → ℕ → Run
-repeated loop status = In (Condition loop status) (list_run loop.condition)
+unfoldable pub condition_run : Loop → ℕ → Run
+condition_run loop status = In (Condition loop status) (list_run loop.condition)
 
 abbrev pub is_loop : Form → Bool
 is_loop (Text rest) = false
@@ -93,19 +93,19 @@ is_loop (Condition loop last) = true
 is_loop (Body loop) = true
 is_loop (Each series) = true
 
--- ---- break and continue (2.15): they are done with 0, and do nothing where no loop stands around
-abbrev pub bounded : (looped : Bool) → Active → Active
-bounded looped (Acting builtin fields) = Acting builtin fields
-bounded looped (Next place) = Next place
-bounded looped (Done status) = Done status
-bounded looped (Leaving (leave.Shell status)) = Leaving (leave.Shell status)
-bounded true (Leaving (leave.Break inside)) = Leaving (leave.Break inside)
-bounded false (Leaving (leave.Break inside)) = Done 0
-bounded true (Leaving (leave.Continue inside)) = Leaving (leave.Continue inside)
-bounded false (Leaving (leave.Continue inside)) = Done 0
+-- ---- break and continue (2.15): they are done with 0, and do nothing where no loop is around them
+abbrev pub within_loop : (looped : Bool) → Active → Active
+within_loop looped (Acting builtin fields) = Acting builtin fields
+within_loop looped (Next place) = Next place
+within_loop looped (Done status) = Done status
+within_loop looped (Leaving (leave.Shell status)) = Leaving (leave.Shell status)
+within_loop true (Leaving (leave.Break inside)) = Leaving (leave.Break inside)
+within_loop false (Leaving (leave.Break inside)) = Done 0
+within_loop true (Leaving (leave.Continue inside)) = Leaving (leave.Continue inside)
+within_loop false (Leaving (leave.Continue inside)) = Done 0
 
--- from outside of a loop that is left: how many loops stand inside the one that is meant. None where this loop is meant, and where it
--- is the outermost one
+-- seen from outside of a loop that is left: how many loops are inside the one that is meant. None where that
+-- is this loop, and where this loop is the outermost one
 abbrev pub beyond : (looped : Bool) → ℕ → Option ℕ
 beyond looped zero = None
 beyond false (suc inside) = None
@@ -121,57 +121,57 @@ onward looped (leave.Break inside) = onward_by leave.Break Over (beyond looped i
 onward looped (leave.Continue inside) = onward_by leave.Continue On (beyond looped inside)
 
 abbrev pub loop_left : KernelState → Environment → (next : Run) → Onward → Acted
-loop_left s env next (Left leave) = acted s env (At (Leaving leave))
-loop_left s env next Over = acted s env (At (Done 0))
-loop_left s env next On = acted s (with_status env 0) next
+loop_left s env next (Left leave) = with_run s env (At (Leaving leave))
+loop_left s env next Over = with_run s env (At (Done 0))
+loop_left s env next On = with_run s (with_status env 0) next
 
 -- what a command changed is undone (2.9.1): its redirections, and then its assignments
 unfoldable pub undone : ℕ → Undo → KernelState → Environment → Run → Acted
 undone pid undo s env run =
-    acted (descriptors.all_restored pid undo.descriptors s) (variables.all_restored undo.variables env) run
+    with_run (descriptors.all_restored pid undo.descriptors s) (variables.all_restored undo.variables env) run
 
 -- the next command of a text is read; `$?` is the status of the command before (2.5.2)
-abbrev pub ended : ℕ → Form → KernelState → Environment → ℕ → Acted
-ended pid (Text rest) s env status = acted s env (At (Next (Reading rest)))
-ended pid (Commands items) s env status = acted s (with_status env status) (entered items status)
-ended pid (Joined others) s env status = acted s (with_status env status) (connected others status)
-ended pid Negated s env status = acted s env (At (Done (negation status)))
-ended pid (Restoring undo) s env status = undone pid undo s env (At (Done status))
-ended pid (If branches) s env status = acted s (with_status env status) (branch branches status)
-ended pid (Condition loop last) s env status = acted s (with_status env status) (tested loop last status)
-ended pid (Body loop) s env status = acted s (with_status env status) (repeated loop status)
-ended pid (Each series) s env status = acted s (with_status env status) (At (given series status))
+abbrev pub after_status : ℕ → Form → KernelState → Environment → ℕ → Acted
+after_status pid (Text rest) s env status = with_run s env (At (Next (Reading rest)))
+after_status pid (Commands items) s env status = with_run s (with_status env status) (items_run items status)
+after_status pid (Joined others) s env status = with_run s (with_status env status) (connected_run others status)
+after_status pid Negated s env status = with_run s env (At (Done (negation status)))
+after_status pid (Restoring undo) s env status = undone pid undo s env (At (Done status))
+after_status pid (If branches) s env status = with_run s (with_status env status) (branch branches status)
+after_status pid (Condition loop last) s env status = with_run s (with_status env status) (behind_condition loop last status)
+after_status pid (Body loop) s env status = with_run s (with_status env status) (condition_run loop status)
+after_status pid (Each series) s env status = with_run s (with_status env status) (At (rest_of_series series status))
 
--- looped: whether a loop stands around the form
-abbrev pub left : ℕ → (looped : Bool) → Form → KernelState → Environment → Leave → Acted
-left pid looped (Text rest) s env leave = acted s env (At (Leaving leave))
-left pid looped (Commands items) s env leave = acted s env (At (Leaving leave))
-left pid looped (Joined others) s env leave = acted s env (At (Leaving leave))
-left pid looped Negated s env leave = acted s env (At (Leaving leave))
-left pid looped (Restoring undo) s env leave = undone pid undo s env (At (Leaving leave))
-left pid looped (If branches) s env leave = acted s env (At (Leaving leave))
-left pid looped (Condition loop last) s env leave = loop_left s env (repeated loop last) (onward looped leave)
-left pid looped (Body loop) s env leave = loop_left s env (repeated loop 0) (onward looped leave)
-left pid looped (Each series) s env leave = loop_left s env (At (given series 0)) (onward looped leave)
+-- looped: whether a loop is around the form
+abbrev pub after_leave : ℕ → (looped : Bool) → Form → KernelState → Environment → Leave → Acted
+after_leave pid looped (Text rest) s env leave = with_run s env (At (Leaving leave))
+after_leave pid looped (Commands items) s env leave = with_run s env (At (Leaving leave))
+after_leave pid looped (Joined others) s env leave = with_run s env (At (Leaving leave))
+after_leave pid looped Negated s env leave = with_run s env (At (Leaving leave))
+after_leave pid looped (Restoring undo) s env leave = undone pid undo s env (At (Leaving leave))
+after_leave pid looped (If branches) s env leave = with_run s env (At (Leaving leave))
+after_leave pid looped (Condition loop last) s env leave = loop_left s env (condition_run loop last) (onward looped leave)
+after_leave pid looped (Body loop) s env leave = loop_left s env (condition_run loop 0) (onward looped leave)
+after_leave pid looped (Each series) s env leave = loop_left s env (At (rest_of_series series 0)) (onward looped leave)
 
 abbrev pub after_by : ℕ → (looped : Bool) → Form → KernelState → Environment → Run → Acted
-after_by pid looped form s env (At (Done status)) = ended pid form s env status
-after_by pid looped form s env (At (Leaving leave)) = left pid looped form s env leave
-after_by pid looped form s env (At (Acting builtin fields)) = acted s env (In form (At (Acting builtin fields)))
-after_by pid looped form s env (At (Next place)) = acted s env (In form (At (Next place)))
-after_by pid looped form s env (In inner run) = acted s env (In form (In inner run))
+after_by pid looped form s env (At (Done status)) = after_status pid form s env status
+after_by pid looped form s env (At (Leaving leave)) = after_leave pid looped form s env leave
+after_by pid looped form s env (At (Acting builtin fields)) = with_run s env (In form (At (Acting builtin fields)))
+after_by pid looped form s env (At (Next place)) = with_run s env (In form (At (Next place)))
+after_by pid looped form s env (In inner run) = with_run s env (In form (In inner run))
 
 -- a form again round what an action inside it left
 unfoldable pub after : ℕ → (looped : Bool) → Form → Acted → Acted
 after pid looped form a = after_by pid looped form a.machine a.environment a.run
 
 -- a built-in acts, and statuses go outward until the place is an action
-abbrev pub settled : ℕ → (looped : Bool) → KernelState → Environment → Run → Acted
-settled pid looped s env (At active) =
-    let p = placed s pid env active in acted s p.environment (At (bounded looped p.active))
-settled pid looped s env (In form run) = after pid looped form (settled pid (is_loop form || looped) s env run)
+abbrev pub at_action : ℕ → (looped : Bool) → KernelState → Environment → Run → Acted
+at_action pid looped s env (At active) =
+    let p = effect_at s pid env active in with_run s p.environment (At (within_loop looped p.active))
+at_action pid looped s env (In form run) = after pid looped form (at_action pid (is_loop form || looped) s env run)
 
--- a kernel and a shell stand at what an action leaves
+-- the kernel and the shell are what an action leaves
 pub record IsActed (kernel : KernelKept) (env : Environment) (ran : Run) (a : Acted) : Type 0 where
   pub state : StandsAt kernel a.machine
   pub environment : env ≡ a.environment

@@ -6,7 +6,7 @@ use Rattle.sh_exec_forms.specs.declared.form.Form.{Form}
 use Rattle.sh_exec_forms.specs.declared.form.Form.TheVariants.{Restoring}
 use Rattle.sh_vars.specs.Environment.{Environment}
 
--- at its place, or in a form round another tree
+-- an active place, or a form round another tree
 pub data Run : Type 0 where
   At : Active → Run
   In : Form → Run → Run
@@ -17,9 +17,9 @@ pub record ShellState : Type 0 where
   pub run : Run
 
 -- where a command goes on
-abbrev pub moved : Move → Run
-moved (move.At active) = At active
-moved (move.Held undo active) = In (Restoring undo) (At active)
+abbrev pub move_run : Move → Run
+move_run (move.At active) = At active
+move_run (move.Held undo active) = In (Restoring undo) (At active)
 
 -- the one active place of a tree
 abbrev pub active_of : Run → Active

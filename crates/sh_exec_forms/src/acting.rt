@@ -1,7 +1,7 @@
 //! Built-ins act.
 ghost use Rattle.std.specs.Prelude.{◌≡◌, ◌++◌, IfOk, codes, drop};
 ghost use Rattle.sh_exec_parts.specs.Messages as messages;
-ghost use Rattle.sh_exec_forms.specs.Builtins.{behind, built, failing, fault_text, performed, placed, refused, status_of, written};
+ghost use Rattle.sh_exec_forms.specs.Builtins.{behind, builtin_effect, failing, fault_text, with_active, effect_at, refusal, status_of, output_of};
 ghost use Rattle.sh_kernel.specs.State.{KernelState, StandsAt};
 
 use sh_base::NoMemory;
@@ -16,7 +16,8 @@ use std::alloc::Global;
 
 /// A message about a word of a built-in.
 fn about_word(alloc: Global, name: &[u8], word: &[u8], text: &[u8]) -> Result<Piece, NoMemory>
-    ensures { IfOk result (λ piece. piece ≡ messages.message (name.now ++ codes ": " ++ word.now ++ text.now)) }
+    ensures { IfOk result (λ piece.
+        piece ≡ messages.message (name.now ++ codes ": " ++ word.now ++ text.now)) }
 {
     let mut whole = Sequence::new(alloc);
     whole.extend_from_slice(name)?;
@@ -64,7 +65,7 @@ fn failing(is_special: bool, status: u8) -> Finish
 
 /// Where a built-in goes on that is refused.
 fn refused(alloc: Global, builtin: Builtin, fault: BuiltinFault) -> Result<Active, NoMemory>
-    ensures { IfOk result (λ active. active ≡ refused builtin fault) }
+    ensures { IfOk result (λ active. active ≡ refusal builtin fault) }
 {
     let finish = failing(builtin.is_special(), status_of(&fault));
     let piece = fault_message(alloc, builtin.name(), fault)?;
@@ -73,7 +74,7 @@ fn refused(alloc: Global, builtin: Builtin, fault: BuiltinFault) -> Result<Activ
 
 /// What follows when a built-in has output to write: nothing where that is empty.
 fn written(builtin: Builtin, bytes: Text) -> Active
-    ensures { result ≡ written builtin bytes }
+    ensures { result ≡ output_of builtin bytes }
 {
     if bytes.is_empty() {
         return Active::Done(0);
@@ -97,7 +98,7 @@ fn behind(alloc: Global, builtin: Builtin, act: Act) -> Result<Active, NoMemory>
     }
 }
 
-/// The arguments behind a built-in's name.
+/// The arguments after a built-in's name.
 fn arguments_of(fields: &[Text]) -> &[Text]
     ensures { result.now ≡ drop 1 fields.now }
 {
@@ -108,7 +109,7 @@ fn arguments_of(fields: &[Text]) -> &[Text]
 }
 
 /// A built-in acts.
-#[tactic(auto, unfolding(crate::specs::Builtins::built))]
+#[tactic(auto, unfolding(crate::specs::Builtins::builtin_effect))]
 fn build(
     alloc: Global,
     kernel: &Kernel,
@@ -117,7 +118,8 @@ fn build(
     builtin: Builtin,
     fields: &[Text],
 ) -> Result<Active, NoMemory>
-    ensures { (s : KernelState) → StandsAt kernel.now s → IfOk result (λ active. performed vars.new active ≡ built s pid vars.old builtin fields.now) }
+    ensures { (s : KernelState) → StandsAt kernel.now s → IfOk result (λ active.
+        with_active vars.new active ≡ builtin_effect s pid vars.old builtin fields.now) }
 {
     let act = builtin.run(alloc, kernel, pid, vars, arguments_of(fields))?;
     let active = behind(alloc, builtin, act)?;
@@ -132,7 +134,8 @@ pub(crate) fn perform(
     vars: &mut Vars,
     active: Active,
 ) -> Result<Active, NoMemory>
-    ensures { (s : KernelState) → StandsAt kernel.now s → IfOk result (λ next. performed vars.new next ≡ placed s pid vars.old active) }
+    ensures { (s : KernelState) → StandsAt kernel.now s → IfOk result (λ next.
+        with_active vars.new next ≡ effect_at s pid vars.old active) }
 {
     match active {
         Active::Acting(builtin, fields) => {

@@ -1,7 +1,7 @@
-//! Commands for which a process is made (XCU 2.12).
+//! Commands for which a process is made (XCU 2.13).
 ghost use Rattle.std.specs.Prelude.{◌≡◌, IfOk, option_map};
 ghost use Rattle.sh_exec_forms.specs.Bodies.{body_of, own_compound, own_form, sole_and_or, sole_item, sole_pipeline, stage_run};
-ghost use Rattle.sh_exec_forms.specs.Entering.{entered};
+ghost use Rattle.sh_exec_forms.specs.Entering.{items_run};
 ghost use Rattle.sh_exec_forms.specs.Tree.{run_of};
 
 use crate::entering::{enter, enter_command};
@@ -11,7 +11,7 @@ use sh_base::NoMemory;
 use sh_base::shared::Shared;
 use sh_exec_command::{Place, first_place};
 use sh_exec_parts::is_negated;
-use sh_syntax::tree::{AndOr, Command, Complete, Compound, CompoundForm, ListItem, Pipeline};
+use sh_syntax::tree::{AndOr, Command, Compound, CompoundForm, CompoundList, ListItem, Pipeline};
 use std::alloc::Global;
 
 /// The form of a compound command that is all that its process runs.
@@ -96,16 +96,17 @@ fn sole_item(alloc: Global, item: &ListItem) -> Result<Option<Tree>, NoMemory>
 
 /// Copies of AND-OR lists, entered.
 fn enter_copies(alloc: Global, items: &[ListItem]) -> Result<Tree, NoMemory>
-    ensures { IfOk result (λ tree. run_of tree ≡ entered items.now 0) }
+    ensures { IfOk result (λ tree. run_of tree ≡ items_run items.now 0) }
 {
     let items = share_all(alloc, items)?;
     enter(alloc, items, 0)
 }
 
-/// The commands of a command substitution, for which a process is made: it ends at once, with 0, where there are none; where all
-/// that they are is a simple command or a subshell, no other process is made for that. The only error is want of memory.
+/// The commands of a command substitution, for which a process is made: it ends at once, with 0, where there
+/// are none; where a simple command or a subshell is all that they are, no other process is made for it. The
+/// only error is want of memory.
 #[cycle(bodies)]
-pub fn body_of(alloc: Global, list: &Complete) -> Result<Tree, NoMemory>
+pub fn body_of(alloc: Global, list: &CompoundList) -> Result<Tree, NoMemory>
     ensures { IfOk result (λ tree. run_of tree ≡ body_of list.now) }
 {
     let items = list.items.as_slice();

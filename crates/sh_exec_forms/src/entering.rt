@@ -1,7 +1,7 @@
 //! Commands are entered.
 ghost use Rattle.std.specs.Prelude.{◌≡◌, ◌∷◌, [], IfOk, None, option_map};
 ghost use Rattle.sh_exec_parts.specs.Pipelines.{commands_of};
-ghost use Rattle.sh_exec_forms.specs.Entering.{and_or_run, command_run, commands_run, compound_entry, entered, form_entry, joined, list_run, negated, pipeline_run, staging};
+ghost use Rattle.sh_exec_forms.specs.Entering.{and_or_run, command_run, commands_run, compound_entry, items_run, form_entry, with_others, list_run, with_negation, pipeline_run, staging};
 ghost use Rattle.sh_exec_forms.specs.Running.{Run};
 ghost use Rattle.sh_exec_forms.specs.Tree.{run_of};
 
@@ -14,7 +14,7 @@ use sh_base::shared::Shared;
 use sh_exec_command::{Active, Place, Stages, Wants, first_place};
 use sh_exec_parts::{Queue, commands_of, is_negated};
 use sh_syntax::tree::{
-    AndOr, Command, Complete, Compound, CompoundForm, Connected, ElseIf, ListItem, LoopKind,
+    AndOr, Command, Compound, CompoundForm, CompoundList, Connected, ElseIf, ListItem, LoopKind,
     Pipeline,
 };
 use std::alloc::Global;
@@ -39,14 +39,21 @@ fn subshell_tree(alloc: Global, command: &Shared<Command>) -> Result<Tree, NoMem
     Ok(Tree::next(staging(alloc, commands)))
 }
 
-/// What an `if` runs behind its condition.
+/// What an `if` runs after its condition.
 fn branches_of(
     alloc: Global,
-    body: &Shared<Complete>,
+    body: &Shared<CompoundList>,
     else_ifs: &[ElseIf],
-    else_body: Option<&Shared<Complete>>,
+    else_body: Option<&Shared<CompoundList>>,
 ) -> Result<Branches, NoMemory>
-    ensures { IfOk result (λ branches. branches ≡ record { body = body.now; else_ifs = else_ifs.now; else_body = option_map (λ list. list.now) else_body.entry }) }
+    ensures { IfOk result (λ branches.
+        branches
+        ≡ record {
+          body = body.now;
+          else_ifs = else_ifs.now;
+          else_body = option_map (λ list.
+              list.now) else_body.entry;
+        }) }
 {
     let else_body = match else_body {
         Some(list) => Some(list.share()?),
@@ -64,12 +71,21 @@ fn branches_of(
 /// An `if` whose condition is entered.
 fn if_tree(
     alloc: Global,
-    body: &Shared<Complete>,
+    body: &Shared<CompoundList>,
     else_ifs: &[ElseIf],
-    else_body: Option<&Shared<Complete>>,
+    else_body: Option<&Shared<CompoundList>>,
     inner: Tree,
 ) -> Result<Tree, NoMemory>
-    ensures { IfOk result (λ tree. run_of tree ≡ Run.In (Form.If (record { body = body.now; else_ifs = else_ifs.now; else_body = option_map (λ list. list.now) else_body.entry })) (run_of inner)) }
+    ensures { IfOk result (λ tree.
+        run_of tree
+        ≡ Run.In
+        (Form.If
+        (record {
+          body = body.now;
+          else_ifs = else_ifs.now;
+          else_body = option_map (λ list.
+              list.now) else_body.entry;
+        })) (run_of inner)) }
 {
     match branches_of(alloc, body, else_ifs, else_body) {
         Ok(branches) => inner.within(alloc, Form::If(branches)),
@@ -83,10 +99,11 @@ fn if_tree(
 /// A loop.
 fn loop_of(
     kind: LoopKind,
-    condition: &Shared<Complete>,
-    body: &Shared<Complete>,
+    condition: &Shared<CompoundList>,
+    body: &Shared<CompoundList>,
 ) -> Result<Loop, NoMemory>
-    ensures { IfOk result (λ looping. looping ≡ record { kind = kind; condition = condition.now; body = body.now }) }
+    ensures { IfOk result (λ looping.
+        looping ≡ record { kind = kind; condition = condition.now; body = body.now }) }
 {
     let condition = condition.share()?;
     let body = body.share()?;
@@ -101,11 +118,15 @@ fn loop_of(
 fn loop_tree(
     alloc: Global,
     kind: LoopKind,
-    condition: &Shared<Complete>,
-    body: &Shared<Complete>,
+    condition: &Shared<CompoundList>,
+    body: &Shared<CompoundList>,
     inner: Tree,
 ) -> Result<Tree, NoMemory>
-    ensures { IfOk result (λ tree. run_of tree ≡ Run.In (Form.Condition (record { kind = kind; condition = condition.now; body = body.now }) 0) (run_of inner)) }
+    ensures { IfOk result (λ tree.
+        run_of tree
+        ≡ Run.In
+        (Form.Condition (record { kind = kind; condition = condition.now; body = body.now }) 0)
+        (run_of inner)) }
 {
     match loop_of(kind, condition, body) {
         Ok(looping) => inner.within(alloc, Form::Condition(looping, 0)),
@@ -118,7 +139,8 @@ fn loop_tree(
 
 /// A `for`, whose words are to be expanded.
 fn series_tree(command: &Shared<Command>) -> Result<Tree, NoMemory>
-    ensures { IfOk result (λ tree. run_of tree ≡ Run.At (Active.Next (Place.Expanding (Wants.Series command.now) None))) }
+    ensures { IfOk result (λ tree.
+        run_of tree ≡ Run.At (Active.Next (Place.Expanding (Wants.Series command.now) None))) }
 {
     let command = command.share()?;
     Ok(Tree::next(Place::Expanding(Wants::Series(command), None)))
@@ -171,7 +193,7 @@ fn compound_tree(
     form_tree(alloc, &compound.form, command)
 }
 
-/// A command that stands alone in its process.
+/// A command that is alone in its pipeline.
 #[cycle(entering)]
 pub(crate) fn enter_command(alloc: Global, command: &Shared<Command>) -> Result<Tree, NoMemory>
     ensures { IfOk result (λ tree. run_of tree ≡ command_run command.now) }
@@ -186,9 +208,9 @@ pub(crate) fn enter_command(alloc: Global, command: &Shared<Command>) -> Result<
     }
 }
 
-/// A pipeline behind `!`, or without it.
+/// A pipeline with `!` before it, or without.
 fn negate(alloc: Global, is_negated: bool, inner: Tree) -> Result<Tree, NoMemory>
-    ensures { IfOk result (λ tree. run_of tree ≡ negated is_negated (run_of inner)) }
+    ensures { IfOk result (λ tree. run_of tree ≡ with_negation is_negated (run_of inner)) }
 {
     if is_negated {
         return inner.within(alloc, Form::Negated);
@@ -198,7 +220,8 @@ fn negate(alloc: Global, is_negated: bool, inner: Tree) -> Result<Tree, NoMemory
 
 /// The commands of a pipeline of several.
 fn stages_tree(alloc: Global, pipeline: &Pipeline) -> Result<Tree, NoMemory>
-    ensures { IfOk result (λ tree. run_of tree ≡ Run.At (Active.Next (staging (commands_of pipeline.now)))) }
+    ensures { IfOk result (λ tree.
+        run_of tree ≡ Run.At (Active.Next (staging (commands_of pipeline.now)))) }
 {
     let commands = commands_of(alloc, pipeline)?;
     Ok(Tree::next(staging(alloc, commands)))
@@ -224,9 +247,9 @@ pub(crate) fn enter_pipeline(alloc: Global, pipeline: &Pipeline) -> Result<Tree,
     negate(alloc, is_negated(pipeline), inner)
 }
 
-/// A pipeline, and those behind it that are joined to it.
+/// A pipeline, and those after it that are joined to it.
 pub(crate) fn join(alloc: Global, others: Queue<Connected>, inner: Tree) -> Result<Tree, NoMemory>
-    ensures { IfOk result (λ tree. run_of tree ≡ joined others (run_of inner)) }
+    ensures { IfOk result (λ tree. run_of tree ≡ with_others others (run_of inner)) }
 {
     if others.is_empty() {
         return Ok(inner);
@@ -234,9 +257,9 @@ pub(crate) fn join(alloc: Global, others: Queue<Connected>, inner: Tree) -> Resu
     inner.within(alloc, Form::Joined(others))
 }
 
-/// A pipeline, and copies of those behind it that are joined to it.
+/// A pipeline, and copies of those after it that are joined to it.
 fn join_copies(alloc: Global, others: &[Connected], inner: Tree) -> Result<Tree, NoMemory>
-    ensures { IfOk result (λ tree. run_of tree ≡ joined others.now (run_of inner)) }
+    ensures { IfOk result (λ tree. run_of tree ≡ with_others others.now (run_of inner)) }
 {
     match share_all(alloc, others) {
         Ok(others) => join(alloc, others, inner),
@@ -256,7 +279,7 @@ fn and_or_tree(alloc: Global, list: &AndOr) -> Result<Tree, NoMemory>
     join_copies(alloc, list.rest.as_slice(), inner)
 }
 
-/// The first of some AND-OR lists, and copies of those behind it.
+/// The first of some AND-OR lists, and copies of those after it.
 fn before_copies(alloc: Global, items: &[ListItem], inner: Tree) -> Result<Tree, NoMemory>
     ensures { IfOk result (λ tree. run_of tree ≡ Run.In (Form.Commands items.now) (run_of inner)) }
 {
@@ -269,9 +292,9 @@ fn before_copies(alloc: Global, items: &[ListItem], inner: Tree) -> Result<Tree,
     }
 }
 
-/// A list of commands that stands inside a command. The only error is want of memory.
+/// A list of commands that is inside a command. The only error is want of memory.
 #[cycle(entering)]
-pub fn enter_list(alloc: Global, list: &Complete) -> Result<Tree, NoMemory>
+pub fn enter_list(alloc: Global, list: &CompoundList) -> Result<Tree, NoMemory>
     ensures { IfOk result (λ tree. run_of tree ≡ list_run list.now) }
 {
     let Some((item, others)) = list.items.as_slice().split_first() else {
@@ -281,9 +304,10 @@ pub fn enter_list(alloc: Global, list: &Complete) -> Result<Tree, NoMemory>
     before_copies(alloc, others, inner)
 }
 
-/// AND-OR lists one after another, entered behind a command that had this status. The only error is want of memory.
+/// AND-OR lists one after another, entered after a command that had this status. The only error is want of
+/// memory.
 pub fn enter(alloc: Global, items: Queue<ListItem>, status: u8) -> Result<Tree, NoMemory>
-    ensures { IfOk result (λ tree. run_of tree ≡ entered items status) }
+    ensures { IfOk result (λ tree. run_of tree ≡ items_run items status) }
 {
     let mut items = items;
     let Some(item) = items.take() else {

@@ -2,39 +2,39 @@
 use sh_base::shared::Shared;
 use sh_exec_command::{Series, Undo};
 use sh_exec_parts::{Queue, Rest};
-use sh_syntax::tree::{Complete, Connected, ElseIf, ListItem, LoopKind};
+use sh_syntax::tree::{CompoundList, Connected, ElseIf, ListItem, LoopKind};
 
-/// What an `if` runs behind its condition (XCU 2.9.4.4).
+/// What an `if` runs after its condition (XCU 2.9.4.4).
 #[derive(Drop)]
 pub struct Branches {
     /// Where the condition succeeds.
-    pub body: Shared<Complete>,
+    pub body: Shared<CompoundList>,
     /// Else the first of these whose condition succeeds.
     pub else_ifs: Queue<ElseIf>,
     /// Else this, where there is one.
-    pub else_body: Option<Shared<Complete>>,
+    pub else_body: Option<Shared<CompoundList>>,
 }
 
 /// A `while` or `until` loop (2.9.4.5, 2.9.4.6).
 #[derive(Drop)]
 pub struct Loop {
     pub kind: LoopKind,
-    pub condition: Shared<Complete>,
-    pub body: Shared<Complete>,
+    pub condition: Shared<CompoundList>,
+    pub body: Shared<CompoundList>,
 }
 
 /// A running form round what is done in it.
 #[derive(Drop)]
 pub enum Form {
-    /// A command of a text, with what comes behind it (XCU 2.1).
+    /// A command of a text, with what comes after it (XCU 2.1).
     Text(Rest),
-    /// One of some AND-OR lists (2.9.3), with those behind it.
+    /// One of some AND-OR lists (2.9.3), with those after it.
     Commands(Queue<ListItem>),
-    /// A pipeline of an AND-OR list (2.9.3) that isn't its last, with those behind it.
+    /// A pipeline of an AND-OR list (2.9.3) that isn't its last, with those after it.
     Joined(Queue<Connected>),
-    /// A pipeline behind `!` (2.9.2).
+    /// A pipeline after `!` (2.9.2).
     Negated,
-    /// A command behind which what it changed is undone (2.9.1).
+    /// A command after which what it changed is undone (2.9.1).
     Restoring(Undo),
     /// A condition of an `if`.
     If(Branches),

@@ -2,8 +2,8 @@
 ghost use Rattle.std.specs.Prelude.{◌≡◌, ◌||◌, IfOk};
 ghost use Rattle.sh_kernel.specs.State.{KernelState, StandsAt};
 ghost use Rattle.sh_syntax.specs.declared.tree.Command.TheViews as view;
-ghost use Rattle.sh_exec_forms.specs.Entering.{joined, list_run, pipeline_run};
-ghost use Rattle.sh_exec_forms.specs.Forms.{Acted, IsActed, acted, after, after_by, bounded, branch, connected, ended, goes_on, left, negation, otherwise, settled, undone};
+ghost use Rattle.sh_exec_forms.specs.Entering.{with_others, list_run, pipeline_run};
+ghost use Rattle.sh_exec_forms.specs.Forms.{Acted, IsActed, with_run, after, after_by, within_loop, branch, connected_run, after_status, goes_on, after_leave, negation, otherwise, at_action, undone};
 ghost use Rattle.sh_exec_forms.specs.Running.{Run};
 ghost use Rattle.sh_exec_forms.specs.Tree.{run_of};
 
@@ -19,18 +19,18 @@ use sh_exec_command::{Active, Place, Undo, restore_variables};
 use sh_exec_machine::restore_all;
 use sh_exec_parts::Queue;
 use sh_kernel::Kernel;
-use sh_syntax::tree::{Complete, Connected, Connector, ElseIf};
+use sh_syntax::tree::{CompoundList, Connected, Connector, ElseIf};
 use sh_vars::Vars;
 use std::alloc::Global;
 
-/// The status behind `!`.
+/// The status of a pipeline after `!`.
 fn negation(status: u8) -> u8
     ensures { result ≡ negation status }
 {
     if status == 0 { 1 } else { 0 }
 }
 
-/// Whether what stands behind a connector is run behind this status (2.9.3).
+/// Whether what is after a connector is run after this status (2.9.3).
 fn goes_on(connector: Connector, status: u8) -> bool
     ensures { result ≡ goes_on connector status }
 {
@@ -40,9 +40,10 @@ fn goes_on(connector: Connector, status: u8) -> bool
     }
 }
 
-/// A pipeline of an AND-OR list, with those behind it.
+/// A pipeline of an AND-OR list, with those after it.
 fn enter_joined(alloc: Global, next: Connected, others: Queue<Connected>) -> Result<Tree, NoMemory>
-    ensures { IfOk result (λ tree. run_of tree ≡ joined others (pipeline_run (view.out-Connected next).pipeline)) }
+    ensures { IfOk result (λ tree.
+        run_of tree ≡ with_others others (pipeline_run (view.out-Connected next).pipeline)) }
 {
     let entered = enter_pipeline(alloc, next.pipeline.get());
     drop(next);
@@ -55,9 +56,9 @@ fn enter_joined(alloc: Global, next: Connected, others: Queue<Connected>) -> Res
     }
 }
 
-/// The first of some pipelines that is run behind this status, and those behind it.
+/// The first of some pipelines that is run after this status, and those after it.
 fn connect(alloc: Global, others: Queue<Connected>, status: u8) -> Result<Tree, NoMemory>
-    ensures { IfOk result (λ tree. run_of tree ≡ connected others status) }
+    ensures { IfOk result (λ tree. run_of tree ≡ connected_run others status) }
 {
     let mut others = others;
     'others: while let Some(next) = others.take() {
@@ -69,7 +70,7 @@ fn connect(alloc: Global, others: Queue<Connected>, status: u8) -> Result<Tree, 
 }
 
 /// A list that is entered within a form.
-fn enter_within(alloc: Global, list: Shared<Complete>, form: Form) -> Result<Tree, NoMemory>
+fn enter_within(alloc: Global, list: Shared<CompoundList>, form: Form) -> Result<Tree, NoMemory>
     ensures { IfOk result (λ tree. run_of tree ≡ Run.In form (list_run list)) }
 {
     let entered = enter_list(alloc, list.get());
@@ -83,11 +84,11 @@ fn enter_within(alloc: Global, list: Shared<Complete>, form: Form) -> Result<Tre
     }
 }
 
-/// What an `if` goes on with behind a condition that failed.
+/// What an `if` goes on with after a condition that failed.
 fn otherwise(
     alloc: Global,
     else_ifs: Queue<ElseIf>,
-    else_body: Option<Shared<Complete>>,
+    else_body: Option<Shared<CompoundList>>,
 ) -> Result<Tree, NoMemory>
     ensures { IfOk result (λ tree. run_of tree ≡ otherwise else_ifs else_body) }
 {
@@ -109,7 +110,7 @@ fn otherwise(
     }
 }
 
-/// What an `if` goes on with behind a condition with this status.
+/// What an `if` goes on with after a condition with this status.
 #[tactic(auto, unfolding(crate::specs::Forms::branch))]
 fn branch(alloc: Global, branches: Branches, status: u8) -> Result<Tree, NoMemory>
     ensures { IfOk result (λ tree. run_of tree ≡ branch branches status) }
@@ -137,7 +138,8 @@ fn undo(
     undo: Undo,
     tree: Tree,
 ) -> Result<Tree, NoMemory>
-    ensures state { (s : KernelState) → StandsAt kernel.old s → IfOk result (λ tree'. IsActed kernel.new vars.new (run_of tree') (undone pid undo s vars.old (run_of tree))) }
+    ensures state { (s : KernelState) → StandsAt kernel.old s → IfOk result (λ tree'.
+        IsActed kernel.new vars.new (run_of tree') (undone pid undo s vars.old (run_of tree))) }
     ensures terminal { kernel.new.terminal ≡ kernel.old.terminal }
 {
     let Undo {
@@ -163,7 +165,8 @@ fn end_form(
     form: Form,
     status: u8,
 ) -> Result<Tree, NoMemory>
-    ensures state { (s : KernelState) → StandsAt kernel.old s → IfOk result (λ tree. IsActed kernel.new vars.new (run_of tree) (ended pid form s vars.old status)) }
+    ensures state { (s : KernelState) → StandsAt kernel.old s → IfOk result (λ tree.
+        IsActed kernel.new vars.new (run_of tree) (after_status pid form s vars.old status)) }
     ensures terminal { kernel.new.terminal ≡ kernel.old.terminal }
 {
     match form {
@@ -205,7 +208,7 @@ fn end_form(
     }
 }
 
-/// A form that is left before its end; whether a loop stands around it.
+/// A form that is left before its end; `looped` tells whether a loop is around it.
 fn leave_form(
     alloc: Global,
     kernel: &mut Kernel,
@@ -215,7 +218,8 @@ fn leave_form(
     form: Form,
     leave: Leave,
 ) -> Result<Tree, NoMemory>
-    ensures state { (s : KernelState) → StandsAt kernel.old s → IfOk result (λ tree. IsActed kernel.new vars.new (run_of tree) (left pid looped form s vars.old leave)) }
+    ensures state { (s : KernelState) → StandsAt kernel.old s → IfOk result (λ tree.
+        IsActed kernel.new vars.new (run_of tree) (after_leave pid looped form s vars.old leave)) }
     ensures terminal { kernel.new.terminal ≡ kernel.old.terminal }
 {
     match form {
@@ -240,7 +244,8 @@ fn leave_form(
     }
 }
 
-/// A form again round what an action inside it left; `looped` tells whether a loop stands around it. The only error is want of memory, after which both are gone.
+/// A form again round what an action inside it left; `looped` tells whether a loop is around it. The only
+/// error is want of memory, after which both are gone.
 #[tactic(auto, unfolding(crate::specs::Forms::after))]
 pub fn wrap(
     alloc: Global,
@@ -251,7 +256,9 @@ pub fn wrap(
     form: Form,
     inner: Tree,
 ) -> Result<Tree, NoMemory>
-    ensures state { (s : KernelState) → StandsAt kernel.old s → IfOk result (λ tree. IsActed kernel.new vars.new (run_of tree) (after pid looped form (acted s vars.old (run_of inner)))) }
+    ensures state { (s : KernelState) → StandsAt kernel.old s → IfOk result (λ tree.
+        IsActed kernel.new vars.new (run_of tree)
+        (after pid looped form (with_run s vars.old (run_of inner)))) }
     ensures terminal { kernel.new.terminal ≡ kernel.old.terminal }
 {
     match inner {
@@ -282,8 +289,8 @@ pub fn wrap(
     }
 }
 
-/// A built-in acts where one is to, and statuses go outward until the place is an action; `looped` tells whether a loop stands around. The only error is want of memory,
-/// after which the tree is gone.
+/// A built-in acts where one is to, and statuses go outward until the place is an action; `looped` tells
+/// whether a loop is around it. The only error is want of memory, after which the tree is gone.
 pub fn settle(
     alloc: Global,
     kernel: &mut Kernel,
@@ -292,7 +299,8 @@ pub fn settle(
     looped: bool,
     tree: Tree,
 ) -> Result<Tree, NoMemory>
-    ensures state { (s : KernelState) → StandsAt kernel.old s → IfOk result (λ next. IsActed kernel.new vars.new (run_of next) (settled pid looped s vars.old (run_of tree))) }
+    ensures state { (s : KernelState) → StandsAt kernel.old s → IfOk result (λ next.
+        IsActed kernel.new vars.new (run_of next) (at_action pid looped s vars.old (run_of tree))) }
     ensures terminal { kernel.new.terminal ≡ kernel.old.terminal }
 {
     match tree {

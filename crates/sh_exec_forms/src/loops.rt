@@ -1,8 +1,8 @@
 //! Loops, and break and continue in them.
 ghost use Rattle.std.specs.Prelude.{◌≡◌, ◌||◌, IfOk};
-ghost use Rattle.sh_exec_command.specs.Series.{given};
+ghost use Rattle.sh_exec_command.specs.Series.{rest_of_series};
 ghost use Rattle.sh_exec_forms.specs.Entering.{list_run};
-ghost use Rattle.sh_exec_forms.specs.Forms.{Acted, acted, beyond, bounded, is_loop, loop_left, onward, onward_by, repeated, runs, tested};
+ghost use Rattle.sh_exec_forms.specs.Forms.{Acted, with_run, beyond, within_loop, is_loop, loop_left, onward, onward_by, condition_run, runs, behind_condition};
 ghost use Rattle.sh_exec_forms.specs.Running.{Run};
 ghost use Rattle.sh_exec_forms.specs.Tree.{run_of};
 ghost use Rattle.sh_kernel.specs.State.{KernelState};
@@ -45,7 +45,7 @@ fn is_loop(form: &Form) -> bool
 }
 
 impl Form {
-    /// Whether a loop stands around what runs in this form, where `looped` tells whether one stands around the form.
+    /// Whether a loop is around what runs in this form, where `looped` tells whether one is around the form.
     pub fn is_looped(&self, looped: bool) -> bool
         ensures { result ≡ is_loop self.now || looped }
     {
@@ -53,9 +53,9 @@ impl Form {
     }
 }
 
-/// break and continue do nothing where no loop stands around.
+/// break and continue do nothing where no loop is around them.
 pub(crate) fn bound(looped: bool, active: Active) -> Active
-    ensures { result ≡ bounded looped active }
+    ensures { result ≡ within_loop looped active }
 {
     match active {
         Active::Acting(builtin, fields) => Active::Acting(builtin, fields),
@@ -79,7 +79,8 @@ pub(crate) fn bound(looped: bool, active: Active) -> Active
     }
 }
 
-/// From outside of a loop that is left: how many loops stand inside the one that is meant, if it isn't this one.
+/// Seen from outside of a loop that is left: how many loops are inside the one that is meant; `None` where
+/// that is this one, or where this is the outermost.
 fn beyond(looped: bool, inside: u64) -> Option<u64>
     ensures { result ≡ beyond looped inside }
 {
@@ -89,7 +90,7 @@ fn beyond(looped: bool, inside: u64) -> Option<u64>
     Some(inside - 1)
 }
 
-/// Where a loop goes on that is left; whether a loop stands around it.
+/// Where a loop goes on that is left; `looped` tells whether a loop is around it.
 fn where_to(looped: bool, leave: Leave) -> Onward
     ensures { result ≡ onward looped leave }
 {
@@ -115,7 +116,9 @@ pub(crate) fn leave_loop(
     last: u8,
     leave: Leave,
 ) -> Result<Tree, NoMemory>
-    ensures { (s : KernelState) → IfOk result (λ tree. acted s vars.new (run_of tree) ≡ loop_left s vars.old (repeated looping last) (onward looped leave)) }
+    ensures { (s : KernelState) → IfOk result (λ tree.
+        with_run s vars.new (run_of tree) ≡ loop_left s vars.old (condition_run looping last)
+        (onward looped leave)) }
 {
     match where_to(looped, leave) {
         Onward::Left(leave) => Ok(Tree::At(Active::Leaving(leave))),
@@ -129,7 +132,8 @@ pub(crate) fn leave_loop(
 
 /// A `for` that is left.
 pub(crate) fn leave_series(vars: &mut Vars, looped: bool, series: Series, leave: Leave) -> Tree
-    ensures { (s : KernelState) → acted s vars.new (run_of result) ≡ loop_left s vars.old (Run.At (given series 0)) (onward looped leave) }
+    ensures { (s : KernelState) → with_run s vars.new (run_of result) ≡ loop_left s vars.old
+        (Run.At (rest_of_series series 0)) (onward looped leave) }
 {
     match where_to(looped, leave) {
         Onward::Left(leave) => Tree::At(Active::Leaving(leave)),
@@ -141,7 +145,7 @@ pub(crate) fn leave_series(vars: &mut Vars, looped: bool, series: Series, leave:
     }
 }
 
-/// Whether a loop runs its body behind a condition with this status.
+/// Whether a loop runs its body after a condition with this status.
 fn runs(kind: LoopKind, status: u8) -> bool
     ensures { result ≡ runs kind status }
 {
@@ -151,10 +155,10 @@ fn runs(kind: LoopKind, status: u8) -> bool
     }
 }
 
-/// What a loop goes on with behind its condition.
-#[tactic(auto, unfolding(crate::specs::Forms::tested))]
+/// What a loop goes on with after its condition.
+#[tactic(auto, unfolding(crate::specs::Forms::behind_condition))]
 pub(crate) fn test(alloc: Global, looping: Loop, last: u8, status: u8) -> Result<Tree, NoMemory>
-    ensures { IfOk result (λ tree. run_of tree ≡ tested looping last status) }
+    ensures { IfOk result (λ tree. run_of tree ≡ behind_condition looping last status) }
 {
     if !runs(looping.kind, status) {
         return Ok(Tree::At(Active::Done(last)));
@@ -168,10 +172,10 @@ pub(crate) fn test(alloc: Global, looping: Loop, last: u8, status: u8) -> Result
     }
 }
 
-/// What a loop goes on with behind its body.
-#[tactic(auto, unfolding(crate::specs::Forms::repeated))]
+/// What a loop goes on with after its body.
+#[tactic(auto, unfolding(crate::specs::Forms::condition_run))]
 pub(crate) fn repeat(alloc: Global, looping: Loop, status: u8) -> Result<Tree, NoMemory>
-    ensures { IfOk result (λ tree. run_of tree ≡ repeated looping status) }
+    ensures { IfOk result (λ tree. run_of tree ≡ condition_run looping status) }
 {
     match enter_list(alloc, looping.condition.get()) {
         Ok(inner) => inner.within(alloc, Form::Condition(looping, status)),

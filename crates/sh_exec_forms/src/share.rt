@@ -1,4 +1,4 @@
-//! Copies of parts of a tree, which share what stands in them.
+//! Copies of parts of a tree, which share what is in them.
 ghost use Rattle.std.specs.Prelude.{◌≡◌, IfOk};
 
 use sh_base::NoMemory;
@@ -7,7 +7,7 @@ use sh_exec_parts::Queue;
 use sh_syntax::tree::{Connected, ElseIf, ListItem};
 use std::alloc::Global;
 
-/// What can be copied by sharing what stands in it.
+/// What can be copied by sharing what is in it.
 pub(crate) trait Share: Drop {
     /// A copy. The only error is want of memory.
     fn share(&self) -> Result<Self, NoMemory>

@@ -1,6 +1,6 @@
 //! What a shell runs, as a tree.
 ghost use Rattle.std.specs.Prelude.{◌≡◌, IfOk};
-ghost use Rattle.sh_exec_forms.specs.Running.{Run, active_of, moved};
+ghost use Rattle.sh_exec_forms.specs.Running.{Run, active_of, move_run};
 ghost use Rattle.sh_exec_forms.specs.Tree.{run_of};
 
 use crate::form::Form;
@@ -35,7 +35,7 @@ impl Tree {
 
     /// Where a command goes on. The only error is want of memory.
     pub fn moved(alloc: Global, to: Move) -> Result<Self, NoMemory>
-        ensures { IfOk result (λ tree. run_of tree ≡ moved to) }
+        ensures { IfOk result (λ tree. run_of tree ≡ move_run to) }
     {
         match to {
             Move::At(active) => Ok(Tree::At(active)),

@@ -1,10 +1,10 @@
 //! Making a process between pipes.
 ghost use Rattle.std.specs.Prelude.{◌≡◌, IfOk, OnOk};
 ghost use Rattle.sh_kernel.specs.State.{KernelState, StandsAt};
-ghost use Rattle.sh_exec_machine.specs.Forking.{HasForked, HasLaid, closed, connected, dropped, duplicated, fork_between, forked, joined, laid, let_go, moved, piped, reads_from, set_aside, taken_up, unjoined};
+ghost use Rattle.sh_exec_machine.specs.Forking.{HasForked, HasLaid, after_close, with_pipe_ends, without_aside, after_duplication, fork_between, fork_of, with_child, laid, let_go, after_move, after_pipe, reads_from, set_aside, taken_up, without_child};
 
 use sh_base::NoMemory;
-use sh_kernel::{Kernel, KernelFault, Name};
+use sh_kernel::{DescriptorRef, Kernel, KernelFault};
 
 /// The number at which a new process finds the end of a pipe to read from, until it is moved to 0.
 const READ_END: u8 = 10;
@@ -21,30 +21,33 @@ pub struct Forked {
 }
 
 /// Closes a number.
-#[tactic(auto, unfolding(crate::specs::Forking::closed))]
+#[tactic(auto, unfolding(crate::specs::Forking::after_close))]
 fn close(kernel: &mut Kernel, pid: u32, number: u8)
-    ensures state { (s : KernelState) → StandsAt kernel.old s → StandsAt kernel.new (closed s pid number) }
+    ensures state { (s : KernelState) → StandsAt kernel.old s
+        → StandsAt kernel.new (after_close s pid number) }
     ensures terminal { kernel.new.terminal ≡ kernel.old.terminal }
 {
-    let _closed = kernel.close(pid, Name::Number(number));
+    let _closed = kernel.close(pid, DescriptorRef::Number(number));
 }
 
 /// A number refers to what another one refers to.
-#[tactic(auto, unfolding(crate::specs::Forking::duplicated))]
+#[tactic(auto, unfolding(crate::specs::Forking::after_duplication))]
 fn duplicate(kernel: &mut Kernel, pid: u32, from: u8, to: u8) -> Result<(), NoMemory>
-    ensures state { (s : KernelState) → StandsAt kernel.old s → OnOk result (StandsAt kernel.new (duplicated s pid from to)) }
+    ensures state { (s : KernelState) → StandsAt kernel.old s
+        → OnOk result (StandsAt kernel.new (after_duplication s pid from to)) }
     ensures terminal { kernel.new.terminal ≡ kernel.old.terminal }
 {
-    match kernel.dup(pid, Name::Number(from), to) {
+    match kernel.dup(pid, DescriptorRef::Number(from), to) {
         Err(KernelFault::NoMemory(lack)) => Err(lack),
         _ => Ok(()),
     }
 }
 
-/// A number goes over to another one.
-#[tactic(auto, unfolding(crate::specs::Forking::moved))]
+/// Moves a descriptor from one number to another.
+#[tactic(auto, unfolding(crate::specs::Forking::after_move))]
 fn move_over(kernel: &mut Kernel, pid: u32, from: u8, to: u8) -> Result<(), NoMemory>
-    ensures state { (s : KernelState) → StandsAt kernel.old s → OnOk result (StandsAt kernel.new (moved s pid from to)) }
+    ensures state { (s : KernelState) → StandsAt kernel.old s
+        → OnOk result (StandsAt kernel.new (after_move s pid from to)) }
     ensures terminal { kernel.new.terminal ≡ kernel.old.terminal }
 {
     duplicate(kernel, pid, from, to)?;
@@ -53,9 +56,10 @@ fn move_over(kernel: &mut Kernel, pid: u32, from: u8, to: u8) -> Result<(), NoMe
 }
 
 /// Makes a pipe.
-#[tactic(auto, unfolding(crate::specs::Forking::piped))]
+#[tactic(auto, unfolding(crate::specs::Forking::after_pipe))]
 fn pipe(kernel: &mut Kernel, pid: u32) -> Result<(), NoMemory>
-    ensures state { (s : KernelState) → StandsAt kernel.old s → OnOk result (StandsAt kernel.new (piped s pid)) }
+    ensures state { (s : KernelState) → StandsAt kernel.old s
+        → OnOk result (StandsAt kernel.new (after_pipe s pid)) }
     ensures terminal { kernel.new.terminal ≡ kernel.old.terminal }
 {
     match kernel.pipe(pid, READ_END, WRITE_END) {
@@ -67,7 +71,8 @@ fn pipe(kernel: &mut Kernel, pid: u32) -> Result<(), NoMemory>
 /// Sets the end to read from aside.
 #[tactic(auto, unfolding(crate::specs::Forking::set_aside))]
 fn set_aside(kernel: &mut Kernel, pid: u32) -> Option<usize>
-    ensures state { (s : KernelState) → StandsAt kernel.old s → HasLaid kernel.new result (set_aside s pid) }
+    ensures state { (s : KernelState) → StandsAt kernel.old s
+        → HasLaid kernel.new result (set_aside s pid) }
     ensures terminal { kernel.new.terminal ≡ kernel.old.terminal }
 {
     match kernel.set_aside(pid, READ_END) {
@@ -76,10 +81,11 @@ fn set_aside(kernel: &mut Kernel, pid: u32) -> Option<usize>
     }
 }
 
-/// A new pipe, whose end to read from is set aside, where the new process writes to one.
+/// Makes a pipe, where the new process writes to one; its end to read from is set aside.
 #[tactic(auto, unfolding(crate::specs::Forking::laid))]
 fn lay(kernel: &mut Kernel, pid: u32, writes: bool) -> Result<Option<usize>, NoMemory>
-    ensures state { (s : KernelState) → StandsAt kernel.old s → IfOk result (λ aside. HasLaid kernel.new aside (laid writes s pid)) }
+    ensures state { (s : KernelState) → StandsAt kernel.old s → IfOk result (λ aside.
+        HasLaid kernel.new aside (laid writes s pid)) }
     ensures terminal { kernel.new.terminal ≡ kernel.old.terminal }
 {
     if !writes {
@@ -89,10 +95,11 @@ fn lay(kernel: &mut Kernel, pid: u32, writes: bool) -> Result<Option<usize>, NoM
     Ok(set_aside(kernel, pid))
 }
 
-/// The end of the pipe before, as a number.
+/// Gives the end of the pipe before a number again.
 #[tactic(auto, unfolding(crate::specs::Forking::taken_up))]
 fn take_up(kernel: &mut Kernel, pid: u32, before: Option<usize>)
-    ensures state { (s : KernelState) → StandsAt kernel.old s → StandsAt kernel.new (taken_up before s pid) }
+    ensures state { (s : KernelState) → StandsAt kernel.old s
+        → StandsAt kernel.new (taken_up before s pid) }
     ensures terminal { kernel.new.terminal ≡ kernel.old.terminal }
 {
     if let Some(aside) = before {
@@ -100,10 +107,11 @@ fn take_up(kernel: &mut Kernel, pid: u32, before: Option<usize>)
     }
 }
 
-/// What the new process has as 0 and 1.
-#[tactic(auto, unfolding(crate::specs::Forking::connected))]
+/// Gives the new process its descriptors 0 and 1.
+#[tactic(auto, unfolding(crate::specs::Forking::with_pipe_ends))]
 fn connect(kernel: &mut Kernel, child: u32, reads: bool, writes: bool) -> Result<(), NoMemory>
-    ensures state { (s : KernelState) → StandsAt kernel.old s → OnOk result (StandsAt kernel.new (connected reads writes s child)) }
+    ensures state { (s : KernelState) → StandsAt kernel.old s
+        → OnOk result (StandsAt kernel.new (with_pipe_ends reads writes s child)) }
     ensures terminal { kernel.new.terminal ≡ kernel.old.terminal }
 {
     if reads {
@@ -115,7 +123,7 @@ fn connect(kernel: &mut Kernel, child: u32, reads: bool, writes: bool) -> Result
     Ok(())
 }
 
-/// The shell lets go what only the new process has.
+/// Closes in the shell what only the new process is to have.
 #[tactic(auto, unfolding(crate::specs::Forking::let_go))]
 fn let_go(kernel: &mut Kernel, pid: u32)
     ensures state { (s : KernelState) → StandsAt kernel.old s → StandsAt kernel.new (let_go s pid) }
@@ -126,18 +134,19 @@ fn let_go(kernel: &mut Kernel, pid: u32)
 }
 
 /// Closes the end that was set aside, if one was.
-#[tactic(auto, unfolding(crate::specs::Forking::dropped))]
+#[tactic(auto, unfolding(crate::specs::Forking::without_aside))]
 fn drop_aside(kernel: &mut Kernel, pid: u32, aside: Option<usize>)
-    ensures state { (s : KernelState) → StandsAt kernel.old s → StandsAt kernel.new (dropped aside s pid) }
+    ensures state { (s : KernelState) → StandsAt kernel.old s
+        → StandsAt kernel.new (without_aside aside s pid) }
     ensures terminal { kernel.new.terminal ≡ kernel.old.terminal }
 {
     if let Some(aside) = aside {
-        let _closed = kernel.close(pid, Name::Aside(aside));
+        let _closed = kernel.close(pid, DescriptorRef::Aside(aside));
     }
 }
 
 /// The process is made.
-#[tactic(auto, unfolding(crate::specs::Forking::joined))]
+#[tactic(auto, unfolding(crate::specs::Forking::with_child))]
 fn join(
     kernel: &mut Kernel,
     pid: u32,
@@ -146,7 +155,8 @@ fn join(
     aside: Option<usize>,
     child: u32,
 ) -> Result<Forked, NoMemory>
-    ensures state { (s : KernelState) → StandsAt kernel.old s → IfOk result (λ made. HasForked kernel.new made.child made.aside (joined pid reads writes aside child s)) }
+    ensures state { (s : KernelState) → StandsAt kernel.old s → IfOk result (λ made.
+        HasForked kernel.new made.child made.aside (with_child pid reads writes aside child s)) }
     ensures terminal { kernel.new.terminal ≡ kernel.old.terminal }
 {
     connect(kernel, child, reads, writes)?;
@@ -157,10 +167,11 @@ fn join(
     })
 }
 
-/// None can be made.
-#[tactic(auto, unfolding(crate::specs::Forking::unjoined))]
+/// No process can be made.
+#[tactic(auto, unfolding(crate::specs::Forking::without_child))]
 fn give_up(kernel: &mut Kernel, pid: u32, aside: Option<usize>) -> Forked
-    ensures state { (s : KernelState) → StandsAt kernel.old s → HasForked kernel.new result.child result.aside (unjoined pid aside s) }
+    ensures state { (s : KernelState) → StandsAt kernel.old s
+        → HasForked kernel.new result.child result.aside (without_child pid aside s) }
     ensures terminal { kernel.new.terminal ≡ kernel.old.terminal }
 {
     let_go(kernel, pid);
@@ -180,7 +191,8 @@ fn fork_between(
     writes: bool,
     aside: Option<usize>,
 ) -> Result<Forked, NoMemory>
-    ensures state { (s : KernelState) → StandsAt kernel.old s → IfOk result (λ made. HasForked kernel.new made.child made.aside (fork_between s pid reads writes aside)) }
+    ensures state { (s : KernelState) → StandsAt kernel.old s → IfOk result (λ made.
+        HasForked kernel.new made.child made.aside (fork_between s pid reads writes aside)) }
     ensures terminal { kernel.new.terminal ≡ kernel.old.terminal }
 {
     match kernel.fork(pid) {
@@ -193,17 +205,19 @@ fn fork_between(
     }
 }
 
-/// Makes a process (XCU 2.9.2, 2.6.3). It reads, as 0, from the end of a pipe that the maker has set aside, if there is
-/// one, and writes, as 1, to a new pipe, where it is to; the end of that to read from is set aside in the maker. The only
-/// error is want of memory; what of this is done then is left open.
-#[tactic(auto, unfolding(crate::specs::Forking::forked))]
+/// Makes a process (XCU 2.9.2, 2.6.3). Its descriptor 0 is the end of a pipe that the maker has set aside
+/// (`before`), if there is one. Where `writes`, its descriptor 1 is the end to write to of a new pipe, whose
+/// end to read from is set aside in the maker. The only error is want of memory; what of this is done then is
+/// left open.
+#[tactic(auto, unfolding(crate::specs::Forking::fork_of))]
 pub fn fork_process(
     kernel: &mut Kernel,
     pid: u32,
     before: Option<usize>,
     writes: bool,
 ) -> Result<Forked, NoMemory>
-    ensures state { (s : KernelState) → StandsAt kernel.old s → IfOk result (λ made. HasForked kernel.new made.child made.aside (forked s pid before writes)) }
+    ensures state { (s : KernelState) → StandsAt kernel.old s → IfOk result (λ made.
+        HasForked kernel.new made.child made.aside (fork_of s pid before writes)) }
     ensures terminal { kernel.new.terminal ≡ kernel.old.terminal }
 {
     let aside = lay(kernel, pid, writes)?;

@@ -9,6 +9,6 @@ mod undone;
 
 pub use fork::{Forked, fork_process};
 pub use redirecting::{Redirected, redirect};
-pub use transfer::{Given, Taken, give_bytes, take_bytes};
+pub use transfer::{ReadOutcome, WriteOutcome, give_bytes, take_bytes};
 pub use undo::restore_all;
 pub use undone::Undone;

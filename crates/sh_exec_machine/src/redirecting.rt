@@ -2,16 +2,16 @@
 ghost use Rattle.std.specs.Prelude.{◌≡◌, IfOk};
 ghost use Rattle.sh_kernel.specs.Calls.{dup_call, here_call, open_call};
 ghost use Rattle.sh_kernel.specs.State.{KernelState, StandsAt};
-ghost use Rattle.sh_kernel_descriptors.specs.declared.descriptor.Name.TheVariants.{Number};
-ghost use Rattle.sh_exec_machine.specs.Redirecting.{HasAnswered, HasRedirected, beside, closed, is_itself, kept, numbered, over, placed, plainly, put_back, redirected};
+ghost use Rattle.sh_kernel_descriptors.specs.declared.descriptor.DescriptorRef.TheVariants.{Number};
+ghost use Rattle.sh_exec_machine.specs.Redirecting.{HasAnswered, HasRedirected, beside, close_outcome, is_itself, with_undo, at_number, over, action_outcome, plainly, put_back, redirection_outcome};
 
 use crate::undone::Undone;
 use sh_base::NoMemory;
 use sh_exec_parts::redirection::{Action, Redirection};
 use sh_files::Opening;
-use sh_kernel::{Kernel, KernelFault, Name};
+use sh_kernel::{DescriptorRef, Kernel, KernelFault};
 
-/// What a redirection comes to.
+/// What a redirection answers.
 #[derive(Clone, Copy, Debug)]
 pub struct Redirected {
     /// Why it can't be done, if it can't.
@@ -30,7 +30,8 @@ fn open(
     append: bool,
     number: u8,
 ) -> Result<Result<(), KernelFault>, NoMemory>
-    ensures state { (s : KernelState) → StandsAt kernel.old s → IfOk result (λ told. HasAnswered kernel.new told (open_call s pid directory.now path.now how append number)) }
+    ensures state { (s : KernelState) → StandsAt kernel.old s → IfOk result (λ told.
+        HasAnswered kernel.new told (open_call s pid directory.now path.now how append number)) }
     ensures terminal { kernel.new.terminal ≡ kernel.old.terminal }
 {
     match kernel.open(pid, directory, path, how, append, number) {
@@ -47,10 +48,11 @@ fn duplicate(
     from: u8,
     number: u8,
 ) -> Result<Result<(), KernelFault>, NoMemory>
-    ensures state { (s : KernelState) → StandsAt kernel.old s → IfOk result (λ told. HasAnswered kernel.new told (dup_call s pid (Number from) number)) }
+    ensures state { (s : KernelState) → StandsAt kernel.old s → IfOk result (λ told.
+        HasAnswered kernel.new told (dup_call s pid (Number from) number)) }
     ensures terminal { kernel.new.terminal ≡ kernel.old.terminal }
 {
-    match kernel.dup(pid, Name::Number(from), number) {
+    match kernel.dup(pid, DescriptorRef::Number(from), number) {
         Ok(()) => Ok(Ok(())),
         Err(KernelFault::NoMemory(lack)) => Err(lack),
         Err(fault) => Ok(Err(fault)),
@@ -64,7 +66,8 @@ fn open_here(
     bytes: &[u8],
     number: u8,
 ) -> Result<Result<(), KernelFault>, NoMemory>
-    ensures state { (s : KernelState) → StandsAt kernel.old s → IfOk result (λ told. HasAnswered kernel.new told (here_call s pid bytes.now number)) }
+    ensures state { (s : KernelState) → StandsAt kernel.old s → IfOk result (λ told.
+        HasAnswered kernel.new told (here_call s pid bytes.now number)) }
     ensures terminal { kernel.new.terminal ≡ kernel.old.terminal }
 {
     match kernel.here_document(pid, bytes, number) {
@@ -75,16 +78,17 @@ fn open_here(
 }
 
 /// Closes a number, which may refer to nothing.
-#[tactic(auto, unfolding(crate::specs::Redirecting::closed))]
+#[tactic(auto, unfolding(crate::specs::Redirecting::close_outcome))]
 fn close(kernel: &mut Kernel, pid: u32, number: u8)
-    ensures state { (s : KernelState) → StandsAt kernel.old s → HasAnswered kernel.new (Ok tt) (closed s pid number) }
+    ensures state { (s : KernelState) → StandsAt kernel.old s
+        → HasAnswered kernel.new (Ok tt) (close_outcome s pid number) }
     ensures terminal { kernel.new.terminal ≡ kernel.old.terminal }
 {
-    let _closed = kernel.close(pid, Name::Number(number));
+    let _closed = kernel.close(pid, DescriptorRef::Number(number));
 }
 
 /// What a number then refers to.
-#[tactic(auto, unfolding(crate::specs::Redirecting::placed))]
+#[tactic(auto, unfolding(crate::specs::Redirecting::action_outcome))]
 fn place(
     kernel: &mut Kernel,
     pid: u32,
@@ -92,7 +96,8 @@ fn place(
     number: u8,
     redirection: &Redirection,
 ) -> Result<Result<(), KernelFault>, NoMemory>
-    ensures state { (s : KernelState) → StandsAt kernel.old s → IfOk result (λ told. HasAnswered kernel.new told (placed s pid directory.now number redirection.now)) }
+    ensures state { (s : KernelState) → StandsAt kernel.old s → IfOk result (λ told.
+        HasAnswered kernel.new told (action_outcome s pid directory.now number redirection.now)) }
     ensures terminal { kernel.new.terminal ≡ kernel.old.terminal }
 {
     match &redirection.action {
@@ -126,7 +131,9 @@ fn put_beside(
     number: u8,
     redirection: &Redirection,
 ) -> Result<Redirected, NoMemory>
-    ensures state { (s : KernelState) → StandsAt kernel.old s → IfOk result (λ r. HasRedirected kernel.new r.answer r.undone (beside s pid directory.now number redirection.now)) }
+    ensures state { (s : KernelState) → StandsAt kernel.old s → IfOk result (λ r.
+        HasRedirected kernel.new r.answer r.undone
+        (beside s pid directory.now number redirection.now)) }
     ensures terminal { kernel.new.terminal ≡ kernel.old.terminal }
 {
     match place(kernel, pid, directory, number, redirection)? {
@@ -144,7 +151,8 @@ fn put_beside(
 /// What was set aside comes back.
 #[tactic(auto, unfolding(crate::specs::Redirecting::put_back))]
 fn put_back(kernel: &mut Kernel, pid: u32, aside: usize, number: u8)
-    ensures state { (s : KernelState) → StandsAt kernel.old s → StandsAt kernel.new (put_back s pid aside number) }
+    ensures state { (s : KernelState) → StandsAt kernel.old s
+        → StandsAt kernel.new (put_back s pid aside number) }
     ensures terminal { kernel.new.terminal ≡ kernel.old.terminal }
 {
     let _put_back = kernel.put_back(pid, aside, number);
@@ -160,7 +168,9 @@ fn put_over(
     redirection: &Redirection,
     aside: usize,
 ) -> Result<Redirected, NoMemory>
-    ensures state { (s : KernelState) → StandsAt kernel.old s → IfOk result (λ r. HasRedirected kernel.new r.answer r.undone (over s pid directory.now number redirection.now aside)) }
+    ensures state { (s : KernelState) → StandsAt kernel.old s → IfOk result (λ r.
+        HasRedirected kernel.new r.answer r.undone
+        (over s pid directory.now number redirection.now aside)) }
     ensures terminal { kernel.new.terminal ≡ kernel.old.terminal }
 {
     match place(kernel, pid, directory, number, redirection)? {
@@ -179,7 +189,7 @@ fn put_over(
 }
 
 /// A redirection that is undone later.
-#[tactic(auto, unfolding(crate::specs::Redirecting::kept))]
+#[tactic(auto, unfolding(crate::specs::Redirecting::with_undo))]
 fn keep(
     kernel: &mut Kernel,
     pid: u32,
@@ -187,7 +197,9 @@ fn keep(
     number: u8,
     redirection: &Redirection,
 ) -> Result<Redirected, NoMemory>
-    ensures state { (s : KernelState) → StandsAt kernel.old s → IfOk result (λ r. HasRedirected kernel.new r.answer r.undone (kept s pid directory.now number redirection.now)) }
+    ensures state { (s : KernelState) → StandsAt kernel.old s → IfOk result (λ r.
+        HasRedirected kernel.new r.answer r.undone
+        (with_undo s pid directory.now number redirection.now)) }
     ensures terminal { kernel.new.terminal ≡ kernel.old.terminal }
 {
     match kernel.set_aside(pid, number) {
@@ -202,7 +214,7 @@ fn keep(
     }
 }
 
-/// Whether a number is to refer to what it refers to.
+/// Whether an action makes a number refer to what it refers to already.
 fn is_itself(number: u8, action: &Action) -> bool
     ensures { result ≡ is_itself number action.now }
 {
@@ -216,7 +228,7 @@ fn is_itself(number: u8, action: &Action) -> bool
 }
 
 /// The redirection of a number.
-#[tactic(auto, unfolding(crate::specs::Redirecting::numbered))]
+#[tactic(auto, unfolding(crate::specs::Redirecting::at_number))]
 fn redirect_number(
     kernel: &mut Kernel,
     pid: u32,
@@ -225,7 +237,9 @@ fn redirect_number(
     redirection: &Redirection,
     keeps: bool,
 ) -> Result<Redirected, NoMemory>
-    ensures state { (s : KernelState) → StandsAt kernel.old s → IfOk result (λ r. HasRedirected kernel.new r.answer r.undone (numbered keeps s pid directory.now number redirection.now)) }
+    ensures state { (s : KernelState) → StandsAt kernel.old s → IfOk result (λ r.
+        HasRedirected kernel.new r.answer r.undone
+        (at_number keeps s pid directory.now number redirection.now)) }
     ensures terminal { kernel.new.terminal ≡ kernel.old.terminal }
 {
     if keeps && !is_itself(number, &redirection.action) {
@@ -242,9 +256,10 @@ fn redirect_number(
 /// One redirection (XCU 2.7) of a process, whose relative paths go from a working directory. Where `keeps`, what its
 /// number referred to is set aside, for [`restore_all`](crate::restore_all).
 ///
-/// Its answer says why it can't be done: a number above 9, or what is no open descriptor (`BadDescriptor`), or the refusal
-/// of a file; then the process has what it had. The only error is want of memory; what of this is done then is left open.
-#[tactic(auto, unfolding(crate::specs::Redirecting::redirected))]
+/// Its answer says why it can't be done: a number above 9, or what is no open descriptor (`BadDescriptor`),
+/// or the refusal of a file; what was set aside gets its number back then. The only error is want of memory;
+/// what of this is done then is left open.
+#[tactic(auto, unfolding(crate::specs::Redirecting::redirection_outcome))]
 pub fn redirect(
     kernel: &mut Kernel,
     pid: u32,
@@ -252,7 +267,9 @@ pub fn redirect(
     redirection: &Redirection,
     keeps: bool,
 ) -> Result<Redirected, NoMemory>
-    ensures state { (s : KernelState) → StandsAt kernel.old s → IfOk result (λ r. HasRedirected kernel.new r.answer r.undone (redirected keeps s pid directory.now redirection.now)) }
+    ensures state { (s : KernelState) → StandsAt kernel.old s → IfOk result (λ r.
+        HasRedirected kernel.new r.answer r.undone
+        (redirection_outcome keeps s pid directory.now redirection.now)) }
     ensures terminal { kernel.new.terminal ≡ kernel.old.terminal }
 {
     match redirection.number {

@@ -7,12 +7,12 @@ ghost use Rattle.sh_exec_machine.specs.Transfers.{HasGiven, HasTaken, give_bytes
 
 use sh_base::NoMemory;
 use sh_base::sequence::Text;
-use sh_kernel::{Kernel, KernelFault, Name};
+use sh_kernel::{DescriptorRef, Kernel, KernelFault};
 use std::alloc::Global;
 
 /// What a read gave.
 #[derive(Debug, Drop)]
-pub enum Taken {
+pub enum ReadOutcome {
     /// These bytes; none at the end of the file.
     Bytes(Text),
     /// Nothing yet.
@@ -21,9 +21,9 @@ pub enum Taken {
     Failed,
 }
 
-/// What a write came to.
+/// What a write did.
 #[derive(Clone, Copy, Debug, PartialEq, Eq)]
-pub enum Given {
+pub enum WriteOutcome {
     /// All bytes went.
     Whole,
     /// So many of them went, at least one.
@@ -37,73 +37,76 @@ pub enum Given {
 }
 
 /// A refused read.
-fn not_taken(fault: KernelFault) -> Taken
+fn not_taken(fault: KernelFault) -> ReadOutcome
     ensures { result ≡ taken_by (Err fault) }
 {
     if fault.is_wait() {
-        return Taken::Wait;
+        return ReadOutcome::Wait;
     }
-    Taken::Failed
+    ReadOutcome::Failed
 }
 
-/// Reads up to so many bytes by a descriptor of a process. The only error is want of memory, after which nothing is read.
+/// Reads up to so many bytes by a descriptor of a process. The only error is want of memory; what of this is
+/// done then is left open.
 #[tactic(auto, unfolding(crate::specs::Transfers::take_bytes))]
 pub fn take_bytes(
     alloc: Global,
     kernel: &mut Kernel,
     pid: u32,
-    name: Name,
+    name: DescriptorRef,
     count: usize,
-) -> Result<Taken, NoMemory>
-    ensures state { (s : KernelState) → StandsAt kernel.old s → IfOk result (λ taken. HasTaken kernel.new taken (take_bytes s pid name count)) }
+) -> Result<ReadOutcome, NoMemory>
+    ensures state { (s : KernelState) → StandsAt kernel.old s → IfOk result (λ taken.
+        HasTaken kernel.new taken (take_bytes s pid name count)) }
     ensures terminal { kernel.new.terminal.bytes ≡ kernel.old.terminal.bytes }
 {
     let mut buf = vec![in alloc; 0u8; count]?;
     match kernel.read(pid, name, &mut buf) {
         Ok(read) => {
             buf.truncate(read);
-            Ok(Taken::Bytes(Text::from_vec(buf)))
+            Ok(ReadOutcome::Bytes(Text::from_vec(buf)))
         }
         Err(fault) => Ok(not_taken(fault)),
     }
 }
 
 /// Of so many bytes this many went.
-fn counted(total: usize, count: usize) -> Given
+fn counted(total: usize, count: usize) -> WriteOutcome
     ensures { result ≡ given_by total (Ok count) }
 {
     if count < total {
-        return Given::Part(count);
+        return WriteOutcome::Part(count);
     }
-    Given::Whole
+    WriteOutcome::Whole
 }
 
 /// A refused write.
-fn refused(fault: KernelFault) -> Given
+fn refused(fault: KernelFault) -> WriteOutcome
     ensures { result ≡ refused_by fault }
 {
     match fault {
-        KernelFault::BadDescriptor => Given::Failed,
-        KernelFault::NoProcess => Given::Failed,
-        KernelFault::TooManyProcesses => Given::Failed,
-        KernelFault::TooManyDescriptors => Given::Failed,
-        KernelFault::WouldWait => Given::Wait,
-        KernelFault::BrokenPipe => Given::Ended,
-        KernelFault::File(_) => Given::Failed,
-        KernelFault::NoMemory(_) => Given::Failed,
+        KernelFault::BadDescriptor => WriteOutcome::Failed,
+        KernelFault::NoProcess => WriteOutcome::Failed,
+        KernelFault::TooManyProcesses => WriteOutcome::Failed,
+        KernelFault::TooManyDescriptors => WriteOutcome::Failed,
+        KernelFault::WouldWait => WriteOutcome::Wait,
+        KernelFault::BrokenPipe => WriteOutcome::Ended,
+        KernelFault::File(_) => WriteOutcome::Failed,
+        KernelFault::NoMemory(_) => WriteOutcome::Failed,
     }
 }
 
-/// Writes by the descriptor of a number of a process what goes at once. The only error is want of memory, after which nothing
-/// is written.
+/// Writes what can be written at once by a descriptor of a process. The only error is want of memory; what of
+/// this is done then is left open.
 #[tactic(auto, unfolding(crate::specs::Transfers::give_bytes))]
 pub fn give_bytes(
     kernel: &mut Kernel,
     pid: u32,
     number: u8,
     bytes: &[u8],
-) -> Result<Given, NoMemory>
-    ensures state { (s : KernelState) → StandsAt kernel.old s → IfOk result (λ given. HasGiven kernel.new given (give_bytes s pid number bytes.now)) }
+) -> Result<WriteOutcome, NoMemory>
+    ensures state { (s : KernelState) → StandsAt kernel.old s → IfOk result (λ given.
+        HasGiven kernel.new given (give_bytes s pid number bytes.now)) }
     ensures terminal { Extends kernel.old.terminal.bytes kernel.new.terminal.bytes }
 {
     match kernel.write(pid, number, bytes) {

@@ -52,7 +52,7 @@ not_found name = name ++ codes ": not found"
 abbrev pub cannot_execute : List ℕ → List ℕ
 cannot_execute name = name ++ codes ": cannot execute"
 
--- of a redirection, behind its word: every refusal of the files but that of `set -C` is the same
+-- of a redirection, after its word: every refusal of the files but that of `set -C` is the same
 abbrev pub file_text : FileFault → List ℕ
 file_text file.NoEntry = codes ": cannot open"
 file_text file.NoAccess = codes ": cannot open"

@@ -21,7 +21,7 @@ use Rattle.sh_syntax.specs.declared.tree.RedirectOperator.TheVariants.{Input, Ou
 use Rattle.sh_syntax.specs.declared.tree.Command.TheOpen as layer
 use Rattle.sh_syntax.specs.declared.tree.Command.TheViews as view
 
--- ---- the descriptor: 0 for input, 1 for output, or the number in front of the operator, if it is at most 9
+-- ---- the descriptor: 0 for input, 1 for output, or the number before the operator, if it is at most 9
 abbrev pub default_number : RedirectOperator → ℕ
 default_number Input = 0
 default_number Output = 1
@@ -57,16 +57,16 @@ to_read_and_write = record { read = true; write = true; create = true; exclusive
 abbrev pub named_descriptor : List ℕ → Option ℕ
 named_descriptor word = if nat_le 1 (length word) && list_all is_ascii_digit word then at_most 9 (value_of word) else None
 
-abbrev pub duplicated : List ℕ → Action
-duplicated word = if bytes_eq word (codes "-") then Close else Duplicate (named_descriptor word)
+abbrev pub duplicate_action : List ℕ → Action
+duplicate_action word = if bytes_eq word (codes "-") then Close else Duplicate (named_descriptor word)
 
 abbrev pub action_by : Bool → RedirectOperator → List ℕ → Action
 action_by no_clobber Input word = Open to_read false
 action_by no_clobber Output word = Open (to_write no_clobber) false
 action_by no_clobber Clobber word = Open (to_write false) false
 action_by no_clobber Append word = Open to_append true
-action_by no_clobber DuplicateInput word = duplicated word
-action_by no_clobber DuplicateOutput word = duplicated word
+action_by no_clobber DuplicateInput word = duplicate_action word
+action_by no_clobber DuplicateOutput word = duplicate_action word
 action_by no_clobber ReadWrite word = Open to_read_and_write false
 
 -- a here-document's field is its text (2.7.4)
@@ -100,18 +100,18 @@ redirection_to no_clobber number target field = record {
   word = word_shown target field;
 }
 
--- a redirection whose word came to this field
+-- a redirection whose word was expanded to this field
 unfoldable pub redirection_of : Bool → Redirect → List ℕ → Redirection
 redirection_of no_clobber redirect field =
     redirection_to no_clobber (view.out-Redirect redirect).number (view.out-Target (view.out-Redirect redirect).target) field
 
 -- each redirection with its field
-abbrev pub prepared : Bool → List Redirect → List (List ℕ) → List Redirection
-prepared no_clobber [] fields = []
-prepared no_clobber (redirect ∷ redirects) [] = []
-prepared no_clobber (redirect ∷ redirects) (field ∷ fields) = redirection_of no_clobber redirect field ∷ prepared no_clobber redirects fields
+abbrev pub redirections_of : Bool → List Redirect → List (List ℕ) → List Redirection
+redirections_of no_clobber [] fields = []
+redirections_of no_clobber (redirect ∷ redirects) [] = []
+redirections_of no_clobber (redirect ∷ redirects) (field ∷ fields) = redirection_of no_clobber redirect field ∷ redirections_of no_clobber redirects fields
 
--- the same item by item: what an item gives, and the fields behind it
+-- the same item by item: what an item gives, and the fields after it
 abbrev pub item_prepared : Bool → Option Redirect → List (List ℕ) → List Redirection
 item_prepared no_clobber None fields = []
 item_prepared no_clobber (Some redirect) [] = []

@@ -1,10 +1,11 @@
--- The complete commands that are run so far: AND-OR lists, one after another, of pipelines of simple commands and of some compound
--- commands. Others are refused, as a text that isn't one is. A command substitution is served where its own commands are.
+-- The complete commands that are run so far: AND-OR lists, one after another, of pipelines of simple commands
+-- and of some compound commands. Others are refused, as a text that is no complete command is. A command
+-- substitution is served where its own commands are.
 use Rattle.std.specs.Prelude.{List, [], ◌∷◌, Option, Some, None, Bool, true, false, ◌&&◌}
 use Rattle.std.specs.List.{list_all}
 use Rattle.sh_syntax.specs.declared.tree.AndOr.{AndOr}
 use Rattle.sh_syntax.specs.declared.tree.Command.{Command}
-use Rattle.sh_syntax.specs.declared.tree.Complete.{Complete}
+use Rattle.sh_syntax.specs.declared.tree.CompoundList.{CompoundList}
 use Rattle.sh_syntax.specs.declared.tree.Compound.{Compound}
 use Rattle.sh_syntax.specs.declared.tree.CompoundForm.{CompoundForm}
 use Rattle.sh_syntax.specs.declared.tree.Connected.{Connected}
@@ -22,7 +23,7 @@ use Rattle.sh_syntax.specs.declared.tree.Separator.TheVariants.{Sequential, Asyn
 use Rattle.sh_syntax.specs.declared.tree.Command.TheOpen as layer
 use Rattle.sh_syntax.specs.declared.tree.Command.TheFolds as folds
 
--- a form whose parts have given way to whether they are served
+-- a form of syntax, each part of it replaced by whether that part is served
 abbrev pub Layer : (Type 0 → Type 0 → Type 0 → Type 0 → Type 0 → Type 0 → Type 0 → Type 0
     → Type 0 → Type 0 → Type 0 → Type 0 → Type 0 → Type 0 → Type 0 → Type 0 → Type 0) → Type 0
 Layer F = F Bool Bool Bool Bool Bool Bool Bool Bool Bool Bool Bool Bool Bool Bool Bool Bool
@@ -93,8 +94,8 @@ no_more (x ∷ xs) = false
 abbrev pub compound_step : Layer layer.Compound-F → Bool
 compound_step compound = compound.form && no_more compound.redirects
 
-abbrev pub unserved : {A : Type 0} → A → Bool
-unserved form = false
+abbrev pub other_step : {A : Type 0} → A → Bool
+other_step form = false
 
 -- ---- pipelines, with `!` or without (2.9.2)
 abbrev pub pipeline_step : Layer layer.Pipeline-F → Bool
@@ -114,66 +115,66 @@ waits Asynchronous = false
 abbrev pub list_item_step : Layer layer.ListItem-F → Bool
 list_item_step item = waits item.separator && item.list
 
-abbrev pub complete_step : Layer layer.Complete-F → Bool
-complete_step list = all list.items
+abbrev pub compound_list_step : Layer layer.CompoundList-F → Bool
+compound_list_step list = all list.items
 
 -- ---- each form of the syntax, from the innermost outward
 unfoldable pub serves_part : Part → Bool
 serves_part = folds.fold-Part Bool Bool Bool Bool Bool Bool Bool Bool Bool Bool Bool Bool Bool Bool Bool Bool
-    command_step form_step part_step item_step target_step and_or_step unserved complete_step compound_step connected_step else_if_step list_item_step parts_step pipeline_step redirect_step word_step
+    command_step form_step part_step item_step target_step and_or_step other_step compound_step compound_list_step connected_step else_if_step list_item_step parts_step pipeline_step redirect_step word_step
 
 unfoldable pub serves_parts : Parts → Bool
 serves_parts = folds.fold-Parts Bool Bool Bool Bool Bool Bool Bool Bool Bool Bool Bool Bool Bool Bool Bool Bool
-    command_step form_step part_step item_step target_step and_or_step unserved complete_step compound_step connected_step else_if_step list_item_step parts_step pipeline_step redirect_step word_step
+    command_step form_step part_step item_step target_step and_or_step other_step compound_step compound_list_step connected_step else_if_step list_item_step parts_step pipeline_step redirect_step word_step
 
 unfoldable pub serves_item : SimpleItem → Bool
 serves_item = folds.fold-SimpleItem Bool Bool Bool Bool Bool Bool Bool Bool Bool Bool Bool Bool Bool Bool Bool Bool
-    command_step form_step part_step item_step target_step and_or_step unserved complete_step compound_step connected_step else_if_step list_item_step parts_step pipeline_step redirect_step word_step
+    command_step form_step part_step item_step target_step and_or_step other_step compound_step compound_list_step connected_step else_if_step list_item_step parts_step pipeline_step redirect_step word_step
 
 unfoldable pub serves_target : Target → Bool
 serves_target = folds.fold-Target Bool Bool Bool Bool Bool Bool Bool Bool Bool Bool Bool Bool Bool Bool Bool Bool
-    command_step form_step part_step item_step target_step and_or_step unserved complete_step compound_step connected_step else_if_step list_item_step parts_step pipeline_step redirect_step word_step
+    command_step form_step part_step item_step target_step and_or_step other_step compound_step compound_list_step connected_step else_if_step list_item_step parts_step pipeline_step redirect_step word_step
 
 unfoldable pub serves_redirect : Redirect → Bool
 serves_redirect = folds.fold-Redirect Bool Bool Bool Bool Bool Bool Bool Bool Bool Bool Bool Bool Bool Bool Bool Bool
-    command_step form_step part_step item_step target_step and_or_step unserved complete_step compound_step connected_step else_if_step list_item_step parts_step pipeline_step redirect_step word_step
+    command_step form_step part_step item_step target_step and_or_step other_step compound_step compound_list_step connected_step else_if_step list_item_step parts_step pipeline_step redirect_step word_step
 
 unfoldable pub serves_word : Word → Bool
 serves_word = folds.fold-Word Bool Bool Bool Bool Bool Bool Bool Bool Bool Bool Bool Bool Bool Bool Bool Bool
-    command_step form_step part_step item_step target_step and_or_step unserved complete_step compound_step connected_step else_if_step list_item_step parts_step pipeline_step redirect_step word_step
+    command_step form_step part_step item_step target_step and_or_step other_step compound_step compound_list_step connected_step else_if_step list_item_step parts_step pipeline_step redirect_step word_step
 
 unfoldable pub serves_command : Command → Bool
 serves_command = folds.fold-Command Bool Bool Bool Bool Bool Bool Bool Bool Bool Bool Bool Bool Bool Bool Bool Bool
-    command_step form_step part_step item_step target_step and_or_step unserved complete_step compound_step connected_step else_if_step list_item_step parts_step pipeline_step redirect_step word_step
+    command_step form_step part_step item_step target_step and_or_step other_step compound_step compound_list_step connected_step else_if_step list_item_step parts_step pipeline_step redirect_step word_step
 
 unfoldable pub serves_form : CompoundForm → Bool
 serves_form = folds.fold-CompoundForm Bool Bool Bool Bool Bool Bool Bool Bool Bool Bool Bool Bool Bool Bool Bool Bool
-    command_step form_step part_step item_step target_step and_or_step unserved complete_step compound_step connected_step else_if_step list_item_step parts_step pipeline_step redirect_step word_step
+    command_step form_step part_step item_step target_step and_or_step other_step compound_step compound_list_step connected_step else_if_step list_item_step parts_step pipeline_step redirect_step word_step
 
 unfoldable pub serves_compound : Compound → Bool
 serves_compound = folds.fold-Compound Bool Bool Bool Bool Bool Bool Bool Bool Bool Bool Bool Bool Bool Bool Bool Bool
-    command_step form_step part_step item_step target_step and_or_step unserved complete_step compound_step connected_step else_if_step list_item_step parts_step pipeline_step redirect_step word_step
+    command_step form_step part_step item_step target_step and_or_step other_step compound_step compound_list_step connected_step else_if_step list_item_step parts_step pipeline_step redirect_step word_step
 
 unfoldable pub serves_else_if : ElseIf → Bool
 serves_else_if = folds.fold-ElseIf Bool Bool Bool Bool Bool Bool Bool Bool Bool Bool Bool Bool Bool Bool Bool Bool
-    command_step form_step part_step item_step target_step and_or_step unserved complete_step compound_step connected_step else_if_step list_item_step parts_step pipeline_step redirect_step word_step
+    command_step form_step part_step item_step target_step and_or_step other_step compound_step compound_list_step connected_step else_if_step list_item_step parts_step pipeline_step redirect_step word_step
 
 unfoldable pub serves_connected : Connected → Bool
 serves_connected = folds.fold-Connected Bool Bool Bool Bool Bool Bool Bool Bool Bool Bool Bool Bool Bool Bool Bool Bool
-    command_step form_step part_step item_step target_step and_or_step unserved complete_step compound_step connected_step else_if_step list_item_step parts_step pipeline_step redirect_step word_step
+    command_step form_step part_step item_step target_step and_or_step other_step compound_step compound_list_step connected_step else_if_step list_item_step parts_step pipeline_step redirect_step word_step
 
 unfoldable pub serves_pipeline : Pipeline → Bool
 serves_pipeline = folds.fold-Pipeline Bool Bool Bool Bool Bool Bool Bool Bool Bool Bool Bool Bool Bool Bool Bool Bool
-    command_step form_step part_step item_step target_step and_or_step unserved complete_step compound_step connected_step else_if_step list_item_step parts_step pipeline_step redirect_step word_step
+    command_step form_step part_step item_step target_step and_or_step other_step compound_step compound_list_step connected_step else_if_step list_item_step parts_step pipeline_step redirect_step word_step
 
 unfoldable pub serves_and_or : AndOr → Bool
 serves_and_or = folds.fold-AndOr Bool Bool Bool Bool Bool Bool Bool Bool Bool Bool Bool Bool Bool Bool Bool Bool
-    command_step form_step part_step item_step target_step and_or_step unserved complete_step compound_step connected_step else_if_step list_item_step parts_step pipeline_step redirect_step word_step
+    command_step form_step part_step item_step target_step and_or_step other_step compound_step compound_list_step connected_step else_if_step list_item_step parts_step pipeline_step redirect_step word_step
 
 unfoldable pub serves_list_item : ListItem → Bool
 serves_list_item = folds.fold-ListItem Bool Bool Bool Bool Bool Bool Bool Bool Bool Bool Bool Bool Bool Bool Bool Bool
-    command_step form_step part_step item_step target_step and_or_step unserved complete_step compound_step connected_step else_if_step list_item_step parts_step pipeline_step redirect_step word_step
+    command_step form_step part_step item_step target_step and_or_step other_step compound_step compound_list_step connected_step else_if_step list_item_step parts_step pipeline_step redirect_step word_step
 
-unfoldable pub serves : Complete → Bool
-serves = folds.fold-Complete Bool Bool Bool Bool Bool Bool Bool Bool Bool Bool Bool Bool Bool Bool Bool Bool
-    command_step form_step part_step item_step target_step and_or_step unserved complete_step compound_step connected_step else_if_step list_item_step parts_step pipeline_step redirect_step word_step
+unfoldable pub serves : CompoundList → Bool
+serves = folds.fold-CompoundList Bool Bool Bool Bool Bool Bool Bool Bool Bool Bool Bool Bool Bool Bool Bool Bool
+    command_step form_step part_step item_step target_step and_or_step other_step compound_step compound_list_step connected_step else_if_step list_item_step parts_step pipeline_step redirect_step word_step

@@ -7,7 +7,7 @@ use Rattle.sh_expand.specs.declared.wanted.Wanted.{Wanted}
 use Rattle.sh_syntax.specs.declared.tree.AndOr.{AndOr}
 use Rattle.sh_syntax.specs.declared.tree.CaseItem.{CaseItem}
 use Rattle.sh_syntax.specs.declared.tree.Command.{Command}
-use Rattle.sh_syntax.specs.declared.tree.Complete.{Complete}
+use Rattle.sh_syntax.specs.declared.tree.CompoundList.{CompoundList}
 use Rattle.sh_syntax.specs.declared.tree.Compound.{Compound}
 use Rattle.sh_syntax.specs.declared.tree.CompoundForm.{CompoundForm}
 use Rattle.sh_syntax.specs.declared.tree.Connected.{Connected}
@@ -26,7 +26,7 @@ use Rattle.sh_syntax.specs.declared.tree.Command.TheViews as view
 -- a form whose parts are those of the tree
 abbrev pub Opened : (Type 0 → Type 0 → Type 0 → Type 0 → Type 0 → Type 0 → Type 0 → Type 0
     → Type 0 → Type 0 → Type 0 → Type 0 → Type 0 → Type 0 → Type 0 → Type 0 → Type 0) → Type 0
-Opened F = F Command CompoundForm Part SimpleItem Target AndOr CaseItem Complete Compound Connected ElseIf ListItem Parts Pipeline Redirect Word
+Opened F = F Command CompoundForm Part SimpleItem Target AndOr CaseItem Compound CompoundList Connected ElseIf ListItem Parts Pipeline Redirect Word
 
 -- the items of a simple command
 abbrev pub items_in : Opened layer.Command-F → Option (List SimpleItem)
@@ -94,11 +94,11 @@ abbrev pub assignments_of : List SimpleItem → List Assignment
 assignments_of [] = []
 assignments_of (item ∷ items) = before (option_map to_assign (assignment_of item)) (assignments_of items)
 
--- ---- what is expanded first: the command's words, and behind them the word of each redirection (2.9.1.1)
+-- ---- what is expanded first: the command's words, and after them the word of each redirection (2.9.1.1)
 abbrev pub word_wanted : Parts → Wanted
 word_wanted parts = record { parts = parts; context = Fields }
 
--- of a here-document its body (2.7.4); that of one whose delimiter is quoted is a literal part
+-- of a here-document its body (2.7.4); where the delimiter is quoted the body is a literal part
 abbrev pub target_wanted : Opened layer.Target-F → Wanted
 target_wanted (layer.Named operator word) = record { parts = (view.out-Word word).parts; context = Single }
 target_wanted (layer.Here operator delimiter body) = record { parts = body; context = QuotedSingle }

@@ -2,7 +2,7 @@
 ghost use Rattle.std.specs.Prelude.{◌≡◌, ◌++◌, decimal, option_map, IfOk, OnOk};
 ghost use Rattle.std.specs.FinMap.{entries};
 ghost use Rattle.sh_vars.specs.Environment.{with_directory, with_export, with_positional, with_process, with_zero};
-ghost use Rattle.sh_exec_parts.specs.Scripts.{all_inherited, exported, given, inherited, is_own, own_variables, script_environment, valued};
+ghost use Rattle.sh_exec_parts.specs.Scripts.{all_inherited, with_exported_name, with_assignment, with_inherited_variable, is_own, own_variables, script_environment, with_exported_value};
 
 use itoa::Buffer;
 use sh_base::NoMemory;
@@ -11,9 +11,9 @@ use sh_vars::{Entry, Vars, VarsFault};
 use std::alloc::Global;
 
 /// Gives a variable a value, where that isn't refused.
-#[tactic(auto, unfolding(crate::specs::Scripts::given))]
+#[tactic(auto, unfolding(crate::specs::Scripts::with_assignment))]
 fn give(vars: &mut Vars, name: &[u8], value: &[u8]) -> Result<(), NoMemory>
-    ensures { OnOk result (vars.new ≡ given vars.old name.now value.now) }
+    ensures { OnOk result (vars.new ≡ with_assignment vars.old name.now value.now) }
 {
     match vars.set(name, value) {
         Ok(()) => Ok(()),
@@ -24,7 +24,7 @@ fn give(vars: &mut Vars, name: &[u8], value: &[u8]) -> Result<(), NoMemory>
 
 /// Exports a variable.
 fn export(vars: &mut Vars, name: &[u8]) -> Result<(), NoMemory>
-    ensures { OnOk result (vars.new ≡ exported vars.old name.now) }
+    ensures { OnOk result (vars.new ≡ with_exported_name vars.old name.now) }
 {
     match vars.export(name) {
         Ok(()) => Ok(()),
@@ -35,7 +35,7 @@ fn export(vars: &mut Vars, name: &[u8]) -> Result<(), NoMemory>
 
 /// Gives a variable the number of a process.
 fn give_number(vars: &mut Vars, name: &[u8], number: u32) -> Result<(), NoMemory>
-    ensures { OnOk result (vars.new ≡ given vars.old name.now (decimal number)) }
+    ensures { OnOk result (vars.new ≡ with_assignment vars.old name.now (decimal number)) }
 {
     let mut buffer = Buffer::new();
     give(vars, name, buffer.format(number).as_bytes())
@@ -63,7 +63,9 @@ fn is_own(name: &[u8]) -> bool
 
 /// Hands a variable on, if it has a value.
 fn hand_on(vars: &mut Vars, name: &[u8], value: Option<&[u8]>) -> Result<(), NoMemory>
-    ensures { OnOk result (vars.new ≡ valued vars.old name.now (option_map (λ value. value.now) value.entry)) }
+    ensures { OnOk result
+        (vars.new ≡ with_exported_value vars.old name.now
+        (option_map (λ value. value.now) value.entry)) }
 {
     let Some(value) = value else {
         return Ok(());
@@ -73,9 +75,9 @@ fn hand_on(vars: &mut Vars, name: &[u8], value: Option<&[u8]>) -> Result<(), NoM
 }
 
 /// Hands a variable on, if it is exported.
-#[tactic(auto, unfolding(crate::specs::Scripts::inherited))]
+#[tactic(auto, unfolding(crate::specs::Scripts::with_inherited_variable))]
 fn inherit(vars: &mut Vars, entry: &Entry) -> Result<(), NoMemory>
-    ensures { OnOk result (vars.new ≡ inherited vars.old entry.now) }
+    ensures { OnOk result (vars.new ≡ with_inherited_variable vars.old entry.now) }
 {
     if entry.is_exported() && !is_own(entry.name()) {
         return hand_on(vars, entry.name(), entry.value());
@@ -104,7 +106,13 @@ fn hand_over(
     operands: &[Text],
     pid: u32,
 ) -> Result<(), NoMemory>
-    ensures { OnOk result (vars.new ≡ with_directory (with_process (with_positional (with_zero (all_inherited vars.old (entries old.now.variables)) path.now) operands.now) pid) old.now.directory) }
+    ensures { OnOk result
+        (vars.new
+        ≡ with_directory
+        (with_process
+        (with_positional
+        (with_zero (all_inherited vars.old (entries old.now.variables)) path.now) operands.now)
+        pid) old.now.directory) }
 {
     inherit_all(vars, old.variables())?;
     vars.set_zero(Text::copy_of(alloc, path)?);
@@ -125,7 +133,8 @@ pub fn script_environment(
     pid: u32,
     parent: u32,
 ) -> Result<Vars, NoMemory>
-    ensures { IfOk result (λ vars. vars ≡ script_environment old.now path.now operands.now pid parent) }
+    ensures { IfOk result (λ vars.
+        vars ≡ script_environment old.now path.now operands.now pid parent) }
 {
     let mut vars = own_variables(alloc, old.directory(), parent)?;
     match hand_over(alloc, &mut vars, old, path, operands, pid) {

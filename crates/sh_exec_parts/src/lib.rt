@@ -1,5 +1,5 @@
-//! What a shell's process stands on: single functions over the commands of a script, the redirections that it does, and what it
-//! writes of them. Nothing here knows of processes.
+//! Of what a shell's process is made: single functions over the commands of a script, the redirections that
+//! it does, and what it writes of them. Nothing here knows of processes.
 #![tactic(auto)]
 
 mod environment;

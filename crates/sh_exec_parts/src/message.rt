@@ -9,7 +9,7 @@ use sh_files::FileFault;
 use sh_kernel_descriptors::KernelFault;
 use std::alloc::Global;
 
-/// Bytes that stand to be written to a descriptor.
+/// Bytes that are to be written to a descriptor.
 #[derive(Debug, Drop)]
 pub struct Piece {
     pub descriptor: u8,
@@ -73,7 +73,7 @@ pub fn refused(alloc: Global, refusal: Refusal) -> Result<Piece, NoMemory>
     about(alloc, b"", refusal_text(refusal))
 }
 
-/// One text behind another.
+/// One text after another.
 fn joined(alloc: Global, first: &[u8], second: &[u8]) -> Result<Text, NoMemory>
     ensures { IfOk result (λ text. text ≡ first.now ++ second.now) }
 {

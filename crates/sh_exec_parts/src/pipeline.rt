@@ -8,7 +8,7 @@ use sh_base::shared::Shared;
 use sh_syntax::tree::{Command, Pipeline};
 use std::alloc::Global;
 
-/// Whether a `!` stands before a pipeline.
+/// Whether a `!` is before a pipeline.
 pub fn is_negated(pipeline: &Pipeline) -> bool
     ensures { result ≡ is_negated pipeline.now }
 {

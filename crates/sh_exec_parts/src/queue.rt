@@ -32,7 +32,8 @@ impl<T> Queue<T> {
 
     /// Takes the first item.
     pub fn take(&mut self) -> Option<T>
-        ensures { MatchOption result ((self.old ≡ []) × (self.new ≡ [])) (λ item. self.old ≡ item ∷ self.new) }
+        ensures { MatchOption result ((self.old ≡ []) × (self.new ≡ [])) (λ item.
+            self.old ≡ item ∷ self.new) }
     {
         self.items.pop()
     }

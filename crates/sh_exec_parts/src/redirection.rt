@@ -1,7 +1,7 @@
 //! Redirections, once their words are expanded (XCU 2.7).
 ghost use Rattle.std.specs.Prelude.{◌≡◌, ◌++◌, [], option_map, IfOk, OnOk};
 ghost use Rattle.sh_base.specs.Decimals.{at_most, value_of};
-ghost use Rattle.sh_exec_parts.specs.Redirections.{action_by, default_number, delimiter_shown, duplicated, fields_behind, item_prepared, kind_text, named_descriptor, number_or, prepared, redirection_of, to_append, to_read, to_read_and_write, to_write};
+ghost use Rattle.sh_exec_parts.specs.Redirections.{action_by, default_number, delimiter_shown, duplicate_action, fields_behind, item_prepared, kind_text, named_descriptor, number_or, redirections_of, redirection_of, to_append, to_read, to_read_and_write, to_write};
 ghost use Rattle.sh_exec_parts.specs.Simple.{redirect_of, redirects_of};
 
 use crate::queue::Queue;
@@ -20,7 +20,7 @@ use std::alloc::Global;
 pub enum Action {
     /// The file that the word names; each write goes to its end if `append`.
     Open { how: Opening, append: bool },
-    /// What another descriptor has; `None` where the word names no descriptor of a script.
+    /// What another descriptor refers to; `None` where the word names no descriptor from 0 to 9.
     Duplicate(Option<u8>),
     /// Nothing: the descriptor is closed.
     Close,
@@ -53,7 +53,7 @@ fn default_number(operator: RedirectOperator) -> u8
     }
 }
 
-/// The descriptor of one digit that digits write.
+/// The descriptor that digits name, if it is at most 9.
 fn small_value(digits: &[u8]) -> Option<u8>
     ensures { result ≡ at_most 9 (value_of digits.now) }
 {
@@ -123,7 +123,7 @@ fn named_descriptor(word: &[u8]) -> Option<u8>
 
 /// What `<&` and `>&` do with their word.
 fn duplicated(word: &[u8]) -> Action
-    ensures { result ≡ duplicated word.now }
+    ensures { result ≡ duplicate_action word.now }
 {
     if word == b"-".as_slice() {
         return Action::Close;
@@ -187,7 +187,7 @@ fn kind_text(alloc: Global, source: &[u8], kind: &TokenKind) -> Result<Text, NoM
     }
 }
 
-/// A redirection whose word came to this field; of a here-document the field is its text.
+/// A redirection whose word was expanded to this field; of a here-document the field is its text.
 #[tactic(auto, unfolding(crate::specs::Redirections::redirection_of))]
 pub fn redirection_of(
     alloc: Global,
@@ -195,7 +195,8 @@ pub fn redirection_of(
     field: &[u8],
     no_clobber: bool,
 ) -> Result<Redirection, NoMemory>
-    ensures { IfOk result (λ redirection. redirection ≡ redirection_of no_clobber redirect.now field.now) }
+    ensures { IfOk result (λ redirection.
+        redirection ≡ redirection_of no_clobber redirect.now field.now) }
 {
     match &redirect.target {
         Target::Named { operator, .. } => Ok(Redirection {
@@ -211,7 +212,7 @@ pub fn redirection_of(
     }
 }
 
-/// Puts an item that is a redirection behind others, with its field, and gives the fields that are left.
+/// Adds an item that is a redirection, with its field, after the others, and gives the fields that are left.
 fn put_prepared<'a>(
     alloc: Global,
     done: &mut Sequence<Redirection>,
@@ -219,7 +220,8 @@ fn put_prepared<'a>(
     fields: &'a [Text],
     no_clobber: bool,
 ) -> Result<&'a [Text], NoMemory>
-    ensures put { OnOk result (done.new ≡ done.old ++ item_prepared no_clobber (redirect_of item.now) fields.now) }
+    ensures put { OnOk result
+        (done.new ≡ done.old ++ item_prepared no_clobber (redirect_of item.now) fields.now) }
     ensures left { IfOk result (λ left. left.now ≡ fields_behind (redirect_of item.now) fields.now) }
 {
     let Some(redirect) = redirect_of(item) else {
@@ -239,7 +241,8 @@ pub fn prepared_redirections(
     fields: &[Text],
     no_clobber: bool,
 ) -> Result<Queue<Redirection>, NoMemory>
-    ensures { IfOk result (λ queue. queue ≡ prepared no_clobber (redirects_of items.now) fields.now) }
+    ensures { IfOk result (λ queue.
+        queue ≡ redirections_of no_clobber (redirects_of items.now) fields.now) }
 {
     let mut done = Sequence::new(alloc);
     let mut rest = items;

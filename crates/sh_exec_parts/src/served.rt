@@ -3,7 +3,7 @@ ghost use Rattle.std.specs.Prelude.{◌≡◌};
 ghost use Rattle.sh_exec_parts.specs.Served.{no_more, serves, serves_and_or, serves_command, serves_compound, serves_connected, serves_else_if, serves_form, serves_item, serves_list_item, serves_part, serves_parts, serves_pipeline, serves_redirect, serves_target, serves_word, waits};
 
 use sh_syntax::tree::{
-    AndOr, Command, Complete, Compound, CompoundForm, Connected, ElseIf, ListItem, Part, Parts,
+    AndOr, Command, Compound, CompoundForm, CompoundList, Connected, ElseIf, ListItem, Part, Parts,
     Pipeline, Redirect, Separator, SimpleItem, Target, Word,
 };
 
@@ -209,7 +209,7 @@ fn serves_and_or(list: &AndOr) -> bool
     true
 }
 
-/// Whether the shell waits for the end of what stands before a separator.
+/// Whether the shell waits for the end of what is before a separator.
 fn is_awaited(separator: Separator) -> bool
     ensures { result ≡ waits separator }
 {
@@ -229,7 +229,7 @@ fn serves_list_item(item: &ListItem) -> bool
 
 /// Whether a complete command is served, and each command substitution in it.
 #[cycle(serving)]
-pub fn is_served(tree: &Complete) -> bool
+pub fn is_served(tree: &CompoundList) -> bool
     ensures { result ≡ serves tree.now }
 {
     for item in tree.items.as_slice() {

@@ -131,9 +131,10 @@ fn redirect_wanted(redirect: &Redirect) -> Result<Wanted, NoMemory>
     }
 }
 
-/// Puts an item that is a word behind others.
+/// Adds an item that is a word after the others.
 fn put_word(wanted: &mut Sequence<Wanted>, item: &SimpleItem) -> Result<(), NoMemory>
-    ensures { OnOk result (wanted.new ≡ wanted.old ++ before (option_map word_wanted (word_of item.now)) []) }
+    ensures { OnOk result
+        (wanted.new ≡ wanted.old ++ before (option_map word_wanted (word_of item.now)) []) }
 {
     let Some(parts) = word_of(item) else {
         return Ok(());
@@ -145,9 +146,10 @@ fn put_word(wanted: &mut Sequence<Wanted>, item: &SimpleItem) -> Result<(), NoMe
     Ok(())
 }
 
-/// Puts what is expanded of an item that is a redirection behind others.
+/// Adds what is expanded of an item that is a redirection after the others.
 fn put_redirect(wanted: &mut Sequence<Wanted>, item: &SimpleItem) -> Result<(), NoMemory>
-    ensures { OnOk result (wanted.new ≡ wanted.old ++ before (option_map redirect_wanted (redirect_of item.now)) []) }
+    ensures { OnOk result
+        (wanted.new ≡ wanted.old ++ before (option_map redirect_wanted (redirect_of item.now)) []) }
 {
     let Some(redirect) = redirect_of(item) else {
         return Ok(());
@@ -156,7 +158,7 @@ fn put_redirect(wanted: &mut Sequence<Wanted>, item: &SimpleItem) -> Result<(), 
     Ok(())
 }
 
-/// Puts the words of a command behind others.
+/// Adds the words of a command after the others.
 fn put_words(wanted: &mut Sequence<Wanted>, items: &[SimpleItem]) -> Result<(), NoMemory>
     ensures { OnOk result (wanted.new ≡ wanted.old ++ words_wanted items.now) }
 {
@@ -168,7 +170,7 @@ fn put_words(wanted: &mut Sequence<Wanted>, items: &[SimpleItem]) -> Result<(), 
     Ok(())
 }
 
-/// Puts what is expanded of a command's redirections behind others.
+/// Adds what is expanded of a command's redirections after the others.
 fn put_redirects(wanted: &mut Sequence<Wanted>, items: &[SimpleItem]) -> Result<(), NoMemory>
     ensures { OnOk result (wanted.new ≡ wanted.old ++ redirects_wanted items.now) }
 {
@@ -180,8 +182,8 @@ fn put_redirects(wanted: &mut Sequence<Wanted>, items: &[SimpleItem]) -> Result<
     Ok(())
 }
 
-/// What of a command is expanded before its redirections are done: its words, and behind them the word of each redirection, of
-/// a here-document its body.
+/// What of a command is expanded before its redirections are done: its words, and after them the word of each
+/// redirection, of a here-document its body.
 #[tactic(auto, unfolding(crate::specs::Simple::wanted_of))]
 pub fn wanted_of(alloc: Global, items: &[SimpleItem]) -> Result<Sequence<Wanted>, NoMemory>
     ensures { IfOk result (λ wanted. wanted ≡ wanted_of items.now) }
@@ -192,8 +194,8 @@ pub fn wanted_of(alloc: Global, items: &[SimpleItem]) -> Result<Sequence<Wanted>
     Ok(wanted)
 }
 
-/// Of the fields of a command and of this many redirections, those of the command and those of the redirections, each of which
-/// has one.
+/// Splits the fields of a command with this many redirections: first those of its words, then those of its
+/// redirections, one for each.
 pub fn split_fields(fields: &[Text], redirections: usize) -> (&[Text], &[Text])
     ensures words { result.0.now ≡ word_fields fields.now redirections }
     ensures redirects { result.1.now ≡ redirect_fields fields.now redirections }
@@ -201,13 +203,15 @@ pub fn split_fields(fields: &[Text], redirections: usize) -> (&[Text], &[Text])
     fields.split_at(fields.len().saturating_sub(redirections))
 }
 
-/// Puts an item that is an assignment behind others.
+/// Adds an item that is an assignment after the others.
 fn put_assignment(
     alloc: Global,
     assignments: &mut Sequence<Assignment>,
     item: &SimpleItem,
 ) -> Result<(), NoMemory>
-    ensures { OnOk result (assignments.new ≡ assignments.old ++ before (option_map to_assign (assignment_of item.now)) []) }
+    ensures { OnOk result
+        (assignments.new ≡ assignments.old ++ before
+        (option_map to_assign (assignment_of item.now)) []) }
 {
     let Some((name, value)) = assignment_of(item) else {
         return Ok(());

@@ -27,22 +27,22 @@ use Rattle.sh_exec_command.specs.declared.running.Wants.{Wants}
 use Rattle.sh_exec_command.specs.declared.running.Wants.TheVariants.{Words, Values, Series}
 use Rattle.sh_exec_command.specs.declared.series.Round.{Round}
 use Rattle.sh_exec_command.specs.declared.series.Round.TheVariants as round
-use Rattle.sh_exec_machine.specs.Redirecting.{redirected}
+use Rattle.sh_exec_machine.specs.Redirecting.{redirection_outcome}
 use Rattle.sh_exec_machine.specs.Transfers.{give_bytes, take_bytes}
-use Rattle.sh_exec_machine.specs.declared.transfer.Given.{Given}
-use Rattle.sh_exec_machine.specs.declared.transfer.Given.TheVariants as given
-use Rattle.sh_exec_machine.specs.declared.transfer.Taken.{Taken}
-use Rattle.sh_exec_machine.specs.declared.transfer.Taken.TheVariants as taken
+use Rattle.sh_exec_machine.specs.declared.transfer.WriteOutcome.{WriteOutcome}
+use Rattle.sh_exec_machine.specs.declared.transfer.WriteOutcome.TheVariants as given
+use Rattle.sh_exec_machine.specs.declared.transfer.ReadOutcome.{ReadOutcome}
+use Rattle.sh_exec_machine.specs.declared.transfer.ReadOutcome.TheVariants as taken
 use Rattle.sh_exec_machine.specs.declared.undone.Undone.{Undone}
-use Rattle.sh_exec_forms.specs.Forms.{Acted, acted}
-use Rattle.sh_exec_forms.specs.Entering.{entered, list_run}
-use Rattle.sh_exec_forms.specs.Running.{Run, At, In, moved}
-use Rattle.sh_exec_shell.specs.Waits.{waited}
+use Rattle.sh_exec_forms.specs.Forms.{Acted, with_run}
+use Rattle.sh_exec_forms.specs.Entering.{items_run, list_run}
+use Rattle.sh_exec_forms.specs.Running.{Run, At, In, move_run}
+use Rattle.sh_exec_shell.specs.Waits.{wait_status}
 use Rattle.sh_exec_forms.specs.declared.form.Form.TheVariants.{Text, Each}
 use Rattle.sh_files.specs.Nodes.{FileMap}
 use Rattle.sh_kernel.specs.Calls.{close_call, end_call}
 use Rattle.sh_kernel.specs.State.{KernelState}
-use Rattle.sh_kernel_descriptors.specs.declared.descriptor.Name.TheVariants.{Aside}
+use Rattle.sh_kernel_descriptors.specs.declared.descriptor.DescriptorRef.TheVariants.{Aside}
 use Rattle.sh_kernel_descriptors.specs.declared.fault.KernelFault.{KernelFault}
 use Rattle.sh_syntax.specs.declared.tree.Command.TheViews as view
 use Rattle.sh_vars.specs.Environment.{Environment}
@@ -50,7 +50,7 @@ use Rattle.sh_vars.specs.Environment.{Environment}
 -- ---- reading (2.1): where no command follows the shell is left with the last status
 abbrev pub read_turn : Environment → Found → Run
 read_turn env found.Nothing = At (Leaving (leave.Shell env.special.status))
-read_turn env (found.Command tree rest) = In (Text rest) (entered (view.out-Complete tree).items env.special.status)
+read_turn env (found.Command tree rest) = In (Text rest) (items_run (view.out-CompoundList tree).items env.special.status)
 read_turn env (found.Fault refusal) = At (fatal (refusal_text refusal))
 
 -- ---- expansion
@@ -63,26 +63,26 @@ expand_turn files env (Series command) pending = series_turn files env command p
 abbrev pub next : Place → Run
 next place = At (Next place)
 
-unfoldable pub collected : KernelState → ℕ → Environment → Substitution → ℕ → Acted
-collected s pid env substitution aside = acted (close_call s pid (Aside aside)).after env (next (Answering substitution))
+unfoldable pub after_collection : KernelState → ℕ → Environment → Substitution → ℕ → Acted
+after_collection s pid env substitution aside = with_run (close_call s pid (Aside aside)).after env (next (Answering substitution))
 
 abbrev pub with_written : Substitution → List ℕ → Substitution
 with_written substitution bytes = record substitution { written = substitution.written ++ bytes }
 
--- the end of the pipe is let go at its end of file
-abbrev pub collect_by : KernelState → ℕ → Environment → Substitution → ℕ → Taken → Acted
+-- the end of the pipe is closed at its end of file
+abbrev pub collect_by : KernelState → ℕ → Environment → Substitution → ℕ → ReadOutcome → Acted
 collect_by s pid env substitution aside (taken.Bytes bytes) =
-    if nat_eq (length bytes) 0 then collected s pid env substitution aside
-    else acted s env (next (Collecting (with_written substitution bytes)))
-collect_by s pid env substitution aside taken.Wait = acted s env (next (Collecting substitution))
-collect_by s pid env substitution aside taken.Failed = collected s pid env substitution aside
+    if nat_eq (length bytes) 0 then after_collection s pid env substitution aside
+    else with_run s env (next (Collecting (with_written substitution bytes)))
+collect_by s pid env substitution aside taken.Wait = with_run s env (next (Collecting substitution))
+collect_by s pid env substitution aside taken.Failed = after_collection s pid env substitution aside
 
 unfoldable pub collect_from : KernelState → ℕ → Environment → Substitution → ℕ → Acted
 collect_from s pid env substitution aside =
     let t = take_bytes s pid (Aside aside) 1024 in collect_by t.after pid env substitution aside t.told
 
 abbrev pub collect_end : KernelState → ℕ → Environment → Substitution → Option ℕ → Acted
-collect_end s pid env substitution None = acted s env (next (Answering substitution))
+collect_end s pid env substitution None = with_run s env (next (Answering substitution))
 collect_end s pid env substitution (Some aside) = collect_from s pid env substitution aside
 
 unfoldable pub collect_turn : KernelState → ℕ → Environment → Substitution → Acted
@@ -95,23 +95,23 @@ with_substitution (Words command in_place before) status = Words command in_plac
 with_substitution (Values p) status = Values (record p { status = status })
 with_substitution (Series command) status = Series command
 
-abbrev pub answered : Pending → List ℕ → Pending
-answered pending answer = record pending { answers = pending.answers ++ answer ∷ [] }
+abbrev pub with_next_answer : Pending → List ℕ → Pending
+with_next_answer pending answer = record pending { answers = pending.answers ++ answer ∷ [] }
 
 abbrev pub answer_by : Substitution → Option ℕ → Place
 answer_by substitution None = Answering substitution
 answer_by substitution (Some status) =
-    Expanding (with_substitution substitution.wants status) (Some (answered substitution.pending substitution.written))
+    Expanding (with_substitution substitution.wants status) (Some (with_next_answer substitution.pending substitution.written))
 
 unfoldable pub answer_turn : KernelState → ℕ → Substitution → Place
-answer_turn s pid substitution = answer_by substitution (waited s pid substitution.children)
+answer_turn s pid substitution = answer_by substitution (wait_status s pid substitution.children)
 
 abbrev pub wait_by : List ℕ → Option ℕ → Active
 wait_by children None = Next (Waiting children)
 wait_by children (Some status) = Done status
 
 unfoldable pub wait_turn : KernelState → ℕ → List ℕ → Active
-wait_turn s pid children = wait_by children (waited s pid children)
+wait_turn s pid children = wait_by children (wait_status s pid children)
 
 -- ---- redirection (2.7); what a program's process changes is never undone
 abbrev pub keeps : Role → Bool
@@ -123,30 +123,30 @@ abbrev pub undone_by : List Undone → Option Undone → List Undone
 undone_by undo None = undo
 undone_by undo (Some one) = undo ++ one ∷ []
 
-abbrev pub noted : Prepared → Option Undone → Prepared
-noted p one = record p { undo = record p.undo { descriptors = undone_by p.undo.descriptors one } }
+abbrev pub with_undo : Prepared → Option Undone → Prepared
+with_undo p one = record p { undo = record p.undo { descriptors = undone_by p.undo.descriptors one } }
 
 abbrev pub redirect_by : Prepared → List ℕ → Result (Unit {0}) KernelFault → Option Undone → Run
-redirect_by p word (Ok _) one = moved (ahead (noted p one))
-redirect_by p word (Err f) one = moved (not_done p word f)
+redirect_by p word (Ok _) one = move_run (ahead (with_undo p one))
+redirect_by p word (Err f) one = move_run (not_done p word f)
 
 unfoldable pub redirect_one : KernelState → ℕ → Environment → Prepared → Redirection → Acted
 redirect_one s pid env p redirection =
-    let r = redirected (keeps p.role) s pid env.directory redirection in
-    acted r.after env (redirect_by p redirection.word r.answer r.undone)
+    let r = redirection_outcome (keeps p.role) s pid env.directory redirection in
+    with_run r.after env (redirect_by p redirection.word r.answer r.undone)
 
 abbrev pub redirect_from : KernelState → ℕ → Environment → Prepared → List Redirection → Acted
-redirect_from s pid env p [] = acted s env (moved (ahead p))
+redirect_from s pid env p [] = with_run s env (move_run (ahead p))
 redirect_from s pid env p (redirection ∷ redirections) = redirect_one s pid env (record p { redirections = redirections }) redirection
 
 unfoldable pub redirect_turn : KernelState → ℕ → Environment → Prepared → Acted
 redirect_turn s pid env p = redirect_from s pid env p p.redirections
 
 -- ---- writing
-abbrev pub finished : Finish → Active
-finished (Status status) = Done status
-finished (Leave status) = Leaving (leave.Shell status)
-finished (Output builtin) = Done 0
+abbrev pub after_writing : Finish → Active
+after_writing (Status status) = Done status
+after_writing (Leave status) = Leaving (leave.Shell status)
+after_writing (Output builtin) = Done 0
 
 -- a message that can't be written is dropped; a built-in has 1 then, and a message
 abbrev pub unwritten : Finish → Active
@@ -154,9 +154,9 @@ unwritten (Status status) = Done status
 unwritten (Leave status) = Leaving (leave.Shell status)
 unwritten (Output builtin) = Next (Writing (message (write_error (name_of builtin))) (Status 1))
 
--- what is left stands to be written; a process that a signal ended acts no more
-abbrev pub written_by : Piece → Finish → Given → Active
-written_by piece finish given.Whole = finished finish
+-- what is left is still to be written; a process that a signal ended acts no more
+abbrev pub written_by : Piece → Finish → WriteOutcome → Active
+written_by piece finish given.Whole = after_writing finish
 written_by piece finish (given.Part count) = Next (Writing (record piece { bytes = drop count piece.bytes }) finish)
 written_by piece finish given.Wait = Next (Writing piece finish)
 written_by piece finish given.Ended = Next (Writing piece finish)
@@ -164,7 +164,7 @@ written_by piece finish given.Failed = unwritten finish
 
 unfoldable pub write_turn : KernelState → ℕ → Environment → Piece → Finish → Acted
 write_turn s pid env piece finish =
-    let g = give_bytes s pid piece.descriptor piece.bytes in acted g.after env (At (written_by piece finish g.told))
+    let g = give_bytes s pid piece.descriptor piece.bytes in with_run g.after env (At (written_by piece finish g.told))
 
 -- ---- a for: its variable has the next value, and its body is entered (2.9.4.2)
 abbrev pub round_run : Round → Run
@@ -172,8 +172,8 @@ round_run (round.Body series) = In (Each series) (list_run series.body)
 round_run (round.Over active) = At active
 
 abbrev pub given_round : KernelState → series.Given → Acted
-given_round s g = acted s g.environment (round_run g.round)
+given_round s g = with_run s g.environment (round_run g.round)
 
 -- ---- the end of the process
 unfoldable pub end_turn : KernelState → ℕ → Environment → ℕ → Acted
-end_turn s pid env status = acted (end_call s pid status).after env (next (Ending status))
+end_turn s pid env status = with_run (end_call s pid status).after env (next (Ending status))

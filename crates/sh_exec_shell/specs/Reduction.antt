@@ -12,8 +12,8 @@ use Rattle.sh_exec_command.specs.declared.running.Place.{Place}
 use Rattle.sh_exec_command.specs.declared.running.Place.TheVariants.{Reading, Expanding, Collecting, Answering, Redirecting, Forking, Starting, Staging, Giving, Waiting, Writing, Ending}
 use Rattle.sh_exec_shell.specs.Acting.{answer_turn, collect_turn, end_turn, expand_turn, given_round, next, read_turn, redirect_turn, wait_turn, write_turn}
 use Rattle.sh_exec_shell.specs.Forks.{Turned, fork_turn, stage_turn, substitute_turn}
-use Rattle.sh_exec_forms.specs.Forms.{Acted, acted, after, is_loop, settled}
-use Rattle.sh_exec_forms.specs.Running.{Run, At, In, ShellState, moved}
+use Rattle.sh_exec_forms.specs.Forms.{Acted, with_run, after, is_loop, at_action}
+use Rattle.sh_exec_forms.specs.Running.{Run, At, In, ShellState, move_run}
 use Rattle.sh_kernel.specs.State.{KernelState}
 use Rattle.sh_vars.specs.Environment.{Environment}
 
@@ -23,53 +23,53 @@ plain a = record { left = a; child = None }
 -- a need is a command substitution, whose process is made in the same turn
 abbrev pub expanded_by : KernelState → ℕ → Environment → Expanded → Turned
 expanded_by s pid env (expanded.Need program wants pending) = substitute_turn s pid env program wants pending
-expanded_by s pid env (expanded.Go move) = plain (acted s env (moved move))
+expanded_by s pid env (expanded.Go move) = plain (with_run s env (move_run move))
 
 abbrev pub expansion : KernelState → ℕ → Turn → Turned
 expansion s pid t = expanded_by s pid t.environment t.outcome
 
 -- the action at a place; a program's start isn't the shell's
 abbrev pub act_place : KernelState → ℕ → Environment → Place → Turned
-act_place s pid env (Reading rest) = plain (acted s env (read_turn env (next_command rest)))
+act_place s pid env (Reading rest) = plain (with_run s env (read_turn env (next_command rest)))
 act_place s pid env (Expanding wants pending) = expansion s pid (expand_turn s.machine.files env wants pending)
 act_place s pid env (Collecting substitution) = plain (collect_turn s pid env substitution)
-act_place s pid env (Answering substitution) = plain (acted s env (next (answer_turn s pid substitution)))
+act_place s pid env (Answering substitution) = plain (with_run s env (next (answer_turn s pid substitution)))
 act_place s pid env (Redirecting p) = plain (redirect_turn s pid env p)
 act_place s pid env (Forking p) = fork_turn s pid env p
-act_place s pid env (Starting fields) = plain (acted s env (next (Starting fields)))
+act_place s pid env (Starting fields) = plain (with_run s env (next (Starting fields)))
 act_place s pid env (Staging stages) = stage_turn s pid env stages
 act_place s pid env (Giving series) = plain (given_round s (give_turn env series))
-act_place s pid env (Waiting children) = plain (acted s env (At (wait_turn s pid children)))
+act_place s pid env (Waiting children) = plain (with_run s env (At (wait_turn s pid children)))
 act_place s pid env (Writing piece finish) = plain (write_turn s pid env piece finish)
 act_place s pid env (Ending status) = plain (end_turn s pid env status)
 
 abbrev pub act_at : KernelState → ℕ → Environment → Active → Turned
-act_at s pid env (Acting builtin fields) = plain (acted s env (At (Acting builtin fields)))
+act_at s pid env (Acting builtin fields) = plain (with_run s env (At (Acting builtin fields)))
 act_at s pid env (Next place) = act_place s pid env place
-act_at s pid env (Done status) = plain (acted s env (At (Done status)))
-act_at s pid env (Leaving leave) = plain (acted s env (At (Leaving leave)))
+act_at s pid env (Done status) = plain (with_run s env (At (Done status)))
+act_at s pid env (Leaving leave) = plain (with_run s env (At (Leaving leave)))
 
--- statuses go outward from what the action left; looped: whether a loop stands around
+-- statuses go outward from what the action left; looped: whether a loop is around it
 abbrev pub settled_turn : ℕ → (looped : Bool) → Turned → Turned
-settled_turn pid looped t = record { left = settled pid looped t.left.machine t.left.environment t.left.run; child = t.child }
+settled_turn pid looped t = record { left = at_action pid looped t.left.machine t.left.environment t.left.run; child = t.child }
 
 abbrev pub reduce : KernelState → ℕ → Environment → (looped : Bool) → Run → Turned
 reduce s pid env looped (At active) = settled_turn pid looped (act_at s pid env active)
 reduce s pid env looped (In form run) =
     let t = reduce s pid env (is_loop form || looped) run in record { left = after pid looped form t.left; child = t.child }
 
--- at the root what leaves the shell, or is done, comes to the end of the process
-abbrev pub rooted : Run → Run
-rooted (At (Leaving (leave.Shell status))) = At (Next (Ending status))
-rooted (At (Leaving (leave.Break inside))) = At (Next (Ending 0))
-rooted (At (Leaving (leave.Continue inside))) = At (Next (Ending 0))
-rooted (At (Done status)) = At (Next (Ending status))
-rooted (At (Acting builtin fields)) = At (Acting builtin fields)
-rooted (At (Next place)) = At (Next place)
-rooted (In form run) = In form run
+-- at the root what leaves the shell, or is done, becomes the end of the process
+abbrev pub at_root : Run → Run
+at_root (At (Leaving (leave.Shell status))) = At (Next (Ending status))
+at_root (At (Leaving (leave.Break inside))) = At (Next (Ending 0))
+at_root (At (Leaving (leave.Continue inside))) = At (Next (Ending 0))
+at_root (At (Done status)) = At (Next (Ending status))
+at_root (At (Acting builtin fields)) = At (Acting builtin fields)
+at_root (At (Next place)) = At (Next place)
+at_root (In form run) = In form run
 
 abbrev pub with_root : Turned → Turned
-with_root t = record { left = acted t.left.machine t.left.environment (rooted t.left.run); child = t.child }
+with_root t = record { left = with_run t.left.machine t.left.environment (at_root t.left.run); child = t.child }
 
 unfoldable pub shell_turn : KernelState → ℕ → ShellState → Turned
 shell_turn s pid shell = with_root (reduce s pid shell.environment false shell.run)

@@ -8,8 +8,8 @@ use Rattle.sh_kernel_descriptors.specs.declared.fault.KernelFault.{KernelFault}
 use Rattle.sh_kernel_descriptors.specs.declared.process.Status.{Status}
 use Rattle.sh_kernel_descriptors.specs.declared.process.Status.TheVariants.{Running, Stopped, Exited, Signaled}
 
--- the exit status by which a shell knows how a process stands (2.8.2); a process that a signal ended has 128 and its number
--- signals' numbers are below 128
+-- the exit status by which a shell tells whether a process runs, is stopped or has ended (2.8.2); a process
+-- that a signal ended has 128 and its number signals' numbers are below 128
 abbrev pub signal_status : ℕ → ℕ
 signal_status signal = if nat_lt signal 128 then 128 + signal else 255
 
@@ -29,6 +29,6 @@ status_by (Ok _) status = Some status
 status_by (Err fault) status = if is_wait fault then None else Some status
 
 -- the status of the last of these processes, once all of them have ended
-unfoldable pub waited : KernelState → ℕ → List ℕ → Option ℕ
-waited s pid children =
+unfoldable pub wait_status : KernelState → ℕ → List ℕ → Option ℕ
+wait_status s pid children =
     status_by (wait_answer s.machine.processes pid children) (number_of (status_at s.machine.processes (last_of children)))

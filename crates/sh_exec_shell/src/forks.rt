@@ -5,9 +5,9 @@ ghost use Rattle.sh_exec_parts.specs.Messages as messages;
 ghost use Rattle.sh_exec_command.specs.Expanding as expanding;
 ghost use Rattle.sh_exec_command.specs.Preparing.{ahead};
 ghost use Rattle.sh_exec_machine.specs.Forking.{HasForked};
-ghost use Rattle.sh_exec_shell.specs.Forks.{IsTurned, child_of, fork_turn, is_more, program_by, stage_by, stage_from, stage_one, stage_turn, staged, substitute_turn, substitution_by, turned, unforked};
+ghost use Rattle.sh_exec_shell.specs.Forks.{IsTurned, child_of, fork_turn, is_more, program_by, stage_by, stage_from, stage_one, stage_turn, stage_place, substitute_turn, substitution_by, with_child, fork_failure};
 ghost use Rattle.sh_exec_forms.specs.Bodies.{body_of, stage_run};
-ghost use Rattle.sh_exec_forms.specs.Running.{Run, moved};
+ghost use Rattle.sh_exec_forms.specs.Running.{Run, move_run};
 ghost use Rattle.sh_exec_forms.specs.Tree.{run_of};
 
 use crate::shell::{Child, child_of};
@@ -22,7 +22,7 @@ use sh_exec_machine::{Forked, fork_process};
 use sh_exec_parts::Queue;
 use sh_exec_parts::message::cannot_fork;
 use sh_kernel::Kernel;
-use sh_syntax::tree::{Command, Complete};
+use sh_syntax::tree::{Command, CompoundList};
 use sh_vars::Vars;
 use std::alloc::Global;
 
@@ -50,7 +50,12 @@ fn put_program(
     prepared: Prepared,
     child: u32,
 ) -> Result<Child, NoMemory>
-    ensures { IfOk result (λ made. made ≡ record { pid = child; shell = record { environment = vars.now; run = moved (ahead prepared) } }) }
+    ensures { IfOk result (λ made.
+        made ≡ record {
+          pid = child;
+          shell =
+              record { environment = vars.now; run = move_run (ahead prepared) };
+        }) }
 {
     let to = go_ahead(prepared);
     let tree = Tree::moved(alloc, to)?;
@@ -72,7 +77,8 @@ pub(crate) fn fork_turn(
     vars: &Vars,
     prepared: Prepared,
 ) -> Result<(Tree, Option<Child>), NoMemory>
-    ensures state { (s : KernelState) → StandsAt kernel.old s → IfOk result (λ r. IsTurned kernel.new vars.now (run_of r.0) r.1 (fork_turn s pid vars.now prepared)) }
+    ensures state { (s : KernelState) → StandsAt kernel.old s → IfOk result (λ r.
+        IsTurned kernel.new vars.now (run_of r.0) r.1 (fork_turn s pid vars.now prepared)) }
     ensures terminal { kernel.new.terminal ≡ kernel.old.terminal }
 {
     let forked = match fork_process(kernel, pid, None, false) {
@@ -101,9 +107,9 @@ pub(crate) fn fork_turn(
     }
 }
 
-/// Where a pipeline goes on behind one of its processes.
+/// Where a pipeline goes on after one of its processes.
 fn staged(commands: Queue<Shared<Command>>, aside: Option<usize>, children: Sequence<u32>) -> Place
-    ensures { result ≡ staged commands aside children }
+    ensures { result ≡ stage_place commands aside children }
 {
     if commands.is_empty() {
         return Place::Waiting(children);
@@ -115,14 +121,14 @@ fn staged(commands: Queue<Shared<Command>>, aside: Option<usize>, children: Sequ
     })
 }
 
-/// Where a pipeline goes on behind a process that was made.
+/// Where a pipeline goes on after a process that was made.
 fn next_stage(
     commands: Queue<Shared<Command>>,
     aside: Option<usize>,
     children: Sequence<u32>,
     child: u32,
 ) -> Result<Place, NoMemory>
-    ensures { IfOk result (λ place. place ≡ staged commands aside (children ++ child ∷ [])) }
+    ensures { IfOk result (λ place. place ≡ stage_place commands aside (children ++ child ∷ [])) }
 {
     match one_more(children, child) {
         Ok(children) => Ok(staged(commands, aside, children)),
@@ -140,7 +146,12 @@ fn put_stage(
     command: Shared<Command>,
     child: u32,
 ) -> Result<Child, NoMemory>
-    ensures { IfOk result (λ made. made ≡ record { pid = child; shell = record { environment = vars.now; run = stage_run command } }) }
+    ensures { IfOk result (λ made.
+        made ≡ record {
+          pid = child;
+          shell =
+              record { environment = vars.now; run = stage_run command };
+        }) }
 {
     let tree = stage(alloc, &command);
     drop(command);
@@ -164,7 +175,9 @@ fn stage_one(
     command: Shared<Command>,
     stages: Stages,
 ) -> Result<(Tree, Option<Child>), NoMemory>
-    ensures state { (s : KernelState) → StandsAt kernel.old s → IfOk result (λ r. IsTurned kernel.new vars.now (run_of r.0) r.1 (stage_one s pid vars.now command stages.commands stages.aside stages.children)) }
+    ensures state { (s : KernelState) → StandsAt kernel.old s → IfOk result (λ r.
+        IsTurned kernel.new vars.now (run_of r.0) r.1
+        (stage_one s pid vars.now command stages.commands stages.aside stages.children)) }
     ensures terminal { kernel.new.terminal ≡ kernel.old.terminal }
 {
     let Stages {
@@ -218,7 +231,8 @@ pub(crate) fn stage_turn(
     vars: &Vars,
     stages: Stages,
 ) -> Result<(Tree, Option<Child>), NoMemory>
-    ensures state { (s : KernelState) → StandsAt kernel.old s → IfOk result (λ r. IsTurned kernel.new vars.now (run_of r.0) r.1 (stage_turn s pid vars.now stages)) }
+    ensures state { (s : KernelState) → StandsAt kernel.old s → IfOk result (λ r.
+        IsTurned kernel.new vars.now (run_of r.0) r.1 (stage_turn s pid vars.now stages)) }
     ensures terminal { kernel.new.terminal ≡ kernel.old.terminal }
 {
     let mut stages = stages;
@@ -229,9 +243,9 @@ pub(crate) fn stage_turn(
     Ok((tree, child))
 }
 
-/// Where a command goes on whose substitution can have no process.
+/// Where a command goes on when no process can be made for its substitution.
 fn unforked(alloc: Global, wants: Wants) -> Result<Move, NoMemory>
-    ensures { IfOk result (λ to. to ≡ unforked wants) }
+    ensures { IfOk result (λ to. to ≡ fork_failure wants) }
 {
     let active = match refused(alloc) {
         Ok(active) => active,
@@ -251,10 +265,15 @@ fn unforked(alloc: Global, wants: Wants) -> Result<Move, NoMemory>
 fn put_substitution(
     alloc: Global,
     vars: &Vars,
-    program: &Complete,
+    program: &CompoundList,
     child: u32,
 ) -> Result<Child, NoMemory>
-    ensures { IfOk result (λ made. made ≡ record { pid = child; shell = record { environment = vars.now; run = body_of program.now } }) }
+    ensures { IfOk result (λ made.
+        made ≡ record {
+          pid = child;
+          shell =
+              record { environment = vars.now; run = body_of program.now };
+        }) }
 {
     let tree = body_of(alloc, program)?;
     match vars.copy() {
@@ -274,7 +293,16 @@ fn collecting(
     aside: Option<usize>,
     child: u32,
 ) -> Result<Place, NoMemory>
-    ensures { IfOk result (λ place. place ≡ Place.Collecting (record { wants = wants; pending = pending; written = []; aside = aside; children = child ∷ [] })) }
+    ensures { IfOk result (λ place.
+        place ≡ Place.Collecting
+        (record {
+          wants = wants;
+          pending = pending;
+          written = [];
+          aside = aside;
+          children = child
+              ∷ [];
+        })) }
 {
     let children = match one_more(Sequence::new(alloc), child) {
         Ok(children) => children,
@@ -300,11 +328,13 @@ pub(crate) fn substitute_turn(
     kernel: &mut Kernel,
     pid: u32,
     vars: &Vars,
-    program: Shared<Complete>,
+    program: Shared<CompoundList>,
     wants: Wants,
     pending: Pending,
 ) -> Result<(Tree, Option<Child>), NoMemory>
-    ensures state { (s : KernelState) → StandsAt kernel.old s → IfOk result (λ r. IsTurned kernel.new vars.now (run_of r.0) r.1 (substitute_turn s pid vars.now program wants pending)) }
+    ensures state { (s : KernelState) → StandsAt kernel.old s → IfOk result (λ r.
+        IsTurned kernel.new vars.now (run_of r.0) r.1
+        (substitute_turn s pid vars.now program wants pending)) }
     ensures terminal { kernel.new.terminal ≡ kernel.old.terminal }
 {
     let forked = match fork_process(kernel, pid, None, true) {

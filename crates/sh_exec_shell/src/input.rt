@@ -2,15 +2,15 @@
 ghost use Rattle.std.specs.Prelude.{◌≡◌, IfOk};
 ghost use Rattle.sh_kernel.specs.State.{KernelState, StandsAt};
 ghost use Rattle.sh_exec_forms.specs.Forms.{IsActed};
-ghost use Rattle.sh_exec_shell.specs.Acting.{collect_by, collect_end, collect_from, collect_turn, collected, with_written};
+ghost use Rattle.sh_exec_shell.specs.Acting.{collect_by, collect_end, collect_from, collect_turn, after_collection, with_written};
 ghost use Rattle.sh_exec_forms.specs.Running.{Run};
 ghost use Rattle.sh_exec_forms.specs.Tree.{run_of};
 
 use sh_base::NoMemory;
 use sh_exec_command::{Active, Place, Substitution};
 use sh_exec_forms::Tree;
-use sh_exec_machine::{Taken, take_bytes};
-use sh_kernel::{Kernel, Name};
+use sh_exec_machine::{ReadOutcome, take_bytes};
+use sh_kernel::{DescriptorRef, Kernel};
 use sh_vars::Vars;
 use std::alloc::Global;
 
@@ -31,8 +31,8 @@ fn with_written(substitution: Substitution, bytes: &[u8]) -> Result<Substitution
     }
 }
 
-/// All that it writes is there.
-#[tactic(auto, unfolding(crate::specs::Acting::collected))]
+/// All that the process writes is there.
+#[tactic(auto, unfolding(crate::specs::Acting::after_collection))]
 fn collected(
     kernel: &mut Kernel,
     pid: u32,
@@ -40,16 +40,20 @@ fn collected(
     substitution: Substitution,
     aside: usize,
 ) -> Tree
-    ensures state { (s : KernelState) → StandsAt kernel.old s → IsActed kernel.new vars.now (run_of result) (collected s pid vars.now substitution aside) }
+    ensures state { (s : KernelState) → StandsAt kernel.old s
+        → IsActed kernel.new vars.now (run_of result)
+        (after_collection s pid vars.now substitution aside) }
     ensures terminal { kernel.new.terminal.bytes ≡ kernel.old.terminal.bytes }
 {
-    let _closed = kernel.close(pid, Name::Aside(aside));
+    let _closed = kernel.close(pid, DescriptorRef::Aside(aside));
     Tree::next(Place::Answering(substitution))
 }
 
-/// It goes on with what was read.
+/// The substitution goes on with what was read.
 fn gathered(substitution: Substitution, bytes: &[u8]) -> Result<Tree, NoMemory>
-    ensures { IfOk result (λ tree. run_of tree ≡ Run.At (Active.Next (Place.Collecting (with_written substitution bytes.now)))) }
+    ensures { IfOk result (λ tree.
+        run_of tree
+        ≡ Run.At (Active.Next (Place.Collecting (with_written substitution bytes.now)))) }
 {
     let next = with_written(substitution, bytes)?;
     Ok(Tree::next(Place::Collecting(next)))
@@ -65,11 +69,13 @@ fn collect_from(
     substitution: Substitution,
     aside: usize,
 ) -> Result<Tree, NoMemory>
-    ensures state { (s : KernelState) → StandsAt kernel.old s → IfOk result (λ tree. IsActed kernel.new vars.now (run_of tree) (collect_from s pid vars.now substitution aside)) }
+    ensures state { (s : KernelState) → StandsAt kernel.old s → IfOk result (λ tree.
+        IsActed kernel.new vars.now (run_of tree)
+        (collect_from s pid vars.now substitution aside)) }
     ensures terminal { kernel.new.terminal.bytes ≡ kernel.old.terminal.bytes }
 {
-    match take_bytes(alloc, kernel, pid, Name::Aside(aside), READ) {
-        Ok(Taken::Bytes(bytes)) => {
+    match take_bytes(alloc, kernel, pid, DescriptorRef::Aside(aside), READ) {
+        Ok(ReadOutcome::Bytes(bytes)) => {
             if bytes.len() == 0 {
                 drop(bytes);
                 return Ok(collected(kernel, pid, vars, substitution, aside));
@@ -78,8 +84,8 @@ fn collect_from(
             drop(bytes);
             tree
         },
-        Ok(Taken::Wait) => Ok(Tree::next(Place::Collecting(substitution))),
-        Ok(Taken::Failed) => Ok(collected(kernel, pid, vars, substitution, aside)),
+        Ok(ReadOutcome::Wait) => Ok(Tree::next(Place::Collecting(substitution))),
+        Ok(ReadOutcome::Failed) => Ok(collected(kernel, pid, vars, substitution, aside)),
         Err(lack) => {
             drop(substitution);
             Err(lack)
@@ -96,7 +102,8 @@ pub(crate) fn collect_turn(
     vars: &Vars,
     substitution: Substitution,
 ) -> Result<Tree, NoMemory>
-    ensures state { (s : KernelState) → StandsAt kernel.old s → IfOk result (λ tree. IsActed kernel.new vars.now (run_of tree) (collect_turn s pid vars.now substitution)) }
+    ensures state { (s : KernelState) → StandsAt kernel.old s → IfOk result (λ tree.
+        IsActed kernel.new vars.now (run_of tree) (collect_turn s pid vars.now substitution)) }
     ensures terminal { kernel.new.terminal.bytes ≡ kernel.old.terminal.bytes }
 {
     let Some(aside) = substitution.aside else {

@@ -3,7 +3,7 @@ ghost use Rattle.std.specs.Prelude.{◌≡◌, IfOk, drop};
 ghost use Rattle.sh_kernel.specs.State.{KernelState, StandsAt};
 ghost use Rattle.sh_tty.specs.Terminal.{Extends};
 ghost use Rattle.sh_exec_forms.specs.Forms.{IsActed};
-ghost use Rattle.sh_exec_shell.specs.Acting.{end_turn, finished, unwritten, write_turn, written_by};
+ghost use Rattle.sh_exec_shell.specs.Acting.{end_turn, after_writing, unwritten, write_turn, written_by};
 ghost use Rattle.sh_exec_forms.specs.Tree.{run_of};
 
 use sh_base::NoMemory;
@@ -11,7 +11,7 @@ use sh_base::sequence::Text;
 use sh_builtin::Leave;
 use sh_exec_command::{Active, Finish, Place};
 use sh_exec_forms::Tree;
-use sh_exec_machine::{Given, give_bytes};
+use sh_exec_machine::{WriteOutcome, give_bytes};
 use sh_exec_parts::message::{Piece, write_error};
 use sh_kernel::Kernel;
 use sh_vars::Vars;
@@ -19,7 +19,7 @@ use std::alloc::Global;
 
 /// What follows a write that is done whole.
 fn finished(finish: Finish) -> Active
-    ensures { result ≡ finished finish }
+    ensures { result ≡ after_writing finish }
 {
     match finish {
         Finish::Status(status) => Active::Done(status),
@@ -42,7 +42,7 @@ fn unwritten(alloc: Global, finish: Finish) -> Result<Active, NoMemory>
     }
 }
 
-/// What is left of a piece behind its first bytes.
+/// What is left of a piece after its first bytes.
 fn rest_of(alloc: Global, piece: Piece, count: usize) -> Result<Piece, NoMemory>
     ensures { IfOk result (λ rest. rest ≡ record piece { bytes = drop count piece.bytes }) }
 {
@@ -56,18 +56,23 @@ fn rest_of(alloc: Global, piece: Piece, count: usize) -> Result<Piece, NoMemory>
 }
 
 /// What follows a write.
-fn written(alloc: Global, piece: Piece, finish: Finish, given: Given) -> Result<Active, NoMemory>
+fn written(
+    alloc: Global,
+    piece: Piece,
+    finish: Finish,
+    given: WriteOutcome,
+) -> Result<Active, NoMemory>
     ensures { IfOk result (λ active. active ≡ written_by piece finish given) }
 {
     match given {
-        Given::Whole => Ok(finished(finish)),
-        Given::Part(count) => {
+        WriteOutcome::Whole => Ok(finished(finish)),
+        WriteOutcome::Part(count) => {
             let rest = rest_of(alloc, piece, count)?;
             Ok(Active::Next(Place::Writing(rest, finish)))
         },
-        Given::Wait => Ok(Active::Next(Place::Writing(piece, finish))),
-        Given::Ended => Ok(Active::Next(Place::Writing(piece, finish))),
-        Given::Failed => unwritten(alloc, finish),
+        WriteOutcome::Wait => Ok(Active::Next(Place::Writing(piece, finish))),
+        WriteOutcome::Ended => Ok(Active::Next(Place::Writing(piece, finish))),
+        WriteOutcome::Failed => unwritten(alloc, finish),
     }
 }
 
@@ -81,7 +86,8 @@ pub(crate) fn write_turn(
     piece: Piece,
     finish: Finish,
 ) -> Result<Tree, NoMemory>
-    ensures state { (s : KernelState) → StandsAt kernel.old s → IfOk result (λ tree. IsActed kernel.new vars.now (run_of tree) (write_turn s pid vars.now piece finish)) }
+    ensures state { (s : KernelState) → StandsAt kernel.old s → IfOk result (λ tree.
+        IsActed kernel.new vars.now (run_of tree) (write_turn s pid vars.now piece finish)) }
     ensures terminal { Extends kernel.old.terminal.bytes kernel.new.terminal.bytes }
 {
     let given = give_bytes(kernel, pid, piece.descriptor, piece.bytes.as_slice())?;
@@ -92,7 +98,8 @@ pub(crate) fn write_turn(
 /// The end of the process.
 #[tactic(auto, unfolding(crate::specs::Acting::end_turn))]
 pub(crate) fn end_turn(kernel: &mut Kernel, pid: u32, vars: &Vars, status: u8) -> Tree
-    ensures state { (s : KernelState) → StandsAt kernel.old s → IsActed kernel.new vars.now (run_of result) (end_turn s pid vars.now status) }
+    ensures state { (s : KernelState) → StandsAt kernel.old s
+        → IsActed kernel.new vars.now (run_of result) (end_turn s pid vars.now status) }
     ensures terminal { kernel.new.terminal.bytes ≡ kernel.old.terminal.bytes }
 {
     let _ended = kernel.end(pid, status);

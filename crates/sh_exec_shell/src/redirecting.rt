@@ -2,7 +2,7 @@
 ghost use Rattle.std.specs.Prelude.{◌≡◌, IfOk};
 ghost use Rattle.sh_kernel.specs.State.{KernelState, StandsAt};
 ghost use Rattle.sh_exec_forms.specs.Forms.{IsActed};
-ghost use Rattle.sh_exec_shell.specs.Acting.{keeps, noted, redirect_by, redirect_from, redirect_one, redirect_turn, undone_by};
+ghost use Rattle.sh_exec_shell.specs.Acting.{keeps, with_undo, redirect_by, redirect_from, redirect_one, redirect_turn, undone_by};
 ghost use Rattle.sh_exec_forms.specs.Running.{Run};
 ghost use Rattle.sh_exec_forms.specs.Tree.{run_of};
 
@@ -15,7 +15,7 @@ use sh_kernel::{Kernel, KernelFault};
 use sh_vars::Vars;
 use std::alloc::Global;
 
-/// Whether the redirections of a command are undone behind it.
+/// Whether the redirections of a command are undone after it.
 fn keeps(role: Role) -> bool
     ensures { result ≡ keeps role }
 {
@@ -28,7 +28,7 @@ fn keeps(role: Role) -> bool
 
 /// A command with one redirection more to be undone.
 fn note(prepared: Prepared, one: Option<Undone>) -> Result<Prepared, NoMemory>
-    ensures { IfOk result (λ next. next ≡ noted prepared one) }
+    ensures { IfOk result (λ next. next ≡ with_undo prepared one) }
 {
     let Some(one) = one else {
         return Ok(prepared);
@@ -43,7 +43,7 @@ fn note(prepared: Prepared, one: Option<Undone>) -> Result<Prepared, NoMemory>
     }
 }
 
-/// Where a command goes on behind a redirection.
+/// Where a command goes on after a redirection.
 fn go_on(
     alloc: Global,
     prepared: Prepared,
@@ -76,7 +76,9 @@ fn redirect_one(
     prepared: Prepared,
     redirection: Redirection,
 ) -> Result<Tree, NoMemory>
-    ensures state { (s : KernelState) → StandsAt kernel.old s → IfOk result (λ tree. IsActed kernel.new vars.now (run_of tree) (redirect_one s pid vars.now prepared redirection)) }
+    ensures state { (s : KernelState) → StandsAt kernel.old s → IfOk result (λ tree.
+        IsActed kernel.new vars.now (run_of tree)
+        (redirect_one s pid vars.now prepared redirection)) }
     ensures terminal { kernel.new.terminal ≡ kernel.old.terminal }
 {
     let kept = keeps(prepared.role);
@@ -104,7 +106,8 @@ pub(crate) fn redirect_turn(
     vars: &Vars,
     prepared: Prepared,
 ) -> Result<Tree, NoMemory>
-    ensures state { (s : KernelState) → StandsAt kernel.old s → IfOk result (λ tree. IsActed kernel.new vars.now (run_of tree) (redirect_turn s pid vars.now prepared)) }
+    ensures state { (s : KernelState) → StandsAt kernel.old s → IfOk result (λ tree.
+        IsActed kernel.new vars.now (run_of tree) (redirect_turn s pid vars.now prepared)) }
     ensures terminal { kernel.new.terminal ≡ kernel.old.terminal }
 {
     let mut prepared = prepared;

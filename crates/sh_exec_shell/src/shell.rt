@@ -3,7 +3,7 @@ ghost use Rattle.std.specs.Prelude.{◌≡◌, IfOk, OnOk};
 ghost use Rattle.sh_kernel.specs.State.{KernelState, StandsAt};
 ghost use Rattle.sh_tty.specs.Terminal.{Extends};
 ghost use Rattle.sh_exec_shell.specs.Forks.{IsTurned};
-ghost use Rattle.sh_exec_shell.specs.Reduction.{reduce, rooted, shell_turn, with_root};
+ghost use Rattle.sh_exec_shell.specs.Reduction.{reduce, at_root, shell_turn, with_root};
 ghost use Rattle.sh_exec_forms.specs.Running.{Run, active_of};
 ghost use Rattle.sh_exec_forms.specs.Tree.{run_of};
 
@@ -50,7 +50,7 @@ pub struct Child {
 
 /// The status of a shell that is left.
 fn status_of(leave: Leave) -> u8
-    ensures { rooted (Run.At (Active.Leaving leave)) ≡ Run.At (Active.Next (Place.Ending result)) }
+    ensures { at_root (Run.At (Active.Leaving leave)) ≡ Run.At (Active.Next (Place.Ending result)) }
 {
     match leave {
         Leave::Shell(status) => status,
@@ -59,9 +59,9 @@ fn status_of(leave: Leave) -> u8
     }
 }
 
-/// At the root what leaves the shell comes to the end of the process.
+/// At the root what is done, or leaves the shell, becomes the end of the process.
 fn root(tree: Tree) -> Tree
-    ensures { run_of result ≡ rooted (run_of tree) }
+    ensures { run_of result ≡ at_root (run_of tree) }
 {
     match tree {
         Tree::At(active) => match active {
@@ -83,7 +83,8 @@ pub(crate) fn shell_of(vars: Vars, tree: Tree) -> Shell
 
 /// A child that is a shell of these variables and this tree.
 pub(crate) fn child_of(pid: u32, vars: Vars, tree: Tree) -> Child
-    ensures { result ≡ record { pid = pid; shell = record { environment = vars; run = run_of tree } } }
+    ensures { result ≡
+        record { pid = pid; shell = record { environment = vars; run = run_of tree } } }
 {
     Child {
         pid,
@@ -94,7 +95,8 @@ pub(crate) fn child_of(pid: u32, vars: Vars, tree: Tree) -> Child
 impl Shell {
     /// A shell that is about to read its text.
     pub fn reading(vars: Vars, text: Text) -> Self
-        ensures { result ≡ record { environment = vars; run = Run.At (Active.Next (Place.Reading text)) } }
+        ensures { result ≡
+            record { environment = vars; run = Run.At (Active.Next (Place.Reading text)) } }
     {
         shell_of(
             vars,
@@ -132,7 +134,9 @@ impl Shell {
         kernel: &mut Kernel,
         pid: u32,
     ) -> Result<Option<Child>, NoMemory>
-        ensures state { (s : KernelState) → StandsAt kernel.old s → IfOk result (λ child. IsTurned kernel.new self.new.environment self.new.run child (shell_turn s pid self.old)) }
+        ensures state { (s : KernelState) → StandsAt kernel.old s → IfOk result (λ child.
+            IsTurned kernel.new self.new.environment self.new.run child
+            (shell_turn s pid self.old)) }
         ensures terminal { Extends kernel.old.terminal.bytes kernel.new.terminal.bytes }
     {
         let tree = mem::replace(&mut self.tree, Tree::At(Active::Done(0)));

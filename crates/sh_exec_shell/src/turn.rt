@@ -58,7 +58,9 @@ fn expand(
     vars: &mut Vars,
     files: &Files,
 ) -> Result<Expanded, NoMemory>
-    ensures { IfOk result (λ e. record { environment = vars.new; outcome = e } ≡ expand_turn files.now vars.old wants pending) }
+    ensures { IfOk result (λ e.
+        record { environment = vars.new; outcome = e } ≡ expand_turn files.now vars.old wants
+        pending) }
 {
     match wants {
         Wants::Words {
@@ -79,7 +81,8 @@ fn expanded(
     vars: &Vars,
     expanded: Expanded,
 ) -> Result<(Tree, Option<Child>), NoMemory>
-    ensures state { (s : KernelState) → StandsAt kernel.old s → IfOk result (λ r. IsTurned kernel.new vars.now (run_of r.0) r.1 (expanded_by s pid vars.now expanded)) }
+    ensures state { (s : KernelState) → StandsAt kernel.old s → IfOk result (λ r.
+        IsTurned kernel.new vars.now (run_of r.0) r.1 (expanded_by s pid vars.now expanded)) }
     ensures terminal { kernel.new.terminal ≡ kernel.old.terminal }
 {
     match expanded {
@@ -107,7 +110,9 @@ fn expand_place(
     wants: Wants,
     pending: Option<Pending>,
 ) -> Result<(Tree, Option<Child>), NoMemory>
-    ensures state { (s : KernelState) → StandsAt kernel.old s → IfOk result (λ r. IsTurned kernel.new vars.new (run_of r.0) r.1 (expansion s pid (expand_turn s.machine.files vars.old wants pending))) }
+    ensures state { (s : KernelState) → StandsAt kernel.old s → IfOk result (λ r.
+        IsTurned kernel.new vars.new (run_of r.0) r.1
+        (expansion s pid (expand_turn s.machine.files vars.old wants pending))) }
     ensures terminal { kernel.new.terminal ≡ kernel.old.terminal }
 {
     let outcome = expand(alloc, wants, pending, vars, kernel.files())?;
@@ -133,7 +138,8 @@ fn round_tree(alloc: Global, round: Round) -> Result<Tree, NoMemory>
 
 /// The turn in which the variable of a `for` has its next value (XCU 2.9.4.2).
 fn give(alloc: Global, kernel: &Kernel, vars: &mut Vars, series: Series) -> Result<Tree, NoMemory>
-    ensures { (s : KernelState) → StandsAt kernel.now s → IfOk result (λ tree. IsActed kernel.now vars.new (run_of tree) (given_round s (give_turn vars.old series))) }
+    ensures { (s : KernelState) → StandsAt kernel.now s → IfOk result (λ tree.
+        IsActed kernel.now vars.new (run_of tree) (given_round s (give_turn vars.old series))) }
 {
     let round = give_turn(alloc, series, vars)?;
     let tree = round_tree(alloc, round)?;
@@ -148,7 +154,8 @@ fn act_place(
     vars: &mut Vars,
     place: Place,
 ) -> Result<(Tree, Option<Child>), NoMemory>
-    ensures state { (s : KernelState) → StandsAt kernel.old s → IfOk result (λ r. IsTurned kernel.new vars.new (run_of r.0) r.1 (act_place s pid vars.old place)) }
+    ensures state { (s : KernelState) → StandsAt kernel.old s → IfOk result (λ r.
+        IsTurned kernel.new vars.new (run_of r.0) r.1 (act_place s pid vars.old place)) }
     ensures terminal { Extends kernel.old.terminal.bytes kernel.new.terminal.bytes }
 {
     match place {
@@ -202,7 +209,8 @@ fn act(
     vars: &mut Vars,
     active: Active,
 ) -> Result<(Tree, Option<Child>), NoMemory>
-    ensures state { (s : KernelState) → StandsAt kernel.old s → IfOk result (λ r. IsTurned kernel.new vars.new (run_of r.0) r.1 (act_at s pid vars.old active)) }
+    ensures state { (s : KernelState) → StandsAt kernel.old s → IfOk result (λ r.
+        IsTurned kernel.new vars.new (run_of r.0) r.1 (act_at s pid vars.old active)) }
     ensures terminal { Extends kernel.old.terminal.bytes kernel.new.terminal.bytes }
 {
     match active {
@@ -218,7 +226,7 @@ fn act(
     }
 }
 
-/// The action, and statuses outward from what it left; `looped` tells whether a loop stands around.
+/// The action, and statuses outward from what it left; `looped` tells whether a loop is around the place.
 fn act_and_settle(
     alloc: Global,
     kernel: &mut Kernel,
@@ -227,7 +235,9 @@ fn act_and_settle(
     looped: bool,
     active: Active,
 ) -> Result<(Tree, Option<Child>), NoMemory>
-    ensures state { (s : KernelState) → StandsAt kernel.old s → IfOk result (λ r. IsTurned kernel.new vars.new (run_of r.0) r.1 (settled_turn pid looped (act_at s pid vars.old active))) }
+    ensures state { (s : KernelState) → StandsAt kernel.old s → IfOk result (λ r.
+        IsTurned kernel.new vars.new (run_of r.0) r.1
+        (settled_turn pid looped (act_at s pid vars.old active))) }
     ensures terminal { Extends kernel.old.terminal.bytes kernel.new.terminal.bytes }
 {
     let (tree, child) = act(alloc, kernel, pid, vars, active)?;
@@ -240,7 +250,8 @@ fn act_and_settle(
     }
 }
 
-/// Inward to the active place, the action there, and outward again; `looped` tells whether a loop stands around.
+/// Inward to the active place, the action there, and outward again; `looped` tells whether a loop is around
+/// the tree.
 pub(crate) fn reduce(
     alloc: Global,
     kernel: &mut Kernel,
@@ -249,7 +260,9 @@ pub(crate) fn reduce(
     looped: bool,
     tree: Tree,
 ) -> Result<(Tree, Option<Child>), NoMemory>
-    ensures state { (s : KernelState) → StandsAt kernel.old s → IfOk result (λ r. IsTurned kernel.new vars.new (run_of r.0) r.1 (reduce s pid vars.old looped (run_of tree))) }
+    ensures state { (s : KernelState) → StandsAt kernel.old s → IfOk result (λ r.
+        IsTurned kernel.new vars.new (run_of r.0) r.1
+        (reduce s pid vars.old looped (run_of tree))) }
     ensures terminal { Extends kernel.old.terminal.bytes kernel.new.terminal.bytes }
 {
     match tree {

@@ -1,8 +1,8 @@
 //! Waiting for processes.
 ghost use Rattle.std.specs.Prelude.{◌≡◌, IfOk};
 ghost use Rattle.sh_kernel.specs.State.{KernelState, StandsAt};
-ghost use Rattle.sh_exec_shell.specs.Acting.{answer_by, answer_turn, answered, wait_by, wait_turn, with_substitution};
-ghost use Rattle.sh_exec_shell.specs.Waits.{last_of, number_of, signal_status, waited};
+ghost use Rattle.sh_exec_shell.specs.Acting.{answer_by, answer_turn, with_next_answer, wait_by, wait_turn, with_substitution};
+ghost use Rattle.sh_exec_shell.specs.Waits.{last_of, number_of, signal_status, wait_status};
 
 use sh_base::NoMemory;
 use sh_base::sequence::{Sequence, Text};
@@ -16,7 +16,7 @@ fn signal_status(signal: u8) -> u8
     if signal < 128 { 128 + signal } else { 255 }
 }
 
-/// The exit status by which a shell knows how a process stands.
+/// The exit status by which a shell tells whether a process runs, is stopped or has ended.
 fn number_of(status: Option<Status>) -> u8
     ensures { result ≡ number_of status }
 {
@@ -40,9 +40,9 @@ fn last_of(children: &[u32]) -> u32
 }
 
 /// The status of the last of these processes, once all of them have ended.
-#[tactic(auto, unfolding(crate::specs::Waits::waited))]
+#[tactic(auto, unfolding(crate::specs::Waits::wait_status))]
 fn waited(kernel: &Kernel, pid: u32, children: &[u32]) -> Option<u8>
-    ensures { (s : KernelState) → StandsAt kernel.now s → result ≡ waited s pid children.now }
+    ensures { (s : KernelState) → StandsAt kernel.now s → result ≡ wait_status s pid children.now }
 {
     let status = number_of(kernel.status(last_of(children)));
     match kernel.wait(pid, children) {
@@ -81,7 +81,7 @@ fn with_substitution(wants: Wants, status: u8) -> Wants
 
 /// An expansion with one answer more.
 fn with_answer(pending: Pending, answer: Text) -> Result<Pending, NoMemory>
-    ensures { IfOk result (λ next. next ≡ answered pending answer) }
+    ensures { IfOk result (λ next. next ≡ with_next_answer pending answer) }
 {
     let mut pending = pending;
     match pending.answers.push(answer) {
@@ -100,7 +100,8 @@ pub(crate) fn answer_turn(
     pid: u32,
     substitution: Substitution,
 ) -> Result<Place, NoMemory>
-    ensures { (s : KernelState) → StandsAt kernel.now s → IfOk result (λ place. place ≡ answer_turn s pid substitution) }
+    ensures { (s : KernelState) → StandsAt kernel.now s → IfOk result (λ place.
+        place ≡ answer_turn s pid substitution) }
 {
     let Some(status) = waited(kernel, pid, substitution.children.as_slice()) else {
         return Ok(Place::Answering(substitution));

@@ -4,8 +4,8 @@ use Rattle.std.specs.Prelude.{Some}
 use Rattle.sh_vars.specs.Environment.{Environment}
 use Rattle.sh_syntax.specs.declared.tree.Part.{Part}
 use Rattle.sh_syntax.specs.declared.tree.Parts.{Parts}
-use Rattle.sh_syntax.specs.declared.tree.Complete.{Complete}
-use Rattle.sh_expand_parts.specs.Drafts.{joined}
+use Rattle.sh_syntax.specs.declared.tree.CompoundList.{CompoundList}
+use Rattle.sh_expand_parts.specs.Drafts.{concatenation}
 use Rattle.sh_expand_parts.specs.declared.context.Context.{Context}
 use Rattle.sh_expand_parts.specs.declared.draft.Draft.{Draft}
 use Rattle.sh_expand_parts.specs.declared.forms.Begun.{Begun}
@@ -13,19 +13,19 @@ use Rattle.sh_expand_parts.specs.declared.closing.Purpose.{Purpose}
 use Rattle.sh_expand.specs.declared.place.Place.{Place}
 use Rattle.sh_expand.specs.declared.part.Act.{Act}
 use Rattle.sh_expand.specs.declared.part.Act.TheVariants.{Went, Enter, Ask}
-use Rattle.sh_expand.specs.Expansion.{Done, State, Outcome, adds, answered, asks, begins, begins_alone, enters}
+use Rattle.sh_expand.specs.Expansion.{Done, State, Outcome, adds, command_substitution, asks, begins, begins_alone, enters}
 use Rattle.sh_expand.specs.Parts.{parts_of, pieces, run_part}
 use Rattle.sh_expand.specs.WordProgress.{act_weight, outcome_at}
 use Rattle.sh_expand.specs.Weights.{part_weight, parts_weight}
 
 -- items go behind the word so far
 pub added : (p q : Part) (at : Place) (s : State) (f : Environment → Draft) (env : Environment) (old new more : Draft) (a : Act)
-    → p ≡ q → run_part q at s ≡ adds (f s.env) s → s.env ≡ env → s.draft ≡ old → more ≡ f env → new ≡ joined old more → a ≡ Went
+    → p ≡ q → run_part q at s ≡ adds (f s.env) s → s.env ≡ env → s.draft ≡ old → more ≡ f env → new ≡ concatenation old more → a ≡ Went
     → run_part p at s ≡ outcome_at a (record s { draft = new })
 added p q at s f env old new more a e r v o m n w =
     ap (λ x. run_part x at s) e ∙ r
     ∙ ap (λ d. adds d s) (ap f v ∙ sym m)
-    ∙ ap (λ d. Done (record s { draft = joined d more })) o
+    ∙ ap (λ d. Done (record s { draft = concatenation d more })) o
     ∙ ap (λ d. Done (record s { draft = d })) (sym n)
     ∙ ap (λ b. outcome_at b (record s { draft = new })) (sym w)
 
@@ -53,13 +53,13 @@ opened p q at s w u purpose context inner old e r k i o =
     ∙ ap (λ d. enters purpose inner (pieces (parts_of u)) (record s { draft = d })) o
 
 -- a command substitution
-pub asked : (p q : Part) (at : Place) (s : State) (w u : Complete) (old : Draft)
+pub asked : (p q : Part) (at : Place) (s : State) (w u : CompoundList) (old : Draft)
     → p ≡ q → run_part q at s ≡ asks at.context (Some w) s → u ≡ w → s.draft ≡ old
     → run_part p at s ≡ outcome_at (Ask u at.context) (record s { draft = old })
 asked p q at s w u old e r k o =
     ap (λ x. run_part x at s) e ∙ r
-    ∙ ap (λ y. answered at.context y s.answers s) (sym k)
-    ∙ ap (λ d. answered at.context u s.answers (record s { draft = d })) o
+    ∙ ap (λ y. command_substitution at.context y s.answers s) (sym k)
+    ∙ ap (λ d. command_substitution at.context u s.answers (record s { draft = d })) o
 
 -- weights
 pub weighs_nothing : (p q : Part) (a : Act) → p ≡ q → part_weight q ≡ 2 → act_weight a ≡ 0 → act_weight a < part_weight p

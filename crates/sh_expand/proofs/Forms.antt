@@ -3,7 +3,7 @@ use Rattle.std.proofs.Common.{◌≡◌, ℕ, ◌+◌, List, [], ◌∷◌, map,
 use Rattle.std.specs.Prelude.{Some}
 use Rattle.sh_syntax.specs.declared.tree.Part.{Part}
 use Rattle.sh_syntax.specs.declared.tree.Parts.{Parts}
-use Rattle.sh_syntax.specs.declared.tree.Complete.{Complete}
+use Rattle.sh_syntax.specs.declared.tree.CompoundList.{CompoundList}
 use Rattle.sh_syntax.specs.declared.tree.Parameter.{Parameter}
 use Rattle.sh_syntax.specs.declared.tree.Absence.{Absence}
 use Rattle.sh_syntax.specs.declared.tree.Affix.{Affix}
@@ -162,31 +162,31 @@ removal_weight q a x w = ap part_weight (sym (part.rolls-Removal q a x w)) ∙ f
     ∙ ap (λ n. 2 + n) (weight_is w)
 
 -- Substitution
-substitution_program : (program : Complete) → program_of (view.out-Part (part.Substitution program)) ≡ Some program
+substitution_program : (program : CompoundList) → program_of (view.out-Part (part.Substitution program)) ≡ Some program
 substitution_program program = ap (λ p. program_of (view.out-Part p)) (sym (part.rolls-Substitution program)) ∙ ap program_of (view.out-roll-Part (layer.Substitution program))
 
-pub substitution_is : (program : Complete) (at : Place) (s : State) → run_part (part.Substitution program) at s ≡ asks at.context (Some program) s
+pub substitution_is : (program : CompoundList) (at : Place) (s : State) → run_part (part.Substitution program) at s ≡ asks at.context (Some program) s
 unfolding run_part meaning
 substitution_is program at s = ap (λ f. f (part.Substitution program) at s) (ap meaning (sym (part.rolls-Substitution program)) ∙ folds.fold-roll-Part U U Meaning U U U U U U U U U (List Meaning) U U U
     other_step other_step part_step other_step other_step other_step other_step other_step other_step other_step other_step other_step parts_step other_step other_step other_step (layer.Substitution program))
     ∙ ap (λ q. asks at.context q s) (substitution_program program)
 
-pub substitution_weight : (program : Complete) → part_weight (part.Substitution program) ≡ 2
+pub substitution_weight : (program : CompoundList) → part_weight (part.Substitution program) ≡ 2
 unfolding part_weight
 substitution_weight program = ap part_weight (sym (part.rolls-Substitution program)) ∙ folds.fold-roll-Part U U ℕ U U U U U U U U U ℕ U U U
     other_step other_step weight_step other_step other_step other_step other_step other_step other_step other_step other_step other_step weights_step other_step other_step other_step (layer.Substitution program)
 
 -- Backquoted
-backquoted_program : (program : Complete) → program_of (view.out-Part (part.Backquoted program)) ≡ Some program
+backquoted_program : (program : CompoundList) → program_of (view.out-Part (part.Backquoted program)) ≡ Some program
 backquoted_program program = ap (λ p. program_of (view.out-Part p)) (sym (part.rolls-Backquoted program)) ∙ ap program_of (view.out-roll-Part (layer.Backquoted program))
 
-pub backquoted_is : (program : Complete) (at : Place) (s : State) → run_part (part.Backquoted program) at s ≡ asks at.context (Some program) s
+pub backquoted_is : (program : CompoundList) (at : Place) (s : State) → run_part (part.Backquoted program) at s ≡ asks at.context (Some program) s
 unfolding run_part meaning
 backquoted_is program at s = ap (λ f. f (part.Backquoted program) at s) (ap meaning (sym (part.rolls-Backquoted program)) ∙ folds.fold-roll-Part U U Meaning U U U U U U U U U (List Meaning) U U U
     other_step other_step part_step other_step other_step other_step other_step other_step other_step other_step other_step other_step parts_step other_step other_step other_step (layer.Backquoted program))
     ∙ ap (λ q. asks at.context q s) (backquoted_program program)
 
-pub backquoted_weight : (program : Complete) → part_weight (part.Backquoted program) ≡ 2
+pub backquoted_weight : (program : CompoundList) → part_weight (part.Backquoted program) ≡ 2
 unfolding part_weight
 backquoted_weight program = ap part_weight (sym (part.rolls-Backquoted program)) ∙ folds.fold-roll-Part U U ℕ U U U U U U U U U ℕ U U U
     other_step other_step weight_step other_step other_step other_step other_step other_step other_step other_step other_step other_step weights_step other_step other_step other_step (layer.Backquoted program)

@@ -2,9 +2,9 @@
 use Rattle.std.proofs.Common.{◌≡◌, ℕ, List, [], ◌∷◌, ◌++◌, refl, sym, ap, ◌∙◌, append-nil, append_assoc, drop}
 use Rattle.sh_vars.specs.Environment.{Environment}
 use Rattle.sh_expand_parts.specs.declared.closing.ExpandedWord.{ExpandedWord}
-use Rattle.sh_syntax.specs.declared.tree.Complete.{Complete}
+use Rattle.sh_syntax.specs.declared.tree.CompoundList.{CompoundList}
 use Rattle.sh_expand_parts.specs.Answers.{answer_text}
-use Rattle.sh_expand_parts.specs.Drafts.{joined, nothing, plain, text_items}
+use Rattle.sh_expand_parts.specs.Drafts.{concatenation, nothing, plain, text_items}
 use Rattle.sh_expand_parts.specs.declared.draft.Draft.{Draft}
 use Rattle.sh_expand.specs.Expansion.{Need, Done, then}
 use Rattle.sh_expand.specs.Parts.{expand, run_words, start}
@@ -15,7 +15,7 @@ use Rattle.sh_expand.specs.declared.words.WordExpansion.{WordExpansion}
 use Rattle.sh_expand.specs.declared.words.Step.{Step}
 use Rattle.sh_expand.specs.declared.words.Step.TheVariants as step
 
-around_need : (fs : List Frame) (p : Complete) (e : Environment) → around fs (Need p e) ≡ Need p e
+around_need : (fs : List Frame) (p : CompoundList) (e : Environment) → around fs (Need p e) ≡ Need p e
 around_need [] p e = refl
 around_need (g ∷ fs) p e = ap (λ x. then x (run_frame g)) (around_need fs p e)
 
@@ -32,8 +32,8 @@ start_is frames draft done words env bs f o d =
     ∙ ap (λ l. run_words words (record { env = env; draft = l; words = done; answers = bs })) o
     ∙ ap (λ l. run_words words (record { env = env; draft = nothing; words = l; answers = bs })) d
 
-pub resumed : (e : WordExpansion) (env : Environment) (draft items : Draft) (a : List ℕ) (bs : List (List ℕ)) (words : List Wanted) (before : Environment) (given : List (List ℕ)) → Waits e env words before given → items ≡ plain (text_items e.asked (answer_text a)) → draft ≡ joined e.draft items → rest e (Done (record (state_of e env bs) { draft = draft })) ≡ expand words before ((given ++ a ∷ []) ++ bs)
+pub resumed : (e : WordExpansion) (env : Environment) (draft items : Draft) (a : List ℕ) (bs : List (List ℕ)) (words : List Wanted) (before : Environment) (given : List (List ℕ)) → Waits e env words before given → items ≡ plain (text_items e.asked (answer_text a)) → draft ≡ concatenation e.draft items → rest e (Done (record (state_of e env bs) { draft = draft })) ≡ expand words before ((given ++ a ∷ []) ++ bs)
 resumed e env draft items a bs words before given w i o =
-    ap (λ l. rest e (Done (record (state_of e env bs) { draft = l }))) (o ∙ ap (joined e.draft) i)
+    ap (λ l. rest e (Done (record (state_of e env bs) { draft = l }))) (o ∙ ap (concatenation e.draft) i)
     ∙ sym (w.goes_on a bs)
     ∙ ap (expand words before) (sym (append_assoc given (a ∷ []) bs))

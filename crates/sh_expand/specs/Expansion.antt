@@ -1,10 +1,11 @@
--- The expansion of words with answers (XCU 2.6): always from the first word, the answers of substitutions used in order.
+-- The expansion of words with answers (XCU 2.6): always from the first word; the answers of substitutions are
+-- used in order.
 use Rattle.std.specs.Prelude.{ℕ, List, [], ◌∷◌, ◌++◌, Bool, true, false, Option, Some, None}
 use Rattle.sh_vars.specs.Environment.{Environment}
-use Rattle.sh_syntax.specs.declared.tree.Complete.{Complete}
+use Rattle.sh_syntax.specs.declared.tree.CompoundList.{CompoundList}
 use Rattle.sh_expand_parts.specs.Answers.{answer_text}
-use Rattle.sh_expand_parts.specs.Closings.{Closing, closed}
-use Rattle.sh_expand_parts.specs.Drafts.{joined, nothing, plain, text_items}
+use Rattle.sh_expand_parts.specs.Closings.{Closing, closing_for}
+use Rattle.sh_expand_parts.specs.Drafts.{concatenation, nothing, plain, text_items}
 use Rattle.sh_expand_parts.specs.declared.context.Context.{Context}
 use Rattle.sh_expand_parts.specs.declared.draft.Draft.{Draft}
 use Rattle.sh_expand_parts.specs.declared.fault.Fault.{Fault}
@@ -24,9 +25,9 @@ pub record State : Type 0 where
   pub words : List ExpandedWord
   pub answers : List (List ℕ)
 
--- a program's answer is needed; it is done so far; or it can't be done
+-- a program's output is needed; or the expansion is done so far; or it can't be done
 pub data Outcome : Type 0 where
-  Need : (program : Complete) → (env : Environment) → Outcome
+  Need : (program : CompoundList) → (env : Environment) → Outcome
   Done : State → Outcome
   Stops : (fault : Fault) → (env : Environment) → Outcome
 
@@ -39,7 +40,7 @@ then (Stops e env) f = Stops e env
 abbrev pub Run : Type 0
 Run = State → Outcome
 
--- what a part does, by where it stands
+-- what a part does, by its place in the word
 abbrev pub Piece : Type 0
 Piece = Place → Run
 
@@ -50,31 +51,31 @@ abbrev pub is_end : List Piece → Bool
 is_end [] = true
 is_end (p ∷ ps) = false
 
--- the parts of a word one after another, the first of them being the word's first or not
+-- the parts of a word one after another; `first` says whether the first of them is the word's first
 abbrev pub run_from : Context → (first : Bool) → List Piece → Run
 run_from context first [] s = Done s
 run_from context first (p ∷ ps) s = then (p (place context first (is_end ps)) s) (run_from context false ps)
 
 abbrev pub adds : Draft → Run
-adds d s = Done (record s { draft = joined s.draft d })
+adds d s = Done (record s { draft = concatenation s.draft d })
 
 abbrev pub ended_as : Closed → Environment → Run
 ended_as (closed_as.Goes d) env s = Done (record s { env = env; draft = d })
 ended_as (closed_as.Ends word) env s = Done (record s { env = env; draft = nothing; words = s.words ++ word ∷ [] })
 ended_as (closed_as.Fails f) env s = Stops f env
 
-abbrev pub ended : Closing → Run
-ended c = ended_as c.closed c.env
+abbrev pub closing_run : Closing → Run
+closing_run c = ended_as c.closed c.env
 
--- the end of a word inside, behind what stood before it
+-- the end of a word inside; `saved` is the word before it
 abbrev pub closes : Purpose → Draft → Run
-closes purpose saved s = ended (closed purpose saved s.draft s.env) s
+closes purpose saved s = closing_run (closing_for purpose saved s.draft s.env) s
 
 -- the word so far is set aside
 abbrev pub fresh : State → State
 fresh s = record s { draft = nothing }
 
--- a word inside is expanded, and then what it was wanted for is done
+-- a word inside is expanded, and then its purpose is done
 abbrev pub enters : Purpose → Context → List Piece → Run
 enters purpose context inner s = then (run_from context true inner (fresh s)) (closes purpose s.draft)
 
@@ -90,16 +91,16 @@ begins_alone (Adds d) s = adds d s
 begins_alone (Enters purpose context) s = Stops fault.BadSubstitution s.env
 begins_alone (Fails f) s = Stops f s.env
 
--- an answer comes behind what stands in the word
-abbrev pub received : Context → (answer : List ℕ) → (more : List (List ℕ)) → Run
-received context answer more s =
-    Done (record s { draft = joined s.draft (plain (text_items context (answer_text answer))); answers = more })
+-- an answer is added to the word so far
+abbrev pub with_answer : Context → (answer : List ℕ) → (more : List (List ℕ)) → Run
+with_answer context answer more s =
+    Done (record s { draft = concatenation s.draft (plain (text_items context (answer_text answer))); answers = more })
 
 -- a command substitution (2.6.3) takes the next answer, and waits where there is none
-abbrev pub answered : Context → Complete → List (List ℕ) → Run
-answered context program [] s = Need program s.env
-answered context program (a ∷ more) s = received context a more s
+abbrev pub command_substitution : Context → CompoundList → List (List ℕ) → Run
+command_substitution context program [] s = Need program s.env
+command_substitution context program (a ∷ more) s = with_answer context a more s
 
-abbrev pub asks : Context → Option Complete → Run
+abbrev pub asks : Context → Option CompoundList → Run
 asks context None s = Stops fault.BadSubstitution s.env
-asks context (Some program) s = answered context program s.answers s
+asks context (Some program) s = command_substitution context program s.answers s

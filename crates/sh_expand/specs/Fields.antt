@@ -5,21 +5,21 @@ use Rattle.sh_vars.specs.Environment.{Environment, separators_of}
 use Rattle.sh_files.specs.Nodes.{FileMap}
 use Rattle.sh_expand_fields.specs.declared.item.Item.{Item}
 use Rattle.sh_expand_fields.specs.Classes.{class_of}
-use Rattle.sh_expand_fields.specs.Found.{expanded}
-use Rattle.sh_expand_fields.specs.Splitting.{split}
+use Rattle.sh_expand_fields.specs.Found.{pathnames}
+use Rattle.sh_expand_fields.specs.Splitting.{field_splitting}
 use Rattle.sh_expand_fields.specs.Text.{text_of}
 use Rattle.sh_expand_parts.specs.declared.context.Context.{Context}
 use Rattle.sh_expand_parts.specs.declared.context.Context.TheVariants as context
 use Rattle.sh_expand_parts.specs.declared.closing.ExpandedWord.{ExpandedWord}
 
--- what a field gives: under `set -f` itself, without its quotes
+-- the paths that a field gives; under `set -f`, the field itself without its quotes
 abbrev pub field_paths : FileMap → Environment → List Item → List (List ℕ)
-field_paths files env field = if env.options.no_glob then text_of field ∷ [] else expanded files env.directory field
+field_paths files env field = if env.options.no_glob then text_of field ∷ [] else pathnames files env.directory field
 
 abbrev pub split_fields : Environment → List Item → List (List Item)
-split_fields env items = split (map (class_of (separators_of env)) items)
+split_fields env items = field_splitting (map (class_of (separators_of env)) items)
 
--- only a command's words are split, and stand for paths
+-- only a command's words are split and expanded to paths
 abbrev pub fields_as : FileMap → Environment → Context → List Item → List (List ℕ)
 fields_as files env context.Fields items = flat_map (field_paths files env) (split_fields env items)
 fields_as files env context.Inner items = text_of items ∷ []

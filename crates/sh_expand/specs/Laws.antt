@@ -2,7 +2,7 @@
 use Rattle.std.specs.Prelude.{◌≡◌, ℕ, List, [], ◌∷◌, Some}
 use Rattle.sh_expand_fields.specs.declared.item.Item.TheVariants as item
 use Rattle.sh_syntax.specs.declared.tree.Parts.{Parts}
-use Rattle.sh_syntax.specs.declared.tree.Complete.{Complete}
+use Rattle.sh_syntax.specs.declared.tree.CompoundList.{CompoundList}
 use Rattle.sh_syntax.specs.declared.tree.Parameter.{Parameter}
 use Rattle.sh_syntax.specs.declared.tree.Absence.{Absence}
 use Rattle.sh_syntax.specs.declared.tree.Affix.{Affix}
@@ -32,13 +32,13 @@ pub record PartLaws : Type 0 where
   pub parameter : (p : Parameter) (at : Place) (s : State) → run_part (part.Parameter p) at s ≡ begins_alone (parameter_begun at.context s.env p) s
   -- ${#p}
   pub length : (p : Parameter) (at : Place) (s : State) → run_part (part.Length p) at s ≡ begins_alone (length_begun at.context s.env p) s
-  -- ${p-w} and its like
+  -- ${p-w} and the like
   pub conditional : (p : Parameter) (a : Absence) (x : ConditionalAction) (w : Parts) (at : Place) (s : State) → run_part (part.Conditional p a x w) at s ≡ begins (conditional_begun at.context s.env p a x (is_end (pieces (parts_of w)))) (pieces (parts_of w)) s
-  -- ${p%w} and its like
+  -- ${p%w} and the like
   pub removal : (p : Parameter) (a : Affix) (x : Extent) (w : Parts) (at : Place) (s : State) → run_part (part.Removal p a x w) at s ≡ begins (removal_begun at.context s.env p a x) (pieces (parts_of w)) s
   -- $(..)
-  pub substitution : (program : Complete) (at : Place) (s : State) → run_part (part.Substitution program) at s ≡ asks at.context (Some program) s
+  pub substitution : (program : CompoundList) (at : Place) (s : State) → run_part (part.Substitution program) at s ≡ asks at.context (Some program) s
   -- the same in backquotes
-  pub backquoted : (program : Complete) (at : Place) (s : State) → run_part (part.Backquoted program) at s ≡ asks at.context (Some program) s
+  pub backquoted : (program : CompoundList) (at : Place) (s : State) → run_part (part.Backquoted program) at s ≡ asks at.context (Some program) s
   -- $((w))
   pub arithmetic : (w : Parts) (at : Place) (s : State) → run_part (part.Arithmetic w) at s ≡ enters (purpose.Compute at.context) QuotedSingle (pieces (parts_of w)) s

@@ -4,7 +4,7 @@ use Rattle.sh_vars.specs.Environment.{Environment}
 use Rattle.sh_expand_fields.specs.declared.item.Item.TheVariants as item
 use Rattle.sh_syntax.specs.declared.tree.Part.{Part}
 use Rattle.sh_syntax.specs.declared.tree.Parts.{Parts}
-use Rattle.sh_syntax.specs.declared.tree.Complete.{Complete}
+use Rattle.sh_syntax.specs.declared.tree.CompoundList.{CompoundList}
 use Rattle.sh_syntax.specs.declared.tree.Command.{Command}
 use Rattle.sh_syntax.specs.declared.tree.CompoundForm.{CompoundForm}
 use Rattle.sh_syntax.specs.declared.tree.SimpleItem.{SimpleItem}
@@ -30,9 +30,9 @@ use Rattle.sh_expand_parts.specs.declared.closing.Purpose.TheVariants as purpose
 use Rattle.sh_expand.specs.declared.wanted.Wanted.{Wanted}
 use Rattle.sh_expand.specs.Expansion.{State, Outcome, Done, Piece, Run, adds, asks, begins, begins_alone, enters, is_end, then}
 
--- a part as it stands, with its own parts and programs
+-- the form of a part, with its own parts and programs
 abbrev pub Form : Type 0
-Form = layer.Part-F Command CompoundForm Part SimpleItem Target AndOr CaseItem Complete Compound Connected ElseIf ListItem Parts Pipeline Redirect Word
+Form = layer.Part-F Command CompoundForm Part SimpleItem Target AndOr CaseItem Compound CompoundList Connected ElseIf ListItem Parts Pipeline Redirect Word
 
 abbrev pub parts_of : Parts → List Part
 parts_of w = (view.out-Parts w).items
@@ -52,7 +52,7 @@ inside (layer.Backquoted program) = []
 inside (layer.Arithmetic w) = parts_of w
 
 -- the program of a command substitution
-abbrev pub program_of : Form → Option Complete
+abbrev pub program_of : Form → Option CompoundList
 program_of (layer.Literal text) = None
 program_of (layer.Escaped b) = None
 program_of (layer.SingleQuoted text) = None
@@ -78,12 +78,12 @@ each (f ∷ fs) (p ∷ ps) = f p ∷ each fs ps
 abbrev pub U : Type 0
 U = Unit {0}
 
--- a form whose parts have given way to their meanings
+-- a form whose parts are replaced by their meanings
 abbrev pub Layer : (Type 0 → Type 0 → Type 0 → Type 0 → Type 0 → Type 0 → Type 0 → Type 0
     → Type 0 → Type 0 → Type 0 → Type 0 → Type 0 → Type 0 → Type 0 → Type 0 → Type 0) → Type 0
 Layer F = F U U Meaning U U U U U U U U U (List Meaning) U U U
 
--- what a part does, by its form; the parts inside it are those of the part itself
+-- what a part does, by its form; the parts inside are taken from the part itself
 abbrev pub part_step : Layer layer.Part-F → Meaning
 part_step (layer.Literal text) p at s = adds (literal_begun at.context s.env at.first at.last text) s
 part_step (layer.Escaped b) p at s = adds (plain (item.Quoted b ∷ [])) s
@@ -117,7 +117,7 @@ run_part p = meaning p p
 abbrev pub pieces : List Part → List Piece
 pieces ps = map run_part ps
 
--- a word, as what it is wanted for
+-- the expansion of a word, for its context
 unfoldable pub run_word : Wanted → Run
 run_word w = enters (purpose.Word w.context) w.context (pieces (parts_of w.parts))
 

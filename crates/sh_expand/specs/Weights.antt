@@ -1,4 +1,4 @@
--- How much there is to do in a part. Only proofs that an expansion ends need this.
+-- How much there is to do in a part. Only contracts and proofs that an expansion ends need this.
 use Rattle.std.specs.Prelude.{ℕ, ◌+◌, List, [], ◌∷◌, map}
 use Rattle.sh_syntax.specs.declared.tree.Part.{Part}
 use Rattle.sh_syntax.specs.declared.tree.Command.TheOpen as layer

@@ -1,4 +1,4 @@
--- Where an expansion stands: what is left to do, and what comes of it.
+-- The progress of an expansion: what is left to do, and its outcome.
 use Rattle.std.specs.Prelude.{◌≡◌, ℕ, ◌+◌, ◌==◌, List, [], ◌∷◌, ◌++◌, Bool, Option, Some, None, drop, length}
 use Rattle.sh_vars.specs.Environment.{Environment}
 use Rattle.sh_syntax.specs.declared.tree.Part.{Part}
@@ -7,7 +7,7 @@ use Rattle.sh_expand_parts.specs.declared.closing.Purpose.{Purpose}
 use Rattle.sh_expand_parts.specs.declared.context.Context.{Context}
 use Rattle.sh_expand_parts.specs.declared.draft.Draft.{Draft}
 use Rattle.sh_expand_parts.specs.declared.fault.Fault.{Fault}
-use Rattle.sh_expand.specs.Expansion.{State, Outcome, Need, Done, Stops, Run, answered, closes, received, enters, place, run_from, then}
+use Rattle.sh_expand.specs.Expansion.{State, Outcome, Need, Done, Stops, Run, command_substitution, closes, with_answer, enters, place, run_from, then}
 use Rattle.sh_expand.specs.Parts.{expand, parts_of, pieces, run_words}
 use Rattle.sh_expand.specs.Weights.{parts_weight}
 use Rattle.sh_expand.specs.declared.place.Place.{Place}
@@ -19,11 +19,11 @@ use Rattle.sh_expand.specs.declared.words.Step.TheVariants as step
 use Rattle.sh_expand.specs.declared.wanted.Wanted.{Wanted}
 use Rattle.sh_expand.specs.declared.words.WordExpansion.{WordExpansion}
 
--- what a part that was begun comes to
+-- the outcome at a part that was begun
 abbrev pub outcome_at : Act → Run
 outcome_at act.Went s = Done s
 outcome_at (act.Enter word purpose context) s = enters purpose context (pieces (parts_of word)) s
-outcome_at (act.Ask program context) s = answered context program s.answers s
+outcome_at (act.Ask program context) s = command_substitution context program s.answers s
 outcome_at (act.Fail f) s = Stops f s.env
 
 abbrev pub left_of : Frame → List Part
@@ -32,11 +32,11 @@ left_of f = drop f.at (parts_of f.parts)
 abbrev pub run_left : Frame → (first : Bool) → List Part → Run
 run_left f first ps s = then (run_from f.context first (pieces ps) s) (closes f.purpose f.saved)
 
--- where the next part of a frame stands
+-- the place of the next part of a frame
 abbrev pub place_of : Frame → Place
 place_of f = place f.context (f.at == 0) (f.at + 1 == length (parts_of f.parts))
 
--- a word inside that is begun
+-- the frame of a word that is begun
 abbrev pub entered_frame : Parts → Purpose → Context → Draft → Frame
 entered_frame parts purpose context saved =
     record { parts = parts; at = 0; context = context; purpose = purpose; saved = saved }
@@ -45,7 +45,7 @@ entered_frame parts purpose context saved =
 abbrev pub run_frame : Frame → Run
 run_frame f = run_left f (f.at == 0) (left_of f)
 
--- what frames make of an outcome inside them, the outermost frame first
+-- the outcome of frames, from the outcome inside them; the list has the outermost frame first
 abbrev pub around : List Frame → Outcome → Outcome
 around [] o = o
 around (f ∷ fs) o = then (around fs o) (run_frame f)
@@ -59,7 +59,7 @@ state_of e env answers = record { env = env; draft = e.draft; words = e.done; an
 
 -- the outcome, if these answers are still to come
 abbrev pub outcome_of : Step → WordExpansion → Environment → List (List ℕ) → Outcome
-outcome_of (step.Need p) e env bs = rest e (answered e.asked p bs (state_of e env bs))
+outcome_of (step.Need p) e env bs = rest e (command_substitution e.asked p bs (state_of e env bs))
 outcome_of step.Words e env bs = Done (state_of e env bs)
 outcome_of (step.Fault f) e env bs = Stops f env
 
@@ -73,9 +73,9 @@ abbrev pub outcome_closed : Option Fault → WordExpansion → Environment → L
 outcome_closed None e env bs = Done (state_of e env bs)
 outcome_closed (Some f) e env bs = Stops f env
 
--- it waits for an answer, those so far being as given
+-- the expansion waits for an answer, after the answers `given`
 pub record Waits (e : WordExpansion) (env : Environment) (words : List Wanted) (before : Environment) (given : List (List ℕ)) : Type 0 where
-  pub goes_on : (a : List ℕ) (bs : List (List ℕ)) → expand words before (given ++ a ∷ bs) ≡ rest e (received e.asked a bs (state_of e env (a ∷ bs)))
+  pub goes_on : (a : List ℕ) (bs : List (List ℕ)) → expand words before (given ++ a ∷ bs) ≡ rest e (with_answer e.asked a bs (state_of e env (a ∷ bs)))
 
 -- a step is the outcome of the expansion with the answers so far
 abbrev pub IsStep : Step → WordExpansion → Environment → List Wanted → Environment → List (List ℕ) → Type 0

@@ -13,29 +13,29 @@ use sh_base::shared::Shared;
 use sh_expand_fields::pattern_of;
 use sh_expand_parts::Fault;
 use sh_files::Files;
-use sh_pattern::Mark;
-use sh_syntax::tree::Complete;
+use sh_pattern::PatternByte;
+use sh_syntax::tree::CompoundList;
 use sh_vars::Vars;
 use std::alloc::{AllocError, Global};
 
-/// What an expansion comes to.
+/// What an expansion needs next, or its result.
 #[derive(Drop)]
 pub enum Step {
-    /// What this program writes is needed (XCU 2.6.3), and then [`Expansion::resume`].
-    Need(Shared<Complete>),
-    /// The fields of the words, in their order. A word that isn't a command's gives one.
+    /// The output of this program is needed (XCU 2.6.3): [`Expansion::resume`] takes it.
+    Need(Shared<CompoundList>),
+    /// The fields of the words, in their order. A word for another context than `Fields` gives one field.
     Fields(Sequence<Text>),
-    /// The words can't be expanded. What was assigned before stays.
+    /// The words can't be expanded. What was assigned before the fault stays.
     Fault(Fault),
 }
 
-/// Where an expansion of words stands.
+/// An expansion of words that has begun.
 #[derive(Drop)]
 pub struct Expansion {
     words: WordExpansion,
 }
 
-/// What a step of the words comes to.
+/// The step of the expansion to fields, from the step of its words.
 fn finish(
     alloc: Global,
     step: words::Step,
@@ -43,7 +43,10 @@ fn finish(
     vars: &Vars,
     files: &Files,
 ) -> Result<Step, AllocError>
-    ensures { IfOk result (λ s. (wanted : List Wanted) (before : Environment) (given : List (List ℕ)) → words_stand.IsStep step words.now vars.now wanted before given → IsStep files.now s (record { words = words.now }) vars.now wanted before given) }
+    ensures { IfOk result (λ s.
+        (wanted : List Wanted) (before : Environment) (given : List (List ℕ))
+        → words_stand.IsStep step words.now vars.now wanted before given
+        → IsStep files.now s (record { words = words.now }) vars.now wanted before given) }
 {
     match step {
         words::Step::Need(program) => Ok(Step::Need(program)),
@@ -60,8 +63,8 @@ impl Expansion {
 
     /// Begins the expansion of words, in order, and goes on until an answer is needed or it ends (XCU 2.6).
     ///
-    /// All of them are expanded before the first is split into fields. After a fault what was assigned before it stays.
-    /// The only error is want of memory; what the variables are then is left open.
+    /// All words are expanded before the first is split into fields. After a fault what was assigned before
+    /// it stays. The only error is want of memory, after which the variables are left open.
     pub fn start(
         alloc: Global,
         words: Sequence<Wanted>,
@@ -75,10 +78,10 @@ impl Expansion {
         Ok((Expansion { words }, step))
     }
 
-    /// Goes on with the answer that is needed: what the program wrote. The variables have to be as they were when it was
-    /// asked for; the files may be others. Nothing that was done before is done again.
+    /// Goes on with the answer that is needed: what the program wrote. The variables have to be as they were
+    /// when the answer was asked for. The files may have changed. Nothing that was done before is done again.
     ///
-    /// The only error is want of memory; what the expansion and the variables are then is left open.
+    /// The only error is want of memory, after which the expansion and the variables are left open.
     pub fn resume(
         &mut self,
         alloc: Global,
@@ -86,16 +89,18 @@ impl Expansion {
         vars: &mut Vars,
         files: &Files,
     ) -> Result<Step, AllocError>
-        ensures { (wanted : List Wanted) (before : Environment) (given : List (List ℕ)) → Waits self.old vars.old wanted before given → IfOk result (λ s. IsStep files.now s self.new vars.new wanted before (given ++ answer.now ∷ [])) }
+        ensures { (wanted : List Wanted) (before : Environment) (given : List (List ℕ))
+            → Waits self.old vars.old wanted before given → IfOk result (λ s.
+            IsStep files.now s self.new vars.new wanted before (given ++ answer.now ∷ [])) }
     {
         let step = self.words.resume(alloc, answer, vars)?;
         let step = finish(alloc, step, &self.words, vars, files)?;
         Ok(step)
     }
 
-    /// The pattern that the first word is once the words are expanded (XCU 2.9.4.3, 2.14.1): what is quoted in it is
-    /// literal. It has no byte where there is no word. The only error is want of memory.
-    pub fn pattern(&self, alloc: Global) -> Result<Vec<Mark>, AllocError>
+    /// The first of the expanded words as a pattern (XCU 2.9.4.3, 2.14.1): its quoted bytes are literal. The
+    /// pattern is empty where no word is expanded. The only error is want of memory.
+    pub fn pattern(&self, alloc: Global) -> Result<Vec<PatternByte>, AllocError>
         ensures { IfOk result (λ pattern. pattern.items ≡ pattern_in self.now) }
     {
         let Some(word) = self.words.words().first() else {

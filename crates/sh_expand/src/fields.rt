@@ -12,7 +12,7 @@ use sh_files::Files;
 use sh_vars::Vars;
 use std::alloc::{AllocError, Global};
 
-/// Puts texts.
+/// Appends texts.
 fn push_texts(texts: Vec<Vec<u8>>, fields: &mut Sequence<Text>) -> Result<(), AllocError>
     ensures { OnOk result (fields.new ≡ fields.old ++ texts_of texts.items) }
 {
@@ -22,7 +22,7 @@ fn push_texts(texts: Vec<Vec<u8>>, fields: &mut Sequence<Text>) -> Result<(), Al
     Ok(())
 }
 
-/// Puts what a field gives.
+/// Appends the paths that a field gives; under `set -f`, its text without its quotes.
 fn push_paths(
     alloc: Global,
     vars: &Vars,
@@ -44,7 +44,8 @@ fn push_paths(
 
 /// The fields of the items of a command's word, still with their quotes.
 fn split_fields(alloc: Global, vars: &Vars, items: &[Item]) -> Result<Fields, AllocError>
-    ensures { IfOk result (λ fields. map (λ field. field.items) fields.items ≡ split_fields vars.now items.now) }
+    ensures { IfOk result (λ fields.
+        map (λ field. field.items) fields.items ≡ split_fields vars.now items.now) }
 {
     match vars.get(b"IFS") {
         None => split(alloc, Separators::Unset, items),
@@ -52,7 +53,7 @@ fn split_fields(alloc: Global, vars: &Vars, items: &[Item]) -> Result<Fields, Al
     }
 }
 
-/// Puts what each of some fields gives.
+/// Appends what each of some fields gives.
 fn push_all_paths(
     alloc: Global,
     vars: &Vars,
@@ -60,7 +61,9 @@ fn push_all_paths(
     split: &[Vec<Item>],
     fields: &mut Sequence<Text>,
 ) -> Result<(), AllocError>
-    ensures { OnOk result (fields.new ≡ fields.old ++ flat_map (field_paths files.now vars.now) (map (λ field. field.items) split.now)) }
+    ensures { OnOk result
+        (fields.new ≡ fields.old ++ flat_map (field_paths files.now vars.now)
+        (map (λ field. field.items) split.now)) }
 {
     for field in split {
         push_paths(alloc, vars, files, field.as_slice(), fields)?;
@@ -68,7 +71,7 @@ fn push_all_paths(
     Ok(())
 }
 
-/// Puts the fields of a command's word.
+/// Appends the fields of a command's word.
 fn push_fields(
     alloc: Global,
     vars: &Vars,
@@ -76,14 +79,16 @@ fn push_fields(
     items: &[Item],
     fields: &mut Sequence<Text>,
 ) -> Result<(), AllocError>
-    ensures { OnOk result (fields.new ≡ fields.old ++ flat_map (field_paths files.now vars.now) (split_fields vars.now items.now)) }
+    ensures { OnOk result
+        (fields.new ≡ fields.old ++ flat_map (field_paths files.now vars.now)
+        (split_fields vars.now items.now)) }
 {
     let split = split_fields(alloc, vars, items)?;
     push_all_paths(alloc, vars, files, split.as_slice(), fields)?;
     Ok(())
 }
 
-/// Puts a word's text.
+/// Appends a word's text, as one field.
 fn push_text(alloc: Global, items: &[Item], fields: &mut Sequence<Text>) -> Result<(), AllocError>
     ensures { OnOk result (fields.new ≡ fields.old ++ text_of items.now ∷ []) }
 {
@@ -92,7 +97,7 @@ fn push_text(alloc: Global, items: &[Item], fields: &mut Sequence<Text>) -> Resu
     Ok(())
 }
 
-/// Puts what a word gives.
+/// Appends the fields of a word.
 fn push_word(
     alloc: Global,
     vars: &Vars,

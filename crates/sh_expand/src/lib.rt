@@ -1,9 +1,9 @@
 //! Word expansion (IEEE Std 1003.1-2024, XCU 2.6): from words of a command to fields.
 //!
-//! [`Expansion::start`] expands words in order: tilde, parameters, command substitutions and arithmetic, from left to
-//! right; then all of them are split into fields, by IFS as it is then, and pathnames are expanded, by the files as they
-//! are then; then quotes are removed. Where a command substitution needs what a program writes, it stops with
-//! [`Step::Need`], and [`Expansion::resume`] goes on from there.
+//! [`Expansion::start`] expands words in order: tilde, parameters, command substitutions and arithmetic, from
+//! left to right. Then all of them are split into fields, by IFS as it is then, and pathnames are expanded,
+//! by the files as they are then. Then quotes are removed. Where the output of a command substitution is
+//! needed, the expansion stops with [`Step::Need`], and [`Expansion::resume`] goes on from there.
 #![tactic(auto)]
 
 mod expansion;

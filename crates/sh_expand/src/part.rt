@@ -1,7 +1,7 @@
-//! What a part of a word comes to where it begins.
+//! How each part of a word begins.
 ghost use Rattle.std.specs.Prelude.{◌≡◌, ◌<◌, ◌+◌, IfOk, OnOk};
 ghost use Rattle.sh_vars.specs.Environment.{Environment};
-ghost use Rattle.sh_expand_parts.specs.Drafts.{joined};
+ghost use Rattle.sh_expand_parts.specs.Drafts.{concatenation};
 ghost use Rattle.sh_expand.specs.Expansion.{State, begins, begins_alone, is_end};
 ghost use Rattle.sh_expand.specs.Parts.{parts_of, pieces, run_part};
 ghost use Rattle.sh_expand.specs.WordProgress.{act_weight, outcome_at};
@@ -13,42 +13,44 @@ use sh_expand_parts::{
     Begun, Context, Draft, Fault, Purpose, begin_conditional, begin_escaped, begin_length,
     begin_literal, begin_parameter, begin_quoted, begin_removal,
 };
-use sh_syntax::tree::{Complete, Part, Parts};
+use sh_syntax::tree::{CompoundList, Part, Parts};
 use sh_vars::Vars;
 use std::alloc::{AllocError, Global};
 
-/// What a part that was begun comes to.
+/// What the beginning of a part gives.
 #[derive(Drop)]
 pub(crate) enum Act {
-    /// It is done.
+    /// The part is done.
     Went,
-    /// A word inside it comes first.
+    /// A word inside the part is expanded first.
     Enter {
         word: Shared<Parts>,
         purpose: Purpose,
         context: Context,
     },
-    /// The answer of a program comes first.
+    /// The output of a program is needed first.
     Ask {
-        program: Shared<Complete>,
+        program: Shared<CompoundList>,
         context: Context,
     },
-    /// It can't be expanded.
+    /// The part can't be expanded.
     Fail(Fault),
 }
 
-/// Puts items into the word.
+/// Appends items to the word.
 fn add(draft: &mut Draft, more: &Draft) -> Result<Act, AllocError>
     ensures went { IfOk result (λ a. a ≡ Act.Went) }
-    ensures draft { OnOk result (draft.new ≡ joined draft.old more.now) }
+    ensures draft { OnOk result (draft.new ≡ concatenation draft.old more.now) }
 {
     draft.append(more)?;
     Ok(Act::Went)
 }
 
-/// A form that has no word inside.
+/// Goes on with a form that has no word inside.
 fn settle(draft: &mut Draft, begun: Begun) -> Result<Act, AllocError>
-    ensures run { IfOk result (λ a. (s : State) → s.draft ≡ draft.old → begins_alone begun s ≡ outcome_at a (record s { draft = draft.new })) }
+    ensures run { IfOk result (λ a.
+        (s : State) → s.draft ≡ draft.old → begins_alone begun s
+        ≡ outcome_at a (record s { draft = draft.new })) }
     ensures weight { IfOk result (λ a. act_weight a ≡ 0) }
 {
     match begun {
@@ -61,9 +63,11 @@ fn settle(draft: &mut Draft, begun: Begun) -> Result<Act, AllocError>
     }
 }
 
-/// A form that may have a word inside.
+/// Goes on with a form that may have a word inside.
 fn enter(draft: &mut Draft, begun: Begun, word: &Shared<Parts>) -> Result<Act, AllocError>
-    ensures run { IfOk result (λ a. (s : State) → s.draft ≡ draft.old → begins begun (pieces (parts_of word.now)) s ≡ outcome_at a (record s { draft = draft.new })) }
+    ensures run { IfOk result (λ a.
+        (s : State) → s.draft ≡ draft.old → begins begun (pieces (parts_of word.now)) s
+        ≡ outcome_at a (record s { draft = draft.new })) }
     ensures weight { IfOk result (λ a. act_weight a < 2 + parts_weight (parts_of word.now)) }
 {
     match begun {
@@ -90,7 +94,7 @@ fn has_no_part(word: &Parts) -> bool
     }
 }
 
-/// Begins a part: its items, or what else has to be done for it first.
+/// Begins a part: appends its items, or tells what has to be done for it first.
 pub(crate) fn begin(
     alloc: Global,
     part: &Part,
@@ -98,7 +102,9 @@ pub(crate) fn begin(
     draft: &mut Draft,
     vars: &Vars,
 ) -> Result<Act, AllocError>
-    ensures run { IfOk result (λ a. (s : State) → s.env ≡ vars.now → s.draft ≡ draft.old → run_part part.now place s ≡ outcome_at a (record s { draft = draft.new })) }
+    ensures run { IfOk result (λ a.
+        (s : State) → s.env ≡ vars.now → s.draft ≡ draft.old → run_part part.now place s
+        ≡ outcome_at a (record s { draft = draft.new })) }
     ensures weight { IfOk result (λ a. act_weight a < part_weight part.now) }
 {
     match part {

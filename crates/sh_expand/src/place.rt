@@ -1,13 +1,13 @@
-//! Where a part stands.
+//! The place of a part in its word.
 use sh_expand_parts::Context;
 
-/// Where a part of a word stands.
+/// The place of a part in its word.
 #[derive(Clone, Copy, Debug, PartialEq, Eq)]
 pub struct Place {
     /// What the word is expanded for.
     pub context: Context,
-    /// Whether it is the word's first part.
+    /// Whether the part is the word's first.
     pub first: bool,
-    /// Whether it is the last one.
+    /// Whether the part is the word's last.
     pub last: bool,
 }

@@ -6,8 +6,8 @@ use sh_syntax::tree::Parts;
 /// A word that is to be expanded.
 #[derive(Drop)]
 pub struct Wanted {
-    /// Its parts.
+    /// The parts of the word.
     pub parts: Shared<Parts>,
-    /// What it is expanded for.
+    /// What the word is expanded for.
     pub context: Context,
 }

@@ -13,11 +13,12 @@ use crate::wanted::Wanted;
 use sh_base::sequence::Sequence;
 use sh_base::shared::Shared;
 use sh_expand_parts::{Closed, Context, Draft, ExpandedWord, Fault, Purpose, answer_items, close};
-use sh_syntax::tree::{Complete, Parts};
+use sh_syntax::tree::{CompoundList, Parts};
 use sh_vars::Vars;
 use std::alloc::{AllocError, Global};
 
-/// A word that is begun: from which part on it is left to do, and what its end does.
+/// A word that is begun. Its parts from index `at` on are left to do; `purpose` is what its end does. `saved`
+/// has what is before it in the word around it.
 #[derive(Drop)]
 pub struct Frame {
     parts: Shared<Parts>,
@@ -27,7 +28,7 @@ pub struct Frame {
     saved: Draft,
 }
 
-/// Where an expansion of words stands.
+/// An expansion of words that has begun, up to the items of the words.
 #[derive(Drop)]
 pub struct WordExpansion {
     words: Sequence<Wanted>,
@@ -38,21 +39,21 @@ pub struct WordExpansion {
     asked: Context,
 }
 
-/// What an expansion comes to.
+/// What an expansion of words needs next, or how it ends.
 #[derive(Drop)]
 pub enum Step {
-    /// A program's answer is needed: what it writes.
-    Need(Shared<Complete>),
+    /// The output of this program is needed.
+    Need(Shared<CompoundList>),
     /// The words are expanded.
     Words,
-    /// They can't be.
+    /// The words can't be expanded.
     Fault(Fault),
 }
 
 impl Frame {
     ghost use Rattle.sh_expand.specs.WordProgress.{left_of, place_of};
 
-    /// Where its next part stands.
+    /// The place of the frame's next part.
     fn place(&self) -> Place
         requires { self.now.at < length (parts_of self.now.parts) }
         ensures { result ≡ place_of self.now }
@@ -69,7 +70,7 @@ impl Frame {
 impl WordExpansion {
     ghost use Rattle.sh_expand.specs.WordProgress.{IsStep, Waits, act_weight, entered_frame, left_of, outcome_after, outcome_at, outcome_closed, outcome_of, rest, run_frame, state_of, weight};
 
-    /// The end of a word inside another one, or of a word of its own.
+    /// Ends a word inside another one, or a word of its own.
     fn end(
         &mut self,
         alloc: Global,
@@ -77,7 +78,9 @@ impl WordExpansion {
         purpose: Purpose,
         saved: Draft,
     ) -> Result<Option<Fault>, AllocError>
-        ensures outcome { IfOk result (λ f. (bs : List (List ℕ)) → outcome_closed f self.new vars.new bs ≡ closes purpose saved (state_of self.old vars.old bs)) }
+        ensures outcome { IfOk result (λ f.
+            (bs : List (List ℕ)) → outcome_closed f self.new vars.new bs ≡ closes purpose saved
+            (state_of self.old vars.old bs)) }
         ensures frames { self.new.frames ≡ self.old.frames }
         ensures words { self.new.words ≡ self.old.words }
         ensures next { self.new.next ≡ self.old.next }
@@ -96,7 +99,7 @@ impl WordExpansion {
         }
     }
 
-    /// Begins a word, or one inside another: what stands in the word so far is set aside.
+    /// Begins a word, or one inside another. What the word so far has is set aside.
     fn enter(
         &mut self,
         alloc: Global,
@@ -104,7 +107,9 @@ impl WordExpansion {
         purpose: Purpose,
         context: Context,
     ) -> Result<(), AllocError>
-        ensures frames { OnOk result (self.new.frames ≡ self.old.frames ++ entered_frame parts purpose context self.old.draft ∷ []) }
+        ensures frames { OnOk result
+            (self.new.frames ≡ self.old.frames ++ entered_frame parts purpose context
+            self.old.draft ∷ []) }
         ensures draft { OnOk result (self.new.draft ≡ nothing) }
         ensures words { self.new.words ≡ self.old.words }
         ensures next { self.new.next ≡ self.old.next }
@@ -121,10 +126,12 @@ impl WordExpansion {
         Ok(())
     }
 
-    /// The next word.
+    /// Begins the next word, if there is one.
     fn next_word(&mut self, alloc: Global) -> Result<Option<Step>, AllocError>
         requires { self.old.frames ≡ [] }
-        ensures outcome { IfOk result (λ s. (env : Environment) (bs : List (List ℕ)) → outcome_after s self.new env bs ≡ rest self.old (Done (state_of self.old env bs))) }
+        ensures outcome { IfOk result (λ s.
+            (env : Environment) (bs : List (List ℕ)) → outcome_after s self.new env bs
+            ≡ rest self.old (Done (state_of self.old env bs))) }
         ensures smaller { IfOk result (λ s. s ≡ None → weight self.new < weight self.old) }
     {
         let Some(word) = self.words.as_slice().get(self.next) else {
@@ -137,10 +144,13 @@ impl WordExpansion {
         Ok(None)
     }
 
-    /// A part was begun, and its frame stands behind it.
+    /// Goes on after a part was begun. Its frame is already after that part.
     fn advance(&mut self, alloc: Global, act: Act) -> Result<Option<Step>, AllocError>
-        ensures outcome { IfOk result (λ s. (env : Environment) (bs : List (List ℕ)) → outcome_after s self.new env bs ≡ rest self.old (outcome_at act (state_of self.old env bs))) }
-        ensures smaller { IfOk result (λ s. s ≡ None → weight self.new ≡ weight self.old + act_weight act) }
+        ensures outcome { IfOk result (λ s.
+            (env : Environment) (bs : List (List ℕ)) → outcome_after s self.new env bs
+            ≡ rest self.old (outcome_at act (state_of self.old env bs))) }
+        ensures smaller { IfOk result (λ s.
+            s ≡ None → weight self.new ≡ weight self.old + act_weight act) }
     {
         match act {
             Act::Went => Ok(None),
@@ -160,7 +170,7 @@ impl WordExpansion {
         }
     }
 
-    /// The end of a frame that was taken off.
+    /// Ends the word of a frame that was taken off the stack.
     fn close_frame(
         &mut self,
         alloc: Global,
@@ -168,7 +178,9 @@ impl WordExpansion {
         frame: Frame,
     ) -> Result<Option<Step>, AllocError>
         requires { length (parts_of frame.parts) ≤ frame.at }
-        ensures outcome { IfOk result (λ s. (bs : List (List ℕ)) → outcome_after s self.new vars.new bs ≡ rest self.old (run_frame frame (state_of self.old vars.old bs))) }
+        ensures outcome { IfOk result (λ s.
+            (bs : List (List ℕ)) → outcome_after s self.new vars.new bs
+            ≡ rest self.old (run_frame frame (state_of self.old vars.old bs))) }
         ensures smaller { IfOk result (λ s. weight self.new ≡ weight self.old) }
     {
         let Some(fault) = self.end(alloc, vars, frame.purpose, frame.saved)? else {
@@ -177,7 +189,7 @@ impl WordExpansion {
         Ok(Some(Step::Fault(fault)))
     }
 
-    /// The next part of a frame that was taken off.
+    /// Begins the next part of a frame that was taken off the stack.
     fn take_part(
         &mut self,
         alloc: Global,
@@ -185,8 +197,11 @@ impl WordExpansion {
         frame: Frame,
     ) -> Result<Option<Step>, AllocError>
         requires { frame.at < length (parts_of frame.parts) }
-        ensures outcome { IfOk result (λ s. (bs : List (List ℕ)) → outcome_after s self.new vars.now bs ≡ rest self.old (run_frame frame (state_of self.old vars.now bs))) }
-        ensures smaller { IfOk result (λ s. s ≡ None → weight self.new < weight self.old + (1 + parts_weight (left_of frame))) }
+        ensures outcome { IfOk result (λ s.
+            (bs : List (List ℕ)) → outcome_after s self.new vars.now bs
+            ≡ rest self.old (run_frame frame (state_of self.old vars.now bs))) }
+        ensures smaller { IfOk result (λ s.
+            s ≡ None → weight self.new < weight self.old + (1 + parts_weight (left_of frame))) }
     {
         let place = frame.place();
         let act = begin(
@@ -209,7 +224,9 @@ impl WordExpansion {
 
     /// One turn: the next part of the innermost word, or its end, or the next word.
     fn turn(&mut self, alloc: Global, vars: &mut Vars) -> Result<Option<Step>, AllocError>
-        ensures outcome { IfOk result (λ s. (bs : List (List ℕ)) → outcome_after s self.new vars.new bs ≡ rest self.old (Done (state_of self.old vars.old bs))) }
+        ensures outcome { IfOk result (λ s.
+            (bs : List (List ℕ)) → outcome_after s self.new vars.new bs
+            ≡ rest self.old (Done (state_of self.old vars.old bs))) }
         ensures smaller { IfOk result (λ s. s ≡ None → weight self.new < weight self.old) }
     {
         let Some(frame) = self.frames.pop() else {
@@ -223,9 +240,11 @@ impl WordExpansion {
         Ok(step)
     }
 
-    /// On to the next answer that is needed, or the end.
+    /// Goes on to the next answer that is needed, or to the end.
     fn go(&mut self, alloc: Global, vars: &mut Vars) -> Result<Step, AllocError>
-        ensures { IfOk result (λ s. (bs : List (List ℕ)) → outcome_of s self.new vars.new bs ≡ rest self.old (Done (state_of self.old vars.old bs))) }
+        ensures { IfOk result (λ s.
+            (bs : List (List ℕ)) → outcome_of s self.new vars.new bs
+            ≡ rest self.old (Done (state_of self.old vars.old bs))) }
     {
         loop {
             if let Some(step) = self.turn(alloc, vars)? {
@@ -234,9 +253,9 @@ impl WordExpansion {
         }
     }
 
-    /// Begins the expansion of words, in order, and goes on until an answer is needed or it ends.
+    /// Begins the expansion of words, in order, and goes on until an answer is needed or it ends (XCU 2.6).
     ///
-    /// The only error is want of memory; what the variables are then is left open.
+    /// The only error is want of memory, after which the variables are left open.
     pub fn start(
         alloc: Global,
         words: Sequence<Wanted>,
@@ -256,16 +275,19 @@ impl WordExpansion {
         Ok((expansion, step))
     }
 
-    /// Goes on with the answer that is needed: what the program wrote. The variables have to be as they were then.
+    /// Goes on with the answer that is needed: what the program wrote. The variables have to be as they were
+    /// when the answer was asked for.
     ///
-    /// The only error is want of memory; what the expansion and the variables are then is left open.
+    /// The only error is want of memory, after which the expansion and the variables are left open.
     pub fn resume(
         &mut self,
         alloc: Global,
         answer: &[u8],
         vars: &mut Vars,
     ) -> Result<Step, AllocError>
-        ensures { (words : List Wanted) (before : Environment) (given : List (List ℕ)) → Waits self.old vars.old words before given → IfOk result (λ s. IsStep s self.new vars.new words before (given ++ answer.now ∷ [])) }
+        ensures { (words : List Wanted) (before : Environment) (given : List (List ℕ))
+            → Waits self.old vars.old words before given → IfOk result (λ s.
+            IsStep s self.new vars.new words before (given ++ answer.now ∷ [])) }
     {
         let items = answer_items(alloc, self.asked, answer)?;
         self.draft.append(&items)?;
@@ -273,7 +295,7 @@ impl WordExpansion {
         Ok(step)
     }
 
-    /// The words that are expanded, in their order.
+    /// The words that are expanded so far, in their order.
     pub fn words(&self) -> &[ExpandedWord]
         ensures { result.now ≡ self.now.done }
     {

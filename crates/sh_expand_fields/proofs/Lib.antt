@@ -1,6 +1,6 @@
 pub mod Between
 pub mod Finding
-pub mod Fronts
+pub mod Prefixes
 pub mod Leading
 pub mod Names
 pub mod Ones

@@ -4,7 +4,7 @@ use Rattle.std.specs.Prelude.{◌↔◌, Option, Some, option_map}
 use Rattle.std.specs.Borrow.{Bor}
 use Rattle.std.proofs.lemmas.List.{drop_all}
 use Rattle.sh_pattern.proofs.Backtrack.{drop_at}
-use Rattle.sh_pattern.specs.declared.mark.Mark.{Mark}
+use Rattle.sh_pattern.specs.declared.pattern_byte.PatternByte.{PatternByte}
 use Rattle.sh_expand_fields.specs.Pathnames.{IsOne}
 use Rattle.sh_expand_fields.specs.Walk.{Adds, Taken, TakenOne}
 use Rattle.sh_expand_fields.proofs.Ones.{Left, left_step, left_end}
@@ -21,13 +21,13 @@ next_texts names k d h = ap texts (drop_at names k d h)
 pub no_texts : (names : List Name) (k : ℕ) → length names ≤ k → texts (drop k names) ≡ []
 no_texts names k h = ap texts (drop_all k names h)
 
-pub taken_step : (before end : List ℕ) (c : List Mark) (names : List Name) (k : ℕ) (d : Name) (done next : List (List ℕ)) (all : List ℕ → Type 0) → k < length names → Left done (Taken before end c (texts (drop k names))) all → Adds done (TakenOne before end c (get_or names k d).now) next → Left next (Taken before end c (texts (drop (k + 1) names))) all
+pub taken_step : (before end : List ℕ) (c : List PatternByte) (names : List Name) (k : ℕ) (d : Name) (done next : List (List ℕ)) (all : List ℕ → Type 0) → k < length names → Left done (Taken before end c (texts (drop k names))) all → Adds done (TakenOne before end c (get_or names k d).now) next → Left next (Taken before end c (texts (drop (k + 1) names))) all
 taken_step before end c names k d done next all h l a =
     left_step done next (TakenOne before end c (get_or names k d).now) (Taken before end c (texts (drop (k + 1) names))) (Taken before end c (texts (drop k names))) all l
     (λ t. subst (λ ns. Taken before end c ns t ↔ (TakenOne before end c (get_or names k d).now t ⊎ Taken before end c (texts (drop (k + 1) names)) t)) (sym (next_texts names k d h)) (λ x. x, λ x. x))
     a
 
-pub taken_end : (before end : List ℕ) (c : List Mark) (names : List Name) (k : ℕ) (done : List (List ℕ)) (all : List ℕ → Type 0) → length names ≤ k → Left done (Taken before end c (texts (drop k names))) all → (t : List ℕ) → IsOne t done ↔ all t
+pub taken_end : (before end : List ℕ) (c : List PatternByte) (names : List Name) (k : ℕ) (done : List (List ℕ)) (all : List ℕ → Type 0) → length names ≤ k → Left done (Taken before end c (texts (drop k names))) all → (t : List ℕ) → IsOne t done ↔ all t
 taken_end before end c names k done all h l = left_end done (Taken before end c (texts (drop k names))) all l (λ t x. subst (λ ns. Taken before end c ns t) (no_texts names k h) x)
 
 pub is_here : (name : List ℕ) (names : List Name) (k : ℕ) (d : Name) → k < length names → name ≡ (get_or names k d).now → IsOne name (texts (drop k names))

@@ -8,7 +8,7 @@ use Rattle.std.specs.declared.cmp.Ordering.TheVariants.{Less, Equal, Greater}
 use Rattle.std.specs.Cmp.Lexicographic.{slice_cmp}
 use Rattle.std.proofs.lemmas.Cmp.{nat_list_cmp_total}
 use Rattle.std.proofs.lemmas.Map.Text.{is_eq-slice_cmp}
-use Rattle.sh_expand_fields.specs.Found.{insert, insert_by, sorted}
+use Rattle.sh_expand_fields.specs.Found.{insert, insert_by, sorted_paths}
 use Rattle.sh_expand_fields.specs.Pathnames.{IsOne}
 use Rattle.sh_expand_fields.proofs.Sorting.{same_bytes}
 
@@ -84,16 +84,16 @@ unfolding IsStrictlySortedBy
 inserted_rises s [] r = (tt, tt)
 inserted_rises s (x ∷ xs) r = rises_by (order s x) s x xs refl r (inserted_rises s xs (tail_rises x xs r))
 
-pub sorted_rises : (xs : List (List ℕ)) → Rises (sorted xs)
+pub sorted_rises : (xs : List (List ℕ)) → Rises (sorted_paths xs)
 unfolding IsStrictlySortedBy
 sorted_rises [] = tt
-sorted_rises (x ∷ xs) = inserted_rises x (sorted xs) (sorted_rises xs)
+sorted_rises (x ∷ xs) = inserted_rises x (sorted_paths xs) (sorted_rises xs)
 
-pub one_sorted : (xs : List (List ℕ)) (t : List ℕ) → IsOne t (sorted xs) ↔ IsOne t xs
+pub one_sorted : (xs : List (List ℕ)) (t : List ℕ) → IsOne t (sorted_paths xs) ↔ IsOne t xs
 one_sorted [] t = (λ h. h, λ h. h)
 one_sorted (x ∷ xs) t = (
-  λ h. ⊎_elim inl (λ k. inr ((one_sorted xs t).0 k)) ((one_inserted x (sorted xs) t).0 h),
-  λ h. (one_inserted x (sorted xs) t).1 (⊎_elim inl (λ k. inr ((one_sorted xs t).1 k)) h),
+  λ h. ⊎_elim inl (λ k. inr ((one_sorted xs t).0 k)) ((one_inserted x (sorted_paths xs) t).0 h),
+  λ h. (one_inserted x (sorted_paths xs) t).1 (⊎_elim inl (λ k. inr ((one_sorted xs t).1 k)) h),
 )
 
 -- ---- there is one such list

@@ -3,14 +3,14 @@ use Rattle.std.proofs.Common.{◌≡◌, ℕ, suc, ◌+◌, ◌-◌, ◌≤◌, 
 use Rattle.std.specs.Prelude.{option_map}
 use Rattle.std.specs.List.{slice_split, onto_first, position_from, position, list_any}
 use Rattle.std.proofs.lemmas.Iterator.Adapters.{position_from-zero}
-use Rattle.sh_pattern.specs.declared.mark.Mark.{Mark}
+use Rattle.sh_pattern.specs.declared.pattern_byte.PatternByte.{PatternByte}
 use Rattle.sh_expand_fields.specs.Pathnames.{components_of, is_pattern, is_slash}
-use Rattle.sh_expand_fields.specs.Walk.{parted}
+use Rattle.sh_expand_fields.specs.Walk.{pattern_split}
 
 abbrev Test : Type 0
-Test = Mark → Bool
+Test = PatternByte → Bool
 
-low : (t : Test) (n i : ℕ) (xs : List Mark) → position_from t n xs ≡ Some i → n ≤ i
+low : (t : Test) (n i : ℕ) (xs : List PatternByte) → position_from t n xs ≡ Some i → n ≤ i
 low t n i [] h = cc
 low t n i (x ∷ xs) h =
     elim (t x) as (λ b. cond b (Some n) (position_from t (n + 1) xs) ≡ Some i → n ≤ i) [
@@ -18,7 +18,7 @@ low t n i (x ∷ xs) h =
       | false ↦ λ k. let l = low t (n + 1) i xs k in omega arith
     ] h
 
-first_from : (t : Test) (n i : ℕ) (xs : List Mark) → position_from t n xs ≡ Some i → slice_split t xs ≡ take (i - n) xs ∷ slice_split t (drop (suc (i - n)) xs)
+first_from : (t : Test) (n i : ℕ) (xs : List PatternByte) → position_from t n xs ≡ Some i → slice_split t xs ≡ take (i - n) xs ∷ slice_split t (drop (suc (i - n)) xs)
 first_from t n i [] h = cc
 first_from t n i (x ∷ xs) h =
     elim (t x) as (λ b. cond b (Some n) (position_from t (n + 1) xs) ≡ Some i → cond b ([] ∷ slice_split t xs) (onto_first x (slice_split t xs)) ≡ take (i - n) (x ∷ xs) ∷ slice_split t (drop (suc (i - n)) (x ∷ xs))) [
@@ -29,10 +29,10 @@ first_from t n i (x ∷ xs) h =
           rw z (ap (onto_first x) (first_from t (n + 1) i xs k))
     ] h
 
-abbrev split_at : List Mark → ℕ → List Mark × List Mark
+abbrev split_at : List PatternByte → ℕ → List PatternByte × List PatternByte
 split_at xs i = (take i xs, drop (i + 1) xs)
 
-found_at : (o : Option ℕ) (xs : List Mark) (p : List Mark × List Mark) → Some p ≡ option_map (split_at xs) o → (position_from is_slash 0 xs ≡ o) → components_of xs ≡ p.0 ∷ components_of p.1
+found_at : (o : Option ℕ) (xs : List PatternByte) (p : List PatternByte × List PatternByte) → Some p ≡ option_map (split_at xs) o → (position_from is_slash 0 xs ≡ o) → components_of xs ≡ p.0 ∷ components_of p.1
 found_at None xs p h e = cc
 found_at (Some i) xs p h e =
     let q : p ≡ (take i xs, drop (i + 1) xs) = cc in
@@ -41,13 +41,13 @@ found_at (Some i) xs p h e =
     first_from is_slash 0 i xs e
     ∙ ap (λ k. take k xs ∷ components_of (drop (suc (i - 0)) xs)) none
     ∙ ap (λ k. take i xs ∷ components_of (drop k xs)) one
-    ∙ ap (λ (r : List Mark × List Mark). r.0 ∷ components_of r.1) (sym q)
+    ∙ ap (λ (r : List PatternByte × List PatternByte). r.0 ∷ components_of r.1) (sym q)
 
 -- the first component ends at the first slash
-pub first_part : (xs : List Mark) (p : List Mark × List Mark) → Some p ≡ parted xs → components_of xs ≡ p.0 ∷ components_of p.1
+pub first_part : (xs : List PatternByte) (p : List PatternByte × List PatternByte) → Some p ≡ pattern_split xs → components_of xs ≡ p.0 ∷ components_of p.1
 first_part xs p h = found_at (position is_slash xs) xs p h (sym (position_from-zero is_slash xs))
 
-only_from : (t : Test) (n : ℕ) (xs : List Mark) → position_from t n xs ≡ None → slice_split t xs ≡ xs ∷ []
+only_from : (t : Test) (n : ℕ) (xs : List PatternByte) → position_from t n xs ≡ None → slice_split t xs ≡ xs ∷ []
 only_from t n [] h = refl
 only_from t n (x ∷ xs) h =
     elim (t x) as (λ b. cond b (Some n) (position_from t (n + 1) xs) ≡ None → cond b ([] ∷ slice_split t xs) (onto_first x (slice_split t xs)) ≡ (x ∷ xs) ∷ []) [
@@ -55,21 +55,21 @@ only_from t n (x ∷ xs) h =
       | false ↦ λ k. ap (onto_first x) (only_from t (n + 1) xs k)
     ] h
 
-nowhere : (o : Option ℕ) (xs : List Mark) → None ≡ option_map (split_at xs) o → (position_from is_slash 0 xs ≡ o) → components_of xs ≡ xs ∷ []
+nowhere : (o : Option ℕ) (xs : List PatternByte) → None ≡ option_map (split_at xs) o → (position_from is_slash 0 xs ≡ o) → components_of xs ≡ xs ∷ []
 nowhere None xs h e = only_from is_slash 0 xs e
 nowhere (Some i) xs h e = cc
 
 -- without a slash there is one component
-pub only_part : (xs : List Mark) → None ≡ parted xs → components_of xs ≡ xs ∷ []
+pub only_part : (xs : List PatternByte) → None ≡ pattern_split xs → components_of xs ≡ xs ∷ []
 only_part xs h = nowhere (position is_slash xs) xs h (sym (position_from-zero is_slash xs))
 
-pub pattern_here : (xs : List Mark) (p : List Mark × List Mark) → Some p ≡ parted xs → is_pattern p.0 ≡ true → true ≡ list_any is_pattern (components_of xs)
+pub pattern_here : (xs : List PatternByte) (p : List PatternByte × List PatternByte) → Some p ≡ pattern_split xs → is_pattern p.0 ≡ true → true ≡ list_any is_pattern (components_of xs)
 pattern_here xs p h e = rw (first_part xs p h) (rw e refl)
 
-pub pattern_behind : (xs : List Mark) (p : List Mark × List Mark) → Some p ≡ parted xs → is_pattern p.0 ≡ false → list_any is_pattern (components_of p.1) ≡ list_any is_pattern (components_of xs)
+pub pattern_behind : (xs : List PatternByte) (p : List PatternByte × List PatternByte) → Some p ≡ pattern_split xs → is_pattern p.0 ≡ false → list_any is_pattern (components_of p.1) ≡ list_any is_pattern (components_of xs)
 pattern_behind xs p h e = rw (first_part xs p h) (rw e refl)
 
-pub only_pattern : (xs : List Mark) → None ≡ parted xs → is_pattern xs ≡ list_any is_pattern (components_of xs)
+pub only_pattern : (xs : List PatternByte) → None ≡ pattern_split xs → is_pattern xs ≡ list_any is_pattern (components_of xs)
 only_pattern xs h = rw (only_part xs h) (or_false (is_pattern xs))
   where
     or_false : (b : Bool) → b ≡ (b || false)
@@ -77,11 +77,11 @@ only_pattern xs h = rw (only_part xs h) (or_false (is_pattern xs))
     or_false false = refl
 
 -- there is always a component
-pub some_part : (xs : List Mark) → (h : List Mark) × (hs : List (List Mark)) × (components_of xs ≡ h ∷ hs)
+pub some_part : (xs : List PatternByte) → (h : List PatternByte) × (hs : List (List PatternByte)) × (components_of xs ≡ h ∷ hs)
 some_part [] = ([], [], refl)
 some_part (x ∷ xs) =
     let f = some_part xs in
-    elim (is_slash x) as (λ b. (h : List Mark) × (hs : List (List Mark)) × (cond b ([] ∷ components_of xs) (onto_first x (components_of xs)) ≡ h ∷ hs)) [
+    elim (is_slash x) as (λ b. (h : List PatternByte) × (hs : List (List PatternByte)) × (cond b ([] ∷ components_of xs) (onto_first x (components_of xs)) ≡ h ∷ hs)) [
       | true ↦ ([], components_of xs, refl)
       | false ↦ (x ∷ f.0, f.1, ap (onto_first x) f.2)
     ]

@@ -1,4 +1,5 @@
--- What an item is to field splitting (XCU 2.6.5): only bytes that an expansion gave, and that are in IFS, delimit.
+-- The class of an item in field splitting (XCU 2.6.5): only bytes that an expansion gave, and that are in
+-- IFS, delimit.
 use Rattle.std.specs.Prelude.{ℕ, List, [], ◌∷◌, Bool, true, false, ◌==◌, ◌||◌, Option, Some, None}
 use Rattle.std.specs.List.{list_any}
 use Rattle.sh_base.specs.Separators.{default_separators}

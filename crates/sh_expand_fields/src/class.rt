@@ -24,14 +24,14 @@ fn is_white_space(byte: u8) -> bool
     byte == b' ' || byte == b'\t' || byte == b'\n'
 }
 
-/// Whether a byte is one of IFS.
+/// Whether a byte is in IFS.
 fn is_in(ifs: &[u8], byte: u8) -> bool
     ensures { result ≡ is_in ifs.now byte }
 {
     ifs.iter().any(|other| *other == byte)
 }
 
-/// What a byte is that an expansion gave.
+/// The class of a byte that an expansion gave.
 fn expanded_class(delimits: bool, white_space: bool, byte: u8) -> Class
     ensures { result ≡ expanded_class delimits white_space byte }
 {
@@ -46,7 +46,7 @@ fn expanded_class(delimits: bool, white_space: bool, byte: u8) -> Class
 }
 
 impl Class {
-    /// What an item is, by the bytes of IFS.
+    /// The class of an item, by the bytes of IFS.
     pub(crate) fn of(ifs: &[u8], item: Item) -> Class
         ensures { result ≡ class_of ifs.now item }
     {

@@ -6,12 +6,14 @@
 pub enum Item {
     /// An unquoted byte of the word itself. It never ends a field, and may be a byte of a pattern's syntax.
     Literal(u8),
-    /// A quoted byte, also one of an expansion in double quotes. It stands for itself.
+    /// A quoted byte, also one of an expansion in double quotes. It never ends a field, and is literal in a
+    /// pattern.
     Quoted(u8),
     /// An unquoted byte that an expansion gave. It may end a field, and may be a byte of a pattern's syntax.
     Expanded(u8),
-    /// A quoted text, as `""`, or one parameter of `"$@"`: a field is there also where it is empty.
+    /// The start of a quoted text such as `""`, or of a parameter of `"$@"`: it makes a field even where that
+    /// is empty.
     Null,
-    /// The end of one parameter of `$@` or `$*` before the next one.
+    /// The boundary between two parameters of `$@` or `$*`.
     Break,
 }

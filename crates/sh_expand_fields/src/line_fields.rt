@@ -5,10 +5,10 @@ ghost use Rattle.sh_expand_fields.specs.Lines.{before_white, behind, behind_deli
 
 use sh_base::NoMemory;
 use sh_base::sequence::{Sequence, Text};
-use sh_pattern::Mark;
+use sh_pattern::PatternByte;
 use std::alloc::Global;
 
-/// Whether a byte is one of IFS.
+/// Whether a byte is in IFS.
 fn is_in(ifs: &[u8], byte: u8) -> bool
     ensures { result ≡ list_any (λ b. b == byte) ifs.now }
 {
@@ -22,22 +22,22 @@ fn is_space(byte: u8) -> bool
     byte == b' ' || byte == b'\t' || byte == b'\n'
 }
 
-/// Whether a byte delimits.
-fn delimits(ifs: &[u8], mark: Mark) -> bool
+/// Whether a byte of a line delimits.
+fn delimits(ifs: &[u8], mark: PatternByte) -> bool
     ensures { result ≡ delimits ifs.now mark }
 {
     !mark.literal && is_in(ifs, mark.byte)
 }
 
-/// Whether a byte is IFS white space.
-fn is_white(ifs: &[u8], mark: Mark) -> bool
+/// Whether a byte of a line is IFS white space that delimits.
+fn is_white(ifs: &[u8], mark: PatternByte) -> bool
     ensures { result ≡ is_white ifs.now mark }
 {
     delimits(ifs, mark) && is_space(mark.byte)
 }
 
-/// The line behind its white space.
-pub(crate) fn behind_white<'a>(ifs: &[u8], line: &'a [Mark]) -> &'a [Mark]
+/// The line after the white space at its beginning.
+pub(crate) fn behind_white<'a>(ifs: &[u8], line: &'a [PatternByte]) -> &'a [PatternByte]
     ensures { result.now ≡ behind_white ifs.now line.now }
 {
     let mut rest = line;
@@ -51,21 +51,21 @@ pub(crate) fn behind_white<'a>(ifs: &[u8], line: &'a [Mark]) -> &'a [Mark]
 }
 
 /// The line before the white space at its end.
-pub(crate) fn before_white<'a>(ifs: &[u8], line: &'a [Mark]) -> &'a [Mark]
+pub(crate) fn before_white<'a>(ifs: &[u8], line: &'a [PatternByte]) -> &'a [PatternByte]
     ensures { result.now ≡ before_white ifs.now line.now }
 {
     let mut rest = line;
-    'marks: while let Some((mark, front)) = rest.split_last() {
+    'marks: while let Some((mark, prefix)) = rest.split_last() {
         if !is_white(ifs, *mark) {
             return rest;
         }
-        rest = front;
+        rest = prefix;
     }
     rest
 }
 
-/// The line behind the field at its front.
-fn behind_field<'a>(ifs: &[u8], line: &'a [Mark]) -> &'a [Mark]
+/// The line after the field that it begins with.
+fn behind_field<'a>(ifs: &[u8], line: &'a [PatternByte]) -> &'a [PatternByte]
     ensures { result.now ≡ behind_field ifs.now line.now }
 {
     let mut rest = line;
@@ -78,8 +78,8 @@ fn behind_field<'a>(ifs: &[u8], line: &'a [Mark]) -> &'a [Mark]
     rest
 }
 
-/// The line behind a delimiter that isn't white space, and the white space behind that.
-fn behind_delimiter<'a>(ifs: &[u8], line: &'a [Mark]) -> &'a [Mark]
+/// The line after a delimiter at its beginning and the white space after that; the line itself without one.
+fn behind_delimiter<'a>(ifs: &[u8], line: &'a [PatternByte]) -> &'a [PatternByte]
     ensures { result.now ≡ behind_delimiter ifs.now line.now }
 {
     match line.split_first() {
@@ -93,16 +93,16 @@ fn behind_delimiter<'a>(ifs: &[u8], line: &'a [Mark]) -> &'a [Mark]
     }
 }
 
-/// The line behind the field at its front and what delimits that.
+/// The line after the field that it begins with, and after what delimits that field.
 #[tactic(auto, unfolding(crate::specs::Lines::behind))]
-pub(crate) fn behind<'a>(ifs: &[u8], line: &'a [Mark]) -> &'a [Mark]
+pub(crate) fn behind<'a>(ifs: &[u8], line: &'a [PatternByte]) -> &'a [PatternByte]
     ensures { result.now ≡ behind ifs.now line.now }
 {
     behind_delimiter(ifs, behind_white(ifs, behind_field(ifs, line)))
 }
 
-/// The field at the front of a line.
-pub(crate) fn field(alloc: Global, ifs: &[u8], line: &[Mark]) -> Result<Text, NoMemory>
+/// The field that a line begins with. The only error is want of memory.
+pub(crate) fn field(alloc: Global, ifs: &[u8], line: &[PatternByte]) -> Result<Text, NoMemory>
     ensures { IfOk result (λ text. text ≡ field ifs.now line.now) }
 {
     let mut text = Sequence::new(alloc);
@@ -118,7 +118,7 @@ pub(crate) fn field(alloc: Global, ifs: &[u8], line: &[Mark]) -> Result<Text, No
 }
 
 /// The bytes of a part of a line.
-pub(crate) fn bytes_of(alloc: Global, marks: &[Mark]) -> Result<Text, NoMemory>
+pub(crate) fn bytes_of(alloc: Global, marks: &[PatternByte]) -> Result<Text, NoMemory>
     ensures { IfOk result (λ text. text ≡ bytes_of marks.now) }
 {
     let mut text = Sequence::new(alloc);

@@ -11,23 +11,25 @@ use crate::component::{bytes_of, has_pattern, is_always_there, is_pattern, split
 use crate::item::Item;
 use crate::text::{pattern_of, remove_quotes};
 use sh_files::{FileFault, Files};
-use sh_pattern::Mark;
+use sh_pattern::PatternByte;
 use std::alloc::{AllocError, Global};
 
-/// A front of a path as a path of its own: an empty one is the working directory.
+/// A prefix of a path as a path of its own. An empty prefix is the working directory.
 fn or_here(before: &[u8]) -> &[u8]
     ensures { result.now ≡ or_here before.now }
 {
     if before.is_empty() { b"." } else { before }
 }
 
-/// The names in the directory that a front of a path names, if there is one.
+/// The names in the directory that a prefix of a path names; `None` where it can't be listed.
 fn names_behind<'a>(
     files: &'a Files,
     directory: &[u8],
     before: &[u8],
 ) -> Result<Option<Vec<&'a [u8]>>, AllocError>
-    ensures { IfOk result (λ found. option_map (λ names. map (λ (name : Bor (List ℕ)). name.now) names.items) found ≡ names_behind files.now directory.now before.now) }
+    ensures { IfOk result (λ found.
+        option_map (λ names. map (λ (name : Bor (List ℕ)). name.now) names.items) found
+        ≡ names_behind files.now directory.now before.now) }
 {
     match files.list(directory, or_here(before)) {
         Ok(names) => Ok(Some(names)),
@@ -36,7 +38,7 @@ fn names_behind<'a>(
     }
 }
 
-/// Adds a path.
+/// Adds the path that is `before`, `name` and `end` one after another.
 fn add_path(
     alloc: Global,
     paths: &mut Vec<Vec<u8>>,
@@ -44,7 +46,9 @@ fn add_path(
     name: &[u8],
     end: &[u8],
 ) -> Result<(), AllocError>
-    ensures { OnOk result (map (λ path. path.items) paths.new.items ≡ map (λ path. path.items) paths.old.items ++ (before.now ++ (name.now ++ end.now)) ∷ []) }
+    ensures { OnOk result
+        (map (λ path. path.items) paths.new.items ≡ map (λ path. path.items) paths.old.items
+        ++ (before.now ++ (name.now ++ end.now)) ∷ []) }
 {
     let mut path = Vec::from_slice(alloc, before)?;
     path.extend_from_slice(name)?;
@@ -59,10 +63,13 @@ fn add_if_taken(
     paths: &mut Vec<Vec<u8>>,
     before: &[u8],
     end: &[u8],
-    component: &[Mark],
+    component: &[PatternByte],
     name: &[u8],
 ) -> Result<(), AllocError>
-    ensures { OnOk result (Adds (map (λ path. path.items) paths.old.items) (TakenOne before.now end.now component.now name.now) (map (λ path. path.items) paths.new.items)) }
+    ensures { OnOk result
+        (Adds (map (λ path. path.items) paths.old.items)
+        (TakenOne before.now end.now component.now name.now)
+        (map (λ path. path.items) paths.new.items)) }
 {
     if takes(component, name) {
         add_path(alloc, paths, before, name, end)?;
@@ -76,10 +83,14 @@ fn add_taken(
     paths: &mut Vec<Vec<u8>>,
     before: &[u8],
     end: &[u8],
-    component: &[Mark],
+    component: &[PatternByte],
     names: &[&[u8]],
 ) -> Result<(), AllocError>
-    ensures { OnOk result (Adds (map (λ path. path.items) paths.old.items) (Taken before.now end.now component.now (map (λ (name : Bor (List ℕ)). name.now) names.now)) (map (λ path. path.items) paths.new.items)) }
+    ensures { OnOk result
+        (Adds (map (λ path. path.items) paths.old.items)
+        (Taken before.now end.now component.now
+        (map (λ (name : Bor (List ℕ)). name.now) names.now))
+        (map (λ path. path.items) paths.new.items)) }
 {
     'names: for name in names {
         add_if_taken(alloc, paths, before, end, component, name)?;
@@ -87,26 +98,29 @@ fn add_taken(
     Ok(())
 }
 
-/// Adds the fronts behind a front that a component leads to, each with a slash at its end.
-fn add_fronts(
+/// Adds the prefixes that a component leads to after the prefix `before`, each with a slash at its end.
+fn add_prefixes(
     alloc: Global,
     files: &Files,
     directory: &[u8],
-    fronts: &mut Vec<Vec<u8>>,
+    prefixes: &mut Vec<Vec<u8>>,
     before: &[u8],
-    component: &[Mark],
+    component: &[PatternByte],
 ) -> Result<(), AllocError>
-    ensures { OnOk result (Adds (map (λ path. path.items) fronts.old.items) (Leads false files.now directory.now before.now component.now) (map (λ path. path.items) fronts.new.items)) }
+    ensures { OnOk result
+        (Adds (map (λ path. path.items) prefixes.old.items)
+        (Leads false files.now directory.now before.now component.now)
+        (map (λ path. path.items) prefixes.new.items)) }
 {
     if !is_pattern(component) {
         let name = bytes_of(alloc, component)?;
-        add_path(alloc, fronts, before, &name, b"/")?;
+        add_path(alloc, prefixes, before, &name, b"/")?;
         return Ok(());
     }
     let Some(names) = names_behind(files, directory, before)? else {
         return Ok(());
     };
-    add_taken(alloc, fronts, before, b"/", component, &names)?;
+    add_taken(alloc, prefixes, before, b"/", component, &names)?;
     Ok(())
 }
 
@@ -124,21 +138,25 @@ fn is_one(names: &[&[u8]], name: &[u8]) -> bool
 
 /// Whether a directory with these names has a name.
 fn has_name(names: &[&[u8]], name: &[u8]) -> bool
-    ensures { IsTrue result ↔ IsIn (Some (map (λ (name : Bor (List ℕ)). name.now) names.now)) name.now }
+    ensures { IsTrue result ↔ IsIn (Some (map (λ (name : Bor (List ℕ)). name.now) names.now))
+        name.now }
 {
     is_always_there(name) || is_one(names, name)
 }
 
-/// Adds the paths behind a front that the last component leads to.
+/// Adds the paths that the last component leads to after the prefix `before`.
 fn add_last(
     alloc: Global,
     files: &Files,
     directory: &[u8],
     paths: &mut Vec<Vec<u8>>,
     before: &[u8],
-    component: &[Mark],
+    component: &[PatternByte],
 ) -> Result<(), AllocError>
-    ensures { OnOk result (Adds (map (λ path. path.items) paths.old.items) (Leads true files.now directory.now before.now component.now) (map (λ path. path.items) paths.new.items)) }
+    ensures { OnOk result
+        (Adds (map (λ path. path.items) paths.old.items)
+        (Leads true files.now directory.now before.now component.now)
+        (map (λ path. path.items) paths.new.items)) }
 {
     let Some(names) = names_behind(files, directory, before)? else {
         return Ok(());
@@ -155,7 +173,7 @@ fn add_last(
     Ok(())
 }
 
-/// Adds what a component leads to behind a front.
+/// Adds what a component leads to after the prefix `before`.
 fn add_behind(
     last: bool,
     alloc: Global,
@@ -163,33 +181,38 @@ fn add_behind(
     directory: &[u8],
     paths: &mut Vec<Vec<u8>>,
     before: &[u8],
-    component: &[Mark],
+    component: &[PatternByte],
 ) -> Result<(), AllocError>
-    ensures { OnOk result (Adds (map (λ path. path.items) paths.old.items) (Leads last files.now directory.now before.now component.now) (map (λ path. path.items) paths.new.items)) }
+    ensures { OnOk result
+        (Adds (map (λ path. path.items) paths.old.items)
+        (Leads last files.now directory.now before.now component.now)
+        (map (λ path. path.items) paths.new.items)) }
 {
     if last {
         add_last(alloc, files, directory, paths, before, component)?;
         return Ok(());
     }
-    add_fronts(alloc, files, directory, paths, before, component)?;
+    add_prefixes(alloc, files, directory, paths, before, component)?;
     Ok(())
 }
 
-/// What a component leads to behind each front.
+/// What a component leads to after each of the prefixes.
 fn lead(
     last: bool,
     alloc: Global,
     files: &Files,
     directory: &[u8],
-    fronts: &[Vec<u8>],
-    component: &[Mark],
+    prefixes: &[Vec<u8>],
+    component: &[PatternByte],
 ) -> Result<Vec<Vec<u8>>, AllocError>
-    ensures { IfOk result (λ paths. Adds [] (LeadsFrom last files.now directory.now (map (λ path. path.items) fronts.now) component.now) (map (λ path. path.items) paths.items)) }
+    ensures { IfOk result (λ paths.
+        Adds [] (LeadsFrom last files.now directory.now (map (λ path. path.items) prefixes.now)
+        component.now) (map (λ path. path.items) paths.items)) }
 {
     let mut paths = Vec::new(alloc);
-    let mut rest = fronts;
-    'fronts: while let Some((front, behind)) = rest.split_first() {
-        add_behind(last, alloc, files, directory, &mut paths, front, component)?;
+    let mut rest = prefixes;
+    'prefixes: while let Some((prefix, behind)) = rest.split_first() {
+        add_behind(last, alloc, files, directory, &mut paths, prefix, component)?;
         rest = behind;
     }
     Ok(paths)
@@ -200,25 +223,29 @@ fn find(
     alloc: Global,
     files: &Files,
     directory: &[u8],
-    pattern: &[Mark],
+    pattern: &[PatternByte],
 ) -> Result<Vec<Vec<u8>>, AllocError>
-    ensures { IfOk result (λ paths. (t : List ℕ) → IsOne t (map (λ path. path.items) paths.items) ↔ IsFound files.now directory.now pattern.now t) }
+    ensures { IfOk result (λ paths.
+        (t : List ℕ) → IsOne t (map (λ path. path.items) paths.items)
+        ↔ IsFound files.now directory.now pattern.now t) }
 {
-    let mut fronts = Vec::new(alloc);
-    fronts.push(Vec::new(alloc))?;
+    let mut prefixes = Vec::new(alloc);
+    prefixes.push(Vec::new(alloc))?;
     let mut rest = pattern;
     'components: while let Some((component, behind)) = split_slash(rest) {
-        fronts = lead(false, alloc, files, directory, &fronts, component)?;
+        prefixes = lead(false, alloc, files, directory, &prefixes, component)?;
         rest = behind;
     }
-    let paths = lead(true, alloc, files, directory, &fronts, rest)?;
+    let paths = lead(true, alloc, files, directory, &prefixes, rest)?;
     Ok(paths)
 }
 
 /// Puts paths in the order of their bytes, each once.
 fn sort(paths: &mut Vec<Vec<u8>>)
-    ensures rising { IsStrictlySortedBy (slice_cmp nat_cmp) (map (λ path. path.items) paths.new.items) }
-    ensures same { (t : List ℕ) → IsOne t (map (λ path. path.items) paths.new.items) ↔ IsOne t (map (λ path. path.items) paths.old.items) }
+    ensures rising { IsStrictlySortedBy (slice_cmp nat_cmp)
+        (map (λ path. path.items) paths.new.items) }
+    ensures same { (t : List ℕ) → IsOne t (map (λ path. path.items) paths.new.items)
+        ↔ IsOne t (map (λ path. path.items) paths.old.items) }
 {
     paths.sort_unstable();
     paths.dedup();
@@ -229,10 +256,13 @@ fn find_in_order(
     alloc: Global,
     files: &Files,
     directory: &[u8],
-    pattern: &[Mark],
+    pattern: &[PatternByte],
 ) -> Result<Vec<Vec<u8>>, AllocError>
-    ensures rising { IfOk result (λ paths. IsStrictlySortedBy (slice_cmp nat_cmp) (map (λ path. path.items) paths.items)) }
-    ensures found { IfOk result (λ paths. (t : List ℕ) → IsOne t (map (λ path. path.items) paths.items) ↔ IsMatched files.now directory.now pattern.now t) }
+    ensures rising { IfOk result (λ paths.
+        IsStrictlySortedBy (slice_cmp nat_cmp) (map (λ path. path.items) paths.items)) }
+    ensures found { IfOk result (λ paths.
+        (t : List ℕ) → IsOne t (map (λ path. path.items) paths.items)
+        ↔ IsMatched files.now directory.now pattern.now t) }
 {
     if !has_pattern(pattern) {
         return Ok(Vec::new(alloc));
@@ -242,20 +272,22 @@ fn find_in_order(
     Ok(paths)
 }
 
-/// The paths that a field stands for (XCU 2.6.6, 2.14.3), in the order of their bytes; where there is none, or no
-/// component of the field is a pattern, the field itself without its quotes.
+/// The paths that match a field (XCU 2.6.6, 2.14.3), each once, in the order of their bytes. Where there is
+/// none, or no component of the field is a pattern, it is the field itself without its quotes.
 ///
-/// A path that doesn't begin with a slash is one from `directory`. Slashes stand in each path as they stand in the field,
-/// and a component that is no pattern stands there without its quotes. A pattern takes neither dot nor dot-dot, and a name
-/// that begins with a period only where it does so itself. Behind a last slash there is a directory. Only directories that
-/// the field names are looked at. The only error is want of memory.
+/// A path that doesn't begin with a slash starts at `directory`. Each path has the slashes of the field, and
+/// the components that are no pattern, without their quotes. A pattern matches neither dot nor dot-dot. It
+/// matches a name that begins with a period only where the pattern begins with one too. What is before a
+/// slash at the end is a directory. Only directories that the field names are looked at; no clause says so.
+/// The only error is want of memory.
 pub fn expand_pathnames(
     alloc: Global,
     files: &Files,
     directory: &[u8],
     field: &[Item],
 ) -> Result<Vec<Vec<u8>>, AllocError>
-    ensures { IfOk result (λ paths. IsExpanded files.now directory.now field.now (map (λ path. path.items) paths.items)) }
+    ensures { IfOk result (λ paths.
+        IsExpanded files.now directory.now field.now (map (λ path. path.items) paths.items)) }
 {
     let pattern = pattern_of(alloc, field)?;
     let mut paths = find_in_order(alloc, files, directory, &pattern)?;

@@ -14,7 +14,7 @@ pub enum Separators<'a> {
 }
 
 impl<'a> Separators<'a> {
-    /// The bytes of IFS, its default where it is unset.
+    /// The bytes of IFS, or its default where it is unset.
     pub(crate) fn bytes(self) -> &'a [u8]
         ensures { result.now ≡ bytes_of self.entry }
     {

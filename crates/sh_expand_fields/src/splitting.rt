@@ -1,8 +1,8 @@
 //! Field splitting, in one pass.
 ghost use Rattle.std.specs.Prelude.{◌≡◌, ◌++◌, ◌∷◌, List, map, IfOk, OnOk, []};
 ghost use Rattle.sh_expand_fields.specs.Classes.{bytes_of, class_of};
-ghost use Rattle.sh_expand_fields.specs.Splitting.{split};
-ghost use Rattle.sh_expand_fields.specs.Scan.{closed, scan};
+ghost use Rattle.sh_expand_fields.specs.Splitting.{field_splitting};
+ghost use Rattle.sh_expand_fields.specs.Scan.{field_or_none, scan};
 
 use crate::class::Class;
 use crate::item::Item;
@@ -10,10 +10,10 @@ use crate::separators::Separators;
 use smallvec::SmallVec;
 use std::alloc::{AllocError, Global};
 
-/// Fields, each with its items; up to four lie in the value itself.
+/// Fields, each with its items. Up to four are stored in the value itself.
 pub type Fields = SmallVec<Vec<Item>, 4>;
 
-/// The fields so far, the field that has begun, and whether the piece since the last hard delimiter has a field.
+/// The fields so far, the field that has begun, and whether there is a field since the last hard delimiter.
 #[derive(Drop)]
 pub(crate) struct Splitter {
     fields: Fields,
@@ -26,7 +26,8 @@ impl Splitter {
 
     /// Ends the field that has begun.
     fn close(&mut self, alloc: Global) -> Result<(), AllocError>
-        ensures fields { OnOk result (fields_of self.new ≡ fields_of self.old ++ self.old.current.items ∷ []) }
+        ensures fields { OnOk result
+            (fields_of self.new ≡ fields_of self.old ++ self.old.current.items ∷ []) }
         ensures current { OnOk result (self.new.current.items ≡ []) }
         ensures any { self.new.any ≡ self.old.any }
     {
@@ -35,9 +36,11 @@ impl Splitter {
         Ok(())
     }
 
-    /// The fields, with the one that has begun.
+    /// The fields, with the one that has begun, if one has.
     fn finish(mut self, alloc: Global) -> Result<Fields, AllocError>
-        ensures { IfOk result (λ fields. map (λ field. field.items) fields.items ≡ fields_of self ++ closed self.current.items) }
+        ensures { IfOk result (λ fields.
+            map (λ field. field.items) fields.items ≡ fields_of self
+            ++ field_or_none self.current.items) }
     {
         if self.current.is_empty() {
             return Ok(self.fields);
@@ -46,9 +49,11 @@ impl Splitter {
         Ok(self.fields)
     }
 
-    /// Takes one more item.
+    /// Takes one more item, by its class.
     fn take(&mut self, alloc: Global, class: Class) -> Result<(), AllocError>
-        ensures { OnOk result ((rest : List Class) → fields_of self.new ++ scan self.new.any self.new.current.items rest ≡ fields_of self.old ++ scan self.old.any self.old.current.items (class ∷ rest)) }
+        ensures { OnOk result
+            ((rest : List Class) → fields_of self.new ++ scan self.new.any self.new.current.items
+            rest ≡ fields_of self.old ++ scan self.old.any self.old.current.items (class ∷ rest)) }
     {
         match class {
             Class::Keep(item) => {
@@ -80,15 +85,17 @@ impl Splitter {
     }
 }
 
-/// The fields of an expanded word (XCU 2.6.5), each item in one of them but those that delimit.
+/// The fields of an expanded word (XCU 2.6.5). Each item that doesn't delimit is in one of them.
 ///
-/// A byte that an expansion gave and that is one of IFS ends a field: white space joins with what delimits beside it,
-/// and gives no field at the ends. Behind a last delimiter there is no further field. What stands on the two sides of a
-/// [`Item::Break`] is split by itself, and gives no field where it is empty. The time is linear in the number of items.
-/// The only error is want of memory.
+/// A byte that an expansion gave and that is in IFS ends a field. IFS white space belongs to a delimiter
+/// beside it, and gives no field at the ends. After the last delimiter there is no further field. What is
+/// before and after an [`Item::Break`] is split separately, and gives no field where it is empty. The time is
+/// linear in the number of items; no clause says so. The only error is want of memory.
 #[tactic(auto, using(crate::proofs::Scans::scan_splits))]
 pub fn split(alloc: Global, separators: Separators, items: &[Item]) -> Result<Fields, AllocError>
-    ensures { IfOk result (λ fields. map (λ field. field.items) fields.items ≡ split (map (class_of (bytes_of separators.entry)) items.now)) }
+    ensures { IfOk result (λ fields.
+        map (λ field. field.items) fields.items ≡ field_splitting
+        (map (class_of (bytes_of separators.entry)) items.now)) }
 {
     let ifs = separators.bytes();
     let mut splitter = Splitter {

@@ -3,10 +3,10 @@ ghost use Rattle.std.specs.Prelude.{◌≡◌, ◌++◌, ◌∷◌, List, IfOk, 
 ghost use Rattle.sh_expand_fields.specs.Text.{mark, marks, marks_of, text_of};
 
 use crate::item::Item;
-use sh_pattern::Mark;
+use sh_pattern::PatternByte;
 use std::alloc::{AllocError, Global};
 
-/// The byte of an item, if it is one.
+/// The byte of an item, if it has one.
 fn byte_of(item: Item) -> Option<u8>
     ensures { (rest : List Item) → text_of (item ∷ rest) ≡ option_to_list result ++ text_of rest }
 {
@@ -34,27 +34,31 @@ pub fn remove_quotes(alloc: Global, field: &[Item]) -> Result<Vec<u8>, AllocErro
     Ok(text)
 }
 
-/// The marks so far, and whether a backslash that an expansion gave stands right before.
+/// The bytes of the pattern so far, and whether a backslash that an expansion gave comes right before the
+/// next.
 #[derive(Drop)]
 pub(crate) struct Marker {
-    marks: Vec<Mark>,
+    marks: Vec<PatternByte>,
     escaped: bool,
 }
 
 impl Marker {
-    /// Adds a mark.
+    /// Adds a byte of the pattern.
     fn add(&mut self, byte: u8, literal: bool) -> Result<(), AllocError>
-        ensures marks { OnOk result (self.new.marks.items ≡ self.old.marks.items ++ mark byte literal ∷ []) }
+        ensures marks { OnOk result
+            (self.new.marks.items ≡ self.old.marks.items ++ mark byte literal ∷ []) }
         ensures escaped { OnOk result (self.new.escaped ≡ false) }
     {
-        self.marks.push(Mark { byte, literal })?;
+        self.marks.push(PatternByte { byte, literal })?;
         self.escaped = false;
         Ok(())
     }
 
     /// Takes one more item.
     fn take(&mut self, item: Item) -> Result<(), AllocError>
-        ensures { OnOk result ((rest : List Item) → self.new.marks.items ++ marks self.new.escaped rest ≡ self.old.marks.items ++ marks self.old.escaped (item ∷ rest)) }
+        ensures { OnOk result
+            ((rest : List Item) → self.new.marks.items ++ marks self.new.escaped rest
+            ≡ self.old.marks.items ++ marks self.old.escaped (item ∷ rest)) }
     {
         match item {
             Item::Literal(byte) => {
@@ -78,8 +82,8 @@ impl Marker {
         }
     }
 
-    /// The marks, with a backslash that nothing follows.
-    fn finish(mut self) -> Result<Vec<Mark>, AllocError>
+    /// The pattern. A backslash that no byte follows is a literal byte at its end.
+    fn finish(mut self) -> Result<Vec<PatternByte>, AllocError>
         ensures { IfOk result (λ all. all.items ≡ self.marks.items ++ marks self.escaped []) }
     {
         if self.escaped {
@@ -89,9 +93,10 @@ impl Marker {
     }
 }
 
-/// The pattern that a field is (XCU 2.14.1). What is quoted is literal. A backslash that an expansion gave makes the byte
-/// behind it literal; where nothing follows it stands for itself. The only error is want of memory.
-pub fn pattern_of(alloc: Global, field: &[Item]) -> Result<Vec<Mark>, AllocError>
+/// A field as a pattern (XCU 2.14.1). Quoted bytes are literal. A backslash that an expansion gave makes the
+/// byte after it literal; where no byte follows, the backslash itself is a literal byte. The only error is
+/// want of memory.
+pub fn pattern_of(alloc: Global, field: &[Item]) -> Result<Vec<PatternByte>, AllocError>
     ensures { IfOk result (λ pattern. pattern.items ≡ marks_of field.now) }
 {
     let mut marker = Marker {

@@ -1,4 +1,5 @@
--- What the bytes of a word come as, by what the word is expanded for (XCU 2.6): as themselves, quoted, or to be split.
+-- Which items the bytes of a word become, by what the word is expanded for (XCU 2.6): literal, quoted or
+-- expanded.
 use Rattle.std.specs.Prelude.{ℕ}
 use Rattle.sh_expand_fields.specs.declared.item.Item.{Item}
 use Rattle.sh_expand_fields.specs.declared.item.Item.TheVariants as item
@@ -25,7 +26,7 @@ value_item Assignment b = item.Expanded b
 value_item Operand b = item.Expanded b
 value_item QuotedSingle b = item.Quoted b
 
--- between double quotes
+-- the context between double quotes
 abbrev pub inside_quotes : Context → Context
 inside_quotes Fields = Quoted
 inside_quotes Inner = Quoted
@@ -35,7 +36,7 @@ inside_quotes Assignment = QuotedSingle
 inside_quotes Operand = QuotedSingle
 inside_quotes QuotedSingle = QuotedSingle
 
--- the word of `${p-w}` or `${p+w}`
+-- the context of the word in `${p-w}` or `${p+w}`
 abbrev pub inside_default : Context → Context
 inside_default Fields = Inner
 inside_default Inner = Inner
@@ -45,7 +46,7 @@ inside_default Assignment = Single
 inside_default Operand = Single
 inside_default QuotedSingle = QuotedSingle
 
--- the word of `${p=w}` or `${p?w}`: one text
+-- the context of the word in `${p=w}` or `${p?w}`: one text
 abbrev pub inside_text : Context → Context
 inside_text Fields = Single
 inside_text Inner = Single

@@ -18,24 +18,24 @@ plain items = record { items = items; void = false }
 abbrev pub nothing : Draft
 nothing = plain []
 
--- one behind the other
-abbrev pub joined : Draft → Draft → Draft
-joined a b = record { items = a.items ++ b.items; void = a.void || b.void }
+-- one after the other
+abbrev pub concatenation : Draft → Draft → Draft
+concatenation a b = record { items = a.items ++ b.items; void = a.void || b.void }
 
--- what stands between double quotes is a field also where it is empty, but not where a `$@` gave no field in it
+-- what is between double quotes makes a field also where it is empty, unless a `$@` in it gave no field
 abbrev pub quoted_if : Bool → List Item → Draft
 quoted_if true [] = nothing
 quoted_if true (x ∷ xs) = plain (item.Null ∷ x ∷ xs)
 quoted_if false xs = plain (item.Null ∷ xs)
 
-abbrev pub quoted : Draft → Draft
-quoted d = quoted_if d.void d.items
+abbrev pub quoted_draft : Draft → Draft
+quoted_draft d = quoted_if d.void d.items
 
 -- the byte between joined parameters: the first of IFS, a space where IFS is unset, none where it is empty
 abbrev pub joiner : Environment → Option ℕ
 joiner env = first_of (separators_of env)
 
--- what stands between a text and the further ones
+-- what is between a text and the further ones
 abbrev pub between_bytes : Option ℕ → List (List ℕ) → List ℕ
 between_bytes None others = []
 between_bytes (Some b) [] = []
@@ -45,7 +45,7 @@ abbrev pub between_items : List (List ℕ) → List Item
 between_items [] = []
 between_items (u ∷ us) = item.Break ∷ []
 
--- texts in one, with a byte between each two
+-- texts joined, with a byte between each two if there is one
 abbrev pub text_of_all : Option ℕ → List (List ℕ) → List ℕ
 text_of_all between [] = []
 text_of_all between (t ∷ ts) = t ++ (between_bytes between ts ++ text_of_all between ts)
@@ -55,7 +55,7 @@ abbrev pub apart : (List ℕ → List Item) → List (List ℕ) → List Item
 apart items [] = []
 apart items (t ∷ ts) = items t ++ (between_items ts ++ apart items ts)
 
--- one text
+-- the items of one text
 abbrev pub text_items : Context → List ℕ → List Item
 text_items context text = map (value_item context) text
 
@@ -67,7 +67,7 @@ abbrev pub quoted_each : List (List ℕ) → Draft
 quoted_each [] = record { items = []; void = true }
 quoted_each (t ∷ ts) = plain (apart field_items (t ∷ ts))
 
--- `$@`: fields, or in one text a space between each two
+-- `$@`: fields; where one text is needed, with a space between each two parameters
 abbrev pub each_parameter : Context → List (List ℕ) → Draft
 each_parameter Fields ts = plain (apart (text_items Fields) ts)
 each_parameter Inner ts = plain (apart (text_items Inner) ts)
@@ -77,7 +77,7 @@ each_parameter Assignment ts = plain (text_items Assignment (text_of_all (Some 3
 each_parameter Operand ts = plain (text_items Operand (text_of_all (Some 32) ts))
 each_parameter QuotedSingle ts = plain (text_items QuotedSingle (text_of_all (Some 32) ts))
 
--- `$*`: unquoted as `$@`, else one text
+-- `$*`: as `$@` where it is unquoted and split; one text otherwise
 abbrev pub all_parameters : Context → Option ℕ → List (List ℕ) → Draft
 all_parameters Fields between ts = plain (apart (text_items Fields) ts)
 all_parameters Inner between ts = plain (apart (text_items Inner) ts)
@@ -87,9 +87,9 @@ all_parameters Assignment between ts = plain (text_items Assignment (text_of_all
 all_parameters Operand between ts = plain (text_items Operand (text_of_all between ts))
 all_parameters QuotedSingle between ts = plain (text_items QuotedSingle (text_of_all between ts))
 
--- a value
-abbrev pub shown : Context → Option ℕ → Value → Draft
-shown context between value.Unset = nothing
-shown context between (value.Scalar text) = plain (text_items context text)
-shown context between (value.Each texts) = each_parameter context texts
-shown context between (value.Joined texts) = all_parameters context between texts
+-- the items of a value
+abbrev pub value_draft : Context → Option ℕ → Value → Draft
+value_draft context between value.Unset = nothing
+value_draft context between (value.Scalar text) = plain (text_items context text)
+value_draft context between (value.Each texts) = each_parameter context texts
+value_draft context between (value.Joined texts) = all_parameters context between texts

@@ -1,4 +1,4 @@
--- What a parameter stands for (XCU 2.5).
+-- The value of a parameter (XCU 2.5).
 use Rattle.std.specs.Prelude.{ℕ, zero, suc, List, Option, Some, None, codes, decimal, length, slice_get}
 use Rattle.sh_vars.specs.Environment.{Environment, value_of}
 use Rattle.sh_vars.specs.ShellOptions.{letters_of}
@@ -37,7 +37,7 @@ value_in env (Variable name) = if_set (value_of env name)
 value_in env (Positional n) = positional env.positional n
 value_in env (Special parameter) = special env parameter
 
--- the parameter as it is written behind the `$`
+-- the parameter as it is written after the `$`
 abbrev pub special_name : SpecialParameter → List ℕ
 special_name At = codes "@"
 special_name Asterisk = codes "*"

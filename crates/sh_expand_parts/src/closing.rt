@@ -1,15 +1,15 @@
-//! What a word comes to once it is expanded.
+//! The result of a word once it is expanded.
 ghost use Rattle.sh_base.specs.Memory.{no_memory};
 ghost use Rattle.std.specs.Prelude.{◌≡◌, ◌≢◌, IfOk, IfErr, OnOk, MatchResult};
 ghost use Rattle.std.specs.Fmt.{signed_decimal};
 ghost use Rattle.sh_vars.specs.Environment.{is_read_only};
 ghost use Rattle.sh_base.specs.Names.{is_name};
-ghost use Rattle.sh_arith.specs.Evaluated.{evaluated};
+ghost use Rattle.sh_arith.specs.Evaluated.{evaluation};
 ghost use Rattle.sh_arith.specs.Outcome.{Gives, Stops};
 ghost use Rattle.sh_arith_grammar.specs.Lexical.{word_at};
 ghost use Rattle.sh_expand_fields.specs.Text.{marks_of, text_of};
-ghost use Rattle.sh_expand_parts.specs.Closings.{Closing, assigned, behind, closed, closing, computed, fault_of, removed};
-ghost use Rattle.sh_expand_parts.specs.Drafts.{joined, plain, quoted, text_items};
+ghost use Rattle.sh_expand_parts.specs.Closings.{Closing, assignment_closing, behind, closing_for, closing, arithmetic_closing, fault_of, shorter_value};
+ghost use Rattle.sh_expand_parts.specs.Drafts.{concatenation, plain, quoted_draft, text_items};
 ghost use Rattle.sh_expand_parts.specs.Removals.{without_match};
 
 use crate::context::Context;
@@ -25,27 +25,27 @@ use sh_syntax::tree::{Affix, Extent};
 use sh_vars::{Vars, VarsFault};
 use std::alloc::{AllocError, Global};
 
-/// What a word, or a word inside another one, is wanted for.
+/// What a word, or a word inside another one, is expanded for.
 #[derive(Debug, Drop)]
 pub enum Purpose {
-    /// It is a word of its own, expanded for this.
+    /// It is a word of its own, expanded for this context.
     Word {
         context: Context,
     },
-    /// It stands for its form: in `${p-w}` and `${p+w}`.
+    /// It replaces its form, as in `${p-w}` and `${p+w}`.
     Default,
-    /// It stands between double quotes.
+    /// It is between double quotes.
     Quotes,
     /// `${x=w}`: it is assigned.
     Assign {
         name: Text,
         context: Context,
     },
-    /// `${p?w}`: it is a fault's message.
+    /// `${p?w}`: it is the message of a fault.
     Report {
         name: Text,
     },
-    /// `${p%w}` and its like: it is a pattern.
+    /// `${p%w}` and the like: it is a pattern.
     Remove {
         value: Value,
         affix: Affix,
@@ -61,23 +61,24 @@ pub enum Purpose {
 /// A word that is expanded up to its items: what is left is field splitting, pathname expansion and quote removal.
 #[derive(Debug, Drop)]
 pub struct ExpandedWord {
-    /// What it was expanded for.
+    /// What the word was expanded for.
     pub context: Context,
+    /// The items of the word, in order.
     pub items: Sequence<Item>,
 }
 
-/// What a word comes to once it is expanded.
+/// The result of a word once it is expanded.
 #[derive(Debug, Drop)]
 pub enum Closed {
-    /// The word around it, as far as it goes then.
+    /// It was inside another word: this is that word so far.
     Goes(Draft),
-    /// A whole word.
+    /// It was a word of its own, which is complete.
     Ends(ExpandedWord),
     /// A fault.
     Fails(Fault),
 }
 
-/// A value behind what stood before.
+/// The word so far, with a value after it.
 fn behind(
     alloc: Global,
     vars: &Vars,
@@ -101,7 +102,9 @@ fn assign(
     saved: Draft,
     text: Text,
 ) -> Result<Closed, AllocError>
-    ensures { IfOk result (λ c. closing c vars.new ≡ assigned (is_name name) (is_read_only vars.old name) name context saved text vars.old) }
+    ensures { IfOk result (λ c.
+        closing c vars.new ≡ assignment_closing (is_name name) (is_read_only vars.old name) name
+        context saved text vars.old) }
 {
     match vars.set(name.as_slice(), text.as_slice()) {
         Ok(()) => {
@@ -114,7 +117,7 @@ fn assign(
     }
 }
 
-/// The word that stands at a place.
+/// The word at a place of a text.
 fn word_at(text: &[u8], place: usize) -> &[u8]
     ensures { result.now ≡ word_at text.now place }
 {
@@ -124,7 +127,7 @@ fn word_at(text: &[u8], place: usize) -> &[u8]
     }
 }
 
-/// The fault of an expression.
+/// The fault for an expression without a value. `NoMemory` becomes want of memory, which is the only error.
 fn fault_of(alloc: Global, text: &[u8], fault: ArithFault) -> Result<Fault, AllocError>
     ensures ok { IfOk result (λ f. f ≡ fault_of text.now fault) }
     ensures memory { OnOk result (fault ≢ ArithFault.NoMemory no_memory) }
@@ -145,14 +148,16 @@ fn fault_of(alloc: Global, text: &[u8], fault: ArithFault) -> Result<Fault, Allo
     }
 }
 
-/// A number behind what stood before.
+/// The word so far, with a number after it.
 fn number_behind(
     alloc: Global,
     context: Context,
     mut saved: Draft,
     number: i64,
 ) -> Result<Closed, AllocError>
-    ensures { IfOk result (λ c. c ≡ Closed.Goes (joined saved (plain (text_items context (signed_decimal number))))) }
+    ensures { IfOk result (λ c.
+        c ≡ Closed.Goes
+        (concatenation saved (plain (text_items context (signed_decimal number))))) }
 {
     let digits = signed_decimal(alloc, number)?;
     let items = text_draft(alloc, context, digits.as_slice())?;
@@ -162,8 +167,9 @@ fn number_behind(
 
 /// The value of an expression.
 fn value_of(alloc: Global, text: &[u8], vars: &mut Vars) -> Result<i64, ArithFault>
-    ensures value { IfOk result (λ v. evaluated text.now vars.old ≡ Gives v vars.new) }
-    ensures fault { IfErr result (λ f. f ≢ ArithFault.NoMemory no_memory → evaluated text.now vars.old ≡ Stops f vars.new) }
+    ensures value { IfOk result (λ v. evaluation text.now vars.old ≡ Gives v vars.new) }
+    ensures fault { IfErr result (λ f.
+        f ≢ ArithFault.NoMemory no_memory → evaluation text.now vars.old ≡ Stops f vars.new) }
 {
     evaluate(alloc, text, vars)
 }
@@ -176,7 +182,9 @@ fn compute(
     saved: Draft,
     text: &[u8],
 ) -> Result<Closed, AllocError>
-    ensures { IfOk result (λ r. closing r vars.new ≡ computed context saved text.now (evaluated text.now vars.old)) }
+    ensures { IfOk result (λ r.
+        closing r vars.new ≡ arithmetic_closing context saved text.now
+        (evaluation text.now vars.old)) }
 {
     match value_of(alloc, text, vars) {
         Ok(number) => {
@@ -198,7 +206,7 @@ fn text_of(alloc: Global, items: &Sequence<Item>) -> Result<Text, AllocError>
     Ok(Text::from_vec(bytes))
 }
 
-/// `${p%w}` and its like.
+/// `${p%w}` and the like.
 fn remove(
     alloc: Global,
     vars: &Vars,
@@ -209,7 +217,9 @@ fn remove(
     saved: Draft,
     pattern: &Sequence<Item>,
 ) -> Result<Closed, AllocError>
-    ensures { IfOk result (λ r. closing r vars.now ≡ behind saved context vars.now (removed (without_match affix extent (marks_of pattern.now)) value.now)) }
+    ensures { IfOk result (λ r.
+        closing r vars.now ≡ behind saved context vars.now
+        (shorter_value (without_match affix extent (marks_of pattern.now)) value.now)) }
 {
     let marks = pattern_of(alloc, pattern.as_slice())?;
     let rest = removed(alloc, affix, extent, marks.as_slice(), value)?;
@@ -217,7 +227,7 @@ fn remove(
     Ok(closed)
 }
 
-/// The text of what stands inside a form, which is let go.
+/// The text of the word inside a form. Its draft is dropped.
 fn inner_text(alloc: Global, inner: Draft) -> Result<Text, AllocError>
     ensures { IfOk result (λ text. text ≡ text_of inner.items) }
 {
@@ -226,9 +236,9 @@ fn inner_text(alloc: Global, inner: Draft) -> Result<Text, AllocError>
     text
 }
 
-/// What stands inside a form, behind what stood before it.
+/// The word so far, with what is inside a form after it.
 fn joined(saved: Draft, inner: Draft) -> Result<Closed, AllocError>
-    ensures { IfOk result (λ r. r ≡ Closed.Goes (joined saved inner)) }
+    ensures { IfOk result (λ r. r ≡ Closed.Goes (concatenation saved inner)) }
 {
     let mut all = saved;
     let appended = all.append(&inner);
@@ -242,9 +252,9 @@ fn joined(saved: Draft, inner: Draft) -> Result<Closed, AllocError>
     }
 }
 
-/// What stands between double quotes, behind what stood before them.
+/// The word so far, with what is between double quotes after it.
 fn quote(alloc: Global, saved: Draft, inner: Draft) -> Result<Closed, AllocError>
-    ensures { IfOk result (λ r. r ≡ Closed.Goes (joined saved (quoted inner))) }
+    ensures { IfOk result (λ r. r ≡ Closed.Goes (concatenation saved (quoted_draft inner))) }
 {
     let quoted = inner.quoted(alloc);
     drop(inner);
@@ -257,10 +267,12 @@ fn quote(alloc: Global, saved: Draft, inner: Draft) -> Result<Closed, AllocError
     }
 }
 
-/// What a word comes to once it is expanded, behind what stood before it.
+/// Ends a word that is expanded (XCU 2.2.3, 2.6.2, 2.6.4). `inner` has its items, and `saved` has what is
+/// before it in the word around it.
 ///
-/// `${x=w}` sets the variable; it fails where that is read-only. `$((w))` evaluates, with its assignments, which stay
-/// where it fails. `${p?w}` fails always. The only error is want of memory; what the variables are then is left open.
+/// `${x=w}` sets the variable, and fails where the variable is read-only. `$((w))` evaluates; what it
+/// assigned stays where it fails. `${p?w}` always fails. The only error is want of memory, after which the
+/// variables are left open.
 pub fn close(
     alloc: Global,
     vars: &mut Vars,
@@ -268,7 +280,7 @@ pub fn close(
     saved: Draft,
     inner: Draft,
 ) -> Result<Closed, AllocError>
-    ensures { IfOk result (λ r. closing r vars.new ≡ closed purpose saved inner vars.old) }
+    ensures { IfOk result (λ r. closing r vars.new ≡ closing_for purpose saved inner vars.old) }
 {
     match purpose {
         Purpose::Word { context } => {

@@ -4,7 +4,7 @@ ghost use Rattle.sh_expand_parts.specs.Contexts.{value_item};
 
 use sh_expand_fields::Item;
 
-/// What a word is expanded for, or where a word inside another one stands (XCU 2.6).
+/// What a word is expanded for, or the place of a word inside another one (XCU 2.6).
 #[derive(Clone, Copy, Debug, PartialEq, Eq)]
 pub enum Context {
     /// A word of a command: it is split into fields afterwards (XCU 2.6.5).
@@ -13,21 +13,21 @@ pub enum Context {
     Inner,
     /// Between double quotes in such a word.
     Quoted,
-    /// A word that gives one text: of a redirection, a case word, a pattern, what `${p=w}` assigns.
+    /// A word that gives one text: the word of a redirection or of `case`, a pattern, what `${p=w}` assigns.
     Single,
-    /// The value of an assignment: one text, with a tilde prefix also behind each `:`.
+    /// The value of an assignment: one text, with a tilde prefix also after each `:`.
     Assignment,
     /// A word `NAME=value` of `export` or `readonly`, as an assignment.
     Operand,
-    /// The body of a here-document, an arithmetic expression, and what stands between double quotes in a word that
-    /// gives one text.
+    /// The body of a here-document, an arithmetic expression, and what is between double quotes in a word
+    /// that gives one text.
     QuotedSingle,
 }
 
 impl Context {
     ghost use Rattle.sh_expand_parts.specs.Contexts.{inside_default, inside_quotes, inside_text, literal_item, value_item};
 
-    /// A byte of the word itself, outside inner quotes.
+    /// The item of a byte of the word itself, outside inner quotes.
     pub(crate) fn literal_item(self, byte: u8) -> Item
         ensures { result ≡ literal_item self byte }
     {
@@ -42,7 +42,7 @@ impl Context {
         }
     }
 
-    /// A byte that an expansion gives here.
+    /// The item of a byte that an expansion gives here.
     pub(crate) fn value_item(self, byte: u8) -> Item
         ensures { result ≡ value_item self byte }
     {
@@ -57,7 +57,7 @@ impl Context {
         }
     }
 
-    /// Between double quotes that stand here.
+    /// The context between double quotes here.
     pub fn inside_quotes(self) -> Context
         ensures { result ≡ inside_quotes self }
     {
@@ -72,7 +72,7 @@ impl Context {
         }
     }
 
-    /// The word of a `${p-w}` or `${p+w}` that stands here.
+    /// The context of the word in a `${p-w}` or `${p+w}` here.
     pub(crate) fn inside_default(self) -> Context
         ensures { result ≡ inside_default self }
     {
@@ -87,7 +87,7 @@ impl Context {
         }
     }
 
-    /// The word of a `${p=w}` or `${p?w}` that stands here.
+    /// The context of the word in a `${p=w}` or `${p?w}` here.
     pub(crate) fn inside_text(self) -> Context
         ensures { result ≡ inside_text self }
     {

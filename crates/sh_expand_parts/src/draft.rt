@@ -2,7 +2,7 @@
 ghost use Rattle.std.specs.Prelude.{◌≡◌, ◌++◌, ◌∷◌, [], OnOk, IfOk, map};
 ghost use Rattle.sh_expand_fields.specs.declared.item.Item.TheVariants as item;
 ghost use Rattle.sh_expand_parts.specs.Contexts.{value_item};
-ghost use Rattle.sh_expand_parts.specs.Drafts.{all_parameters, apart, between_bytes, between_items, each_parameter, field_items, joiner, plain, nothing, quoted_each, quoted_if, shown, text_items, text_of_all};
+ghost use Rattle.sh_expand_parts.specs.Drafts.{all_parameters, apart, between_bytes, between_items, each_parameter, field_items, joiner, plain, nothing, quoted_each, quoted_if, value_draft, text_items, text_of_all};
 
 use crate::context::Context;
 use crate::value::Value;
@@ -14,13 +14,14 @@ use std::alloc::{AllocError, Global};
 /// The items of a word so far.
 #[derive(Debug, Drop)]
 pub struct Draft {
+    /// The items, in order.
     pub items: Sequence<Item>,
-    /// Whether a `"$@"` came that gave no field, there being no positional parameters.
+    /// Whether a `"$@"` came that gave no field, as there were no positional parameters.
     pub void: bool,
 }
 
 impl Draft {
-    ghost use Rattle.sh_expand_parts.specs.Drafts.{joined, nothing, plain, quoted};
+    ghost use Rattle.sh_expand_parts.specs.Drafts.{concatenation, nothing, plain, quoted_draft};
 
     /// No item yet. Takes no memory.
     pub fn new(alloc: Global) -> Draft
@@ -32,25 +33,26 @@ impl Draft {
         }
     }
 
-    /// These items.
+    /// A draft of these items.
     pub(crate) fn plain(items: Sequence<Item>) -> Draft
         ensures { result ≡ plain items }
     {
         Draft { items, void: false }
     }
 
-    /// Puts another one behind it. The only error is want of memory; what it holds is then left open.
+    /// Appends another draft. The only error is want of memory, after which the contents of this draft are
+    /// left open.
     pub fn append(&mut self, other: &Draft) -> Result<(), AllocError>
-        ensures { OnOk result (self.new ≡ joined self.old other.now) }
+        ensures { OnOk result (self.new ≡ concatenation self.old other.now) }
     {
         self.items.extend_from_slice(other.items.as_slice())?;
         self.void = self.void || other.void;
         Ok(())
     }
 
-    /// What it is between double quotes.
+    /// The draft of double quotes with this draft between them.
     pub(crate) fn quoted(&self, alloc: Global) -> Result<Draft, AllocError>
-        ensures { IfOk result (λ d. d ≡ quoted self.now) }
+        ensures { IfOk result (λ d. d ≡ quoted_draft self.now) }
     {
         if self.void && self.items.is_empty() {
             return Ok(Draft::new(alloc));
@@ -62,7 +64,7 @@ impl Draft {
     }
 }
 
-/// Puts bytes that are quoted.
+/// Appends bytes that are quoted.
 pub(crate) fn push_quoted(items: &mut Sequence<Item>, bytes: &[u8]) -> Result<(), AllocError>
     ensures { OnOk result (items.new ≡ items.old ++ map item.Quoted bytes.now) }
 {
@@ -72,7 +74,7 @@ pub(crate) fn push_quoted(items: &mut Sequence<Item>, bytes: &[u8]) -> Result<()
     Ok(())
 }
 
-/// Puts the bytes of a value.
+/// Appends the bytes of a value, as the context has them.
 pub(crate) fn push_text(
     items: &mut Sequence<Item>,
     context: Context,
@@ -95,7 +97,7 @@ pub(crate) fn text_draft(alloc: Global, context: Context, bytes: &[u8]) -> Resul
     Ok(Draft::plain(items))
 }
 
-/// Puts a parameter that is a field also where it is empty.
+/// Appends a parameter that is a field also where it is empty.
 pub(crate) fn push_field(items: &mut Sequence<Item>, bytes: &[u8]) -> Result<(), AllocError>
     ensures { OnOk result (items.new ≡ items.old ++ field_items bytes.now) }
 {
@@ -114,7 +116,7 @@ pub(crate) fn joiner(vars: &Vars) -> Option<u8>
     }
 }
 
-/// The texts in one, with a byte between each two.
+/// The texts joined, with the byte `between` between each two, if there is one.
 fn text_of_all(alloc: Global, between: Option<u8>, texts: &[Text]) -> Result<Vec<u8>, AllocError>
     ensures { IfOk result (λ all. all.items ≡ text_of_all between texts.now) }
 {
@@ -128,7 +130,7 @@ fn text_of_all(alloc: Global, between: Option<u8>, texts: &[Text]) -> Result<Vec
     Ok(all)
 }
 
-/// Puts the byte that stands before further texts, if there are any.
+/// Appends the byte between texts, if further texts follow.
 fn push_between(all: &mut Vec<u8>, between: Option<u8>, others: &[Text]) -> Result<(), AllocError>
     ensures { OnOk result (all.new.items ≡ all.old.items ++ between_bytes between others.now) }
 {
@@ -140,7 +142,7 @@ fn push_between(all: &mut Vec<u8>, between: Option<u8>, others: &[Text]) -> Resu
     Ok(())
 }
 
-/// Puts the break that stands before further texts, if there are any.
+/// Appends the break between texts, if further texts follow.
 fn push_break(items: &mut Sequence<Item>, others: &[Text]) -> Result<(), AllocError>
     ensures { OnOk result (items.new ≡ items.old ++ between_items others.now) }
 {
@@ -192,7 +194,7 @@ fn quoted_each(alloc: Global, texts: &[Text]) -> Result<Draft, AllocError>
     Ok(Draft::plain(fields_apart(alloc, texts)?))
 }
 
-/// The texts in one, as what an expansion gives.
+/// The texts joined, as the bytes of one value.
 fn one_text(
     alloc: Global,
     context: Context,
@@ -240,14 +242,14 @@ fn all_parameters(
     }
 }
 
-/// What a value gives.
+/// The items of a value (XCU 2.5.2).
 pub(crate) fn shown(
     alloc: Global,
     context: Context,
     between: Option<u8>,
     value: &Value,
 ) -> Result<Draft, AllocError>
-    ensures { IfOk result (λ d. d ≡ shown context between value.now) }
+    ensures { IfOk result (λ d. d ≡ value_draft context between value.now) }
 {
     match value {
         Value::Unset => Ok(Draft::new(alloc)),

@@ -6,7 +6,7 @@ use sh_base::sequence::Text;
 pub enum Fault {
     /// `${p?w}` where the parameter isn't set, or, under `set -u`, a parameter that isn't set is expanded.
     Unset {
-        /// The parameter as it is written behind the `$`.
+        /// The parameter as it is written after the `$`.
         name: Text,
         /// What `w` expands to; `None` where there is no word, and under `set -u`.
         message: Option<Text>,

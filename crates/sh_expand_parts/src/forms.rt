@@ -1,8 +1,8 @@
-//! What each form comes to where it begins (XCU 2.6.2).
+//! How each form of a parameter begins (XCU 2.6.2).
 ghost use Rattle.std.specs.Prelude.{◌≡◌, ◌&&◌, IfOk, None};
 ghost use Rattle.sh_expand_parts.specs.Contexts.{inside_default};
-ghost use Rattle.sh_expand_parts.specs.Drafts.{joiner, shown};
-ghost use Rattle.sh_expand_parts.specs.Forms.{action_begun, are_null, assignment_begun, conditional_begun, error_begun, is_absent, is_null, is_unset, length_begun, measured, number_begun, parameter_begun, removal_begun, value_begun};
+ghost use Rattle.sh_expand_parts.specs.Drafts.{joiner, value_draft};
+ghost use Rattle.sh_expand_parts.specs.Forms.{action_begun, are_null, assignment_begun, conditional_begun, error_begun, is_absent, is_null, is_unset, length_begun, value_length_begun, number_begun, parameter_begun, removal_begun, value_begun};
 ghost use Rattle.sh_expand_parts.specs.Values.{name_of, value_in};
 
 use crate::closing::Purpose;
@@ -15,10 +15,10 @@ use sh_syntax::tree::{Absence, Affix, ConditionalAction, Extent, Parameter};
 use sh_vars::Vars;
 use std::alloc::{AllocError, Global};
 
-/// What a form comes to where it begins.
+/// What the beginning of a form gives.
 #[derive(Debug, Drop)]
 pub enum Begun {
-    /// These items.
+    /// It is these items.
     Adds(Draft),
     /// The word inside it is expanded first.
     Enters { purpose: Purpose, context: Context },
@@ -62,7 +62,7 @@ impl Value {
     }
 }
 
-/// Whether there is no text, or one that is empty.
+/// Whether there is no text, or just an empty one.
 fn are_null(texts: &[Text]) -> bool
     ensures { result ≡ are_null texts.now }
 {
@@ -90,14 +90,15 @@ fn unset(alloc: Global, parameter: &Parameter) -> Result<Begun, AllocError>
     }))
 }
 
-/// A value's items.
+/// The items of a value.
 fn adds(alloc: Global, vars: &Vars, context: Context, value: &Value) -> Result<Begun, AllocError>
-    ensures { IfOk result (λ b. b ≡ Begun.Adds (shown context (joiner vars.now) value.now)) }
+    ensures { IfOk result (λ b. b ≡ Begun.Adds (value_draft context (joiner vars.now) value.now)) }
 {
     Ok(Begun::Adds(shown(alloc, context, joiner(vars), value)?))
 }
 
-/// `$p` or `${p}` (XCU 2.6.2). Under `set -u` a fault where it isn't set. The only error is want of memory.
+/// `$p` or `${p}` (XCU 2.6.2). It is a fault under `set -u` where the parameter isn't set. The only error is
+/// want of memory.
 pub fn begin_parameter(
     alloc: Global,
     vars: &Vars,
@@ -113,7 +114,7 @@ pub fn begin_parameter(
     adds(alloc, vars, context, &value)
 }
 
-/// A number's digits.
+/// The items of a number in decimal.
 fn number(alloc: Global, context: Context, number: usize) -> Result<Begun, AllocError>
     ensures { IfOk result (λ b. b ≡ number_begun context number) }
 {
@@ -123,7 +124,7 @@ fn number(alloc: Global, context: Context, number: usize) -> Result<Begun, Alloc
 
 /// The length of a value.
 fn measured(alloc: Global, context: Context, value: &Value) -> Result<Begun, AllocError>
-    ensures { IfOk result (λ b. b ≡ measured context value.now) }
+    ensures { IfOk result (λ b. b ≡ value_length_begun context value.now) }
 {
     match value {
         Value::Unset => number(alloc, context, 0),
@@ -133,8 +134,8 @@ fn measured(alloc: Global, context: Context, value: &Value) -> Result<Begun, All
     }
 }
 
-/// `${#p}` (XCU 2.6.2): how many bytes the value has. Under `set -u` a fault where it isn't set. The only error is want
-/// of memory.
+/// `${#p}` (XCU 2.6.2): how many bytes the value has. It is a fault under `set -u` where the parameter isn't
+/// set, and always for `@` and `*`. The only error is want of memory.
 pub fn begin_length(
     alloc: Global,
     vars: &Vars,
@@ -150,8 +151,8 @@ pub fn begin_length(
     measured(alloc, context, &value)
 }
 
-/// `${p%w}`, `${p%%w}`, `${p#w}` or `${p##w}` (XCU 2.6.2): the pattern is expanded first. Under `set -u` a fault where
-/// the parameter isn't set. The only error is want of memory.
+/// `${p%w}`, `${p%%w}`, `${p#w}` or `${p##w}` (XCU 2.6.2): the pattern is expanded first. It is a fault under
+/// `set -u` where the parameter isn't set. The only error is want of memory.
 pub fn begin_removal(
     alloc: Global,
     vars: &Vars,
@@ -207,7 +208,7 @@ fn assignment(
     }
 }
 
-/// `${p?w}` of a parameter that the test finds absent.
+/// `${p?w}` where the parameter is absent: unset, or null where a colon tests for that too.
 fn error(
     alloc: Global,
     context: Context,
@@ -227,7 +228,7 @@ fn error(
     })
 }
 
-/// The word of `${p-w}` or `${p+w}`.
+/// `${p-w}` or `${p+w}` where its word is used.
 fn word(context: Context) -> Begun
     ensures { result ≡ Begun.Enters Purpose.Default (inside_default context) }
 {
@@ -237,8 +238,9 @@ fn word(context: Context) -> Begun
     }
 }
 
-/// `${p-w}`, `${p=w}`, `${p?w}` or `${p+w}`, with a colon or without (XCU 2.6.2), whose word has no part or some. `=` on
-/// a parameter that isn't a variable is a fault, also where it is set. The only error is want of memory.
+/// `${p-w}`, `${p=w}`, `${p?w}` or `${p+w}`, with a colon or without (XCU 2.6.2). The last argument says
+/// whether the word has no part. `=` on a parameter that isn't a variable is a fault, also where the
+/// parameter is set. The only error is want of memory.
 pub fn begin_conditional(
     alloc: Global,
     vars: &Vars,
@@ -248,7 +250,8 @@ pub fn begin_conditional(
     action: ConditionalAction,
     is_empty: bool,
 ) -> Result<Begun, AllocError>
-    ensures { IfOk result (λ b. b ≡ conditional_begun context vars.now parameter.now absence action is_empty) }
+    ensures { IfOk result (λ b.
+        b ≡ conditional_begun context vars.now parameter.now absence action is_empty) }
 {
     let value = Value::of(alloc, vars, parameter)?;
     let absent = value.is_absent(absence);

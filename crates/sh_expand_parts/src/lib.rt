@@ -1,8 +1,8 @@
-//! What each form of a word comes to in word expansion (IEEE Std 1003.1-2024, XCU 2.6), one form at a time: tilde,
-//! parameters, command substitution, arithmetic and quotes.
+//! Word expansion (IEEE Std 1003.1-2024, XCU 2.6) of one form of a word at a time: tilde, parameters, command
+//! substitution, arithmetic and quotes.
 //!
-//! The calls `begin_..` say what a form comes to where it begins: items, a word inside it that is expanded first, or a
-//! fault. [`close`] says what a word inside comes to once it is expanded.
+//! The calls `begin_..` begin a form. They give its items, or a word inside it that is to be expanded first,
+//! or a fault. [`close`] gives the result of a word inside once it is expanded.
 #![tactic(auto)]
 
 mod answer;

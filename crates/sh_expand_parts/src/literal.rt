@@ -14,11 +14,11 @@ use std::alloc::{AllocError, Global};
 /// Where a tilde prefix may begin (XCU 2.6.1).
 #[derive(Clone, Copy, Debug, PartialEq, Eq)]
 pub(crate) struct Prefixes {
-    /// Right here.
+    /// At the next byte.
     pub(crate) here: bool,
-    /// Behind each `:` that follows.
+    /// After each `:` that follows.
     pub(crate) behind_colon: bool,
-    /// Behind the first `=` that follows.
+    /// After the first `=` that follows.
     pub(crate) behind_equals: bool,
 }
 
@@ -50,7 +50,7 @@ impl Prefixes {
         }
     }
 
-    /// Where prefixes may begin behind this byte.
+    /// Where prefixes may begin after this byte.
     fn behind(self, byte: u8) -> Prefixes
         ensures { result ≡ next_prefixes self byte }
     {
@@ -61,7 +61,7 @@ impl Prefixes {
         }
     }
 
-    /// Whether a prefix ends before these bytes.
+    /// Whether a prefix ends before the bytes `behind`. `last` is whether the word ends with them.
     fn end_before(self, last: bool, behind: &[u8]) -> bool
         ensures { result ≡ ends_prefix self last behind.now }
     {
@@ -71,7 +71,7 @@ impl Prefixes {
         }
     }
 
-    /// Whether this byte is a tilde prefix.
+    /// Whether this byte, with `behind` after it, is a tilde prefix.
     fn is_one(self, last: bool, byte: u8, behind: &[u8]) -> bool
         ensures { result ≡ is_prefix self last byte behind.now }
     {
@@ -79,7 +79,7 @@ impl Prefixes {
     }
 }
 
-/// Puts one byte of the word, or HOME in its place.
+/// Appends one byte of the word, or HOME in its place.
 fn push_byte(
     items: &mut Sequence<Item>,
     context: Context,
@@ -87,7 +87,9 @@ fn push_byte(
     is_prefix: bool,
     byte: u8,
 ) -> Result<(), AllocError>
-    ensures { OnOk result (items.new ≡ items.old ++ byte_items context (option_map (λ h. h.now) home.entry) is_prefix byte) }
+    ensures { OnOk result
+        (items.new ≡ items.old ++ byte_items context (option_map (λ h. h.now) home.entry)
+        is_prefix byte) }
 {
     let Some(home) = home else {
         items.push(context.literal_item(byte))?;
@@ -102,7 +104,7 @@ fn push_byte(
     Ok(())
 }
 
-/// The items of unquoted bytes in a row.
+/// The items of a run of unquoted bytes.
 fn literal_items(
     alloc: Global,
     context: Context,
@@ -111,7 +113,9 @@ fn literal_items(
     last: bool,
     bytes: &[u8],
 ) -> Result<Sequence<Item>, AllocError>
-    ensures { IfOk result (λ items. items ≡ literal_items context (option_map (λ h. h.now) home.entry) last (prefixes_in context first) bytes.now) }
+    ensures { IfOk result (λ items.
+        items ≡ literal_items context (option_map (λ h. h.now) home.entry) last
+        (prefixes_in context first) bytes.now) }
 {
     let mut items = Sequence::new(alloc);
     let mut prefixes = Prefixes::of(context, first);
@@ -125,8 +129,8 @@ fn literal_items(
     Ok(items)
 }
 
-/// Unquoted bytes of a word in a row, with tilde expansion (XCU 2.6.1), in the word's first part or not, and in its last
-/// part or not. The only error is want of memory.
+/// A run of unquoted bytes of a word, with tilde expansion (XCU 2.6.1). `first` and `last` say whether they
+/// are the word's first part and its last. The only error is want of memory.
 pub fn begin_literal(
     alloc: Global,
     vars: &Vars,
@@ -141,7 +145,8 @@ pub fn begin_literal(
     Ok(Draft::plain(items))
 }
 
-/// Bytes between single quotes (XCU 2.2.2): a field is there also where there are none. The only error is want of memory.
+/// Bytes between single quotes (XCU 2.2.2). They make a field also where there are none. The only error is
+/// want of memory.
 pub fn begin_quoted(alloc: Global, bytes: &[u8]) -> Result<Draft, AllocError>
     ensures { IfOk result (λ d. d ≡ plain (field_items bytes.now)) }
 {
@@ -150,7 +155,7 @@ pub fn begin_quoted(alloc: Global, bytes: &[u8]) -> Result<Draft, AllocError>
     Ok(Draft::plain(items))
 }
 
-/// A byte behind a backslash (XCU 2.2.1). The only error is want of memory.
+/// A byte after a backslash (XCU 2.2.1). The only error is want of memory.
 pub fn begin_escaped(alloc: Global, byte: u8) -> Result<Draft, AllocError>
     ensures { IfOk result (λ d. d ≡ plain (item.Quoted byte ∷ [])) }
 {

@@ -1,17 +1,17 @@
 //! Values without what a pattern matches (XCU 2.6.2).
 ghost use Rattle.std.specs.Prelude.{◌≡◌, ◌-◌, ◌≤◌, List, ℕ, IfOk, MatchOption, drop, length, map, take, option_map, Some, None};
-ghost use Rattle.sh_expand_parts.specs.Closings.{removed};
-ghost use Rattle.sh_expand_parts.specs.Removals.{matched, without_length, without_match};
+ghost use Rattle.sh_expand_parts.specs.Closings.{shorter_value};
+ghost use Rattle.sh_expand_parts.specs.Removals.{match_length, without_length, without_match};
 
 use crate::value::Value;
 use sh_base::sequence::{Sequence, Text};
-use sh_pattern::{Mark, longest_back, longest_front, shortest_back, shortest_front};
+use sh_pattern::{PatternByte, longest_back, longest_front, shortest_back, shortest_front};
 use sh_syntax::tree::{Affix, Extent};
 use std::alloc::{AllocError, Global};
 
-/// How much of a text a pattern matches.
-fn matched(affix: Affix, extent: Extent, pattern: &[Mark], text: &[u8]) -> Option<usize>
-    ensures length { result ≡ matched affix extent pattern.now text.now }
+/// How many bytes the prefix or suffix has that a pattern matches; `None` where it matches none.
+fn matched(affix: Affix, extent: Extent, pattern: &[PatternByte], text: &[u8]) -> Option<usize>
+    ensures length { result ≡ match_length affix extent pattern.now text.now }
     ensures within { MatchOption result (Unit {0}) (λ n. n ≤ length text.now) }
 {
     match affix {
@@ -26,7 +26,7 @@ fn matched(affix: Affix, extent: Extent, pattern: &[Mark], text: &[u8]) -> Optio
     }
 }
 
-/// A text without its front or back of a length.
+/// A text without its prefix or suffix of this length; the whole text where there is no length.
 fn without_length(affix: Affix, text: &[u8], count: Option<usize>) -> &[u8]
     requires { MatchOption count (Unit {0}) (λ n. n ≤ length text.now) }
     ensures { result.now ≡ without_length affix text.now count }
@@ -38,13 +38,13 @@ fn without_length(affix: Affix, text: &[u8], count: Option<usize>) -> &[u8]
     }
 }
 
-/// A text without what a pattern matches.
+/// A text without the prefix or suffix that a pattern matches.
 #[tactic(auto, unfolding(crate::specs::Removals::without_match))]
 fn without_match(
     alloc: Global,
     affix: Affix,
     extent: Extent,
-    pattern: &[Mark],
+    pattern: &[PatternByte],
     text: &[u8],
 ) -> Result<Text, AllocError>
     ensures { IfOk result (λ t. t ≡ without_match affix extent pattern.now text.now) }
@@ -59,7 +59,7 @@ fn all_without_match(
     alloc: Global,
     affix: Affix,
     extent: Extent,
-    pattern: &[Mark],
+    pattern: &[PatternByte],
     texts: &[Text],
 ) -> Result<Sequence<Text>, AllocError>
     ensures { IfOk result (λ all. all ≡ map (without_match affix extent pattern.now) texts.now) }
@@ -76,10 +76,11 @@ pub(crate) fn removed(
     alloc: Global,
     affix: Affix,
     extent: Extent,
-    pattern: &[Mark],
+    pattern: &[PatternByte],
     value: &Value,
 ) -> Result<Value, AllocError>
-    ensures { IfOk result (λ v. v ≡ removed (without_match affix extent pattern.now) value.now) }
+    ensures { IfOk result (λ v.
+        v ≡ shorter_value (without_match affix extent pattern.now) value.now) }
 {
     match value {
         Value::Unset => Ok(Value::Unset),

@@ -1,4 +1,4 @@
-//! What parameters stand for (XCU 2.5).
+//! The values of parameters (XCU 2.5).
 ghost use Rattle.std.specs.Prelude.{◌≡◌, ◌++◌, ℕ, List, IfOk, decimal, option_map};
 ghost use Rattle.std.specs.Fmt.{signed_decimal};
 ghost use Rattle.sh_expand_parts.specs.Values.{if_set, name_of, number_if_set, positional, special, special_name, value_in};
@@ -9,10 +9,10 @@ use sh_syntax::tree::{Parameter, SpecialParameter};
 use sh_vars::Vars;
 use std::alloc::{AllocError, Global};
 
-/// What a parameter stands for.
+/// The value of a parameter (XCU 2.5).
 #[derive(Debug, Drop)]
 pub enum Value {
-    /// It isn't set.
+    /// The parameter isn't set.
     Unset,
     /// One text.
     Scalar(Text),
@@ -38,7 +38,7 @@ pub(crate) fn signed_decimal(alloc: Global, number: i64) -> Result<Text, AllocEr
     Ok(Text::from_vec(text.into_bytes()))
 }
 
-/// The value of one text, if there is one.
+/// The value that is this text; `Unset` without one.
 fn if_set(alloc: Global, text: Option<&[u8]>) -> Result<Value, AllocError>
     ensures { IfOk result (λ value. value ≡ if_set (option_map (λ t. t.now) text.entry)) }
 {
@@ -48,7 +48,7 @@ fn if_set(alloc: Global, text: Option<&[u8]>) -> Result<Value, AllocError>
     }
 }
 
-/// The value of a number, if there is one.
+/// The value that is this number in decimal; `Unset` without one.
 fn number_if_set(alloc: Global, number: Option<u32>) -> Result<Value, AllocError>
     ensures { IfOk result (λ value. value ≡ number_if_set number) }
 {
@@ -99,7 +99,7 @@ fn special(alloc: Global, vars: &Vars, parameter: SpecialParameter) -> Result<Va
 impl Value {
     ghost use Rattle.sh_expand_parts.specs.Values.{value_in};
 
-    /// What a parameter stands for now. The only error is want of memory.
+    /// The value that a parameter has now. The only error is want of memory.
     pub fn of(alloc: Global, vars: &Vars, parameter: &Parameter) -> Result<Value, AllocError>
         ensures { IfOk result (λ value. value ≡ value_in vars.now parameter.now) }
     {
@@ -111,7 +111,7 @@ impl Value {
     }
 }
 
-/// How a special parameter is written behind the `$`.
+/// How a special parameter is written after the `$`.
 fn special_name(parameter: SpecialParameter) -> &'static [u8]
     ensures { result.now ≡ special_name parameter }
 {
@@ -127,7 +127,7 @@ fn special_name(parameter: SpecialParameter) -> &'static [u8]
     }
 }
 
-/// How a parameter is written behind the `$`.
+/// How a parameter is written after the `$`.
 pub(crate) fn name_of(alloc: Global, parameter: &Parameter) -> Result<Text, AllocError>
     ensures { IfOk result (λ name. name ≡ name_of parameter.now) }
 {

@@ -4,14 +4,14 @@ use Rattle.std.specs.Prelude.{◌&&◌, if◌then◌else◌, not, slice_get, tak
 use Rattle.std.specs.List.{list_all}
 use Rattle.std.specs.Option.{option_and_then}
 use Rattle.std.specs.FinMap as map
-use Rattle.sh_files_image.specs.Contents.{Regular, written}
+use Rattle.sh_files_image.specs.Contents.{Regular, content_after_write}
 use Rattle.sh_files_image.specs.Paths.{parent}
 use Rattle.sh_files_image.specs.Places.{Entries}
 use Rattle.sh_files_image.specs.Texts.{is_left_out}
 use Rattle.sh_files_image.specs.declared.node.Node.{Node}
 use Rattle.sh_files_image.specs.declared.node.Node.TheVariants.{Directory, File, Null, Terminal}
 use Rattle.sh_files_image.proofs.Places.{order}
-use Rattle.sh_files.specs.Nodes.{FileMap, node_at, starting, truncate_node, truncated, with_node, write_at, write_fits, write_node}
+use Rattle.sh_files.specs.Nodes.{FileMap, node_at, starting, truncate_node, truncation, with_node, write_at, write_fits, write_node}
 use Rattle.sh_files.specs.Image.{is_directory}
 use Rattle.sh_files.specs.Whole.{IsPlaced, IsWhole}
 use Rattle.sh_files.specs.declared.fault.FileFault.TheVariants.{TooLarge}
@@ -135,7 +135,7 @@ write_whole files m n offset bytes w h = at (slice_get files.nodes n) refl h
     at None e k = cc
     at (Some Directory) e k = cc
     at (Some (File file)) e k =
-        let new : Regular = record file { bytes = written file.bytes offset bytes } in
+        let new : Regular = record file { bytes = content_after_write file.bytes offset bytes } in
         elim (write_fits offset bytes) as (λ b. with_node files n (if b then Ok (File new) else Err TooLarge) ≡ Ok m → IsWhole m) [
           | true ↦ λ g. answer_whole files m n (File new) (changed_whole files n file new w e) g
           | false ↦ λ g. cc
@@ -143,7 +143,7 @@ write_whole files m n offset bytes w h = at (slice_get files.nodes n) refl h
     at (Some Null) e k = answer_whole files m n Null (kept_whole files n Null w e) k
     at (Some Terminal) e k = cc
 
-pub truncate_whole : (files m : FileMap) (n count : ℕ) → IsWhole files → truncated files n count ≡ Ok m → IsWhole m
+pub truncate_whole : (files m : FileMap) (n count : ℕ) → IsWhole files → truncation files n count ≡ Ok m → IsWhole m
 truncate_whole files m n count w h = at (slice_get files.nodes n) refl h
   where
     at : (o : Option Node) → slice_get files.nodes n ≡ o → truncate_node files n count o ≡ Ok m → IsWhole m

@@ -7,7 +7,7 @@ use Rattle.std.specs.Str.{bytes_eq}
 use Rattle.std.proofs.lemmas.List.Quantifiers.{position-Some}
 use Rattle.sh_files.specs.Nodes.{FileMap}
 use Rattle.sh_files_image.specs.Fields.{line_of}
-use Rattle.sh_files.specs.Image.{advanced, by_line, ended, entries, entry}
+use Rattle.sh_files.specs.Image.{behind_entry, by_line, files_at_end, entries, entry}
 use Rattle.sh_files_image.specs.declared.image_fault.FaultKind.{FaultKind}
 use Rattle.sh_files_image.specs.declared.image_fault.FaultKind.TheVariants.{NoMemory, Trailing, Truncated}
 use Rattle.sh_files.specs.declared.image.Stop.{Stop}
@@ -58,8 +58,8 @@ pub next_line : (files after : FileMap) (rest : List ℕ) (p : List ℕ × List 
 next_line files after [] p used h e g = cc
 next_line files after (b ∷ bs) p used h e g =
     ap (λ (o : Option (List ℕ × List ℕ)). by_line files (b ∷ bs) o (next bs)) (sym h)
-    ∙ ap (λ t. if t then ended files p.1 else advanced (length (b ∷ bs)) (length p.0) (entry files p.0 p.1) (next bs)) e
-    ∙ ap (λ (r : Result (FileMap × ℕ) FaultKind). advanced (length (b ∷ bs)) (length p.0) r (next bs)) g
+    ∙ ap (λ t. if t then files_at_end files p.1 else behind_entry (length (b ∷ bs)) (length p.0) (entry files p.0 p.1) (next bs)) e
+    ∙ ap (λ (r : Result (FileMap × ℕ) FaultKind). behind_entry (length (b ∷ bs)) (length p.0) r (next bs)) g
     ∙ entries_behind after (length p.0 + used) bs
     ∙ ap (entries after 0) (left_over (position newline (b ∷ bs)) b bs p used refl h)
 
@@ -68,26 +68,26 @@ pub bad_line : (files : FileMap) (rest : List ℕ) (p : List ℕ × List ℕ) (k
 bad_line files [] p kind h e g = cc
 bad_line files (b ∷ bs) p kind h e g =
     ap (λ (o : Option (List ℕ × List ℕ)). by_line files (b ∷ bs) o (next bs)) (sym h)
-    ∙ ap (λ t. if t then ended files p.1 else advanced (length (b ∷ bs)) (length p.0) (entry files p.0 p.1) (next bs)) e
-    ∙ ap (λ (r : Result (FileMap × ℕ) FaultKind). advanced (length (b ∷ bs)) (length p.0) r (next bs)) g
+    ∙ ap (λ t. if t then files_at_end files p.1 else behind_entry (length (b ∷ bs)) (length p.0) (entry files p.0 p.1) (next bs)) e
+    ∙ ap (λ (r : Result (FileMap × ℕ) FaultKind). behind_entry (length (b ∷ bs)) (length p.0) r (next bs)) g
 
 -- the last line
-pub last_line : (files : FileMap) (rest : List ℕ) (p : List ℕ × List ℕ) → Some p ≡ line_of rest → bytes_eq p.0 (codes "end") ≡ true → entries files 0 rest ≡ ended files p.1
+pub last_line : (files : FileMap) (rest : List ℕ) (p : List ℕ × List ℕ) → Some p ≡ line_of rest → bytes_eq p.0 (codes "end") ≡ true → entries files 0 rest ≡ files_at_end files p.1
 last_line files [] p h e = cc
 last_line files (b ∷ bs) p h e =
     ap (λ (o : Option (List ℕ × List ℕ)). by_line files (b ∷ bs) o (next bs)) (sym h)
-    ∙ ap (λ t. if t then ended files p.1 else advanced (length (b ∷ bs)) (length p.0) (entry files p.0 p.1) (next bs)) e
+    ∙ ap (λ t. if t then files_at_end files p.1 else behind_entry (length (b ∷ bs)) (length p.0) (entry files p.0 p.1) (next bs)) e
 
 -- no whole line is left
 pub no_line : (files : FileMap) (rest : List ℕ) → None ≡ line_of rest → entries files 0 rest ≡ Err (record { kind = Truncated; left = length rest })
 no_line files [] h = refl
 no_line files (b ∷ bs) h = ap (λ (o : Option (List ℕ × List ℕ)). by_line files (b ∷ bs) o (next bs)) (sym h)
 
-pub trailing : (files : FileMap) (after : List ℕ) → (after ≡ [] → ⊥) → ended files after ≡ Err (record { kind = Trailing; left = length after })
+pub trailing : (files : FileMap) (after : List ℕ) → (after ≡ [] → ⊥) → files_at_end files after ≡ Err (record { kind = Trailing; left = length after })
 trailing files [] h = absurd (h refl)
 trailing files (b ∷ bs) h = refl
 
-pub at_end : (files : FileMap) (after : List ℕ) → after ≡ [] → ended files after ≡ Ok files
+pub at_end : (files : FileMap) (after : List ℕ) → after ≡ [] → files_at_end files after ≡ Ok files
 at_end files [] h = refl
 at_end files (b ∷ bs) h = absurd (cc)
 

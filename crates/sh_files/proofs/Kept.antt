@@ -14,7 +14,7 @@ use Rattle.sh_files_image.specs.declared.node.Node.TheVariants.{Directory, File}
 use Rattle.sh_files_image.proofs.Wording as wording
 use Rattle.sh_files_image.proofs.Wording.{newline, behind_is_one, file_path_is_one, line_is_one}
 use Rattle.sh_files.specs.Nodes.{FileMap, node_at, starting, with_new}
-use Rattle.sh_files.specs.Image.{advanced, beyond, by_directory, by_file, by_header, by_line, content_fault, ended, entries, entry, file_entry, first_fault, image_of, is_directory, not_directory, numbered_line, path_fault, placed, read_image, stands}
+use Rattle.sh_files.specs.Image.{behind_entry, beyond, by_directory, by_file, by_header, by_line, content_fault, files_at_end, entries, entry, file_entry, first_fault, image_of, is_directory, not_directory, numbered_line, path_fault, node_entry, read_image, stands}
 use Rattle.sh_files.specs.Whole.{IsPlaced, IsWhole, is_kept}
 use Rattle.sh_files_image.specs.declared.image_fault.FaultKind.{FaultKind}
 use Rattle.sh_files_image.specs.declared.image_fault.FaultKind.TheVariants.{BadHeader, BadPath, Duplicate, NoParent, TooLarge}
@@ -109,7 +109,7 @@ new_whole files path node w ok one kept =
 abbrev Answer : Type 0
 Answer = Result (FileMap × ℕ) FaultKind
 
-placed_whole : (files : FileMap) (path : List ℕ) (node : Node) (used : ℕ) (o : Option FaultKind) (r : FileMap × ℕ) → IsWhole files → (o ≡ None → path_fault files path ≡ None) → list_any newline path ≡ false → is_kept node ≡ true → placed files path node used o ≡ Ok r → IsWhole r.0
+placed_whole : (files : FileMap) (path : List ℕ) (node : Node) (used : ℕ) (o : Option FaultKind) (r : FileMap × ℕ) → IsWhole files → (o ≡ None → path_fault files path ≡ None) → list_any newline path ≡ false → is_kept node ≡ true → node_entry files path node used o ≡ Ok r → IsWhole r.0
 placed_whole files path node used None r w ok one kept h =
     let same : with_new files path node ≡ r.0 = ap (λ (p : FileMap × ℕ). p.0) (inside h) in
     subst IsWhole same (new_whole files path node w (ok refl) one kept)
@@ -140,21 +140,21 @@ line_whole files after line None r e w one h = other_whole files after line (beh
 line_whole files after line (Some path) r e w one h = placed_whole files path Directory 0 (path_fault files path) r w (λ k. k) (behind_is_one (codes "dir ") line path e one) refl h
 
 -- ---- all lines
-ended_whole : (files m : FileMap) (after : List ℕ) → IsWhole files → ended files after ≡ Ok m → IsWhole m
+ended_whole : (files m : FileMap) (after : List ℕ) → IsWhole files → files_at_end files after ≡ Ok m → IsWhole m
 ended_whole files m [] w h = let same : files ≡ m = cc in subst IsWhole same w
 ended_whole files m (b ∷ bs) w h = cc
 
 abbrev Next : Type 0
 Next = FileMap → ℕ → Result FileMap Stop
 
-advanced_whole : (m : FileMap) (left size : ℕ) (next : Next) (r : Answer) → ((p : FileMap × ℕ) → r ≡ Ok p → IsWhole p.0) → ((after : FileMap) (used : ℕ) → IsWhole after → next after used ≡ Ok m → IsWhole m) → advanced left size r next ≡ Ok m → IsWhole m
+advanced_whole : (m : FileMap) (left size : ℕ) (next : Next) (r : Answer) → ((p : FileMap × ℕ) → r ≡ Ok p → IsWhole p.0) → ((after : FileMap) (used : ℕ) → IsWhole after → next after used ≡ Ok m → IsWhole m) → behind_entry left size r next ≡ Ok m → IsWhole m
 advanced_whole m left size next (Ok p) w rest h = rest p.0 (size + p.1) (w p refl) h
 advanced_whole m left size next (Err kind) w rest h = cc
 
 turn_whole : (files m : FileMap) (bytes : List ℕ) (o : Option (List ℕ × List ℕ)) (next : Next) → line_of bytes ≡ o → IsWhole files → ((after : FileMap) (used : ℕ) → IsWhole after → next after used ≡ Ok m → IsWhole m) → by_line files bytes o next ≡ Ok m → IsWhole m
 turn_whole files m bytes None next e w rest h = cc
 turn_whole files m bytes (Some p) next e w rest h =
-    elim (bytes_eq p.0 (codes "end")) as (λ b. (if b then ended files p.1 else advanced (length bytes) (length p.0) (entry files p.0 p.1) next) ≡ Ok m → IsWhole m) [
+    elim (bytes_eq p.0 (codes "end")) as (λ b. (if b then files_at_end files p.1 else behind_entry (length bytes) (length p.0) (entry files p.0 p.1) next) ≡ Ok m → IsWhole m) [
       | true ↦ λ k. ended_whole files m p.1 w k
       | false ↦ λ k.
           advanced_whole m (length bytes) (length p.0) next (entry files p.0 p.1) (λ r is. line_whole files p.1 p.0 (behind (codes "dir ") p.0) r refl w (line_is_one bytes p e) is) rest k

@@ -33,10 +33,10 @@ pub get_last : (nodes : List Node) (node : Node) → slice_get (nodes ++ node �
 get_last [] node = refl
 get_last (n ∷ nodes) node = get_last nodes node
 
-pub get_front : (nodes more : List Node) (n : ℕ) → n < length nodes → slice_get (nodes ++ more) n ≡ slice_get nodes n
-get_front [] more n h = absurd (omega arith)
-get_front (x ∷ nodes) more zero h = refl
-get_front (x ∷ nodes) more (suc n) h = get_front nodes more n (omega arith)
+pub get_prefix : (nodes more : List Node) (n : ℕ) → n < length nodes → slice_get (nodes ++ more) n ≡ slice_get nodes n
+get_prefix [] more n h = absurd (omega arith)
+get_prefix (x ∷ nodes) more zero h = refl
+get_prefix (x ∷ nodes) more (suc n) h = get_prefix nodes more n (omega arith)
 
 pub get_within : (nodes : List Node) (n : ℕ) → n < length nodes → (node : Node) × (slice_get nodes n ≡ Some node)
 get_within [] n h = absurd (omega arith)
@@ -62,7 +62,7 @@ node_other files p node q fits h =
   where
     at : (o : Option ℕ) → map.get files.paths q ≡ o → option_and_then (slice_get (files.nodes ++ node ∷ [])) o ≡ option_and_then (slice_get files.nodes) o
     at None e = refl
-    at (Some n) e = get_front files.nodes (node ∷ []) n (fits q n e)
+    at (Some n) e = get_prefix files.nodes (node ∷ []) n (fits q n e)
 
 pub numbered_new : (files : FileMap) (p : List ℕ) (node : Node) → Numbered files → Numbered (with_new files p node)
 numbered_new files p node fits q n e =
@@ -96,10 +96,10 @@ lower q x (e ∷ es) l h = not_first q e es (ap is_eq (laws.trans q x e.0 l (les
 pub before_first : (q : List ℕ) (e : List ℕ × ℕ) (es : Entries) → order q e.0 ≡ Less → Rises (e ∷ es) → map.find order q (e ∷ es) ≡ None
 before_first q e es l h = not_first q e es (ap is_eq l) ∙ lower q e.0 es l (left _ _ h)
 
--- a front comes before the whole
-pub front_before : (k : ℕ) (xs : List ℕ) → k < length xs → order (take k xs) xs ≡ Less
-front_before zero [] h = absurd (omega arith)
-front_before zero (x ∷ xs) h = refl
-front_before (suc k) [] h = absurd (omega arith)
-front_before (suc k) (x ∷ xs) h =
-    ap (λ r. ordering_then r (order (take k xs) xs)) (tied_itself nat_cmp_total x) ∙ front_before k xs (omega arith)
+-- a prefix comes before the whole
+pub prefix_before : (k : ℕ) (xs : List ℕ) → k < length xs → order (take k xs) xs ≡ Less
+prefix_before zero [] h = absurd (omega arith)
+prefix_before zero (x ∷ xs) h = refl
+prefix_before (suc k) [] h = absurd (omega arith)
+prefix_before (suc k) (x ∷ xs) h =
+    ap (λ r. ordering_then r (order (take k xs) xs)) (tied_itself nat_cmp_total x) ∙ prefix_before k xs (omega arith)

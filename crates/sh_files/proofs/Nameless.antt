@@ -11,7 +11,7 @@ use Rattle.sh_files.specs.Whole.{IsPlaced, IsWhole}
 use Rattle.sh_files.specs.Writing.{image_text, last_line}
 use Rattle.sh_files.specs.declared.fault.FileFault.{FileFault}
 use Rattle.sh_files.specs.declared.fault.FileFault.TheVariants.{TooLarge}
-use Rattle.sh_files.proofs.Lookups.{Numbered, get_front}
+use Rattle.sh_files.proofs.Lookups.{Numbered, get_prefix}
 use Rattle.sh_files.proofs.Sizes.{same_texts, within}
 
 node_kept : (files : FileMap) (node : Node) (q : List ℕ) → Numbered files → node_at (with_nameless files node) q ≡ node_at files q
@@ -19,7 +19,7 @@ node_kept files node q fits = at (map.get files.paths q) refl
   where
     at : (o : Option ℕ) → map.get files.paths q ≡ o → option_and_then (slice_get (files.nodes ++ node ∷ [])) o ≡ option_and_then (slice_get files.nodes) o
     at None e = refl
-    at (Some n) e = get_front files.nodes (node ∷ []) n (fits q n e)
+    at (Some n) e = get_prefix files.nodes (node ∷ []) n (fits q n e)
 
 placed_kept : (files : FileMap) (new node : Node) (q : List ℕ) → IsWhole files → IsPlaced files q node → IsPlaced (with_nameless files new) q node
 placed_kept files new node q w was =

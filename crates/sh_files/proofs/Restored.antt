@@ -15,19 +15,19 @@ use Rattle.sh_files_image.specs.declared.node.Node.TheVariants.{Directory, File,
 use Rattle.sh_files_image.proofs.Places.{Rises, order, right}
 use Rattle.sh_files_image.proofs.Wording.{first_line, newline, one_line, read_file_words}
 use Rattle.sh_files.specs.Nodes.{FileMap, node_at, with_new}
-use Rattle.sh_files.specs.Image.{by_file, content_fault, entries, first_fault, is_directory, path_fault, placed}
+use Rattle.sh_files.specs.Image.{by_file, content_fault, entries, first_fault, is_directory, path_fault, node_entry}
 use Rattle.sh_files.specs.Whole.{AreSame, IsWhole, is_kept}
 use Rattle.sh_files_image.specs.Writing.{found_text, paths_text}
 use Rattle.sh_files.specs.Writing.{last_line}
 use Rattle.sh_files_image.specs.declared.image_fault.FaultKind.{FaultKind}
 use Rattle.sh_files_image.specs.declared.image_fault.FaultKind.TheVariants.{BadPath, Duplicate, NoParent}
 use Rattle.sh_files.proofs.Entries.{next_line}
-use Rattle.sh_files.proofs.Lookups.{Numbered, before_first, first_found, first_once, front_before, get_within, is, is_same, node_new, node_other, not_first, number_new, numbered_new}
+use Rattle.sh_files.proofs.Lookups.{Numbered, before_first, first_found, first_once, prefix_before, get_within, is, is_same, node_new, node_other, not_first, number_new, numbered_new}
 
 -- ---- one line
 pub read_directory : (files : FileMap) (path rest : List ℕ) → list_any newline path ≡ false → path_fault files path ≡ None → entries files 0 (directory_line path ++ 10 ∷ rest) ≡ entries (with_new files path Directory) 0 rest
 read_directory files path rest h ok =
-    next_line files (with_new files path Directory) (directory_line path ++ 10 ∷ rest) (directory_line path, rest) 0 (sym (first_line (directory_line path) rest h)) refl (ap (placed files path Directory 0) ok)
+    next_line files (with_new files path Directory) (directory_line path ++ 10 ∷ rest) (directory_line path, rest) 0 (sym (first_line (directory_line path) rest h)) refl (ap (node_entry files path Directory 0) ok)
 
 last_byte : (bytes rest : List ℕ) → slice_get (bytes ++ 10 ∷ rest) (length bytes) ≡ Some 10
 last_byte [] rest = refl
@@ -42,7 +42,7 @@ read_file files path rest file h ok fits =
     ap (λ (o : Option FaultKind). first_fault o (content_fault size (slice_get after size))) ok ∙ ap (content_fault size) (last_byte file.bytes rest) in
     let read =
     ap (by_file files after) (read_file_words path file fits)
-    ∙ ap (placed files path (File (record { flags = file.flags; bytes = take size after })) (size + 1)) fault
+    ∙ ap (node_entry files path (File (record { flags = file.flags; bytes = take size after })) (size + 1)) fault
     ∙ ap (λ (bytes : List ℕ). Ok (with_new files path (File (record { flags = file.flags; bytes = bytes })), size + 1)) same in
     next_line files (with_new files path (File file)) (file_line path file ++ 10 ∷ after) (file_line path file, after) (size + 1) (sym (first_line (file_line path file) after (one_line path file h fits))) refl read
     ∙ ap (entries (with_new files path (File file)) 0) (drop-append-add file.bytes (10 ∷ rest) 1)
@@ -67,7 +67,7 @@ parent_before [] h = cc
 parent_before (x ∷ []) h = let k = second (begins_at_root (x ∷ [])) _ h in cc
 parent_before (x ∷ y ∷ ys) h =
     let l = slash_within x (y ∷ ys) in
-    front_before (max 1 (last_slash (x ∷ y ∷ ys))) (x ∷ y ∷ ys) (omega arith)
+    prefix_before (max 1 (last_slash (x ∷ y ∷ ys))) (x ∷ y ∷ ys) (omega arith)
 
 -- ---- what was read so far, and what is left to be read
 pub record Reading (whole files : FileMap) (es : Entries) : Type 0 where

@@ -18,7 +18,7 @@ use Rattle.sh_files_image.proofs.Places.{Rises, laws, order, right}
 use Rattle.sh_files_image.proofs.Wording as wording
 use Rattle.sh_files_image.proofs.Wording.{behind_is_one, behind_length, fields_length, line_is_one, line_length}
 use Rattle.sh_files.specs.Nodes.{FileMap, starting, with_new}
-use Rattle.sh_files.specs.Image.{advanced, beyond, by_directory, by_file, by_header, by_line, content_fault, ended, entries, entry, file_entry, first_fault, image_of, not_directory, numbered_line, path_fault, placed, read_image, stands}
+use Rattle.sh_files.specs.Image.{behind_entry, beyond, by_directory, by_file, by_header, by_line, content_fault, files_at_end, entries, entry, file_entry, first_fault, image_of, not_directory, numbered_line, path_fault, node_entry, read_image, stands}
 use Rattle.sh_files.specs.Whole.{IsWhole}
 use Rattle.sh_files_image.specs.Writing.{found_text, path_text, paths_text}
 use Rattle.sh_files.specs.Writing.{image_text, last_line}
@@ -26,7 +26,7 @@ use Rattle.sh_files_image.specs.declared.image_fault.FaultKind.{FaultKind}
 use Rattle.sh_files_image.specs.declared.image_fault.FaultKind.TheVariants.{BadHeader, TooLarge}
 use Rattle.sh_files_image.specs.declared.image_fault.ImageFault.{ImageFault}
 use Rattle.sh_files.specs.declared.image.Stop.{Stop}
-use Rattle.sh_files.proofs.Lookups.{Numbered, first_found, get_front, get_last, is, not_first}
+use Rattle.sh_files.proofs.Lookups.{Numbered, first_found, get_prefix, get_last, is, not_first}
 use Rattle.sh_files.proofs.Restored.{left_out_text, other}
 use Rattle.sh_files.proofs.Kept.{free, line_whole, start_whole}
 use Rattle.sh_files.proofs.Whole.{start_absent}
@@ -56,7 +56,7 @@ within k (e ∷ es) h f = (f e.0 e.1 (first_found e es), within k es (right _ _ 
 pub same_texts : (nodes more : List Node) (es : Entries) → Within (length nodes) es → paths_text (nodes ++ more) es ≡ paths_text nodes es
 same_texts nodes more [] h = refl
 same_texts nodes more (e ∷ es) h =
-    ap (λ (o : Option Node). (if is_left_out e.0 then [] else found_text e.0 o) ++ paths_text (nodes ++ more) es) (get_front nodes more e.1 h.0)
+    ap (λ (o : Option Node). (if is_left_out e.0 then [] else found_text e.0 o) ++ paths_text (nodes ++ more) es) (get_prefix nodes more e.1 h.0)
     ∙ ap (λ (xs : List ℕ). path_text nodes e ++ xs) (same_texts nodes more es h.1)
 
 abbrev size : FileMap → ℕ
@@ -89,7 +89,7 @@ Answer = Result (FileMap × ℕ) FaultKind
 inside : (files : FileMap) (used : ℕ) (r : FileMap × ℕ) → ◌≡◌ {A = Answer} (Ok (files, used)) (Ok r) → ◌≡◌ {A = FileMap × ℕ} (files, used) r
 inside files used r e = cc
 
-placed_size : (files : FileMap) (path : List ℕ) (node : Node) (used : ℕ) (line after : List ℕ) (o : Option FaultKind) (r : FileMap × ℕ) → IsWhole files → (o ≡ None → path_fault files path ≡ None) → (o ≡ None → length (node_text path node) ≤ length line + 1 + used) → (o ≡ None → used ≤ length after) → placed files path node used o ≡ Ok r → Costs files line after r
+placed_size : (files : FileMap) (path : List ℕ) (node : Node) (used : ℕ) (line after : List ℕ) (o : Option FaultKind) (r : FileMap × ℕ) → IsWhole files → (o ≡ None → path_fault files path ≡ None) → (o ≡ None → length (node_text path node) ≤ length line + 1 + used) → (o ≡ None → used ≤ length after) → node_entry files path node used o ≡ Ok r → Costs files line after r
 placed_size files path node used line after None r w ok text fits h =
     let f = free files path (ok refl) in
     let g = new_size files path node w.numbered f.absent in
@@ -165,11 +165,11 @@ Next = FileMap → ℕ → Result FileMap Stop
 same_size : (files m : FileMap) → files ≡ m → size files ≡ size m
 same_size files m e = ap (λ (f : FileMap). size f) e
 
-ended_size : (files m : FileMap) (after : List ℕ) (left : ℕ) → 4 ≤ left → ended files after ≡ Ok m → Fits files m left
+ended_size : (files m : FileMap) (after : List ℕ) (left : ℕ) → 4 ≤ left → files_at_end files after ≡ Ok m → Fits files m left
 ended_size files m [] left l h = let same : files ≡ m = cc in let s = same_size files m same in record { room = omega arith }
 ended_size files m (b ∷ bs) left l h = cc
 
-advanced_size : (files m : FileMap) (line after : List ℕ) (left n : ℕ) (next : Next) (r : Answer) → length line + 1 + length after ≡ n → ((p : FileMap × ℕ) → r ≡ Ok p → IsWhole p.0 × Costs files line after p) → ((f : FileMap) (used : ℕ) → IsWhole f → next f used ≡ Ok m → Fits f m (n - 1 - used)) → advanced left (length line) r next ≡ Ok m → Fits files m n
+advanced_size : (files m : FileMap) (line after : List ℕ) (left n : ℕ) (next : Next) (r : Answer) → length line + 1 + length after ≡ n → ((p : FileMap × ℕ) → r ≡ Ok p → IsWhole p.0 × Costs files line after p) → ((f : FileMap) (used : ℕ) → IsWhole f → next f used ≡ Ok m → Fits f m (n - 1 - used)) → behind_entry left (length line) r next ≡ Ok m → Fits files m n
 advanced_size files m line after left n next (Ok p) all c rest h =
     let d = c p refl in
     let e = rest p.0 (length line + p.1) d.0 h in
@@ -186,7 +186,7 @@ turn_size : (files m : FileMap) (bytes : List ℕ) (o : Option (List ℕ × List
 turn_size files m bytes None next e w rest h = cc
 turn_size files m bytes (Some p) next e w rest h =
     let all = line_length bytes p e in
-    elim (bytes_eq p.0 (codes "end")) as (λ b. bytes_eq p.0 (codes "end") ≡ b → (if b then ended files p.1 else advanced (length bytes) (length p.0) (entry files p.0 p.1) next) ≡ Ok m → Fits files m (length bytes)) [
+    elim (bytes_eq p.0 (codes "end")) as (λ b. bytes_eq p.0 (codes "end") ≡ b → (if b then files_at_end files p.1 else behind_entry (length bytes) (length p.0) (entry files p.0 p.1) next) ≡ Ok m → Fits files m (length bytes)) [
       | true ↦ λ t k. let l = ends p.0 t in ended_size files m p.1 (length bytes) (omega (arith, all, l)) k
       | false ↦ λ t k.
           advanced_size files m p.0 p.1 (length bytes) (length bytes) next (entry files p.0 p.1) all

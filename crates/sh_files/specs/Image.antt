@@ -30,11 +30,11 @@ path_fault files path =
     else None
 
 -- a node at a path, unless something is wrong
-abbrev pub placed : FileMap → List ℕ → Node → ℕ → Option FaultKind → Result (FileMap × ℕ) FaultKind
-placed files path node used None = Ok (with_new files path node, used)
-placed files path node used (Some kind) = Err kind
+abbrev pub node_entry : FileMap → List ℕ → Node → ℕ → Option FaultKind → Result (FileMap × ℕ) FaultKind
+node_entry files path node used None = Ok (with_new files path node, used)
+node_entry files path node used (Some kind) = Err kind
 
--- a file's bytes and the newline behind them
+-- a file's bytes and the newline after them
 abbrev pub content_fault : ℕ → Option ℕ → Option FaultKind
 content_fault size None = Some Truncated
 content_fault size (Some byte) = if byte == 10 then None else Some BadLine
@@ -46,7 +46,7 @@ first_fault None next = next
 abbrev pub file_entry : FileMap → List ℕ → List ℕ → Flags → Option ℕ → Result (FileMap × ℕ) FaultKind
 file_entry files after path flags None = Err (unwrap_or (path_fault files path) TooLarge)
 file_entry files after path flags (Some size) =
-    placed files path (File (record { flags = flags; bytes = take size after })) (size + 1)
+    node_entry files path (File (record { flags = flags; bytes = take size after })) (size + 1)
     (first_fault (path_fault files path) (content_fault size (slice_get after size)))
 
 abbrev pub by_file : FileMap → List ℕ → Option (List ℕ × (Flags × Option ℕ)) → Result (FileMap × ℕ) FaultKind
@@ -58,29 +58,29 @@ not_directory files after None = Err BadLine
 not_directory files after (Some fields) = by_file files after (file_fields fields)
 
 abbrev pub by_directory : FileMap → List ℕ → List ℕ → Option (List ℕ) → Result (FileMap × ℕ) FaultKind
-by_directory files line after (Some path) = placed files path Directory 0 (path_fault files path)
+by_directory files line after (Some path) = node_entry files path Directory 0 (path_fault files path)
 by_directory files line after None = not_directory files after (behind (codes "file ") line)
 
--- the files after a line, and how many of the bytes behind it belong to it
+-- the files after a line, and how many of the bytes after the line belong to it
 abbrev pub entry : FileMap → List ℕ → List ℕ → Result (FileMap × ℕ) FaultKind
 entry files line after = by_directory files line after (behind (codes "dir ") line)
 
 -- ---- all lines
-abbrev pub ended : FileMap → List ℕ → Result FileMap Stop
-ended files [] = Ok files
-ended files (b ∷ bs) = Err (record { kind = Trailing; left = length (b ∷ bs) })
+abbrev pub files_at_end : FileMap → List ℕ → Result FileMap Stop
+files_at_end files [] = Ok files
+files_at_end files (b ∷ bs) = Err (record { kind = Trailing; left = length (b ∷ bs) })
 
-abbrev pub advanced : ℕ → ℕ → Result (FileMap × ℕ) FaultKind → (FileMap → ℕ → Result FileMap Stop) → Result FileMap Stop
-advanced left size (Ok p) next = next p.0 (size + p.1)
-advanced left size (Err kind) next = Err (record { kind = kind; left = left })
+abbrev pub behind_entry : ℕ → ℕ → Result (FileMap × ℕ) FaultKind → (FileMap → ℕ → Result FileMap Stop) → Result FileMap Stop
+behind_entry left size (Ok p) next = next p.0 (size + p.1)
+behind_entry left size (Err kind) next = Err (record { kind = kind; left = left })
 
 abbrev pub by_line : FileMap → List ℕ → Option (List ℕ × List ℕ) → (FileMap → ℕ → Result FileMap Stop) → Result FileMap Stop
 by_line files rest None next = Err (record { kind = Truncated; left = length rest })
 by_line files rest (Some p) next =
-    if bytes_eq p.0 (codes "end") then ended files p.1
-    else advanced (length rest) (length p.0) (entry files p.0 p.1) next
+    if bytes_eq p.0 (codes "end") then files_at_end files p.1
+    else behind_entry (length rest) (length p.0) (entry files p.0 p.1) next
 
--- the lines from behind so many bytes on
+-- the lines after so many bytes
 abbrev pub entries : FileMap → ℕ → List ℕ → Result FileMap Stop
 entries files skip [] = Err (record { kind = Truncated; left = 0 })
 entries files (suc skip) (b ∷ bs) = entries files skip bs
@@ -113,7 +113,7 @@ is_cut TooLarge = false
 is_cut Trailing = false
 is_cut (NoMemory _) = false
 
--- what is wrong in the first 2^28 bytes, and not for want of the others, in a line before this one
+-- the fault is in a line before this one, and isn't that the image ends too early
 abbrev pub stands : ImageFault → ℕ → Bool
 stands fault line = not (is_cut fault.kind) && nat_lt fault.line line
 

@@ -3,10 +3,10 @@ use Rattle.std.specs.Prelude.{ℕ, ◌+◌, ◌++◌, List, [], ◌∷◌, ◌&&
 use Rattle.std.specs.Option.{option_and_then}
 use Rattle.std.specs.List.{list_any, starts_with}
 use Rattle.std.specs.FinMap.{entries, get, insert}
-use Rattle.sh_files_image.specs.Listing.{front_of, names_in}
-use Rattle.sh_files_image.specs.Paths.{PathMap, absolute, components, fits, stepped}
+use Rattle.sh_files_image.specs.Listing.{prefix_of, names_in}
+use Rattle.sh_files_image.specs.Paths.{PathMap, absolute, components, fits, next_place}
 use Rattle.sh_files_image.specs.Starting.{starting_paths}
-use Rattle.sh_files_image.specs.Contents.{Regular, written}
+use Rattle.sh_files_image.specs.Contents.{Regular, content_after_write}
 use Rattle.sh_files_image.specs.declared.node.Flags.{Flags}
 use Rattle.sh_files_image.specs.declared.node.Node.{Node}
 use Rattle.sh_files_image.specs.declared.node.Node.TheVariants.{Directory, File, Null, Terminal}
@@ -26,7 +26,7 @@ starting = record { paths = starting_paths; nodes = Directory ∷ Directory ∷ 
 abbrev pub node_at : FileMap → List ℕ → Option Node
 node_at files place = option_and_then (λ n. slice_get files.nodes n) (get files.paths place)
 
--- ---- the path that a path stands for (XBD 4.16)
+-- ---- the absolute path of what a path names (XBD 4.16)
 -- a component is looked for in a directory
 abbrev pub entrance : Option Node → Result (Unit {0}) FileFault
 entrance None = Err NoEntry
@@ -40,19 +40,19 @@ behind_entrance (Ok _) next = next
 behind_entrance (Err fault) next = Err fault
 
 -- from a place, component by component; what the last one names need not be there
-abbrev pub walked : FileMap → List ℕ → List (List ℕ) → Result (List ℕ) FileFault
-walked files place [] = Ok place
-walked files place (name ∷ names) = behind_entrance (entrance (node_at files place)) (walked files (stepped place name) names)
+abbrev pub walk_end : FileMap → List ℕ → List (List ℕ) → Result (List ℕ) FileFault
+walk_end files place [] = Ok place
+walk_end files place (name ∷ names) = behind_entrance (entrance (node_at files place)) (walk_end files (next_place place name) names)
 
 -- an empty path names nothing
 abbrev pub is_empty : List ℕ → Bool
 is_empty [] = true
 is_empty (b ∷ bs) = false
 
-abbrev pub resolved : FileMap → List ℕ → List ℕ → Result (List ℕ) FileFault
-resolved files directory path =
+abbrev pub resolution : FileMap → List ℕ → List ℕ → Result (List ℕ) FileFault
+resolution files directory path =
     if is_empty path || not (fits directory path) then Err NoEntry
-    else walked files (codes "/") (components (absolute directory path))
+    else walk_end files (codes "/") (components (absolute directory path))
 
 -- ---- opening (XSH open)
 -- the flags of a file allow what it is opened for
@@ -60,15 +60,15 @@ abbrev pub allows : Flags → Opening → Bool
 allows flags how = (flags.read || not how.read) && (flags.write || not (how.write || how.truncate))
 
 -- the file's node after it was opened, which may empty it
-abbrev pub emptied : Regular → Opening → Regular
-emptied file how = if how.truncate then record file { bytes = [] } else file
+abbrev pub file_after_open : Regular → Opening → Regular
+file_after_open file how = if how.truncate then record file { bytes = [] } else file
 
 -- the node after it was opened
 abbrev pub node_opened : Opening → Node → Result Node FileFault
 node_opened how Directory = Err IsDirectory
 node_opened how (File file) =
     if how.exclusive then Err Exists
-    else if allows file.flags how then Ok (File (emptied file how))
+    else if allows file.flags how then Ok (File (file_after_open file how))
     else Err NoAccess
 node_opened how Null = Ok Null
 node_opened how Terminal = Ok Terminal
@@ -78,9 +78,9 @@ abbrev pub with_node : FileMap → ℕ → Result Node FileFault → Result File
 with_node files n (Ok node) = Ok (record files { nodes = set files.nodes n node })
 with_node files n (Err fault) = Err fault
 
-abbrev pub numbered : ℕ → Result FileMap FileFault → Result (ℕ × FileMap) FileFault
-numbered n (Ok files) = Ok (n, files)
-numbered n (Err fault) = Err fault
+abbrev pub number_and_files : ℕ → Result FileMap FileFault → Result (ℕ × FileMap) FileFault
+number_and_files n (Ok files) = Ok (n, files)
+number_and_files n (Err fault) = Err fault
 
 abbrev pub open_node : FileMap → Opening → ℕ → Option Node → Result FileMap FileFault
 open_node files how n None = Err NoEntry
@@ -102,15 +102,15 @@ new_file = new_file_of []
 abbrev pub with_new : FileMap → List ℕ → Node → FileMap
 with_new files place node = record { paths = insert files.paths place (length files.nodes); nodes = files.nodes ++ node ∷ [] }
 
-abbrev pub created : FileMap → List ℕ → Opening → Result (ℕ × FileMap) FileFault
-created files place how =
+abbrev pub file_creation : FileMap → List ℕ → Opening → Result (ℕ × FileMap) FileFault
+file_creation files place how =
     if not how.create then Err NoEntry
     else if may_create place then Ok (length files.nodes, with_new files place new_file)
     else Err NoAccess
 
 abbrev pub open_number : FileMap → List ℕ → Opening → Option ℕ → Result (ℕ × FileMap) FileFault
-open_number files place how None = created files place how
-open_number files place how (Some n) = numbered n (open_node files how n (slice_get files.nodes n))
+open_number files place how None = file_creation files place how
+open_number files place how (Some n) = number_and_files n (open_node files how n (slice_get files.nodes n))
 
 abbrev pub open_place : FileMap → Opening → Result (List ℕ) FileFault → Result (ℕ × FileMap) FileFault
 open_place files how (Err fault) = Err fault
@@ -119,7 +119,7 @@ open_place files how (Ok place) = open_number files place how (get files.paths p
 -- the number of what is opened, and the files then; lengths are tried first, then the components from the left, then
 -- whether it is a directory, whether it is there already, and the flags
 abbrev pub opened : FileMap → List ℕ → List ℕ → Opening → Result (ℕ × FileMap) FileFault
-opened files directory path how = open_place files how (resolved files directory path)
+opened files directory path how = open_place files how (resolution files directory path)
 
 -- ---- files that no path names, as a here-document (XCU 2.7.4)
 -- one more node, at no path
@@ -152,12 +152,12 @@ write_fits offset bytes = is_empty bytes || nat_le (offset + length bytes) 10737
 abbrev pub node_written : ℕ → List ℕ → Node → Result Node FileFault
 node_written offset bytes Directory = Err BadNumber
 node_written offset bytes (File file) =
-    if write_fits offset bytes then Ok (File (record file { bytes = written file.bytes offset bytes }))
+    if write_fits offset bytes then Ok (File (record file { bytes = content_after_write file.bytes offset bytes }))
     else Err TooLarge
 node_written offset bytes Null = Ok Null
 node_written offset bytes Terminal = Err BadNumber
 
--- the node after the bytes from a place on were let go
+-- the node after its bytes from a place on were dropped
 abbrev pub node_truncated : ℕ → Node → Result Node FileFault
 node_truncated count Directory = Err BadNumber
 node_truncated count (File file) = Ok (File (record file { bytes = take count file.bytes }))
@@ -176,18 +176,18 @@ abbrev pub truncate_node : FileMap → ℕ → ℕ → Option Node → Result Fi
 truncate_node files n count None = Err BadNumber
 truncate_node files n count (Some node) = with_node files n (node_truncated count node)
 
--- the bytes from a place on go
-abbrev pub truncated : FileMap → ℕ → ℕ → Result FileMap FileFault
-truncated files n count = truncate_node files n count (slice_get files.nodes n)
+-- the bytes from a place on are dropped
+abbrev pub truncation : FileMap → ℕ → ℕ → Result FileMap FileFault
+truncation files n count = truncate_node files n count (slice_get files.nodes n)
 
 -- ---- what a path names
 abbrev pub found_at : FileMap → Result (List ℕ) FileFault → Option Node
 found_at files (Err fault) = None
 found_at files (Ok place) = node_at files place
 
--- the node that a path names, read as it is to open it
-abbrev pub named : FileMap → List ℕ → List ℕ → Option Node
-named files directory path = found_at files (resolved files directory path)
+-- the node that a path names, which is followed as for opening
+abbrev pub node_of_path : FileMap → List ℕ → List ℕ → Option Node
+node_of_path files directory path = found_at files (resolution files directory path)
 
 -- ---- what may be run (XCU 2.9.1.4)
 abbrev pub runs : Option Node → Bool
@@ -199,11 +199,11 @@ runs (Some Terminal) = false
 
 -- a path names a regular file that may be executed
 abbrev pub is_executable : FileMap → List ℕ → List ℕ → Bool
-is_executable files directory path = runs (named files directory path)
+is_executable files directory path = runs (node_of_path files directory path)
 
 -- ---- the names in a directory (XSH readdir, without dot and dot-dot)
 abbrev pub names_at : FileMap → List ℕ → Result (Unit {0}) FileFault → Result (List (List ℕ)) FileFault
-names_at files place (Ok _) = Ok (names_in (front_of place) (entries files.paths))
+names_at files place (Ok _) = Ok (names_in (prefix_of place) (entries files.paths))
 names_at files place (Err fault) = Err fault
 
 abbrev pub list_place : FileMap → Result (List ℕ) FileFault → Result (List (List ℕ)) FileFault
@@ -211,5 +211,5 @@ list_place files (Err fault) = Err fault
 list_place files (Ok place) = names_at files place (entrance (node_at files place))
 
 -- the names in the directory that a path names, in the order of their paths' bytes
-abbrev pub listed : FileMap → List ℕ → List ℕ → Result (List (List ℕ)) FileFault
-listed files directory path = list_place files (resolved files directory path)
+abbrev pub directory_names : FileMap → List ℕ → List ℕ → Result (List (List ℕ)) FileFault
+directory_names files directory path = list_place files (resolution files directory path)

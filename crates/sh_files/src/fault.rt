@@ -19,7 +19,7 @@ pub enum FileFault {
     /// It is a directory (EISDIR).
     #[error("is a directory")]
     IsDirectory,
-    /// What stands before a slash is no directory (ENOTDIR).
+    /// What is named before a slash is no directory (ENOTDIR).
     #[error("not a directory")]
     NotDirectory,
     /// There is a regular file already (EEXIST).

@@ -5,11 +5,11 @@ ghost use Rattle.std.specs.Prelude.{List, ℕ, map as list_map};
 ghost use Rattle.std.specs.Borrow.{Bor};
 ghost use Rattle.std.specs.FinMap as map;
 ghost use Rattle.sh_files_image.specs.Blocks.{flat};
-ghost use Rattle.sh_files_image.specs.Listing.{front_of, names_in};
+ghost use Rattle.sh_files_image.specs.Listing.{prefix_of, names_in};
 ghost use Rattle.sh_files_image.specs.Paths.{fits, components};
 ghost use Rattle.std.specs.Result.{result_map_both};
-ghost use Rattle.sh_files_image.specs.Contents.{written};
-ghost use Rattle.sh_files.specs.Nodes.{allows, node_opened, node_truncated, node_written, emptied, runs, write_fits, created, entrance, is_empty, is_executable, may_create, named, nameless, node_at, open_node, open_number, opened, read_at, resolved, starting, truncated, walked, with_new, write_at};
+ghost use Rattle.sh_files_image.specs.Contents.{content_after_write};
+ghost use Rattle.sh_files.specs.Nodes.{allows, node_opened, node_truncated, node_written, file_after_open, runs, write_fits, file_creation, entrance, is_empty, is_executable, may_create, node_of_path, nameless, node_at, open_node, open_number, opened, read_at, resolution, starting, truncation, walk_end, with_new, write_at};
 
 use crate::fault::FileFault;
 use crate::opening::Opening;
@@ -34,8 +34,8 @@ pub struct Files {
 impl Model for Files {
     ghost use Rattle.std.specs.Coded.{codes};
     ghost use Rattle.std.specs.Result.{result_map_both};
-    ghost use Rattle.sh_files_image.specs.Contents.{written};
-    ghost use Rattle.sh_files.specs.Nodes.{allows, node_opened, node_truncated, node_written, emptied, runs, write_fits, FileMap};
+    ghost use Rattle.sh_files_image.specs.Contents.{content_after_write};
+    ghost use Rattle.sh_files.specs.Nodes.{allows, node_opened, node_truncated, node_written, file_after_open, runs, write_fits, FileMap};
     ghost use Rattle.sh_files_image.specs.Codes.{map_code};
 
     ghost Value = { FileMap };
@@ -81,7 +81,7 @@ impl Files {
         }
     }
 
-    /// The numbers of the nodes at two such paths, which stand near each other.
+    /// The numbers of the nodes at two such paths; this is quicker where they are near each other in order.
     pub(crate) fn numbers_at(&self, place: &[u8], near: &[u8]) -> (Option<usize>, Option<usize>)
         ensures { result ≡ (map.get self.now.paths place.now, map.get self.now.paths near.now) }
     {
@@ -104,7 +104,9 @@ impl Files {
 
     /// The names in the directory at a place, in the order of their paths' bytes.
     pub(crate) fn names_at(&self, place: &[u8]) -> Result<Vec<&[u8]>, AllocError>
-        ensures { IfOk result (λ names. list_map (λ (name : Bor (List ℕ)). name.now) names.items ≡ names_in (front_of place.now) (map.entries self.now.paths)) }
+        ensures { IfOk result (λ names.
+            list_map (λ (name : Bor (List ℕ)). name.now) names.items
+            ≡ names_in (prefix_of place.now) (map.entries self.now.paths)) }
     {
         let names = self.paths.names_in(self.alloc, place)?;
         Ok(names)
@@ -128,8 +130,11 @@ impl Files {
 
     /// Goes from the root along the components of a path.
     fn walk(&self, path: &[u8]) -> Result<Vec<u8>, FileFault>
-        ensures ok { IfOk result (λ place. walked self.now (codes "/") (components path.now) ≡ Ok place.items) }
-        ensures refused { IfErr result (λ fault. fault ≢ FileFault.NoMemory no_memory → walked self.now (codes "/") (components path.now) ≡ Err fault) }
+        ensures ok { IfOk result (λ place.
+            walk_end self.now (codes "/") (components path.now) ≡ Ok place.items) }
+        ensures refused { IfErr result (λ fault.
+            fault ≢ FileFault.NoMemory no_memory
+            → walk_end self.now (codes "/") (components path.now) ≡ Err fault) }
     {
         let mut place = Vec::from_slice(self.alloc, b"/")?;
         let mut rest = path;
@@ -143,10 +148,13 @@ impl Files {
         Ok(place)
     }
 
-    /// The place that a path stands for in a directory.
+    /// The absolute path of what a path names, from a directory.
     pub(crate) fn resolve(&self, directory: &[u8], path: &[u8]) -> Result<Vec<u8>, FileFault>
-        ensures ok { IfOk result (λ place. resolved self.now directory.now path.now ≡ Ok place.items) }
-        ensures refused { IfErr result (λ fault. fault ≢ FileFault.NoMemory no_memory → resolved self.now directory.now path.now ≡ Err fault) }
+        ensures ok { IfOk result (λ place.
+            resolution self.now directory.now path.now ≡ Ok place.items) }
+        ensures refused { IfErr result (λ fault.
+            fault ≢ FileFault.NoMemory no_memory → resolution self.now directory.now path.now
+            ≡ Err fault) }
     {
         if path.is_empty() || path.len() > MAX_PATH {
             return Err(FileFault::NoEntry);
@@ -161,14 +169,19 @@ impl Files {
     /// Opens what a path names, in a working directory where the path doesn't begin with a slash, and gives the number
     /// of its node. An empty path names nothing. Dot and dot-dot are followed.
     ///
-    /// `NoEntry` where the path, as given or from the root, is longer than [`MAX_PATH`], or a name than [`MAX_NAME`];
-    /// then, from the left, `NoEntry` where nothing is, and `NotDirectory` where a file stands before a slash; then
-    /// `NoEntry` where there is nothing and nothing is to be made; `IsDirectory`, since no directory is opened;
-    /// `Exists` for a regular file under `exclusive`; `NoAccess` where the file's flags don't allow it, or nothing may
-    /// be made there: in `/dev`, or under a name with a newline or NUL. `NoMemory` may come at any point.
+    /// The errors are looked for in this order. `NoEntry` where the path is longer than [`MAX_PATH`], as
+    /// given or as an absolute path, or a name is longer than [`MAX_NAME`]; then, from the left, `NoEntry`
+    /// where what is named before a slash isn't there, and `NotDirectory` where it is no directory; `NoEntry`
+    /// where the path names nothing and `create` isn't set; `IsDirectory`, since no directory is opened;
+    /// `Exists` for a regular file under `exclusive`; `NoAccess` where the file's flags don't allow it, or
+    /// nothing may be made there: in `/dev`, or under a name with a newline or NUL. `NoMemory` may come at
+    /// any point.
     pub fn open(&mut self, directory: &[u8], path: &[u8], how: Opening) -> Result<usize, FileFault>
-        ensures ok { IfOk result (λ number. opened self.old directory.now path.now how ≡ Ok (number, self.new)) }
-        ensures refused { IfErr result (λ fault. fault ≢ FileFault.NoMemory no_memory → opened self.old directory.now path.now how ≡ Err fault) }
+        ensures ok { IfOk result (λ number.
+            opened self.old directory.now path.now how ≡ Ok (number, self.new)) }
+        ensures refused { IfErr result (λ fault.
+            fault ≢ FileFault.NoMemory no_memory → opened self.old directory.now path.now how
+            ≡ Err fault) }
         ensures err { OnErr result (self.new ≡ self.old) }
     {
         let place = self.resolve(directory, path)?;
@@ -181,8 +194,10 @@ impl Files {
 
     /// Opens what is there.
     fn open_number(&mut self, number: usize, how: Opening) -> Result<(), FileFault>
-        ensures ok { OnOk result (open_node self.old how number (slice_get self.old.nodes number) ≡ Ok self.new) }
-        ensures refused { IfErr result (λ fault. open_node self.old how number (slice_get self.old.nodes number) ≡ Err fault) }
+        ensures ok { OnOk result
+            (open_node self.old how number (slice_get self.old.nodes number) ≡ Ok self.new) }
+        ensures refused { IfErr result (λ fault.
+            open_node self.old how number (slice_get self.old.nodes number) ≡ Err fault) }
         ensures err { OnErr result (self.new ≡ self.old) }
     {
         let Some(node) = self.nodes.get_mut(number) else {
@@ -193,8 +208,11 @@ impl Files {
 
     /// Makes a file where nothing is.
     fn create(&mut self, place: Vec<u8>, how: Opening) -> Result<usize, FileFault>
-        ensures ok { IfOk result (λ number. created self.old place.items how ≡ Ok (number, self.new)) }
-        ensures refused { IfErr result (λ fault. fault ≢ FileFault.NoMemory no_memory → created self.old place.items how ≡ Err fault) }
+        ensures ok { IfOk result (λ number.
+            file_creation self.old place.items how ≡ Ok (number, self.new)) }
+        ensures refused { IfErr result (λ fault.
+            fault ≢ FileFault.NoMemory no_memory → file_creation self.old place.items how
+            ≡ Err fault) }
         ensures err { OnErr result (self.new ≡ self.old) }
     {
         if !how.create {
@@ -209,7 +227,8 @@ impl Files {
 
     /// Adds a node at a place where nothing is.
     pub(crate) fn add(&mut self, place: Vec<u8>, node: Node) -> Result<usize, AllocError>
-        ensures ok { IfOk result (λ number. (number ≡ length self.old.nodes) × (self.new ≡ with_new self.old place.items node)) }
+        ensures ok { IfOk result (λ number.
+            (number ≡ length self.old.nodes) × (self.new ≡ with_new self.old place.items node)) }
         ensures err { OnErr result (self.new ≡ self.old) }
     {
         let number = self.nodes.len();
@@ -219,10 +238,12 @@ impl Files {
         Ok(number)
     }
 
-    /// Up to `count` bytes of a file from a place on; none where it ends there or before. The null device is always at
-    /// its end. `BadNumber` where the number is of no regular file and not of the null device. Takes no memory.
+    /// Up to `count` bytes of a file from an offset on (XSH read); none where it ends there or before. The
+    /// null device is always at its end. `BadNumber` where the number is of no regular file and not of the
+    /// null device. Takes no memory.
     pub fn read(&self, number: usize, offset: usize, count: usize) -> Result<&[u8], FileFault>
-        ensures { result_map_both (λ bytes. bytes.now) (λ fault. fault) result ≡ read_at self.now number offset count }
+        ensures { result_map_both (λ bytes. bytes.now) (λ fault. fault) result
+            ≡ read_at self.now number offset count }
     {
         match self.node(number) {
             Some(Node::File(file)) => Ok(part(file.bytes(), offset, count)),
@@ -231,15 +252,19 @@ impl Files {
         }
     }
 
-    /// Writes all these bytes at a place, over those that are there; where the file ends sooner, NUL bytes fill the
-    /// gap. A write of no bytes changes nothing. The null device takes everything.
+    /// Writes all these bytes at an offset, over those that are there (XSH write); where the file ends before
+    /// it, NUL bytes fill the gap. A write of no bytes changes nothing. The null device takes everything.
     ///
     /// `BadNumber` where the number is of no regular file and not of the null device; `TooLarge` where the file would
     /// be longer than [`MAX_LENGTH`]; else `NoMemory`.
     pub fn write(&mut self, number: usize, offset: usize, bytes: &[u8]) -> Result<(), FileFault>
         ensures ok { OnOk result (write_at self.old number offset bytes.now ≡ Ok self.new) }
-        ensures refused { IfErr result (λ fault. fault ≢ FileFault.NoMemory no_memory → write_at self.old number offset bytes.now ≡ Err fault) }
-        ensures room { IfErr result (λ fault. fault ≡ FileFault.NoMemory no_memory → IsOk (write_at self.old number offset bytes.now)) }
+        ensures refused { IfErr result (λ fault.
+            fault ≢ FileFault.NoMemory no_memory → write_at self.old number offset bytes.now
+            ≡ Err fault) }
+        ensures room { IfErr result (λ fault.
+            fault ≡ FileFault.NoMemory no_memory
+            → IsOk (write_at self.old number offset bytes.now)) }
         ensures err { OnErr result (self.new ≡ self.old) }
     {
         let Some(node) = self.nodes.get_mut(number) else {
@@ -248,11 +273,11 @@ impl Files {
         write_node(node, offset, bytes)
     }
 
-    /// Lets the bytes of a file from a length on go. `BadNumber` where the number is of no regular file and not of the
-    /// null device. Takes no memory.
+    /// Cuts a file to a length, if it is longer. `BadNumber` where the number is of no regular file and not
+    /// of the null device. Takes no memory.
     pub fn truncate(&mut self, number: usize, length: usize) -> Result<(), FileFault>
-        ensures ok { OnOk result (truncated self.old number length ≡ Ok self.new) }
-        ensures refused { IfErr result (λ fault. truncated self.old number length ≡ Err fault) }
+        ensures ok { OnOk result (truncation self.old number length ≡ Ok self.new) }
+        ensures refused { IfErr result (λ fault. truncation self.old number length ≡ Err fault) }
         ensures err { OnErr result (self.new ≡ self.old) }
     {
         let Some(node) = self.nodes.get_mut(number) else {
@@ -267,8 +292,10 @@ impl Files {
     /// `TooLarge` where there are more than [`MAX_LENGTH`] bytes; else `NoMemory`.
     pub fn add_nameless(&mut self, bytes: Vec<u8>) -> Result<usize, FileFault>
         ensures ok { IfOk result (λ number. nameless self.old bytes.items ≡ Ok (number, self.new)) }
-        ensures refused { IfErr result (λ fault. fault ≢ FileFault.NoMemory no_memory → nameless self.old bytes.items ≡ Err fault) }
-        ensures room { IfErr result (λ fault. fault ≡ FileFault.NoMemory no_memory → IsOk (nameless self.old bytes.items)) }
+        ensures refused { IfErr result (λ fault.
+            fault ≢ FileFault.NoMemory no_memory → nameless self.old bytes.items ≡ Err fault) }
+        ensures room { IfErr result (λ fault.
+            fault ≡ FileFault.NoMemory no_memory → IsOk (nameless self.old bytes.items)) }
         ensures err { OnErr result (self.new ≡ self.old) }
     {
         if bytes.len() > MAX_LENGTH {
@@ -281,10 +308,11 @@ impl Files {
         Ok(number)
     }
 
-    /// The node that a path names, which is read as by [`Files::open`]; none where it names nothing, also for a fault
-    /// of the path. The only error is want of memory.
+    /// The node that a path names. The path is followed as by [`Files::open`]; `None` where it names nothing
+    /// or can't be followed. The only error is want of memory.
     pub fn find(&self, directory: &[u8], path: &[u8]) -> Result<Option<&Node>, AllocError>
-        ensures { IfOk result (λ found. option_map (λ node. node.now) found ≡ named self.now directory.now path.now) }
+        ensures { IfOk result (λ found.
+            option_map (λ node. node.now) found ≡ node_of_path self.now directory.now path.now) }
     {
         match self.resolve(directory, path) {
             Ok(place) => Ok(self.node_at(&place)),
@@ -295,7 +323,8 @@ impl Files {
 
     /// Whether a path names a regular file that may be executed (XCU 2.9.1.4). The only error is want of memory.
     pub fn is_executable(&self, directory: &[u8], path: &[u8]) -> Result<bool, AllocError>
-        ensures { IfOk result (λ executable. executable ≡ is_executable self.now directory.now path.now) }
+        ensures { IfOk result (λ executable.
+            executable ≡ is_executable self.now directory.now path.now) }
     {
         let found = self.find(directory, path)?;
         Ok(runs(found))
@@ -337,8 +366,10 @@ fn open_node(node: &mut Node, how: Opening) -> Result<(), FileFault>
 /// Writes to a node.
 fn write_node(node: &mut Node, offset: usize, bytes: &[u8]) -> Result<(), FileFault>
     ensures ok { OnOk result (node_written offset bytes.now node.old ≡ Ok node.new) }
-    ensures refused { IfErr result (λ fault. fault ≢ FileFault.NoMemory no_memory → node_written offset bytes.now node.old ≡ Err fault) }
-    ensures room { IfErr result (λ fault. fault ≡ FileFault.NoMemory no_memory → IsOk (node_written offset bytes.now node.old)) }
+    ensures refused { IfErr result (λ fault.
+        fault ≢ FileFault.NoMemory no_memory → node_written offset bytes.now node.old ≡ Err fault) }
+    ensures room { IfErr result (λ fault.
+        fault ≡ FileFault.NoMemory no_memory → IsOk (node_written offset bytes.now node.old)) }
     ensures err { OnErr result (node.new ≡ node.old) }
 {
     if matches!(node, Node::Null) {
@@ -350,7 +381,7 @@ fn write_node(node: &mut Node, offset: usize, bytes: &[u8]) -> Result<(), FileFa
     write_file(file, offset, bytes)
 }
 
-/// Lets the bytes of a node from a length on go.
+/// Cuts the bytes of a node to a length.
 fn truncate_node(node: &mut Node, length: usize) -> Result<(), FileFault>
     ensures ok { OnOk result (node_truncated length node.old ≡ Ok node.new) }
     ensures refused { IfErr result (λ fault. node_truncated length node.old ≡ Err fault) }
@@ -368,9 +399,13 @@ fn truncate_node(node: &mut Node, length: usize) -> Result<(), FileFault>
 
 /// Opens a file.
 fn open_file(file: &mut File, how: Opening) -> Result<(), FileFault>
-    ensures ok { OnOk result ((how.exclusive ≡ false) × (allows file.old.flags how ≡ true) × (file.new ≡ emptied file.old how)) }
-    ensures refused { IfErr result (λ fault. fault ≡ (if how.exclusive then FileFault.Exists else FileFault.NoAccess)) }
-    ensures err { OnErr result (((how.exclusive ≡ true) ⊎ (allows file.old.flags how ≡ false)) × (file.new ≡ file.old)) }
+    ensures ok { OnOk result
+        ((how.exclusive ≡ false) × (allows file.old.flags how ≡ true)
+        × (file.new ≡ file_after_open file.old how)) }
+    ensures refused { IfErr result (λ fault.
+        fault ≡ (if how.exclusive then FileFault.Exists else FileFault.NoAccess)) }
+    ensures err { OnErr result
+        (((how.exclusive ≡ true) ⊎ (allows file.old.flags how ≡ false)) × (file.new ≡ file.old)) }
 {
     if how.exclusive {
         return Err(FileFault::Exists);
@@ -387,9 +422,15 @@ fn open_file(file: &mut File, how: Opening) -> Result<(), FileFault>
 
 /// Writes into a file.
 fn write_file(file: &mut File, offset: usize, bytes: &[u8]) -> Result<(), FileFault>
-    ensures ok { OnOk result ((write_fits offset bytes.now ≡ true) × (file.new ≡ record file.old { bytes = written file.old.bytes offset bytes.now })) }
-    ensures refused { IfErr result (λ fault. fault ≢ FileFault.NoMemory no_memory → (fault ≡ FileFault.TooLarge) × (write_fits offset bytes.now ≡ false)) }
-    ensures room { IfErr result (λ fault. fault ≡ FileFault.NoMemory no_memory → write_fits offset bytes.now ≡ true) }
+    ensures ok { OnOk result
+        ((write_fits offset bytes.now ≡ true)
+        × (file.new ≡ record file.old
+        { bytes = content_after_write file.old.bytes offset bytes.now })) }
+    ensures refused { IfErr result (λ fault.
+        fault ≢ FileFault.NoMemory no_memory → (fault ≡ FileFault.TooLarge)
+        × (write_fits offset bytes.now ≡ false)) }
+    ensures room { IfErr result (λ fault.
+        fault ≡ FileFault.NoMemory no_memory → write_fits offset bytes.now ≡ true) }
     ensures err { OnErr result (file.new ≡ file.old) }
 {
     if bytes.is_empty() {

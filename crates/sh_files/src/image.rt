@@ -3,7 +3,7 @@ ghost use Rattle.sh_base.specs.Memory.{no_memory};
 ghost use Rattle.std.specs.Prelude.{◌≡◌, ◌≢◌, ◌≤◌, IfOk, IfErr, OnOk, OnErr, Ok, Err, None, length, [], slice_get, Some};
 ghost use Rattle.std.specs.Option.{option_and_then};
 ghost use Rattle.sh_files_image.specs.Fields.{line_of};
-ghost use Rattle.sh_files.specs.Image.{by_header, image_of, read_image, stands, content_fault, entries, entry, file_entry, is_directory, path_fault, placed};
+ghost use Rattle.sh_files.specs.Image.{by_header, image_of, read_image, stands, content_fault, entries, entry, file_entry, is_directory, path_fault, node_entry};
 
 use crate::files::Files;
 use sh_files_image::{
@@ -19,10 +19,11 @@ struct Stop {
     left: usize,
 }
 
-/// What is wrong with a file's bytes and the newline behind them.
+/// What is wrong with a file's bytes and the newline after them.
 fn check_content(size: usize, after: &[u8]) -> Result<(), FaultKind>
     ensures ok { OnOk result (content_fault size (slice_get after.now size) ≡ None) }
-    ensures refused { IfErr result (λ kind. content_fault size (slice_get after.now size) ≡ Some kind) }
+    ensures refused { IfErr result (λ kind.
+        content_fault size (slice_get after.now size) ≡ Some kind) }
 {
     match after.get(size) {
         Some(byte) if *byte == b'\n' => Ok(()),
@@ -62,8 +63,12 @@ impl Files {
 
     /// Adds a directory.
     fn add_directory(&mut self, path: &[u8]) -> Result<usize, FaultKind>
-        ensures ok { IfOk result (λ used. placed self.old path.now Node.Directory 0 (path_fault self.old path.now) ≡ Ok (self.new, used)) }
-        ensures refused { IfErr result (λ kind. kind ≢ FaultKind.NoMemory no_memory → placed self.old path.now Node.Directory 0 (path_fault self.old path.now) ≡ Err kind) }
+        ensures ok { IfOk result (λ used.
+            node_entry self.old path.now Node.Directory 0 (path_fault self.old path.now)
+            ≡ Ok (self.new, used)) }
+        ensures refused { IfErr result (λ kind.
+            kind ≢ FaultKind.NoMemory no_memory → node_entry self.old path.now Node.Directory 0
+            (path_fault self.old path.now) ≡ Err kind) }
     {
         self.check_path(path)?;
         let place = Vec::from_slice(self.alloc(), path)?;
@@ -71,7 +76,7 @@ impl Files {
         Ok(0)
     }
 
-    /// Adds a file, whose bytes begin what is behind its line.
+    /// Adds a file. Its bytes are the first of those after its line.
     fn add_file(
         &mut self,
         after: &[u8],
@@ -79,8 +84,11 @@ impl Files {
         flags: Flags,
         size: Option<usize>,
     ) -> Result<usize, FaultKind>
-        ensures ok { IfOk result (λ used. file_entry self.old after.now path.now flags size ≡ Ok (self.new, used)) }
-        ensures refused { IfErr result (λ kind. kind ≢ FaultKind.NoMemory no_memory → file_entry self.old after.now path.now flags size ≡ Err kind) }
+        ensures ok { IfOk result (λ used.
+            file_entry self.old after.now path.now flags size ≡ Ok (self.new, used)) }
+        ensures refused { IfErr result (λ kind.
+            kind ≢ FaultKind.NoMemory no_memory
+            → file_entry self.old after.now path.now flags size ≡ Err kind) }
     {
         self.check_path(path)?;
         let Some(size) = size else {
@@ -93,10 +101,11 @@ impl Files {
         Ok(size + 1)
     }
 
-    /// Adds what a line names, and says how many of the bytes behind it belong to it.
+    /// Adds what a line names, and says how many of the bytes after the line belong to it.
     fn add_entry(&mut self, line: &[u8], after: &[u8]) -> Result<usize, FaultKind>
         ensures ok { IfOk result (λ used. entry self.old line.now after.now ≡ Ok (self.new, used)) }
-        ensures refused { IfErr result (λ kind. kind ≢ FaultKind.NoMemory no_memory → entry self.old line.now after.now ≡ Err kind) }
+        ensures refused { IfErr result (λ kind.
+            kind ≢ FaultKind.NoMemory no_memory → entry self.old line.now after.now ≡ Err kind) }
     {
         if let Some(path) = behind(line, b"dir ") {
             return self.add_directory(path);
@@ -113,7 +122,8 @@ impl Files {
     /// Adds what the lines of an image name, up to its end.
     fn add_entries(&mut self, bytes: &[u8]) -> Result<(), Stop>
         ensures ok { OnOk result (entries self.old 0 bytes.now ≡ Ok self.new) }
-        ensures refused { IfErr result (λ stop. stop.kind ≢ FaultKind.NoMemory no_memory → entries self.old 0 bytes.now ≡ Err stop) }
+        ensures refused { IfErr result (λ stop.
+            stop.kind ≢ FaultKind.NoMemory no_memory → entries self.old 0 bytes.now ≡ Err stop) }
         ensures within { IfErr result (λ stop. stop.left ≤ length bytes.now) }
     {
         let mut rest = bytes;
@@ -140,7 +150,9 @@ impl Files {
     /// The files of an image.
     fn read_lines(alloc: Global, bytes: &[u8]) -> Result<Files, Stop>
         ensures ok { IfOk result (λ files. by_header bytes.now (line_of bytes.now) ≡ Ok files) }
-        ensures refused { IfErr result (λ stop. stop.kind ≢ FaultKind.NoMemory no_memory → by_header bytes.now (line_of bytes.now) ≡ Err stop) }
+        ensures refused { IfErr result (λ stop.
+            stop.kind ≢ FaultKind.NoMemory no_memory → by_header bytes.now (line_of bytes.now)
+            ≡ Err stop) }
         ensures within { IfErr result (λ stop. stop.left ≤ length bytes.now) }
     {
         let left = bytes.len();
@@ -177,25 +189,27 @@ impl Files {
     /// without dot, dot-dot and doubled slashes, and isn't `/`, `/dev` or below `/dev`. A directory comes before what it
     /// holds.
     ///
-    /// The first line with a fault is refused, and in it the first fault of `BadHeader`, `BadLine` (also where no newline
-    /// follows a file's bytes), `BadPath`, `NoParent`, `Duplicate`, `TooLarge` (a LENGTH above [`MAX_IMAGE`]). A line
-    /// without its newline is `Truncated`, as is a file whose bytes or newline are cut off; bytes behind `end` are
-    /// `Trailing`. An image longer than [`MAX_IMAGE`] is `TooLarge` at the line of the first byte beyond, if no line
-    /// before has a fault. `NoMemory` may come at any point.
+    /// The error tells the first line with a fault, and of its faults the first in this order: `BadHeader`,
+    /// `BadLine` (also where no newline follows a file's bytes), `BadPath`, `NoParent`, `Duplicate`,
+    /// `TooLarge` (a LENGTH above [`MAX_IMAGE`]). A line without its newline is `Truncated`, as is a file
+    /// whose bytes or newline are cut off; bytes after `end` are `Trailing`. An image longer than
+    /// [`MAX_IMAGE`] is `TooLarge` at the line of the first byte beyond, if no line before has a fault.
+    /// `NoMemory` may come at any point.
     pub fn from_image(alloc: Global, bytes: &[u8]) -> Result<Files, ImageFault>
         ensures ok { IfOk result (λ files. read_image bytes.now ≡ Ok files) }
-        ensures refused { IfErr result (λ fault. fault.kind ≢ FaultKind.NoMemory no_memory → read_image bytes.now ≡ Err fault) }
+        ensures refused { IfErr result (λ fault.
+            fault.kind ≢ FaultKind.NoMemory no_memory → read_image bytes.now ≡ Err fault) }
     {
         if bytes.len() <= MAX_IMAGE {
             return Files::read_short(alloc, bytes);
         }
-        let front = first(bytes, MAX_IMAGE);
-        let line = 1 + count_newlines(front);
+        let prefix = first(bytes, MAX_IMAGE);
+        let line = 1 + count_newlines(prefix);
         let too_large = ImageFault {
             kind: FaultKind::TooLarge,
             line,
         };
-        let Err(fault) = Files::read_short(alloc, front) else {
+        let Err(fault) = Files::read_short(alloc, prefix) else {
             return Err(too_large);
         };
         if matches!(fault.kind, FaultKind::NoMemory(_)) || stands(fault, line) {
@@ -208,7 +222,8 @@ impl Files {
     fn read_short(alloc: Global, bytes: &[u8]) -> Result<Files, ImageFault>
         requires { length bytes.now ≤ 268435456 }
         ensures ok { IfOk result (λ files. image_of bytes.now ≡ Ok files) }
-        ensures refused { IfErr result (λ fault. fault.kind ≢ FaultKind.NoMemory no_memory → image_of bytes.now ≡ Err fault) }
+        ensures refused { IfErr result (λ fault.
+            fault.kind ≢ FaultKind.NoMemory no_memory → image_of bytes.now ≡ Err fault) }
     {
         match Files::read_lines(alloc, bytes) {
             Ok(files) => Ok(files),
@@ -220,17 +235,18 @@ impl Files {
     }
 }
 
-/// Whether a fault stands in a line before this one, and not for want of more bytes.
+/// Whether a fault is in a line before this one, and isn't that the image ends too early.
 fn stands(fault: ImageFault, line: usize) -> bool
     ensures { result ≡ stands fault line }
 {
     !matches!(fault.kind, FaultKind::Truncated) && fault.line < line
 }
 
-/// Refuses bytes behind the last line.
+/// Refuses bytes after the last line.
 fn check_end(after: &[u8]) -> Result<(), Stop>
     ensures ok { OnOk result (after.now ≡ []) }
-    ensures refused { IfErr result (λ stop. (stop ≡ record { kind = FaultKind.Trailing; left = length after.now }) × (after.now ≢ [])) }
+    ensures refused { IfErr result (λ stop.
+        (stop ≡ record { kind = FaultKind.Trailing; left = length after.now }) × (after.now ≢ [])) }
 {
     if after.is_empty() {
         return Ok(());

@@ -7,9 +7,9 @@ use sh_files_image::write_blocks;
 use std::alloc::AllocError;
 
 impl Files {
-    /// The image of the files, as [`Files::from_image`] reads it, its lines sorted by the bytes of their paths. The root
-    /// and the devices are in no image. One that is longer than [`MAX_IMAGE`](crate::MAX_IMAGE) isn't read again. The only
-    /// error is want of memory.
+    /// The image of the files, as [`Files::from_image`] reads it, its lines sorted by the bytes of their
+    /// paths. The root and the devices are in no image. An image longer than [`MAX_IMAGE`](crate::MAX_IMAGE)
+    /// is refused where it is read. The only error is want of memory.
     pub fn write_image(&self) -> Result<Vec<u8>, AllocError>
         ensures { IfOk result (λ image. image.items ≡ image_text self.now) }
     {

@@ -64,9 +64,9 @@ pub rises_back : (xs ys : Entries) → Rises (xs ++ ys) → Rises ys
 rises_back [] ys h = h
 rises_back (e ∷ xs) ys h = rises_back xs ys (right _ _ h)
 
-pub rises_front : (xs ys : Entries) → Rises (xs ++ ys) → Rises xs
-rises_front [] ys h = tt
-rises_front (e ∷ xs) ys h = joined _ _ (keep_below e.0 xs ys (left _ _ h)) (rises_front xs ys (right _ _ h))
+pub rises_prefix : (xs ys : Entries) → Rises (xs ++ ys) → Rises xs
+rises_prefix [] ys h = tt
+rises_prefix (e ∷ xs) ys h = joined _ _ (keep_below e.0 xs ys (left _ _ h)) (rises_prefix xs ys (right _ _ h))
 
 -- ---- the block of a path
 starts_strict : (q x : List ℕ) (bs : List Entries) (j : ℕ) (d : Entries) → T (below_all order x (flat bs)) → j < length bs → starts_by q (get_or bs j d) ≡ true → order x q ≡ Less
@@ -184,7 +184,7 @@ flat_set (b ∷ bs) (suc i) new lt = ap (λ (es : Entries). b ++ es) (flat_set b
 
 pub block_rises : (bs : List Entries) (i : ℕ) (d : Entries) → Rises (flat bs) → i < length bs → Rises (get_or bs i d)
 block_rises bs i d h lt =
-    rises_front (get_or bs i d) (flat (drop (suc i) bs)) (rises_back (flat (take i bs)) _ (subst Rises (flat_at bs i d lt) h))
+    rises_prefix (get_or bs i d) (flat (drop (suc i) bs)) (rises_back (flat (take i bs)) _ (subst Rises (flat_at bs i d lt) h))
 
 -- ---- finding
 find_back : (q : List ℕ) (xs ys : Entries) → list_all (before q) xs ≡ true → map.find order q (xs ++ ys) ≡ map.find order q ys
@@ -193,18 +193,18 @@ find_back q (e ∷ xs) ys h =
     let p = both (before q e) (list_all (before q) xs) h in
     skipped q e (xs ++ ys) (flipped e.0 q Less (lesser _ p.0)) ∙ find_back q xs ys p.1
 
-find_front : (q : List ℕ) (ys zs : Entries) → list_all (behind q) zs ≡ true → map.find order q (ys ++ zs) ≡ map.find order q ys
-find_front q [] [] h = refl
-find_front q [] (z ∷ zs) h =
+find_prefix : (q : List ℕ) (ys zs : Entries) → list_all (behind q) zs ≡ true → map.find order q (ys ++ zs) ≡ map.find order q ys
+find_prefix q [] [] h = refl
+find_prefix q [] (z ∷ zs) h =
     let p = both (behind q z) (list_all (behind q) zs) h in
-    ap (λ r. cond (is_eq r) (Some z.1) (map.find order q zs)) (flipped z.0 q Greater (greater _ p.0)) ∙ find_front q [] zs p.1
-find_front q (e ∷ ys) zs h = ap (λ (o : Option ℕ). cond (is_eq (order q e.0)) (Some e.1) o) (find_front q ys zs h)
+    ap (λ r. cond (is_eq r) (Some z.1) (map.find order q zs)) (flipped z.0 q Greater (greater _ p.0)) ∙ find_prefix q [] zs p.1
+find_prefix q (e ∷ ys) zs h = ap (λ (o : Option ℕ). cond (is_eq (order q e.0)) (Some e.1) o) (find_prefix q ys zs h)
 
 pub find_block : (q : List ℕ) (bs : List Entries) (i : ℕ) (d : Entries) → i < length bs → IsBlockOf q bs i → map.find order q (get_or bs i d) ≡ map.find order q (flat bs)
 find_block q bs i d lt at =
     sym (ap (map.find order q) (flat_at bs i d lt)
     ∙ find_back q (flat (take i bs)) _ at.before
-    ∙ find_front q (get_or bs i d) (flat (drop (suc i) bs)) at.behind)
+    ∙ find_prefix q (get_or bs i d) (flat (drop (suc i) bs)) at.behind)
 
 equal : (r : Ordering) → is_eq r ≡ true → r ≡ Equal
 equal Less h = cc
@@ -224,12 +224,12 @@ found_back q n [] ys h f = f
 found_back q n (e ∷ xs) ys h f =
     skipped q e (xs ++ ys) (flipped e.0 q Less (below_found q e.0 n ys (drop_below e.0 xs ys (left _ _ h)) f)) ∙ found_back q n xs ys (right _ _ h) f
 
-found_front : (q : List ℕ) (n : ℕ) (ys zs : Entries) → map.find order q ys ≡ Some n → map.find order q (ys ++ zs) ≡ Some n
-found_front q n [] zs f = cc
-found_front q n (e ∷ ys) zs f =
+found_prefix : (q : List ℕ) (n : ℕ) (ys zs : Entries) → map.find order q ys ≡ Some n → map.find order q (ys ++ zs) ≡ Some n
+found_prefix q n [] zs f = cc
+found_prefix q n (e ∷ ys) zs f =
     elim (is_eq (order q e.0)) as (λ b. cond b (Some e.1) (map.find order q ys) ≡ Some n → cond b (Some e.1) (map.find order q (ys ++ zs)) ≡ Some n) [
       | true ↦ λ g. g
-      | false ↦ λ g. found_front q n ys zs g
+      | false ↦ λ g. found_prefix q n ys zs g
     ] f
 
 -- what one block holds is found
@@ -237,7 +237,7 @@ pub found_in : (q : List ℕ) (n : ℕ) (bs : List Entries) (i : ℕ) (d : Entri
 found_in q n bs i d h lt f =
     let is = flat_at bs i d lt in
     let more = flat (drop (suc i) bs) in
-    ap (map.find order q) is ∙ found_back q n (flat (take i bs)) (get_or bs i d ++ more) (subst Rises is h) (found_front q n (get_or bs i d) more f)
+    ap (map.find order q) is ∙ found_back q n (flat (take i bs)) (get_or bs i d ++ more) (subst Rises is h) (found_prefix q n (get_or bs i d) more f)
 
 -- ---- putting
 put_back : (q : List ℕ) (v : ℕ) (xs ys : Entries) → list_all (before q) xs ≡ true → map.put order q v (xs ++ ys) ≡ xs ++ map.put order q v ys
@@ -302,19 +302,19 @@ from_back q (e ∷ xs) ys h =
     let p = both (before q e) (list_all (before q) xs) h in
     ap (λ b. if b then from q (xs ++ ys) else e ∷ (xs ++ ys)) p.0 ∙ from_back q xs ys p.1
 
-from_front : (q : List ℕ) (ys zs : Entries) → list_all (behind q) zs ≡ true → from q (ys ++ zs) ≡ from q ys ++ zs
-from_front q [] [] h = refl
-from_front q [] (z ∷ zs) h =
+from_prefix : (q : List ℕ) (ys zs : Entries) → list_all (behind q) zs ≡ true → from q (ys ++ zs) ≡ from q ys ++ zs
+from_prefix q [] [] h = refl
+from_prefix q [] (z ∷ zs) h =
     let p = both (behind q z) (list_all (behind q) zs) h in
     ap (λ r. if is_lt r then from q zs else z ∷ zs) (greater _ p.0)
-from_front q (e ∷ ys) zs h =
-    elim (is_lt (order e.0 q)) as (λ b. (if b then from q (ys ++ zs) else e ∷ (ys ++ zs)) ≡ (if b then from q ys else e ∷ ys) ++ zs) [ true ↦ from_front q ys zs h | false ↦ refl ]
+from_prefix q (e ∷ ys) zs h =
+    elim (is_lt (order e.0 q)) as (λ b. (if b then from q (ys ++ zs) else e ∷ (ys ++ zs)) ≡ (if b then from q ys else e ∷ ys) ++ zs) [ true ↦ from_prefix q ys zs h | false ↦ refl ]
 
 pub from_block : (q : List ℕ) (bs : List Entries) (i : ℕ) (d : Entries) → i < length bs → IsBlockOf q bs i → from q (flat bs) ≡ from q (get_or bs i d) ++ flat (drop (suc i) bs)
 from_block q bs i d lt at =
     ap (from q) (flat_at bs i d lt)
     ∙ from_back q (flat (take i bs)) _ at.before
-    ∙ from_front q (get_or bs i d) (flat (drop (suc i) bs)) at.behind
+    ∙ from_prefix q (get_or bs i d) (flat (drop (suc i) bs)) at.behind
 
 pub head_at : (bs : List Entries) (i : ℕ) (b : Entries) → all_filled bs ≡ true → nat_lt i (length bs) ≡ true → b ≡ get_or bs i b → head b ≡ head (flat (drop i bs))
 head_at bs i b f lt is = at bs i f (within i (length bs) lt) is

@@ -5,7 +5,7 @@ use Rattle.std.specs.List.{slice_split, onto_first, position_from, position}
 use Rattle.std.proofs.lemmas.Iterator.Adapters.{position_from-zero}
 use Rattle.std.proofs.lemmas.Bool.Decides.{nat_tests}
 use Rattle.sh_files_image.specs.Paths.{good_names, is_good_name}
-use Rattle.sh_files_image.specs.Paths.{components, has_slash, last_slash, names_fit, parted}
+use Rattle.sh_files_image.specs.Paths.{components, has_slash, last_slash, names_fit, path_split}
 
 abbrev slash : ℕ → Bool
 slash b = b == 47
@@ -47,7 +47,7 @@ found_at (Some i) xs p h e =
     ∙ ap (λ (r : List ℕ × List ℕ). r.0 ∷ components r.1) (sym q)
 
 -- the first component ends at the first slash
-pub first_part : (xs : List ℕ) (p : List ℕ × List ℕ) → Some p ≡ parted xs → components xs ≡ p.0 ∷ components p.1
+pub first_part : (xs : List ℕ) (p : List ℕ × List ℕ) → Some p ≡ path_split xs → components xs ≡ p.0 ∷ components p.1
 first_part xs p h = found_at (position slash xs) xs p h (sym (position_from-zero slash xs))
 
 pub only_from : (t : Test) (n : ℕ) (xs : List ℕ) → position_from t n xs ≡ None → slice_split t xs ≡ xs ∷ []
@@ -63,23 +63,23 @@ nowhere None xs h e = only_from slash 0 xs e
 nowhere (Some i) xs h e = cc
 
 -- without a slash there is one component
-pub only_part : (xs : List ℕ) → None ≡ parted xs → components xs ≡ xs ∷ []
+pub only_part : (xs : List ℕ) → None ≡ path_split xs → components xs ≡ xs ∷ []
 only_part xs h = nowhere (position slash xs) xs h (sym (position_from-zero slash xs))
 
 -- ---- lengths of names
-pub long_name : (xs : List ℕ) (p : List ℕ × List ℕ) → Some p ≡ parted xs → 255 < length p.0 → false ≡ names_fit (components xs)
+pub long_name : (xs : List ℕ) (p : List ℕ × List ℕ) → Some p ≡ path_split xs → 255 < length p.0 → false ≡ names_fit (components xs)
 long_name xs p h long = rw (first_part xs p h) (ap (λ b. b && names_fit (components p.1)) (too_long (length p.0) long))
   where
     too_long : (n : ℕ) → 255 < n → false ≡ nat_le n 255
     too_long n l = grind (arith, nat_tests)
 
-pub short_name : (xs : List ℕ) (p : List ℕ × List ℕ) → Some p ≡ parted xs → length p.0 ≤ 255 → names_fit (components p.1) ≡ names_fit (components xs)
+pub short_name : (xs : List ℕ) (p : List ℕ × List ℕ) → Some p ≡ path_split xs → length p.0 ≤ 255 → names_fit (components p.1) ≡ names_fit (components xs)
 short_name xs p h short = rw (first_part xs p h) (ap (λ b. b && names_fit (components p.1)) (not_long (length p.0) short))
   where
     not_long : (n : ℕ) → n ≤ 255 → true ≡ nat_le n 255
     not_long n l = grind (arith, nat_tests)
 
-pub only_name : (xs : List ℕ) → None ≡ parted xs → nat_le (length xs) 255 ≡ names_fit (components xs)
+pub only_name : (xs : List ℕ) → None ≡ path_split xs → nat_le (length xs) 255 ≡ names_fit (components xs)
 only_name xs h = rw (only_part xs h) (and_true (nat_le (length xs) 255))
   where
     and_true : (b : Bool) → b ≡ (b && true)
@@ -105,23 +105,23 @@ pub last_before : (xs : List ℕ) (y : ℕ) → (y == 47) ≡ false → last_sla
 last_before [] y h = refl
 last_before (x ∷ xs) y h = rw (has_before xs y h, last_before xs y h) refl
 
-pub ends_here : (front xs : List ℕ) (y : ℕ) → xs ≡ front ++ y ∷ [] → y ≡ 47 → length front ≡ last_slash xs
-ends_here front xs y e h = rw (e, h) (sym (last_here front))
+pub ends_here : (prefix xs : List ℕ) (y : ℕ) → xs ≡ prefix ++ y ∷ [] → y ≡ 47 → length prefix ≡ last_slash xs
+ends_here prefix xs y e h = rw (e, h) (sym (last_here prefix))
 
 differs : (y : ℕ) → (y ≡ 47 → ⊥) → (y == 47) ≡ false
 differs y h = grind (arith, nat_tests)
 
-pub ends_before : (front xs : List ℕ) (y : ℕ) → xs ≡ front ++ y ∷ [] → (y ≡ 47 → ⊥) → (last_slash front ≡ last_slash xs) × (length front ≤ length xs)
-ends_before front xs y e h = (rw e (sym (last_before front y (differs y h))), rw (e, length-append) (omega arith))
+pub ends_before : (prefix xs : List ℕ) (y : ℕ) → xs ≡ prefix ++ y ∷ [] → (y ≡ 47 → ⊥) → (last_slash prefix ≡ last_slash xs) × (length prefix ≤ length xs)
+ends_before prefix xs y e h = (rw e (sym (last_before prefix y (differs y h))), rw (e, length-append) (omega arith))
 
 -- ---- the names of an image's path
-pub bad_name : (xs : List ℕ) (p : List ℕ × List ℕ) → Some p ≡ parted xs → false ≡ is_good_name p.0 → false ≡ good_names (components xs)
+pub bad_name : (xs : List ℕ) (p : List ℕ × List ℕ) → Some p ≡ path_split xs → false ≡ is_good_name p.0 → false ≡ good_names (components xs)
 bad_name xs p h bad = rw (first_part xs p h) (ap (λ b. b && good_names (components p.1)) bad)
 
-pub good_name : (xs : List ℕ) (p : List ℕ × List ℕ) → Some p ≡ parted xs → true ≡ is_good_name p.0 → good_names (components xs) ≡ good_names (components p.1)
+pub good_name : (xs : List ℕ) (p : List ℕ × List ℕ) → Some p ≡ path_split xs → true ≡ is_good_name p.0 → good_names (components xs) ≡ good_names (components p.1)
 good_name xs p h good = rw (first_part xs p h) (sym (ap (λ b. b && good_names (components p.1)) good))
 
-pub only_good_name : (xs : List ℕ) → None ≡ parted xs → is_good_name xs ≡ good_names (components xs)
+pub only_good_name : (xs : List ℕ) → None ≡ path_split xs → is_good_name xs ≡ good_names (components xs)
 only_good_name xs h = rw (only_part xs h) (and_true (is_good_name xs))
   where
     and_true : (b : Bool) → b ≡ (b && true)

@@ -12,11 +12,11 @@ pub last_before : (xs : List ℕ) (y : ℕ) → (y == 32) ≡ false → last_spa
 last_before [] y h = rw h refl
 last_before (x ∷ xs) y h = ap (further x) (last_before xs y h)
 
-pub ends_here : (front xs : List ℕ) (y : ℕ) → xs ≡ front ++ y ∷ [] → y ≡ 32 → Some (length front) ≡ last_space xs
-ends_here front xs y e h = rw (e, h) (sym (last_here front))
+pub ends_here : (prefix xs : List ℕ) (y : ℕ) → xs ≡ prefix ++ y ∷ [] → y ≡ 32 → Some (length prefix) ≡ last_space xs
+ends_here prefix xs y e h = rw (e, h) (sym (last_here prefix))
 
 differs : (y : ℕ) → (y ≡ 32 → ⊥) → (y == 32) ≡ false
 differs y h = grind (arith, nat_tests)
 
-pub ends_before : (front xs : List ℕ) (y : ℕ) → xs ≡ front ++ y ∷ [] → (y ≡ 32 → ⊥) → (last_space front ≡ last_space xs) × (length front ≤ length xs)
-ends_before front xs y e h = (rw e (sym (last_before front y (differs y h))), rw (e, length-append) (omega arith))
+pub ends_before : (prefix xs : List ℕ) (y : ℕ) → xs ≡ prefix ++ y ∷ [] → (y ≡ 32 → ⊥) → (last_space prefix ≡ last_space xs) × (length prefix ≤ length xs)
+ends_before prefix xs y e h = (rw e (sym (last_before prefix y (differs y h))), rw (e, length-append) (omega arith))

@@ -183,45 +183,45 @@ assoc [] ys zs = refl
 assoc (x ∷ xs) ys zs = ap (λ (ns : Names). x ∷ ns) (assoc xs ys zs)
 
 -- what a walk keeps: no path that is left comes before the directory's, and their names follow those so far
-pub record IsAt (front : List ℕ) (names all : Names) (rest : Entries) : Type 0 where
-  pub after : none_before front rest ≡ true
-  pub same : names ++ names_in front rest ≡ all
+pub record IsAt (prefix : List ℕ) (names all : Names) (rest : Entries) : Type 0 where
+  pub after : none_before prefix rest ≡ true
+  pub same : names ++ names_in prefix rest ≡ all
 
-pub ended : (front : List ℕ) (names all : Names) (rest : Entries) → IsAt front names all rest → None ≡ head rest → names ≡ all
-ended front names all rest w h =
-    sym (no_more names) ∙ ap (λ (es : Entries). names ++ names_in front es) (sym (head_none rest h)) ∙ w.same
+pub ended : (prefix : List ℕ) (names all : Names) (rest : Entries) → IsAt prefix names all rest → None ≡ head rest → names ≡ all
+ended prefix names all rest w h =
+    sym (no_more names) ∙ ap (λ (es : Entries). names ++ names_in prefix es) (sym (head_none rest h)) ∙ w.same
 
-pub stopped : (front : List ℕ) (names all : Names) (e : List ℕ × ℕ) (rest : Entries) → Rises rest → IsAt front names all rest → Some e ≡ head rest → begins e.0 front ≡ false → names ≡ all
-stopped front names all e rest h w first b = names_stop front names all e (drop 1 rest) rest (head_is e rest first) h w.after b w.same
+pub stopped : (prefix : List ℕ) (names all : Names) (e : List ℕ × ℕ) (rest : Entries) → Rises rest → IsAt prefix names all rest → Some e ≡ head rest → begins e.0 prefix ≡ false → names ≡ all
+stopped prefix names all e rest h w first b = names_stop prefix names all e (drop 1 rest) rest (head_is e rest first) h w.after b w.same
 
-pub skipped : (front s : List ℕ) (names all : Names) (rest left : Entries) → IsAt front names all rest → left ≡ past (s ++ 47 ∷ []) rest → has_slash (drop (length front) (s ++ 47 ∷ [])) ≡ true → IsAt front names all left
-skipped front s names all rest left w done h =
+pub skipped : (prefix s : List ℕ) (names all : Names) (rest left : Entries) → IsAt prefix names all rest → left ≡ past (s ++ 47 ∷ []) rest → has_slash (drop (length prefix) (s ++ 47 ∷ [])) ≡ true → IsAt prefix names all left
+skipped prefix s names all rest left w done h =
     record {
-      after = ap (none_before front) done ∙ past_after front (s ++ 47 ∷ []) rest w.after;
-      same = ap (λ (es : Entries). names ++ names_in front es) done ∙ ap (λ (ns : Names). names ++ ns) (names_past front (s ++ 47 ∷ []) rest h) ∙ w.same;
+      after = ap (none_before prefix) done ∙ past_after prefix (s ++ 47 ∷ []) rest w.after;
+      same = ap (λ (es : Entries). names ++ names_in prefix es) done ∙ ap (λ (ns : Names). names ++ ns) (names_past prefix (s ++ 47 ∷ []) rest h) ∙ w.same;
     }
 
-rest_names : (front : List ℕ) (e : List ℕ × ℕ) (o : Option (List ℕ)) (rest : Entries) → Some e ≡ head rest → name_in front e.0 ≡ o → names_in front rest ≡ option_to_list o ++ names_in front (drop 1 rest)
-rest_names front e o rest first is =
-    ap (names_in front) (head_is e rest first) ∙ ap (λ (n : Option (List ℕ)). option_to_list n ++ names_in front (drop 1 rest)) is
+rest_names : (prefix : List ℕ) (e : List ℕ × ℕ) (o : Option (List ℕ)) (rest : Entries) → Some e ≡ head rest → name_in prefix e.0 ≡ o → names_in prefix rest ≡ option_to_list o ++ names_in prefix (drop 1 rest)
+rest_names prefix e o rest first is =
+    ap (names_in prefix) (head_is e rest first) ∙ ap (λ (n : Option (List ℕ)). option_to_list n ++ names_in prefix (drop 1 rest)) is
 
-left_after : (front : List ℕ) (e : List ℕ × ℕ) (rest : Entries) → none_before front rest ≡ true → Some e ≡ head rest → none_before front (drop 1 rest) ≡ true
-left_after front e rest a first = (first_after front e (drop 1 rest) (ap (none_before front) (sym (head_is e rest first)) ∙ a)).1
+left_after : (prefix : List ℕ) (e : List ℕ × ℕ) (rest : Entries) → none_before prefix rest ≡ true → Some e ≡ head rest → none_before prefix (drop 1 rest) ≡ true
+left_after prefix e rest a first = (first_after prefix e (drop 1 rest) (ap (none_before prefix) (sym (head_is e rest first)) ∙ a)).1
 
-nameless : (front x : List ℕ) → begins x front ≡ true → name_in front x ≡ name_if (Some (drop (length front) x))
-nameless front x b = ap (λ t. name_if (if t then Some (drop (length front) x) else None)) b
+nameless : (prefix x : List ℕ) → begins x prefix ≡ true → name_in prefix x ≡ name_if (Some (drop (length prefix) x))
+nameless prefix x b = ap (λ t. name_if (if t then Some (drop (length prefix) x) else None)) b
 
 -- a path's name is added, if it has one
-pub moved : (front name : List ℕ) (names new all : Names) (e : List ℕ × ℕ) (rest left : Entries) → IsAt front names all rest → Some e ≡ head rest → begins e.0 front ≡ true → name ≡ drop (length front) e.0 → new ≡ names ++ option_to_list (name_if (Some name)) → left ≡ drop 1 rest → IsAt front new all left
-moved front name names new all e rest left w first b is more done =
-    let own : name_in front e.0 ≡ name_if (Some name) = nameless front e.0 b ∙ ap (λ (n : List ℕ). name_if (Some n)) (sym is) in
+pub moved : (prefix name : List ℕ) (names new all : Names) (e : List ℕ × ℕ) (rest left : Entries) → IsAt prefix names all rest → Some e ≡ head rest → begins e.0 prefix ≡ true → name ≡ drop (length prefix) e.0 → new ≡ names ++ option_to_list (name_if (Some name)) → left ≡ drop 1 rest → IsAt prefix new all left
+moved prefix name names new all e rest left w first b is more done =
+    let own : name_in prefix e.0 ≡ name_if (Some name) = nameless prefix e.0 b ∙ ap (λ (n : List ℕ). name_if (Some n)) (sym is) in
     record {
-      after = ap (none_before front) done ∙ left_after front e rest w.after first;
+      after = ap (none_before prefix) done ∙ left_after prefix e rest w.after first;
       same =
-          ap (λ (es : Entries). new ++ names_in front es) done
-          ∙ ap (λ (ns : Names). ns ++ names_in front (drop 1 rest)) more
-          ∙ assoc names (option_to_list (name_if (Some name))) (names_in front (drop 1 rest))
-          ∙ ap (λ (ns : Names). names ++ ns) (sym (rest_names front e (name_if (Some name)) rest first own))
+          ap (λ (es : Entries). new ++ names_in prefix es) done
+          ∙ ap (λ (ns : Names). ns ++ names_in prefix (drop 1 rest)) more
+          ∙ assoc names (option_to_list (name_if (Some name))) (names_in prefix (drop 1 rest))
+          ∙ ap (λ (ns : Names). names ++ ns) (sym (rest_names prefix e (name_if (Some name)) rest first own))
           ∙ w.same;
     }
 
@@ -243,8 +243,8 @@ fewer_over s e (x ∷ rest) left first b done =
     let le = past-le (s ++ 47 ∷ []) rest in
     omega arith
 
-pub begin : (front text : List ℕ) (items : Items) (es : Entries) → Rises es → items ≡ [] → text ≡ front → IsAt front (map_list (λ (n : Bor (List ℕ)). n.now) items) (names_in front es) (from text es)
-begin front text items es h none is =
-    let at : IsAt front [] (names_in front es) (from front es) = record { after = from_after front es h; same = names_from front es } in
-    subst (λ (t : List ℕ). IsAt front (map_list (λ (n : Bor (List ℕ)). n.now) items) (names_in front es) (from t es)) (sym is)
-    (subst (λ (ns : Items). IsAt front (map_list (λ (n : Bor (List ℕ)). n.now) ns) (names_in front es) (from front es)) (sym none) at)
+pub begin : (prefix text : List ℕ) (items : Items) (es : Entries) → Rises es → items ≡ [] → text ≡ prefix → IsAt prefix (map_list (λ (n : Bor (List ℕ)). n.now) items) (names_in prefix es) (from text es)
+begin prefix text items es h none is =
+    let at : IsAt prefix [] (names_in prefix es) (from prefix es) = record { after = from_after prefix es h; same = names_from prefix es } in
+    subst (λ (t : List ℕ). IsAt prefix (map_list (λ (n : Bor (List ℕ)). n.now) items) (names_in prefix es) (from t es)) (sym is)
+    (subst (λ (ns : Items). IsAt prefix (map_list (λ (n : Bor (List ℕ)). n.now) ns) (names_in prefix es) (from prefix es)) (sym none) at)

@@ -10,7 +10,7 @@ use Rattle.std.proofs.lemmas.Fmt.{decimal-digits_value, decimal_digit, decimal_n
 use Rattle.std.proofs.lemmas.Str.Parse.{IsNumeralModel, numerals_by_fold}
 use Rattle.sh_files_image.specs.declared.node.Flags.{Flags}
 use Rattle.sh_files_image.specs.Contents.{Regular}
-use Rattle.sh_files_image.specs.Fields.{begins_well, behind, fields_of, file_by, file_fields, flag_of, flags_by, flags_of, front_and_length, further, is_decimal, last_space, length_field, line_of, path_and_flags, small}
+use Rattle.sh_files_image.specs.Fields.{begins_well, behind, fields_of, file_by, file_fields, flag_of, flags_by, flags_of, prefix_and_length, further, is_decimal, last_space, length_field, line_of, path_and_flags, small}
 use Rattle.std.specs.Char.{is_ascii_digit}
 use Rattle.sh_base.specs.Decimals.{value_behind}
 use Rattle.sh_files_image.specs.Texts.{file_line, flag_text, flags_text}
@@ -49,11 +49,11 @@ last_of : (xs ys : List ℕ) → last_space ys ≡ None → last_space (xs ++ 32
 last_of [] ys h = ap (further 32) h
 last_of (x ∷ xs) ys h = ap (further x) (last_of xs ys h)
 
-pub last_field : (front field : List ℕ) → last_space field ≡ None → fields_of (front ++ 32 ∷ field) ≡ Some (front, field)
-last_field front field h =
-    ap (option_map (split_at (front ++ 32 ∷ field))) (last_of front field h)
-    ∙ ap (λ (xs : List ℕ). Some (xs, drop (length front + 1) (front ++ 32 ∷ field))) (take-append_seam front (32 ∷ field))
-    ∙ ap (λ (xs : List ℕ). Some (front, xs)) (drop-append-add front (32 ∷ field) 1)
+pub last_field : (prefix field : List ℕ) → last_space field ≡ None → fields_of (prefix ++ 32 ∷ field) ≡ Some (prefix, field)
+last_field prefix field h =
+    ap (option_map (split_at (prefix ++ 32 ∷ field))) (last_of prefix field h)
+    ∙ ap (λ (xs : List ℕ). Some (xs, drop (length prefix + 1) (prefix ++ 32 ∷ field))) (take-append_seam prefix (32 ∷ field))
+    ∙ ap (λ (xs : List ℕ). Some (prefix, xs)) (drop-append-add prefix (32 ∷ field) 1)
 
 -- ---- decimal digits
 own : IsNumeralModel (λ ds. list_all is_ascii_digit ds ≡ true) (value_behind 0)
@@ -131,7 +131,7 @@ read_file_words path file h =
     let words : file_words path file ≡ (path ++ 32 ∷ flags_text file.flags) ++ 32 ∷ digits = sym (append_assoc path (32 ∷ flags_text file.flags) (32 ∷ digits)) in
     let b : length file.bytes < 2 ^ 64 = omega arith in
     ap (λ (xs : List ℕ). file_fields xs) words
-    ∙ ap front_and_length (last_field (path ++ 32 ∷ flags_text file.flags) digits (no_space digits (all (length file.bytes) b)))
+    ∙ ap prefix_and_length (last_field (path ++ 32 ∷ flags_text file.flags) digits (no_space digits (all (length file.bytes) b)))
     ∙ ap (path_and_flags digits) (last_field path (flags_text file.flags) (spaceless file.flags))
     ∙ ap (λ (o : Option Flags). file_by path o (length_field digits)) (read_flags file.flags)
     ∙ ap (file_by path (Some file.flags)) (read_length (length file.bytes) h)
@@ -222,9 +222,9 @@ behind_by false n line rest e h = cc
 pub behind_is_one : (word line rest : List ℕ) → behind word line ≡ Some rest → list_any newline line ≡ false → list_any newline rest ≡ false
 behind_is_one word line rest e h = behind_by (starts_with nat_eq line word) (length word) line rest e h
 
-front_at : (o : Option ℕ) (line : List ℕ) (p : List ℕ × List ℕ) → option_map (split_at line) o ≡ Some p → list_any newline line ≡ false → list_any newline p.0 ≡ false
-front_at None line p e h = cc
-front_at (Some i) line p e h = let q : (take i line, drop (i + 1) line) ≡ p = cc in ap (λ (r : List ℕ × List ℕ). list_any newline r.0) (sym q) ∙ any_take i line h
+prefix_at : (o : Option ℕ) (line : List ℕ) (p : List ℕ × List ℕ) → option_map (split_at line) o ≡ Some p → list_any newline line ≡ false → list_any newline p.0 ≡ false
+prefix_at None line p e h = cc
+prefix_at (Some i) line p e h = let q : (take i line, drop (i + 1) line) ≡ p = cc in ap (λ (r : List ℕ × List ℕ). list_any newline r.0) (sym q) ∙ any_take i line h
 
 abbrev pub File : Type 0
 File = List ℕ × (Flags × Option ℕ)
@@ -234,13 +234,13 @@ path_of path None b f h = cc
 path_of path (Some a) None f h = cc
 path_of path (Some a) (Some b) f h = let q : (path, (a, b)) ≡ f = cc in ap (λ (r : File). r.0) q
 
-fields_by : (digits front : List ℕ) (o : Option (List ℕ × List ℕ)) (f : File) → fields_of front ≡ o → path_and_flags digits o ≡ Some f → list_any newline front ≡ false → list_any newline f.0 ≡ false
-fields_by digits front None f e h k = cc
-fields_by digits front (Some p) f e h k = ap (list_any newline) (sym (path_of p.0 _ _ f h)) ∙ front_at (last_space front) front p e k
+fields_by : (digits prefix : List ℕ) (o : Option (List ℕ × List ℕ)) (f : File) → fields_of prefix ≡ o → path_and_flags digits o ≡ Some f → list_any newline prefix ≡ false → list_any newline f.0 ≡ false
+fields_by digits prefix None f e h k = cc
+fields_by digits prefix (Some p) f e h k = ap (list_any newline) (sym (path_of p.0 _ _ f h)) ∙ prefix_at (last_space prefix) prefix p e k
 
-whole_by : (line : List ℕ) (o : Option (List ℕ × List ℕ)) (f : File) → fields_of line ≡ o → front_and_length o ≡ Some f → list_any newline line ≡ false → list_any newline f.0 ≡ false
+whole_by : (line : List ℕ) (o : Option (List ℕ × List ℕ)) (f : File) → fields_of line ≡ o → prefix_and_length o ≡ Some f → list_any newline line ≡ false → list_any newline f.0 ≡ false
 whole_by line None f e h k = cc
-whole_by line (Some p) f e h k = fields_by p.1 p.0 (fields_of p.0) f refl h (front_at (last_space line) line p e k)
+whole_by line (Some p) f e h k = fields_by p.1 p.0 (fields_of p.0) f refl h (prefix_at (last_space line) line p e k)
 
 -- nor has a file's path
 pub file_path_is_one : (line : List ℕ) (f : File) → file_fields line ≡ Some f → list_any newline line ≡ false → list_any newline f.0 ≡ false
@@ -368,18 +368,18 @@ words_by path bytes digits (Some a) (Some b) f n e g h k =
       ),
     )
 
-front_length : (digits front : List ℕ) (o : Option (List ℕ × List ℕ)) (f : File) (n : ℕ) → fields_of front ≡ o → path_and_flags digits o ≡ Some f → f.1.1 ≡ Some n → length front + length digits ≡ length f.0 + 4 + length (decimal n)
-front_length digits front None f n e h k = cc
-front_length digits front (Some p) f n e h k =
-    let a = field_length front p e in
+prefix_length : (digits prefix : List ℕ) (o : Option (List ℕ × List ℕ)) (f : File) (n : ℕ) → fields_of prefix ≡ o → path_and_flags digits o ≡ Some f → f.1.1 ≡ Some n → length prefix + length digits ≡ length f.0 + 4 + length (decimal n)
+prefix_length digits prefix None f n e h k = cc
+prefix_length digits prefix (Some p) f n e h k =
+    let a = field_length prefix p e in
     let w = words_by p.0 p.1 digits (flags_of p.1) (length_field digits) f n refl refl h k in
     omega (arith, a, w.0, w.1.0, w.1.1)
 
-whole_length : (line : List ℕ) (o : Option (List ℕ × List ℕ)) (f : File) (n : ℕ) → fields_of line ≡ o → front_and_length o ≡ Some f → f.1.1 ≡ Some n → length line ≡ length f.0 + (5 + length (decimal n))
+whole_length : (line : List ℕ) (o : Option (List ℕ × List ℕ)) (f : File) (n : ℕ) → fields_of line ≡ o → prefix_and_length o ≡ Some f → f.1.1 ≡ Some n → length line ≡ length f.0 + (5 + length (decimal n))
 whole_length line None f n e h k = cc
 whole_length line (Some p) f n e h k =
     let a = field_length line p e in
-    let b = front_length p.1 p.0 (fields_of p.0) f n refl h k in
+    let b = prefix_length p.1 p.0 (fields_of p.0) f n refl h k in
     omega (arith, a, b)
 
 pub fields_length : (line : List ℕ) (f : File) (n : ℕ) → file_fields line ≡ Some f → f.1.1 ≡ Some n → length line ≡ length f.0 + (5 + length (decimal n))

@@ -23,7 +23,7 @@ abbrev pub head : Entries → Option (List ℕ × ℕ)
 head [] = None
 head (e ∷ es) = Some e
 
--- blocks whose entries are in the order of their paths, one at least, and none empty
+-- at least one block, none of them empty, and the entries of all in the order of their paths
 pub record AreBlocks (blocks : List Entries) : Type 0 where
   pub rise : T (map.is_sorted (slice_cmp nat_cmp) (flat blocks))
   pub filled : all_filled blocks ≡ true
@@ -34,7 +34,8 @@ abbrev pub starts_by : List ℕ → Entries → Bool
 starts_by path [] = false
 starts_by path (e ∷ es) = not (is_gt (slice_cmp nat_cmp e.0 path))
 
--- what stands in the blocks before this one comes before the path, and what stands in those behind it comes after it
+-- the entries in the blocks before this one come before the path, and those in the blocks after this one come
+-- after it
 pub record IsBlockOf (path : List ℕ) (blocks : List Entries) (i : ℕ) : Type 0 where
   pub before : list_all (λ e. is_lt (slice_cmp nat_cmp e.0 path)) (flat (take i blocks)) ≡ true
   pub behind : list_all (λ e. is_gt (slice_cmp nat_cmp e.0 path)) (flat (drop (suc i) blocks)) ≡ true

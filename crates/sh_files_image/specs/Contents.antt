@@ -6,13 +6,13 @@ pub record Regular : Type 0 where
   pub flags : Flags
   pub bytes : List ℕ
 
--- the bytes with NUL bytes behind them up to this length
-abbrev pub widened : List ℕ → ℕ → List ℕ
-widened content end = content ++ replicate (end - length content) 0
+-- the bytes with NUL bytes after them up to this length
+abbrev pub with_padding : List ℕ → ℕ → List ℕ
+with_padding content end = content ++ replicate (end - length content) 0
 
 -- the content after bytes are written at a place; a write of none changes nothing
-abbrev pub written : List ℕ → ℕ → List ℕ → List ℕ
-written content offset [] = content
-written content offset (b ∷ bs) =
+abbrev pub content_after_write : List ℕ → ℕ → List ℕ → List ℕ
+content_after_write content offset [] = content
+content_after_write content offset (b ∷ bs) =
     let end = offset + length (b ∷ bs) in
-    take offset (widened content end) ++ (b ∷ bs) ++ drop end content
+    take offset (with_padding content end) ++ (b ∷ bs) ++ drop end content

@@ -6,7 +6,7 @@ use Rattle.std.specs.List.{list_all, starts_with}
 use Rattle.sh_files_image.specs.declared.node.Flags.{Flags}
 
 -- ---- lines and fields
--- the first line, without its newline, and what is behind it; no line where no newline is
+-- the first line, without its newline, and what comes after it; none where there is no newline
 abbrev pub line_of : List ℕ → Option (List ℕ × List ℕ)
 line_of bytes = option_map (λ i. (take i bytes, drop (i + 1) bytes)) (position (λ b. b == 10) bytes)
 
@@ -18,12 +18,12 @@ abbrev pub further : ℕ → Option ℕ → Option ℕ
 further byte (Some i) = Some (suc i)
 further byte None = if byte == 32 then Some 0 else None
 
--- where the last space stands
+-- the place of the last space
 abbrev pub last_space : List ℕ → Option ℕ
 last_space [] = None
 last_space (b ∷ bs) = further b (last_space bs)
 
--- what stands before the last space, and behind it
+-- what is before the last space, and what is after it
 abbrev pub fields_of : List ℕ → Option (List ℕ × List ℕ)
 fields_of line = option_map (λ i. (take i line, drop (i + 1) line)) (last_space line)
 
@@ -81,10 +81,10 @@ abbrev pub path_and_flags : List ℕ → Option (List ℕ × List ℕ) → Optio
 path_and_flags digits None = None
 path_and_flags digits (Some p) = file_by p.0 (flags_of p.1) (length_field digits)
 
-abbrev pub front_and_length : Option (List ℕ × List ℕ) → Option (List ℕ × (Flags × Option ℕ))
-front_and_length None = None
-front_and_length (Some p) = path_and_flags p.1 (fields_of p.0)
+abbrev pub prefix_and_length : Option (List ℕ × List ℕ) → Option (List ℕ × (Flags × Option ℕ))
+prefix_and_length None = None
+prefix_and_length (Some p) = path_and_flags p.1 (fields_of p.0)
 
 -- PATH FLAGS LENGTH: the last two fields are FLAGS and LENGTH, so PATH may hold spaces
 abbrev pub file_fields : List ℕ → Option (List ℕ × (Flags × Option ℕ))
-file_fields line = front_and_length (fields_of line)
+file_fields line = prefix_and_length (fields_of line)

@@ -9,8 +9,8 @@ use Rattle.sh_files_image.specs.Paths.{has_slash}
 use Rattle.sh_files_image.specs.Places.{Entries}
 
 -- what the paths below a directory begin with
-abbrev pub front_of : List ℕ → List ℕ
-front_of place = if bytes_eq place (codes "/") then codes "/" else place ++ 47 ∷ []
+abbrev pub prefix_of : List ℕ → List ℕ
+prefix_of place = if bytes_eq place (codes "/") then codes "/" else place ++ 47 ∷ []
 
 -- a name isn't empty and has no slash
 abbrev pub is_name : List ℕ → Bool
@@ -22,28 +22,28 @@ name_if (Some name) = if is_name name then Some name else None
 
 -- the name that a path has in a directory: what follows, if that is a name
 abbrev pub name_in : List ℕ → List ℕ → Option (List ℕ)
-name_in front path = name_if (behind front path)
+name_in prefix path = name_if (behind prefix path)
 
 -- the names of these paths in a directory
 abbrev pub names_in : List ℕ → Entries → List (List ℕ)
-names_in front [] = []
-names_in front (e ∷ es) = option_to_list (name_in front e.0) ++ names_in front es
+names_in prefix [] = []
+names_in prefix (e ∷ es) = option_to_list (name_in prefix e.0) ++ names_in prefix es
 
 -- ---- parts of a list in order
 -- what is left from the first path on that doesn't come before this text
 abbrev pub from : List ℕ → Entries → Entries
-from front [] = []
-from front (e ∷ es) = if is_lt (slice_cmp nat_cmp e.0 front) then from front es else e ∷ es
+from prefix [] = []
+from prefix (e ∷ es) = if is_lt (slice_cmp nat_cmp e.0 prefix) then from prefix es else e ∷ es
 
--- what is left behind the paths that begin with this text
+-- what is left after the paths at the front that begin with this text
 abbrev pub past : List ℕ → Entries → Entries
-past front [] = []
-past front (e ∷ es) = if starts_with nat_eq e.0 front then past front es else e ∷ es
+past prefix [] = []
+past prefix (e ∷ es) = if starts_with nat_eq e.0 prefix then past prefix es else e ∷ es
 
 -- no path comes before this text
 abbrev pub none_before : List ℕ → Entries → Bool
-none_before front [] = true
-none_before front (e ∷ es) = not (is_lt (slice_cmp nat_cmp e.0 front)) && none_before front es
+none_before prefix [] = true
+none_before prefix (e ∷ es) = not (is_lt (slice_cmp nat_cmp e.0 prefix)) && none_before prefix es
 
 -- ---- names in the order of their bytes, each once
 abbrev pub comes_before : List ℕ → List (List ℕ) → Bool

@@ -1,4 +1,4 @@
--- Paths (XBD 4.16): their components, and the absolute path that a path stands for, component by component.
+-- Paths (XBD 4.16): their components, and the absolute path of what a path names, component by component.
 use Rattle.std.specs.Prelude.{ℕ, List, [], ◌∷◌, ◌++◌, ◌==◌, ◌&&◌, ◌||◌, Bool, true, false, not, if◌then◌else◌, codes, length, nat_eq, nat_le, max, suc, take, drop, ◌+◌, Option, option_map, position}
 use Rattle.std.specs.List.{list_any, slice_split, starts_with}
 use Rattle.std.specs.Ordering.{nat_cmp}
@@ -14,9 +14,9 @@ PathMap = FinMap (slice_cmp nat_cmp) ℕ
 abbrev pub components : List ℕ → List (List ℕ)
 components path = slice_split (λ b. b == 47) path
 
--- what stands before the first slash, and what behind it
-abbrev pub parted : List ℕ → Option (List ℕ × List ℕ)
-parted path = option_map (λ i. (take i path, drop (i + 1) path)) (position (λ b. b == 47) path)
+-- what is before the first slash, and what is after it
+abbrev pub path_split : List ℕ → Option (List ℕ × List ℕ)
+path_split path = option_map (λ i. (take i path, drop (i + 1) path)) (position (λ b. b == 47) path)
 
 abbrev pub begins_at_root : List ℕ → Bool
 begins_at_root [] = false
@@ -26,22 +26,22 @@ abbrev pub has_slash : List ℕ → Bool
 has_slash [] = false
 has_slash (b ∷ bs) = (b == 47) || has_slash bs
 
--- where the last slash stands, 0 where there is none
+-- the place of the last slash, 0 where there is none
 abbrev pub last_slash : List ℕ → ℕ
 last_slash [] = 0
 last_slash (b ∷ bs) = if has_slash bs then suc (last_slash bs) else 0
 
--- the directory that holds a path is what stands before its last slash, and the root where nothing does
+-- the directory that holds a path: what is before its last slash, and the root where nothing is before it
 abbrev pub parent : List ℕ → List ℕ
 parent place = take (max 1 (last_slash place)) place
 
 -- the path of a name in a directory
-abbrev pub joined : List ℕ → List ℕ → List ℕ
-joined place name = if bytes_eq place (codes "/") then 47 ∷ name else place ++ 47 ∷ name
+abbrev pub path_in : List ℕ → List ℕ → List ℕ
+path_in place name = if bytes_eq place (codes "/") then 47 ∷ name else place ++ 47 ∷ name
 
 -- a path that doesn't begin with a slash is one from the working directory: `p` is `/p` in `/`, and `/d/p` in `/d`
 abbrev pub absolute : List ℕ → List ℕ → List ℕ
-absolute directory path = if begins_at_root path then path else joined directory path
+absolute directory path = if begins_at_root path then path else path_in directory path
 
 -- names of at most NAME_MAX (255) bytes
 abbrev pub names_fit : List (List ℕ) → Bool
@@ -54,12 +54,12 @@ fits directory path =
     nat_le (length path) 1024 && (nat_le (length (absolute directory path)) 1024 && names_fit (components (absolute directory path)))
 
 -- where a component leads from a directory: dot and an empty one stay, dot-dot goes up
-abbrev pub stepped : List ℕ → List ℕ → List ℕ
-stepped place name =
+abbrev pub next_place : List ℕ → List ℕ → List ℕ
+next_place place name =
     if bytes_eq name [] then place
     else if bytes_eq name (codes ".") then place
     else if bytes_eq name (codes "..") then parent place
-    else joined place name
+    else path_in place name
 
 -- ---- the paths of an image
 -- a name that an image may have: no dot, no dot-dot, not empty, at most 255 bytes

@@ -1,4 +1,5 @@
--- What a search for a path answers in a list of entries: where the path stands, or where it belongs.
+-- What a search for a path answers in a list of entries: the place of the path, or the place where it
+-- belongs.
 use Rattle.std.specs.Prelude.{◌≡◌, ℕ, ◌<◌, ◌≤◌, List, length, MatchResult, Result}
 use Rattle.std.specs.List.{HoldsAt}
 use Rattle.std.specs.List.Sorted.{IsPartitionPoint}
@@ -9,7 +10,7 @@ use Rattle.std.specs.Cmp.Lexicographic.{slice_cmp}
 abbrev pub Entries : Type 0
 Entries = List (List ℕ × ℕ)
 
--- at `Ok i` the path stands at i, and at `Err i` the paths before i come before it and those from i on after it
+-- `Ok i`: the path is at i; `Err i`: the paths before i come before it, and those from i on come after it
 abbrev pub IsPlace : Entries → List ℕ → Result ℕ ℕ → Type 0
 IsPlace entries path place =
     MatchResult place

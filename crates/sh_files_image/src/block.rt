@@ -1,4 +1,4 @@
-// Entries that stand next to each other.
+// Adjacent entries of a table.
 ghost use Rattle.std.specs.Prelude.{◌≡◌, ◌++◌, ◌∷◌, ◌≤◌, [], T, IfOk, OnErr, if◌then◌else◌, is_ok, length, option_map, true};
 ghost use Rattle.std.specs.Ordering.{nat_cmp};
 ghost use Rattle.std.specs.Cmp.Lexicographic.{slice_cmp};
@@ -11,7 +11,7 @@ use crate::entry::Entry;
 use std::alloc::AllocError;
 use std::marker::Model;
 
-/// Entries that stand next to each other in the order of their paths.
+/// Adjacent entries of a table, in the order of their paths.
 #[derive(Drop)]
 pub struct Block {
     entries: Vec<Entry>,
@@ -50,7 +50,7 @@ impl Block {
         }
     }
 
-    /// Whether its first entry doesn't come after a path.
+    /// Whether it has a first entry, and that entry doesn't come after a path.
     pub(crate) fn starts_by(&self, path: &[u8]) -> bool
         ensures { result ≡ starts_by path.now self.now }
     {
@@ -71,10 +71,12 @@ impl Block {
         }
     }
 
-    /// Puts an entry in the place of the one of its path.
+    /// Adds an entry; one of the same path is replaced.
     pub(crate) fn put(&mut self, entry: Entry) -> Result<(), AllocError>
         requires { T (map.is_sorted (slice_cmp nat_cmp) self.old) }
-        ensures { self.new ≡ (if is_ok result then map.put (slice_cmp nat_cmp) entry.0 entry.1 self.old else self.old) }
+        ensures { self.new
+            ≡ (if is_ok result then map.put (slice_cmp nat_cmp) entry.0 entry.1 self.old else
+            self.old) }
     {
         match place(&self.entries, entry.path()) {
             Ok(index) => {
@@ -103,7 +105,8 @@ impl Block {
     pub(crate) fn split(&mut self) -> Result<Block, AllocError>
         requires { 2 ≤ length self.old }
         ensures parts { IfOk result (λ upper. self.new ++ upper ≡ self.old) }
-        ensures filled { IfOk result (λ upper. (is_filled self.new ≡ true) × (is_filled upper ≡ true)) }
+        ensures filled { IfOk result (λ upper.
+            (is_filled self.new ≡ true) × (is_filled upper ≡ true)) }
         ensures err { OnErr result (self.new ≡ self.old) }
     {
         let half = self.entries.len() / 2;
@@ -112,7 +115,7 @@ impl Block {
     }
 }
 
-/// Where this path stands in these entries, or else where it belongs.
+/// The place of this path in these entries, or else (`Err`) the place where it belongs.
 fn place(entries: &[Entry], path: &[u8]) -> Result<usize, usize>
     requires { T (map.is_sorted (slice_cmp nat_cmp) entries.now) }
     ensures { IsPlace entries.now path.now result }

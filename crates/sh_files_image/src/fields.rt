@@ -17,7 +17,7 @@ fn first_newline(bytes: &[u8]) -> Option<usize>
     bytes.iter().position(|byte| *byte == b'\n')
 }
 
-/// The first line, and what is behind it.
+/// The first line without its newline, and what comes after it; `None` where there is no newline.
 pub fn split_line(bytes: &[u8]) -> Option<(&[u8], &[u8])>
     ensures parts { option_map (λ line. (line.0.now, line.1.now)) result ≡ line_of bytes.now }
     ensures shorter { IfSome result (λ line. length line.1.now < length bytes.now) }
@@ -28,7 +28,7 @@ pub fn split_line(bytes: &[u8]) -> Option<(&[u8], &[u8])>
     }
 }
 
-/// What follows a word that a line begins with.
+/// What follows a word that a line begins with; `None` where the line doesn't begin with it.
 pub fn behind<'a>(line: &'a [u8], word: &[u8]) -> Option<&'a [u8]>
     ensures { option_map (λ rest. rest.now) result ≡ behind word.now line.now }
 {
@@ -38,7 +38,7 @@ pub fn behind<'a>(line: &'a [u8], word: &[u8]) -> Option<&'a [u8]>
     None
 }
 
-/// What is left behind so many bytes.
+/// What is left after so many bytes.
 pub fn skip(bytes: &[u8], count: usize) -> &[u8]
     ensures value { result.now ≡ drop count bytes.now }
     ensures shorter { length result.now ≤ length bytes.now }
@@ -60,16 +60,16 @@ fn last_space(line: &[u8]) -> Option<usize>
     ensures within { IfSome result (λ i. i < length line.now) }
 {
     let mut rest = line;
-    'bytes: while let Some((byte, front)) = rest.split_last() {
+    'bytes: while let Some((byte, prefix)) = rest.split_last() {
         if *byte == b' ' {
-            return Some(front.len());
+            return Some(prefix.len());
         }
-        rest = front;
+        rest = prefix;
     }
     None
 }
 
-/// What stands before the last space, and behind it.
+/// What is before the last space, and what is after it.
 fn split_field(line: &[u8]) -> Option<(&[u8], &[u8])>
     ensures { option_map (λ parts. (parts.0.now, parts.1.now)) result ≡ fields_of line.now }
 {
@@ -135,7 +135,7 @@ fn small_value(digits: &[u8]) -> Option<usize>
     Some(value as usize)
 }
 
-/// A length: none where it is too large.
+/// A length: `Some(None)` where it is too large, `None` where it is no decimal number.
 fn length_field(digits: &[u8]) -> Option<Option<usize>>
     ensures { result ≡ length_field digits.now }
 {
@@ -145,12 +145,13 @@ fn length_field(digits: &[u8]) -> Option<Option<usize>>
     Some(small_value(digits))
 }
 
-/// The fields of a file's line: its path, its flags, and its length, which is none where it is too large.
+/// The fields of a file's line: its path, its flags, and its length, which is `None` where it is above
+/// [`MAX_IMAGE`].
 pub fn file_fields(line: &[u8]) -> Option<(&[u8], (Flags, Option<usize>))>
     ensures { option_map (λ fields. (fields.0.now, fields.1)) result ≡ file_fields line.now }
 {
-    let (front, digits) = split_field(line)?;
-    let (path, flags) = split_field(front)?;
+    let (prefix, digits) = split_field(line)?;
+    let (path, flags) = split_field(prefix)?;
     let flags = flags_of(flags)?;
     let length = length_field(digits)?;
     Some((path, (flags, length)))

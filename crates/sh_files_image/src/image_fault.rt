@@ -12,11 +12,11 @@ use thiserror::Error;
 pub enum FaultKind {
     /// The first line isn't `psh image 1`.
     BadHeader,
-    /// The line is none of an image, or no newline follows a file's bytes.
+    /// The line isn't of the format, or no newline follows a file's bytes.
     BadLine,
     /// The path isn't one that an image may name.
     BadPath,
-    /// No directory was named before that holds it.
+    /// The directory that holds it was not named before.
     NoParent,
     /// The path was named before.
     Duplicate,
@@ -33,7 +33,7 @@ pub enum FaultKind {
 impl FaultKind {
     ghost use Rattle.sh_files_image.specs.Faults.{name_of};
 
-    /// The name by which it is told.
+    /// Its name, for a message.
     pub fn name(self) -> &'static str
         ensures { result.now ≡ name_of self }
     {

@@ -4,7 +4,7 @@ ghost use Rattle.std.specs.Borrow.{Bor};
 ghost use Rattle.std.specs.List.{starts_with};
 ghost use Rattle.std.specs.FinMap as paths;
 ghost use Rattle.sh_files_image.specs.Paths.{has_slash};
-ghost use Rattle.sh_files_image.specs.Listing.{front_of, name_if, names_in};
+ghost use Rattle.sh_files_image.specs.Listing.{prefix_of, name_if, names_in};
 
 use crate::fields::{first, skip};
 use crate::paths::first_slash;
@@ -12,19 +12,20 @@ use crate::table::Table;
 use std::alloc::{AllocError, Global};
 
 /// What the paths below a directory begin with.
-fn front_of(alloc: Global, place: &[u8]) -> Result<Vec<u8>, AllocError>
-    ensures { IfOk result (λ front. front.items ≡ front_of place.now) }
+fn prefix_of(alloc: Global, place: &[u8]) -> Result<Vec<u8>, AllocError>
+    ensures { IfOk result (λ prefix. prefix.items ≡ prefix_of place.now) }
 {
-    let mut front = Vec::from_slice(alloc, place)?;
+    let mut prefix = Vec::from_slice(alloc, place)?;
     if place != b"/".as_slice() {
-        front.push(b'/')?;
+        prefix.push(b'/')?;
     }
-    Ok(front)
+    Ok(prefix)
 }
 
-/// The place of the first slash that isn't before a place.
+/// The place of the first slash at or after a place.
 fn slash_behind(path: &[u8], start: usize) -> Option<usize>
-    ensures some { IfSome result (λ i. starts_with nat_eq path.now (take i path.now ++ 47 ∷ []) ≡ true) }
+    ensures some { IfSome result (λ i.
+        starts_with nat_eq path.now (take i path.now ++ 47 ∷ []) ≡ true) }
     ensures slash { IfSome result (λ i. has_slash (drop start (take i path.now ++ 47 ∷ [])) ≡ true) }
     ensures none { IfNone result (has_slash (drop start path.now) ≡ false) }
 {
@@ -46,7 +47,10 @@ fn longer(alloc: Global, path: &[u8], byte: u8) -> Result<Vec<u8>, AllocError>
 /// Adds what follows a directory's path, if that is a name.
 fn add_name<'a>(names: &mut Vec<&'a [u8]>, name: &'a [u8]) -> Result<(), AllocError>
     requires { has_slash name.now ≡ false }
-    ensures { OnOk result (map (λ (name : Bor (List ℕ)). name.now) names.new.items ≡ map (λ (name : Bor (List ℕ)). name.now) names.old.items ++ option_to_list (name_if (Some name.now))) }
+    ensures { OnOk result
+        (map (λ (name : Bor (List ℕ)). name.now) names.new.items
+        ≡ map (λ (name : Bor (List ℕ)). name.now) names.old.items ++ option_to_list
+        (name_if (Some name.now))) }
 {
     match name {
         [] => Ok(()),
@@ -57,23 +61,25 @@ fn add_name<'a>(names: &mut Vec<&'a [u8]>, name: &'a [u8]) -> Result<(), AllocEr
     }
 }
 
-/// The names that a table has in the directory whose paths begin so.
-fn names_of<'a>(alloc: Global, table: &'a Table, front: &[u8]) -> Result<Vec<&'a [u8]>, AllocError>
-    ensures { IfOk result (λ names. map (λ (name : Bor (List ℕ)). name.now) names.items ≡ names_in front.now (paths.entries table.now)) }
+/// The names that a table has in the directory whose paths begin with this prefix.
+fn names_of<'a>(alloc: Global, table: &'a Table, prefix: &[u8]) -> Result<Vec<&'a [u8]>, AllocError>
+    ensures { IfOk result (λ names.
+        map (λ (name : Bor (List ℕ)). name.now) names.items ≡ names_in prefix.now
+        (paths.entries table.now)) }
 {
     let mut names = Vec::new(alloc);
-    let mut text = Vec::from_slice(alloc, front)?;
+    let mut text = Vec::from_slice(alloc, prefix)?;
     let mut near = 0;
     'paths: while let Some(entry) = table.first_near(&mut near, &text) {
         let path = entry.path();
-        if !path.starts_with(front) {
+        if !path.starts_with(prefix) {
             return Ok(names);
         }
-        match slash_behind(path, front.len()) {
-            // The digit 0 is the byte behind the slash, so that nothing of that directory is left.
+        match slash_behind(path, prefix.len()) {
+            // The digit 0 is the next byte after the slash in order, so all of that directory is passed over.
             Some(i) => text = longer(alloc, first(path, i), b'0')?,
             None => {
-                add_name(&mut names, skip(path, front.len()))?;
+                add_name(&mut names, skip(path, prefix.len()))?;
                 text = longer(alloc, path, 0)?;
             }
         }
@@ -82,14 +88,16 @@ fn names_of<'a>(alloc: Global, table: &'a Table, front: &[u8]) -> Result<Vec<&'a
 }
 
 impl Table {
-    /// The names that a directory holds, in the order of their bytes. It takes a look-up for the first of them, and for
-    /// each of the others and each directory among them a look at its neighbours, or a look-up where they stand far
-    /// apart. The only error is want of memory.
+    /// The names that a directory holds, in the order of their bytes. It takes one look-up for the first of
+    /// them. For each of the others, and each directory among them, it looks at the neighbours first, and
+    /// does a further look-up only where the next name is far away. The only error is want of memory.
     pub fn names_in<'a>(&'a self, alloc: Global, place: &[u8]) -> Result<Vec<&'a [u8]>, AllocError>
-        ensures { IfOk result (λ names. map (λ (name : Bor (List ℕ)). name.now) names.items ≡ names_in (front_of place.now) (paths.entries self.now)) }
+        ensures { IfOk result (λ names.
+            map (λ (name : Bor (List ℕ)). name.now) names.items ≡ names_in (prefix_of place.now)
+            (paths.entries self.now)) }
     {
-        let front = front_of(alloc, place)?;
-        let names = names_of(alloc, self, &front)?;
+        let prefix = prefix_of(alloc, place)?;
+        let names = names_of(alloc, self, &prefix)?;
         Ok(names)
     }
 }

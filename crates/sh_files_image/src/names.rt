@@ -15,7 +15,7 @@ fn is_good_name(name: &[u8]) -> bool
         && name.len() <= MAX_NAME
 }
 
-/// Whether an image may have all names of a path, which is given from behind its first slash.
+/// Whether an image may have all names of a path, which is given without its first slash.
 fn good_names(path: &[u8]) -> bool
     ensures { result ≡ good_names (components path.now) }
 {
@@ -29,7 +29,7 @@ fn good_names(path: &[u8]) -> bool
     is_good_name(rest)
 }
 
-/// Whether a path is that of the devices or below.
+/// Whether a path is `/dev` or below it.
 pub(crate) fn is_device(path: &[u8]) -> bool
     ensures { result ≡ is_device path.now }
 {

@@ -1,6 +1,6 @@
 // Nodes.
 ghost use Rattle.std.specs.Prelude.{◌≡◌, ◌+◌, ◌≤◌, ◌^◌, ◌++◌, OnOk, OnErr, take, drop, length};
-ghost use Rattle.sh_files_image.specs.Contents.{written};
+ghost use Rattle.sh_files_image.specs.Contents.{content_after_write};
 
 use std::alloc::{AllocError, Global};
 use std::marker::Model;
@@ -37,7 +37,7 @@ impl Model for File {
 /// What a path names.
 #[derive(Drop)]
 pub enum Node {
-    /// A directory; what it holds are the paths behind its own.
+    /// A directory; what it holds are the paths below its own.
     Directory,
     /// A regular file.
     File(File),
@@ -69,16 +69,19 @@ impl File {
         self.bytes.as_slice()
     }
 
-    /// Writes bytes at a place, with NUL bytes before it where the file ends sooner.
+    /// Writes bytes at an offset; where the file ends before it, NUL bytes fill the gap (XSH write). A write
+    /// of no bytes changes nothing. The only error is want of memory, after which nothing has changed.
     pub fn write(&mut self, offset: usize, bytes: &[u8]) -> Result<(), AllocError>
         requires { offset + length bytes.now ≤ 2 ^ 30 }
-        ensures ok { OnOk result (self.new ≡ record self.old { bytes = written self.old.bytes offset bytes.now }) }
+        ensures ok { OnOk result
+            (self.new ≡ record self.old
+            { bytes = content_after_write self.old.bytes offset bytes.now }) }
         ensures err { OnErr result (self.new ≡ self.old) }
     {
         write_at(&mut self.bytes, offset, bytes)
     }
 
-    /// Lets the bytes from a length on go.
+    /// Cuts the file to a length, if it is longer.
     pub fn truncate(&mut self, length: usize)
         ensures { self.new ≡ record self.old { bytes = take length self.old.bytes } }
     {
@@ -89,7 +92,8 @@ impl File {
 /// Writes these bytes at this place.
 fn write_at(content: &mut Vec<u8>, offset: usize, bytes: &[u8]) -> Result<(), AllocError>
     requires { offset + length bytes.now ≤ 2 ^ 30 }
-    ensures ok { OnOk result (content.new.items ≡ written content.old.items offset bytes.now) }
+    ensures ok { OnOk result
+        (content.new.items ≡ content_after_write content.old.items offset bytes.now) }
     ensures err { OnErr result (content.new.items ≡ content.old.items) }
 {
     if bytes.is_empty() {
@@ -106,7 +110,8 @@ fn write_at(content: &mut Vec<u8>, offset: usize, bytes: &[u8]) -> Result<(), Al
 /// Writes these bytes over those at this place.
 fn paste(content: &mut [u8], offset: usize, bytes: &[u8])
     requires { offset + length bytes.now ≤ length content.old }
-    ensures { content.new ≡ take offset content.old ++ bytes.now ++ drop (offset + length bytes.now) content.old }
+    ensures { content.new ≡ take offset content.old ++ bytes.now
+        ++ drop (offset + length bytes.now) content.old }
 {
     content[offset..offset + bytes.len()].copy_from_slice(bytes);
 }

@@ -1,6 +1,6 @@
 // Paths as bytes.
 ghost use Rattle.std.specs.Prelude.{◌≡◌, ◌==◌, ◌++◌, ◌∷◌, ◌<◌, ◌≤◌, IfOk, OnOk, IfSome, length, option_map, position};
-ghost use Rattle.sh_files_image.specs.Paths.{absolute, begins_at_root, components, joined, last_slash, names_fit, parent, parted, stepped};
+ghost use Rattle.sh_files_image.specs.Paths.{absolute, begins_at_root, components, path_in, last_slash, names_fit, parent, path_split, next_place};
 
 use std::alloc::{AllocError, Global};
 
@@ -18,9 +18,9 @@ pub(crate) fn first_slash(bytes: &[u8]) -> Option<usize>
     bytes.iter().position(|byte| *byte == b'/')
 }
 
-/// What stands before the first slash, and what behind it.
+/// What is before the first slash, and what is after it; `None` where there is no slash.
 pub fn split_slash(path: &[u8]) -> Option<(&[u8], &[u8])>
-    ensures parts { option_map (λ parts. (parts.0.now, parts.1.now)) result ≡ parted path.now }
+    ensures parts { option_map (λ parts. (parts.0.now, parts.1.now)) result ≡ path_split path.now }
     ensures shorter { IfSome result (λ parts. length parts.1.now < length path.now) }
 {
     match first_slash(path) {
@@ -29,8 +29,8 @@ pub fn split_slash(path: &[u8]) -> Option<(&[u8], &[u8])>
     }
 }
 
-/// The path from the root that a path stands for in a directory, which is a path from the root: `p` is `/p` in `/`, and `/d/p`
-/// in `/d`. A path that begins with a slash stands for itself.
+/// The absolute path of what a path names in a directory, whose own path is absolute: `p` is `/p` in `/`, and
+/// `/d/p` in `/d`. A path that begins with a slash stays as it is. The only error is want of memory.
 pub fn absolute(alloc: Global, directory: &[u8], path: &[u8]) -> Result<Vec<u8>, AllocError>
     ensures { IfOk result (λ whole. whole.items ≡ absolute directory.now path.now) }
 {
@@ -52,7 +52,7 @@ pub fn begins_at_root(path: &[u8]) -> bool
     }
 }
 
-/// Whether no name is too long.
+/// Whether no name of a path is longer than [`MAX_NAME`].
 pub fn names_fit(path: &[u8]) -> bool
     ensures { result ≡ names_fit (components path.now) }
 {
@@ -72,16 +72,16 @@ fn last_slash(path: &[u8]) -> usize
     ensures within { result ≤ length path.now }
 {
     let mut rest = path;
-    'bytes: while let Some((byte, front)) = rest.split_last() {
+    'bytes: while let Some((byte, prefix)) = rest.split_last() {
         if *byte == b'/' {
-            return front.len();
+            return prefix.len();
         }
-        rest = front;
+        rest = prefix;
     }
     0
 }
 
-/// The path of the directory that holds a path.
+/// The path of the directory that holds a path. The root holds itself.
 pub fn parent(path: &[u8]) -> &[u8]
     ensures { result.now ≡ parent path.now }
 {
@@ -97,9 +97,10 @@ fn go_up(place: &mut Vec<u8>)
     place.truncate(length);
 }
 
-/// Goes from a directory to what a component names there.
+/// Goes from a directory to what a component names there: dot and an empty one stay there, dot-dot goes up.
+/// The only error is want of memory.
 pub fn step(place: &mut Vec<u8>, name: &[u8]) -> Result<(), AllocError>
-    ensures { OnOk result (place.new.items ≡ stepped place.old.items name.now) }
+    ensures { OnOk result (place.new.items ≡ next_place place.old.items name.now) }
 {
     if name.is_empty() || name == b".".as_slice() {
         return Ok(());
@@ -113,7 +114,7 @@ pub fn step(place: &mut Vec<u8>, name: &[u8]) -> Result<(), AllocError>
 
 /// Goes from a directory to a name in it.
 fn join(place: &mut Vec<u8>, name: &[u8]) -> Result<(), AllocError>
-    ensures { OnOk result (place.new.items ≡ joined place.old.items name.now) }
+    ensures { OnOk result (place.new.items ≡ path_in place.old.items name.now) }
 {
     if place.as_slice() != b"/".as_slice() {
         place.push(b'/')?;

@@ -16,8 +16,9 @@ use std::marker::Model;
 /// A block of more entries is split.
 const MAX_BLOCK: usize = 64;
 
-/// Node numbers by path, each path once. A path is found in a number of steps that grows with the logarithm of their
-/// number. To put one in moves at most [`MAX_BLOCK`] entries, and one block in so many of their number.
+/// Node numbers by path, each path once. A path is found in a number of steps that grows with the logarithm
+/// of their number. To put one in moves at most [`MAX_BLOCK`] entries of its block and, where a block is
+/// split, the blocks after it.
 #[derive(Drop)]
 pub struct Table {
     blocks: Vec<Block>,
@@ -62,7 +63,8 @@ impl Table {
         self.blocks[index].find(path)
     }
 
-    /// The numbers of the nodes at two paths. Where these stand near each other, that takes less than two look-ups.
+    /// The numbers of the nodes at two paths. Where the paths are near each other in order, that takes less
+    /// than two look-ups.
     pub fn find_both(&self, path: &[u8], near: &[u8]) -> (Option<usize>, Option<usize>)
         ensures { result ≡ (map.get self.now path.now, map.get self.now near.now) }
     {
@@ -71,9 +73,11 @@ impl Table {
         (number, find_near(&self.blocks, index, near))
     }
 
-    /// Puts an entry in the place of the one of its path. The only error is want of memory, and then nothing has changed.
+    /// Adds an entry; one of the same path is replaced. The only error is want of memory, after which nothing
+    /// has changed.
     pub fn put(&mut self, entry: Entry) -> Result<(), AllocError>
-        ensures { self.new ≡ (if is_ok result then map.insert self.old entry.0 entry.1 else self.old) }
+        ensures { self.new
+            ≡ (if is_ok result then map.insert self.old entry.0 entry.1 else self.old) }
     {
         put_entry(&mut self.blocks, entry)
     }
@@ -85,10 +89,11 @@ impl Table {
         self.blocks.as_slice()
     }
 
-    /// The first entry that doesn't come before a text. Where the block numbered `near` is the one in which the text
-    /// belongs, it takes a look-up in that block alone; `near` becomes the number of the text's block.
+    /// The first entry that doesn't come before a text. Where the text belongs in the block numbered `near`,
+    /// that block alone is looked through; `near` becomes the number of the text's block.
     pub(crate) fn first_near(&self, near: &mut usize, text: &[u8]) -> Option<&Entry>
-        ensures { option_map (λ entry. entry.now) result ≡ head (from text.now (map.entries self.now)) }
+        ensures { option_map (λ entry. entry.now) result
+            ≡ head (from text.now (map.entries self.now)) }
     {
         let index = block_near(&self.blocks, *near, text);
         *near = index;
@@ -99,7 +104,7 @@ impl Table {
     }
 }
 
-/// Puts an entry behind the others.
+/// Adds an entry after the others.
 fn add(entries: &mut Vec<Entry>, alloc: Global, path: &[u8], node: usize) -> Result<(), AllocError>
     ensures { OnOk result (entries.new.items ≡ entries.old.items ++ (path.now, node) ∷ []) }
 {
@@ -112,18 +117,19 @@ fn add(entries: &mut Vec<Entry>, alloc: Global, path: &[u8], node: usize) -> Res
 fn count_started(blocks: &[Block], path: &[u8]) -> usize
     requires { AreBlocks blocks.now }
     ensures bound { result ≤ length blocks.now }
-    ensures parts { IsPartitionPoint (λ b. starts_by path.now b ≡ true) (λ b. starts_by path.now b ≡ false) blocks.now result }
+    ensures parts { IsPartitionPoint (λ b. starts_by path.now b ≡ true) (λ b.
+        starts_by path.now b ≡ false) blocks.now result }
 {
     blocks.partition_point(|block| block.starts_by(path))
 }
 
-/// The block in which a path stands, or else belongs.
+/// The number of the block that holds a path, or else where it belongs.
 fn block_of(blocks: &[Block], path: &[u8]) -> usize
     requires { AreBlocks blocks.now }
     ensures within { result < length blocks.now }
     ensures place { IsBlockOf path.now blocks.now result }
 {
-    // In a list in order, each path belongs in the last block.
+    // Where paths come in order, each belongs in the last block.
     let last = blocks.len() - 1;
     if blocks[last].starts_by(path) {
         return last;
@@ -141,7 +147,7 @@ fn is_started(blocks: &[Block], index: usize, path: &[u8]) -> bool
     }
 }
 
-/// Whether this block is the one in which a path stands, or else belongs.
+/// Whether this block is the one that holds a path, or else the one where it belongs.
 fn is_block_of(blocks: &[Block], index: usize, path: &[u8]) -> bool
     requires { AreBlocks blocks.now }
     ensures within { result ≡ true → index < length blocks.now }
@@ -153,7 +159,8 @@ fn is_block_of(blocks: &[Block], index: usize, path: &[u8]) -> bool
     !is_started(blocks, index + 1, path)
 }
 
-/// The block in which a path stands, or else belongs. The one of this number is looked at first.
+/// The number of the block that holds a path, or else where it belongs. The block numbered `near` is looked
+/// at first.
 fn block_near(blocks: &[Block], near: usize, path: &[u8]) -> usize
     requires { AreBlocks blocks.now }
     ensures within { result < length blocks.now }
@@ -192,7 +199,9 @@ fn first_behind(blocks: &[Block], index: usize) -> Option<&Entry>
 fn put_entry(blocks: &mut Vec<Block>, entry: Entry) -> Result<(), AllocError>
     requires { AreBlocks blocks.old.items }
     ensures blocks { AreBlocks blocks.new.items }
-    ensures entries { flat blocks.new.items ≡ (if is_ok result then map.put (slice_cmp nat_cmp) entry.0 entry.1 (flat blocks.old.items) else flat blocks.old.items) }
+    ensures entries { flat blocks.new.items
+        ≡ (if is_ok result then map.put (slice_cmp nat_cmp) entry.0 entry.1
+        (flat blocks.old.items) else flat blocks.old.items) }
 {
     let index = block_of(blocks, entry.path());
     put_within(blocks, index, entry)?;
@@ -201,14 +210,16 @@ fn put_entry(blocks: &mut Vec<Block>, entry: Entry) -> Result<(), AllocError>
     Ok(())
 }
 
-/// Puts an entry in the block in which it belongs.
+/// Adds an entry to the block in which it belongs.
 fn put_within(blocks: &mut Vec<Block>, index: usize, entry: Entry) -> Result<(), AllocError>
     requires blocks { AreBlocks blocks.old.items }
     requires within { index < length blocks.old.items }
     requires place { IsBlockOf entry.0 blocks.old.items index }
     ensures blocks { AreBlocks blocks.new.items }
     ensures count { length blocks.new.items ≡ length blocks.old.items }
-    ensures entries { flat blocks.new.items ≡ (if is_ok result then map.put (slice_cmp nat_cmp) entry.0 entry.1 (flat blocks.old.items) else flat blocks.old.items) }
+    ensures entries { flat blocks.new.items
+        ≡ (if is_ok result then map.put (slice_cmp nat_cmp) entry.0 entry.1
+        (flat blocks.old.items) else flat blocks.old.items) }
 {
     blocks[index].put(entry)
 }

@@ -57,7 +57,8 @@ fn write_file_line(text: &mut Vec<u8>, path: &[u8], file: &File) -> Result<(), A
 
 /// Writes a file's line, its bytes and a newline.
 fn write_file(text: &mut Vec<u8>, path: &[u8], file: &File) -> Result<(), AllocError>
-    ensures { OnOk result (text.new.items ≡ text.old.items ++ node_text path.now (Node.File file.now)) }
+    ensures { OnOk result
+        (text.new.items ≡ text.old.items ++ node_text path.now (Node.File file.now)) }
 {
     write_file_line(text, path, file)?;
     text.extend_from_slice(b"\n")?;
@@ -78,7 +79,7 @@ pub fn write_node(text: &mut Vec<u8>, path: &[u8], node: &Node) -> Result<(), Al
     }
 }
 
-/// Whether a path is in no image: that of the root, or of the devices or below.
+/// Whether a path is in no image: `/`, `/dev`, and what is below `/dev`.
 pub fn is_left_out(path: &[u8]) -> bool
     ensures { result ≡ is_left_out path.now }
 {

@@ -34,9 +34,11 @@ fn write_paths(image: &mut Vec<u8>, nodes: &[Node], entries: &[Entry]) -> Result
     Ok(())
 }
 
-/// Writes what the image has of the paths in blocks. The only error is want of memory.
+/// Writes what the image has of the paths in blocks. The only error is want of memory, and part of it may be
+/// written then.
 pub fn write_blocks(image: &mut Vec<u8>, nodes: &[Node], blocks: &[Block]) -> Result<(), AllocError>
-    ensures { OnOk result (image.new.items ≡ image.old.items ++ paths_text nodes.now (flat blocks.now)) }
+    ensures { OnOk result
+        (image.new.items ≡ image.old.items ++ paths_text nodes.now (flat blocks.now)) }
 {
     let mut rest = blocks;
     'parts: while let Some((block, behind)) = rest.split_first() {

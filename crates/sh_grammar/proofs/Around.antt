@@ -11,10 +11,10 @@ use Rattle.sh_grammar.specs.declared.Token.{Token}
 use Rattle.sh_grammar.specs.declared.Action.{Action}
 use Rattle.sh_grammar.specs.declared.Action.TheVariants.{Expand, Shift}
 use Rattle.sh_grammar.specs.Around.{has_head, nodes_around, nodes_within, is_last_only, is_absent, is_empty, marks_rule, Marks}
-use Rattle.sh_grammar.specs.Awaited.{awaited, is_nonterminal, times_in}
+use Rattle.sh_grammar.specs.Awaited.{awaited_count, is_nonterminal, times_in}
 use Rattle.sh_grammar.specs.Computed.{body_in, rule_body, lead, stack_after}
 use Rattle.sh_grammar.specs.Grammar.{AreTrees, Grammar, IsRule, IsTree, Tree, Forest, Leaf, Node, Empty, And, all_leaves, leaves, next_class}
-use Rattle.sh_grammar.specs.Leftmost.{Leftmost, preorder, preorders, shifted}
+use Rattle.sh_grammar.specs.Leftmost.{Leftmost, preorder, preorders, tokens_of}
 use Rattle.sh_grammar.specs.Passes.{IsPredictive, evidence_of, with_rule}
 use Rattle.sh_grammar.specs.Predictive.{Evidence, Fits, Predicts}
 use Rattle.sh_grammar.specs.Reach.{at_end}
@@ -22,7 +22,7 @@ use Rattle.sh_grammar.specs.Table.{Table, cost_of, table_of}
 use Rattle.sh_grammar.specs.Tabulation.{Tabulation, grammar_of}
 use Rattle.sh_grammar.specs.Text.{IsTreeOf}
 use Rattle.sh_grammar.proofs.Check.{passes_predicts, rules_at}
-use Rattle.sh_grammar.proofs.Front.{cost_falls}
+use Rattle.sh_grammar.proofs.Prefix.{cost_falls}
 use Rattle.sh_grammar.proofs.Kept.{taken_is}
 use Rattle.sh_grammar.proofs.Predict.{first_in}
 use Rattle.sh_grammar.proofs.Reach.{fits_append, predicted, reach_start}
@@ -50,18 +50,18 @@ module _ (g : Grammar) (t : Table) (evidence : Evidence) (ok : Predicts g t evid
     is : lead g t f stack c ≡ Some new
     leads : Leftmost g g.ending new later
     fits : Fits g t evidence (at_end g) new
-    text : shifted later ≡ us
+    text : tokens_of later ≡ us
     here : stack_at g actions stack 0 ≡ new
     further : (i : ℕ) → stack_at g actions stack (suc i) ≡ stack_at g later new i
 
-  goes : (f : ℕ) (stack : List Symbol) (actions : List Action) (u : Token) (us : List Token) → cost_of t stack < f → Leftmost g g.ending stack actions → Fits g t evidence (at_end g) stack → shifted actions ≡ u ∷ us → Goes f stack actions us u.class
+  goes : (f : ℕ) (stack : List Symbol) (actions : List Action) (u : Token) (us : List Token) → cost_of t stack < f → Leftmost g g.ending stack actions → Fits g t evidence (at_end g) stack → tokens_of actions ≡ u ∷ us → Goes f stack actions us u.class
   goes zero stack actions u us c l h e = absurd (omega (arith, c))
   goes (suc f) [] [] u us c l h e = absurd (cc)
   goes (suc f) [] (a ∷ actions) u us c l h e = absurd l
   goes (suc f) (Terminal k ∷ stack) [] u us c l h e = absurd l
   goes (suc f) (Terminal k ∷ stack) (Expand p ∷ actions) u us c l h e = absurd l
   goes (suc f) (Terminal k ∷ stack) (Shift v ∷ actions) u us c l h e =
-      record { new = stack; later = actions; is = refl; leads = l.1; fits = h; text = rest_same v u (shifted actions) us e; here = refl; further = λ i. refl }
+      record { new = stack; later = actions; is = refl; leads = l.1; fits = h; text = rest_same v u (tokens_of actions) us e; here = refl; further = λ i. refl }
   goes (suc f) (Nonterminal n ∷ stack) [] u us c l h e = absurd l
   goes (suc f) (Nonterminal n ∷ stack) (Shift v ∷ actions) u us c l h e = absurd l
   goes (suc f) (Nonterminal n ∷ stack) (Expand p ∷ actions) u us c l h e =
@@ -81,7 +81,7 @@ module _ (g : Grammar) (t : Table) (evidence : Evidence) (ok : Predicts g t evid
         further = λ i. ap (λ y. stack_at g actions (body_in y ++ stack) (suc i)) l.1.there ∙ x.further i;
       }
 
-  behind : (tokens : List Token) (actions : List Action) (stack : List Symbol) (i : ℕ) → Leftmost g g.ending stack actions → Fits g t evidence (at_end g) stack → shifted actions ≡ tokens → i < length tokens → stack_after g t (Some stack) (take (suc i) tokens) ≡ Some (stack_at g actions stack i)
+  behind : (tokens : List Token) (actions : List Action) (stack : List Symbol) (i : ℕ) → Leftmost g g.ending stack actions → Fits g t evidence (at_end g) stack → tokens_of actions ≡ tokens → i < length tokens → stack_after g t (Some stack) (take (suc i) tokens) ≡ Some (stack_at g actions stack i)
   behind [] actions stack i l h e b = absurd (omega (arith, b))
   behind (u ∷ tokens) actions stack zero l h e b =
       let x = goes (suc (cost_of t stack)) stack actions u tokens (omega arith) l h e in
@@ -227,7 +227,7 @@ module _ (g : Grammar) (m n : ℕ) (all : (p h : ℕ) (body : List Symbol) → I
     within e (s ∷ body) Empty stack actions i c h b a = absurd h
 
 -- of a grammar that passes its test
-pub awaited_around : (d : Tabulation) → IsPredictive d → (m n : ℕ) → Marks d m n → (tokens : List Token) (tree : Tree) → IsTreeOf d tokens tree → (i : ℕ) → i < length tokens → awaited d m (take (suc i) tokens) ≡ nodes_around (grammar_of d).rules n tree i
+pub awaited_around : (d : Tabulation) → IsPredictive d → (m n : ℕ) → Marks d m n → (tokens : List Token) (tree : Tree) → IsTreeOf d tokens tree → (i : ℕ) → i < length tokens → awaited_count d m (take (suc i) tokens) ≡ nodes_around (grammar_of d).rules n tree i
 awaited_around d p m n marks tokens tree h i b =
     let g = grammar_of d in
     let t = table_of d in

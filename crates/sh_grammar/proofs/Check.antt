@@ -9,7 +9,7 @@ use Rattle.sh_grammar.specs.declared.Symbol.TheVariants.{Terminal, Nonterminal}
 use Rattle.sh_grammar.specs.declared.Action.{Action}
 use Rattle.sh_grammar.specs.declared.Action.TheVariants.{Expand, Shift}
 use Rattle.sh_grammar.specs.Grammar.{Grammar, Rule, IsRule, next_class}
-use Rattle.sh_grammar.specs.Leftmost.{shifted, Leftmost}
+use Rattle.sh_grammar.specs.Leftmost.{tokens_of, Leftmost}
 use Rattle.sh_grammar.specs.Tabulation.{Tabulation, in_set, has, rules_of, grammar_of, prediction}
 use Rattle.sh_grammar.specs.Table.{nullable_of, first_of, vanishing, cost_of, table_of}
 use Rattle.sh_grammar.specs.Predictive.{Evidence, samples, Fits, Ends, Predicts}
@@ -52,9 +52,9 @@ leads_found : (g : Grammar) (e : ℕ) (stack : List Symbol) (actions : List Acti
 leads_found g e [] [] h = tt
 leads_found g e (Terminal k ∷ stack) (Shift t ∷ actions) h = let b = and_parts (g.accepts k t.class) (leads_test g e stack actions) h in (b.0, leads_found g e stack actions b.1)
 leads_found g e (Nonterminal n ∷ stack) (Expand p ∷ actions) h =
-    let f = found (slice_get g.rules p) (λ r. nat_eq r.head n && (g.allows p (next_class e (shifted actions)) && leads_test g e (r.body ++ stack) actions)) h in
-    let a = and_parts (nat_eq f.rule.head n) (g.allows p (next_class e (shifted actions)) && leads_test g e (f.rule.body ++ stack) actions) f.passes in
-    let b = and_parts (g.allows p (next_class e (shifted actions))) (leads_test g e (f.rule.body ++ stack) actions) a.1 in
+    let f = found (slice_get g.rules p) (λ r. nat_eq r.head n && (g.allows p (next_class e (tokens_of actions)) && leads_test g e (r.body ++ stack) actions)) h in
+    let a = and_parts (nat_eq f.rule.head n) (g.allows p (next_class e (tokens_of actions)) && leads_test g e (f.rule.body ++ stack) actions) f.passes in
+    let b = and_parts (g.allows p (next_class e (tokens_of actions))) (leads_test g e (f.rule.body ++ stack) actions) a.1 in
     (f.rule.body, as_rule g p n f.rule f.is a.0, b.0, leads_found g e (f.rule.body ++ stack) actions b.1)
 leads_found g e (s ∷ stack) [] h = absurd (cc)
 leads_found g e [] (a ∷ actions) h = absurd (cc)
@@ -64,7 +64,7 @@ leads_found g e (Nonterminal n ∷ stack) (Shift t ∷ actions) h = absurd (cc)
 ends_found : (g : Grammar) (evidence : Evidence) (e : ℕ) (symbols : List Symbol) → ends_test g evidence e symbols ≡ true → Ends g evidence e symbols
 ends_found g evidence e [] h = tt
 ends_found g evidence e (Terminal k ∷ symbols) h = let b = and_parts (g.accepts k (evidence.token k).class) (ends_test g evidence e symbols) h in (b.0, ends_found g evidence e symbols b.1)
-ends_found g evidence e (Nonterminal n ∷ symbols) h = let b = and_parts (evidence.safe n (next_class e (shifted (samples evidence symbols)))) (ends_test g evidence e symbols) h in (b.0, ends_found g evidence e symbols b.1)
+ends_found g evidence e (Nonterminal n ∷ symbols) h = let b = and_parts (evidence.safe n (next_class e (tokens_of (samples evidence symbols)))) (ends_test g evidence e symbols) h in (b.0, ends_found g evidence e symbols b.1)
 
 has_class : (ending : ℕ) (masks : List ℕ) (n c : ℕ) → has ending masks n c ≡ true → c < suc ending
 has_class ending masks n c h = let l = leb-true c ending (and_parts (nat_le c ending) (in_set (get_or masks n 0) c) h).0 in omega arith

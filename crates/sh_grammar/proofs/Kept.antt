@@ -7,10 +7,10 @@ use Rattle.sh_grammar.specs.declared.Symbol.{Symbol}
 use Rattle.sh_grammar.specs.declared.Symbol.TheVariants.{Terminal, Nonterminal}
 use Rattle.sh_grammar.specs.declared.Token.{Token}
 use Rattle.sh_grammar.specs.declared.Action.{Action}
-use Rattle.sh_grammar.specs.Awaited.{awaited, is_nonterminal, times_in}
-use Rattle.sh_grammar.specs.Computed.{lead, taken, stack_after}
+use Rattle.sh_grammar.specs.Awaited.{awaited_count, is_nonterminal, times_in}
+use Rattle.sh_grammar.specs.Computed.{lead, next_stack, stack_after}
 use Rattle.sh_grammar.specs.Grammar.{Grammar}
-use Rattle.sh_grammar.specs.Leftmost.{shifted}
+use Rattle.sh_grammar.specs.Leftmost.{tokens_of}
 use Rattle.sh_grammar.specs.Passes.{IsPredictive}
 use Rattle.sh_grammar.specs.Reach.{Any, Keeps, Stands}
 use Rattle.sh_grammar.specs.Recognized.{Recognized}
@@ -25,10 +25,10 @@ pub record Leads (d : Tabulation) (aim : Option (List Symbol)) (c : ℕ) (stack 
   pub enough : cost_of (table_of d) stack < bound
   pub is : lead (grammar_of d) (table_of d) bound stack c ≡ aim
 
-pub taken_is : (g : Grammar) (t : Table) (stack : List Symbol) (c : ℕ) → first_of g t stack c ≡ true → lead g t (suc (cost_of t stack)) stack c ≡ taken g t stack c
+pub taken_is : (g : Grammar) (t : Table) (stack : List Symbol) (c : ℕ) → first_of g t stack c ≡ true → lead g t (suc (cost_of t stack)) stack c ≡ next_stack g t stack c
 taken_is g t stack c h = rw h refl
 
-pub leads_start : (d : Tabulation) (stack : List Symbol) (c : ℕ) → first_of (grammar_of d) (table_of d) stack c ≡ true → Leads d (taken (grammar_of d) (table_of d) stack c) c stack
+pub leads_start : (d : Tabulation) (stack : List Symbol) (c : ℕ) → first_of (grammar_of d) (table_of d) stack c ≡ true → Leads d (next_stack (grammar_of d) (table_of d) stack c) c stack
 leads_start d stack c h = record { bound = suc (cost_of (table_of d) stack); enough = omega arith; is = taken_is (grammar_of d) (table_of d) stack c h }
 
 pub leads_on : (d : Tabulation) (aim : Option (List Symbol)) (c : ℕ) (old new : List Symbol) → Leads d aim c old → cost_of (table_of d) new < cost_of (table_of d) old → ((f : ℕ) → lead (grammar_of d) (table_of d) (suc f) old c ≡ lead (grammar_of d) (table_of d) f new c) → Leads d aim c new
@@ -51,18 +51,18 @@ stack_append g t None [] more = refl
 stack_append g t None (u ∷ first) [] = refl
 stack_append g t None (u ∷ first) (v ∷ more) = refl
 stack_append g t (Some s) [] more = refl
-stack_append g t (Some s) (u ∷ first) more = stack_append g t (taken g t s u.class) first more
+stack_append g t (Some s) (u ∷ first) more = stack_append g t (next_stack g t s u.class) first more
 
 pub keeps_start : (d : Tabulation) (done : List Action) (symbols : List Symbol) → IsPredictive d → done ≡ [] → symbols ≡ Nonterminal d.start ∷ [] → Keeps d done (reverse symbols)
 keeps_start d done symbols p e q =
     record {
       stands = stands_start d done symbols p e q;
       computed =
-          ap (λ x. stack_after (grammar_of d) (table_of d) (Some (Nonterminal d.start ∷ [])) (shifted x)) e
+          ap (λ x. stack_after (grammar_of d) (table_of d) (Some (Nonterminal d.start ∷ [])) (tokens_of x)) e
           ∙ ap (λ x. Some (reverse x)) (sym q);
     }
 
-pub keeps_taken : (d : Tabulation) (done after : List Action) (old new : List Symbol) (u : Token) → Keeps d done old → Stands d Any after new → shifted after ≡ shifted done ++ u ∷ [] → taken (grammar_of d) (table_of d) old u.class ≡ Some new → Keeps d after new
+pub keeps_taken : (d : Tabulation) (done after : List Action) (old new : List Symbol) (u : Token) → Keeps d done old → Stands d Any after new → tokens_of after ≡ tokens_of done ++ u ∷ [] → next_stack (grammar_of d) (table_of d) old u.class ≡ Some new → Keeps d after new
 keeps_taken d done after old new u k s e i =
     let g = grammar_of d in
     let t = table_of d in
@@ -71,7 +71,7 @@ keeps_taken d done after old new u k s e i =
       stands = s;
       computed =
           ap (stack_after g t start) e
-          ∙ (stack_append g t start (shifted done) (u ∷ []) ∙ (ap (λ x. stack_after g t x (u ∷ [])) k.computed ∙ ap (λ x. stack_after g t x []) i));
+          ∙ (stack_append g t start (tokens_of done) (u ∷ []) ∙ (ap (λ x. stack_after g t x (u ∷ [])) k.computed ∙ ap (λ x. stack_after g t x []) i));
     }
 
 count_reverse : (n : ℕ) (symbols : List Symbol) → count_by (is_nonterminal n) symbols ≡ count_by (is_nonterminal n) (reverse symbols)
@@ -85,6 +85,6 @@ count_reverse n (s ∷ symbols) =
     let swapped : f s + sum_by f (reverse symbols) ≡ sum_by f (reverse symbols) + f s = omega arith in
     first ∙ (ap (λ x. f s + x) below ∙ (swapped ∙ (sym last ∙ sym turned)))
 
-pub awaited_here : (d : Tabulation) (done : List Action) (stack symbols : List Symbol) (seen : Recognized) (n b : ℕ) → Keeps d done stack → record { grammar = d; tokens = shifted done } ≡ seen → reverse symbols ≡ stack → b ≡ count_by (is_nonterminal n) symbols → b ≡ awaited seen.grammar n seen.tokens
+pub awaited_here : (d : Tabulation) (done : List Action) (stack symbols : List Symbol) (seen : Recognized) (n b : ℕ) → Keeps d done stack → record { grammar = d; tokens = tokens_of done } ≡ seen → reverse symbols ≡ stack → b ≡ count_by (is_nonterminal n) symbols → b ≡ awaited_count seen.grammar n seen.tokens
 awaited_here d done stack symbols seen n b k e q i =
-    subst (λ (x : Recognized). b ≡ awaited x.grammar n x.tokens) e (i ∙ (count_reverse n symbols ∙ (ap (count_by (is_nonterminal n)) q ∙ ap (times_in n) (sym k.computed))))
+    subst (λ (x : Recognized). b ≡ awaited_count x.grammar n x.tokens) e (i ∙ (count_reverse n symbols ∙ (ap (count_by (is_nonterminal n)) q ∙ ap (times_in n) (sym k.computed))))

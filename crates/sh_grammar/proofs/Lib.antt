@@ -1,7 +1,7 @@
 pub mod Trees
 pub mod Predict
 pub mod Reach
-pub mod Front
+pub mod Prefix
 pub mod SoFar
 pub mod Check
 pub mod Computing

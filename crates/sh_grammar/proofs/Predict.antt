@@ -7,7 +7,7 @@ use Rattle.sh_grammar.specs.declared.Token.{Token}
 use Rattle.sh_grammar.specs.declared.Action.{Action}
 use Rattle.sh_grammar.specs.declared.Action.TheVariants.{Expand, Shift}
 use Rattle.sh_grammar.specs.Grammar.{Grammar, next_class}
-use Rattle.sh_grammar.specs.Leftmost.{shifted, Leftmost}
+use Rattle.sh_grammar.specs.Leftmost.{tokens_of, Leftmost}
 use Rattle.sh_grammar.specs.Table.{Table, nullable_of, first_of}
 use Rattle.sh_grammar.specs.Predictive.{Evidence, Predicts}
 
@@ -66,7 +66,7 @@ module _ (g : Grammar) (t : Table) where
 
   module _ (evidence : Evidence) (ok : Predicts g t evidence) where
     -- what a derivation begins with is in the first set
-    pub first_in : (e : ℕ) (stack : List Symbol) (actions : List Action) → Leftmost g e stack actions → (u : Token) (us : List Token) → shifted actions ≡ u ∷ us → first_of g t stack u.class ≡ true
+    pub first_in : (e : ℕ) (stack : List Symbol) (actions : List Action) → Leftmost g e stack actions → (u : Token) (us : List Token) → tokens_of actions ≡ u ∷ us → first_of g t stack u.class ≡ true
     first_in e [] [] h u us i = absurd (cc)
     first_in e (Terminal k ∷ stack) (Shift v ∷ actions) h u us i =
         let vu : v ≡ u = cc in
@@ -84,7 +84,7 @@ module _ (g : Grammar) (t : Table) where
     first_in e (Nonterminal n ∷ stack) (Shift v ∷ actions) h u us i = absurd h
 
     -- what derives nothing is nullable
-    pub nullable_in : (e : ℕ) (stack : List Symbol) (actions : List Action) → Leftmost g e stack actions → shifted actions ≡ [] → nullable_of g t stack e ≡ true
+    pub nullable_in : (e : ℕ) (stack : List Symbol) (actions : List Action) → Leftmost g e stack actions → tokens_of actions ≡ [] → nullable_of g t stack e ≡ true
     nullable_in e [] [] h i = refl
     nullable_in e (Terminal k ∷ stack) (Shift v ∷ actions) h i = absurd (cc)
     nullable_in e (Nonterminal n ∷ stack) (Expand p ∷ actions) h i =

@@ -7,18 +7,18 @@ use Rattle.sh_grammar.specs.declared.Token.{Token}
 use Rattle.sh_grammar.specs.declared.Action.{Action}
 use Rattle.sh_grammar.specs.declared.Action.TheVariants.{Expand, Shift}
 use Rattle.sh_grammar.specs.Grammar.{Grammar, IsRule, next_class}
-use Rattle.sh_grammar.specs.Leftmost.{shifted, Leftmost}
+use Rattle.sh_grammar.specs.Leftmost.{tokens_of, Leftmost}
 use Rattle.sh_grammar.specs.Table.{Table, nullable_of, first_of}
 use Rattle.sh_grammar.specs.Predictive.{Evidence, Fits, samples, Ends, Predicts}
 use Rattle.sh_grammar.specs.Reach.{Any, Begins, Ended, at_end, Reaches}
 use Rattle.sh_grammar.proofs.Trees.{shifted_append, same_body, next_append}
 use Rattle.sh_grammar.proofs.Predict.{first_in, nullable_in, first_split, nullable_split}
 
-next_append2 : (e : ℕ) (a b : List Action) → next_class (next_class e (shifted b)) (shifted a) ≡ next_class e (shifted (a ++ b))
-next_append2 e a b = next_append e (shifted a) (shifted b) ∙ ap (next_class e) (sym (shifted_append a b))
+next_append2 : (e : ℕ) (a b : List Action) → next_class (next_class e (tokens_of b)) (tokens_of a) ≡ next_class e (tokens_of (a ++ b))
+next_append2 e a b = next_append e (tokens_of a) (tokens_of b) ∙ ap (next_class e) (sym (shifted_append a b))
 
 -- derivations one after another
-pub leads_both : (g : Grammar) (e : ℕ) (body stack : List Symbol) (xs ys : List Action) → Leftmost g (next_class e (shifted ys)) body xs → Leftmost g e stack ys → Leftmost g e (body ++ stack) (xs ++ ys)
+pub leads_both : (g : Grammar) (e : ℕ) (body stack : List Symbol) (xs ys : List Action) → Leftmost g (next_class e (tokens_of ys)) body xs → Leftmost g e stack ys → Leftmost g e (body ++ stack) (xs ++ ys)
 leads_both g e [] stack [] ys l m = m
 leads_both g e (Terminal k ∷ body) stack (Shift v ∷ xs) ys l m = (l.0, leads_both g e body stack xs ys l.1 m)
 leads_both g e (Nonterminal n ∷ body) stack (Expand p ∷ xs) ys l m =
@@ -37,9 +37,9 @@ record Shifted (g : Grammar) (stack : List Symbol) (u : Token) (more : List Toke
   later : List Action
   is : rest ≡ Shift u ∷ later
   leads : Leftmost g g.ending stack later
-  text : shifted later ≡ more
+  text : tokens_of later ≡ more
 
-shift_first : (g : Grammar) (k : ℕ) (stack : List Symbol) (u : Token) (more : List Token) (rest : List Action) → Leftmost g g.ending (Terminal k ∷ stack) rest → shifted rest ≡ u ∷ more → Shifted g stack u more rest
+shift_first : (g : Grammar) (k : ℕ) (stack : List Symbol) (u : Token) (more : List Token) (rest : List Action) → Leftmost g g.ending (Terminal k ∷ stack) rest → tokens_of rest ≡ u ∷ more → Shifted g stack u more rest
 shift_first g k stack u more [] h e = absurd h
 shift_first g k stack u more (Expand p ∷ rest) h e = absurd h
 shift_first g k stack u more (Shift v ∷ rest) h e = let vu : v ≡ u = cc in record { later = rest; is = ap (λ w. Shift w ∷ rest) vu; leads = h.1; text = cc }
@@ -51,11 +51,11 @@ record Expanded (g : Grammar) (n : ℕ) (stack : List Symbol) (more : List Token
   is_rule : IsRule g rule n body
   later : List Action
   is : rest ≡ Expand rule ∷ later
-  guard : g.allows rule (next_class g.ending (shifted later)) ≡ true
+  guard : g.allows rule (next_class g.ending (tokens_of later)) ≡ true
   leads : Leftmost g g.ending (body ++ stack) later
-  text : shifted later ≡ more
+  text : tokens_of later ≡ more
 
-expand_first : (g : Grammar) (n : ℕ) (stack : List Symbol) (more : List Token) (rest : List Action) → Leftmost g g.ending (Nonterminal n ∷ stack) rest → shifted rest ≡ more → Expanded g n stack more rest
+expand_first : (g : Grammar) (n : ℕ) (stack : List Symbol) (more : List Token) (rest : List Action) → Leftmost g g.ending (Nonterminal n ∷ stack) rest → tokens_of rest ≡ more → Expanded g n stack more rest
 expand_first g n stack more [] h e = absurd h
 expand_first g n stack more (Shift v ∷ rest) h e = absurd h
 expand_first g n stack more (Expand p ∷ rest) h e = record { rule = p; body = h.0; is_rule = h.1; later = rest; is = refl; guard = h.2; leads = h.3; text = e }
@@ -79,7 +79,7 @@ IsAllowed g p ahead = (text : List Token) → ahead text → g.allows p (next_cl
 -- another derivation of what comes begins with this production
 abbrev IsOnly : Grammar → (List Token → Type 0) → ℕ → List Symbol → ℕ → Type 0
 IsOnly g ahead n stack p =
-    (q : ℕ) (other : List Symbol) (actions : List Action) (more : List Token) → ahead more → IsRule g q n other → g.allows q (next_class g.ending (shifted actions)) ≡ true → Leftmost g g.ending (other ++ stack) actions → shifted actions ≡ more → q ≡ p
+    (q : ℕ) (other : List Symbol) (actions : List Action) (more : List Token) → ahead more → IsRule g q n other → g.allows q (next_class g.ending (tokens_of actions)) ≡ true → Leftmost g g.ending (other ++ stack) actions → tokens_of actions ≡ more → q ≡ p
 
 module _ (g : Grammar) (t : Table) (evidence : Evidence) where
   pub fits_append : (between after : ℕ → Bool) (body stack : List Symbol) → Fits g t evidence between body → ((c : ℕ) → first_of g t stack c ≡ true → between c ≡ true) → ((c : ℕ) → nullable_of g t stack c ≡ true → after c ≡ true → between c ≡ true) → Fits g t evidence after stack → Fits g t evidence after (body ++ stack)
@@ -96,11 +96,11 @@ module _ (g : Grammar) (t : Table) (evidence : Evidence) where
   samples_append (Terminal k ∷ body) stack = ap (λ x. Shift (evidence.token k) ∷ x) (samples_append body stack)
   samples_append (Nonterminal n ∷ body) stack = ap (λ x. evidence.sample n ++ x) (samples_append body stack) ∙ sym (append_assoc (evidence.sample n) (samples evidence body) (samples evidence stack))
 
-  ends_append : (e : ℕ) (body stack : List Symbol) → Ends g evidence (next_class e (shifted (samples evidence stack))) body → Ends g evidence e stack → Ends g evidence e (body ++ stack)
+  ends_append : (e : ℕ) (body stack : List Symbol) → Ends g evidence (next_class e (tokens_of (samples evidence stack))) body → Ends g evidence e stack → Ends g evidence e (body ++ stack)
   ends_append e [] stack h k = k
   ends_append e (Terminal j ∷ body) stack h k = (h.0, ends_append e body stack h.1 k)
   ends_append e (Nonterminal n ∷ body) stack h k =
-      (subst (λ c. evidence.safe n c ≡ true) (next_append2 e (samples evidence body) (samples evidence stack) ∙ ap (λ x. next_class e (shifted x)) (sym (samples_append body stack))) h.0, ends_append e body stack h.1 k)
+      (subst (λ c. evidence.safe n c ≡ true) (next_append2 e (samples evidence body) (samples evidence stack) ∙ ap (λ x. next_class e (tokens_of x)) (sym (samples_append body stack))) h.0, ends_append e body stack h.1 k)
 
   module _ (ok : Predicts g t evidence) where
     -- each stack stands for its samples
@@ -113,7 +113,7 @@ module _ (g : Grammar) (t : Table) (evidence : Evidence) where
     ends_expand e p n body stack r h = ends_append e body stack (ok.ends p n body r _ h.0) h.1
 
     -- the production that begins a derivation is the predicted one
-    pub predicted : (n : ℕ) (stack : List Symbol) (p : ℕ) (body : List Symbol) (actions : List Action) (u : Token) (more : List Token) → Fits g t evidence (at_end g) (Nonterminal n ∷ stack) → IsRule g p n body → g.allows p (next_class g.ending (shifted actions)) ≡ true → Leftmost g g.ending (body ++ stack) actions → shifted actions ≡ u ∷ more → t.predict n u.class ≡ Some p
+    pub predicted : (n : ℕ) (stack : List Symbol) (p : ℕ) (body : List Symbol) (actions : List Action) (u : Token) (more : List Token) → Fits g t evidence (at_end g) (Nonterminal n ∷ stack) → IsRule g p n body → g.allows p (next_class g.ending (tokens_of actions)) ≡ true → Leftmost g g.ending (body ++ stack) actions → tokens_of actions ≡ u ∷ more → t.predict n u.class ≡ Some p
     predicted n stack p body actions u more f r guard l e =
         let a = subst (λ x. g.allows p (next_class g.ending x) ≡ true) e guard in
         ⊎_elim
@@ -121,7 +121,7 @@ module _ (g : Grammar) (t : Table) (evidence : Evidence) where
         (λ h. ok.by_follow p n body r u.class h.0 a (f.0 u.class h.1))
         (first_split g t body stack u.class (first_in g t evidence ok g.ending (body ++ stack) actions l u more e))
 
-    pub predicted_end : (n : ℕ) (stack : List Symbol) (p : ℕ) (body : List Symbol) (actions : List Action) → Fits g t evidence (at_end g) (Nonterminal n ∷ stack) → IsRule g p n body → g.allows p (next_class g.ending (shifted actions)) ≡ true → Leftmost g g.ending (body ++ stack) actions → shifted actions ≡ [] → t.predict n g.ending ≡ Some p
+    pub predicted_end : (n : ℕ) (stack : List Symbol) (p : ℕ) (body : List Symbol) (actions : List Action) → Fits g t evidence (at_end g) (Nonterminal n ∷ stack) → IsRule g p n body → g.allows p (next_class g.ending (tokens_of actions)) ≡ true → Leftmost g g.ending (body ++ stack) actions → tokens_of actions ≡ [] → t.predict n g.ending ≡ Some p
     predicted_end n stack p body actions f r guard l e =
         let a = subst (λ x. g.allows p (next_class g.ending x) ≡ true) e guard in
         let both = nullable_split g t body stack g.ending (nullable_in g t evidence ok g.ending (body ++ stack) actions l e) in
@@ -133,9 +133,9 @@ module _ (g : Grammar) (t : Table) (evidence : Evidence) where
         record {
           sound = λ actions any l. subst (λ x. Leftmost g g.ending (Nonterminal t.start ∷ []) x) (sym (append_assoc done (Shift u ∷ []) actions)) (r.sound (Shift u ∷ actions) refl (a, l));
           complete = λ actions more any l e.
-              let e1 : shifted actions ≡ shifted done ++ (u ∷ more) = e ∙ (ap (λ x. x ++ more) (shifted_append done (Shift u ∷ [])) ∙ append_assoc (shifted done) (u ∷ []) more) in
+              let e1 : tokens_of actions ≡ tokens_of done ++ (u ∷ more) = e ∙ (ap (λ x. x ++ more) (shifted_append done (Shift u ∷ [])) ∙ append_assoc (tokens_of done) (u ∷ []) more) in
               let s = r.complete actions (u ∷ more) refl l e1 in
-              let e2 = append_cancel (shifted done) (shifted s.rest) (u ∷ more) (sym (shifted_append done s.rest) ∙ (sym (ap shifted s.joined) ∙ e1)) in
+              let e2 = append_cancel (tokens_of done) (tokens_of s.rest) (u ∷ more) (sym (shifted_append done s.rest) ∙ (sym (ap tokens_of s.joined) ∙ e1)) in
               let f = shift_first g k stack u more s.rest s.leads e2 in
               record { rest = f.later; joined = one_further actions done s.rest f.later (Shift u) s.joined f.is; leads = f.leads };
           fits = r.fits;
@@ -146,11 +146,11 @@ module _ (g : Grammar) (t : Table) (evidence : Evidence) where
     reach_expand : (ahead : List Token → Type 0) (done : List Action) (n : ℕ) (stack : List Symbol) (p : ℕ) (body : List Symbol) → Reaches g t evidence ahead done (Nonterminal n ∷ stack) → IsRule g p n body → IsAllowed g p ahead → IsOnly g ahead n stack p → Reaches g t evidence ahead (done ++ Expand p ∷ []) (body ++ stack)
     reach_expand ahead done n stack p body r is allowed only =
         record {
-          sound = λ actions at l. subst (λ x. Leftmost g g.ending (Nonterminal t.start ∷ []) x) (sym (append_assoc done (Expand p ∷ []) actions)) (r.sound (Expand p ∷ actions) at (body, is, allowed (shifted actions) at, l));
+          sound = λ actions at l. subst (λ x. Leftmost g g.ending (Nonterminal t.start ∷ []) x) (sym (append_assoc done (Expand p ∷ []) actions)) (r.sound (Expand p ∷ actions) at (body, is, allowed (tokens_of actions) at, l));
           complete = λ actions more at l e.
-              let e1 : shifted actions ≡ shifted done ++ more = e ∙ (ap (λ x. x ++ more) (shifted_append done (Expand p ∷ [])) ∙ append_assoc (shifted done) [] more) in
+              let e1 : tokens_of actions ≡ tokens_of done ++ more = e ∙ (ap (λ x. x ++ more) (shifted_append done (Expand p ∷ [])) ∙ append_assoc (tokens_of done) [] more) in
               let s = r.complete actions more at l e1 in
-              let e2 : shifted s.rest ≡ more = append_cancel (shifted done) (shifted s.rest) more (sym (shifted_append done s.rest) ∙ (sym (ap shifted s.joined) ∙ e1)) in
+              let e2 : tokens_of s.rest ≡ more = append_cancel (tokens_of done) (tokens_of s.rest) more (sym (shifted_append done s.rest) ∙ (sym (ap tokens_of s.joined) ∙ e1)) in
               let f = expand_first g n stack more s.rest s.leads e2 in
               let q : f.rule ≡ p = only f.rule f.body f.later more at f.is_rule f.guard f.leads f.text in
               let b = same_body g p n f.body body (rule_as g f.rule p n f.body q f.is_rule) is in
@@ -169,7 +169,7 @@ module _ (g : Grammar) (t : Table) (evidence : Evidence) where
     only_begins : (n : ℕ) (stack : List Symbol) (u : Token) (p : ℕ) → Fits g t evidence (at_end g) (Nonterminal n ∷ stack) → t.predict n u.class ≡ Some p → IsOnly g (Begins u) n stack p
     only_begins n stack u p f at q other actions [] b is guard l e = absurd b
     only_begins n stack u p f at q other actions (v ∷ more) b is guard l e =
-        let e1 : shifted actions ≡ u ∷ more = e ∙ ap (λ w. w ∷ more) b in
+        let e1 : tokens_of actions ≡ u ∷ more = e ∙ ap (λ w. w ∷ more) b in
         same_some q p (sym (predicted n stack q other actions u more f is guard l e1) ∙ at)
 
     only_ended : (n : ℕ) (stack : List Symbol) (p : ℕ) → Fits g t evidence (at_end g) (Nonterminal n ∷ stack) → t.predict n g.ending ≡ Some p → IsOnly g Ended n stack p

@@ -6,7 +6,7 @@ use Rattle.sh_grammar.specs.declared.Symbol.TheVariants.{Nonterminal}
 use Rattle.sh_grammar.specs.declared.Token.{Token}
 use Rattle.sh_grammar.specs.declared.Action.{Action}
 use Rattle.sh_grammar.specs.Grammar.{Tree}
-use Rattle.sh_grammar.specs.Leftmost.{preorder, shifted}
+use Rattle.sh_grammar.specs.Leftmost.{preorder, tokens_of}
 use Rattle.sh_grammar.specs.Tabulation.{Tabulation, grammar_of}
 use Rattle.sh_grammar.specs.Table.{first_of, nullable_of, table_of}
 use Rattle.sh_grammar.specs.Predictive.{Predicts}
@@ -22,8 +22,8 @@ use Rattle.sh_grammar.proofs.Check.{passes_predicts}
 predicts : (d : Tabulation) (ahead : List Token → Type 0) (done : List Action) (stack : List Symbol) (s : Stands d ahead done stack) → Predicts (grammar_of d) (table_of d) (evidence_of d s.witness)
 predicts d ahead done stack s = passes_predicts d s.witness s.passes
 
-pub front_both : (d : Tabulation) (done : List Action) (stack symbols : List Symbol) (seen : Recognized) (u : Token) (c : ℕ) (b : Bool) → Stands d Any done stack → record { grammar = d; tokens = shifted done } ≡ seen → symbols ≡ stack → u.class ≡ c → b ≡ first_of (grammar_of d) (table_of d) symbols c → (b ≡ true → BeginsText seen.grammar (seen.tokens ++ u ∷ [])) × (BeginsText seen.grammar (seen.tokens ++ u ∷ []) → b ≡ true)
-front_both d done stack symbols seen u c b s e q k i =
+pub prefix_both : (d : Tabulation) (done : List Action) (stack symbols : List Symbol) (seen : Recognized) (u : Token) (c : ℕ) (b : Bool) → Stands d Any done stack → record { grammar = d; tokens = tokens_of done } ≡ seen → symbols ≡ stack → u.class ≡ c → b ≡ first_of (grammar_of d) (table_of d) symbols c → (b ≡ true → BeginsText seen.grammar (seen.tokens ++ u ∷ [])) × (BeginsText seen.grammar (seen.tokens ++ u ∷ []) → b ≡ true)
+prefix_both d done stack symbols seen u c b s e q k i =
     let g = grammar_of d in
     let t = table_of d in
     let v = evidence_of d s.witness in
@@ -32,7 +32,7 @@ front_both d done stack symbols seen u c b s e q k i =
     subst (λ (x : Recognized). (b ≡ true → BeginsText x.grammar (x.tokens ++ u ∷ [])) × (BeginsText x.grammar (x.tokens ++ u ∷ []) → b ≡ true)) e
     ((λ h. goes_on g t v ok done stack s.reaches u (sym at ∙ h)), (λ f. at ∙ only_first g t v ok done stack s.reaches u f))
 
-pub end_both : (d : Tabulation) (done : List Action) (stack symbols : List Symbol) (seen : Recognized) (b : Bool) → Stands d Any done stack → record { grammar = d; tokens = shifted done } ≡ seen → symbols ≡ stack → b ≡ nullable_of (grammar_of d) (table_of d) symbols d.ending → (b ≡ true → IsText seen.grammar seen.tokens) × (IsText seen.grammar seen.tokens → b ≡ true)
+pub end_both : (d : Tabulation) (done : List Action) (stack symbols : List Symbol) (seen : Recognized) (b : Bool) → Stands d Any done stack → record { grammar = d; tokens = tokens_of done } ≡ seen → symbols ≡ stack → b ≡ nullable_of (grammar_of d) (table_of d) symbols d.ending → (b ≡ true → IsText seen.grammar seen.tokens) × (IsText seen.grammar seen.tokens → b ≡ true)
 end_both d done stack symbols seen b s e q i =
     let g = grammar_of d in
     let t = table_of d in
@@ -52,23 +52,23 @@ stands_before d ahead done stack s =
     record { witness = s.witness; passes = s.passes; reaches = reach_ahead (grammar_of d) (table_of d) (evidence_of d s.witness) (predicts d Any done stack s) ahead done stack s.reaches }
 
 -- at the end, what was done is the preorder of the tree
-pub derivation : (d : Tabulation) (before done actions : List Action) (seen : Recognized) → Stands d Ended done [] → shifted done ≡ shifted before → record { grammar = d; tokens = shifted before } ≡ seen → actions ≡ done → (tree : Tree) × IsTreeOf seen.grammar seen.tokens tree × (preorder tree ≡ actions)
+pub derivation : (d : Tabulation) (before done actions : List Action) (seen : Recognized) → Stands d Ended done [] → tokens_of done ≡ tokens_of before → record { grammar = d; tokens = tokens_of before } ≡ seen → actions ≡ done → (tree : Tree) × IsTreeOf seen.grammar seen.tokens tree × (preorder tree ≡ actions)
 derivation d before done actions seen s e f a =
     let x = one_tree (grammar_of d) (Nonterminal d.start) (done ++ []) (s.reaches.sound [] tt tt) in
     let same = x.order ∙ append-nil done in
     subst (λ (y : Recognized). (tree : Tree) × IsTreeOf y.grammar y.tokens tree × (preorder tree ≡ actions)) f
-    (x.tree, record { shape = x.shape; text = sym (shifted_preorder x.tree) ∙ (ap shifted same ∙ e) }, same ∙ sym a)
+    (x.tree, record { shape = x.shape; text = sym (shifted_preorder x.tree) ∙ (ap tokens_of same ∙ e) }, same ∙ sym a)
 
 pub no_tree : (seen : Recognized) (b : Bool) → b ≡ false → (IsText seen.grammar seen.tokens → b ≡ true) → IsText seen.grammar seen.tokens → ⊥
 no_tree seen b e h text = let t = h text in let f : false ≡ true = sym e ∙ t in absurd (cc)
 
-take_front : (below more : List Symbol) → take (length below) (below ++ more) ≡ below
-take_front [] more = refl
-take_front (x ∷ below) more = ap (λ y. x ∷ y) (take_front below more)
+take_prefix : (below more : List Symbol) → take (length below) (below ++ more) ≡ below
+take_prefix [] more = refl
+take_prefix (x ∷ below) more = ap (λ y. x ∷ y) (take_prefix below more)
 
 -- what stays of a stack
 pub stays : (stack kept below gone more : List Symbol) → kept ≡ below ++ gone → stack ≡ kept ++ more → take (length below) stack ≡ below
-stays stack kept below gone more e f = ap (take (length below)) (f ∙ (ap (λ x. x ++ more) e ∙ append_assoc below gone more)) ∙ take_front below (gone ++ more)
+stays stack kept below gone more e f = ap (take (length below)) (f ∙ (ap (λ x. x ++ more) e ∙ append_assoc below gone more)) ∙ take_prefix below (gone ++ more)
 
 pub nothing_above : (stack above : List Symbol) → above ≡ [] → stack ≡ stack ++ above
 nothing_above stack above e = sym (ap (λ x. stack ++ x) e ∙ append-nil stack)

@@ -6,7 +6,7 @@ use Rattle.sh_grammar.specs.declared.Token.{Token}
 use Rattle.sh_grammar.specs.declared.Action.{Action}
 use Rattle.sh_grammar.specs.declared.Action.TheVariants.{Expand, Shift}
 use Rattle.sh_grammar.specs.Grammar.{Grammar, IsRule}
-use Rattle.sh_grammar.specs.Leftmost.{shifted}
+use Rattle.sh_grammar.specs.Leftmost.{tokens_of}
 use Rattle.sh_grammar.specs.Tabulation.{Tabulation, grammar_of, prediction}
 use Rattle.sh_grammar.specs.Table.{Table, first_of, nullable_of, cost_of, table_of}
 use Rattle.sh_grammar.specs.Predictive.{Evidence, Predicts}
@@ -15,7 +15,7 @@ use Rattle.sh_grammar.specs.Computed.{body_in, rule_body, lead}
 use Rattle.sh_grammar.specs.Reach.{Reaches, Begins, Ended, Any, Stands}
 use Rattle.sh_grammar.proofs.Trees.{shifted_append}
 use Rattle.sh_grammar.proofs.Reach.{reach_shift, reach_before, reach_ended}
-use Rattle.sh_grammar.proofs.Front.{next, last, cost_falls}
+use Rattle.sh_grammar.proofs.Prefix.{next, last, cost_falls}
 use Rattle.sh_grammar.proofs.Stack.{reverse_last, body_listed}
 use Rattle.sh_grammar.proofs.Check.{passes_predicts}
 
@@ -71,11 +71,11 @@ module _ (g : Grammar) (t : Table) (evidence : Evidence) (ok : Predicts g t evid
         less = subst (λ x. x < cost_of t (reverse old)) (ap (cost_of t) all) (subst (λ x. cost_of t (k.body ++ reverse stack) < cost_of t x) (sym top) (cost_falls g t evidence ok p n k.body (reverse stack) is));
       }
 
-pub shifted_last : (done after : List Action) (u : Token) → after ≡ done ++ Shift u ∷ [] → shifted after ≡ shifted done ++ u ∷ []
-shifted_last done after u e = ap shifted e ∙ shifted_append done (Shift u ∷ [])
+pub shifted_last : (done after : List Action) (u : Token) → after ≡ done ++ Shift u ∷ [] → tokens_of after ≡ tokens_of done ++ u ∷ []
+shifted_last done after u e = ap tokens_of e ∙ shifted_append done (Shift u ∷ [])
 
-pub expand_last : (done after : List Action) (p : ℕ) → after ≡ done ++ Expand p ∷ [] → shifted after ≡ shifted done ++ []
-expand_last done after p e = ap shifted e ∙ shifted_append done (Expand p ∷ [])
+pub expand_last : (done after : List Action) (p : ℕ) → after ≡ done ++ Expand p ∷ [] → tokens_of after ≡ tokens_of done ++ []
+expand_last done after p e = ap tokens_of e ∙ shifted_append done (Expand p ∷ [])
 
 -- the same of a grammar that passes its test
 

@@ -6,7 +6,7 @@ use Rattle.sh_grammar.specs.Grammar.{Rule, Tree, Forest, Leaf, Node, Empty, And,
 use Rattle.sh_grammar.specs.Passes.{all_rules, with_rule}
 use Rattle.sh_grammar.specs.Tabulation.{Tabulation, grammar_of}
 
--- the production of this number is one of the nonterminal n
+-- the production of this number has the head n
 abbrev pub has_head : List Rule → ℕ → ℕ → Bool
 has_head rules n p = with_rule (slice_get rules p) (λ r. nat_eq r.head n)
 
@@ -34,7 +34,7 @@ abbrev pub is_empty : List Symbol → Bool
 is_empty [] = true
 is_empty (s ∷ symbols) = false
 
--- m ends each production of n, stands in no other, and stands for nothing
+-- m ends each production of n and is in no other production, and each production of m is empty
 abbrev pub marks_rule : ℕ → ℕ → ℕ → Rule → Bool
 marks_rule m n p r = (if nat_eq r.head n then is_last_only m r.body else is_absent m r.body) && (if nat_eq r.head m then is_empty r.body else true)
 

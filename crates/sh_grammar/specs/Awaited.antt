@@ -1,4 +1,4 @@
--- How many symbols of one kind are still to come, by computation.
+-- How often a nonterminal is still to come, by computation.
 use Rattle.std.specs.Prelude.{ℕ, Bool, false, nat_eq, List, [], ◌∷◌, Option, Some, None}
 use Rattle.std.specs.List.{count_by}
 use Rattle.sh_grammar.specs.declared.Symbol.{Symbol}
@@ -17,6 +17,6 @@ abbrev pub times_in : ℕ → Option (List Symbol) → ℕ
 times_in n None = 0
 times_in n (Some stack) = count_by (is_nonterminal n) stack
 
--- of how many nonterminals of this number the stack after the tokens still waits; of none where a token was refused
-abbrev pub awaited : Tabulation → ℕ → List Token → ℕ
-awaited d n tokens = times_in n (stack_after (grammar_of d) (table_of d) (Some (Nonterminal d.start ∷ [])) tokens)
+-- how often the nonterminal of this number is on the stack after the tokens; 0 where a token was refused
+abbrev pub awaited_count : Tabulation → ℕ → List Token → ℕ
+awaited_count d n tokens = times_in n (stack_after (grammar_of d) (table_of d) (Some (Nonterminal d.start ∷ [])) tokens)

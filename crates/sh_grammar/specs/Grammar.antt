@@ -4,7 +4,7 @@ use Rattle.sh_grammar.specs.declared.Symbol.{Symbol}
 use Rattle.sh_grammar.specs.declared.Symbol.TheVariants.{Terminal, Nonterminal}
 use Rattle.sh_grammar.specs.declared.Token.{Token}
 
--- a production: a nonterminal, and what it may stand for
+-- a production: a nonterminal, and what may replace it
 pub record Rule : Type 0 where
   pub head : ℕ
   pub body : List Symbol
@@ -17,7 +17,7 @@ pub record Grammar : Type 0 where
   pub ending : ℕ
   pub allows : ℕ → ℕ → Bool
 
--- the class of what comes next, where after the tokens something of the class e comes
+-- the class of the first token; where there is none, e, the class of what comes after the tokens
 abbrev pub next_class : ℕ → List Token → ℕ
 next_class e [] = e
 next_class e (u ∷ tokens) = u.class
@@ -46,7 +46,7 @@ abbrev mutual
   all_leaves (And x others) = leaves x ++ all_leaves others
 
 abbrev mutual
-  -- the tree is one of the symbol, where something of the class e comes after it
+  -- the tree is a derivation from the symbol, where something of the class e comes after it
   pub IsTree : Grammar → ℕ → Symbol → Tree → Type 0
   IsTree g e (Terminal k) (Leaf t) = g.accepts k t.class ≡ true
   IsTree g e (Nonterminal n) (Node p children) =
@@ -65,6 +65,6 @@ pub record Derives (g : Grammar) (s : Symbol) (tokens : List Token) (tree : Tree
   pub shape : IsTree g g.ending s tree
   pub text : leaves tree ≡ tokens
 
--- with some further tokens it derives
-abbrev pub IsFront : Grammar → Symbol → List Token → Type 0
-IsFront g s tokens = (more : List Token) × (tree : Tree) × Derives g s (tokens ++ more) tree
+-- with some further tokens after them, the tokens derive from the symbol
+abbrev pub IsPrefix : Grammar → Symbol → List Token → Type 0
+IsPrefix g s tokens = (more : List Token) × (tree : Tree) × Derives g s (tokens ++ more) tree

@@ -16,10 +16,10 @@ abbrev mutual
   preorders Empty = []
   preorders (And x others) = preorder x ++ preorders others
 
-abbrev pub shifted : List Action → List Token
-shifted [] = []
-shifted (Expand p ∷ actions) = shifted actions
-shifted (Shift t ∷ actions) = t ∷ shifted actions
+abbrev pub tokens_of : List Action → List Token
+tokens_of [] = []
+tokens_of (Expand p ∷ actions) = tokens_of actions
+tokens_of (Shift t ∷ actions) = t ∷ tokens_of actions
 
 -- the actions lead from the stack to the empty one, where something of the class e comes after them
 abbrev pub Leftmost : Grammar → ℕ → List Symbol → List Action → Type 0
@@ -27,6 +27,6 @@ Leftmost g e [] [] = Unit {0}
 Leftmost g e (s ∷ stack) [] = ⊥
 Leftmost g e [] (a ∷ actions) = ⊥
 Leftmost g e (Terminal k ∷ stack) (Shift t ∷ actions) = (g.accepts k t.class ≡ true) × Leftmost g e stack actions
-Leftmost g e (Nonterminal n ∷ stack) (Expand p ∷ actions) = (body : List Symbol) × IsRule g p n body × (g.allows p (next_class e (shifted actions)) ≡ true) × Leftmost g e (body ++ stack) actions
+Leftmost g e (Nonterminal n ∷ stack) (Expand p ∷ actions) = (body : List Symbol) × IsRule g p n body × (g.allows p (next_class e (tokens_of actions)) ≡ true) × Leftmost g e (body ++ stack) actions
 Leftmost g e (Terminal k ∷ stack) (Expand p ∷ actions) = ⊥
 Leftmost g e (Nonterminal n ∷ stack) (Shift t ∷ actions) = ⊥

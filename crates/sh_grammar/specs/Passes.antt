@@ -1,20 +1,21 @@
--- The test that a tabulated grammar passes where one token of lookahead decides: computed on the data, so that 'refl' proves it.
--- Nobody has to believe it: what is promised of a grammar that passes speaks of derivations alone.
+-- The test that a tabulated grammar passes where one token of lookahead decides. It is computed on the data,
+-- so that 'refl' proves it. A reader need not trust the test: what is proved of a grammar that passes is
+-- about derivations alone.
 use Rattle.std.specs.Prelude.{◌≡◌, ℕ, zero, suc, Bool, true, false, ◌&&◌, ◌||◌, List, [], ◌∷◌, ◌++◌, length, get_or, Option, Some, None, slice_get, nat_eq, nat_lt, nat_le}
 use Rattle.sh_grammar.specs.declared.Symbol.{Symbol}
 use Rattle.sh_grammar.specs.declared.Symbol.TheVariants.{Terminal, Nonterminal}
 use Rattle.sh_grammar.specs.declared.Action.{Action}
 use Rattle.sh_grammar.specs.declared.Action.TheVariants.{Expand, Shift}
 use Rattle.sh_grammar.specs.Grammar.{Grammar, Rule, next_class}
-use Rattle.sh_grammar.specs.Leftmost.{shifted}
+use Rattle.sh_grammar.specs.Leftmost.{tokens_of}
 use Rattle.sh_grammar.specs.Tabulation.{Tabulation, has, rules_of, grammar_of, prediction}
 use Rattle.sh_grammar.specs.Table.{Table, nullable_of, first_of, vanishing, cost_of, table_of}
 use Rattle.sh_grammar.specs.Predictive.{Evidence, samples}
 
--- what the test computes with beside the tables. No program reads it
+-- what the test computes with besides the tables. No program reads it
 pub record Witness : Type 0 where
-  -- of each nonterminal: the classes that may stand after it, the production by which it may stand for nothing,
-  -- some derivation, and the classes that may stand after that one
+  -- of each nonterminal: the classes that may come after it, the production by which it may derive no token,
+  -- some derivation, and the classes that may come after that derivation
   pub follows : List ℕ
   pub empties : List ℕ
   pub samples : List (List Action)
@@ -53,14 +54,14 @@ leads_test g e (s ∷ stack) [] = false
 leads_test g e [] (a ∷ actions) = false
 leads_test g e (Terminal k ∷ stack) (Shift t ∷ actions) = g.accepts k t.class && leads_test g e stack actions
 leads_test g e (Nonterminal n ∷ stack) (Expand p ∷ actions) =
-    with_rule (slice_get g.rules p) (λ r. nat_eq r.head n && (g.allows p (next_class e (shifted actions)) && leads_test g e (r.body ++ stack) actions))
+    with_rule (slice_get g.rules p) (λ r. nat_eq r.head n && (g.allows p (next_class e (tokens_of actions)) && leads_test g e (r.body ++ stack) actions))
 leads_test g e (Terminal k ∷ stack) (Expand p ∷ actions) = false
 leads_test g e (Nonterminal n ∷ stack) (Shift t ∷ actions) = false
 
 abbrev pub ends_test : Grammar → Evidence → ℕ → List Symbol → Bool
 ends_test g evidence e [] = true
 ends_test g evidence e (Terminal k ∷ symbols) = g.accepts k (evidence.token k).class && ends_test g evidence e symbols
-ends_test g evidence e (Nonterminal n ∷ symbols) = evidence.safe n (next_class e (shifted (samples evidence symbols))) && ends_test g evidence e symbols
+ends_test g evidence e (Nonterminal n ∷ symbols) = evidence.safe n (next_class e (tokens_of (samples evidence symbols))) && ends_test g evidence e symbols
 
 abbrev pub follow_at : Grammar → Table → Evidence → ℕ → ℕ → List Symbol → ℕ → Bool
 follow_at g t evidence n m symbols c = implies (first_of g t symbols c || (nullable_of g t symbols c && evidence.follow n c)) (evidence.follow m c)

@@ -6,18 +6,20 @@ use Rattle.sh_grammar.specs.declared.Token.{Token}
 use Rattle.sh_grammar.specs.declared.Action.{Action}
 use Rattle.sh_grammar.specs.declared.Action.TheVariants.{Shift}
 use Rattle.sh_grammar.specs.Grammar.{Grammar, IsRule, next_class}
-use Rattle.sh_grammar.specs.Leftmost.{Leftmost, shifted}
+use Rattle.sh_grammar.specs.Leftmost.{Leftmost, tokens_of}
 use Rattle.sh_grammar.specs.Table.{Table, nullable_of, first_of, vanishing, cost_of}
 
 pub record Evidence : Type 0 where
-  -- follow n c: the class c may stand after the nonterminal
+  -- follow n c: the class c may come after the nonterminal
   pub follow : ℕ → ℕ → Bool
-  -- some token of a terminal, some derivation of a nonterminal, and the classes that may stand after that one
+  -- some token of a terminal, some derivation of a nonterminal, and the classes that may come after the
+  -- derivation
   pub token : ℕ → Token
   pub sample : ℕ → List Action
   pub safe : ℕ → ℕ → Bool
 
--- what may come after each nonterminal of the symbols is in its follow set, if after is what may come after them all
+-- what may come after each nonterminal of the symbols is in the follow set of that nonterminal, if `after` is
+-- what may come after all the symbols
 abbrev pub Fits : Grammar → Table → Evidence → (ℕ → Bool) → List Symbol → Type 0
 Fits g t evidence after [] = Unit {0}
 Fits g t evidence after (Terminal k ∷ symbols) = Fits g t evidence after symbols
@@ -32,11 +34,11 @@ samples evidence [] = []
 samples evidence (Terminal k ∷ symbols) = Shift (evidence.token k) ∷ samples evidence symbols
 samples evidence (Nonterminal n ∷ symbols) = evidence.sample n ++ samples evidence symbols
 
--- their samples may stand one after another, before the class e
+-- the samples of the symbols may come one after another, before the class e
 abbrev pub Ends : Grammar → Evidence → ℕ → List Symbol → Type 0
 Ends g evidence e [] = Unit {0}
 Ends g evidence e (Terminal k ∷ symbols) = (g.accepts k (evidence.token k).class ≡ true) × Ends g evidence e symbols
-Ends g evidence e (Nonterminal n ∷ symbols) = (evidence.safe n (next_class e (shifted (samples evidence symbols))) ≡ true) × Ends g evidence e symbols
+Ends g evidence e (Nonterminal n ∷ symbols) = (evidence.safe n (next_class e (tokens_of (samples evidence symbols))) ≡ true) × Ends g evidence e symbols
 
 pub record Predicts (g : Grammar) (t : Table) (evidence : Evidence) : Type 0 where
   pub first : (p n : ℕ) (body : List Symbol) → IsRule g p n body → (c : ℕ) → first_of g t body c ≡ true → g.allows p c ≡ true → t.first n c ≡ true
@@ -52,7 +54,7 @@ pub record Predicts (g : Grammar) (t : Table) (evidence : Evidence) : Type 0 whe
   -- no left recursion
   pub vanishes : (p n : ℕ) (body : List Symbol) → IsRule g p n body → vanishing t body ≡ true → t.vanishes n ≡ true
   pub weight : (p n : ℕ) (body : List Symbol) → IsRule g p n body → cost_of t body < t.weight n
-  -- each stack stands for some tokens
+  -- each stack derives some tokens
   pub sample : (n c : ℕ) → evidence.safe n c ≡ true → Leftmost g c (Nonterminal n ∷ []) (evidence.sample n)
   pub ends : (p n : ℕ) (body : List Symbol) → IsRule g p n body → (c : ℕ) → evidence.safe n c ≡ true → Ends g evidence c body
   pub start_ends : evidence.safe t.start g.ending ≡ true

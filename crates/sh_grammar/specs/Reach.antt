@@ -1,11 +1,11 @@
--- Where a recognizer stands: what its actions so far and its stack have to do with derivations.
+-- How a recognizer's actions so far and its stack are related to derivations.
 use Rattle.std.specs.Prelude.{◌≡◌, ℕ, Bool, nat_eq, List, [], ◌∷◌, ◌++◌, Some}
 use Rattle.sh_grammar.specs.declared.Symbol.{Symbol}
 use Rattle.sh_grammar.specs.declared.Symbol.TheVariants.{Nonterminal}
 use Rattle.sh_grammar.specs.declared.Token.{Token}
 use Rattle.sh_grammar.specs.declared.Action.{Action}
 use Rattle.sh_grammar.specs.Grammar.{Grammar}
-use Rattle.sh_grammar.specs.Leftmost.{shifted, Leftmost}
+use Rattle.sh_grammar.specs.Leftmost.{tokens_of, Leftmost}
 use Rattle.sh_grammar.specs.Tabulation.{Tabulation, grammar_of}
 use Rattle.sh_grammar.specs.Table.{Table, table_of}
 use Rattle.sh_grammar.specs.Predictive.{Evidence, Fits, Ends}
@@ -27,7 +27,7 @@ Ended (v ∷ more) = ⊥
 abbrev pub at_end : Grammar → ℕ → Bool
 at_end g c = nat_eq c g.ending
 
--- more actions stand behind the old ones
+-- the new actions are the old ones with more after them
 abbrev pub Extends : List Action → List Action → Type 0
 Extends old new = (more : List Action) × (new ≡ old ++ more)
 
@@ -36,14 +36,14 @@ pub record Splits (g : Grammar) (stack : List Symbol) (done actions : List Actio
   pub joined : actions ≡ done ++ rest
   pub leads : Leftmost g g.ending stack rest
 
--- what was done leads to the stack, and each derivation of the tokens goes that way
+-- the actions done lead to the stack, and each derivation of the tokens begins with these actions
 pub record Reaches (g : Grammar) (t : Table) (evidence : Evidence) (ahead : List Token → Type 0) (done : List Action) (stack : List Symbol) : Type 0 where
-  pub sound : (actions : List Action) → ahead (shifted actions) → Leftmost g g.ending stack actions → Leftmost g g.ending (Nonterminal t.start ∷ []) (done ++ actions)
-  pub complete : (actions : List Action) (more : List Token) → ahead more → Leftmost g g.ending (Nonterminal t.start ∷ []) actions → shifted actions ≡ shifted done ++ more → Splits g stack done actions
+  pub sound : (actions : List Action) → ahead (tokens_of actions) → Leftmost g g.ending stack actions → Leftmost g g.ending (Nonterminal t.start ∷ []) (done ++ actions)
+  pub complete : (actions : List Action) (more : List Token) → ahead more → Leftmost g g.ending (Nonterminal t.start ∷ []) actions → tokens_of actions ≡ tokens_of done ++ more → Splits g stack done actions
   pub fits : Fits g t evidence (at_end g) stack
   pub ends : Ends g evidence g.ending stack
 
--- the same of a grammar that passes its test
+-- the same for a grammar that passes the test
 pub record Stands (d : Tabulation) (ahead : List Token → Type 0) (done : List Action) (stack : List Symbol) : Type 0 where
   pub witness : Witness
   pub passes : Passes d witness
@@ -52,4 +52,4 @@ pub record Stands (d : Tabulation) (ahead : List Token → Type 0) (done : List 
 -- and the stack is the computed one
 pub record Keeps (d : Tabulation) (done : List Action) (stack : List Symbol) : Type 0 where
   pub stands : Stands d Any done stack
-  pub computed : stack_after (grammar_of d) (table_of d) (Some (Nonterminal d.start ∷ [])) (shifted done) ≡ Some stack
+  pub computed : stack_after (grammar_of d) (table_of d) (Some (Nonterminal d.start ∷ [])) (tokens_of done) ≡ Some stack

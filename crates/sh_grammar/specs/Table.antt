@@ -7,12 +7,14 @@ use Rattle.sh_grammar.specs.Tabulation.{Tabulation, has, rules_of, prediction}
 
 pub record Table : Type 0 where
   pub start : ℕ
-  -- first n c: the nonterminal may begin with a token of the class c; nullable n c: it may stand for nothing, before the class c
+  -- first n c: the nonterminal may begin with a token of the class c; nullable n c: it may derive no token,
+  -- before the class c
   pub first : ℕ → ℕ → Bool
   pub nullable : ℕ → ℕ → Bool
   -- the production to use
   pub predict : ℕ → ℕ → Option ℕ
-  -- vanishes n: it is nullable before some class; weight n: a bound on the productions that are used in a row from it on
+  -- vanishes n: the nonterminal is nullable before some class; weight n: a bound on the productions that are
+  -- used in a row from it on
   pub vanishes : ℕ → Bool
   pub weight : ℕ → ℕ
 

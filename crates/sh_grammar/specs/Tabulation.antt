@@ -14,8 +14,8 @@ pub record Tabulation : Type 0 where
   pub terminals : List ℕ
   pub ending : ℕ
   pub start : ℕ
-  -- the table: of each nonterminal the classes with which it may begin, those before which it may stand for nothing,
-  -- and for each class the production to use
+  -- the table: for each nonterminal the classes with which it may begin, the classes before which it may
+  -- derive no token, and for each class the production to use
   pub firsts : List ℕ
   pub nullables : List ℕ
   pub predicts : List ℕ

@@ -2,7 +2,7 @@
 use Rattle.std.specs.Prelude.{List}
 use Rattle.sh_grammar.specs.declared.Symbol.TheVariants.{Nonterminal}
 use Rattle.sh_grammar.specs.declared.Token.{Token}
-use Rattle.sh_grammar.specs.Grammar.{Tree, Derives, IsFront}
+use Rattle.sh_grammar.specs.Grammar.{Tree, Derives, IsPrefix}
 use Rattle.sh_grammar.specs.Tabulation.{Tabulation, grammar_of}
 
 -- the tree is a derivation of the tokens
@@ -15,4 +15,4 @@ IsText d tokens = (tree : Tree) × IsTreeOf d tokens tree
 
 -- some further tokens make a whole text of them
 abbrev pub BeginsText : Tabulation → List Token → Type 0
-BeginsText d tokens = IsFront (grammar_of d) (Nonterminal d.start) tokens
+BeginsText d tokens = IsPrefix (grammar_of d) (Nonterminal d.start) tokens

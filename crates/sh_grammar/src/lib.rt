@@ -1,8 +1,9 @@
 //! Grammars as data, and one recognizer for each grammar that one token of lookahead decides.
 //!
-//! A user gives the grammar and its parsing table as constants (`Tables`), and proves by computation that they pass a
-//! test (`IsPredictive`). Then a `Recognizer` takes a token exactly where the tokens with it begin a text, may end exactly
-//! where they derive, and gives the one derivation.
+//! A user gives the grammar and its parsing table as constants (`Tables`), and proves by computation that
+//! they pass a test (`IsPredictive`). Then a `Recognizer` takes a token exactly where the tokens so far and
+//! this token begin a text. It may end exactly where its tokens are a whole text, and then it gives their one
+//! derivation.
 #![tactic(auto)]
 
 mod derivation;
@@ -12,7 +13,7 @@ mod recognize;
 
 pub use derivation::Actions;
 pub use laws::{
-    awaited_marks_are_around, front_begins_text, front_length_is_longest, one_tree,
+    awaited_marks_are_around, one_tree, prefix_begins_text, prefix_length_is_longest,
     tree_is_computed, whole_is_text,
 };
 pub use lookup::Tables;
@@ -23,7 +24,7 @@ pub use recognize::Recognizer;
 pub enum Symbol {
     /// A set of classes of token.
     Terminal(u8),
-    /// What the productions with this head stand for.
+    /// What the productions with this head derive.
     Nonterminal(u8),
 }
 
@@ -32,7 +33,7 @@ pub enum Symbol {
 pub struct Token {
     /// Its class, which alone decides whether it is taken.
     pub class: u8,
-    /// The caller's own number for it, as its place in a list.
+    /// The caller's own number for the token, such as its index in a list.
     pub id: usize,
 }
 

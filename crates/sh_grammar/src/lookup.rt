@@ -8,16 +8,17 @@ ghost use Rattle.sh_grammar.specs.Awaited.{is_nonterminal};
 use crate::Symbol;
 use crate::Symbol::{Nonterminal, Terminal};
 
-/// A grammar and its parsing table. Symbols, productions and classes go by their numbers; a set of classes is a number
-/// with a bit for each class, so that no class is above 63. A number past the end of its list is that of an empty set, of
-/// an empty body or of nothing: any tables are safe, and `IsPredictive` says which are right.
+/// A grammar and its parsing table. Symbols, productions and classes are numbers; a set of classes is a
+/// number with a bit for each class, so that no class is above 63. A number past the end of its list has an
+/// empty set or an empty body, and an entry past the end of `predicts` is 0. So any tables are safe, and
+/// `IsPredictive` says which are right.
 ///
 /// `heads` and `guards` say what grammar the table is for; a recognizer never reads them.
 #[derive(Clone, Copy, Debug)]
 pub struct Tables<'t> {
     /// The head of each production, a nonterminal.
     pub heads: &'t [u8],
-    /// What each production stands for.
+    /// The body of each production: the symbols that its head may be replaced by.
     pub bodies: &'t [&'t [Symbol]],
     /// The guard of each production: the classes that may come next where it is used.
     pub guards: &'t [u64],
@@ -29,7 +30,7 @@ pub struct Tables<'t> {
     pub start: u8,
     /// The classes with which each nonterminal may begin.
     pub firsts: &'t [u64],
-    /// The classes before which each nonterminal may stand for nothing.
+    /// The classes before which each nonterminal may derive no token.
     pub nullables: &'t [u64],
     /// The production to use, by nonterminal and class: `ending + 1` entries for each nonterminal.
     pub predicts: &'t [u8],
@@ -43,7 +44,7 @@ fn is_in_set(set: u64, class: u8) -> bool
     class < 64 && (set >> class) % 2 == 1
 }
 
-/// Whether the set of a number has a class. No class is after `ending`.
+/// Whether the set of a number has a class; false for a class above `ending`.
 fn has_class(ending: u8, sets: &[u64], number: u8, class: u8) -> bool
     ensures { result ≡ has ending sets.now number class }
 {
@@ -83,7 +84,7 @@ pub(crate) fn predicted(tables: &Tables<'_>, name: u8, class: u8) -> u8
     )
 }
 
-/// What a production stands for.
+/// The body of a production.
 pub(crate) fn body<'t>(tables: &Tables<'t>, rule: u8) -> &'t [Symbol]
     ensures { result.now ≡ slice_index_or (tabulation_of tables.now).bodies rule [] }
 {
@@ -92,7 +93,8 @@ pub(crate) fn body<'t>(tables: &Tables<'t>, rule: u8) -> &'t [Symbol]
 
 /// Whether the symbols of a stack, the last one on top, may begin with a token of a class.
 pub(crate) fn begins(tables: &Tables<'_>, stack: &[Symbol], class: u8) -> bool
-    ensures { result ≡ first_of (grammar_of (tabulation_of tables.now)) (table_of (tabulation_of tables.now)) (reverse stack.now) class }
+    ensures { result ≡ first_of (grammar_of (tabulation_of tables.now))
+        (table_of (tabulation_of tables.now)) (reverse stack.now) class }
 {
     let mut rest = stack;
     while let Some((top, below)) = rest.split_last() {
@@ -112,9 +114,10 @@ pub(crate) fn begins(tables: &Tables<'_>, stack: &[Symbol], class: u8) -> bool
     false
 }
 
-/// Whether the symbols of a stack, the last one on top, may stand for nothing before the end.
+/// Whether the symbols of a stack, the last one on top, may derive no token before the end.
 pub(crate) fn may_vanish(tables: &Tables<'_>, stack: &[Symbol]) -> bool
-    ensures { result ≡ nullable_of (grammar_of (tabulation_of tables.now)) (table_of (tabulation_of tables.now)) (reverse stack.now) tables.now.ending }
+    ensures { result ≡ nullable_of (grammar_of (tabulation_of tables.now))
+        (table_of (tabulation_of tables.now)) (reverse stack.now) tables.now.ending }
 {
     let mut rest = stack;
     while let Some((top, below)) = rest.split_last() {

@@ -5,16 +5,16 @@ use Rattle.sh_files.specs.Nodes.{FileMap, write_at, write_fits, is_empty}
 use Rattle.sh_files.specs.declared.fault.FileFault.{FileFault}
 use Rattle.sh_files.specs.declared.fault.FileFault.TheVariants.{TooLarge}
 use Rattle.sh_pipe.specs.Pipe.{PipeState}
-use Rattle.sh_kernel_descriptors.specs.Outcomes.{done, refused}
-use Rattle.sh_kernel_descriptors.specs.Machine.{MachineState, ended}
-use Rattle.sh_kernel_descriptors.specs.Descriptors.{found, has_reader, has_writer, is_called, is_named, reads_from, writes_to}
-use Rattle.sh_kernel_descriptors.specs.Reading.{moved, read_described, read_file, read_found, read_node, read_pipe_of, read_slot, read_target, read_call}
-use Rattle.sh_kernel_descriptors.specs.Writing.{broken, content_written, on_files, write_call, write_described, write_end, write_file, write_found, write_limited, write_node, write_pipe_of, write_slot, write_start, write_target}
+use Rattle.sh_kernel_descriptors.specs.Outcomes.{success, refusal}
+use Rattle.sh_kernel_descriptors.specs.Machine.{MachineState, after_end}
+use Rattle.sh_kernel_descriptors.specs.Descriptors.{description_number, has_reader, has_writer, is_called, is_named, reads_from, writes_to}
+use Rattle.sh_kernel_descriptors.specs.Reading.{with_offset, read_described, read_file, read_found, read_node, read_pipe_of, read_slot, read_target, read_call}
+use Rattle.sh_kernel_descriptors.specs.Writing.{broken_pipe, content_written, on_files, write_call, write_described, write_end, write_file, write_found, write_limited, write_node, write_pipe_of, write_slot, write_start, write_target}
 use Rattle.sh_kernel_descriptors.specs.Writing as writing
 use Rattle.sh_kernel_descriptors.specs.Reading as reading
 use Rattle.sh_kernel_descriptors.specs.declared.descriptor.Descriptor.{Descriptor}
-use Rattle.sh_kernel_descriptors.specs.declared.descriptor.Name.{Name}
-use Rattle.sh_kernel_descriptors.specs.declared.descriptor.Name.TheVariants.{Number}
+use Rattle.sh_kernel_descriptors.specs.declared.descriptor.DescriptorRef.{DescriptorRef}
+use Rattle.sh_kernel_descriptors.specs.declared.descriptor.DescriptorRef.TheVariants.{Number}
 use Rattle.sh_kernel_descriptors.specs.declared.description.Description.{Description}
 use Rattle.sh_kernel_descriptors.specs.declared.description.Target.{Target}
 use Rattle.sh_kernel_descriptors.specs.declared.description.Target.TheVariants.{File, Terminal, Null, ReadEnd, WriteEnd}
@@ -32,12 +32,12 @@ one_fails true true j k test rest d r e h f more = let same : d.description ≡ 
 one_fails true false j k test rest d r e h f more = more h (or_right (test j) r f)
 one_fails false b j k test rest d r e h f more = more h f
 
-found_fails : (ds : List Descriptor) (pid : ℕ) (name : Name) (k : ℕ) (test : ℕ → Bool) → found ds pid name ≡ Some k → reaches ds pid test ≡ false → test k ≡ false
+found_fails : (ds : List Descriptor) (pid : ℕ) (name : DescriptorRef) (k : ℕ) (test : ℕ → Bool) → description_number ds pid name ≡ Some k → reaches ds pid test ≡ false → test k ≡ false
 found_fails [] pid name k test h r = absurd (cc)
 found_fails (d ∷ ds) pid name k test h r =
     one_fails (d.pid == pid) (is_called name d) d.description k test (find (is_named pid name) ds) d (reaches ds pid test) refl h r (λ h' r'. found_fails ds pid name k test h' r')
 
-pub found_held : (ds : List Descriptor) (pid : ℕ) (name : Name) (k : ℕ) → found ds pid name ≡ Some k → IsHeld ds pid k
+pub found_held : (ds : List Descriptor) (pid : ℕ) (name : DescriptorRef) (k : ℕ) → description_number ds pid name ≡ Some k → IsHeld ds pid k
 found_held ds pid name k h = record { fails = λ test r. found_fails ds pid name k test h r }
 
 -- what a description is of
@@ -50,14 +50,14 @@ file_of_target es k node e there h = ap (λ (o : Option Description). option_map
 module _ (m : MachineState) (pid : ℕ) (P : MachineState → Type 0) where
   pub record ReadChanges : Type 0 where
     pub same : P m
-    pub goes_on : (k offset : ℕ) → IsHeld m.descriptors pid k → P (record m { descriptions = moved m.descriptions k offset })
+    pub goes_on : (k offset : ℕ) → IsHeld m.descriptors pid k → P (record m { descriptions = with_offset m.descriptions k offset })
     pub pipe : (k pipe : ℕ) (slot : Option PipeState) → IsHeld m.descriptors pid k → is_end m.descriptions pipe k ≡ true → P (record m { pipes = slice_set m.pipes pipe slot })
 
   pub record WriteChanges : Type 0 where
     pub same : P m
-    pub file : (k node start end : ℕ) (bytes : List ℕ) (files : FileMap) → IsHeld m.descriptors pid k → is_file m.descriptions node k ≡ true → write_at m.files node start bytes ≡ Ok files → P (record m { files = files; descriptions = moved m.descriptions k end })
+    pub file : (k node start end : ℕ) (bytes : List ℕ) (files : FileMap) → IsHeld m.descriptors pid k → is_file m.descriptions node k ≡ true → write_at m.files node start bytes ≡ Ok files → P (record m { files = files; descriptions = with_offset m.descriptions k end })
     pub pipe : (k pipe : ℕ) (slot : Option PipeState) → IsHeld m.descriptors pid k → is_end m.descriptions pipe k ≡ true → P (record m { pipes = slice_set m.pipes pipe slot })
-    pub ends : P (ended m pid (Signaled 13))
+    pub ends : P (after_end m pid (Signaled 13))
 
   read_slots : (k pipe n : ℕ) (w : Bool) → ReadChanges → IsHeld m.descriptors pid k → is_end m.descriptions pipe k ≡ true → (o : Option (Option PipeState)) → P (record m { pipes = (read_pipe_of m.pipes pipe w n o).after })
   read_slots k pipe n w c held end None = c.same
@@ -75,17 +75,17 @@ module _ (m : MachineState) (pid : ℕ) (P : MachineState → Type 0) where
   read_describes : (k n : ℕ) → ReadChanges → IsHeld m.descriptors pid k → (o : Option Description) → slice_get m.descriptions k ≡ o → P (read_described m n k o).after
   read_describes k n c held None is = c.same
   read_describes k n c held (Some e) is =
-      elim e.readable as (λ b. P (cond b (read_target m n k e.offset e.target) (refused m BadDescriptor)).after) [
+      elim e.readable as (λ b. P (cond b (read_target m n k e.offset e.target) (refusal m BadDescriptor)).after) [
         | true ↦ read_targets k n e c held is e.target refl
         | false ↦ c.same
       ]
 
-  read_finds : (name : Name) (n : ℕ) → ReadChanges → (o : Option ℕ) → found m.descriptors pid name ≡ o → P (read_found m n o).after
+  read_finds : (name : DescriptorRef) (n : ℕ) → ReadChanges → (o : Option ℕ) → description_number m.descriptors pid name ≡ o → P (read_found m n o).after
   read_finds name n c None is = c.same
   read_finds name n c (Some k) is = read_describes k n c (found_held m.descriptors pid name k is) (slice_get m.descriptions k) refl
 
-  pub read_by_cases : (name : Name) (n : ℕ) → ReadChanges → P (read_call m pid name n).after
-  read_by_cases name n c = read_finds name n c (found m.descriptors pid name) refl
+  pub read_by_cases : (name : DescriptorRef) (n : ℕ) → ReadChanges → P (read_call m pid name n).after
+  read_by_cases name n c = read_finds name n c (description_number m.descriptors pid name) refl
 
   write_files : (k node start end count : ℕ) (bytes : List ℕ) → WriteChanges → IsHeld m.descriptors pid k → is_file m.descriptions node k ≡ true → (r : Result FileMap FileFault) → write_at m.files node start bytes ≡ r → P (on_files m k count (content_written m.files end r).after (content_written m.files end r).answer).after
   write_files k node start end count bytes c held file (Ok files) is = c.file k node start end bytes files held file is
@@ -109,7 +109,7 @@ module _ (m : MachineState) (pid : ℕ) (P : MachineState → Type 0) where
   write_targets k bytes e c held there (ReadEnd pipe) is = c.same
   write_targets k bytes e c held there (WriteEnd pipe) is =
       let ends : (reads_from pipe e.target || writes_to pipe e.target) ≡ true = rw is (eq-eqb pipe pipe refl) in
-      elim (has_reader m.descriptors m.descriptions pipe) as (λ b. P (cond b (reading.on_pipes m (writing.write_pipe m.pipes pipe bytes)) (broken m pid)).after) [
+      elim (has_reader m.descriptors m.descriptions pipe) as (λ b. P (cond b (reading.on_pipes m (writing.write_pipe m.pipes pipe bytes)) (broken_pipe m pid)).after) [
         | true ↦ write_slots k pipe bytes c held (end_of_target m.descriptions k pipe e there ends) (slice_get m.pipes pipe)
         | false ↦ c.ends
       ]
@@ -118,14 +118,14 @@ module _ (m : MachineState) (pid : ℕ) (P : MachineState → Type 0) where
   write_describes k bytes c held None is = c.same
   write_describes k bytes c held (Some e) is = of_tests e.writable (is_empty bytes)
     where
-      of_tests : (a b : Bool) → P (cond a (cond b (done 0 m) (write_target m pid bytes k e e.target)) (refused m BadDescriptor)).after
+      of_tests : (a b : Bool) → P (cond a (cond b (success 0 m) (write_target m pid bytes k e e.target)) (refusal m BadDescriptor)).after
       of_tests true true = c.same
       of_tests true false = write_targets k bytes e c held is e.target refl
       of_tests false b = c.same
 
-  write_finds : (number : ℕ) (bytes : List ℕ) → WriteChanges → (o : Option ℕ) → found m.descriptors pid (Number number) ≡ o → P (write_found m pid bytes o).after
+  write_finds : (number : ℕ) (bytes : List ℕ) → WriteChanges → (o : Option ℕ) → description_number m.descriptors pid (Number number) ≡ o → P (write_found m pid bytes o).after
   write_finds number bytes c None is = c.same
   write_finds number bytes c (Some k) is = write_describes k bytes c (found_held m.descriptors pid (Number number) k is) (slice_get m.descriptions k) refl
 
   pub write_by_cases : (number : ℕ) (bytes : List ℕ) → WriteChanges → P (write_call m pid number bytes).after
-  write_by_cases number bytes c = write_finds number bytes c (found m.descriptors pid (Number number)) refl
+  write_by_cases number bytes c = write_finds number bytes c (description_number m.descriptors pid (Number number)) refl

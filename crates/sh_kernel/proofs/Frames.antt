@@ -15,18 +15,18 @@ use Rattle.sh_files.specs.declared.opening.Opening.{Opening}
 use Rattle.sh_files_image.specs.declared.node.Node.{Node}
 use Rattle.sh_files_image.specs.declared.node.Node.TheVariants as node
 use Rattle.sh_pipe.specs.Pipe.{PipeState}
-use Rattle.sh_kernel_descriptors.specs.Closings.{Pipes, goes, is_held, left, let_go, let_go_each, let_go_of, pipe_at, pipe_of, pipes_left, stays}
+use Rattle.sh_kernel_descriptors.specs.Closings.{Pipes, goes, is_held, descriptors_left, let_go, let_go_each, let_go_of, pipe_at, pipe_of, pipes_left, stays}
 use Rattle.sh_kernel_descriptors.specs.Descriptors.{is_called, is_named, reads_from, writes_to}
-use Rattle.sh_kernel_descriptors.specs.Machine.{MachineState, closed, ended, forked}
-use Rattle.sh_kernel_descriptors.specs.Naming.{end_of, put_back, renamed, renamed_at, renumbered, with_number, with_pipe}
+use Rattle.sh_kernel_descriptors.specs.Machine.{MachineState, after_close, after_end, after_fork}
+use Rattle.sh_kernel_descriptors.specs.Naming.{end_of, put_back, after_renaming, renamed_at, after_renumbering, with_number, with_pipe}
 use Rattle.sh_kernel_descriptors.specs.Opening.{description_of, for_reading, target_of, with_node}
 use Rattle.sh_kernel_descriptors.specs.Processes.{copies, is_copied, next_pid, of_process, process_at, with_status, with_status_of}
-use Rattle.sh_kernel_descriptors.specs.Reading.{moved, moved_of}
+use Rattle.sh_kernel_descriptors.specs.Reading.{with_offset, moved_of}
 use Rattle.sh_kernel_descriptors.specs.declared.descriptor.Closing.{Closing}
 use Rattle.sh_kernel_descriptors.specs.declared.descriptor.Closing.TheVariants.{Named, Asides, All}
 use Rattle.sh_kernel_descriptors.specs.declared.descriptor.Descriptor.{Descriptor}
-use Rattle.sh_kernel_descriptors.specs.declared.descriptor.Name.{Name}
-use Rattle.sh_kernel_descriptors.specs.declared.descriptor.Name.TheVariants.{Number, Aside}
+use Rattle.sh_kernel_descriptors.specs.declared.descriptor.DescriptorRef.{DescriptorRef}
+use Rattle.sh_kernel_descriptors.specs.declared.descriptor.DescriptorRef.TheVariants.{Number, Aside}
 use Rattle.sh_kernel_descriptors.specs.declared.description.Description.{Description}
 use Rattle.sh_kernel_descriptors.specs.declared.description.Target.{Target}
 use Rattle.sh_kernel_descriptors.specs.declared.description.Target.TheVariants.{File, Terminal, Null, ReadEnd, WriteEnd}
@@ -44,7 +44,7 @@ pub true≢false : (b : Bool) → b ≡ true → b ≡ false → ⊥
 true≢false b h k = absurd (cc)
 
 -- ---- places
-pub moved_other : (es : List Description) (k offset j : ℕ) → k ≢ j → slice_get (moved es k offset) j ≡ slice_get es j
+pub moved_other : (es : List Description) (k offset j : ℕ) → k ≢ j → slice_get (with_offset es k offset) j ≡ slice_get es j
 moved_other es k offset j n = of_place (slice_get es k)
   where
     of_place : (o : Option Description) → slice_get (moved_of es k offset o) j ≡ slice_get es j
@@ -105,11 +105,11 @@ pub pipes_left_other : (pid : ℕ) (closing : Closing) (ds : List Descriptor) (e
 pipes_left_other pid closing ds es ps q h = let_go_each_other pid closing ds es ps ds q h
 
 -- ---- descriptors of others
-others_left : (pid : ℕ) (closing : Closing) (ds : List Descriptor) (q : ℕ) → q ≢ pid → filter (λ d. d.pid == q) (left pid closing ds) ≡ filter (λ d. d.pid == q) ds
+others_left : (pid : ℕ) (closing : Closing) (ds : List Descriptor) (q : ℕ) → q ≢ pid → filter (λ d. d.pid == q) (descriptors_left pid closing ds) ≡ filter (λ d. d.pid == q) ds
 others_left pid closing [] q n = refl
 others_left pid closing (d ∷ ds) q n = of_test (others_left pid closing ds q n) (goes pid closing d) refl
   where
-    of_test : filter (λ (x : Descriptor). x.pid == q) (left pid closing ds) ≡ filter (λ (x : Descriptor). x.pid == q) ds → (b : Bool) → goes pid closing d ≡ b → filter (λ (x : Descriptor). x.pid == q) (cond (not b) (d ∷ left pid closing ds) (left pid closing ds)) ≡ cond (d.pid == q) (d ∷ filter (λ (x : Descriptor). x.pid == q) ds) (filter (λ (x : Descriptor). x.pid == q) ds)
+    of_test : filter (λ (x : Descriptor). x.pid == q) (descriptors_left pid closing ds) ≡ filter (λ (x : Descriptor). x.pid == q) ds → (b : Bool) → goes pid closing d ≡ b → filter (λ (x : Descriptor). x.pid == q) (cond (not b) (d ∷ descriptors_left pid closing ds) (descriptors_left pid closing ds)) ≡ cond (d.pid == q) (d ∷ filter (λ (x : Descriptor). x.pid == q) ds) (filter (λ (x : Descriptor). x.pid == q) ds)
     of_test rest false is = ap (λ (xs : List Descriptor). cond (d.pid == q) (d ∷ xs) xs) rest
     of_test rest true is =
         let own : d.pid ≡ pid = eqb-true d.pid pid (goes_own pid closing d is) in
@@ -151,13 +151,13 @@ set_others (y ∷ ds) zero d x pid q h own own' n =
     ∙ sym (ap (λ (b : Bool). cond b (y ∷ filter (λ (d : Descriptor). d.pid == q) ds) (filter (λ (d : Descriptor). d.pid == q) ds)) other')
 set_others (y ∷ ds) (suc i) d x pid q h own own' n = ap (λ (xs : List Descriptor). cond (y.pid == q) (y ∷ xs) xs) (set_others ds i d x pid q h own own' n)
 
-pub named_own : (pid : ℕ) (name : Name) (d : Descriptor) → is_named pid name d ≡ true → d.pid ≡ pid
+pub named_own : (pid : ℕ) (name : DescriptorRef) (d : Descriptor) → is_named pid name d ≡ true → d.pid ≡ pid
 named_own pid name d h = eqb-true d.pid pid (goes_own pid (Named name) d h)
 
-renamed_others : (ds : List Descriptor) (pid : ℕ) (name : Name) (number : Option ℕ) (q : ℕ) → q ≢ pid → filter (λ d. d.pid == q) (renamed ds pid name number) ≡ filter (λ d. d.pid == q) ds
+renamed_others : (ds : List Descriptor) (pid : ℕ) (name : DescriptorRef) (number : Option ℕ) (q : ℕ) → q ≢ pid → filter (λ d. d.pid == q) (after_renaming ds pid name number) ≡ filter (λ d. d.pid == q) ds
 renamed_others ds pid name number q n = of_place (position (is_named pid name) ds) refl
   where
-    of_entry : (i : ℕ) → position (is_named pid name) ds ≡ Some i → (o : Option Descriptor) → slice_get ds i ≡ o → filter (λ (d : Descriptor). d.pid == q) (renumbered ds number i o) ≡ filter (λ (d : Descriptor). d.pid == q) ds
+    of_entry : (i : ℕ) → position (is_named pid name) ds ≡ Some i → (o : Option Descriptor) → slice_get ds i ≡ o → filter (λ (d : Descriptor). d.pid == q) (after_renumbering ds number i o) ≡ filter (λ (d : Descriptor). d.pid == q) ds
     of_entry i at None is = refl
     of_entry i at (Some d) is =
         let own : d.pid ≡ pid = named_own pid name d (position_passes (is_named pid name) ds i d at is) in
@@ -200,7 +200,7 @@ abbrev number_in : Result (ℕ × FileMap) FileFault → ℕ
 number_in (Ok x) = x.0
 number_in (Err fault) = 0
 
-opened_numbered : (files : FileMap) (n m : ℕ) (o : ℕ × FileMap) (r : Result FileMap FileFault) → ((f : FileMap) → n ≢ m → r ≡ Ok f → slice_get f.nodes m ≡ slice_get files.nodes m) → o.0 ≢ m → nodes.numbered n r ≡ Ok o → slice_get o.1.nodes m ≡ slice_get files.nodes m
+opened_numbered : (files : FileMap) (n m : ℕ) (o : ℕ × FileMap) (r : Result FileMap FileFault) → ((f : FileMap) → n ≢ m → r ≡ Ok f → slice_get f.nodes m ≡ slice_get files.nodes m) → o.0 ≢ m → nodes.number_and_files n r ≡ Ok o → slice_get o.1.nodes m ≡ slice_get files.nodes m
 opened_numbered files n m o (Ok f) same apart h =
     let e : f ≡ o.1 = ap (λ (x : Result (ℕ × FileMap) FileFault). file_in f x) h in
     let number : n ≡ o.0 = ap (λ (x : Result (ℕ × FileMap) FileFault). number_in x) h in
@@ -224,7 +224,7 @@ open_place_other files how o m (Ok place) within apart h = open_number_other fil
 open_place_other files how o m (Err fault) within apart h = absurd (cc)
 
 opened_other : (files : FileMap) (directory path : List ℕ) (how : Opening) (o : ℕ × FileMap) (m : ℕ) → m < length files.nodes → o.0 ≢ m → opened files directory path how ≡ Ok o → slice_get o.1.nodes m ≡ slice_get files.nodes m
-opened_other files directory path how o m within apart h = open_place_other files how o m (nodes.resolved files directory path) within apart h
+opened_other files directory path how o m within apart h = open_place_other files how o m (nodes.resolution files directory path) within apart h
 
 -- ---- processes
 status_other : (ps : List Process) (pid q : ℕ) (status : Status) → q ≢ pid → process_at (with_status ps pid status) q ≡ process_at ps q
@@ -269,13 +269,13 @@ reaches_no_more (d ∷ ds) pid test test' f h =
     of_test true rest h = ap (λ (c : Bool). c || reaches ds pid test') (f d.description h) ∙ rest
     of_test false rest h = rest
 
-pub reaches_left : (pid : ℕ) (closing : Closing) (ds : List Descriptor) (test : ℕ → Bool) → reaches ds pid test ≡ false → reaches (left pid closing ds) pid test ≡ false
+pub reaches_left : (pid : ℕ) (closing : Closing) (ds : List Descriptor) (test : ℕ → Bool) → reaches ds pid test ≡ false → reaches (descriptors_left pid closing ds) pid test ≡ false
 reaches_left pid closing [] test h = refl
 reaches_left pid closing (d ∷ ds) test h =
     of_test (stays pid closing d) (reaches_left pid closing ds test (or_right ((d.pid == pid) && test d.description) (reaches ds pid test) h)) (or_left ((d.pid == pid) && test d.description) (reaches ds pid test) h)
   where
-    of_test : (b : Bool) → reaches (left pid closing ds) pid test ≡ false → ((d.pid == pid) && test d.description) ≡ false → reaches (cond b (d ∷ left pid closing ds) (left pid closing ds)) pid test ≡ false
-    of_test true rest h = ap (λ (c : Bool). c || reaches (left pid closing ds) pid test) h ∙ rest
+    of_test : (b : Bool) → reaches (descriptors_left pid closing ds) pid test ≡ false → ((d.pid == pid) && test d.description) ≡ false → reaches (cond b (d ∷ descriptors_left pid closing ds) (descriptors_left pid closing ds)) pid test ≡ false
+    of_test true rest h = ap (λ (c : Bool). c || reaches (descriptors_left pid closing ds) pid test) h ∙ rest
     of_test false rest h = rest
 
 pub reaches_one_more : (ds : List Descriptor) (x : Descriptor) (pid : ℕ) (test : ℕ → Bool) → reaches ds pid test ≡ false → test x.description ≡ false → reaches (ds ++ x ∷ []) pid test ≡ false
@@ -295,7 +295,7 @@ Keeps pid op m m' = ChangesOnlyReached pid op m m'
 pub keeps_same : (pid : ℕ) (op : ℕ → Bool) (m : MachineState) → Keeps pid op m m
 keeps_same pid op m = record { pipes = λ _ _ _. refl; files = λ _ _ _ _. refl; descriptions = λ _ _ _. refl; descriptors = λ _ _ _. refl; processes = λ _ _ _. refl }
 
-keeps_moved : (pid : ℕ) (op : ℕ → Bool) (m : MachineState) (k offset : ℕ) → IsHeld m.descriptors pid k → Keeps pid op m (record m { descriptions = moved m.descriptions k offset })
+keeps_moved : (pid : ℕ) (op : ℕ → Bool) (m : MachineState) (k offset : ℕ) → IsHeld m.descriptors pid k → Keeps pid op m (record m { descriptions = with_offset m.descriptions k offset })
 keeps_moved pid op m k offset held = record {
   descriptions = λ j within r. moved_other m.descriptions k offset j (apart k j (held.fails (λ i. i == j) r));
   pipes = λ _ _ _. refl;
@@ -313,7 +313,7 @@ keeps_pipe pid op m k pipe slot held end = record {
   processes = λ _ _ _. refl;
 }
 
-keeps_file : (pid : ℕ) (op : ℕ → Bool) (m : MachineState) (k node start end : ℕ) (bytes : List ℕ) (files : FileMap) → IsHeld m.descriptors pid k → is_file m.descriptions node k ≡ true → write_at m.files node start bytes ≡ Ok files → Keeps pid op m (record m { files = files; descriptions = moved m.descriptions k end })
+keeps_file : (pid : ℕ) (op : ℕ → Bool) (m : MachineState) (k node start end : ℕ) (bytes : List ℕ) (files : FileMap) → IsHeld m.descriptors pid k → is_file m.descriptions node k ≡ true → write_at m.files node start bytes ≡ Ok files → Keeps pid op m (record m { files = files; descriptions = with_offset m.descriptions k end })
 keeps_file pid op m k node start end bytes files held file written = record {
   files = λ n within r unopened. written_other m.files files node n start bytes (slice_get m.files.nodes node) (λ e. true≢false (is_file m.descriptions n k) (ap (λ (p : ℕ). is_file m.descriptions p k) (sym e) ∙ file) (held.fails (is_file m.descriptions n) r)) written;
   descriptions = λ j within r. moved_other m.descriptions k end j (apart k j (held.fails (λ i. i == j) r));
@@ -322,7 +322,7 @@ keeps_file pid op m k node start end bytes files held file written = record {
   processes = λ _ _ _. refl;
 }
 
-keeps_closed : (pid : ℕ) (op : ℕ → Bool) (m : MachineState) (closing : Closing) → Keeps pid op m (closed m pid closing)
+keeps_closed : (pid : ℕ) (op : ℕ → Bool) (m : MachineState) (closing : Closing) → Keeps pid op m (after_close m pid closing)
 keeps_closed pid op m closing = record {
   pipes = λ q within r. pipes_left_other pid closing m.descriptors m.descriptions m.pipes q r;
   descriptors = λ q n _. others_left pid closing m.descriptors q n;
@@ -331,7 +331,7 @@ keeps_closed pid op m closing = record {
   processes = λ _ _ _. refl;
 }
 
-keeps_ended : (pid : ℕ) (op : ℕ → Bool) (m : MachineState) (status : Status) → Keeps pid op m (ended m pid status)
+keeps_ended : (pid : ℕ) (op : ℕ → Bool) (m : MachineState) (status : Status) → Keeps pid op m (after_end m pid status)
 keeps_ended pid op m status = record {
   pipes = λ q within r. pipes_left_other pid All m.descriptors m.descriptions m.pipes q r;
   descriptors = λ q n _. others_left pid All m.descriptors q n;
@@ -342,7 +342,7 @@ keeps_ended pid op m status = record {
 
 others_numbered : (m : MachineState) (pid number k q : ℕ) → q ≢ pid → filter (λ d. d.pid == q) (with_number m pid number k).descriptors ≡ filter (λ d. d.pid == q) m.descriptors
 others_numbered m pid number k q n =
-    one_more (left pid (Named (Number number)) m.descriptors) (record { pid = pid; number = Some number; description = k }) pid q refl n
+    one_more (descriptors_left pid (Named (Number number)) m.descriptors) (record { pid = pid; number = Some number; description = k }) pid q refl n
     ∙ others_left pid (Named (Number number)) m.descriptors q n
 
 keeps_number : (pid : ℕ) (op : ℕ → Bool) (m : MachineState) (number k : ℕ) → Keeps pid op m (with_number m pid number k)
@@ -354,7 +354,7 @@ keeps_number pid op m number k = record {
   processes = λ _ _ _. refl;
 }
 
-keeps_renamed : (pid : ℕ) (op : ℕ → Bool) (m : MachineState) (name : Name) (number : Option ℕ) → Keeps pid op m (record m { descriptors = renamed m.descriptors pid name number })
+keeps_renamed : (pid : ℕ) (op : ℕ → Bool) (m : MachineState) (name : DescriptorRef) (number : Option ℕ) → Keeps pid op m (record m { descriptors = after_renaming m.descriptors pid name number })
 keeps_renamed pid op m name number = record {
   descriptors = λ q n _. renamed_others m.descriptors pid name number q n;
   pipes = λ _ _ _. refl;
@@ -366,13 +366,13 @@ keeps_renamed pid op m name number = record {
 keeps_back : (pid : ℕ) (op : ℕ → Bool) (m : MachineState) (k number : ℕ) → Keeps pid op m (put_back m pid k number)
 keeps_back pid op m k number = record {
   pipes = λ q within r. pipes_left_other pid (Named (Number number)) m.descriptors m.descriptions m.pipes q r;
-  descriptors = λ q n _. renamed_others (left pid (Named (Number number)) m.descriptors) pid (Aside k) (Some number) q n ∙ others_left pid (Named (Number number)) m.descriptors q n;
+  descriptors = λ q n _. renamed_others (descriptors_left pid (Named (Number number)) m.descriptors) pid (Aside k) (Some number) q n ∙ others_left pid (Named (Number number)) m.descriptors q n;
   files = λ _ _ _ _. refl;
   descriptions = λ _ _ _. refl;
   processes = λ _ _ _. refl;
 }
 
-keeps_forked : (pid : ℕ) (op : ℕ → Bool) (m : MachineState) → Keeps pid op m (forked m pid)
+keeps_forked : (pid : ℕ) (op : ℕ → Bool) (m : MachineState) → Keeps pid op m (after_fork m pid)
 keeps_forked pid op m = record {
   descriptors = λ q n born.
       filter-append (λ (d : Descriptor). d.pid == q) m.descriptors (copies m.descriptors pid (next_pid m.processes))
@@ -406,7 +406,7 @@ keeps_makes_pipe pid op m from to =
           let fails : (k : ℕ) → is_end m.descriptions q k ≡ false → is_end made.descriptions q k ≡ false = λ k h. more_fails m.descriptions _ (λ (e : Description). reads_from q e.target || writes_to q e.target) k (new_ends (length m.pipes) q within) h in
           let unreached : reaches m.descriptors pid (is_end made.descriptions q) ≡ false = reaches_no_more m.descriptors pid (is_end m.descriptions q) (is_end made.descriptions q) fails r in
           let new : is_end made.descriptions q (length m.descriptions) ≡ false = fails (length m.descriptions) (past m.descriptions q) in
-          let unreached' : reaches first.descriptors pid (is_end made.descriptions q) ≡ false = reaches_one_more (left pid (Named (Number from)) m.descriptors) _ pid (is_end made.descriptions q) (reaches_left pid (Named (Number from)) m.descriptors (is_end made.descriptions q) unreached) new in
+          let unreached' : reaches first.descriptors pid (is_end made.descriptions q) ≡ false = reaches_one_more (descriptors_left pid (Named (Number from)) m.descriptors) _ pid (is_end made.descriptions q) (reaches_left pid (Named (Number from)) m.descriptors (is_end made.descriptions q) unreached) new in
           pipes_left_other pid (Named (Number to)) first.descriptors made.descriptions first.pipes q unreached'
           ∙ pipes_left_other pid (Named (Number from)) m.descriptors made.descriptions made.pipes q unreached
           ∙ front_place m.pipes _ q within;

@@ -15,17 +15,17 @@ use Rattle.sh_files.specs.declared.opening.Opening.{Opening}
 use Rattle.sh_files.specs.Nodes as nodes
 use Rattle.sh_files_image.specs.declared.node.Node.{Node}
 use Rattle.sh_pipe.specs.Pipe.{PipeState}
-use Rattle.sh_kernel_descriptors.specs.Machine.{MachineState, closed, ended, forked}
+use Rattle.sh_kernel_descriptors.specs.Machine.{MachineState, after_close, after_end, after_fork}
 use Rattle.sh_kernel_descriptors.specs.Processes.{process_at, with_status, with_status_of}
-use Rattle.sh_kernel_descriptors.specs.Naming.{put_back, renamed, with_number, with_pipe}
+use Rattle.sh_kernel_descriptors.specs.Naming.{put_back, after_renaming, with_number, with_pipe}
 use Rattle.sh_kernel_descriptors.specs.Opening.{for_reading, with_node}
 use Rattle.sh_kernel_descriptors.specs.declared.process.Process.{Process}
 use Rattle.sh_kernel_descriptors.specs.declared.process.Status.{Status}
-use Rattle.sh_kernel_descriptors.specs.declared.descriptor.Name.{Name}
-use Rattle.sh_kernel_descriptors.specs.declared.descriptor.Name.TheVariants.{Number}
+use Rattle.sh_kernel_descriptors.specs.declared.descriptor.DescriptorRef.{DescriptorRef}
+use Rattle.sh_kernel_descriptors.specs.declared.descriptor.DescriptorRef.TheVariants.{Number}
 use Rattle.sh_kernel_descriptors.specs.declared.descriptor.Closing.TheVariants.{Named, All}
 use Rattle.sh_kernel_descriptors.specs.Closings.{Pipes, let_go, let_go_of, let_go_each, pipe_at, goes, is_held, pipes_left}
-use Rattle.sh_kernel_descriptors.specs.Reading.{moved, moved_of}
+use Rattle.sh_kernel_descriptors.specs.Reading.{with_offset, moved_of}
 use Rattle.sh_kernel_descriptors.specs.declared.descriptor.Descriptor.{Descriptor}
 use Rattle.sh_kernel_descriptors.specs.declared.descriptor.Closing.{Closing}
 use Rattle.sh_kernel_descriptors.specs.declared.description.Description.{Description}
@@ -69,7 +69,7 @@ pub moved_length : (es : List Description) (k offset : ℕ) (o : Option Descript
 moved_length es k offset None = refl
 moved_length es k offset (Some e) = length_set es k (record e { offset = offset })
 
-moved_target : (es : List Description) (k offset j : ℕ) → target_at (moved es k offset) j ≡ target_at es j
+moved_target : (es : List Description) (k offset j : ℕ) → target_at (with_offset es k offset) j ≡ target_at es j
 moved_target [] k offset j = refl
 moved_target (e ∷ es) zero offset zero = refl
 moved_target (e ∷ es) zero offset (suc j) = refl
@@ -84,14 +84,14 @@ moved_target (e ∷ es) (suc k) offset (suc j) = of_tail (slice_get es k) ∙ mo
     of_tail None = refl
     of_tail (Some x) = refl
 
-pub grows_closed : (m : MachineState) (pid : ℕ) (closing : Closing) → OnlyGrows m (closed m pid closing)
+pub grows_closed : (m : MachineState) (pid : ℕ) (closing : Closing) → OnlyGrows m (after_close m pid closing)
 grows_closed m pid closing =
     let same : length (pipes_left pid closing m.descriptors m.descriptions m.pipes) ≡ length m.pipes = pipes_left_length pid closing m.descriptors m.descriptions m.pipes in
     record { targets = λ _ _. refl; descriptions = omega arith; pipes = omega (arith, same); processes = omega arith; files = omega arith; paths = λ _ _ h. h }
 
-grows_moved : (m : MachineState) (k offset : ℕ) → OnlyGrows m (record m { descriptions = moved m.descriptions k offset })
+grows_moved : (m : MachineState) (k offset : ℕ) → OnlyGrows m (record m { descriptions = with_offset m.descriptions k offset })
 grows_moved m k offset =
-    let same : length (moved m.descriptions k offset) ≡ length m.descriptions = moved_length m.descriptions k offset (slice_get m.descriptions k) in
+    let same : length (with_offset m.descriptions k offset) ≡ length m.descriptions = moved_length m.descriptions k offset (slice_get m.descriptions k) in
     record { targets = λ j _. moved_target m.descriptions k offset j; descriptions = omega (arith, same); pipes = omega arith; processes = omega arith; files = omega arith; paths = λ _ _ h. h }
 
 grows_pipe : (m : MachineState) (pipe : ℕ) (slot : Option PipeState) → OnlyGrows m (record m { pipes = slice_set m.pipes pipe slot })
@@ -116,7 +116,7 @@ write_paths : (files files' : FileMap) (n offset : ℕ) (bytes : List ℕ) (o : 
 write_paths files files' n offset bytes None h = absurd (cc)
 write_paths files files' n offset bytes (Some node) h = with_node_paths files files' n (nodes.node_written offset bytes node) h
 
-grows_file : (m : MachineState) (k node start end : ℕ) (bytes : List ℕ) (files : FileMap) → write_at m.files node start bytes ≡ Ok files → OnlyGrows m (record m { files = files; descriptions = moved m.descriptions k end })
+grows_file : (m : MachineState) (k node start end : ℕ) (bytes : List ℕ) (files : FileMap) → write_at m.files node start bytes ≡ Ok files → OnlyGrows m (record m { files = files; descriptions = with_offset m.descriptions k end })
 grows_file m k node start end bytes files written =
     let g = grows_moved m k end in
     let same : length files.nodes ≡ length m.files.nodes = write_length m.files files node start bytes (slice_get m.files.nodes node) written in
@@ -127,7 +127,7 @@ abbrev file_in : FileMap → Result (ℕ × FileMap) FileFault → FileMap
 file_in d (Ok x) = x.1
 file_in d (Err fault) = d
 
-numbered_length : (files : FileMap) (n : ℕ) (o : ℕ × FileMap) (r : Result FileMap FileFault) → ((f : FileMap) → r ≡ Ok f → length f.nodes ≡ length files.nodes) → nodes.numbered n r ≡ Ok o → length files.nodes ≤ length o.1.nodes
+numbered_length : (files : FileMap) (n : ℕ) (o : ℕ × FileMap) (r : Result FileMap FileFault) → ((f : FileMap) → r ≡ Ok f → length f.nodes ≡ length files.nodes) → nodes.number_and_files n r ≡ Ok o → length files.nodes ≤ length o.1.nodes
 numbered_length files n o (Ok f) same h =
     let e : f ≡ o.1 = ap (λ (x : Result (ℕ × FileMap) FileFault). file_in f x) h in
     let l : length f.nodes ≡ length files.nodes = same f refl in
@@ -156,7 +156,7 @@ opened_place_length files how o (Ok place) h = number_length files place how o (
 opened_place_length files how o (Err fault) h = absurd (cc)
 
 pub opened_length : (files : FileMap) (directory path : List ℕ) (how : Opening) (o : ℕ × FileMap) → opened files directory path how ≡ Ok o → length files.nodes ≤ length o.1.nodes
-opened_length files directory path how o h = opened_place_length files how o (nodes.resolved files directory path) h
+opened_length files directory path how o h = opened_place_length files how o (nodes.resolution files directory path) h
 
 -- a path goes on to name what it names
 new_path : (b : Bool) (v n : ℕ) (o : Option ℕ) → (b ≡ true → o ≡ None) → o ≡ Some n → cond b (Some v) o ≡ Some n
@@ -178,7 +178,7 @@ created_paths files place how o path n false true none named h =
     ∙ get-insert nat_list_cmp_total files.paths place (length files.nodes) path
     ∙ new_path (is_eq (slice_cmp nat_cmp path place)) (length files.nodes) n (get files.paths path) here named
 
-numbered_paths : (files : FileMap) (number : ℕ) (o : ℕ × FileMap) (r : Result FileMap FileFault) → ((f : FileMap) → r ≡ Ok f → f.paths ≡ files.paths) → nodes.numbered number r ≡ Ok o → o.1.paths ≡ files.paths
+numbered_paths : (files : FileMap) (number : ℕ) (o : ℕ × FileMap) (r : Result FileMap FileFault) → ((f : FileMap) → r ≡ Ok f → f.paths ≡ files.paths) → nodes.number_and_files number r ≡ Ok o → o.1.paths ≡ files.paths
 numbered_paths files number o (Ok f) same h =
     let e : f ≡ o.1 = ap (λ (x : Result (ℕ × FileMap) FileFault). file_in f x) h in
     ap (λ (x : FileMap). x.paths) (sym e) ∙ same f refl
@@ -198,7 +198,7 @@ place_paths files how o path n (Ok place) named h = number_paths files place how
 place_paths files how o path n (Err fault) named h = absurd (cc)
 
 opened_paths : (files : FileMap) (directory path : List ℕ) (how : Opening) (o : ℕ × FileMap) → opened files directory path how ≡ Ok o → (p : List ℕ) (n : ℕ) → get files.paths p ≡ Some n → get o.1.paths p ≡ Some n
-opened_paths files directory path how o h p n named = place_paths files how o p n (nodes.resolved files directory path) named h
+opened_paths files directory path how o h p n named = place_paths files how o p n (nodes.resolution files directory path) named h
 
 -- a number that refers to something else changes descriptors alone
 grows_number : (m : MachineState) (pid number k : ℕ) → OnlyGrows m (with_number m pid number k)
@@ -215,7 +215,7 @@ status_length : (ps : List Process) (pid : ℕ) (status : Status) (o : Option Pr
 status_length ps pid status None = refl
 status_length ps pid status (Some p) = length_set ps (pid - 100) (record p { status = status })
 
-grows_ended : (m : MachineState) (pid : ℕ) (status : Status) → OnlyGrows m (ended m pid status)
+grows_ended : (m : MachineState) (pid : ℕ) (status : Status) → OnlyGrows m (after_end m pid status)
 grows_ended m pid status =
     let g = grows_closed m pid All in
     let same : length (with_status m.processes pid status) ≡ length m.processes = status_length m.processes pid status (process_at m.processes pid) in
@@ -227,7 +227,7 @@ more_le xs ys = omega (arith, length-append xs ys)
 more_targets : (es more : List Description) (k : ℕ) → k < length es → target_at (es ++ more) k ≡ target_at es k
 more_targets es more k h = ap (λ (o : Option Description). option_map (λ (e : Description). e.target) o) (front_place es more k h)
 
-grows_forked : (m : MachineState) (pid : ℕ) → OnlyGrows m (forked m pid)
+grows_forked : (m : MachineState) (pid : ℕ) → OnlyGrows m (after_fork m pid)
 grows_forked m pid = record { targets = λ _ _. refl; descriptions = omega arith; pipes = omega arith; processes = more_le m.processes _; files = omega arith; paths = λ _ _ h. h }
 
 grows_with_pipe : (m : MachineState) → OnlyGrows m (with_pipe m)
@@ -236,7 +236,7 @@ grows_with_pipe m = record { targets = λ k h. more_targets m.descriptions _ k h
 grows_with_node : (m : MachineState) (how : Opening) (append : Bool) (n : ℕ) (files : FileMap) → length m.files.nodes ≤ length files.nodes → ((p : List ℕ) (k : ℕ) → get m.files.paths p ≡ Some k → get files.paths p ≡ Some k) → OnlyGrows m (with_node m how append n files)
 grows_with_node m how append n files more named = record { targets = λ k h. more_targets m.descriptions _ k h; descriptions = more_le m.descriptions _; pipes = omega arith; processes = omega arith; files = more; paths = named }
 
-grows_renamed : (m : MachineState) (pid : ℕ) (name : Name) (number : Option ℕ) → OnlyGrows m (record m { descriptors = renamed m.descriptors pid name number })
+grows_renamed : (m : MachineState) (pid : ℕ) (name : DescriptorRef) (number : Option ℕ) → OnlyGrows m (record m { descriptors = after_renaming m.descriptors pid name number })
 grows_renamed m pid name number = record { targets = λ _ _. refl; descriptions = omega arith; pipes = omega arith; processes = omega arith; files = omega arith; paths = λ _ _ h. h }
 
 pub requests_grow : RequestsOnlyGrow

@@ -1,16 +1,16 @@
 -- What one process alone has stays its own.
 use Rattle.std.proofs.Common.{◌≡◌, ◌≢◌, ℕ, zero, suc, ◌+◌, List, [], ◌∷◌, ◌++◌, length, map, filter, Bool, true, false, cond, ◌&&◌, ◌||◌, ◌==◌, Option, Some, None, position, slice_get, slice_set, refl, sym, ap, ◌∙◌, arith}
 use Rattle.std.proofs.lemmas.Bool.{eqb-true}
-use Rattle.sh_kernel_descriptors.specs.Closings.{left}
+use Rattle.sh_kernel_descriptors.specs.Closings.{descriptors_left}
 use Rattle.sh_kernel_descriptors.specs.Descriptors.{is_named}
 use Rattle.sh_kernel_descriptors.specs.Machine.{MachineState}
-use Rattle.sh_kernel_descriptors.specs.Naming.{renamed, renamed_at, renumbered, with_number, with_pipe}
+use Rattle.sh_kernel_descriptors.specs.Naming.{after_renaming, renamed_at, after_renumbering, with_number, with_pipe}
 use Rattle.sh_kernel_descriptors.specs.Opening.{for_reading, with_node}
 use Rattle.sh_kernel_descriptors.specs.Processes.{copies, is_copied, next_pid, of_process}
 use Rattle.sh_kernel_descriptors.specs.declared.descriptor.Closing.TheVariants.{Named}
 use Rattle.sh_kernel_descriptors.specs.declared.descriptor.Descriptor.{Descriptor}
-use Rattle.sh_kernel_descriptors.specs.declared.descriptor.Name.{Name}
-use Rattle.sh_kernel_descriptors.specs.declared.descriptor.Name.TheVariants.{Number, Aside}
+use Rattle.sh_kernel_descriptors.specs.declared.descriptor.DescriptorRef.{DescriptorRef}
+use Rattle.sh_kernel_descriptors.specs.declared.descriptor.DescriptorRef.TheVariants.{Number, Aside}
 use Rattle.sh_kernel.specs.Laws.{IsOwned, OwnedStaysOwned}
 use Rattle.sh_kernel.specs.Reaching.{reaches}
 use Rattle.sh_kernel.proofs.Frames.{true≢false}
@@ -56,10 +56,10 @@ set_owned (y ∷ ds) zero d number pid test h own =
     ((λ t. sym (ap (λ (z : Descriptor). z.pid) same) ∙ own.0 (ap (λ (z : Descriptor). test z.description) same ∙ t)), own.1)
 set_owned (y ∷ ds) (suc i) d number pid test h own = (own.0, set_owned ds i d number pid test h own.1)
 
-renamed_owned : (ds : List Descriptor) (q : ℕ) (name : Name) (number : Option ℕ) (pid : ℕ) (test : ℕ → Bool) → IsOwned pid test ds → IsOwned pid test (renamed ds q name number)
+renamed_owned : (ds : List Descriptor) (q : ℕ) (name : DescriptorRef) (number : Option ℕ) (pid : ℕ) (test : ℕ → Bool) → IsOwned pid test ds → IsOwned pid test (after_renaming ds q name number)
 renamed_owned ds q name number pid test own = of_place (position (is_named q name) ds)
   where
-    of_entry : (i : ℕ) (o : Option Descriptor) → slice_get ds i ≡ o → IsOwned pid test (renumbered ds number i o)
+    of_entry : (i : ℕ) (o : Option Descriptor) → slice_get ds i ≡ o → IsOwned pid test (after_renumbering ds number i o)
     of_entry i None is = own
     of_entry i (Some d) is = set_owned ds i d number pid test is own
 
@@ -70,7 +70,7 @@ renamed_owned ds q name number pid test own = of_place (position (is_named q nam
 -- a number of another process may refer to what doesn't pass
 number_owned : (m : MachineState) (q number k pid : ℕ) (test : ℕ → Bool) → (test k ≡ true → ⊥) → IsOwned pid test m.descriptors → IsOwned pid test (with_number m q number k).descriptors
 number_owned m q number k pid test fails own =
-    append_owned pid test (left q (Named (Number number)) m.descriptors) _ (filter_owned pid test _ m.descriptors own) (λ t. absurd (fails t), tt)
+    append_owned pid test (descriptors_left q (Named (Number number)) m.descriptors) _ (filter_owned pid test _ m.descriptors own) (λ t. absurd (fails t), tt)
 
 pub owned_stays : OwnedStaysOwned
 owned_stays s pid q r test n within own =
@@ -87,7 +87,7 @@ owned_stays s pid q r test n within own =
         ends = λ status. filter_owned pid test _ m.descriptors own;
         numbers = λ number k held. number_owned m q number k pid test (λ t. true≢false (test k) t (held.fails test unreached)) own;
         renames = λ name number. renamed_owned m.descriptors q name number pid test own;
-        back = λ k number. renamed_owned (left q (Named (Number number)) m.descriptors) q (Aside k) (Some number) pid test (filter_owned pid test _ m.descriptors own);
+        back = λ k number. renamed_owned (descriptors_left q (Named (Number number)) m.descriptors) q (Aside k) (Some number) pid test (filter_owned pid test _ m.descriptors own);
         forks = append_owned pid test m.descriptors _ own (copies_owned m.descriptors q (next_pid m.processes) pid test n own);
         makes_pipe = λ from to.
             number_owned (with_number (with_pipe m) q from (length m.descriptions)) q to (length m.descriptions + 1) pid test newer (number_owned (with_pipe m) q from (length m.descriptions) pid test new own);

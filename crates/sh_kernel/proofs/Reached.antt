@@ -8,17 +8,17 @@ use Rattle.sh_files.specs.declared.fault.FileFault.{FileFault}
 use Rattle.sh_files.specs.declared.opening.Opening.{Opening}
 use Rattle.sh_files_image.specs.declared.node.Node.{Node}
 use Rattle.sh_files_image.specs.declared.node.Node.TheVariants as node
-use Rattle.sh_kernel_descriptors.specs.Closings.{left}
+use Rattle.sh_kernel_descriptors.specs.Closings.{descriptors_left}
 use Rattle.sh_kernel_descriptors.specs.Descriptors.{is_named, reads_from, writes_to}
 use Rattle.sh_kernel_descriptors.specs.Machine.{MachineState}
-use Rattle.sh_kernel_descriptors.specs.Naming.{end_of, renamed, renamed_at, renumbered, with_number, with_pipe}
+use Rattle.sh_kernel_descriptors.specs.Naming.{end_of, after_renaming, renamed_at, after_renumbering, with_number, with_pipe}
 use Rattle.sh_kernel_descriptors.specs.Opening.{description_of, for_reading, target_of}
 use Rattle.sh_kernel_descriptors.specs.Processes.{copies, is_copied, next_pid, of_process}
-use Rattle.sh_kernel_descriptors.specs.Reading.{moved}
+use Rattle.sh_kernel_descriptors.specs.Reading.{with_offset}
 use Rattle.sh_kernel_descriptors.specs.declared.descriptor.Closing.TheVariants.{Named, All}
 use Rattle.sh_kernel_descriptors.specs.declared.descriptor.Descriptor.{Descriptor}
-use Rattle.sh_kernel_descriptors.specs.declared.descriptor.Name.{Name}
-use Rattle.sh_kernel_descriptors.specs.declared.descriptor.Name.TheVariants.{Number, Aside}
+use Rattle.sh_kernel_descriptors.specs.declared.descriptor.DescriptorRef.{DescriptorRef}
+use Rattle.sh_kernel_descriptors.specs.declared.descriptor.DescriptorRef.TheVariants.{Number, Aside}
 use Rattle.sh_kernel_descriptors.specs.declared.description.Description.{Description}
 use Rattle.sh_kernel_descriptors.specs.declared.description.Target.{Target}
 use Rattle.sh_kernel_descriptors.specs.declared.description.Target.TheVariants.{ReadEnd, WriteEnd}
@@ -68,10 +68,10 @@ reaches_set (y ∷ ds) zero d number pid test h =
     ap (λ (z : Descriptor). ((z.pid == pid) && test z.description) || reaches ds pid test) (sym same)
 reaches_set (y ∷ ds) (suc i) d number pid test h = ap (λ (c : Bool). ((y.pid == pid) && test y.description) || c) (reaches_set ds i d number pid test h)
 
-reaches_renamed : (ds : List Descriptor) (q : ℕ) (name : Name) (number : Option ℕ) (pid : ℕ) (test : ℕ → Bool) → reaches ds pid test ≡ false → reaches (renamed ds q name number) pid test ≡ false
+reaches_renamed : (ds : List Descriptor) (q : ℕ) (name : DescriptorRef) (number : Option ℕ) (pid : ℕ) (test : ℕ → Bool) → reaches ds pid test ≡ false → reaches (after_renaming ds q name number) pid test ≡ false
 reaches_renamed ds q name number pid test h = of_place (position (is_named q name) ds)
   where
-    of_entry : (i : ℕ) (o : Option Descriptor) → slice_get ds i ≡ o → reaches (renumbered ds number i o) pid test ≡ false
+    of_entry : (i : ℕ) (o : Option Descriptor) → slice_get ds i ≡ o → reaches (after_renumbering ds number i o) pid test ≡ false
     of_entry i None is = h
     of_entry i (Some d) is = reaches_set ds i d number pid test is ∙ h
 
@@ -90,18 +90,18 @@ unreached s pid r =
       file = λ k node start end bytes files held file written. record { fails = λ test h new. h };
       closes = λ closing. record { fails = λ test h new. reaches_left pid closing ds test h };
       ends = λ status. record { fails = λ test h new. reaches_left pid All ds test h };
-      numbers = λ number k held. record { fails = λ test h new. reaches_one_more (left pid (Named (Number number)) ds) _ pid test (reaches_left pid (Named (Number number)) ds test h) (held.fails test h) };
+      numbers = λ number k held. record { fails = λ test h new. reaches_one_more (descriptors_left pid (Named (Number number)) ds) _ pid test (reaches_left pid (Named (Number number)) ds test h) (held.fails test h) };
       renames = λ name number. record { fails = λ test h new. reaches_renamed ds pid name number pid test h };
-      back = λ k number. record { fails = λ test h new. reaches_renamed (left pid (Named (Number number)) ds) pid (Aside k) (Some number) pid test (reaches_left pid (Named (Number number)) ds test h) };
+      back = λ k number. record { fails = λ test h new. reaches_renamed (descriptors_left pid (Named (Number number)) ds) pid (Aside k) (Some number) pid test (reaches_left pid (Named (Number number)) ds test h) };
       forks = record { fails = λ test h new. reaches_append ds _ pid test h (reaches_copies ds pid (next_pid m.processes) test h) };
       makes_pipe = λ from to. record {
         fails = λ test h new.
             let first = with_number (with_pipe m) pid from (length m.descriptions) in
-            let at_first : reaches first.descriptors pid test ≡ false = reaches_one_more (left pid (Named (Number from)) ds) _ pid test (reaches_left pid (Named (Number from)) ds test h) (new (length m.descriptions) (omega arith)) in
-            reaches_one_more (left pid (Named (Number to)) first.descriptors) _ pid test (reaches_left pid (Named (Number to)) first.descriptors test at_first) (new (length m.descriptions + 1) (omega arith));
+            let at_first : reaches first.descriptors pid test ≡ false = reaches_one_more (descriptors_left pid (Named (Number from)) ds) _ pid test (reaches_left pid (Named (Number from)) ds test h) (new (length m.descriptions) (omega arith)) in
+            reaches_one_more (descriptors_left pid (Named (Number to)) first.descriptors) _ pid test (reaches_left pid (Named (Number to)) first.descriptors test at_first) (new (length m.descriptions + 1) (omega arith));
       };
-      opens = λ directory path how append number o is at. record { fails = λ test h new. reaches_one_more (left pid (Named (Number number)) ds) _ pid test (reaches_left pid (Named (Number number)) ds test h) (new (length m.descriptions) (omega arith)) };
-      heres = λ bytes number o is at. record { fails = λ test h new. reaches_one_more (left pid (Named (Number number)) ds) _ pid test (reaches_left pid (Named (Number number)) ds test h) (new (length m.descriptions) (omega arith)) };
+      opens = λ directory path how append number o is at. record { fails = λ test h new. reaches_one_more (descriptors_left pid (Named (Number number)) ds) _ pid test (reaches_left pid (Named (Number number)) ds test h) (new (length m.descriptions) (omega arith)) };
+      heres = λ bytes number o is at. record { fails = λ test h new. reaches_one_more (descriptors_left pid (Named (Number number)) ds) _ pid test (reaches_left pid (Named (Number number)) ds test h) (new (length m.descriptions) (omega arith)) };
     })
 
 -- ---- descriptions
@@ -151,9 +151,9 @@ new_fails s pid r =
     let op = opens m r in
     by_cases s pid r (λ m'. NewFails op m m') (record {
       same = new_same op m m refl;
-      goes_on = λ k offset held. new_same op m (record m { descriptions = moved m.descriptions k offset }) (moved_length m.descriptions k offset (slice_get m.descriptions k));
+      goes_on = λ k offset held. new_same op m (record m { descriptions = with_offset m.descriptions k offset }) (moved_length m.descriptions k offset (slice_get m.descriptions k));
       pipe = λ k pipe slot held end. new_same op m (record m { pipes = slice_set m.pipes pipe slot }) refl;
-      file = λ k node start end bytes files held file written. new_same op m (record m { files = files; descriptions = moved m.descriptions k end }) (moved_length m.descriptions k end (slice_get m.descriptions k));
+      file = λ k node start end bytes files held file written. new_same op m (record m { files = files; descriptions = with_offset m.descriptions k end }) (moved_length m.descriptions k end (slice_get m.descriptions k));
       closes = λ closing. record { ends = (new_same op m m refl).ends; files = (new_same op m m refl).files };
       ends = λ status. record { ends = (new_same op m m refl).ends; files = (new_same op m m refl).files };
       numbers = λ number k held. record { ends = (new_same op m m refl).ends; files = (new_same op m m refl).files };

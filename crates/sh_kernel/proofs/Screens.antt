@@ -1,11 +1,11 @@
 -- The terminal has part in a request only where the process reaches it.
 use Rattle.std.proofs.Common.{List, sym, ◌≡◌, ℕ, Bool, false, cond, ◌&&◌, Option, Some, None, slice_get, refl, ap, option_and_then, [], ◌++◌, append-nil, true}
 use Rattle.std.specs.Option.{option_map_or}
-use Rattle.sh_kernel_descriptors.specs.Descriptors.{found}
+use Rattle.sh_kernel_descriptors.specs.Descriptors.{description_number}
 use Rattle.sh_kernel_descriptors.specs.Machine.{MachineState}
 use Rattle.sh_kernel_descriptors.specs.Terminals.{is_of_terminal, reads_terminal, writes_terminal}
-use Rattle.sh_kernel_descriptors.specs.declared.descriptor.Name.{Name}
-use Rattle.sh_kernel_descriptors.specs.declared.descriptor.Name.TheVariants.{Number}
+use Rattle.sh_kernel_descriptors.specs.declared.descriptor.DescriptorRef.{DescriptorRef}
+use Rattle.sh_kernel_descriptors.specs.declared.descriptor.DescriptorRef.TheVariants.{Number}
 use Rattle.sh_kernel_descriptors.specs.declared.description.Description.{Description}
 use Rattle.sh_kernel_descriptors.specs.Reading as reading
 use Rattle.sh_kernel_descriptors.specs.Writing as writing
@@ -18,7 +18,7 @@ use Rattle.sh_kernel.specs.Requests.{Read, Write, Close, Duplicate, MakePipe, Op
 use Rattle.sh_kernel.specs.State.{KernelState}
 use Rattle.sh_kernel.proofs.Cases.{found_held}
 
-fails_here : (m : MachineState) (pid : ℕ) (name : Name) (allowed : Description → Bool) → reaches m.descriptors pid (is_screen m.descriptions) ≡ false → (o : Option ℕ) → found m.descriptors pid name ≡ o → option_map_or (λ (e : Description). is_of_terminal e && allowed e) (option_and_then (λ k. slice_get m.descriptions k) o) false ≡ false
+fails_here : (m : MachineState) (pid : ℕ) (name : DescriptorRef) (allowed : Description → Bool) → reaches m.descriptors pid (is_screen m.descriptions) ≡ false → (o : Option ℕ) → description_number m.descriptors pid name ≡ o → option_map_or (λ (e : Description). is_of_terminal e && allowed e) (option_and_then (λ k. slice_get m.descriptions k) o) false ≡ false
 fails_here m pid name allowed h None is = refl
 fails_here m pid name allowed h (Some k) is = of_entry (slice_get m.descriptions k) ((found_held m.descriptors pid name k is).fails (is_screen m.descriptions) h)
   where
@@ -29,11 +29,11 @@ fails_here m pid name allowed h (Some k) is = of_entry (slice_get m.descriptions
 pub terminal_stays : TerminalIsReached
 terminal_stays s pid (Read name count) h =
     let m = s.machine in
-    let off : reads_terminal m pid name ≡ false = fails_here m pid name (λ e. e.readable) h (found m.descriptors pid name) refl in
+    let off : reads_terminal m pid name ≡ false = fails_here m pid name (λ e. e.readable) h (description_number m.descriptors pid name) refl in
     ap (λ (b : Bool). (cond b (read_terminal s count (read_of count (entries_of s.terminal))) (on_machine s (reading.read_call m pid name count))).after.terminal) off
 terminal_stays s pid (Write number bytes) h =
     let m = s.machine in
-    let off : writes_terminal m pid (Number number) ≡ false = fails_here m pid (Number number) (λ e. e.writable) h (found m.descriptors pid (Number number)) refl in
+    let off : writes_terminal m pid (Number number) ≡ false = fails_here m pid (Number number) (λ e. e.writable) h (description_number m.descriptors pid (Number number)) refl in
     ap (λ (b : Bool). (cond b (write_terminal s bytes) (on_machine s (writing.write_call m pid number bytes))).after.terminal) off
 terminal_stays s pid (Close name) h = refl
 terminal_stays s pid (Duplicate name to) h = refl

@@ -8,13 +8,13 @@ use Rattle.sh_files.specs.Nodes.{FileMap, nameless, opened, write_fits}
 use Rattle.sh_files.specs.declared.fault.FileFault.{FileFault}
 use Rattle.sh_files.specs.declared.fault.FileFault.TheVariants.{Exists, NoAccess, NoEntry, TooLarge}
 use Rattle.sh_files.specs.declared.opening.Opening.{Opening}
-use Rattle.sh_files_image.specs.Contents.{Regular, written}
+use Rattle.sh_files_image.specs.Contents.{Regular, content_after_write}
 use Rattle.sh_files_image.specs.declared.node.Node.{Node}
 use Rattle.sh_files_image.specs.declared.node.Node.TheVariants.{Directory, File, Null, Terminal}
 use Rattle.sh_kernel_descriptors.specs.Machine.{MachineState}
 use Rattle.sh_kernel_descriptors.specs.Naming.{end_of}
 use Rattle.sh_kernel_descriptors.specs.Opening.{description_of, for_reading, target_of}
-use Rattle.sh_kernel_descriptors.specs.Reading.{moved}
+use Rattle.sh_kernel_descriptors.specs.Reading.{with_offset}
 use Rattle.sh_kernel_descriptors.specs.Terminals.{is_of_terminal, is_terminal_target}
 use Rattle.sh_kernel_descriptors.specs.declared.description.Target.TheVariants.{ReadEnd, WriteEnd}
 use Rattle.sh_tty.specs.Happenings.{bytes_of}
@@ -58,7 +58,7 @@ screen_written : (offset : ℕ) (bytes : List ℕ) (y x : Node) → nodes.node_w
 screen_written offset bytes Directory x h is = absurd (cc)
 screen_written offset bytes (File file) x h is = of_test (write_fits offset bytes) h
   where
-    of_test : (b : Bool) → cond b (Ok (File (record file { bytes = written file.bytes offset bytes }))) (Err TooLarge) ≡ Ok x → File file ≡ Terminal
+    of_test : (b : Bool) → cond b (Ok (File (record file { bytes = content_after_write file.bytes offset bytes }))) (Err TooLarge) ≡ Ok x → File file ≡ Terminal
     of_test true h = absurd (cc)
     of_test false h = absurd (cc)
 screen_written offset bytes Null x h is = absurd (cc)
@@ -68,7 +68,7 @@ screen_opened : (how : Opening) (y x : Node) → nodes.node_opened how y ≡ Ok 
 screen_opened how Directory x h is = absurd (cc)
 screen_opened how (File file) x h is = of_tests how.exclusive (nodes.allows file.flags how) h
   where
-    of_tests : (a b : Bool) → cond a (Err Exists) (cond b (Ok (File (nodes.emptied file how))) (Err NoAccess)) ≡ Ok x → File file ≡ Terminal
+    of_tests : (a b : Bool) → cond a (Err Exists) (cond b (Ok (File (nodes.file_after_open file how))) (Err NoAccess)) ≡ Ok x → File file ≡ Terminal
     of_tests true b h = absurd (cc)
     of_tests false true h = absurd (cc)
     of_tests false false h = absurd (cc)
@@ -90,7 +90,7 @@ screen_open : (files files' : FileMap) (how : Opening) (k : ℕ) (o : Option Nod
 screen_open files files' how k None is h n screen = absurd (cc)
 screen_open files files' how k (Some y) is h n screen = screen_with_node files files' k y (nodes.node_opened how y) is (λ x e t. screen_opened how y x e t) h n screen
 
-screen_numbered : (files : FileMap) (k : ℕ) (o : ℕ × FileMap) (r : Result FileMap FileFault) → ((f : FileMap) → r ≡ Ok f → NoScreenMore files f) → nodes.numbered k r ≡ Ok o → NoScreenMore files o.1
+screen_numbered : (files : FileMap) (k : ℕ) (o : ℕ × FileMap) (r : Result FileMap FileFault) → ((f : FileMap) → r ≡ Ok f → NoScreenMore files f) → nodes.number_and_files k r ≡ Ok o → NoScreenMore files o.1
 screen_numbered files k o (Ok f) back h n screen =
     let e : f ≡ o.1 = ap (λ (x : Result (ℕ × FileMap) FileFault). file_in f x) h in
     back f refl n (ap (λ (x : FileMap). slice_get x.nodes n) e ∙ screen)
@@ -153,10 +153,10 @@ screenless s pid r =
     let op = opens m r in
     by_cases s pid r (λ m'. Screenless op m m') (record {
       same = screenless_same op m m (λ n h. h) refl;
-      goes_on = λ k offset held. screenless_same op m (record m { descriptions = moved m.descriptions k offset }) (λ n h. h) (moved_length m.descriptions k offset (slice_get m.descriptions k));
+      goes_on = λ k offset held. screenless_same op m (record m { descriptions = with_offset m.descriptions k offset }) (λ n h. h) (moved_length m.descriptions k offset (slice_get m.descriptions k));
       pipe = λ k pipe slot held end. screenless_same op m (record m { pipes = slice_set m.pipes pipe slot }) (λ n h. h) refl;
       file = λ k node start end bytes files held file written.
-          screenless_same op m (record m { files = files; descriptions = moved m.descriptions k end }) (screen_write m.files files node start bytes (slice_get m.files.nodes node) refl written) (moved_length m.descriptions k end (slice_get m.descriptions k));
+          screenless_same op m (record m { files = files; descriptions = with_offset m.descriptions k end }) (screen_write m.files files node start bytes (slice_get m.files.nodes node) refl written) (moved_length m.descriptions k end (slice_get m.descriptions k));
       closes = λ closing. record { nodes = λ n h. h; fails = (screenless_same op m m (λ n h. h) refl).fails };
       ends = λ status. record { nodes = λ n h. h; fails = (screenless_same op m m (λ n h. h) refl).fails };
       numbers = λ number k held. record { nodes = λ n h. h; fails = (screenless_same op m m (λ n h. h) refl).fails };
@@ -165,7 +165,7 @@ screenless s pid r =
       forks = record { nodes = λ n h. h; fails = (screenless_same op m m (λ n h. h) refl).fails };
       makes_pipe = λ from to. record { nodes = λ n h. h; fails = λ unopened k h. more_fails m.descriptions _ is_of_terminal k (new_ends_no_screen (length m.pipes)) (past_all m.descriptions is_of_terminal k h) };
       opens = λ directory path how append number o is at.
-          let back = screen_place m.files how o (nodes.resolved m.files directory path) at in
+          let back = screen_place m.files how o (nodes.resolution m.files directory path) at in
           record {
             nodes = back;
             fails = λ unopened k h.

@@ -1,7 +1,7 @@
 -- Each call of a kernel as one change of its state.
 use Rattle.std.specs.Prelude.{ℕ, List, ◌∷◌, length, Bool, Option, Some, None, if◌then◌else◌}
 use Rattle.sh_files.specs.declared.opening.Opening.{Opening}
-use Rattle.sh_kernel_descriptors.specs.Outcomes.{Done, done, refused}
+use Rattle.sh_kernel_descriptors.specs.Outcomes.{Done, success, refusal}
 use Rattle.sh_kernel_descriptors.specs.Machine as machine
 use Rattle.sh_kernel_descriptors.specs.Machine.{MachineState}
 use Rattle.sh_kernel_descriptors.specs.Naming as naming
@@ -9,8 +9,8 @@ use Rattle.sh_kernel_descriptors.specs.Opening as opening
 use Rattle.sh_kernel_descriptors.specs.Reading as reading
 use Rattle.sh_kernel_descriptors.specs.Writing as writing
 use Rattle.sh_kernel_descriptors.specs.Terminals.{reads_terminal, writes_terminal}
-use Rattle.sh_kernel_descriptors.specs.declared.descriptor.Name.{Name}
-use Rattle.sh_kernel_descriptors.specs.declared.descriptor.Name.TheVariants.{Number}
+use Rattle.sh_kernel_descriptors.specs.declared.descriptor.DescriptorRef.{DescriptorRef}
+use Rattle.sh_kernel_descriptors.specs.declared.descriptor.DescriptorRef.TheVariants.{Number}
 use Rattle.sh_kernel_descriptors.specs.declared.fault.KernelFault.TheVariants.{WouldWait}
 use Rattle.sh_tty.specs.Happenings.{Took, Wrote, entries_of}
 use Rattle.sh_tty.specs.Keys.{read_of}
@@ -22,10 +22,10 @@ on_machine s d = record { answer = d.answer; after = record s { machine = d.afte
 
 -- ---- read
 abbrev pub read_terminal : KernelState → ℕ → Option (List ℕ) → Done KernelState (List ℕ)
-read_terminal s n None = refused s WouldWait
-read_terminal s n (Some bytes) = done bytes (record s { terminal = Took n ∷ s.terminal })
+read_terminal s n None = refusal s WouldWait
+read_terminal s n (Some bytes) = success bytes (record s { terminal = Took n ∷ s.terminal })
 
-abbrev pub read_call : KernelState → ℕ → Name → ℕ → Done KernelState (List ℕ)
+abbrev pub read_call : KernelState → ℕ → DescriptorRef → ℕ → Done KernelState (List ℕ)
 read_call s pid name n =
     if reads_terminal s.machine pid name
     then read_terminal s n (read_of n (entries_of s.terminal))
@@ -33,7 +33,7 @@ read_call s pid name n =
 
 -- ---- write
 abbrev pub write_terminal : KernelState → List ℕ → Done KernelState ℕ
-write_terminal s bytes = done (length bytes) (record s { terminal = Wrote bytes ∷ s.terminal })
+write_terminal s bytes = success (length bytes) (record s { terminal = Wrote bytes ∷ s.terminal })
 
 abbrev pub write_call : KernelState → ℕ → ℕ → List ℕ → Done KernelState ℕ
 write_call s pid number bytes =
@@ -42,10 +42,10 @@ write_call s pid number bytes =
     else on_machine s (writing.write_call s.machine pid number bytes)
 
 -- ---- descriptors
-abbrev pub close_call : KernelState → ℕ → Name → Done KernelState (Unit {0})
+abbrev pub close_call : KernelState → ℕ → DescriptorRef → Done KernelState (Unit {0})
 close_call s pid name = on_machine s (naming.close_call s.machine pid name)
 
-abbrev pub dup_call : KernelState → ℕ → Name → ℕ → Done KernelState (Unit {0})
+abbrev pub dup_call : KernelState → ℕ → DescriptorRef → ℕ → Done KernelState (Unit {0})
 dup_call s pid name to = on_machine s (naming.dup_call s.machine pid name to)
 
 abbrev pub pipe_call : KernelState → ℕ → ℕ → ℕ → Done KernelState (Unit {0})

@@ -1,4 +1,4 @@
--- Laws of one request, and of those that a process makes one after another, whatever the state, the process and the
+-- Laws of one request, and of a list of requests of one process, whatever the state, the process and the
 -- requests.
 use Rattle.std.specs.Prelude.{◌≡◌, ◌≢◌, ℕ, ◌<◌, ◌≤◌, ◌==◌, ◌++◌, ◌||◌, List, [], ◌∷◌, length, filter, Bool, true, false, Option, Some, slice_get, Result, Ok, Err}
 use Rattle.std.specs.FinMap.{get}
@@ -37,8 +37,8 @@ opens m StartProgram node = false
 opens m (End status) node = false
 
 -- ---- what a process can change
--- a process changed no pipe, file or description but those that it reached, and the files that it opened; and no other
--- process that was there
+-- a process changed only pipes, files and descriptions that it reached, and files that it opened; and neither
+-- the descriptors nor the status of another process that was there
 pub record ChangesOnlyReached (pid : ℕ) (opens : ℕ → Bool) (old new : MachineState) : Type 0 where
   pub pipes : (pipe : ℕ) → pipe < length old.pipes → reaches old.descriptors pid (is_end old.descriptions pipe) ≡ false → slice_get new.pipes pipe ≡ slice_get old.pipes pipe
   pub files : (node : ℕ) → node < length old.files.nodes → reaches old.descriptors pid (is_file old.descriptions node) ≡ false → opens node ≡ false → slice_get new.files.nodes node ≡ slice_get old.files.nodes node
@@ -46,7 +46,7 @@ pub record ChangesOnlyReached (pid : ℕ) (opens : ℕ → Bool) (old new : Mach
   pub descriptors : (q : ℕ) → q ≢ pid → q < next_pid old.processes → filter (λ d. d.pid == q) new.descriptors ≡ filter (λ d. d.pid == q) old.descriptors
   pub processes : (q : ℕ) → q ≢ pid → q < next_pid old.processes → process_at new.processes q ≡ process_at old.processes q
 
--- nor does it come to reach what it didn't reach, but for what is new and for the files that it opened
+-- the process comes to reach nothing that it didn't reach, but for what is new and the files that it opened
 pub record ReachesNoMore (pid : ℕ) (opens : ℕ → Bool) (old new : MachineState) : Type 0 where
   pub pipes : (pipe : ℕ) → pipe < length old.pipes → reaches old.descriptors pid (is_end old.descriptions pipe) ≡ false → reaches new.descriptors pid (is_end new.descriptions pipe) ≡ false
   pub files : (node : ℕ) → reaches old.descriptors pid (is_file old.descriptions node) ≡ false → opens node ≡ false → reaches new.descriptors pid (is_file new.descriptions node) ≡ false
@@ -60,18 +60,18 @@ abbrev pub RequestsReachNoMore : Type 0
 RequestsReachNoMore =
     (s : KernelState) (pid : ℕ) (r : Request) → ReachesNoMore pid (opens s.machine r) s.machine (after_request s pid r).machine
 
--- the terminal has part in a request only where the process reaches it
+-- a request changes the terminal only where the process reaches it
 abbrev pub TerminalIsReached : Type 0
 TerminalIsReached =
     (s : KernelState) (pid : ℕ) (r : Request) → reaches s.machine.descriptors pid (is_screen s.machine.descriptions) ≡ false → (after_request s pid r).terminal ≡ s.terminal
 
 -- ---- what one process alone has
--- each descriptor of a description that passes is of this process
+-- each descriptor that refers to a description that passes the test is of this process
 abbrev pub IsOwned : ℕ → (ℕ → Bool) → List Descriptor → Type 0
 IsOwned pid test [] = Unit {0}
 IsOwned pid test (d ∷ ds) = (test d.description ≡ true → d.pid ≡ pid) × IsOwned pid test ds
 
--- what one process alone has, no request of another reaches, and no other comes to have
+-- what one process alone has stays its own after a request of another process, which doesn't reach it
 abbrev pub OwnedStaysOwned : Type 0
 OwnedStaysOwned =
     (s : KernelState) (pid q : ℕ) (r : Request) (test : ℕ → Bool) → q ≢ pid → ((k : ℕ) → test k ≡ true → k < length s.machine.descriptions) → IsOwned pid test s.machine.descriptors
@@ -89,7 +89,7 @@ pub record OnlyGrows (old new : MachineState) : Type 0 where
   pub files : length old.files.nodes ≤ length new.files.nodes
   pub paths : (path : List ℕ) (node : ℕ) → get old.files.paths path ≡ Some node → get new.files.paths path ≡ Some node
 
--- what a description is of never changes, a path goes on to name what it names, and numbers only grow
+-- the target of a description never changes, a path goes on to name what it names, and numbers only grow
 abbrev pub RequestsOnlyGrow : Type 0
 RequestsOnlyGrow = (s : KernelState) (pid : ℕ) (r : Request) → OnlyGrows s.machine (after_request s pid r).machine
 
@@ -110,7 +110,8 @@ abbrev pub ListsReachNoMore : Type 0
 ListsReachNoMore =
     (s : KernelState) (pid : ℕ) (rs : List Request) → ReachesNoMore pid (opens_any s pid rs) s.machine (after_requests s pid rs).machine
 
--- the terminal has part in a list only where the process reaches it at first, or opens what is the terminal
+-- a list of requests changes the terminal only where the process reaches it at first, or opens a node that is
+-- the terminal
 abbrev pub ListsLeaveTheTerminal : Type 0
 ListsLeaveTheTerminal =
     (s : KernelState) (pid : ℕ) (rs : List Request) → reaches s.machine.descriptors pid (is_screen s.machine.descriptions) ≡ false → ((node : ℕ) → slice_get s.machine.files.nodes node ≡ Some Terminal → opens_any s pid rs node ≡ false)

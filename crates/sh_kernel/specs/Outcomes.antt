@@ -6,7 +6,7 @@ use Rattle.sh_kernel_descriptors.specs.declared.fault.KernelFault.{KernelFault}
 use Rattle.sh_kernel_descriptors.specs.declared.fault.KernelFault.TheVariants.{NoMemory}
 use Rattle.sh_kernel.specs.State.{KernelKept, KernelState, StandsAt}
 
--- the answer is that of the call, and what is kept then is that of the state after it
+-- the answer is the call's, and what is kept then is that of the state after the call
 abbrev pub Gives : {A : Type 0} → Result A KernelFault → KernelKept → Done KernelState A → Type 0
 Gives result new d = (d.answer ≡ result) × StandsAt new d.after
 
@@ -15,7 +15,7 @@ abbrev pub GivesOrLacks : {A : Type 0} → Result A KernelFault → KernelKept �
 GivesOrLacks (Ok a) new s d = Gives (Ok a) new d
 GivesOrLacks (Err fault) new s d = (fault ≢ NoMemory no_memory → Gives (Err fault) new d) × (fault ≡ NoMemory no_memory → StandsAt new s)
 
--- the same of a read: its bytes stand at the front of the buffer, which is else as it was
+-- the same of a read: its bytes are at the front of the buffer, and the rest of the buffer is as it was
 abbrev pub GivesRead : Result ℕ KernelFault → List ℕ → List ℕ → KernelKept → Done KernelState (List ℕ) → Type 0
 GivesRead (Ok n) buf buf' new d = (d.answer ≡ Ok (take n buf')) × (drop n buf' ≡ drop n buf) × StandsAt new d.after
 GivesRead (Err fault) buf buf' new d = (d.answer ≡ Err fault) × (buf' ≡ buf) × StandsAt new d.after

@@ -1,4 +1,4 @@
--- What a process reaches: that to which its descriptors refer, also those that are set aside.
+-- What a process reaches: what its descriptors refer to, those that are set aside too.
 use Rattle.std.specs.Prelude.{ℕ, ◌==◌, ◌&&◌, ◌||◌, List, Bool, false, slice_get}
 use Rattle.std.specs.List.{list_any}
 use Rattle.std.specs.Option.{option_map_or}
@@ -9,7 +9,7 @@ use Rattle.sh_kernel_descriptors.specs.declared.description.Description.{Descrip
 use Rattle.sh_kernel_descriptors.specs.declared.description.Target.{Target}
 use Rattle.sh_kernel_descriptors.specs.declared.description.Target.TheVariants.{File, Terminal, Null, ReadEnd, WriteEnd}
 
--- a descriptor of the process refers to a description whose number passes
+-- a descriptor of the process refers to a description whose number passes the test
 abbrev pub reaches : List Descriptor → ℕ → (ℕ → Bool) → Bool
 reaches ds pid test = list_any (λ d. (d.pid == pid) && test d.description) ds
 

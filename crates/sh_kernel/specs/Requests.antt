@@ -1,15 +1,15 @@
 -- What a process may ask of the kernel. Nothing else changes a kernel's state.
 use Rattle.std.specs.Prelude.{ℕ, List, [], ◌∷◌, Bool}
 use Rattle.sh_files.specs.declared.opening.Opening.{Opening}
-use Rattle.sh_kernel_descriptors.specs.declared.descriptor.Name.{Name}
+use Rattle.sh_kernel_descriptors.specs.declared.descriptor.DescriptorRef.{DescriptorRef}
 use Rattle.sh_kernel.specs.State.{KernelState}
 use Rattle.sh_kernel.specs.Calls.{close_call, dup_call, end_call, fork_call, here_call, open_call, pipe_call, put_back_call, read_call, set_aside_call, start_call, write_call}
 
 pub data Request : Type 0 where
-  Read : (name : Name) → (count : ℕ) → Request
+  Read : (name : DescriptorRef) → (count : ℕ) → Request
   Write : (number : ℕ) → (bytes : List ℕ) → Request
-  Close : (name : Name) → Request
-  Duplicate : (name : Name) → (to : ℕ) → Request
+  Close : (name : DescriptorRef) → Request
+  Duplicate : (name : DescriptorRef) → (to : ℕ) → Request
   MakePipe : (from to : ℕ) → Request
   Open : (directory path : List ℕ) → (how : Opening) → (append : Bool) → (number : ℕ) → Request
   Here : (bytes : List ℕ) → (number : ℕ) → Request

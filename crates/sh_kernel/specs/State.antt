@@ -12,7 +12,7 @@ pub record KernelState : Type 0 where
   pub terminal : List Happening
   pub foreground : ℕ
 
--- what a kernel keeps of it
+-- what a kernel keeps of its state
 pub record KernelKept : Type 0 where
   pub machine : MachineState
   pub terminal : tty.TtyKept

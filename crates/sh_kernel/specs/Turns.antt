@@ -4,7 +4,7 @@ use Rattle.std.specs.Option.{option_map_or}
 use Rattle.sh_kernel_descriptors.specs.Machine.{wait_answer}
 use Rattle.sh_kernel_descriptors.specs.Processes.{status_at}
 use Rattle.sh_kernel_descriptors.specs.Waiting.{is_running, waits}
-use Rattle.sh_kernel_descriptors.specs.declared.descriptor.Name.{Name}
+use Rattle.sh_kernel_descriptors.specs.declared.descriptor.DescriptorRef.{DescriptorRef}
 use Rattle.sh_kernel.specs.State.{KernelState}
 use Rattle.sh_kernel.specs.Calls.{read_call, write_call}
 use Rattle.sh_kernel.specs.declared.next.Next.{Next}
@@ -13,7 +13,7 @@ use Rattle.sh_kernel.specs.declared.next.Next.TheVariants as next
 -- what a process does in its next turn: it reads, it writes so many bytes, it waits until these have ended, or it does
 -- what can always be done
 pub data Action : Type 0 where
-  ReadsBy : (name : Name) → Action
+  ReadsBy : (name : DescriptorRef) → Action
   WritesBy : (number count : ℕ) → Action
   WaitsFor : (children : List ℕ) → Action
   Acts : Action
@@ -24,7 +24,8 @@ action_of (next.Write number count) = WritesBy number count
 action_of (next.Wait children) = WaitsFor children.now
 action_of next.Other = Acts
 
--- the call of the action would wait; how many bytes it would read doesn't matter, nor which it would write
+-- the action's call would wait; it doesn't matter how many bytes it would read, nor which bytes it would
+-- write
 abbrev pub action_waits : KernelState → ℕ → Action → Bool
 action_waits s pid (ReadsBy name) = waits (read_call s pid name 1).answer
 action_waits s pid (WritesBy number count) = waits (write_call s pid number (replicate count 0)).answer

@@ -8,7 +8,7 @@ ghost use Rattle.sh_tty.specs.Terminal.{Extends};
 use crate::machine::Machine;
 use crate::next::Next;
 use sh_files::{Files, Opening};
-use sh_kernel_descriptors::{FIRST_PID, KernelFault, Name, Status};
+use sh_kernel_descriptors::{DescriptorRef, FIRST_PID, KernelFault, Status};
 use sh_tty::{Tty, TtyFault};
 use std::alloc::{AllocError, Global};
 use std::marker::Model;
@@ -16,11 +16,12 @@ use std::marker::Model;
 /// Processes, what they have open, files and one terminal.
 ///
 /// Processes, open file descriptions and pipes have numbers that go up by creation, processes from
-/// [`FIRST_PID`](crate::FIRST_PID); none is used again. A process calls a descriptor by its number, or, where it set it
-/// aside, by that of its description ([`Name`]).
+/// [`FIRST_PID`](crate::FIRST_PID); none is used again. A process names a descriptor by its number or, where
+/// it has set it aside, by the number of its description ([`DescriptorRef`]).
 ///
-/// A kernel stands at a state, and each call is one change of that state by the process that makes it. After each
-/// refusal it stands where it stood before, but for [`KernelFault::BrokenPipe`], after which the process has ended.
+/// A kernel stands at a state, and each call is one change of that state by the process that makes the call.
+/// After each refusal the kernel stands at the same state as before, but for [`KernelFault::BrokenPipe`],
+/// after which the process has ended.
 #[derive(Drop)]
 pub struct Kernel {
     machine: Machine,
@@ -42,7 +43,8 @@ impl Model for Kernel {
 /// Writes to the terminal.
 #[tactic(auto, using(crate::proofs::Extending::unchanged, crate::proofs::Extending::longer))]
 fn show(terminal: &mut Tty, bytes: &[u8]) -> Result<usize, KernelFault>
-    ensures stands { (hs : List Happening) → tty.StandsAt terminal.old hs → OnOk result (tty.StandsAt terminal.new (Happening.Wrote bytes.now ∷ hs)) }
+    ensures stands { (hs : List Happening) → tty.StandsAt terminal.old hs
+        → OnOk result (tty.StandsAt terminal.new (Happening.Wrote bytes.now ∷ hs)) }
     ensures foreground { terminal.new.foreground ≡ terminal.old.foreground }
     ensures whole { IfOk result (λ count. count ≡ length bytes.now) }
     ensures memory { IfErr result (λ fault. fault ≡ KernelFault.NoMemory no_memory) }
@@ -80,35 +82,40 @@ impl Kernel {
         })
     }
 
-    /// Closes a descriptor (XSH close); a pipe goes with the last descriptor of its ends. `BadDescriptor` where the
-    /// process has none of this name. Takes no memory.
-    pub fn close(&mut self, pid: u32, name: Name) -> Result<(), KernelFault>
-        ensures state { (s : KernelState) → StandsAt self.old s → Gives result self.new (close_call s pid name) }
+    /// Closes a descriptor (XSH close); a pipe goes with the last descriptor that refers to one of its ends.
+    /// `BadDescriptor` where the process has none of this name. Takes no memory.
+    pub fn close(&mut self, pid: u32, name: DescriptorRef) -> Result<(), KernelFault>
+        ensures state { (s : KernelState) → StandsAt self.old s
+            → Gives result self.new (close_call s pid name) }
         ensures terminal { self.new.terminal ≡ self.old.terminal }
     {
         self.machine.close(pid, name)
     }
 
-    /// Makes a number refer to the description to which a descriptor refers (XSH dup2); what it referred to is closed
-    /// first. A number that refers to it already stays as it is.
+    /// Makes a number refer to the description to which a descriptor refers (XSH dup2); what the number
+    /// referred to is closed first. A number that refers to that description already stays as it is.
     ///
     /// `BadDescriptor` where the process has no descriptor of this name; `TooManyDescriptors` where the number is not
     /// below [`MAX_DESCRIPTORS`](crate::MAX_DESCRIPTORS); else `NoMemory`.
-    pub fn dup(&mut self, pid: u32, name: Name, to: u8) -> Result<(), KernelFault>
-        ensures state { (s : KernelState) → StandsAt self.old s → GivesOrLacks result self.new s (dup_call s pid name to) }
-        ensures room { (s : KernelState) → StandsAt self.old s → LacksWhereGiven result (dup_call s pid name to) }
+    pub fn dup(&mut self, pid: u32, name: DescriptorRef, to: u8) -> Result<(), KernelFault>
+        ensures state { (s : KernelState) → StandsAt self.old s
+            → GivesOrLacks result self.new s (dup_call s pid name to) }
+        ensures room { (s : KernelState) → StandsAt self.old s
+            → LacksWhereGiven result (dup_call s pid name to) }
         ensures terminal { self.new.terminal ≡ self.old.terminal }
     {
         self.machine.dup(pid, name, to)
     }
 
-    /// Makes a pipe (XSH pipe) with room for [`CAPACITY`](crate::CAPACITY) bytes. One number then refers to the end from
-    /// which it is read, and the other to that to which it is written; what they referred to is closed.
+    /// Makes a pipe (XSH pipe) with room for [`CAPACITY`](crate::CAPACITY) bytes. `from` then refers to the
+    /// end to read from, and `to` to the end to write to; what these numbers referred to is closed.
     ///
     /// `NoProcess` where no such process lives; `TooManyDescriptors` where a number is too high; else `NoMemory`.
     pub fn pipe(&mut self, pid: u32, from: u8, to: u8) -> Result<(), KernelFault>
-        ensures state { (s : KernelState) → StandsAt self.old s → GivesOrLacks result self.new s (pipe_call s pid from to) }
-        ensures room { (s : KernelState) → StandsAt self.old s → LacksWhereGiven result (pipe_call s pid from to) }
+        ensures state { (s : KernelState) → StandsAt self.old s
+            → GivesOrLacks result self.new s (pipe_call s pid from to) }
+        ensures room { (s : KernelState) → StandsAt self.old s
+            → LacksWhereGiven result (pipe_call s pid from to) }
         ensures terminal { self.new.terminal ≡ self.old.terminal }
     {
         self.machine.pipe(pid, from, to)
@@ -129,7 +136,9 @@ impl Kernel {
         append: bool,
         number: u8,
     ) -> Result<(), KernelFault>
-        ensures state { (s : KernelState) → StandsAt self.old s → GivesOrLacks result self.new s (open_call s pid directory.now path.now how append number) }
+        ensures state { (s : KernelState) → StandsAt self.old s
+            → GivesOrLacks result self.new s
+            (open_call s pid directory.now path.now how append number) }
         ensures terminal { self.new.terminal ≡ self.old.terminal }
     {
         self.machine.open(pid, directory, path, how, append, number)
@@ -141,52 +150,59 @@ impl Kernel {
     /// `NoProcess` where no such process lives; `TooManyDescriptors` where the number is too high; `File` with `TooLarge`
     /// where there are more than [`MAX_LENGTH`](sh_files::MAX_LENGTH) bytes; else `NoMemory`.
     pub fn here_document(&mut self, pid: u32, bytes: &[u8], number: u8) -> Result<(), KernelFault>
-        ensures state { (s : KernelState) → StandsAt self.old s → GivesOrLacks result self.new s (here_call s pid bytes.now number) }
-        ensures room { (s : KernelState) → StandsAt self.old s → LacksWhereGiven result (here_call s pid bytes.now number) }
+        ensures state { (s : KernelState) → StandsAt self.old s
+            → GivesOrLacks result self.new s (here_call s pid bytes.now number) }
+        ensures room { (s : KernelState) → StandsAt self.old s
+            → LacksWhereGiven result (here_call s pid bytes.now number) }
         ensures terminal { self.new.terminal ≡ self.old.terminal }
     {
         self.machine.here_document(pid, bytes, number)
     }
 
-    /// Sets a descriptor aside: it loses its number, and is called by that of its description, which this answers. A
-    /// fork doesn't copy it, and a program that the process starts doesn't have it.
+    /// Sets a descriptor aside: it loses its number, and is named by the number of its description, which is
+    /// the answer. A fork doesn't copy it, and a program that the process starts doesn't have it.
     ///
     /// `BadDescriptor` where the number refers to nothing. Takes no memory.
     pub fn set_aside(&mut self, pid: u32, number: u8) -> Result<usize, KernelFault>
-        ensures state { (s : KernelState) → StandsAt self.old s → Gives result self.new (set_aside_call s pid number) }
+        ensures state { (s : KernelState) → StandsAt self.old s
+            → Gives result self.new (set_aside_call s pid number) }
         ensures terminal { self.new.terminal ≡ self.old.terminal }
     {
         self.machine.set_aside(pid, number)
     }
 
-    /// Gives a descriptor that was set aside a number again; what that referred to is closed.
+    /// Gives a descriptor that was set aside a number again; what the number referred to is closed.
     ///
     /// `BadDescriptor` where the process has set aside no descriptor of this description; `TooManyDescriptors` where the
     /// number is too high. Takes no memory.
     pub fn put_back(&mut self, pid: u32, aside: usize, number: u8) -> Result<(), KernelFault>
-        ensures state { (s : KernelState) → StandsAt self.old s → Gives result self.new (put_back_call s pid aside number) }
+        ensures state { (s : KernelState) → StandsAt self.old s
+            → Gives result self.new (put_back_call s pid aside number) }
         ensures terminal { self.new.terminal ≡ self.old.terminal }
     {
         self.machine.put_back(pid, aside, number)
     }
 
-    /// Makes a process (XSH fork), whose number this answers. It has this process's descriptors, but for those that are
-    /// set aside; both refer to the same descriptions, and so share their offsets.
+    /// Makes a process (XSH fork), and answers its number. The new process has the descriptors of `pid`, but
+    /// for those that are set aside. They refer to the same descriptions, so the processes share offsets.
     ///
     /// `NoProcess` where no such process lives; `TooManyProcesses` where [`MAX_LIVE`](crate::MAX_LIVE) live already, or
     /// the number would be above [`MAX_PID`](crate::MAX_PID); else `NoMemory`.
     pub fn fork(&mut self, pid: u32) -> Result<u32, KernelFault>
-        ensures state { (s : KernelState) → StandsAt self.old s → GivesOrLacks result self.new s (fork_call s pid) }
-        ensures room { (s : KernelState) → StandsAt self.old s → LacksWhereGiven result (fork_call s pid) }
+        ensures state { (s : KernelState) → StandsAt self.old s
+            → GivesOrLacks result self.new s (fork_call s pid) }
+        ensures room { (s : KernelState) → StandsAt self.old s
+            → LacksWhereGiven result (fork_call s pid) }
         ensures terminal { self.new.terminal ≡ self.old.terminal }
     {
         self.machine.fork(pid)
     }
 
-    /// Ends a process by itself with a status (XSH _exit): all its descriptors are closed, and 1 is the parent of its
-    /// children. `NoProcess` where no such process lives. Takes no memory.
+    /// Ends a process with an exit status, by its own call (XSH _exit): all its descriptors are closed, and
+    /// its children have the parent 1 from then on. `NoProcess` where no such process lives. Takes no memory.
     pub fn end(&mut self, pid: u32, status: u8) -> Result<(), KernelFault>
-        ensures state { (s : KernelState) → StandsAt self.old s → Gives result self.new (end_call s pid status) }
+        ensures state { (s : KernelState) → StandsAt self.old s
+            → Gives result self.new (end_call s pid status) }
         ensures terminal { self.new.terminal ≡ self.old.terminal }
     {
         self.machine.end(pid, status)
@@ -195,20 +211,28 @@ impl Kernel {
     /// A process starts a program: what it has set aside is closed (XSH exec, `FD_CLOEXEC`). `NoProcess` where no such
     /// process lives. Takes no memory.
     pub fn start_program(&mut self, pid: u32) -> Result<(), KernelFault>
-        ensures state { (s : KernelState) → StandsAt self.old s → Gives result self.new (start_call s pid) }
+        ensures state { (s : KernelState) → StandsAt self.old s
+            → Gives result self.new (start_call s pid) }
         ensures terminal { self.new.terminal ≡ self.old.terminal }
     {
         self.machine.start_program(pid)
     }
 
-    /// Reads up to the buffer's length into its front, and says how many bytes these are; 0 is the end of the file, or
-    /// an end of file that was typed (XSH read). A file's description goes on by as many bytes. From the terminal one
-    /// line is read at most.
+    /// Reads up to the buffer's length into its front, and says how many bytes these are; 0 is the end of the
+    /// file, or an end of file that was typed (XSH read). The offset of a file's description moves by as many
+    /// bytes. From the terminal one line is read at most.
     ///
-    /// `BadDescriptor` where the process has no such descriptor, or it isn't open for reading; `WouldWait` at an empty
-    /// pipe that has a writer, and at a terminal that handed nothing over. Takes no memory.
-    pub fn read(&mut self, pid: u32, name: Name, buf: &mut [u8]) -> Result<usize, KernelFault>
-        ensures state { (s : KernelState) → StandsAt self.old s → GivesRead result buf.old buf.new self.new (read_call s pid name (length buf.old)) }
+    /// `BadDescriptor` where the process has no such descriptor, or it isn't open for reading; `WouldWait` at
+    /// an empty pipe that has a writer, and at a terminal without a line that was handed over. Takes no
+    /// memory.
+    pub fn read(
+        &mut self,
+        pid: u32,
+        name: DescriptorRef,
+        buf: &mut [u8],
+    ) -> Result<usize, KernelFault>
+        ensures state { (s : KernelState) → StandsAt self.old s
+            → GivesRead result buf.old buf.new self.new (read_call s pid name (length buf.old)) }
         ensures terminal { self.new.terminal.bytes ≡ self.old.terminal.bytes }
     {
         if self.machine.reads_terminal(pid, name) {
@@ -221,51 +245,65 @@ impl Kernel {
         self.machine.read(pid, name, buf)
     }
 
-    /// Writes what goes at once, and says how much that is: all to a file, the null device or the terminal, and to a pipe
-    /// what its rule says (XSH write): at most `PIPE_BUF` bytes go whole or wait, of more as many go as there is room
-    /// for, at least one. No bytes have no result.
+    /// Writes what can be written at once, and says how many bytes that is (XSH write). To a file, the null
+    /// device or the terminal all bytes go. To a pipe at most `PIPE_BUF` bytes go whole or wait; of a longer
+    /// write as many go as there is room for, at least one. A write of no bytes answers 0 and has no other
+    /// result.
     ///
-    /// `BadDescriptor` where the process has no such descriptor, or it isn't open for writing; `WouldWait` at a pipe
-    /// without room; `BrokenPipe` at one without a reader: the process was sent SIGPIPE, which ended it; `File` with
-    /// `TooLarge` where a file would be too long; else `NoMemory`.
+    /// `BadDescriptor` where the process has no such descriptor, or it isn't open for writing; `WouldWait` at
+    /// a pipe without room; `BrokenPipe` at a pipe without a reader: the process was sent SIGPIPE, which
+    /// ended it; `File` with `TooLarge` where a file would be too long; else `NoMemory`.
     pub fn write(&mut self, pid: u32, number: u8, bytes: &[u8]) -> Result<usize, KernelFault>
-        ensures state { (s : KernelState) → StandsAt self.old s → GivesOrLacks result self.new s (write_call s pid number bytes.now) }
-        ensures room { (s : KernelState) → StandsAt self.old s → LacksWhereGiven result (write_call s pid number bytes.now) }
+        ensures state { (s : KernelState) → StandsAt self.old s
+            → GivesOrLacks result self.new s (write_call s pid number bytes.now) }
+        ensures room { (s : KernelState) → StandsAt self.old s
+            → LacksWhereGiven result (write_call s pid number bytes.now) }
         ensures terminal { Extends self.old.terminal.bytes self.new.terminal.bytes }
     {
-        if self.machine.writes_terminal(pid, Name::Number(number)) {
+        if self
+            .machine
+            .writes_terminal(pid, DescriptorRef::Number(number))
+        {
             return show(&mut self.terminal, bytes);
         }
         self.machine.write(pid, number, bytes)
     }
 
-    /// Waits until all these children of a process have ended (XSH waitpid); how each ended, [`Kernel::status`] says.
-    /// `NoProcess` where one of them is no child of it; `WouldWait` where one lives. Takes no memory.
+    /// Succeeds where all these children of a process have ended (XSH waitpid); [`Kernel::status`] tells how
+    /// each ended. `NoProcess` where one of them is no child of the process; `WouldWait` where one lives.
+    /// Takes no memory.
     pub fn wait(&self, pid: u32, awaited: &[u32]) -> Result<(), KernelFault>
-        ensures { (s : KernelState) → StandsAt self.now s → result ≡ wait_answer s.machine.processes pid awaited.now }
+        ensures { (s : KernelState) → StandsAt self.now s
+            → result ≡ wait_answer s.machine.processes pid awaited.now }
     {
         self.machine.wait(pid, awaited)
     }
 
-    /// Where a process stands, of each that ever was. Takes no memory.
+    /// Whether a process runs, is stopped or has ended; `None` where no process ever had this number. Takes
+    /// no memory.
     pub fn status(&self, pid: u32) -> Option<Status>
-        ensures { (s : KernelState) → StandsAt self.now s → result ≡ status_at s.machine.processes pid }
+        ensures { (s : KernelState) → StandsAt self.now s
+            → result ≡ status_at s.machine.processes pid }
     {
         self.machine.status(pid)
     }
 
-    /// The number of a process's parent, of each that ever was (XSH getppid): 1 where that has ended. Takes no memory.
+    /// The number of a process's parent (XSH getppid): 1 where the process that made it has ended; `None`
+    /// where no process ever had this number. Takes no memory.
     pub fn parent(&self, pid: u32) -> Option<u32>
-        ensures { (s : KernelState) → StandsAt self.now s → result ≡ parent_at s.machine.processes pid }
+        ensures { (s : KernelState) → StandsAt self.now s
+            → result ≡ parent_at s.machine.processes pid }
     {
         self.machine.parent(pid)
     }
 
-    /// Whether the descriptor of a number refers to the terminal (XSH isatty); not where there is none. Takes no memory.
+    /// Whether the descriptor of a number refers to the terminal (XSH isatty); `false` where there is no such
+    /// descriptor. Takes no memory.
     pub fn is_terminal(&self, pid: u32, number: u8) -> bool
-        ensures { (s : KernelState) → StandsAt self.now s → result ≡ is_terminal s.machine pid (Name.Number number) }
+        ensures { (s : KernelState) → StandsAt self.now s → result ≡ is_terminal s.machine pid
+            (DescriptorRef.Number number) }
     {
-        self.machine.is_terminal(pid, Name::Number(number))
+        self.machine.is_terminal(pid, DescriptorRef::Number(number))
     }
 
     /// The terminal's bytes: what was written to it, and the echo of the keys. Takes no memory.
@@ -284,8 +322,9 @@ impl Kernel {
     }
 
     /// Whether a read would wait.
-    fn read_waits(&self, pid: u32, name: Name) -> bool
-        ensures { (s : KernelState) → StandsAt self.now s → (n : ℕ) → result ≡ waits (read_call s pid name n).answer }
+    fn read_waits(&self, pid: u32, name: DescriptorRef) -> bool
+        ensures { (s : KernelState) → StandsAt self.now s → (n : ℕ)
+            → result ≡ waits (read_call s pid name n).answer }
     {
         if self.machine.reads_terminal(pid, name) {
             return !self.terminal.is_readable();
@@ -295,9 +334,13 @@ impl Kernel {
 
     /// Whether a write of so many bytes would wait.
     fn write_waits(&self, pid: u32, number: u8, count: usize) -> bool
-        ensures { (s : KernelState) → StandsAt self.now s → (bytes : List ℕ) → length bytes ≡ count → result ≡ waits (write_call s pid number bytes).answer }
+        ensures { (s : KernelState) → StandsAt self.now s → (bytes : List ℕ) → length bytes ≡ count
+            → result ≡ waits (write_call s pid number bytes).answer }
     {
-        if self.machine.writes_terminal(pid, Name::Number(number)) {
+        if self
+            .machine
+            .writes_terminal(pid, DescriptorRef::Number(number))
+        {
             return false;
         }
         self.machine.write_waits(pid, number, count)
@@ -305,7 +348,8 @@ impl Kernel {
 
     /// Whether what a process is about to do would wait.
     fn next_waits(&self, pid: u32, next: Next<'_>) -> bool
-        ensures { (s : KernelState) → StandsAt self.now s → result ≡ action_waits s pid (action_of next.entry) }
+        ensures { (s : KernelState) → StandsAt self.now s
+            → result ≡ action_waits s pid (action_of next.entry) }
     {
         match next {
             Next::Read(name) => self.read_waits(pid, name),
@@ -317,7 +361,8 @@ impl Kernel {
 
     /// Whether a wait would wait.
     fn wait_waits(&self, pid: u32, awaited: &[u32]) -> bool
-        ensures { (s : KernelState) → StandsAt self.now s → result ≡ waits (wait_answer s.machine.processes pid awaited.now) }
+        ensures { (s : KernelState) → StandsAt self.now s
+            → result ≡ waits (wait_answer s.machine.processes pid awaited.now) }
     {
         match self.wait(pid, awaited) {
             Ok(()) => false,
@@ -329,7 +374,8 @@ impl Kernel {
     /// `WouldWait`. Takes no memory.
     #[tactic(auto, unfolding(crate::specs::Turns::can_do))]
     pub fn runnable(&self, pid: u32, next: Next<'_>) -> bool
-        ensures { (s : KernelState) → StandsAt self.now s → result ≡ can_do s pid (action_of next.entry) }
+        ensures { (s : KernelState) → StandsAt self.now s
+            → result ≡ can_do s pid (action_of next.entry) }
     {
         self.machine.is_running(pid) && !self.next_waits(pid, next)
     }

@@ -1,23 +1,24 @@
 //! Laws of requests, over all states.
 ghost use Rattle.sh_kernel.specs.Laws.{ListsChangeOnlyReached, ListsLeaveOwned, ListsLeaveTheTerminal, ListsOnlyGrow, ListsOnlyGrowTheTerminal, ListsReachNoMore, OwnedStaysOwned, RequestsChangeOnlyReached, RequestsOnlyGrow, RequestsReachNoMore, TerminalIsReached, TerminalOnlyGrows};
 
-/// Law: a request changes no pipe and no file but those to which its process's descriptors refer or which it opens, no
-/// description but those, and neither the descriptors nor the status of another process that was there. So do requests
-/// of one process one after another.
+/// Law: a request changes only pipes, files and descriptions to which its process's descriptors refer, and
+/// files that it opens. It changes neither the descriptors nor the status of another process that was there.
+/// The same holds of a list of requests of one process.
 pub fn requests_change_what_is_reached()
     ensures one { RequestsChangeOnlyReached }
     ensures list { ListsChangeOnlyReached }
 {}
 
-/// Law: by its own request a process comes to reach no pipe, file or description that was there and that it didn't
-/// reach, but for the file that it opens. So it does by requests one after another, but for the files that they open.
+/// Law: by its own request a process comes to reach no pipe, file or description that was there and that it
+/// didn't reach, but for the file that it opens. The same holds of a list of its requests, but for the files
+/// that they open.
 pub fn requests_reach_no_more()
     ensures one { RequestsReachNoMore }
     ensures list { ListsReachNoMore }
 {}
 
-/// Law: nothing happens to the terminal in a request of a process of which no descriptor refers to it, nor in a list of
-/// such requests that doesn't open it.
+/// Law: where no descriptor of a process refers to the terminal, a request of that process does nothing to
+/// the terminal. Nor does a list of its requests that doesn't open the terminal.
 pub fn the_terminal_is_reached()
     ensures one { TerminalIsReached }
     ensures list { ListsLeaveTheTerminal }
@@ -29,15 +30,16 @@ pub fn the_terminal_only_grows()
     ensures list { ListsOnlyGrowTheTerminal }
 {}
 
-/// Law: a description to which descriptors of one process alone refer stays that process's in each request of another,
-/// and in a list of them, and the other doesn't reach it.
+/// Law: where only descriptors of one process refer to a description, that stays so after a request, or a
+/// list of requests, of another process; and the other process doesn't reach the description.
 pub fn owned_stays_owned()
     ensures one { OwnedStaysOwned }
     ensures list { ListsLeaveOwned }
 {}
 
-/// Law: after a request, and after a list of them, each description is of what it was of, each path names what it named,
-/// and each list is as long as it was at least.
+/// Law: after a request, and after a list of them, each description is still of the same target, and each
+/// path names what it named. The lists of processes, descriptions, pipes and nodes are at least as long as
+/// they were.
 pub fn numbers_only_grow()
     ensures one { RequestsOnlyGrow }
     ensures list { ListsOnlyGrow }

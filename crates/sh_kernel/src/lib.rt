@@ -13,5 +13,5 @@ pub use laws::{
 };
 pub use next::Next;
 pub use sh_kernel_descriptors::{
-    CAPACITY, FIRST_PID, KernelFault, MAX_DESCRIPTORS, MAX_LIVE, MAX_PID, Name, Status,
+    CAPACITY, DescriptorRef, FIRST_PID, KernelFault, MAX_DESCRIPTORS, MAX_LIVE, MAX_PID, Status,
 };

@@ -5,12 +5,12 @@ ghost use Rattle.std.specs.Prelude.{length, ◌<◌, ◌≢◌, IfErr, IfOk, ℕ
 
 use sh_files::{FileFault, Files, MAX_LENGTH, Opening};
 use sh_kernel_descriptors::{
-    Channel, Closing, Description, Descriptor, FIRST_PID, KernelFault, Name, Process, Status,
-    Target, all_children, all_ended, close, copy_all, description_of, end_of, fault_of_file, find,
-    give_number, has_reader, has_writer, is_allowed, is_description, is_of_terminal, is_running,
-    lives, may_fork, move_to, parent_at, read_file, read_pipe, read_pipe_waits, rename, set_status,
-    status_at, target_of, the_terminal, to_terminal, write_node, write_pipe, write_pipe_waits,
-    write_start,
+    Channel, Closing, Description, Descriptor, DescriptorRef, FIRST_PID, KernelFault, Process,
+    Status, Target, all_children, all_ended, close, copy_all, description_of, end_of,
+    fault_of_file, find, give_number, has_reader, has_writer, is_allowed, is_description,
+    is_of_terminal, is_running, lives, may_fork, move_to, parent_at, read_file, read_pipe,
+    read_pipe_waits, rename, set_status, status_at, target_of, the_terminal, to_terminal,
+    write_node, write_pipe, write_pipe_waits, write_start,
 };
 use std::alloc::{AllocError, Global};
 use std::marker::Model;
@@ -26,9 +26,10 @@ const FOR_READING: Opening = Opening {
 
 /// The processes and what they have open: descriptors, open file descriptions, pipes and files.
 ///
-/// Each list only grows, but for that of the descriptors: what was made keeps its number. Descriptions of the terminal
-/// are kept here, but not its bytes: a read or a write of it is refused with `BadDescriptor`, so ask first
-/// ([`Machine::reads_terminal`], [`Machine::writes_terminal`]). After `NoMemory` a machine is as it was.
+/// Each list but the list of descriptors only grows: what was made keeps its number. Descriptions of the
+/// terminal are kept here, but not its bytes: a read or a write of it is refused with `BadDescriptor`, so ask
+/// first ([`Machine::reads_terminal`], [`Machine::writes_terminal`]). After `NoMemory` a machine is as it
+/// was.
 #[derive(Drop)]
 pub struct Machine {
     alloc: Global,
@@ -63,11 +64,11 @@ impl Machine {
     ghost use Rattle.sh_kernel_descriptors.specs.Opening.{here_call, open_call};
     ghost use Rattle.sh_kernel_descriptors.specs.Processes.{parent_at, status_at};
     ghost use Rattle.sh_kernel_descriptors.specs.Starting.{starting};
-    ghost use Rattle.sh_kernel_descriptors.specs.Terminals.{described, is_terminal, reads_terminal, writes_terminal};
+    ghost use Rattle.sh_kernel_descriptors.specs.Terminals.{open_description, is_terminal, reads_terminal, writes_terminal};
     ghost use Rattle.sh_kernel_descriptors.specs.Outcomes.{Gives, GivesOrLacks, GivesRead, LacksWhereGiven};
     ghost use Rattle.sh_kernel_descriptors.specs.Reading.{read_call, read_target};
     ghost use Rattle.sh_kernel_descriptors.specs.Waiting.{is_running, waits};
-    ghost use Rattle.sh_kernel_descriptors.specs.Writing.{broken, write_call, write_end, write_file, write_target};
+    ghost use Rattle.sh_kernel_descriptors.specs.Writing.{broken_pipe, write_call, write_end, write_file, write_target};
     ghost use Rattle.sh_kernel_descriptors.specs.Writing.{write_node as node_written};
 
     /// The first process, whose descriptors 0, 1 and 2 refer to one description of the terminal, over these files. The
@@ -96,16 +97,18 @@ impl Machine {
         })
     }
 
-    /// Reads up to the buffer's length into its front, and says how many bytes these are; 0 is the end (XSH read). A
-    /// file's description goes on by as many. `BadDescriptor` where the process has no such descriptor, or it isn't
-    /// open for reading or refers to the terminal; `WouldWait` at an empty pipe that has a writer. Takes no memory.
+    /// Reads up to the buffer's length into its front, and says how many bytes these are; 0 is the end (XSH
+    /// read). The offset of a file's description moves by as many. `BadDescriptor` where the process has no
+    /// such descriptor, or it isn't open for reading or refers to the terminal; `WouldWait` at an empty pipe
+    /// that has a writer. Takes no memory.
     pub(crate) fn read(
         &mut self,
         pid: u32,
-        name: Name,
+        name: DescriptorRef,
         buf: &mut [u8],
     ) -> Result<usize, KernelFault>
-        ensures { GivesRead result buf.old buf.new self.new (read_call self.old pid name (length buf.old)) }
+        ensures { GivesRead result buf.old buf.new self.new
+            (read_call self.old pid name (length buf.old)) }
     {
         let Some(k) = find(&self.descriptors, pid, name) else {
             return Err(KernelFault::BadDescriptor);
@@ -135,10 +138,10 @@ impl Machine {
         }
     }
 
-    /// Ends the writer to a pipe without a reader.
+    /// Ends the process that writes to a pipe without a reader (SIGPIPE).
     fn break_pipe(&mut self, pid: u32) -> Result<usize, KernelFault>
         ensures memory { IfErr result (λ fault. fault ≢ KernelFault.NoMemory no_memory) }
-        ensures gives { Gives result self.new (broken self.old pid) }
+        ensures gives { Gives result self.new (broken_pipe self.old pid) }
     {
         close(
             pid,
@@ -162,7 +165,7 @@ impl Machine {
         self.break_pipe(pid)
     }
 
-    /// Writes into a file by a description, which goes on.
+    /// Writes into a file by a description, whose offset moves to the end of what was written.
     fn write_file(
         &mut self,
         k: usize,
@@ -171,8 +174,12 @@ impl Machine {
         bytes: &[u8],
     ) -> Result<usize, KernelFault>
         requires { 0 < length bytes.now }
-        ensures call { GivesOrLacks result self.old self.new (write_file self.old k node bytes.now (node_written self.old.files node start bytes.now)) }
-        ensures room { LacksWhereGiven result (write_file self.old k node bytes.now (node_written self.old.files node start bytes.now)) }
+        ensures call { GivesOrLacks result self.old self.new
+            (write_file self.old k node bytes.now
+            (node_written self.old.files node start bytes.now)) }
+        ensures room { LacksWhereGiven result
+            (write_file self.old k node bytes.now
+            (node_written self.old.files node start bytes.now)) }
     {
         match write_node(&mut self.files, node, start, bytes) {
             Ok(end) => {
@@ -183,17 +190,19 @@ impl Machine {
         }
     }
 
-    /// Writes what goes at once, and says how much that is: all to a file or the null device, and to a pipe what its
-    /// rule says (XSH write). No bytes have no result.
+    /// Writes what can be written at once, and says how many bytes that is: all to a file or the null device,
+    /// and to a pipe as its rule says (XSH write). A write of no bytes answers 0 and has no other result.
     ///
-    /// `BadDescriptor` where the process has no such descriptor, or it isn't open for writing or refers to the terminal;
-    /// `WouldWait` at a pipe without room; `BrokenPipe` at one without a reader, which ends the process with SIGPIPE;
-    /// `File` with `TooLarge` where a file would be too long; else `NoMemory`.
+    /// `BadDescriptor` where the process has no such descriptor, or it isn't open for writing or refers to
+    /// the terminal; `WouldWait` at a pipe without room; `BrokenPipe` at a pipe without a reader: the process
+    /// was sent SIGPIPE, which ended it; `File` with `TooLarge` where a file would be too long; else
+    /// `NoMemory`.
     pub(crate) fn write(&mut self, pid: u32, number: u8, bytes: &[u8]) -> Result<usize, KernelFault>
-        ensures call { GivesOrLacks result self.old self.new (write_call self.old pid number bytes.now) }
+        ensures call { GivesOrLacks result self.old self.new
+            (write_call self.old pid number bytes.now) }
         ensures room { LacksWhereGiven result (write_call self.old pid number bytes.now) }
     {
-        let Some(k) = find(&self.descriptors, pid, Name::Number(number)) else {
+        let Some(k) = find(&self.descriptors, pid, DescriptorRef::Number(number)) else {
             return Err(KernelFault::BadDescriptor);
         };
         let Some(description) = self.descriptions.get(k).copied() else {
@@ -217,9 +226,9 @@ impl Machine {
         }
     }
 
-    /// Closes a descriptor (XSH close); a pipe goes with the last descriptor of its ends. `BadDescriptor` where the
-    /// process has none of this name. Takes no memory.
-    pub(crate) fn close(&mut self, pid: u32, name: Name) -> Result<(), KernelFault>
+    /// Closes a descriptor (XSH close); a pipe goes with the last descriptor that refers to one of its ends.
+    /// `BadDescriptor` where the process has none of this name. Takes no memory.
+    pub(crate) fn close(&mut self, pid: u32, name: DescriptorRef) -> Result<(), KernelFault>
         ensures { Gives result self.new (close_call self.old pid name) }
     {
         let Some(_) = find(&self.descriptors, pid, name) else {
@@ -235,11 +244,11 @@ impl Machine {
         Ok(())
     }
 
-    /// Makes a number refer to the description to which a descriptor refers (XSH dup2); what it referred to is closed
-    /// first. A number that refers to it already stays as it is. `BadDescriptor` where the process has no descriptor of
-    /// this name; `TooManyDescriptors` where the number is not below [`MAX_DESCRIPTORS`](crate::MAX_DESCRIPTORS); else
-    /// `NoMemory`.
-    pub(crate) fn dup(&mut self, pid: u32, name: Name, to: u8) -> Result<(), KernelFault>
+    /// Makes a number refer to the description to which a descriptor refers (XSH dup2); what the number
+    /// referred to is closed first. A number that refers to that description already stays as it is.
+    /// `BadDescriptor` where the process has no descriptor of this name; `TooManyDescriptors` where the
+    /// number is not below [`MAX_DESCRIPTORS`](crate::MAX_DESCRIPTORS); else `NoMemory`.
+    pub(crate) fn dup(&mut self, pid: u32, name: DescriptorRef, to: u8) -> Result<(), KernelFault>
         ensures call { GivesOrLacks result self.old self.new (dup_call self.old pid name to) }
         ensures room { LacksWhereGiven result (dup_call self.old pid name to) }
     {
@@ -249,7 +258,7 @@ impl Machine {
         if !is_allowed(to) {
             return Err(KernelFault::TooManyDescriptors);
         }
-        if is_description(k, find(&self.descriptors, pid, Name::Number(to))) {
+        if is_description(k, find(&self.descriptors, pid, DescriptorRef::Number(to))) {
             return Ok(());
         }
         self.descriptors.reserve(1)?;
@@ -264,9 +273,10 @@ impl Machine {
         Ok(())
     }
 
-    /// Makes a pipe (XSH pipe) with room for [`CAPACITY`](crate::CAPACITY) bytes. One number then refers to the end from
-    /// which it is read, and another to that to which it is written; what they referred to is closed. `NoProcess` where
-    /// no such process lives; `TooManyDescriptors` where a number is too high; else `NoMemory`.
+    /// Makes a pipe (XSH pipe) with room for [`CAPACITY`](crate::CAPACITY) bytes. `from` then refers to the
+    /// end to read from, and `to` to the end to write to; what these numbers referred to is closed.
+    /// `NoProcess` where no such process lives; `TooManyDescriptors` where a number is too high; else
+    /// `NoMemory`.
     pub(crate) fn pipe(&mut self, pid: u32, from: u8, to: u8) -> Result<(), KernelFault>
         ensures call { GivesOrLacks result self.old self.new (pipe_call self.old pid from to) }
         ensures room { LacksWhereGiven result (pipe_call self.old pid from to) }
@@ -321,7 +331,8 @@ impl Machine {
         append: bool,
         number: u8,
     ) -> Result<(), KernelFault>
-        ensures { GivesOrLacks result self.old self.new (open_call self.old pid directory.now path.now how append number) }
+        ensures { GivesOrLacks result self.old self.new
+            (open_call self.old pid directory.now path.now how append number) }
     {
         if !lives(&self.processes, pid) {
             return Err(KernelFault::NoProcess);
@@ -359,7 +370,8 @@ impl Machine {
         bytes: &[u8],
         number: u8,
     ) -> Result<(), KernelFault>
-        ensures call { GivesOrLacks result self.old self.new (here_call self.old pid bytes.now number) }
+        ensures call { GivesOrLacks result self.old self.new
+            (here_call self.old pid bytes.now number) }
         ensures room { LacksWhereGiven result (here_call self.old pid bytes.now number) }
     {
         if !lives(&self.processes, pid) {
@@ -393,26 +405,31 @@ impl Machine {
         Ok(())
     }
 
-    /// Sets a descriptor aside: it loses its number, and is called by that of its description, which this answers. A
-    /// fork doesn't copy it, and a program that the process starts doesn't have it. `BadDescriptor` where the number
-    /// refers to nothing. Takes no memory.
+    /// Sets a descriptor aside: it loses its number, and is named by the number of its description, which is
+    /// the answer. A fork doesn't copy it, and a program that the process starts doesn't have it.
+    /// `BadDescriptor` where the number refers to nothing. Takes no memory.
     pub(crate) fn set_aside(&mut self, pid: u32, number: u8) -> Result<usize, KernelFault>
         ensures { Gives result self.new (set_aside_call self.old pid number) }
     {
-        let Some(k) = find(&self.descriptors, pid, Name::Number(number)) else {
+        let Some(k) = find(&self.descriptors, pid, DescriptorRef::Number(number)) else {
             return Err(KernelFault::BadDescriptor);
         };
-        rename(&mut self.descriptors, pid, Name::Number(number), None);
+        rename(
+            &mut self.descriptors,
+            pid,
+            DescriptorRef::Number(number),
+            None,
+        );
         Ok(k)
     }
 
-    /// Gives a descriptor that was set aside a number again; what that referred to is closed. `BadDescriptor` where the
-    /// process has set aside no descriptor of this description; `TooManyDescriptors` where the number is too high. Takes
-    /// no memory.
+    /// Gives a descriptor that was set aside a number again; what the number referred to is closed.
+    /// `BadDescriptor` where the process has set aside no descriptor of this description;
+    /// `TooManyDescriptors` where the number is too high. Takes no memory.
     pub(crate) fn put_back(&mut self, pid: u32, aside: usize, number: u8) -> Result<(), KernelFault>
         ensures { Gives result self.new (put_back_call self.old pid aside number) }
     {
-        let Some(_) = find(&self.descriptors, pid, Name::Aside(aside)) else {
+        let Some(_) = find(&self.descriptors, pid, DescriptorRef::Aside(aside)) else {
             return Err(KernelFault::BadDescriptor);
         };
         if !is_allowed(number) {
@@ -420,19 +437,24 @@ impl Machine {
         }
         close(
             pid,
-            Closing::Named(Name::Number(number)),
+            Closing::Named(DescriptorRef::Number(number)),
             &mut self.descriptors,
             &self.descriptions,
             &mut self.pipes,
         );
-        rename(&mut self.descriptors, pid, Name::Aside(aside), Some(number));
+        rename(
+            &mut self.descriptors,
+            pid,
+            DescriptorRef::Aside(aside),
+            Some(number),
+        );
         Ok(())
     }
 
-    /// Makes a process (XSH fork), whose number this answers. It has this process's descriptors, but for those that are
-    /// set aside; both refer to the same descriptions, and so share offsets. `NoProcess` where no such process lives;
-    /// `TooManyProcesses` where [`MAX_LIVE`](crate::MAX_LIVE) live already, or the number would be above
-    /// [`MAX_PID`](crate::MAX_PID); else `NoMemory`.
+    /// Makes a process (XSH fork), and answers its number. The new process has the descriptors of `pid`, but
+    /// for those that are set aside. They refer to the same descriptions, so the processes share offsets.
+    /// `NoProcess` where no such process lives; `TooManyProcesses` where [`MAX_LIVE`](crate::MAX_LIVE) live
+    /// already, or the number would be above [`MAX_PID`](crate::MAX_PID); else `NoMemory`.
     pub(crate) fn fork(&mut self, pid: u32) -> Result<u32, KernelFault>
         ensures call { GivesOrLacks result self.old self.new (fork_call self.old pid) }
         ensures room { LacksWhereGiven result (fork_call self.old pid) }
@@ -453,8 +475,8 @@ impl Machine {
         Ok(child)
     }
 
-    /// Ends a process by itself with a status (XSH _exit): all its descriptors are closed. `NoProcess` where no such
-    /// process lives. Takes no memory.
+    /// Ends a process with an exit status, by its own call (XSH _exit): all its descriptors are closed.
+    /// `NoProcess` where no such process lives. Takes no memory.
     pub(crate) fn end(&mut self, pid: u32, status: u8) -> Result<(), KernelFault>
         ensures { Gives result self.new (end_call self.old pid status) }
     {
@@ -490,8 +512,8 @@ impl Machine {
         Ok(())
     }
 
-    /// Waits until all these children of a process have ended (XSH waitpid). `NoProcess` where one of them is no child
-    /// of it; `WouldWait` where one lives. Takes no memory.
+    /// Succeeds where all these children of a process have ended (XSH waitpid). `NoProcess` where one of them
+    /// is no child of the process; `WouldWait` where one lives. Takes no memory.
     pub(crate) fn wait(&self, pid: u32, awaited: &[u32]) -> Result<(), KernelFault>
         ensures { result ≡ wait_answer self.now.processes pid awaited.now }
     {
@@ -504,14 +526,16 @@ impl Machine {
         Ok(())
     }
 
-    /// Where a process stands, of each that ever was. Takes no memory.
+    /// Whether a process runs, is stopped or has ended; `None` where no process ever had this number. Takes
+    /// no memory.
     pub(crate) fn status(&self, pid: u32) -> Option<Status>
         ensures { result ≡ status_at self.now.processes pid }
     {
         status_at(&self.processes, pid)
     }
 
-    /// The number of a process's parent, of each that ever was (XSH getppid): 1 where that has ended. Takes no memory.
+    /// The number of a process's parent (XSH getppid): 1 where the process that made it has ended; `None`
+    /// where no process ever had this number. Takes no memory.
     pub(crate) fn parent(&self, pid: u32) -> Option<u32>
         ensures { result ≡ parent_at self.now.processes pid }
     {
@@ -526,8 +550,8 @@ impl Machine {
     }
 
     /// The description to which a descriptor refers.
-    fn described(&self, pid: u32, name: Name) -> Option<Description>
-        ensures { result ≡ described self.now pid name }
+    fn described(&self, pid: u32, name: DescriptorRef) -> Option<Description>
+        ensures { result ≡ open_description self.now pid name }
     {
         match find(&self.descriptors, pid, name) {
             Some(k) => self.descriptions.get(k).copied(),
@@ -535,8 +559,9 @@ impl Machine {
         }
     }
 
-    /// Whether a descriptor refers to the terminal (XSH isatty); not where there is none of this name. Takes no memory.
-    pub(crate) fn is_terminal(&self, pid: u32, name: Name) -> bool
+    /// Whether a descriptor refers to the terminal (XSH isatty); `false` where there is none of this name.
+    /// Takes no memory.
+    pub(crate) fn is_terminal(&self, pid: u32, name: DescriptorRef) -> bool
         ensures { result ≡ is_terminal self.now pid name }
     {
         match self.described(pid, name) {
@@ -546,7 +571,7 @@ impl Machine {
     }
 
     /// Whether a descriptor refers to the terminal and is open for reading. Takes no memory.
-    pub(crate) fn reads_terminal(&self, pid: u32, name: Name) -> bool
+    pub(crate) fn reads_terminal(&self, pid: u32, name: DescriptorRef) -> bool
         ensures { result ≡ reads_terminal self.now pid name }
     {
         match self.described(pid, name) {
@@ -556,7 +581,7 @@ impl Machine {
     }
 
     /// Whether a descriptor refers to the terminal and is open for writing. Takes no memory.
-    pub(crate) fn writes_terminal(&self, pid: u32, name: Name) -> bool
+    pub(crate) fn writes_terminal(&self, pid: u32, name: DescriptorRef) -> bool
         ensures { result ≡ writes_terminal self.now pid name }
     {
         match self.described(pid, name) {
@@ -568,7 +593,9 @@ impl Machine {
     /// Whether a read by a description would wait.
     #[tactic(auto, using(crate::proofs::FileWaits::read_waits))]
     fn read_target_waits(&self, description: Description) -> bool
-        ensures { (n k : ℕ) → result ≡ waits (read_target self.now n k description.offset description.target).answer }
+        ensures { (n k : ℕ)
+            → result
+            ≡ waits (read_target self.now n k description.offset description.target).answer }
     {
         match description.target {
             Target::ReadEnd(pipe) => {
@@ -583,7 +610,7 @@ impl Machine {
     }
 
     /// Whether [`Machine::read`] would answer `WouldWait`. Takes no memory.
-    pub(crate) fn read_waits(&self, pid: u32, name: Name) -> bool
+    pub(crate) fn read_waits(&self, pid: u32, name: DescriptorRef) -> bool
         ensures { (n : ℕ) → result ≡ waits (read_call self.now pid name n).answer }
     {
         let Some(k) = find(&self.descriptors, pid, name) else {
@@ -601,7 +628,9 @@ impl Machine {
     /// Whether a write by a description would wait.
     #[tactic(auto, using(crate::proofs::FileWaits::write_waits))]
     fn write_target_waits(&self, description: Description, count: usize) -> bool
-        ensures { (bytes : List ℕ) (pid k : ℕ) → length bytes ≡ count → result ≡ waits (write_target self.now pid bytes k description description.target).answer }
+        ensures { (bytes : List ℕ) (pid k : ℕ) → length bytes ≡ count
+            → result
+            ≡ waits (write_target self.now pid bytes k description description.target).answer }
     {
         match description.target {
             Target::WriteEnd(pipe) => {
@@ -619,9 +648,10 @@ impl Machine {
 
     /// Whether [`Machine::write`] of so many bytes would answer `WouldWait`. Takes no memory.
     pub(crate) fn write_waits(&self, pid: u32, number: u8, count: usize) -> bool
-        ensures { (bytes : List ℕ) → length bytes ≡ count → result ≡ waits (write_call self.now pid number bytes).answer }
+        ensures { (bytes : List ℕ) → length bytes ≡ count
+            → result ≡ waits (write_call self.now pid number bytes).answer }
     {
-        let Some(k) = find(&self.descriptors, pid, Name::Number(number)) else {
+        let Some(k) = find(&self.descriptors, pid, DescriptorRef::Number(number)) else {
             return false;
         };
         let Some(description) = self.descriptions.get(k).copied() else {

@@ -1,4 +1,4 @@
--- Closing descriptors (XSH close): a pipe goes with the last descriptor of its ends.
+-- Closing descriptors (XSH close): a pipe goes with the last descriptor that refers to one of its ends.
 use Rattle.std.specs.Prelude.{ℕ, ◌==◌, ◌&&◌, ◌||◌, List, [], ◌∷◌, filter, Bool, not, Option, Some, None, is_none, if◌then◌else◌, slice_get, slice_set}
 use Rattle.std.specs.List.{list_any}
 use Rattle.std.specs.Option.{option_and_then}
@@ -20,7 +20,7 @@ goes pid All d = d.pid == pid
 abbrev pub stays : ℕ → Closing → Descriptor → Bool
 stays pid closing d = not (goes pid closing d)
 
--- the pipe of which it is an end
+-- the pipe of which this is an end
 abbrev pub pipe_of : Target → Option ℕ
 pipe_of (File node) = None
 pipe_of Terminal = None
@@ -41,7 +41,7 @@ holds pid closing es pipe d = stays pid closing d && is_end es pipe d
 abbrev pub is_held : ℕ → Closing → List Descriptor → List Description → ℕ → Bool
 is_held pid closing ds es pipe = list_any (holds pid closing es pipe) ds
 
--- all pipes ever made, each at its number; those that are gone are none
+-- all pipes ever made, each at its number; `None` where the pipe is gone
 abbrev pub Pipes : Type 0
 Pipes = List (Option PipeState)
 
@@ -55,14 +55,14 @@ let_go pid closing ds es ps (Some pipe) = let_go_pipe pid closing ds es ps pipe
 abbrev pub let_go_of : ℕ → Closing → List Descriptor → List Description → Pipes → Descriptor → Pipes
 let_go_of pid closing ds es ps d = if goes pid closing d then let_go pid closing ds es ps (pipe_at es d.description) else ps
 
--- the pipes after these descriptors of all went, as far as they go
+-- the pipes after this part of the descriptors was gone through: the closed ones take their pipes along
 abbrev pub let_go_each : ℕ → Closing → List Descriptor → List Description → Pipes → List Descriptor → Pipes
 let_go_each pid closing ds es ps [] = ps
 let_go_each pid closing ds es ps (d ∷ gone) = let_go_each pid closing ds es (let_go_of pid closing ds es ps d) gone
 
 -- the descriptors and the pipes that are left
-abbrev pub left : ℕ → Closing → List Descriptor → List Descriptor
-left pid closing ds = filter (stays pid closing) ds
+abbrev pub descriptors_left : ℕ → Closing → List Descriptor → List Descriptor
+descriptors_left pid closing ds = filter (stays pid closing) ds
 
 abbrev pub pipes_left : ℕ → Closing → List Descriptor → List Description → Pipes → Pipes
 pipes_left pid closing ds es ps = let_go_each pid closing ds es ps ds

@@ -3,8 +3,8 @@ use Rattle.std.specs.Prelude.{ℕ, ◌==◌, ◌&&◌, List, find, Bool, false, 
 use Rattle.std.specs.List.{list_any}
 use Rattle.std.specs.Option.{option_map, option_map_or}
 use Rattle.sh_kernel_descriptors.specs.declared.descriptor.Descriptor.{Descriptor}
-use Rattle.sh_kernel_descriptors.specs.declared.descriptor.Name.{Name}
-use Rattle.sh_kernel_descriptors.specs.declared.descriptor.Name.TheVariants.{Number, Aside}
+use Rattle.sh_kernel_descriptors.specs.declared.descriptor.DescriptorRef.{DescriptorRef}
+use Rattle.sh_kernel_descriptors.specs.declared.descriptor.DescriptorRef.TheVariants.{Number, Aside}
 use Rattle.sh_kernel_descriptors.specs.declared.description.Description.{Description}
 use Rattle.sh_kernel_descriptors.specs.declared.description.Target.{Target}
 use Rattle.sh_kernel_descriptors.specs.declared.description.Target.TheVariants.{File, Terminal, Null, ReadEnd, WriteEnd}
@@ -14,16 +14,16 @@ is_number number None = false
 is_number number (Some n) = n == number
 
 -- a descriptor is called by its number, or, where it is set aside, by its description
-abbrev pub is_called : Name → Descriptor → Bool
+abbrev pub is_called : DescriptorRef → Descriptor → Bool
 is_called (Number number) d = is_number number d.number
 is_called (Aside description) d = is_none d.number && (d.description == description)
 
-abbrev pub is_named : ℕ → Name → Descriptor → Bool
+abbrev pub is_named : ℕ → DescriptorRef → Descriptor → Bool
 is_named pid name d = (d.pid == pid) && is_called name d
 
 -- the number of the description to which the process's descriptor of this name refers
-abbrev pub found : List Descriptor → ℕ → Name → Option ℕ
-found ds pid name = option_map (λ d. d.description) (find (is_named pid name) ds)
+abbrev pub description_number : List Descriptor → ℕ → DescriptorRef → Option ℕ
+description_number ds pid name = option_map (λ d. d.description) (find (is_named pid name) ds)
 
 -- an end of this pipe: one to read from, one to write to
 abbrev pub reads_from : ℕ → Target → Bool

@@ -1,8 +1,8 @@
 -- What a kernel keeps, but for the terminal; and the end of a process.
 use Rattle.std.specs.Prelude.{ℕ, ◌++◌, List, [], ◌∷◌, Result, Ok, Err, if◌then◌else◌}
 use Rattle.sh_files.specs.Nodes.{FileMap}
-use Rattle.sh_kernel_descriptors.specs.Outcomes.{Done, done, refused}
-use Rattle.sh_kernel_descriptors.specs.Closings.{Pipes, left, pipes_left}
+use Rattle.sh_kernel_descriptors.specs.Outcomes.{Done, success, refusal}
+use Rattle.sh_kernel_descriptors.specs.Closings.{Pipes, descriptors_left, pipes_left}
 use Rattle.sh_kernel_descriptors.specs.Processes.{lives, may_fork, next_pid, copies, with_status, all_children, all_ended}
 use Rattle.sh_kernel_descriptors.specs.declared.descriptor.Descriptor.{Descriptor}
 use Rattle.sh_kernel_descriptors.specs.declared.descriptor.Closing.{Closing}
@@ -14,7 +14,8 @@ use Rattle.sh_kernel_descriptors.specs.declared.process.Status.TheVariants.{Runn
 use Rattle.sh_kernel_descriptors.specs.declared.fault.KernelFault.{KernelFault}
 use Rattle.sh_kernel_descriptors.specs.declared.fault.KernelFault.TheVariants.{NoProcess, TooManyProcesses, WouldWait}
 
--- processes, descriptions and pipes stand at their numbers, which go up by creation; none ever leaves its place
+-- processes (from 100 on), descriptions and pipes are listed by number; numbers go up by creation, and none
+-- ever leaves its place
 pub record MachineState : Type 0 where
   pub processes : List Process
   pub descriptors : List Descriptor
@@ -23,27 +24,27 @@ pub record MachineState : Type 0 where
   pub files : FileMap
 
 -- descriptors of a process are closed
-abbrev pub closed : MachineState → ℕ → Closing → MachineState
-closed s pid closing = record s {
-  descriptors = left pid closing s.descriptors;
+abbrev pub after_close : MachineState → ℕ → Closing → MachineState
+after_close s pid closing = record s {
+  descriptors = descriptors_left pid closing s.descriptors;
   pipes = pipes_left pid closing s.descriptors s.descriptions s.pipes;
 }
 
 -- a process ends: all its descriptors are closed (XSH _exit)
-abbrev pub ended : MachineState → ℕ → Status → MachineState
-ended s pid status = record s {
+abbrev pub after_end : MachineState → ℕ → Status → MachineState
+after_end s pid status = record s {
   processes = with_status s.processes pid status;
-  descriptors = left pid All s.descriptors;
+  descriptors = descriptors_left pid All s.descriptors;
   pipes = pipes_left pid All s.descriptors s.descriptions s.pipes;
 }
 
 -- it ends by itself
 abbrev pub end_call : MachineState → ℕ → ℕ → Done MachineState (Unit {0})
-end_call s pid status = if lives s.processes pid then done tt (ended s pid (Exited status)) else refused s NoProcess
+end_call s pid status = if lives s.processes pid then success tt (after_end s pid (Exited status)) else refusal s NoProcess
 
 -- a new process with this one's descriptors
-abbrev pub forked : MachineState → ℕ → MachineState
-forked s pid = record s {
+abbrev pub after_fork : MachineState → ℕ → MachineState
+after_fork s pid = record s {
   processes = s.processes ++ record { maker = pid; status = Running } ∷ [];
   descriptors = s.descriptors ++ copies s.descriptors pid (next_pid s.processes);
 }
@@ -51,12 +52,12 @@ forked s pid = record s {
 abbrev pub fork_call : MachineState → ℕ → Done MachineState ℕ
 fork_call s pid =
     if lives s.processes pid
-    then (if may_fork s.processes then done (next_pid s.processes) (forked s pid) else refused s TooManyProcesses)
-    else refused s NoProcess
+    then (if may_fork s.processes then success (next_pid s.processes) (after_fork s pid) else refusal s TooManyProcesses)
+    else refusal s NoProcess
 
 -- the process starts a program: what it has set aside is closed (XSH exec, FD_CLOEXEC)
 abbrev pub start_call : MachineState → ℕ → Done MachineState (Unit {0})
-start_call s pid = if lives s.processes pid then done tt (closed s pid Asides) else refused s NoProcess
+start_call s pid = if lives s.processes pid then success tt (after_close s pid Asides) else refusal s NoProcess
 
 -- the process waits until all these children have ended
 abbrev pub wait_answer : List Process → ℕ → List ℕ → Result (Unit {0}) KernelFault

@@ -5,7 +5,7 @@ use Rattle.sh_files.specs.declared.fault.FileFault.{FileFault}
 use Rattle.sh_files.specs.declared.opening.Opening.{Opening}
 use Rattle.sh_files_image.specs.declared.node.Node.{Node}
 use Rattle.sh_files_image.specs.declared.node.Node.TheVariants as node
-use Rattle.sh_kernel_descriptors.specs.Outcomes.{Done, done, refused, fault_of_file}
+use Rattle.sh_kernel_descriptors.specs.Outcomes.{Done, success, refusal, fault_of_file}
 use Rattle.sh_kernel_descriptors.specs.Processes.{lives}
 use Rattle.sh_kernel_descriptors.specs.Machine.{MachineState}
 use Rattle.sh_kernel_descriptors.specs.Naming.{is_allowed, with_number}
@@ -33,8 +33,8 @@ with_node s how append n files = record s {
 }
 
 abbrev pub open_result : MachineState → ℕ → Opening → Bool → ℕ → Result (ℕ × FileMap) FileFault → Done MachineState (Unit {0})
-open_result s pid how append number (Err fault) = refused s (fault_of_file fault)
-open_result s pid how append number (Ok o) = done tt (with_number (with_node s how append o.0 o.1) pid number (length s.descriptions))
+open_result s pid how append number (Err fault) = refusal s (fault_of_file fault)
+open_result s pid how append number (Ok o) = success tt (with_number (with_node s how append o.0 o.1) pid number (length s.descriptions))
 
 -- the number of the process refers to what the path names; what it referred to is closed
 abbrev pub open_call : MachineState → ℕ → List ℕ → List ℕ → Opening → Bool → ℕ → Done MachineState (Unit {0})
@@ -42,8 +42,8 @@ open_call s pid directory path how append number =
     if lives s.processes pid
     then (if is_allowed number
     then open_result s pid how append number (opened s.files directory path how)
-    else refused s TooManyDescriptors)
-    else refused s NoProcess
+    else refusal s TooManyDescriptors)
+    else refusal s NoProcess
 
 -- ---- here-documents
 abbrev pub for_reading : Opening
@@ -56,5 +56,5 @@ here_call s pid bytes number =
     if lives s.processes pid
     then (if is_allowed number
     then open_result s pid for_reading false number (nameless s.files bytes)
-    else refused s TooManyDescriptors)
-    else refused s NoProcess
+    else refusal s TooManyDescriptors)
+    else refusal s NoProcess

@@ -1,4 +1,4 @@
--- What a call of a kernel answers, and what is after it.
+-- What a call of a kernel answers, and the state after it.
 use Rattle.sh_base.specs.Memory.{no_memory}
 use Rattle.std.specs.Prelude.{◌≡◌, ◌≢◌, ℕ, List, take, drop, Result, Ok, Err, IfErr, IsOk}
 use Rattle.sh_files.specs.declared.fault.FileFault.{FileFault}
@@ -13,14 +13,14 @@ pub record Done (S A : Type 0) : Type 0 where
   pub answer : Result A KernelFault
   pub after : S
 
-abbrev pub done : {S A : Type 0} → A → S → Done S A
-done a s = record { answer = Ok a; after = s }
+abbrev pub success : {S A : Type 0} → A → S → Done S A
+success a s = record { answer = Ok a; after = s }
 
 -- a refusal changes nothing
-abbrev pub refused : {S A : Type 0} → S → KernelFault → Done S A
-refused s fault = record { answer = Err fault; after = s }
+abbrev pub refusal : {S A : Type 0} → S → KernelFault → Done S A
+refusal s fault = record { answer = Err fault; after = s }
 
--- the refusal of a kernel for that of its files, and for that of a pipe
+-- the refusal of a kernel for a refusal of its files, and for one of a pipe
 abbrev pub fault_of_file : FileFault → KernelFault
 fault_of_file file.NoEntry = File file.NoEntry
 fault_of_file file.NoAccess = File file.NoAccess
@@ -48,7 +48,7 @@ GivesOrLacks (Err fault) old new d = (fault ≢ NoMemory no_memory → Gives (Er
 abbrev pub LacksWhereGiven : {S A : Type 0} → Result A KernelFault → Done S A → Type 0
 LacksWhereGiven result d = IfErr result (λ fault. fault ≡ NoMemory no_memory → IsOk d.answer)
 
--- the same of a read: its bytes stand at the front of the buffer, which is else as it was
+-- the same of a read: its bytes are at the front of the buffer, and the rest of the buffer is as it was
 abbrev pub GivesRead : {S : Type 0} → Result ℕ KernelFault → List ℕ → List ℕ → S → Done S (List ℕ) → Type 0
 GivesRead (Ok n) buf buf' new d = (d ≡ record { answer = Ok (take n buf'); after = new }) × (drop n buf' ≡ drop n buf)
 GivesRead (Err fault) buf buf' new d = (d ≡ record { answer = Err fault; after = new }) × (buf' ≡ buf)

@@ -44,7 +44,7 @@ parent_by ps p = if lives ps p.maker then p.maker else 1
 abbrev pub parent_at : List Process → ℕ → Option ℕ
 parent_at ps pid = option_map (parent_by ps) (process_at ps pid)
 
--- where the process of this number stands now
+-- the processes, where the one of this number has this status now
 abbrev pub with_status_of : List Process → ℕ → Status → Option Process → List Process
 with_status_of ps pid status None = ps
 with_status_of ps pid status (Some p) = slice_set ps (pid - 100) (record p { status = status })
@@ -56,11 +56,11 @@ with_status ps pid status = with_status_of ps pid status (process_at ps pid)
 abbrev pub is_copied : ℕ → Descriptor → Bool
 is_copied pid d = (d.pid == pid) && is_some d.number
 
--- the descriptor, as that of another process; both refer to one description
+-- the descriptor, as one of another process; both refer to the same description
 abbrev pub of_process : ℕ → Descriptor → Descriptor
 of_process pid d = record d { pid = pid }
 
--- a process's descriptors, but for those that are set aside, as another's
+-- a process's descriptors, but for those that are set aside, as descriptors of another process
 abbrev pub copies : List Descriptor → ℕ → ℕ → List Descriptor
 copies ds pid child = map (of_process child) (filter (is_copied pid) ds)
 

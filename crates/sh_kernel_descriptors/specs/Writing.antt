@@ -7,12 +7,12 @@ use Rattle.sh_files_image.specs.declared.node.Node.{Node}
 use Rattle.sh_files_image.specs.declared.node.Node.TheVariants as node
 use Rattle.sh_pipe.specs.Pipe.{PipeState, write_result, after_write}
 use Rattle.sh_pipe.specs.declared.PipeFault.{PipeFault}
-use Rattle.sh_kernel_descriptors.specs.Outcomes.{Done, done, refused, fault_of_file, fault_of_pipe}
-use Rattle.sh_kernel_descriptors.specs.Descriptors.{found, has_reader}
+use Rattle.sh_kernel_descriptors.specs.Outcomes.{Done, success, refusal, fault_of_file, fault_of_pipe}
+use Rattle.sh_kernel_descriptors.specs.Descriptors.{description_number, has_reader}
 use Rattle.sh_kernel_descriptors.specs.Closings.{Pipes}
-use Rattle.sh_kernel_descriptors.specs.Machine.{MachineState, ended}
-use Rattle.sh_kernel_descriptors.specs.Reading.{at_place, moved, on_pipes}
-use Rattle.sh_kernel_descriptors.specs.declared.descriptor.Name.TheVariants.{Number}
+use Rattle.sh_kernel_descriptors.specs.Machine.{MachineState, after_end}
+use Rattle.sh_kernel_descriptors.specs.Reading.{at_place, with_offset, on_pipes}
+use Rattle.sh_kernel_descriptors.specs.declared.descriptor.DescriptorRef.TheVariants.{Number}
 use Rattle.sh_kernel_descriptors.specs.declared.description.Description.{Description}
 use Rattle.sh_kernel_descriptors.specs.declared.description.Target.{Target}
 use Rattle.sh_kernel_descriptors.specs.declared.description.Target.TheVariants.{File, Terminal, Null, ReadEnd, WriteEnd}
@@ -36,16 +36,16 @@ write_start files node append offset = if append then size_of (slice_get files.n
 abbrev pub write_limited : FileMap → ℕ → ℕ → List ℕ → Result FileMap FileFault
 write_limited files node start bytes = if write_fits start bytes then write_at files node start bytes else Err TooLarge
 
--- the files and the offset behind what was written
+-- the files and the offset after what was written
 abbrev pub content_written : FileMap → ℕ → Result FileMap FileFault → Done FileMap ℕ
-content_written files end (Ok files') = done end files'
-content_written files end (Err fault) = refused files (fault_of_file fault)
+content_written files end (Ok files') = success end files'
+content_written files end (Err fault) = refusal files (fault_of_file fault)
 
 abbrev pub write_node : FileMap → ℕ → ℕ → List ℕ → Done FileMap ℕ
 write_node files node start bytes = content_written files (start + length bytes) (write_limited files node start bytes)
 
 abbrev pub on_files : MachineState → ℕ → ℕ → FileMap → Result ℕ KernelFault → Done MachineState ℕ
-on_files s k count files (Ok end) = done count (record s { files = files; descriptions = moved s.descriptions k end })
+on_files s k count files (Ok end) = success count (record s { files = files; descriptions = with_offset s.descriptions k end })
 on_files s k count files (Err fault) = record { answer = Err fault; after = record s { files = files } }
 
 abbrev pub write_file : MachineState → ℕ → ℕ → List ℕ → Done FileMap ℕ → Done MachineState ℕ
@@ -57,45 +57,45 @@ pipe_count (Ok n) = Ok n
 pipe_count (Err fault) = Err (fault_of_pipe fault)
 
 abbrev pub write_slot : List ℕ → Option PipeState → Done (Option PipeState) ℕ
-write_slot bytes None = refused None BadDescriptor
+write_slot bytes None = refusal None BadDescriptor
 write_slot bytes (Some p) = record { answer = pipe_count (write_result p bytes true); after = Some (after_write p bytes true) }
 
 abbrev pub write_pipe_of : Pipes → ℕ → List ℕ → Option (Option PipeState) → Done Pipes ℕ
-write_pipe_of ps pipe bytes None = refused ps BadDescriptor
+write_pipe_of ps pipe bytes None = refusal ps BadDescriptor
 write_pipe_of ps pipe bytes (Some slot) = at_place ps pipe (write_slot bytes slot)
 
 abbrev pub write_pipe : Pipes → ℕ → List ℕ → Done Pipes ℕ
 write_pipe ps pipe bytes = write_pipe_of ps pipe bytes (slice_get ps pipe)
 
 -- the writer to a pipe without a reader is sent SIGPIPE (13), which ends it
-abbrev pub broken : MachineState → ℕ → Done MachineState ℕ
-broken s pid = record { answer = Err BrokenPipe; after = ended s pid (Signaled 13) }
+abbrev pub broken_pipe : MachineState → ℕ → Done MachineState ℕ
+broken_pipe s pid = record { answer = Err BrokenPipe; after = after_end s pid (Signaled 13) }
 
 abbrev pub write_end : MachineState → ℕ → ℕ → List ℕ → Done MachineState ℕ
 write_end s pid pipe bytes =
-    if has_reader s.descriptors s.descriptions pipe then on_pipes s (write_pipe s.pipes pipe bytes) else broken s pid
+    if has_reader s.descriptors s.descriptions pipe then on_pipes s (write_pipe s.pipes pipe bytes) else broken_pipe s pid
 
 -- ---- the call
 abbrev pub write_target : MachineState → ℕ → List ℕ → ℕ → Description → Target → Done MachineState ℕ
 write_target s pid bytes k e (File node) =
     write_file s k node bytes (write_node s.files node (write_start s.files node e.append e.offset) bytes)
-write_target s pid bytes k e Terminal = refused s BadDescriptor
-write_target s pid bytes k e Null = done (length bytes) s
-write_target s pid bytes k e (ReadEnd pipe) = refused s BadDescriptor
+write_target s pid bytes k e Terminal = refusal s BadDescriptor
+write_target s pid bytes k e Null = success (length bytes) s
+write_target s pid bytes k e (ReadEnd pipe) = refusal s BadDescriptor
 write_target s pid bytes k e (WriteEnd pipe) = write_end s pid pipe bytes
 
 -- a write of no bytes has no other result
 abbrev pub write_described : MachineState → ℕ → List ℕ → ℕ → Option Description → Done MachineState ℕ
-write_described s pid bytes k None = refused s BadDescriptor
+write_described s pid bytes k None = refusal s BadDescriptor
 write_described s pid bytes k (Some e) =
     if e.writable
-    then (if is_empty bytes then done 0 s else write_target s pid bytes k e e.target)
-    else refused s BadDescriptor
+    then (if is_empty bytes then success 0 s else write_target s pid bytes k e e.target)
+    else refusal s BadDescriptor
 
 abbrev pub write_found : MachineState → ℕ → List ℕ → Option ℕ → Done MachineState ℕ
-write_found s pid bytes None = refused s BadDescriptor
+write_found s pid bytes None = refusal s BadDescriptor
 write_found s pid bytes (Some k) = write_described s pid bytes k (slice_get s.descriptions k)
 
--- the process writes what goes at once by its descriptor
+-- the process writes by its descriptor what can be written at once
 abbrev pub write_call : MachineState → ℕ → ℕ → List ℕ → Done MachineState ℕ
-write_call s pid number bytes = write_found s pid bytes (found s.descriptors pid (Number number))
+write_call s pid number bytes = write_found s pid bytes (description_number s.descriptors pid (Number number))

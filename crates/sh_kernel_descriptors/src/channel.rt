@@ -10,7 +10,7 @@ use std::marker::Model;
 /// How many bytes a pipe has room for.
 pub const CAPACITY: usize = 4096;
 
-/// A pipe, and beside it how many bytes stand in it, so that one can ask whether a call would wait.
+/// A pipe, and beside it how many bytes it holds, so that one can ask whether a call would wait.
 #[derive(Debug, Drop)]
 pub struct Channel {
     pipe: Pipe,
@@ -30,7 +30,7 @@ impl Model for Channel {
 }
 
 impl Channel {
-    /// An empty one. The only error is want of memory; no later call takes any.
+    /// An empty pipe. The only error is want of memory; no later call takes any.
     pub fn new(alloc: Global) -> Result<Self, AllocError>
         ensures { IfOk result (λ channel. channel ≡ record { bytes = []; capacity = 4096 }) }
     {
@@ -80,7 +80,8 @@ impl Channel {
 
     /// Whether a write of so many bytes would wait.
     pub fn waits_to_write(&self, count: usize, has_reader: bool) -> bool
-        ensures { (bytes : List ℕ) → length bytes ≡ count → result ≡ pipe_waits (write_result self.now bytes has_reader) }
+        ensures { (bytes : List ℕ) → length bytes ≡ count
+            → result ≡ pipe_waits (write_result self.now bytes has_reader) }
     {
         if !has_reader {
             return false;

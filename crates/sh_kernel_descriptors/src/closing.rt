@@ -5,7 +5,7 @@ ghost use Rattle.sh_kernel_descriptors.specs.Closings as closings;
 
 use crate::channel::Channel;
 use crate::description::{Description, Target};
-use crate::descriptor::{Closing, Descriptor, Name};
+use crate::descriptor::{Closing, Descriptor, DescriptorRef};
 
 fn is_number(number: u8, of: Option<u8>) -> bool
     ensures { result ≡ names.is_number number of }
@@ -16,26 +16,26 @@ fn is_number(number: u8, of: Option<u8>) -> bool
     }
 }
 
-/// Whether a process calls this descriptor so.
-fn is_called(name: Name, d: &Descriptor) -> bool
+/// Whether this is the name of a descriptor in its process.
+fn is_called(name: DescriptorRef, d: &Descriptor) -> bool
     ensures { result ≡ names.is_called name d.now }
 {
     match name {
-        Name::Number(number) => is_number(number, d.number),
-        Name::Aside(description) => d.number.is_none() && d.description == description,
+        DescriptorRef::Number(number) => is_number(number, d.number),
+        DescriptorRef::Aside(description) => d.number.is_none() && d.description == description,
     }
 }
 
-/// Whether it is the process's descriptor of this name.
-pub(crate) fn is_named(pid: u32, name: Name, d: &Descriptor) -> bool
+/// Whether a descriptor is the process's descriptor of this name.
+pub(crate) fn is_named(pid: u32, name: DescriptorRef, d: &Descriptor) -> bool
     ensures { result ≡ names.is_named pid name d.now }
 {
     d.pid == pid && is_called(name, d)
 }
 
-/// The description to which the process's descriptor of this name refers.
-pub fn find(descriptors: &[Descriptor], pid: u32, name: Name) -> Option<usize>
-    ensures { result ≡ names.found descriptors.now pid name }
+/// The number of the description to which the process's descriptor of this name refers.
+pub fn find(descriptors: &[Descriptor], pid: u32, name: DescriptorRef) -> Option<usize>
+    ensures { result ≡ names.description_number descriptors.now pid name }
 {
     descriptors
         .iter()
@@ -144,7 +144,7 @@ fn is_end(descriptions: &[Description], pipe: usize, d: &Descriptor) -> bool
     is_reader(descriptions, pipe, d) || is_writer(descriptions, pipe, d)
 }
 
-/// Whether it stays and refers to an end of the pipe.
+/// Whether a descriptor stays and refers to an end of the pipe.
 fn holds(
     pid: u32,
     closing: Closing,
@@ -172,7 +172,7 @@ fn is_held(
         .any(|d| holds(pid, closing, descriptions, pipe, d))
 }
 
-/// Lets a pipe go, if no descriptor that stays holds it.
+/// Removes a pipe, if no descriptor that stays refers to an end of it.
 fn let_go(
     pid: u32,
     closing: Closing,
@@ -181,7 +181,8 @@ fn let_go(
     pipes: &mut Vec<Option<Channel>>,
     pipe: usize,
 )
-    ensures { pipes.new.items ≡ closings.let_go_pipe pid closing descriptors.now descriptions.now pipes.old.items pipe }
+    ensures { pipes.new.items ≡ closings.let_go_pipe pid closing descriptors.now descriptions.now
+        pipes.old.items pipe }
 {
     if is_held(pid, closing, descriptors, descriptions, pipe) {
         return;
@@ -191,7 +192,7 @@ fn let_go(
     }
 }
 
-/// Lets the pipe of a descriptor go, if it goes and none that stays holds it.
+/// Removes the pipe of a descriptor that is closed, if no descriptor that stays refers to an end of it.
 fn let_go_of(
     pid: u32,
     closing: Closing,
@@ -200,7 +201,8 @@ fn let_go_of(
     pipes: &mut Vec<Option<Channel>>,
     d: &Descriptor,
 )
-    ensures { pipes.new.items ≡ closings.let_go_of pid closing descriptors.now descriptions.now pipes.old.items d.now }
+    ensures { pipes.new.items ≡ closings.let_go_of pid closing descriptors.now descriptions.now
+        pipes.old.items d.now }
 {
     if !goes(pid, closing, d) {
         return;
@@ -211,7 +213,7 @@ fn let_go_of(
     let_go(pid, closing, descriptors, descriptions, pipes, pipe);
 }
 
-/// Lets the pipes go that only descriptors that go hold.
+/// Removes the pipes to whose ends only descriptors that are closed refer.
 fn let_go_each(
     pid: u32,
     closing: Closing,
@@ -219,23 +221,26 @@ fn let_go_each(
     descriptions: &[Description],
     pipes: &mut Vec<Option<Channel>>,
 )
-    ensures { pipes.new.items ≡ closings.pipes_left pid closing descriptors.now descriptions.now pipes.old.items }
+    ensures { pipes.new.items ≡ closings.pipes_left pid closing descriptors.now descriptions.now
+        pipes.old.items }
 {
     for d in descriptors {
         let_go_of(pid, closing, descriptors, descriptions, pipes, d);
     }
 }
 
-/// Takes the descriptors that go out of the list.
+/// Removes the closed descriptors from the list.
 fn keep(pid: u32, closing: Closing, descriptors: &mut Vec<Descriptor>)
-    ensures items { descriptors.new.items ≡ closings.left pid closing descriptors.old.items }
+    ensures items { descriptors.new.items ≡ closings.descriptors_left pid closing
+        descriptors.old.items }
     ensures len { vec_len descriptors.new ≤ vec_len descriptors.old }
     ensures capacity { vec_capacity descriptors.new ≡ vec_capacity descriptors.old }
 {
     descriptors.retain(|d| stays(pid, closing, d));
 }
 
-/// Closes descriptors of a process.
+/// Closes descriptors of a process (XSH close). A pipe goes with the last descriptor that refers to one of
+/// its ends.
 pub fn close(
     pid: u32,
     closing: Closing,
@@ -243,8 +248,10 @@ pub fn close(
     descriptions: &[Description],
     pipes: &mut Vec<Option<Channel>>,
 )
-    ensures descriptors { descriptors.new.items ≡ closings.left pid closing descriptors.old.items }
-    ensures pipes { pipes.new.items ≡ closings.pipes_left pid closing descriptors.old.items descriptions.now pipes.old.items }
+    ensures descriptors { descriptors.new.items ≡ closings.descriptors_left pid closing
+        descriptors.old.items }
+    ensures pipes { pipes.new.items ≡ closings.pipes_left pid closing descriptors.old.items
+        descriptions.now pipes.old.items }
     ensures len { vec_len descriptors.new ≤ vec_len descriptors.old }
     ensures capacity { vec_capacity descriptors.new ≡ vec_capacity descriptors.old }
 {

@@ -13,19 +13,20 @@ pub struct Descriptor {
 
 /// What a process calls a descriptor.
 #[derive(Clone, Copy, Debug, PartialEq, Eq)]
-pub enum Name {
+pub enum DescriptorRef {
     /// Its number.
     Number(u8),
-    /// The number of the description of one that is set aside. Where a process set aside several of one description, to
-    /// close that name closes them all, and to put it back gives one of them a number.
+    /// Of a descriptor that is set aside, the number of its description. Where a process has set aside
+    /// several descriptors of one description, closing this name closes them all, and putting it back gives
+    /// one of them a number.
     Aside(usize),
 }
 
 /// Which descriptors of a process are closed.
 #[derive(Clone, Copy, Debug, PartialEq, Eq)]
 pub enum Closing {
-    /// That of this name.
-    Named(Name),
+    /// The one of this name.
+    Named(DescriptorRef),
     /// Those that are set aside.
     Asides,
     /// All.

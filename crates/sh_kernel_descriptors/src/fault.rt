@@ -68,7 +68,7 @@ impl From<AllocError> for KernelFault {
     }
 }
 
-/// The refusal of a kernel for that of its files.
+/// The refusal of a kernel for a refusal of its files.
 pub fn fault_of_file(fault: FileFault) -> KernelFault
     ensures { result ≡ fault_of_file fault }
 {
@@ -79,7 +79,7 @@ pub fn fault_of_file(fault: FileFault) -> KernelFault
     }
 }
 
-/// The refusal of a kernel for that of a pipe.
+/// The refusal of a kernel for a refusal of a pipe.
 pub(crate) fn fault_of_pipe(fault: PipeFault) -> KernelFault
     ensures fault { result ≡ fault_of_pipe fault }
     ensures memory { result ≢ KernelFault.NoMemory no_memory }

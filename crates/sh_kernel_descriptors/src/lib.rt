@@ -17,7 +17,7 @@ mod writing;
 pub use channel::{CAPACITY, Channel};
 pub use closing::{close, find, has_reader, has_writer};
 pub use description::{Description, Target};
-pub use descriptor::{Closing, Descriptor, Name};
+pub use descriptor::{Closing, Descriptor, DescriptorRef};
 pub use fault::{KernelFault, fault_of_file};
 pub use naming::{MAX_DESCRIPTORS, end_of, give_number, is_allowed, is_description, rename};
 pub use opening::{description_of, is_of_terminal, target_of, the_terminal, to_terminal};

@@ -48,7 +48,7 @@ pub fn the_terminal() -> Description
     }
 }
 
-/// A descriptor of the first process, which refers to it.
+/// A descriptor of the first process, which refers to the terminal.
 pub fn to_terminal(number: u8) -> Descriptor
     ensures { result ≡ to_terminal number }
 {

@@ -1,6 +1,6 @@
 //! Processes.
 
-/// Where a process stands (XCU `wait`, XBD `<sys/wait.h>`).
+/// Whether a process runs, is stopped or has ended (XCU `wait`, XBD `<sys/wait.h>`).
 #[derive(Clone, Copy, Debug, PartialEq, Eq)]
 pub enum Status {
     /// It has not ended and is not stopped.
@@ -13,11 +13,11 @@ pub enum Status {
     Signaled(u8),
 }
 
-/// A process. Its number is 100 and its place in the list of all that ever were.
+/// A process. Its number is 100 plus its place in the list of all processes that ever were.
 #[derive(Clone, Copy, Debug, PartialEq, Eq)]
 pub struct Process {
     /// The number of the process that made it.
     pub maker: u32,
-    /// Where it stands.
+    /// Whether it runs, is stopped or has ended.
     pub status: Status,
 }

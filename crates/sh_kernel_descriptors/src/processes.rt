@@ -25,7 +25,7 @@ fn process_at(all: &[Process], pid: u32) -> Option<Process>
     all.get((pid - FIRST_PID) as usize).copied()
 }
 
-/// Where a process stands.
+/// The status of a process; `None` where no process ever had this number.
 pub fn status_at(all: &[Process], pid: u32) -> Option<Status>
     ensures { result ≡ processes.status_at all.now pid }
 {
@@ -68,14 +68,15 @@ fn live_count(all: &[Process]) -> usize
     all.iter().filter(|p| is_living(p)).count()
 }
 
-/// Whether there may be one more process.
+/// Whether there may be one more process: fewer than [`MAX_LIVE`] live, and its number is at most
+/// [`MAX_PID`].
 pub fn may_fork(all: &[Process]) -> bool
     ensures { result ≡ processes.may_fork all.now }
 {
     live_count(all) < MAX_LIVE && all.len() <= MAX_PID - FIRST_PID as usize
 }
 
-/// The number of the parent of a process; 1 where that has ended.
+/// The number of the parent of a process; 1 where the process that made it has ended.
 pub fn parent_at(all: &[Process], pid: u32) -> Option<u32>
     ensures { result ≡ processes.parent_at all.now pid }
 {
@@ -89,7 +90,7 @@ pub fn parent_at(all: &[Process], pid: u32) -> Option<u32>
     }
 }
 
-/// Says where a process stands now.
+/// Gives a process a status.
 pub fn set_status(all: &mut Vec<Process>, pid: u32, status: Status)
     ensures { all.new.items ≡ processes.with_status all.old.items pid status }
 {
@@ -103,7 +104,7 @@ pub fn set_status(all: &mut Vec<Process>, pid: u32, status: Status)
     }
 }
 
-/// The descriptor, as that of another process.
+/// The descriptor, as one of another process.
 fn of_process(pid: u32, d: &Descriptor) -> Descriptor
     ensures { result ≡ processes.of_process pid d.now }
 {
@@ -116,7 +117,7 @@ fn is_copied(pid: u32, d: &Descriptor) -> bool
     d.pid == pid && d.number.is_some()
 }
 
-/// What a fork copies of a process's descriptors, as another's.
+/// The descriptors of a process that a fork copies, as those of another process.
 fn copies(
     alloc: Global,
     descriptors: &[Descriptor],
@@ -132,14 +133,17 @@ fn copies(
         .collect(alloc)
 }
 
-/// Gives a process what a fork copies.
+/// Adds the descriptors that a fork copies for the new process. The only error is want of memory, after which
+/// the list is as it was.
 pub fn copy_all(
     alloc: Global,
     descriptors: &mut Vec<Descriptor>,
     pid: u32,
     child: u32,
 ) -> Result<(), AllocError>
-    ensures ok { OnOk result (descriptors.new.items ≡ descriptors.old.items ++ processes.copies descriptors.old.items pid child) }
+    ensures ok { OnOk result
+        (descriptors.new.items ≡ descriptors.old.items ++ processes.copies descriptors.old.items
+        pid child) }
     ensures err { OnErr result (descriptors.new.items ≡ descriptors.old.items) }
 {
     let mut more = copies(alloc, descriptors, pid, child)?;

@@ -8,10 +8,11 @@ use crate::description::Description;
 use crate::fault::{KernelFault, fault_of_pipe};
 use sh_files::{Files, Node};
 
-/// Copies what stands from a place on, up to the buffer's length, and says how much.
+/// Copies the bytes from an offset on, up to the buffer's length, and says how many.
 fn copy_out(content: &[u8], offset: usize, buf: &mut [u8]) -> usize
     ensures count { result ≡ length (take (length buf.old) (drop offset content.now)) }
-    ensures buffer { buf.new ≡ take (length buf.old) (drop offset content.now) ++ drop result buf.old }
+    ensures buffer { buf.new ≡ take (length buf.old) (drop offset content.now)
+        ++ drop result buf.old }
     ensures within { offset + result ≤ offset + (length content.now - offset) }
 {
     if offset >= content.len() {
@@ -22,9 +23,10 @@ fn copy_out(content: &[u8], offset: usize, buf: &mut [u8]) -> usize
     count
 }
 
-/// Reads a file from an offset on, which goes on by as many bytes.
+/// Reads a file from an offset on, and moves the offset by as many bytes.
 fn read_content(content: &[u8], offset: &mut usize, buf: &mut [u8]) -> usize
-    ensures buffer { buf.new ≡ take (length buf.old) (drop offset.old content.now) ++ drop result buf.old }
+    ensures buffer { buf.new ≡ take (length buf.old) (drop offset.old content.now)
+        ++ drop result buf.old }
     ensures count { result ≡ length (take (length buf.old) (drop offset.old content.now)) }
     ensures offset { offset.new ≡ offset.old + result }
 {
@@ -40,7 +42,8 @@ fn read_node(
     offset: &mut usize,
     buf: &mut [u8],
 ) -> Result<usize, KernelFault>
-    ensures { GivesRead result buf.old buf.new offset.new (reading.read_node files.now node offset.old (length buf.old)) }
+    ensures { GivesRead result buf.old buf.new offset.new
+        (reading.read_node files.now node offset.old (length buf.old)) }
 {
     match files.node(node) {
         Some(Node::File(file)) => Ok(read_content(file.bytes(), offset, buf)),
@@ -51,9 +54,9 @@ fn read_node(
     }
 }
 
-/// The description goes on to an offset.
+/// Gives a description an offset.
 pub fn move_to(descriptions: &mut Vec<Description>, k: usize, offset: usize)
-    ensures { descriptions.new.items ≡ reading.moved descriptions.old.items k offset }
+    ensures { descriptions.new.items ≡ reading.with_offset descriptions.old.items k offset }
 {
     if k < descriptions.len() {
         let old = descriptions[k];
@@ -61,7 +64,8 @@ pub fn move_to(descriptions: &mut Vec<Description>, k: usize, offset: usize)
     }
 }
 
-/// Reads a file by a description, which goes on.
+/// Reads a file from an offset on, and moves the offset of a description by as many bytes. `File` with the
+/// files' refusal; nothing has changed then.
 pub fn read_file(
     files: &Files,
     descriptions: &mut Vec<Description>,
@@ -70,7 +74,8 @@ pub fn read_file(
     offset: usize,
     buf: &mut [u8],
 ) -> Result<usize, KernelFault>
-    ensures { GivesRead result buf.old buf.new descriptions.new.items (reading.read_file files.now descriptions.old.items k node offset (length buf.old)) }
+    ensures { GivesRead result buf.old buf.new descriptions.new.items
+        (reading.read_file files.now descriptions.old.items k node offset (length buf.old)) }
 {
     let mut place = offset;
     let result = read_node(files, node, &mut place, buf);
@@ -80,7 +85,8 @@ pub fn read_file(
 
 /// Reads from a pipe, if it is there.
 fn read_slot(slot: &mut Option<Channel>, writer: bool, buf: &mut [u8]) -> Result<usize, KernelFault>
-    ensures { GivesRead result buf.old buf.new slot.new (reading.read_slot writer (length buf.old) slot.old) }
+    ensures { GivesRead result buf.old buf.new slot.new
+        (reading.read_slot writer (length buf.old) slot.old) }
 {
     let Some(pipe) = slot else {
         return Err(KernelFault::BadDescriptor);
@@ -91,14 +97,16 @@ fn read_slot(slot: &mut Option<Channel>, writer: bool, buf: &mut [u8]) -> Result
     }
 }
 
-/// Reads from the pipe of a number.
+/// Reads from the pipe of a number. `BadDescriptor` where there is no such pipe; `WouldWait` where it is
+/// empty and has a writer.
 pub fn read_pipe(
     pipes: &mut Vec<Option<Channel>>,
     pipe: usize,
     writer: bool,
     buf: &mut [u8],
 ) -> Result<usize, KernelFault>
-    ensures { GivesRead result buf.old buf.new pipes.new.items (reading.read_pipe pipes.old.items pipe writer (length buf.old)) }
+    ensures { GivesRead result buf.old buf.new pipes.new.items
+        (reading.read_pipe pipes.old.items pipe writer (length buf.old)) }
 {
     if pipe >= pipes.len() {
         return Err(KernelFault::BadDescriptor);

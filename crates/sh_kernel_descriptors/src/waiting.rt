@@ -20,7 +20,8 @@ pub fn read_pipe_waits(pipes: &[Option<Channel>], pipe: usize, writer: bool) -> 
 
 /// Whether a write of so many bytes to the pipe of a number, which has a reader, would wait.
 pub fn write_pipe_waits(pipes: &[Option<Channel>], pipe: usize, count: usize) -> bool
-    ensures { (bytes : List ℕ) → length bytes ≡ count → result ≡ waits (write_pipe pipes.now pipe bytes).answer }
+    ensures { (bytes : List ℕ) → length bytes ≡ count
+        → result ≡ waits (write_pipe pipes.now pipe bytes).answer }
 {
     match pipes.get(pipe) {
         Some(Some(channel)) => channel.waits_to_write(count, true),

@@ -31,7 +31,8 @@ pub fn write_start(files: &Files, node: usize, append: bool, offset: usize) -> u
     offset
 }
 
-/// Writes bytes into a file, and says where they end.
+/// Writes bytes into a file, and says where they end. `File` with the files' refusal, else `NoMemory`; the
+/// files are as they were then.
 pub fn write_node(
     files: &mut Files,
     node: usize,
@@ -39,7 +40,8 @@ pub fn write_node(
     bytes: &[u8],
 ) -> Result<usize, KernelFault>
     requires { 0 < length bytes.now }
-    ensures call { GivesOrLacks result files.old files.new (writing.write_node files.old node start bytes.now) }
+    ensures call { GivesOrLacks result files.old files.new
+        (writing.write_node files.old node start bytes.now) }
     ensures room { LacksWhereGiven result (writing.write_node files.old node start bytes.now) }
 {
     if bytes.len() > MAX_LENGTH || start > MAX_LENGTH - bytes.len() {
@@ -65,7 +67,8 @@ fn write_slot(slot: &mut Option<Channel>, bytes: &[u8]) -> Result<usize, KernelF
     }
 }
 
-/// Writes to the pipe of a number, which has a reader.
+/// Writes to the pipe of a number, which has a reader, and says how many bytes went. `BadDescriptor` where
+/// there is no such pipe; `WouldWait` where it has no room.
 pub fn write_pipe(
     pipes: &mut Vec<Option<Channel>>,
     pipe: usize,

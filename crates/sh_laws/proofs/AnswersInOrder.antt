@@ -3,36 +3,36 @@ use Rattle.std.proofs.Common.{◌≡◌, ℕ, List, [], ◌∷◌, ◌++◌, sym
 use Rattle.std.proofs.lemmas.List.{append-nil, append_assoc}
 use Rattle.sh_files.specs.Nodes.{FileMap}
 use Rattle.sh_vars.specs.Environment.{Environment}
-use Rattle.sh_expand.specs.Expanding.{Result, Need, Fields, Stops, expand, finished}
+use Rattle.sh_expand.specs.Expanding.{Result, Need, Fields, Stops, expand, result_of}
 use Rattle.sh_expand.specs.Expansion as words
 use Rattle.sh_expand.specs.Parts as words_in
 use Rattle.sh_expand.specs.declared.wanted.Wanted.{Wanted}
-use Rattle.sh_exec_command.specs.Answers.{answered, expanded, resumed}
+use Rattle.sh_exec_command.specs.Answers.{expansion_after, expansion_with, resumption}
 use Rattle.sh_laws.specs.Answers.{Stays}
 use Rattle.sh_laws.proofs.FurtherAnswers.{Grown}
 use Rattle.sh_laws.proofs.AnsweredParts.{expansion_grows}
 
-finished_stays : (files : FileMap) (o other : words.Outcome) (m : List (List ℕ)) → Grown m o other → Stays (finished files o) (finished files other)
+finished_stays : (files : FileMap) (o other : words.Outcome) (m : List (List ℕ)) → Grown m o other → Stays (result_of files o) (result_of files other)
 finished_stays files (words.Need p e) other m g = tt
-finished_stays files (words.Done s) other m g = ap (finished files) g
-finished_stays files (words.Stops f e) other m g = ap (finished files) g
+finished_stays files (words.Done s) other m g = ap (result_of files) g
+finished_stays files (words.Stops f e) other m g = ap (result_of files) g
 
 pub stays : (files : FileMap) (wanted : List Wanted) (env : Environment) (answers more : List (List ℕ)) → Stays (expand files wanted env answers) (expand files wanted env (answers ++ more))
 stays files wanted env answers more =
     finished_stays files (words_in.expand wanted env answers) (words_in.expand wanted env (answers ++ more)) more (expansion_grows wanted env answers more)
 
-resumed_is : (now next whole : Result) → Stays now whole → next ≡ whole → resumed now next ≡ whole
+resumed_is : (now next whole : Result) → Stays now whole → next ≡ whole → resumption now next ≡ whole
 resumed_is (Need p e) next whole s h = h
 resumed_is (Fields fs e) next whole s h = sym s
 resumed_is (Stops f e) next whole s h = sym s
 
-answered_is : (files : FileMap) (wanted : List Wanted) (env : Environment) (given answers : List (List ℕ)) → answered files wanted env given answers ≡ expand files wanted env (given ++ answers)
+answered_is : (files : FileMap) (wanted : List Wanted) (env : Environment) (given answers : List (List ℕ)) → expansion_after files wanted env given answers ≡ expand files wanted env (given ++ answers)
 answered_is files wanted env given [] = ap (expand files wanted env) (sym (append-nil given))
 answered_is files wanted env given (a ∷ others) =
-    resumed_is (expand files wanted env given) (answered files wanted env (given ++ a ∷ []) others) (expand files wanted env (given ++ a ∷ others))
+    resumed_is (expand files wanted env given) (expansion_after files wanted env (given ++ a ∷ []) others) (expand files wanted env (given ++ a ∷ others))
     (stays files wanted env given (a ∷ others))
     (answered_is files wanted env (given ++ a ∷ []) others ∙ ap (expand files wanted env) (append_assoc given (a ∷ []) others))
 
-pub in_order : (files : FileMap) (wanted : List Wanted) (env : Environment) (answers : List (List ℕ)) → expanded files wanted env answers ≡ expand files wanted env answers
-unfolding expanded
+pub in_order : (files : FileMap) (wanted : List Wanted) (env : Environment) (answers : List (List ℕ)) → expansion_with files wanted env answers ≡ expand files wanted env answers
+unfolding expansion_with
 in_order files wanted env answers = answered_is files wanted env [] answers

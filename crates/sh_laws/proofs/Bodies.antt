@@ -7,26 +7,26 @@ use Rattle.sh_token_pieces.specs.declared.character.Character.TheVariants.{Plain
 use Rattle.sh_token_pieces.specs.declared.context.Context.TheVariants.{Body}
 use Rattle.sh_token_pieces.specs.declared.here.Delimiter.{Delimiter}
 use Rattle.sh_token_pieces.specs.declared.here.Tabs.{Tabs}
-use Rattle.sh_token_pieces.specs.declared.mark.Mark.{Mark}
-use Rattle.sh_token_pieces.specs.declared.mark.Mark.TheVariants as mark
+use Rattle.sh_token_pieces.specs.declared.piece.Piece.{Piece}
+use Rattle.sh_token_pieces.specs.declared.piece.Piece.TheVariants as piece
 use Rattle.sh_token_pieces.specs.Characters.{Reads, Written, joins, plain, raw}
 use Rattle.sh_token_pieces.specs.Here.{lines, line_in, without_tabs, is_end_line, joins_next}
-use Rattle.sh_token_pieces.specs.Spelling.{spell_mark}
+use Rattle.sh_token_pieces.specs.Spelling.{spell_piece}
 use Rattle.sh_token.specs.Body.{BodyPieces, AllOf, OpenAt, TooDeepAt, IsBody, body_answer}
 use Rattle.sh_token.specs.Found.{pieces_of_body}
 use Rattle.sh_token.proofs.BodyLaws.{body_law}
 use Rattle.sh_token.proofs.Laws.{reads_length, written_length}
 use Rattle.sh_syntax.specs.declared.tree.Parts.{Parts}
 use Rattle.sh_parse_documents.specs.declared.document.Document.{Document}
-use Rattle.sh_parse_documents.specs.Documents.{Line, placed, lines_from, kept, places_from, kept_places, Cut, over, with_line, cut, cut_all, documents, between, place_at}
+use Rattle.sh_parse_documents.specs.Documents.{Line, lines_at, lines_from, body_line, places_from, kept_places, Cut, over, with_line, cut_of, cut_all, documents, between, place_at}
 use Rattle.sh_parse_documents.specs.declared.item.Item.{Item}
 use Rattle.sh_parse_words.specs.declared.fault.PartFault.{PartFault}
 use Rattle.sh_parse_words.specs.declared.fault.PartFault.TheVariants as fault
-use Rattle.sh_parse_words.specs.Building.{parts_of, ended}
+use Rattle.sh_parse_words.specs.Building.{parts_of, with_literal}
 use Rattle.sh_parse_words.specs.Places.{behind_joins, behind_character, behind_characters, behind_piece, place_of}
 use Rattle.sh_parse_commands.specs.Results.{and_then, fault_moved}
 use Rattle.sh_parse_commands.specs.Sources.{text_between}
-use Rattle.sh_parse_commands.specs.Documents.{pieces_or_none, closed_by, closed_pieces, front_by, front_of, unless, expanded_body, document_parts, with_documents, bodies_of}
+use Rattle.sh_parse_commands.specs.Documents.{pieces_or_none, closed_by, closed_pieces, prefix_by, prefix_of, unless, expanded_body, document_parts, with_documents, bodies_of}
 use Rattle.sh_parse_commands.specs.Programs.{read_text}
 use Rattle.sh_parse_commands.specs.Words.{parts_in}
 use Rattle.sh_parse.proofs.Faults.{texts_in}
@@ -35,7 +35,7 @@ use Rattle.sh_laws.proofs.Levels.{opens_some, body_deep_some}
 use Rattle.sh_laws.proofs.Pieces.{Pieces, pieces_of, plain_behind, quoted_behind}
 use Rattle.sh_laws.proofs.Standing.{OpensAt, Placed, ResultAt, parts_at, then_at}
 
--- ---- pieces of a front of the bytes, where these go on
+-- ---- pieces of a prefix of the bytes, where these go on
 one_further : (c : Character) (bytes rest more : List ℕ) → Reads true c bytes rest → (behind_character c (bytes ++ more) ≡ rest ++ more) ⊎ (rest ≡ [])
 one_further (Plain b) bytes rest more (n, is, inl other) =
     inl (ap (λ z. drop 1 (behind_joins (z ++ more))) is ∙ ap (λ z. drop 1 (behind_joins z)) (append_assoc (joins n) (b ∷ rest) more)
@@ -62,9 +62,9 @@ all_further (c ∷ cs) bytes rest more w = go (one_further c bytes w.0 more w.1)
     go (inl x) (inr y) = inr y
     go (inr x) y = inr (none_behind cs w.0 rest w.2 x)
 
-piece_further : (m : Mark) (bytes rest more : List ℕ) → Written true (spell_mark m) bytes rest → (behind_piece m (bytes ++ more) ≡ rest ++ more) ⊎ (rest ≡ [])
+piece_further : (m : Piece) (bytes rest more : List ℕ) → Written true (spell_piece m) bytes rest → (behind_piece m (bytes ++ more) ≡ rest ++ more) ⊎ (rest ≡ [])
 unfolding behind_piece
-piece_further m bytes rest more w = all_further (spell_mark m) bytes rest more w
+piece_further m bytes rest more w = all_further (spell_piece m) bytes rest more w
 
 no_plain : (c : ℕ) (cs : List Character) (bytes rest : List ℕ) → Written true (Plain c ∷ cs) bytes rest → bytes ≡ [] → ⊥
 no_plain c cs bytes rest w h =
@@ -85,28 +85,28 @@ module _ (size : ℕ) where
   by_size : (bytes : List ℕ) → 0 < size → 0 < length (behind_joins bytes) → (0 ≤ place_of size (behind_joins bytes)) × (place_of size (behind_joins bytes) < size)
   by_size bytes l s = (omega arith, omega (l, s, arith))
 
-  opens_further : 0 < size → (m : Mark) (bytes rest more : List ℕ) → Written true (spell_mark m) bytes rest → OpensAt size 0 size m (place_of size (behind_joins (bytes ++ more)))
-  opens_further z (mark.BraceOpen head) bytes rest more w = by_size (bytes ++ more) z (plain_some 36 (Plain 123 ∷ plain head) bytes rest more refl w)
-  opens_further z mark.ArithmeticOpen bytes rest more w = by_size (bytes ++ more) z (plain_some 36 (Plain 40 ∷ Plain 40 ∷ []) bytes rest more refl w)
-  opens_further z mark.CommandsOpen bytes rest more w = by_size (bytes ++ more) z (plain_some 36 (Plain 40 ∷ []) bytes rest more refl w)
-  opens_further z mark.CommandsClose bytes rest more w = by_size (bytes ++ more) z (plain_some 41 [] bytes rest more refl w)
-  opens_further z (mark.Backquoted between) bytes rest more w = by_size (bytes ++ more) z (plain_some 96 (raw between ++ Raw 96 ∷ []) bytes rest more refl w)
+  opens_further : 0 < size → (m : Piece) (bytes rest more : List ℕ) → Written true (spell_piece m) bytes rest → OpensAt size 0 size m (place_of size (behind_joins (bytes ++ more)))
+  opens_further z (piece.BraceOpen head) bytes rest more w = by_size (bytes ++ more) z (plain_some 36 (Plain 123 ∷ plain head) bytes rest more refl w)
+  opens_further z piece.ArithmeticOpen bytes rest more w = by_size (bytes ++ more) z (plain_some 36 (Plain 40 ∷ Plain 40 ∷ []) bytes rest more refl w)
+  opens_further z piece.CommandsOpen bytes rest more w = by_size (bytes ++ more) z (plain_some 36 (Plain 40 ∷ []) bytes rest more refl w)
+  opens_further z piece.CommandsClose bytes rest more w = by_size (bytes ++ more) z (plain_some 41 [] bytes rest more refl w)
+  opens_further z (piece.Backquoted between) bytes rest more w = by_size (bytes ++ more) z (plain_some 96 (raw between ++ Raw 96 ∷ []) bytes rest more refl w)
   opens_further z m bytes rest more w = tt
 
-  opens_none : (m : Mark) (place : ℕ) (bytes rest : List ℕ) → Written true (spell_mark m) bytes rest → bytes ≡ [] → OpensAt size 0 size m place
-  opens_none (mark.BraceOpen head) place bytes rest w h = absurd (no_plain 36 (Plain 123 ∷ plain head) bytes rest w h)
-  opens_none mark.ArithmeticOpen place bytes rest w h = absurd (no_plain 36 (Plain 40 ∷ Plain 40 ∷ []) bytes rest w h)
-  opens_none mark.CommandsOpen place bytes rest w h = absurd (no_plain 36 (Plain 40 ∷ []) bytes rest w h)
-  opens_none mark.CommandsClose place bytes rest w h = absurd (no_plain 41 [] bytes rest w h)
-  opens_none (mark.Backquoted between) place bytes rest w h = absurd (no_plain 96 (raw between ++ Raw 96 ∷ []) bytes rest w h)
+  opens_none : (m : Piece) (place : ℕ) (bytes rest : List ℕ) → Written true (spell_piece m) bytes rest → bytes ≡ [] → OpensAt size 0 size m place
+  opens_none (piece.BraceOpen head) place bytes rest w h = absurd (no_plain 36 (Plain 123 ∷ plain head) bytes rest w h)
+  opens_none piece.ArithmeticOpen place bytes rest w h = absurd (no_plain 36 (Plain 40 ∷ Plain 40 ∷ []) bytes rest w h)
+  opens_none piece.CommandsOpen place bytes rest w h = absurd (no_plain 36 (Plain 40 ∷ []) bytes rest w h)
+  opens_none piece.CommandsClose place bytes rest w h = absurd (no_plain 41 [] bytes rest w h)
+  opens_none (piece.Backquoted between) place bytes rest w h = absurd (no_plain 96 (raw between ++ Raw 96 ∷ []) bytes rest w h)
   opens_none m place bytes rest w h = tt
 
-  placed_none : (ms : List Mark) (bytes rest others : List ℕ) → Pieces true ms bytes rest → bytes ≡ [] → Placed size 0 size ms others
+  placed_none : (ms : List Piece) (bytes rest others : List ℕ) → Pieces true ms bytes rest → bytes ≡ [] → Placed size 0 size ms others
   placed_none [] bytes rest others p h = tt
   placed_none (m ∷ ms) bytes rest others p h =
-      (opens_none m (place_of size (behind_joins others)) bytes p.0 p.1 h, placed_none ms p.0 rest (behind_piece m others) p.2 (none_behind (spell_mark m) bytes p.0 p.1 h))
+      (opens_none m (place_of size (behind_joins others)) bytes p.0 p.1 h, placed_none ms p.0 rest (behind_piece m others) p.2 (none_behind (spell_piece m) bytes p.0 p.1 h))
 
-  placed_further : 0 < size → (ms : List Mark) (bytes rest more : List ℕ) → Pieces true ms bytes rest → Placed size 0 size ms (bytes ++ more)
+  placed_further : 0 < size → (ms : List Piece) (bytes rest more : List ℕ) → Pieces true ms bytes rest → Placed size 0 size ms (bytes ++ more)
   placed_further z [] bytes rest more p = tt
   placed_further z (m ∷ ms) bytes rest more p =
       (opens_further z m bytes p.0 more p.1, go (piece_further m bytes p.0 more p.1) (placed_further z ms p.0 rest more p.2))
@@ -123,65 +123,65 @@ split bytes place =
 
 -- ---- the pieces that a body is read by
 module _ (bytes : List ℕ) where
-  abbrev PlacedIn : List Mark → Type 0
+  abbrev PlacedIn : List Piece → Type 0
   PlacedIn ms = Placed (length bytes) 0 (length bytes) ms bytes
 
-  placed_pieces : (ms : List Mark) (front rest more : List ℕ) → bytes ≡ front ++ more → Pieces true ms front rest → PlacedIn ms
-  placed_pieces ms front rest more same p = go (length bytes) refl
+  placed_pieces : (ms : List Piece) (prefix rest more : List ℕ) → bytes ≡ prefix ++ more → Pieces true ms prefix rest → PlacedIn ms
+  placed_pieces ms prefix rest more same p = go (length bytes) refl
     where
-      size : length bytes ≡ length front + length more
-      size = ap length same ∙ length-append front more
+      size : length bytes ≡ length prefix + length more
+      size = ap length same ∙ length-append prefix more
 
       go : (n : ℕ) → length bytes ≡ n → PlacedIn ms
-      go zero e = placed_none (length bytes) ms front rest bytes p (nil_from_length front (let z = size in omega (e, z, arith)))
-      go (suc n) e = subst (λ z. Placed (length bytes) 0 (length bytes) ms z) (sym same) (placed_further (length bytes) (omega (e, arith)) ms front rest more p)
+      go zero e = placed_none (length bytes) ms prefix rest bytes p (nil_from_length prefix (let z = size in omega (e, z, arith)))
+      go (suc n) e = subst (λ z. Placed (length bytes) 0 (length bytes) ms z) (sym same) (placed_further (length bytes) (omega (e, arith)) ms prefix rest more p)
 
-  placed_front : (limit : ℕ) (front more : List ℕ) → bytes ≡ front ++ more → (answer : BodyPieces) → IsBody limit front answer → PlacedIn (pieces_or_none (body_answer answer))
-  placed_front limit front more same (AllOf ms) h =
-      placed_pieces ms front h.last more same (pieces_of true limit ms [] (Body ∷ []) front h.last h.pieces)
-  placed_front limit front more same (OpenAt place) h = tt
-  placed_front limit front more same (TooDeepAt place) h = tt
+  placed_prefix : (limit : ℕ) (prefix more : List ℕ) → bytes ≡ prefix ++ more → (answer : BodyPieces) → IsBody limit prefix answer → PlacedIn (pieces_or_none (body_answer answer))
+  placed_prefix limit prefix more same (AllOf ms) h =
+      placed_pieces ms prefix h.last more same (pieces_of true limit ms [] (Body ∷ []) prefix h.last h.pieces)
+  placed_prefix limit prefix more same (OpenAt place) h = tt
+  placed_prefix limit prefix more same (TooDeepAt place) h = tt
 
-  placed_closed : (front more : List ℕ) → bytes ≡ front ++ more → (answer : BodyPieces) → IsBody (length front) front answer → PlacedIn (closed_by front (body_answer answer))
-  placed_closed front more same (AllOf ms) h = placed_front (length front) front more same (AllOf ms) h
-  placed_closed front more same (OpenAt place) h =
-      let shorter = text_between front 0 place in
-      let whole : bytes ≡ shorter ++ (drop place front ++ more) = same ∙ ap (λ z. z ++ more) (split front place) ∙ append_assoc shorter (drop place front) more in
-      placed_front (length front) shorter (drop place front ++ more) whole (pieces_of_body (length front) shorter) ((body_law (length front) shorter (pieces_of_body (length front) shorter)).0 refl)
-  placed_closed front more same (TooDeepAt place) h = tt
+  placed_closed : (prefix more : List ℕ) → bytes ≡ prefix ++ more → (answer : BodyPieces) → IsBody (length prefix) prefix answer → PlacedIn (closed_by prefix (body_answer answer))
+  placed_closed prefix more same (AllOf ms) h = placed_prefix (length prefix) prefix more same (AllOf ms) h
+  placed_closed prefix more same (OpenAt place) h =
+      let shorter = text_between prefix 0 place in
+      let whole : bytes ≡ shorter ++ (drop place prefix ++ more) = same ∙ ap (λ z. z ++ more) (split prefix place) ∙ append_assoc shorter (drop place prefix) more in
+      placed_prefix (length prefix) shorter (drop place prefix ++ more) whole (pieces_of_body (length prefix) shorter) ((body_law (length prefix) shorter (pieces_of_body (length prefix) shorter)).0 refl)
+  placed_closed prefix more same (TooDeepAt place) h = tt
 
   placed_before : (place : ℕ) → PlacedIn (closed_pieces (text_between bytes 0 place))
   unfolding closed_pieces
   placed_before place =
-      let front = text_between bytes 0 place in
-      placed_closed front (drop place bytes) (split bytes place) (pieces_of_body (length front) front) ((body_law (length front) front (pieces_of_body (length front) front)).0 refl)
+      let prefix = text_between bytes 0 place in
+      placed_closed prefix (drop place bytes) (split bytes place) (pieces_of_body (length prefix) prefix) ((body_law (length prefix) prefix (pieces_of_body (length prefix) prefix)).0 refl)
 
   -- ---- a body that is expanded
   abbrev Found : {A : Type 0} → Result A PartFault → Type 0
   Found x = ResultAt read_text texts_in bytes 0 (length bytes) (omega arith) x
 
-  read_parts : (left : ℕ) (ms : List Mark) → PlacedIn ms → Found (parts_in read_text left bytes ms bytes)
+  read_parts : (left : ℕ) (ms : List Piece) → PlacedIn ms → Found (parts_in read_text left bytes ms bytes)
   read_parts left ms p = parts_at read_text texts_in bytes 0 (length bytes) (omega arith) left ms bytes p (omega arith)
 
   then_found : {A B : Type 0} (x : Result A PartFault) (f : A → Result B PartFault) → Found x → ((y : A) → Found (f y)) → Found (and_then x f)
   then_found x f h k = then_at read_text texts_in bytes 0 (length bytes) (omega arith) x f h k
 
-  front_stands : (left : ℕ) (answer : BodyPieces) → IsBody (length bytes) bytes answer
-      → Found (and_then (parts_in read_text left bytes (front_by bytes (body_answer answer)).pieces bytes) (λ parts. unless (front_by bytes (body_answer answer)).fault parts))
-  front_stands left (AllOf ms) h =
-      then_found (parts_in read_text left bytes ms bytes) (λ parts. Ok parts) (read_parts left ms (placed_front (length bytes) bytes [] (sym (append-nil bytes)) (AllOf ms) h)) (λ parts. tt)
-  front_stands left (OpenAt place) (rest, form, to) =
+  prefix_stands : (left : ℕ) (answer : BodyPieces) → IsBody (length bytes) bytes answer
+      → Found (and_then (parts_in read_text left bytes (prefix_by bytes (body_answer answer)).pieces bytes) (λ parts. unless (prefix_by bytes (body_answer answer)).fault parts))
+  prefix_stands left (AllOf ms) h =
+      then_found (parts_in read_text left bytes ms bytes) (λ parts. Ok parts) (read_parts left ms (placed_prefix (length bytes) bytes [] (sym (append-nil bytes)) (AllOf ms) h)) (λ parts. tt)
+  prefix_stands left (OpenAt place) (rest, form, to) =
       let some = opens_some true rest form.begins in
       then_found (parts_in read_text left bytes (closed_pieces (text_between bytes 0 place)) bytes) (λ parts. Err (fault.Refused place))
       (read_parts left (closed_pieces (text_between bytes 0 place)) (placed_before place)) (λ parts. (omega arith, omega (some, to, arith)))
-  front_stands left (TooDeepAt place) (rest, deep, to) =
+  prefix_stands left (TooDeepAt place) (rest, deep, to) =
       let some = body_deep_some (length bytes) bytes rest deep in
       then_found (parts_in read_text left bytes (closed_pieces (text_between bytes 0 place)) bytes) (λ parts. Err (fault.TooDeep place))
       (read_parts left (closed_pieces (text_between bytes 0 place)) (placed_before place)) (λ parts. (omega arith, omega (some, to, arith)))
 
   body_stands : (left : ℕ) → Found (expanded_body read_text left bytes)
-  unfolding expanded_body front_of
-  body_stands left = front_stands left (pieces_of_body (length bytes) bytes) ((body_law (length bytes) bytes (pieces_of_body (length bytes) bytes)).0 refl)
+  unfolding expanded_body prefix_of
+  body_stands left = prefix_stands left (pieces_of_body (length bytes) bytes) ((body_law (length bytes) bytes (pieces_of_body (length bytes) bytes)).0 refl)
 
 -- ---- the places of the bytes of bodies, in the text from the place lo up to, not including, hi
 module _ (lo hi : ℕ) where
@@ -214,14 +214,14 @@ pushed_size : (line : List ℕ) (b : ℕ) → length (line ++ b ∷ []) ≡ suc 
 pushed_size [] b = refl
 pushed_size (c ∷ cs) b = let e = pushed_size cs b in omega (e, arith)
 
-placed_lines : (lo hi n : ℕ) (line bs : List ℕ) → lo ≤ n → n + length line + length bs ≤ hi → LinesAt lo hi (placed n (lines line bs))
+placed_lines : (lo hi n : ℕ) (line bs : List ℕ) → lo ≤ n → n + length line + length bs ≤ hi → LinesAt lo hi (lines_at n (lines line bs))
 placed_lines lo hi n line [] l h = (l, omega (h, arith))
 placed_lines lo hi n line (b ∷ bs) l h =
     go (nat_eq b 10) refl (placed_lines lo hi (suc (n + length line)) [] bs (omega (l, arith)) (omega (h, arith)))
     (let e = pushed_size line b in placed_lines lo hi n (line ++ b ∷ []) bs l (omega (h, e, arith)))
   where
-    go : (c : Bool) → nat_eq b 10 ≡ c → LinesAt lo hi (placed (suc (n + length line)) (lines [] bs)) → LinesAt lo hi (placed n (lines (line ++ b ∷ []) bs)) → LinesAt lo hi (placed n (lines line (b ∷ bs)))
-    go true e f g = rw e (lines_behind lo hi (record { start = n; bytes = line }) (placed (suc (n + length line)) (lines [] bs)) l (omega (h, arith)) f)
+    go : (c : Bool) → nat_eq b 10 ≡ c → LinesAt lo hi (lines_at (suc (n + length line)) (lines [] bs)) → LinesAt lo hi (lines_at n (lines (line ++ b ∷ []) bs)) → LinesAt lo hi (lines_at n (lines line (b ∷ bs)))
+    go true e f g = rw e (lines_behind lo hi (record { start = n; bytes = line }) (lines_at (suc (n + length line)) (lines [] bs)) l (omega (h, arith)) f)
     go false e f g = rw e g
 
 tabs_size : (line : List ℕ) → length (without_tabs line) ≤ length line
@@ -236,7 +236,7 @@ line_size : (tabs : Tabs) (line : List ℕ) → length (line_in tabs line) ≤ l
 line_size Tabs.Kept line = omega arith
 line_size Tabs.Stripped line = tabs_size line
 
-kept_size : (d : Delimiter) (joined : Bool) (line : List ℕ) → length (kept d joined line) ≤ length line
+kept_size : (d : Delimiter) (joined : Bool) (line : List ℕ) → length (body_line d joined line) ≤ length line
 kept_size d true line = omega arith
 kept_size d false line = line_size d.tabs line
 
@@ -249,11 +249,11 @@ record CutAt (lo hi : ℕ) (c : Cut) : Type 0 where
 with_line_at : (lo hi : ℕ) (d : Delimiter) (joined : Bool) (start : ℕ) (line : List ℕ) (c : Cut) → lo ≤ start → start + length line ≤ hi → CutAt lo hi c → CutAt lo hi (with_line d joined start line c)
 with_line_at lo hi d joined start line c l h k =
     let s = kept_size d joined line in
-    let first = start + (length line - length (kept d joined line)) in
-    let count = length (kept d joined line) in
+    let first = start + (length line - length (body_line d joined line)) in
+    let count = length (body_line d joined line) in
     let a : length (kept_places d joined start line ++ c.places) ≡ length (kept_places d joined start line) + length c.places = length-append (kept_places d joined start line) c.places in
-    let b : length (kept d joined line ++ c.text) ≡ length (kept d joined line) + length c.text = length-append (kept d joined line) c.text in
-    let e : length (kept_places d joined start line) ≡ length (kept d joined line) = places_count first count in
+    let b : length (body_line d joined line ++ c.text) ≡ length (body_line d joined line) + length c.text = length-append (body_line d joined line) c.text in
+    let e : length (kept_places d joined start line) ≡ length (body_line d joined line) = places_count first count in
     let f : length c.places ≡ length c.text = k.each in
     record {
       places = both_at lo hi (kept_places d joined start line) c.places (some_places lo hi first count (omega (l, arith)) (omega (h, s, arith))) k.places;
@@ -264,7 +264,7 @@ with_line_at lo hi d joined start line c l h k =
 nothing_left : (lo hi : ℕ) → lo ≤ hi → CutAt lo hi (over hi (lines_from hi []))
 nothing_left lo hi l = record { places = tt; each = refl; rest = (l, omega arith) }
 
-cut_at : (lo hi : ℕ) → lo ≤ hi → (d : Delimiter) (joined : Bool) (ls : List Line) → LinesAt lo hi ls → CutAt lo hi (cut hi d joined ls)
+cut_at : (lo hi : ℕ) → lo ≤ hi → (d : Delimiter) (joined : Bool) (ls : List Line) → LinesAt lo hi ls → CutAt lo hi (cut_of hi d joined ls)
 cut_at lo hi o d joined [] h = nothing_left lo hi o
 cut_at lo hi o d joined (l ∷ []) h = go (not joined && is_end_line d l.bytes) (with_line_at lo hi d joined l.start l.bytes (over hi (lines_from hi [])) h.0 h.1 (nothing_left lo hi o))
   where
@@ -276,10 +276,10 @@ cut_at lo hi o d joined (l ∷ k ∷ ls) h =
     go (not joined && is_end_line d l.bytes)
     (let e = pushed_size l.bytes 10 in
     let a : suc (l.start + length l.bytes) ≤ hi = h.1 in
-    with_line_at lo hi d joined l.start (l.bytes ++ 10 ∷ []) (cut hi d (joins_next d l.bytes) (k ∷ ls)) h.0 (omega (e, a, arith)) (cut_at lo hi o d (joins_next d l.bytes) (k ∷ ls) h.2))
+    with_line_at lo hi d joined l.start (l.bytes ++ 10 ∷ []) (cut_of hi d (joins_next d l.bytes) (k ∷ ls)) h.0 (omega (e, a, arith)) (cut_at lo hi o d (joins_next d l.bytes) (k ∷ ls) h.2))
   where
-    go : (c : Bool) → CutAt lo hi (with_line d joined l.start (l.bytes ++ 10 ∷ []) (cut hi d (joins_next d l.bytes) (k ∷ ls)))
-        → CutAt lo hi (if c then over l.start (k ∷ ls) else with_line d joined l.start (l.bytes ++ 10 ∷ []) (cut hi d (joins_next d l.bytes) (k ∷ ls)))
+    go : (c : Bool) → CutAt lo hi (with_line d joined l.start (l.bytes ++ 10 ∷ []) (cut_of hi d (joins_next d l.bytes) (k ∷ ls)))
+        → CutAt lo hi (if c then over l.start (k ∷ ls) else with_line d joined l.start (l.bytes ++ 10 ∷ []) (cut_of hi d (joins_next d l.bytes) (k ∷ ls)))
     go true x = record { places = tt; each = refl; rest = h.2 }
     go false x = x
 
@@ -294,7 +294,7 @@ DocumentsAt lo hi (d ∷ ds) = DocumentAt lo hi d × DocumentsAt lo hi ds
 cut_all_at : (lo hi : ℕ) → lo ≤ hi → (due : List Delimiter) (ls : List Line) → LinesAt lo hi ls → DocumentsAt lo hi (cut_all hi due ls)
 cut_all_at lo hi o [] ls h = tt
 cut_all_at lo hi o (d ∷ ds) ls h =
-    let c = cut_at lo hi o d false ls h in (record { places = c.places; each = c.each }, cut_all_at lo hi o ds (cut hi d false ls).rest c.rest)
+    let c = cut_at lo hi o d false ls h in (record { places = c.places; each = c.each }, cut_all_at lo hi o ds (cut_of hi d false ls).rest c.rest)
 
 documents_at : (start : ℕ) (due : List Delimiter) (bytes : List ℕ) → DocumentsAt start (start + length bytes) (documents due start bytes)
 unfolding documents
@@ -337,7 +337,7 @@ found_all bytes (Err f) h = h
 document_stands : (left lo hi : ℕ) (d : Document) → DocumentAt lo hi d → All lo hi (document_parts read_text left d)
 unfolding document_parts
 document_stands left lo hi d h =
-    quoted_stands lo hi d.is_quoted (parts_of (ended [] d.text)) (fault_moved (λ at. place_at d at) (expanded_body read_text left d.text))
+    quoted_stands lo hi d.is_quoted (parts_of (with_literal [] d.text)) (fault_moved (λ at. place_at d at) (expanded_body read_text left d.text))
     (moved_stands lo hi (length d.text) (λ at. place_at d at) (λ at l. place_stands lo hi d h at l) (expanded_body read_text left d.text)
     (found_all d.text (expanded_body read_text left d.text) (body_stands d.text left)))
 

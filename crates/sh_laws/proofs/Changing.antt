@@ -7,7 +7,7 @@ use Rattle.sh_laws.proofs.RequestChanges.{forking_changes, forking_grows}
 use Rattle.sh_laws.proofs.RequestLists.{changes_reached, reaches_as_before}
 use Rattle.sh_laws.proofs.Reaching.{forking_reaches}
 use Rattle.sh_laws.proofs.Unmade.{unmade_stay, unmade_stay_forking}
-use Rattle.sh_exec_machine.specs.Forking.{forked}
+use Rattle.sh_exec_machine.specs.Forking.{fork_of}
 use Rattle.sh_kernel_descriptors.specs.Processes.{next_pid}
 use Rattle.sh_kernel.specs.Laws.{ChangesOnlyReached, OnlyGrows, ReachesNoMore, opens}
 use Rattle.sh_kernel.specs.Requests.{Request, after_request}
@@ -66,8 +66,8 @@ module _ (s : KernelState) (pid : ℕ) (directory : List ℕ) (born : pid < next
 
   forks_along : IsForked pid (Along s pid directory)
   forks_along t before writes a =
-      let u = (forked t pid before writes).after in
-      let child = (forked t pid before writes).child in
+      let u = (fork_of t pid before writes).after in
+      let child = (fork_of t pid before writes).child in
       let more = fork_by pid directory t before writes in
       record {
         asked = by_then pid directory child s t u a.asked more;

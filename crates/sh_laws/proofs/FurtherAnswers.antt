@@ -1,8 +1,8 @@
 -- More answers than an expansion needs change nothing but what is left of them.
 use Rattle.std.proofs.Common.{◌≡◌, ℕ, Bool, true, false, List, [], ◌∷◌, ◌++◌, Some, refl, sym, ap, subst}
 use Rattle.sh_vars.specs.Environment.{Environment}
-use Rattle.sh_syntax.specs.declared.tree.Complete.{Complete}
-use Rattle.sh_expand_parts.specs.Closings.{closed}
+use Rattle.sh_syntax.specs.declared.tree.CompoundList.{CompoundList}
+use Rattle.sh_expand_parts.specs.Closings.{closing_for}
 use Rattle.sh_expand_parts.specs.declared.closing.Closed.{Closed}
 use Rattle.sh_expand_parts.specs.declared.closing.Closed.TheVariants as closed_as
 use Rattle.sh_expand_parts.specs.declared.closing.Purpose.{Purpose}
@@ -11,7 +11,7 @@ use Rattle.sh_expand_parts.specs.declared.draft.Draft.{Draft}
 use Rattle.sh_expand_parts.specs.declared.forms.Begun.{Begun}
 use Rattle.sh_expand_parts.specs.declared.forms.Begun.TheVariants.{Adds, Enters, Fails}
 use Rattle.sh_expand.specs.declared.place.Place.{Place}
-use Rattle.sh_expand.specs.Expansion.{State, Outcome, Need, Done, Stops, Piece, Run, answered, asks, begins, begins_alone, closes, ended_as, enters, fresh, is_end, place, run_from, then}
+use Rattle.sh_expand.specs.Expansion.{State, Outcome, Need, Done, Stops, Piece, Run, command_substitution, asks, begins, begins_alone, closes, ended_as, enters, fresh, is_end, place, run_from, then}
 
 abbrev pub with_more : State → List (List ℕ) → State
 with_more s m = record s { answers = s.answers ++ m }
@@ -45,7 +45,7 @@ ended_grows (closed_as.Ends w) e s m = refl
 ended_grows (closed_as.Fails f) e s m = refl
 
 closes_grows : (purpose : Purpose) (saved : Draft) → Grows (closes purpose saved)
-closes_grows purpose saved s m = let c = closed purpose saved s.draft s.env in ended_grows c.closed c.env s m
+closes_grows purpose saved s m = let c = closing_for purpose saved s.draft s.env in ended_grows c.closed c.env s m
 
 pub enters_grows : (purpose : Purpose) (context : Context) (inner : List Piece) → AllGrow inner → Grows (enters purpose context inner)
 enters_grows purpose context inner a s m =
@@ -62,10 +62,10 @@ begins_alone_grows (Adds d) s m = refl
 begins_alone_grows (Enters purpose context) s m = refl
 begins_alone_grows (Fails f) s m = refl
 
-answered_grows : (context : Context) (program : Complete) (xs : List (List ℕ)) (s : State) (m : List (List ℕ))
-    → Grown m (answered context program xs s) (answered context program (xs ++ m) (with_more s m))
+answered_grows : (context : Context) (program : CompoundList) (xs : List (List ℕ)) (s : State) (m : List (List ℕ))
+    → Grown m (command_substitution context program xs s) (command_substitution context program (xs ++ m) (with_more s m))
 answered_grows context program [] s m = tt
 answered_grows context program (x ∷ xs) s m = refl
 
-pub asks_grows : (context : Context) (program : Complete) → Grows (asks context (Some program))
+pub asks_grows : (context : Context) (program : CompoundList) → Grows (asks context (Some program))
 asks_grows context program s m = answered_grows context program s.answers s m

@@ -7,8 +7,8 @@ use Rattle.std.proofs.lemmas.List.Sums.{sum_by-append, sum_by-cons}
 use Rattle.sh_grammar.specs.declared.Symbol.{Symbol}
 use Rattle.sh_grammar.specs.declared.Symbol.TheVariants.{Terminal, Nonterminal}
 use Rattle.sh_grammar.specs.declared.Token.{Token}
-use Rattle.sh_grammar.specs.Awaited.{awaited, is_nonterminal, times_in}
-use Rattle.sh_grammar.specs.Computed.{body_in, is_front, lead, rule_body, stack_after, taken}
+use Rattle.sh_grammar.specs.Awaited.{awaited_count, is_nonterminal, times_in}
+use Rattle.sh_grammar.specs.Computed.{body_in, is_prefix, lead, rule_body, stack_after, next_stack}
 use Rattle.sh_grammar.specs.Grammar.{Grammar, Rule}
 use Rattle.sh_grammar.specs.Table.{Table, cost_of, first_of, table_of}
 use Rattle.sh_grammar.specs.Tabulation.{Tabulation, grammar_of}
@@ -17,7 +17,7 @@ use Rattle.sh_token_grammar.specs.declared.class.TokenClass.{TokenClass}
 use Rattle.sh_token_grammar.specs.Shell.{compound_end, number_of, substitution}
 use Rattle.sh_token_pieces.specs.declared.context.Context.{Context}
 use Rattle.sh_token_pieces.specs.declared.context.Context.TheVariants.{Top, Commands, Word, Quotes, Braces, Arithmetic, Parenthesis, Body}
-use Rattle.sh_token_pieces.specs.Marks.{levels, with_token}
+use Rattle.sh_token_pieces.specs.Pieces.{levels, with_token}
 use Rattle.sh_token_pieces.specs.Nested.{open_in}
 use Rattle.sh_token_pieces.specs.Taken.{followed_by, token_of}
 use Rattle.sh_token_pieces.specs.TokenClasses.{Told, class_of}
@@ -104,16 +104,16 @@ module _ (g : Grammar) (t : Table) (m c : ℕ) (new : List Symbol) where
       go None h ih = body_leads f n [] stack (none refl) ih h
       go (Some p) h ih = body_leads f n (body_in (slice_get g.rules p)) stack (at_rule m g.rules p a) ih h
 
-  taken_grows : all_once m g.rules ≡ true → (stack : List Symbol) → taken g t stack c ≡ Some new → Grows stack
+  taken_grows : all_once m g.rules ≡ true → (stack : List Symbol) → next_stack g t stack c ≡ Some new → Grows stack
   taken_grows a stack e = go (first_of g t stack c) e
     where
       go : (b : Bool) → cond b (lead g t (suc (cost_of t stack)) stack c) None ≡ Some new → Grows stack
       go true h = lead_grows a (suc (cost_of t stack)) stack h
       go false h = absurd (cc)
 
-awaited_grows : (d : Tabulation) (m : ℕ) → all_once m (grammar_of d).rules ≡ true → (tokens : List Token) (u : Token) → awaited d m (tokens ++ u ∷ []) ≤ suc (awaited d m tokens)
+awaited_grows : (d : Tabulation) (m : ℕ) → all_once m (grammar_of d).rules ≡ true → (tokens : List Token) (u : Token) → awaited_count d m (tokens ++ u ∷ []) ≤ suc (awaited_count d m tokens)
 awaited_grows d m a tokens u =
-    subst (λ y. times_in m y ≤ suc (awaited d m tokens)) (sym (stack_append g t (Some (Nonterminal d.start ∷ [])) tokens (u ∷ [])))
+    subst (λ y. times_in m y ≤ suc (awaited_count d m tokens)) (sym (stack_append g t (Some (Nonterminal d.start ∷ [])) tokens (u ∷ [])))
     (go (stack_after g t (Some (Nonterminal d.start ∷ [])) tokens))
   where
     g : Grammar
@@ -122,13 +122,13 @@ awaited_grows d m a tokens u =
     t : Table
     t = table_of d
 
-    next : (stack : List Symbol) (y : Option (List Symbol)) → taken g t stack u.class ≡ y → times_in m (stack_after g t y []) ≤ suc (times m stack)
+    next : (stack : List Symbol) (y : Option (List Symbol)) → next_stack g t stack u.class ≡ y → times_in m (stack_after g t y []) ≤ suc (times m stack)
     next stack None e = omega arith
     next stack (Some new) e = taken_grows g t m u.class new a stack e
 
     go : (o : Option (List Symbol)) → times_in m (stack_after g t o (u ∷ [])) ≤ suc (times_in m o)
     go None = omega arith
-    go (Some stack) = next stack (taken g t stack u.class) refl
+    go (Some stack) = next stack (next_stack g t stack u.class) refl
 
 substitution_once : all_once (number_of compound_end) (grammar_of substitution).rules ≡ true
 unfolding substitution
@@ -136,9 +136,9 @@ substitution_once = refl
 
 open_grows : (c : TokenClass) (tokens : List Token) → open_in (followed_by c tokens) ≤ suc (open_in tokens)
 unfolding open_in
-open_grows c tokens = go (is_front substitution tokens)
+open_grows c tokens = go (is_prefix substitution tokens)
   where
-    go : (b : Bool) → awaited substitution (number_of compound_end) (cond b (tokens ++ token_of c ∷ []) tokens) ≤ suc (awaited substitution (number_of compound_end) tokens)
+    go : (b : Bool) → awaited_count substitution (number_of compound_end) (cond b (tokens ++ token_of c ∷ []) tokens) ≤ suc (awaited_count substitution (number_of compound_end) tokens)
     go true = awaited_grows substitution (number_of compound_end) substitution_once tokens (token_of c)
     go false = omega arith
 

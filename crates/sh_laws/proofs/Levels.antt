@@ -9,8 +9,8 @@ use Rattle.sh_token_pieces.specs.declared.character.Character.TheVariants.{Plain
 use Rattle.sh_token_pieces.specs.declared.context.Context.{Context}
 use Rattle.sh_token_pieces.specs.declared.context.Context.TheVariants.{Top, Commands, Word, Quotes, Braces, Arithmetic, Parenthesis, Body}
 use Rattle.sh_token_pieces.specs.declared.head.Head.{Head}
-use Rattle.sh_token_pieces.specs.declared.mark.Mark.{Mark}
-use Rattle.sh_token_pieces.specs.declared.mark.Mark.TheVariants.{Byte, Escaped, Backslash, SingleQuoted, DoubleQuotesOpen, DoubleQuotesClose, Dollar, Variable, Parameter, BraceOpen, BraceClose, ArithmeticOpen, ArithmeticClose, CommandsOpen, CommandsClose, Backquoted, WordOpen, WordClose, Blank, Comment, Bodies}
+use Rattle.sh_token_pieces.specs.declared.piece.Piece.{Piece}
+use Rattle.sh_token_pieces.specs.declared.piece.Piece.TheVariants.{Byte, Escaped, Backslash, SingleQuoted, DoubleQuotesOpen, DoubleQuotesClose, Dollar, Variable, Parameter, BraceOpen, BraceClose, ArithmeticOpen, ArithmeticClose, CommandsOpen, CommandsClose, Backquoted, WordOpen, WordClose, Blank, Comment, Bodies}
 use Rattle.sh_token_pieces.specs.declared.operator.Operator.{Operator}
 use Rattle.sh_token_pieces.specs.Bytes.{is_end, is_redirection}
 use Rattle.sh_token_pieces.specs.Characters.{plain, raw, Written, Ahead, Next, InputEnd, Unknown, ahead, next_is}
@@ -19,8 +19,8 @@ use Rattle.sh_token_pieces.specs.Here.{lines, are_bodies}
 use Rattle.sh_token_pieces.specs.Nested.{none_yet}
 use Rattle.sh_token_pieces.specs.Operators.{operator_text}
 use Rattle.sh_token_pieces.specs.TokenClasses.{Told, OfBodies, OfOperator, OfWord, is_byte, class_of_word, class_of_operator}
-use Rattle.sh_token_pieces.specs.Spelling.{spell_mark}
-use Rattle.sh_token_pieces.specs.Marks.{AreMarks, IsMark, behind, begins_word, between_tokens, braces_of, contexts_behind, due_in, ends_operator, ends_word, has_due, is_arithmetic, is_more, is_parenthesis, is_quoted, is_word, levels, parenthesized, same_as, top_of, with_token, word_begins, word_over}
+use Rattle.sh_token_pieces.specs.Spelling.{spell_piece}
+use Rattle.sh_token_pieces.specs.Pieces.{ArePieces, IsPiece, behind, begins_word, between_tokens, braces_of, contexts_behind, due_in, ends_operator, ends_word, has_due, is_arithmetic, is_more, is_parenthesis, is_quoted, is_word, levels, behind_byte, same_as, top_of, with_token, word_begins, word_over}
 use Rattle.sh_token.specs.Body.{TooDeepAt, IsBodyTooDeep}
 use Rattle.sh_token.specs.FirstToken.{DeepAt, IsFirst}
 use Rattle.sh_token.specs.Found.{first_token, pieces_of_body}
@@ -98,7 +98,7 @@ words_token c (Parenthesis ∷ xs) = refl
 words_token c (Body ∷ xs) = refl
 
 -- the end of a word opens a level at most, and leaves the word
-over_levels : (r : Bool) (done : List Mark) (x : Context) (xs : List Context) → levels (word_over r done (x ∷ xs)) + words (word_over r done (x ∷ xs)) ≤ levels (x ∷ xs) + words (x ∷ xs)
+over_levels : (r : Bool) (done : List Piece) (x : Context) (xs : List Context) → levels (word_over r done (x ∷ xs)) + words (word_over r done (x ∷ xs)) ≤ levels (x ∷ xs) + words (x ∷ xs)
 over_levels r done Top xs = let a = below Top xs in let b = words_below Top xs in omega (a, b, arith)
 over_levels r done (Commands ts) xs = let a = below (Commands ts) xs in let b = words_below (Commands ts) xs in omega (a, b, arith)
 over_levels r done (Word n) xs =
@@ -119,7 +119,7 @@ braces_words : (q : Bool) (head : Option Head) (xs : List Context) → words (br
 braces_words q None xs = refl
 braces_words q (Some h) xs = refl
 
-parenthesized_words : (b : ℕ) (x : Context) (xs : List Context) → words (parenthesized b x xs) ≤ words (x ∷ xs)
+parenthesized_words : (b : ℕ) (x : Context) (xs : List Context) → words (behind_byte b x xs) ≤ words (x ∷ xs)
 parenthesized_words b x xs = go (nat_eq b 40 && (is_arithmetic x || is_parenthesis x)) (nat_eq b 41 && is_parenthesis x)
   where
     go : (c d : Bool) → words (cond c (Parenthesis ∷ x ∷ xs) (cond d xs (x ∷ xs))) ≤ words (x ∷ xs)
@@ -145,7 +145,7 @@ begins_no_end (Next (Raw b)) h g = cc
 begins_no_end InputEnd h g = cc
 begins_no_end Unknown h g = cc
 
-abbrev is_open : Mark → Bool
+abbrev is_open : Piece → Bool
 is_open WordOpen = true
 is_open m = false
 
@@ -158,7 +158,7 @@ abbrev Fresh : Bool → Bool → Context → List ℕ → Type 0
 Fresh e fresh x bytes = fresh ≡ true → (is_word x ≡ true) × (begins_word (ahead e bytes) ≡ true)
 
 -- a piece weighs no more than its bytes
-module _ (e : Bool) (limit : ℕ) (fresh : Bool) (done : List Mark) (x : Context) (xs : List Context) (bytes after : List ℕ) where
+module _ (e : Bool) (limit : ℕ) (fresh : Bool) (done : List Piece) (x : Context) (xs : List Context) (bytes after : List ℕ) where
   abbrev Holds : Bool → List Context → Type 0
   Holds again ys = weight again ys + length after ≤ weight fresh (x ∷ xs) + length bytes
 
@@ -191,14 +191,14 @@ module _ (e : Bool) (limit : ℕ) (fresh : Bool) (done : List Mark) (x : Context
   between_no : between_tokens x ≡ true → Fresh e fresh x bytes → fresh ≡ true → ⊥
   between_no b f i = no_word (between_no_word x b) f i
 
-  opened : Fresh e fresh x bytes → IsMark e limit done x xs WordOpen bytes after → Holds true (Word (length done) ∷ x ∷ xs)
+  opened : Fresh e fresh x bytes → IsPiece e limit done x xs WordOpen bytes after → Holds true (Word (length done) ∷ x ∷ xs)
   opened f i = go fresh (between_no (and_true (between_tokens x) (begins_word (ahead e after)) i.fits).0 f)
     where
       go : (c : Bool) → (c ≡ true → ⊥) → weight true (Word (length done) ∷ x ∷ xs) + length after ≤ weight c (x ∷ xs) + length bytes
       go true n = absurd (n refl)
       go false n = let a = ap length i.written in omega (a, arith)
 
-  closed : (r : Bool) → Fresh e fresh x bytes → IsMark e limit done x xs (WordClose r) bytes after → Holds false (word_over r done (x ∷ xs))
+  closed : (r : Bool) → Fresh e fresh x bytes → IsPiece e limit done x xs (WordClose r) bytes after → Holds false (word_over r done (x ∷ xs))
   closed r f i = go fresh never
     where
       ends : ends_word (ahead e after) ≡ true
@@ -211,9 +211,9 @@ module _ (e : Bool) (limit : ℕ) (fresh : Bool) (done : List Mark) (x : Context
       go true n = absurd (n refl)
       go false n = let a = ap length i.written in let b = over_levels r done x xs in omega (a, b, arith)
 
-  one_piece : (m : Mark) → Fresh e fresh x bytes → IsMark e limit done x xs m bytes after → Holds (is_open m) (behind done x xs m)
+  one_piece : (m : Piece) → Fresh e fresh x bytes → IsPiece e limit done x xs m bytes after → Holds (is_open m) (behind done x xs m)
   one_piece (Byte b) f i =
-      let a : levels (parenthesized b x xs) ≡ levels (x ∷ xs) = levels_parenthesized limit x xs done 0 b in flat (Plain b) [] (parenthesized b x xs) i.written (omega (a, arith)) (parenthesized_words b x xs)
+      let a : levels (behind_byte b x xs) ≡ levels (x ∷ xs) = levels_parenthesized limit x xs done 0 b in flat (Plain b) [] (behind_byte b x xs) i.written (omega (a, arith)) (parenthesized_words b x xs)
   one_piece (Escaped b) f i = flat (Quoted b) [] (x ∷ xs) i.written (omega arith) (omega arith)
   one_piece (Backslash b) f i = flat (Quoted b) [] (x ∷ xs) i.written (omega arith) (omega arith)
   one_piece (SingleQuoted bs) f i = flat (Plain 39) (raw bs ++ Raw 39 ∷ []) (x ∷ xs) i.written (omega arith) (omega arith)
@@ -238,12 +238,12 @@ module _ (e : Bool) (limit : ℕ) (fresh : Bool) (done : List Mark) (x : Context
   one_piece (Bodies bs) f i =
       let d = and_true (has_due x) (are_bodies (due_in x) false (lines [] bs)) i.fits in
       token (with_token OfBodies (x ∷ xs)) (no_word (due_no_word x d.0) f) (written_some e (Plain 10) (raw bs) bytes after i.written) (levels_grow OfBodies (x ∷ xs)) (words_token OfBodies (x ∷ xs))
-  one_piece (Mark.Operator o) f i =
+  one_piece (Piece.Operator o) f i =
       let d = and_true (between_tokens x) (ends_operator o (ahead e after) && not (is_more o x)) i.fits in
       token (with_token (OfOperator o) (x ∷ xs)) (between_no d.0 f) (operator_some e o bytes after (made o) i.written) (levels_grow (OfOperator o) (x ∷ xs)) (words_token (OfOperator o) (x ∷ xs))
 
 -- whether the innermost word begins behind a piece
-fresh_behind : (e : Bool) (limit : ℕ) (done : List Mark) (x : Context) (xs : List Context) (m : Mark) (bytes after : List ℕ) (y : Context) (ys : List Context) → IsMark e limit done x xs m bytes after → behind done x xs m ≡ y ∷ ys
+fresh_behind : (e : Bool) (limit : ℕ) (done : List Piece) (x : Context) (xs : List Context) (m : Piece) (bytes after : List ℕ) (y : Context) (ys : List Context) → IsPiece e limit done x xs m bytes after → behind done x xs m ≡ y ∷ ys
     → Fresh e (is_open m) y after
 fresh_behind e limit done x xs (Byte b) bytes after y ys i w = λ t. absurd (cc)
 fresh_behind e limit done x xs (Escaped b) bytes after y ys i w = λ t. absurd (cc)
@@ -267,9 +267,9 @@ fresh_behind e limit done x xs (WordClose r) bytes after y ys i w = λ t. absurd
 fresh_behind e limit done x xs (Blank b) bytes after y ys i w = λ t. absurd (cc)
 fresh_behind e limit done x xs (Comment bs) bytes after y ys i w = λ t. absurd (cc)
 fresh_behind e limit done x xs (Bodies bs) bytes after y ys i w = λ t. absurd (cc)
-fresh_behind e limit done x xs (Mark.Operator o) bytes after y ys i w = λ t. absurd (cc)
+fresh_behind e limit done x xs (Piece.Operator o) bytes after y ys i w = λ t. absurd (cc)
 
-all_pieces : (e : Bool) (limit : ℕ) (fresh : Bool) (ms done : List Mark) (xs : List Context) (bytes rest : List ℕ) → ((y : Context) (ys : List Context) → xs ≡ y ∷ ys → Fresh e fresh y bytes) → AreMarks e limit done xs ms bytes rest
+all_pieces : (e : Bool) (limit : ℕ) (fresh : Bool) (ms done : List Piece) (xs : List Context) (bytes rest : List ℕ) → ((y : Context) (ys : List Context) → xs ≡ y ∷ ys → Fresh e fresh y bytes) → ArePieces e limit done xs ms bytes rest
     → levels (contexts_behind done xs ms) + length rest ≤ weight fresh xs + length bytes
 all_pieces e limit fresh [] done xs bytes rest f a = subst (λ z. levels xs + length z ≤ weight fresh xs + length bytes) a (omega arith)
 all_pieces e limit fresh (m ∷ ms) done [] bytes rest f a = absurd a
@@ -279,7 +279,7 @@ all_pieces e limit fresh (m ∷ ms) done (x ∷ xs) bytes rest f a =
     omega (one, others, arith)
 
 -- pieces that begin in no word
-from_ground : (e : Bool) (limit : ℕ) (ms done : List Mark) (x : Context) (bytes rest : List ℕ) → words (x ∷ []) ≡ 0 → levels (x ∷ []) ≡ 0 → AreMarks e limit done (x ∷ []) ms bytes rest
+from_ground : (e : Bool) (limit : ℕ) (ms done : List Piece) (x : Context) (bytes rest : List ℕ) → words (x ∷ []) ≡ 0 → levels (x ∷ []) ≡ 0 → ArePieces e limit done (x ∷ []) ms bytes rest
     → levels (contexts_behind done (x ∷ []) ms) + length rest ≤ length bytes
 from_ground e limit ms done x bytes rest w l a =
     let h = all_pieces e limit false ms done (x ∷ []) bytes rest (λ y ys k t. absurd (cc)) a in
@@ -302,7 +302,7 @@ record TooMany (limit : ℕ) (place : List ℕ) (xs : List Context) : Type 0 whe
   full : limit ≤ levels xs
   some : 0 < length place
 
-by_word : (e : Bool) (limit : ℕ) (done : List Mark) (place : List ℕ) (xs : List Context) (ms : List Mark) (r : Bool) (middle : List ℕ) → AreMarks e limit done xs (WordOpen ∷ ms) place middle
+by_word : (e : Bool) (limit : ℕ) (done : List Piece) (place : List ℕ) (xs : List Context) (ms : List Piece) (r : Bool) (middle : List ℕ) → ArePieces e limit done xs (WordOpen ∷ ms) place middle
     → Exceeds e limit (done ++ WordOpen ∷ ms) (Word (length done)) xs (WordClose r) middle → TooMany limit place xs
 by_word e limit done place xs ms r middle a d =
     let c = OfWord r (drop (suc (length done)) (done ++ WordOpen ∷ ms)) in
@@ -312,17 +312,17 @@ by_word e limit done place xs ms r middle a d =
     let h = ap (λ z. begins_compound (class_of_word r z)) (sym (behind_open done ms)) ∙ p.0 in
     record { full = omega (g, o, arith); some = first_byte ms h xs a }
   where
-    first_byte : (ms : List Mark) → begins_compound (class_of_word r ms) ≡ true → (xs : List Context) → AreMarks e limit done xs (WordOpen ∷ ms) place middle → 0 < length place
+    first_byte : (ms : List Piece) → begins_compound (class_of_word r ms) ≡ true → (xs : List Context) → ArePieces e limit done xs (WordOpen ∷ ms) place middle → 0 < length place
     first_byte ms h [] a = absurd a
     first_byte [] h (x ∷ xs) a = absurd (begins_some r h)
     first_byte (m ∷ ms) h (x ∷ xs) a =
         let b = byte_of m (and_true (is_byte m) (list_all is_byte ms) (begins_bytes r (m ∷ ms) h)).0 in
-        let w : Written e (Plain b.byte ∷ []) a.0 a.2.0 = subst (λ z. Written e (spell_mark z) a.0 a.2.0) b.is a.2.1.written in
+        let w : Written e (Plain b.byte ∷ []) a.0 a.2.0 = subst (λ z. Written e (spell_piece z) a.0 a.2.0) b.is a.2.1.written in
         let s = written_some e (Plain b.byte) [] a.0 a.2.0 w in
         let l = ap length a.1.written in
         omega (s, l, arith)
 
-too_many : (e : Bool) (limit : ℕ) (done : List Mark) (place : List ℕ) (xs : List Context) → OpensTooMany e limit done place xs → TooMany limit place xs
+too_many : (e : Bool) (limit : ℕ) (done : List Piece) (place : List ℕ) (xs : List Context) → OpensTooMany e limit done place xs → TooMany limit place xs
 too_many e limit done place xs (form _ w h o) = record { full = full_is (levels xs) limit h; some = opens_some e place o }
 too_many e limit done place _ (operator o x xs d) =
     let p = and_true (begins_compound (class_of_operator o)) (nat_lt limit (levels (with_token (OfOperator o) (x ∷ xs)))) d.exceeds in
@@ -333,18 +333,18 @@ too_many e limit done place _ (operator o x xs d) =
 too_many e limit done place xs (word ms r _ middle a k d) = by_word e limit done place xs ms r middle a d
 
 pub deep_some : (e : Bool) (limit : ℕ) (bytes place : List ℕ) → IsTooDeep e limit bytes place → 0 < length place
-deep_some e limit bytes place h = (too_many e limit (h.gap ++ WordOpen ∷ h.marks) place (contexts_behind h.gap (Top ∷ []) (WordOpen ∷ h.marks)) h.opens).some
+deep_some e limit bytes place h = (too_many e limit (h.gap ++ WordOpen ∷ h.pieces) place (contexts_behind h.gap (Top ∷ []) (WordOpen ∷ h.pieces)) h.opens).some
 
 pub body_deep_some : (limit : ℕ) (bytes place : List ℕ) → IsBodyTooDeep limit bytes place → 0 < length place
-body_deep_some limit bytes place h = (too_many true limit h.marks place (contexts_behind [] (Body ∷ []) h.marks) h.opens).some
+body_deep_some limit bytes place h = (too_many true limit h.pieces place (contexts_behind [] (Body ∷ []) h.pieces) h.opens).some
 
 not_deep : (e : Bool) (limit : ℕ) (bytes place : List ℕ) → length bytes ≤ limit → IsTooDeep e limit bytes place → ⊥
 not_deep e limit bytes place l h =
     let a = from_ground e limit h.gap [] Top bytes h.middle refl refl h.between in
-    let b = joined_length h.middle h.front h.joined in
-    let c = from_ground e limit (WordOpen ∷ h.marks) h.gap Top h.front h.last refl refl h.before in
+    let b = joined_length h.middle h.prefix h.joined in
+    let c = from_ground e limit (WordOpen ∷ h.pieces) h.gap Top h.prefix h.last refl refl h.before in
     let d = joined_length h.last place h.placed in
-    let o = too_many e limit (h.gap ++ WordOpen ∷ h.marks) place (contexts_behind h.gap (Top ∷ []) (WordOpen ∷ h.marks)) h.opens in
+    let o = too_many e limit (h.gap ++ WordOpen ∷ h.pieces) place (contexts_behind h.gap (Top ∷ []) (WordOpen ∷ h.pieces)) h.opens in
     let f = o.full in
     let s = o.some in
     omega (a, b, c, d, f, s, l, arith)
@@ -356,9 +356,9 @@ token_not_deep e limit bytes place l h =
 
 body_deep : (limit : ℕ) (bytes place : List ℕ) → length bytes ≤ limit → IsBodyTooDeep limit bytes place → ⊥
 body_deep limit bytes place l h =
-    let a = from_ground true limit h.marks [] Body bytes h.last refl refl h.before in
+    let a = from_ground true limit h.pieces [] Body bytes h.last refl refl h.before in
     let d = joined_length h.last place h.placed in
-    let o = too_many true limit h.marks place (contexts_behind [] (Body ∷ []) h.marks) h.opens in
+    let o = too_many true limit h.pieces place (contexts_behind [] (Body ∷ []) h.pieces) h.opens in
     let f = o.full in
     let s = o.some in
     omega (a, d, f, s, l, arith)

@@ -2,7 +2,7 @@
 use Rattle.std.proofs.Common.{◌≡◌, ℕ, List, [], ◌∷◌, ◌++◌, Bool, true, false, ◌||◌, Option, Some, None, ◌⊎◌, inl, inr, refl, sym, ap, ◌∙◌}
 use Rattle.sh_exec.specs.Turns.{turn}
 use Rattle.sh_exec.specs.declared.process.Process.{Process}
-use Rattle.sh_exec_machine.specs.Forking.{forked}
+use Rattle.sh_exec_machine.specs.Forking.{fork_of}
 use Rattle.sh_kernel.specs.Laws.{opens}
 use Rattle.sh_kernel.specs.Requests.{Request, after_request}
 use Rattle.sh_kernel.specs.State.{KernelState}
@@ -52,7 +52,7 @@ module _ (pid : ℕ) (directory : List ℕ) where
   by_then made s t u a b =
       (a.0 ++ b.0, (append_by made a.0 b.0 (more_by made a.0 a.1.0) b.1.0, b.1.1 ∙ ap (λ (v : KernelState). after_all v b.0) a.1.1 ∙ sym (after_append s a.0 b.0)))
 
-  pub fork_by : (s : KernelState) (before : Option ℕ) (writes : Bool) → ByRequests pid (forked s pid before writes).child directory s (forked s pid before writes).after
+  pub fork_by : (s : KernelState) (before : Option ℕ) (writes : Bool) → ByRequests pid (fork_of s pid before writes).child directory s (fork_of s pid before writes).after
   fork_by s before writes =
       fork_keeps directory pid (λ made. ByRequests pid made directory s) (λ made. own_more made s)
       (λ t child b. (b.0, (more_by (Some child) b.0 b.1.0, b.1.1))) (λ child. one_by (Some child) s child (inr refl))
@@ -62,5 +62,5 @@ pub turns : {S : Type 0} (m : Meaning S) (s : KernelState) (pid : ℕ) (process 
 turns m s pid process =
     let directory = directory_of process in
     turn_keeps m directory pid (λ made. ByRequests pid made directory s) (λ made. own_more pid directory made s)
-    (λ t before writes b. by_then pid directory (forked t pid before writes).child s t (forked t pid before writes).after b (fork_by pid directory t before writes))
+    (λ t before writes b. by_then pid directory (fork_of t pid before writes).child s t (fork_of t pid before writes).after b (fork_by pid directory t before writes))
     s process refl ([], (tt, refl))

@@ -9,11 +9,11 @@ use Rattle.std.proofs.lemmas.Bool.{and_parts, eqb-true, leb-true}
 use Rattle.std.proofs.lemmas.Bool.Decides.{nat_tests}
 use Rattle.std.proofs.lemmas.Slice.Eq.{bytes_eq-Decides}
 use Rattle.sh_files_image.specs.Contents.{Regular}
-use Rattle.sh_files_image.specs.Paths.{absolute, begins_at_root, components, fits, good_names, has_slash, is_device, is_good_name, is_image_path, joined, names_fit, parent}
+use Rattle.sh_files_image.specs.Paths.{absolute, begins_at_root, components, fits, good_names, has_slash, is_device, is_good_name, is_image_path, path_in, names_fit, parent}
 use Rattle.sh_files_image.specs.declared.node.Node.{Node}
 use Rattle.sh_files_image.specs.declared.node.Node.TheVariants.{Directory, File, Null, Terminal}
 use Rattle.sh_files.specs.Image.{is_directory, path_fault}
-use Rattle.sh_files.specs.Nodes.{FileMap, allows, created, emptied, is_empty, may_create, new_file, node_at, numbered, open_node, open_number, open_place, opened, resolved, starting, walked, with_new, with_node}
+use Rattle.sh_files.specs.Nodes.{FileMap, allows, file_creation, file_after_open, is_empty, may_create, new_file, node_at, number_and_files, open_node, open_number, open_place, opened, resolution, starting, walk_end, with_new, with_node}
 use Rattle.sh_files.specs.Whole.{IsWhole}
 use Rattle.sh_files.specs.declared.fault.FileFault.{FileFault}
 use Rattle.sh_files.specs.declared.fault.FileFault.TheVariants.{Exists, NoAccess, NoEntry}
@@ -44,7 +44,7 @@ absolute_rooted directory path h = at (begins_at_root path) refl
     in_it true = (path, refl)
     in_it false = let r = rooted directory h in (r.0 ++ 47 ∷ path, ap (λ xs. xs ++ 47 ∷ path) r.1)
 
-    at : (b : Bool) → begins_at_root path ≡ b → (rest : List ℕ) × ((if b then path else joined directory path) ≡ 47 ∷ rest)
+    at : (b : Bool) → begins_at_root path ≡ b → (rest : List ℕ) × ((if b then path else path_in directory path) ≡ 47 ∷ rest)
     at true e = rooted path e
     at false e = in_it (bytes_eq directory (codes "/"))
 
@@ -52,26 +52,26 @@ parts_are : (n : ℕ) (l : List (List ℕ)) → Good n l → NoSlash l × (total
 parts_are n [] g = absurd g
 parts_are n (y ∷ ys) g = g
 
-from_root : (files : FileMap) (rest r : List ℕ) → IsWhole files → length (47 ∷ rest) ≤ 1024 → names_fit (components (47 ∷ rest)) ≡ true → walked files (codes "/") (components (47 ∷ rest)) ≡ Ok r
+from_root : (files : FileMap) (rest r : List ℕ) → IsWhole files → length (47 ∷ rest) ≤ 1024 → names_fit (components (47 ∷ rest)) ≡ true → walk_end files (codes "/") (components (47 ∷ rest)) ≡ Ok r
     → Standing files r × Short r 1024
 from_root files rest r w l f h =
     let g = parts_are (length rest) (slice_split slash rest) (split_good rest) in
-    let e = entered (node_at files (codes "/")) (walked files (codes "/") (slice_split slash rest)) r h in
+    let e = entered (node_at files (codes "/")) (walk_end files (codes "/") (slice_split slash rest)) r h in
     let s = walk files (slice_split slash rest) (codes "/") r 0 w (inl e.0) (inl refl) g.0 f e.1 in
     (s.0, longer r (total (slice_split slash rest) + 0) 1024 s.1 (omega (arith, l, g.1)))
 
-pub reached : (files : FileMap) (directory path r : List ℕ) → begins_at_root directory ≡ true → IsWhole files → resolved files directory path ≡ Ok r → Standing files r × Short r 1024
+pub reached : (files : FileMap) (directory path r : List ℕ) → begins_at_root directory ≡ true → IsWhole files → resolution files directory path ≡ Ok r → Standing files r × Short r 1024
 reached files directory path r b w h = tried (is_empty path) (fits directory path) refl h
   where
-    from : (fits directory path ≡ true) → walked files (codes "/") (components (absolute directory path)) ≡ Ok r → Standing files r × Short r 1024
+    from : (fits directory path ≡ true) → walk_end files (codes "/") (components (absolute directory path)) ≡ Ok r → Standing files r × Short r 1024
     from f g =
         let a = absolute_rooted directory path b in
         let k = and_parts (nat_le (length path) 1024) _ f in
         let m = and_parts (nat_le (length (absolute directory path)) 1024) (names_fit (components (absolute directory path))) k.1 in
         from_root files a.0 r w (leb-true (length (47 ∷ a.0)) 1024 (ap (λ xs. nat_le (length xs) 1024) (sym a.1) ∙ m.0)) (ap (λ xs. names_fit (components xs)) (sym a.1) ∙ m.1)
-        (ap (λ xs. walked files (codes "/") (components xs)) (sym a.1) ∙ g)
+        (ap (λ xs. walk_end files (codes "/") (components xs)) (sym a.1) ∙ g)
 
-    tried : (e f : Bool) → fits directory path ≡ f → (if e || not f then Err NoEntry else walked files (codes "/") (components (absolute directory path))) ≡ Ok r → Standing files r × Short r 1024
+    tried : (e f : Bool) → fits directory path ≡ f → (if e || not f then Err NoEntry else walk_end files (codes "/") (components (absolute directory path))) ≡ Ok r → Standing files r × Short r 1024
     tried true f q g = cc
     tried false true q g = from q g
     tried false false q g = cc
@@ -129,9 +129,9 @@ behind files r w c e = at (which files e.place w e.directory)
   where
     at : Directories files e.place → Behind files r
     at (root q) =
-        subst (Behind files) (sym (e.path ∙ ap (λ p. joined p e.name) q)) (in_root files e.name (root_is files w) e.good e.plain)
+        subst (Behind files) (sym (e.path ∙ ap (λ p. path_in p e.name) q)) (in_root files e.name (root_is files w) e.good e.plain)
     at (devices q) =
-        let f : true ≡ false = ap (λ p. starts_with nat_eq p (codes "/dev/")) (sym (e.path ∙ ap (λ p. joined p e.name) q)) ∙ c.no_device in
+        let f : true ≡ false = ap (λ p. starts_with nat_eq p (codes "/dev/")) (sym (e.path ∙ ap (λ p. path_in p e.name) q)) ∙ c.no_device in
         cc
     at (named placed) =
         let k = and_parts (begins_at_root e.place) _ placed.named in
@@ -180,7 +180,7 @@ if_made files place b = if b then Ok (length files.nodes, with_new files place n
 abbrev if_wanted : FileMap → List ℕ → Bool → Result (ℕ × FileMap) FileFault
 if_wanted files place b = if not b then Err NoEntry else if_made files place (may_create place)
 
-made_whole : (files m : FileMap) (n : ℕ) (place : List ℕ) (how : Opening) → IsWhole files → Standing files place × Short place 1024 → map.get files.paths place ≡ None → created files place how ≡ Ok (n, m) → IsWhole m
+made_whole : (files m : FileMap) (n : ℕ) (place : List ℕ) (how : Opening) → IsWhole files → Standing files place × Short place 1024 → map.get files.paths place ≡ None → file_creation files place how ≡ Ok (n, m) → IsWhole m
 made_whole files m n place how w s h g = wanted how.create g
   where
     made : (b : Bool) → may_create place ≡ b → if_made files place b ≡ Ok (n, m) → IsWhole m
@@ -198,42 +198,42 @@ set_same [] n node h = cc
 set_same (x ∷ nodes) zero node h = let same : x ≡ node = cc in ap (λ y. y ∷ nodes) same
 set_same (x ∷ nodes) (suc n) node h = ap (λ ns. x ∷ ns) (set_same nodes n node h)
 
-same_whole : (files m : FileMap) (n k : ℕ) (node : Node) → IsWhole files → slice_get files.nodes n ≡ Some node → numbered n (with_node files n (Ok node)) ≡ Ok (k, m) → IsWhole m
+same_whole : (files m : FileMap) (n k : ℕ) (node : Node) → IsWhole files → slice_get files.nodes n ≡ Some node → number_and_files n (with_node files n (Ok node)) ≡ Ok (k, m) → IsWhole m
 same_whole files m n k node w h g =
     let same : record files { nodes = set files.nodes n node } ≡ m = ap (files_of files) g in
     subst IsWhole same (subst (λ ns. IsWhole (record files { nodes = ns })) (set_same files.nodes n node h) w)
 
-emptied_whole : (files m : FileMap) (n k : ℕ) (file : Regular) (how : Opening) → IsWhole files → slice_get files.nodes n ≡ Some (File file) → numbered n (with_node files n (Ok (File (emptied file how)))) ≡ Ok (k, m) → IsWhole m
+emptied_whole : (files m : FileMap) (n k : ℕ) (file : Regular) (how : Opening) → IsWhole files → slice_get files.nodes n ≡ Some (File file) → number_and_files n (with_node files n (Ok (File (file_after_open file how)))) ≡ Ok (k, m) → IsWhole m
 emptied_whole files m n k file how w h g = at how.truncate g
   where
-    at : (b : Bool) → numbered n (with_node files n (Ok (File (if b then record file { bytes = [] } else file)))) ≡ Ok (k, m) → IsWhole m
+    at : (b : Bool) → number_and_files n (with_node files n (Ok (File (if b then record file { bytes = [] } else file)))) ≡ Ok (k, m) → IsWhole m
     at true q =
         let same : record files { nodes = set files.nodes n (File (record file { bytes = [] })) } ≡ m = ap (files_of files) q in
         truncate_whole files m n 0 w (rw h (ap Ok same))
     at false q = same_whole files m n k (File file) w h q
 
-there_whole : (files m : FileMap) (n k : ℕ) (how : Opening) (o : Option Node) → IsWhole files → slice_get files.nodes n ≡ o → numbered n (open_node files how n o) ≡ Ok (k, m) → IsWhole m
+there_whole : (files m : FileMap) (n k : ℕ) (how : Opening) (o : Option Node) → IsWhole files → slice_get files.nodes n ≡ o → number_and_files n (open_node files how n o) ≡ Ok (k, m) → IsWhole m
 there_whole files m n k how None w h g = cc
 there_whole files m n k how (Some Directory) w h g = cc
 there_whole files m n k how (Some (File file)) w h g = exclusive how.exclusive g
   where
-    allowed : (b : Bool) → numbered n (with_node files n (if b then Ok (File (emptied file how)) else Err NoAccess)) ≡ Ok (k, m) → IsWhole m
+    allowed : (b : Bool) → number_and_files n (with_node files n (if b then Ok (File (file_after_open file how)) else Err NoAccess)) ≡ Ok (k, m) → IsWhole m
     allowed true q = emptied_whole files m n k file how w h q
     allowed false q = cc
 
-    exclusive : (b : Bool) → numbered n (with_node files n (if b then Err Exists else if allows file.flags how then Ok (File (emptied file how)) else Err NoAccess)) ≡ Ok (k, m) → IsWhole m
+    exclusive : (b : Bool) → number_and_files n (with_node files n (if b then Err Exists else if allows file.flags how then Ok (File (file_after_open file how)) else Err NoAccess)) ≡ Ok (k, m) → IsWhole m
     exclusive true q = cc
     exclusive false q = allowed (allows file.flags how) q
 there_whole files m n k how (Some Null) w h g = same_whole files m n k Null w h g
 there_whole files m n k how (Some Terminal) w h g = same_whole files m n k Terminal w h g
 
 pub opened_whole : (files changed : FileMap) (directory path : List ℕ) (how : Opening) (n : ℕ) → begins_at_root directory ≡ true → IsWhole files → opened files directory path how ≡ Ok (n, changed) → IsWhole changed
-opened_whole files changed directory path how n b w h = at (resolved files directory path) refl h
+opened_whole files changed directory path how n b w h = at (resolution files directory path) refl h
   where
     of : (place : List ℕ) (o : Option ℕ) → Standing files place × Short place 1024 → map.get files.paths place ≡ o → open_number files place how o ≡ Ok (n, changed) → IsWhole changed
     of place None s e g = made_whole files changed n place how w s e g
     of place (Some k) s e g = there_whole files changed k n how (slice_get files.nodes k) w refl g
 
-    at : (r : Result (List ℕ) FileFault) → resolved files directory path ≡ r → open_place files how r ≡ Ok (n, changed) → IsWhole changed
+    at : (r : Result (List ℕ) FileFault) → resolution files directory path ≡ r → open_place files how r ≡ Ok (n, changed) → IsWhole changed
     at (Err fault) e g = cc
     at (Ok place) e g = of place (map.get files.paths place) (reached files directory path place b w e) refl g

@@ -2,17 +2,17 @@
 use Rattle.std.proofs.Common.{◌≡◌, ◌≢◌, ℕ, zero, suc, ◌+◌, Bool, true, false, cond, ◌&&◌, ◌||◌, ◌==◌, List, [], ◌∷◌, ◌++◌, length, map, filter, Option, Some, None, position, slice_get, slice_set, refl, sym, ap, ◌∙◌}
 use Rattle.std.specs.List.{list_any}
 use Rattle.std.proofs.lemmas.Bool.{eqb-true}
-use Rattle.sh_kernel_descriptors.specs.Closings.{left, stays}
-use Rattle.sh_kernel_descriptors.specs.Descriptors.{found, is_named}
+use Rattle.sh_kernel_descriptors.specs.Closings.{descriptors_left, stays}
+use Rattle.sh_kernel_descriptors.specs.Descriptors.{description_number, is_named}
 use Rattle.sh_kernel_descriptors.specs.Machine.{MachineState}
-use Rattle.sh_kernel_descriptors.specs.Naming.{aside_found, back_found, is_allowed, put_back, renamed, renamed_at, renumbered, with_number, with_pipe}
-use Rattle.sh_kernel_descriptors.specs.Outcomes.{done, refused}
+use Rattle.sh_kernel_descriptors.specs.Naming.{aside_found, back_found, is_allowed, put_back, after_renaming, renamed_at, after_renumbering, with_number, with_pipe}
+use Rattle.sh_kernel_descriptors.specs.Outcomes.{success, refusal}
 use Rattle.sh_kernel_descriptors.specs.Processes.{copies, is_copied, lives, of_process}
 use Rattle.sh_kernel_descriptors.specs.declared.descriptor.Closing.{Closing}
 use Rattle.sh_kernel_descriptors.specs.declared.descriptor.Closing.TheVariants.{Named}
 use Rattle.sh_kernel_descriptors.specs.declared.descriptor.Descriptor.{Descriptor}
-use Rattle.sh_kernel_descriptors.specs.declared.descriptor.Name.{Name}
-use Rattle.sh_kernel_descriptors.specs.declared.descriptor.Name.TheVariants.{Number, Aside}
+use Rattle.sh_kernel_descriptors.specs.declared.descriptor.DescriptorRef.{DescriptorRef}
+use Rattle.sh_kernel_descriptors.specs.declared.descriptor.DescriptorRef.TheVariants.{Number, Aside}
 use Rattle.sh_kernel_descriptors.specs.declared.fault.KernelFault.TheVariants.{NoProcess, TooManyDescriptors}
 use Rattle.sh_kernel.specs.State.{KernelState}
 use Rattle.sh_kernel.specs.Reaching.{reaches}
@@ -20,13 +20,13 @@ use Rattle.sh_kernel.specs.Requests.{MakePipe, PutBack, SetAside, after_request}
 use Rattle.sh_kernel.proofs.Lists.{false_of, or_left, or_right}
 
 -- ---- descriptors that go and come
-pub reaches_others_left : (pid : ℕ) (closing : Closing) (ds : List Descriptor) (p : ℕ) (test : ℕ → Bool) → reaches ds p test ≡ false → reaches (left pid closing ds) p test ≡ false
+pub reaches_others_left : (pid : ℕ) (closing : Closing) (ds : List Descriptor) (p : ℕ) (test : ℕ → Bool) → reaches ds p test ≡ false → reaches (descriptors_left pid closing ds) p test ≡ false
 reaches_others_left pid closing [] p test h = refl
 reaches_others_left pid closing (d ∷ ds) p test h =
     of_test (stays pid closing d) (reaches_others_left pid closing ds p test (or_right ((d.pid == p) && test d.description) (reaches ds p test) h)) (or_left ((d.pid == p) && test d.description) (reaches ds p test) h)
   where
-    of_test : (b : Bool) → reaches (left pid closing ds) p test ≡ false → ((d.pid == p) && test d.description) ≡ false → reaches (cond b (d ∷ left pid closing ds) (left pid closing ds)) p test ≡ false
-    of_test true rest h = ap (λ (c : Bool). c || reaches (left pid closing ds) p test) h ∙ rest
+    of_test : (b : Bool) → reaches (descriptors_left pid closing ds) p test ≡ false → ((d.pid == p) && test d.description) ≡ false → reaches (cond b (d ∷ descriptors_left pid closing ds) (descriptors_left pid closing ds)) p test ≡ false
+    of_test true rest h = ap (λ (c : Bool). c || reaches (descriptors_left pid closing ds) p test) h ∙ rest
     of_test false rest h = rest
 
 pub reaches_append : (xs ys : List Descriptor) (p : ℕ) (test : ℕ → Bool) → reaches xs p test ≡ false → reaches ys p test ≡ false → reaches (xs ++ ys) p test ≡ false
@@ -46,10 +46,10 @@ reaches_set (y ∷ ds) zero d number p test h =
     ap (λ (z : Descriptor). ((z.pid == p) && test z.description) || reaches ds p test) (sym same)
 reaches_set (y ∷ ds) (suc i) d number p test h = ap (λ (c : Bool). ((y.pid == p) && test y.description) || c) (reaches_set ds i d number p test h)
 
-pub reaches_renamed : (ds : List Descriptor) (q : ℕ) (name : Name) (number : Option ℕ) (p : ℕ) (test : ℕ → Bool) → reaches ds p test ≡ false → reaches (renamed ds q name number) p test ≡ false
+pub reaches_renamed : (ds : List Descriptor) (q : ℕ) (name : DescriptorRef) (number : Option ℕ) (p : ℕ) (test : ℕ → Bool) → reaches ds p test ≡ false → reaches (after_renaming ds q name number) p test ≡ false
 reaches_renamed ds q name number p test h = of_place (position (is_named q name) ds)
   where
-    of_entry : (i : ℕ) (o : Option Descriptor) → slice_get ds i ≡ o → reaches (renumbered ds number i o) p test ≡ false
+    of_entry : (i : ℕ) (o : Option Descriptor) → slice_get ds i ≡ o → reaches (after_renumbering ds number i o) p test ≡ false
     of_entry i None is = h
     of_entry i (Some d) is = reaches_set ds i d number p test is ∙ h
 
@@ -71,7 +71,7 @@ keeps_then p a b c f g = record { fails = λ test h. g.fails test (f.fails test 
 
 keeps_number : (m : MachineState) (pid p number k : ℕ) → pid ≢ p → Keeps p m (with_number m pid number k)
 keeps_number m pid p number k n = record {
-  fails = λ test h. reaches_append (left pid (Named (Number number)) m.descriptors) _ p test (reaches_others_left pid (Named (Number number)) m.descriptors p test h) (of_another (record { pid = pid; number = Some number; description = k }) p test n);
+  fails = λ test h. reaches_append (descriptors_left pid (Named (Number number)) m.descriptors) _ p test (reaches_others_left pid (Named (Number number)) m.descriptors p test h) (of_another (record { pid = pid; number = Some number; description = k }) p test n);
   processes = refl;
 }
 
@@ -85,27 +85,27 @@ keeps_both m pid p from to n =
 pub keeps_pipe : (s : KernelState) (pid p from to : ℕ) → pid ≢ p → Keeps p s.machine (after_request s pid (MakePipe from to)).machine
 keeps_pipe s pid p from to n = of_tests (lives s.machine.processes pid) (is_allowed from && is_allowed to)
   where
-    of_tests : (a b : Bool) → Keeps p s.machine (cond a (cond b (done {A = Unit {0}} tt (with_number (with_number (with_pipe s.machine) pid from (length s.machine.descriptions)) pid to (length s.machine.descriptions + 1))) (refused s.machine TooManyDescriptors)) (refused s.machine NoProcess)).after
+    of_tests : (a b : Bool) → Keeps p s.machine (cond a (cond b (success {A = Unit {0}} tt (with_number (with_number (with_pipe s.machine) pid from (length s.machine.descriptions)) pid to (length s.machine.descriptions + 1))) (refusal s.machine TooManyDescriptors)) (refusal s.machine NoProcess)).after
     of_tests true true = keeps_both s.machine pid p from to n
     of_tests true false = keeps_same p s.machine
     of_tests false b = keeps_same p s.machine
 
 pub keeps_aside : (s : KernelState) (pid p number : ℕ) → Keeps p s.machine (after_request s pid (SetAside number)).machine
-keeps_aside s pid p number = of_found (found s.machine.descriptors pid (Number number))
+keeps_aside s pid p number = of_found (description_number s.machine.descriptors pid (Number number))
   where
     of_found : (o : Option ℕ) → Keeps p s.machine (aside_found s.machine pid number o).after
     of_found None = keeps_same p s.machine
     of_found (Some k) = record { fails = λ test h. reaches_renamed s.machine.descriptors pid (Number number) None p test h; processes = refl }
 
-back_found_keeps : (m : MachineState) (pid p aside number : ℕ) (b : Bool) → Keeps p m (cond b (done {A = Unit {0}} tt (put_back m pid aside number)) (refused m TooManyDescriptors)).after
+back_found_keeps : (m : MachineState) (pid p aside number : ℕ) (b : Bool) → Keeps p m (cond b (success {A = Unit {0}} tt (put_back m pid aside number)) (refusal m TooManyDescriptors)).after
 back_found_keeps m pid p aside number true = record {
-  fails = λ test h. reaches_renamed (left pid (Named (Number number)) m.descriptors) pid (Aside aside) (Some number) p test (reaches_others_left pid (Named (Number number)) m.descriptors p test h);
+  fails = λ test h. reaches_renamed (descriptors_left pid (Named (Number number)) m.descriptors) pid (Aside aside) (Some number) p test (reaches_others_left pid (Named (Number number)) m.descriptors p test h);
   processes = refl;
 }
 back_found_keeps m pid p aside number false = keeps_same p m
 
 pub keeps_back : (s : KernelState) (pid p aside number : ℕ) → Keeps p s.machine (after_request s pid (PutBack aside number)).machine
-keeps_back s pid p aside number = of_found (found s.machine.descriptors pid (Aside aside))
+keeps_back s pid p aside number = of_found (description_number s.machine.descriptors pid (Aside aside))
   where
     of_found : (o : Option ℕ) → Keeps p s.machine (back_found s.machine pid aside number o).after
     of_found None = keeps_same p s.machine

@@ -4,10 +4,10 @@ use Rattle.std.proofs.lemmas.List.{drop_at, length-append}
 use Rattle.sh_token_pieces.specs.declared.character.Character.{Character}
 use Rattle.sh_token_pieces.specs.declared.character.Character.TheVariants.{Plain, Quoted, Raw}
 use Rattle.sh_token_pieces.specs.declared.context.Context.{Context}
-use Rattle.sh_token_pieces.specs.declared.mark.Mark.{Mark}
+use Rattle.sh_token_pieces.specs.declared.piece.Piece.{Piece}
 use Rattle.sh_token_pieces.specs.Characters.{Reads, Written, joins}
-use Rattle.sh_token_pieces.specs.Marks.{AreMarks, behind}
-use Rattle.sh_token_pieces.specs.Spelling.{spell_mark}
+use Rattle.sh_token_pieces.specs.Pieces.{ArePieces, behind}
+use Rattle.sh_token_pieces.specs.Spelling.{spell_piece}
 use Rattle.sh_token.proofs.Laws.{written_length}
 use Rattle.sh_parse_words.specs.Places.{behind_joins, behind_character, behind_characters, behind_piece}
 use Rattle.sh_parse_commands.specs.Sources.{behind_pieces}
@@ -41,39 +41,39 @@ all_written : (e : Bool) (cs : List Character) (bytes rest : List ℕ) → Writt
 all_written e [] bytes rest h = h
 all_written e (c ∷ cs) bytes rest h = ap (behind_characters cs) (one_read e c bytes h.0 h.1) ∙ all_written e cs h.0 rest h.2
 
-pub piece_written : (e : Bool) (m : Mark) (bytes rest : List ℕ) → Written e (spell_mark m) bytes rest → behind_piece m bytes ≡ rest
+pub piece_written : (e : Bool) (m : Piece) (bytes rest : List ℕ) → Written e (spell_piece m) bytes rest → behind_piece m bytes ≡ rest
 unfolding behind_piece
-piece_written e m bytes rest h = all_written e (spell_mark m) bytes rest h
+piece_written e m bytes rest h = all_written e (spell_piece m) bytes rest h
 
 -- ---- pieces, one behind another
-abbrev pub Pieces : Bool → List Mark → List ℕ → List ℕ → Type 0
+abbrev pub Pieces : Bool → List Piece → List ℕ → List ℕ → Type 0
 Pieces e [] bytes rest = bytes ≡ rest
-Pieces e (m ∷ ms) bytes rest = (after : List ℕ) × Written e (spell_mark m) bytes after × Pieces e ms after rest
+Pieces e (m ∷ ms) bytes rest = (after : List ℕ) × Written e (spell_piece m) bytes after × Pieces e ms after rest
 
-pub pieces_of : (e : Bool) (limit : ℕ) (ms done : List Mark) (xs : List Context) (bytes rest : List ℕ) → AreMarks e limit done xs ms bytes rest → Pieces e ms bytes rest
+pub pieces_of : (e : Bool) (limit : ℕ) (ms done : List Piece) (xs : List Context) (bytes rest : List ℕ) → ArePieces e limit done xs ms bytes rest → Pieces e ms bytes rest
 pieces_of e limit [] done xs bytes rest a = a
 pieces_of e limit (m ∷ ms) done [] bytes rest a = absurd a
 pieces_of e limit (m ∷ ms) done (x ∷ xs) bytes rest a = (a.0, a.1.written, pieces_of e limit ms (done ++ m ∷ []) (behind done x xs m) a.0 rest a.2)
 
-pub pieces_length : (e : Bool) (ms : List Mark) (bytes rest : List ℕ) → Pieces e ms bytes rest → length rest ≤ length bytes
+pub pieces_length : (e : Bool) (ms : List Piece) (bytes rest : List ℕ) → Pieces e ms bytes rest → length rest ≤ length bytes
 pieces_length e [] bytes rest h = subst (λ z. length z ≤ length bytes) h (omega arith)
 pieces_length e (m ∷ ms) bytes rest h =
-    let a = written_length e (spell_mark m) bytes h.0 h.1 in
+    let a = written_length e (spell_piece m) bytes h.0 h.1 in
     let b = pieces_length e ms h.0 rest h.2 in
     omega (a, b, arith)
 
 -- those behind the first so many
-pub record Others (e : Bool) (k : ℕ) (ms : List Mark) (bytes rest : List ℕ) : Type 0 where
+pub record Others (e : Bool) (k : ℕ) (ms : List Piece) (bytes rest : List ℕ) : Type 0 where
   pub others : Pieces e (drop k ms) (behind_pieces (take k ms) bytes) rest
   pub shorter : length (behind_pieces (take k ms) bytes) ≤ length bytes
 
-pub other_pieces : (e : Bool) (k : ℕ) (ms : List Mark) (bytes rest : List ℕ) → Pieces e ms bytes rest → Others e k ms bytes rest
+pub other_pieces : (e : Bool) (k : ℕ) (ms : List Piece) (bytes rest : List ℕ) → Pieces e ms bytes rest → Others e k ms bytes rest
 other_pieces e zero ms bytes rest h = record { others = h; shorter = omega arith }
 other_pieces e (suc k) [] bytes rest h = record { others = h; shorter = omega arith }
 other_pieces e (suc k) (m ∷ ms) bytes rest h =
     let w = piece_written e m bytes h.0 h.1 in
     let o = other_pieces e k ms h.0 rest h.2 in
-    let l = written_length e (spell_mark m) bytes h.0 h.1 in
+    let l = written_length e (spell_piece m) bytes h.0 h.1 in
     let s : length (behind_pieces (take k ms) h.0) ≤ length h.0 = o.shorter in
     record {
       others = subst (λ z. Pieces e (drop k ms) (behind_pieces (take k ms) z) rest) (sym w) o.others;
@@ -82,7 +82,7 @@ other_pieces e (suc k) (m ∷ ms) bytes rest h =
 
 -- ---- what is left of bytes stands at their end
 abbrev pub EndsWith : List ℕ → List ℕ → Type 0
-EndsWith bytes rest = (front : List ℕ) × (bytes ≡ front ++ rest)
+EndsWith bytes rest = (prefix : List ℕ) × (bytes ≡ prefix ++ rest)
 
 pub both_end : (one two three : List ℕ) → EndsWith one two → EndsWith two three → EndsWith one three
 both_end one two three f g = (f.0 ++ g.0, f.1 ∙ ap (λ z. f.0 ++ z) g.1 ∙ sym (append_assoc f.0 g.0 three))
@@ -96,9 +96,9 @@ written_ends : (e : Bool) (cs : List Character) (bytes rest : List ℕ) → Writ
 written_ends e [] bytes rest h = ([], h)
 written_ends e (c ∷ cs) bytes rest h = both_end bytes h.0 rest (read_ends e c bytes h.0 h.1) (written_ends e cs h.0 rest h.2)
 
-pub pieces_end : (e : Bool) (ms : List Mark) (bytes rest : List ℕ) → Pieces e ms bytes rest → EndsWith bytes rest
+pub pieces_end : (e : Bool) (ms : List Piece) (bytes rest : List ℕ) → Pieces e ms bytes rest → EndsWith bytes rest
 pieces_end e [] bytes rest h = ([], h)
-pieces_end e (m ∷ ms) bytes rest h = both_end bytes h.0 rest (written_ends e (spell_mark m) bytes h.0 h.1) (pieces_end e ms h.0 rest h.2)
+pieces_end e (m ∷ ms) bytes rest h = both_end bytes h.0 rest (written_ends e (spell_piece m) bytes h.0 h.1) (pieces_end e ms h.0 rest h.2)
 
 pub joins_end : (n : ℕ) (bytes rest : List ℕ) → bytes ≡ joins n ++ rest → EndsWith bytes rest
 joins_end n bytes rest h = (joins n, h)

@@ -1,7 +1,7 @@
 -- Turns of processes, shells and programs.
 use Rattle.std.proofs.Common.{◌≡◌, ℕ, List, [], ◌∷◌, Option, Some, None}
 use Rattle.sh_exec.specs.Programs.{ask_turn, end_turn, read_turn, write_turn}
-use Rattle.sh_exec.specs.Starting.{start_named, start_turn, started_by, starting_in, stocked}
+use Rattle.sh_exec.specs.Starting.{start_named, start_turn, started_by, starting_in, stock_start}
 use Rattle.sh_exec.specs.Turns.{Turned, runs_by, turn}
 use Rattle.sh_exec.specs.declared.process.Process.{Process}
 use Rattle.sh_exec.specs.declared.process.Process.TheVariants.{Runs, Asks}
@@ -9,7 +9,7 @@ use Rattle.sh_exec.specs.Search.{located_of}
 use Rattle.sh_exec.specs.declared.search.Located.{Located}
 use Rattle.sh_exec.specs.declared.search.Located.TheVariants as located
 use Rattle.sh_exec_forms.specs.Running.{ShellState, active_of}
-use Rattle.sh_kernel_descriptors.specs.declared.descriptor.Name.TheVariants.{Number}
+use Rattle.sh_kernel_descriptors.specs.declared.descriptor.DescriptorRef.TheVariants.{Number}
 use Rattle.sh_kernel.specs.Requests.{End, StartProgram}
 use Rattle.sh_kernel.specs.State.{KernelState}
 use Rattle.sh_stock.specs.Asking.{Meaning}
@@ -21,7 +21,7 @@ use Rattle.sh_laws.proofs.TurnRequests.{IsForked, IsKept, give_keeps, take_keeps
 use Rattle.sh_laws.proofs.TurnSteps.{shell_keeps}
 
 module _ {S : Type 0} (m : Meaning S) (directory : List ℕ) (pid : ℕ) (P : Option ℕ → KernelState → Type 0) (kept : (made : Option ℕ) → IsKept directory pid (P made)) (forks : IsForked pid P) where
-  stocked_keeps : (s : KernelState) (env : Environment) (name : List ℕ) (o : Option S) → P None s → P None (stocked m s pid env name o).machine
+  stocked_keeps : (s : KernelState) (env : Environment) (name : List ℕ) (o : Option S) → P None s → P None (stock_start m s pid env name o).machine
   stocked_keeps s env name None p = p
   stocked_keeps s env name (Some program) p = kept None s StartProgram tt p
 

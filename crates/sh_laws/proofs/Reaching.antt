@@ -6,7 +6,7 @@ use Rattle.sh_kernel.specs.State.{KernelState}
 use Rattle.sh_kernel.specs.Laws.{ReachesNoMore}
 use Rattle.sh_kernel.specs.Reaching.{is_end, is_file, reaches}
 use Rattle.sh_kernel.specs.Requests.{after_requests}
-use Rattle.sh_exec_machine.specs.Forking.{forked}
+use Rattle.sh_exec_machine.specs.Forking.{fork_of}
 use Rattle.sh_laws.specs.Forking.{UnmadeReachNothing, after_both, before_fork, behind_fork, end_aside, in_child, new_process, with_fork}
 use Rattle.sh_laws.proofs.RequestChanges.{Made, after_is, all_open_none, behind_opens_none, made_by, maker_none, maker_none_at}
 use Rattle.sh_laws.proofs.RequestLists.{after_requests-append, reaches_as_before}
@@ -37,6 +37,6 @@ by_child s pid before writes (Some child) aside is none =
     reached pid child s.machine (after_requests s pid (before_fork before writes)).machine c.machine d.machine (after_requests d pid last).machine
     (made_by s pid before writes child last is none (λ t node. behind_opens_none (Some child) aside t pid node))
 
-pub forking_reaches : (s : KernelState) (pid : ℕ) (before : Option ℕ) (writes : Bool) → UnmadeReachNothing s.machine → ReachesNoMore pid (λ node. false) s.machine (forked s pid before writes).after.machine
+pub forking_reaches : (s : KernelState) (pid : ℕ) (before : Option ℕ) (writes : Bool) → UnmadeReachNothing s.machine → ReachesNoMore pid (λ node. false) s.machine (fork_of s pid before writes).after.machine
 forking_reaches s pid before writes none =
     subst (λ (t : KernelState). ReachesNoMore pid (λ node. false) s.machine t.machine) (sym (after_is s pid before writes)) (by_child s pid before writes (new_process s pid before writes) (end_aside s pid writes) refl (none (next_pid s.machine.processes) (omega arith)))

@@ -2,15 +2,15 @@
 use Rattle.std.proofs.Common.{◌≡◌, ◌≢◌, ℕ, zero, suc, ◌-◌, ◌<◌, ◌==◌, Bool, true, false, cond, List, [], ◌∷◌, ◌++◌, length, Option, Some, None, slice_get, refl, sym, ap, ◌∙◌, arith, subst, nat_le}
 use Rattle.std.specs.Option.{option_map_or}
 use Rattle.std.specs.Result.{result_ok}
-use Rattle.sh_kernel_descriptors.specs.Descriptors.{found}
+use Rattle.sh_kernel_descriptors.specs.Descriptors.{description_number}
 use Rattle.sh_kernel_descriptors.specs.Machine as machine
 use Rattle.sh_kernel_descriptors.specs.Machine.{MachineState}
 use Rattle.sh_kernel_descriptors.specs.Naming.{close_found, dup_found, is_allowed, is_description, with_number}
-use Rattle.sh_kernel_descriptors.specs.Outcomes.{done, refused}
+use Rattle.sh_kernel_descriptors.specs.Outcomes.{success, refusal}
 use Rattle.sh_kernel_descriptors.specs.Processes.{copies, is_living, lives, may_fork, next_pid}
 use Rattle.sh_kernel_descriptors.specs.declared.description.Description.{Description}
-use Rattle.sh_kernel_descriptors.specs.declared.descriptor.Name.{Name}
-use Rattle.sh_kernel_descriptors.specs.declared.descriptor.Name.TheVariants.{Number}
+use Rattle.sh_kernel_descriptors.specs.declared.descriptor.DescriptorRef.{DescriptorRef}
+use Rattle.sh_kernel_descriptors.specs.declared.descriptor.DescriptorRef.TheVariants.{Number}
 use Rattle.sh_kernel_descriptors.specs.declared.fault.KernelFault.TheVariants.{NoProcess, TooManyDescriptors, TooManyProcesses}
 use Rattle.sh_kernel_descriptors.specs.declared.process.Process.{Process}
 use Rattle.sh_kernel.specs.State.{KernelState}
@@ -20,7 +20,7 @@ use Rattle.sh_kernel.specs.Reaching.{is_end, is_file, reaches}
 use Rattle.sh_kernel.specs.Requests.{Request, Duplicate, Fork, MakePipe, SetAside, after_request, after_requests}
 use Rattle.sh_kernel.proofs.Growing.{grows_then, requests_grow}
 use Rattle.sh_kernel.proofs.Reached.{lists_grow, lists_leave_owned}
-use Rattle.sh_exec_machine.specs.Forking.{Forked, forked}
+use Rattle.sh_exec_machine.specs.Forking.{Forked, fork_of}
 use Rattle.sh_laws.specs.Forking.{UnmadeReachNothing, after_both, after_child, before_fork, behind_fork, end_aside, in_child, laying, moving, new_process, taking_up, with_fork}
 use Rattle.sh_laws.proofs.Forking.{forked_is}
 use Rattle.sh_laws.proofs.RequestLists.{after_requests-append, changes_reached, reaches_as_before}
@@ -81,7 +81,7 @@ keeps_before before writes s pid p n =
 pub record IsMade (m : MachineState) (pid child : ℕ) (new : MachineState) : Type 0 where
   pub number : child ≡ next_pid m.processes
   pub maker : pid < next_pid m.processes
-  pub after : new ≡ machine.forked m pid
+  pub after : new ≡ machine.after_fork m pid
 
 lives_within : (ps : List Process) (i : ℕ) → option_map_or is_living (slice_get ps i) false ≡ true → i < length ps
 lives_within [] i h = absurd (cc)
@@ -99,8 +99,8 @@ pub made : (s : KernelState) (pid child : ℕ) → result_ok (fork_call s pid).a
 made s pid child h = of_tests (lives s.machine.processes pid) (may_fork s.machine.processes) refl h
   where
     of_tests : (a b : Bool) → lives s.machine.processes pid ≡ a
-        → result_ok (cond a (cond b (done (next_pid s.machine.processes) (machine.forked s.machine pid)) (refused s.machine TooManyProcesses)) (refused s.machine NoProcess)).answer ≡ Some child
-        → IsMade s.machine pid child (cond a (cond b (done (next_pid s.machine.processes) (machine.forked s.machine pid)) (refused s.machine TooManyProcesses)) (refused s.machine NoProcess)).after
+        → result_ok (cond a (cond b (success (next_pid s.machine.processes) (machine.after_fork s.machine pid)) (refusal s.machine TooManyProcesses)) (refusal s.machine NoProcess)).answer ≡ Some child
+        → IsMade s.machine pid child (cond a (cond b (success (next_pid s.machine.processes) (machine.after_fork s.machine pid)) (refusal s.machine TooManyProcesses)) (refusal s.machine NoProcess)).after
     of_tests true true is h = let same : next_pid s.machine.processes ≡ child = cc in record { number = sym same; maker = is_there s.machine.processes pid is; after = refl }
     of_tests true false is h = absurd (cc)
     of_tests false b is h = absurd (cc)
@@ -114,11 +114,11 @@ dup_descriptions : (m : MachineState) (pid to : ℕ) (o : Option ℕ) → (dup_f
 dup_descriptions m pid to None = refl
 dup_descriptions m pid to (Some k) = of_test (is_allowed to)
   where
-    of_test : (b : Bool) → (cond b (done {A = Unit {0}} tt (cond (is_description k (found m.descriptors pid (Number to))) m (with_number m pid to k))) (refused m TooManyDescriptors)).after.descriptions ≡ m.descriptions
-    of_test true = with_descriptions m pid to k (is_description k (found m.descriptors pid (Number to)))
+    of_test : (b : Bool) → (cond b (success {A = Unit {0}} tt (cond (is_description k (description_number m.descriptors pid (Number to))) m (with_number m pid to k))) (refusal m TooManyDescriptors)).after.descriptions ≡ m.descriptions
+    of_test true = with_descriptions m pid to k (is_description k (description_number m.descriptors pid (Number to)))
     of_test false = refl
 
-close_descriptions : (m : MachineState) (pid : ℕ) (name : Name) (o : Option ℕ) → (close_found m pid name o).after.descriptions ≡ m.descriptions
+close_descriptions : (m : MachineState) (pid : ℕ) (name : DescriptorRef) (o : Option ℕ) → (close_found m pid name o).after.descriptions ≡ m.descriptions
 close_descriptions m pid name None = refl
 close_descriptions m pid name (Some k) = refl
 
@@ -126,7 +126,7 @@ moving_descriptions : (b : Bool) (from to : ℕ) (s : KernelState) (pid : ℕ) �
 moving_descriptions false from to s pid = refl
 moving_descriptions true from to s pid =
     let t = (after_request s pid (Duplicate (Number from) to)).machine in
-    close_descriptions t pid (Number from) (found t.descriptors pid (Number from)) ∙ dup_descriptions s.machine pid to (found s.machine.descriptors pid (Number from))
+    close_descriptions t pid (Number from) (description_number t.descriptors pid (Number from)) ∙ dup_descriptions s.machine pid to (description_number s.machine.descriptors pid (Number from))
 
 child_descriptions : (before : Option ℕ) (writes : Bool) (s : KernelState) (pid : ℕ) → (after_requests s pid (in_child before writes)).machine.descriptions ≡ s.machine.descriptions
 child_descriptions None writes s pid = moving_descriptions writes 11 1 s pid
@@ -274,10 +274,10 @@ by_child s pid before writes (Some child) aside is none =
     let last = behind_fork (Some child) aside in
     with_child s pid before writes child last (made_by s pid before writes child last is none (λ t node. behind_opens_none (Some child) aside t pid node))
 
-pub after_is : (s : KernelState) (pid : ℕ) (before : Option ℕ) (writes : Bool) → (forked s pid before writes).after ≡ after_both s pid (with_fork before writes) (new_process s pid before writes) (in_child before writes) (behind_fork (new_process s pid before writes) (end_aside s pid writes))
+pub after_is : (s : KernelState) (pid : ℕ) (before : Option ℕ) (writes : Bool) → (fork_of s pid before writes).after ≡ after_both s pid (with_fork before writes) (new_process s pid before writes) (in_child before writes) (behind_fork (new_process s pid before writes) (end_aside s pid writes))
 after_is s pid before writes = ap (λ (f : Forked). f.after) (forked_is s pid before writes)
 
-pub forking_changes : (s : KernelState) (pid : ℕ) (before : Option ℕ) (writes : Bool) → UnmadeReachNothing s.machine → ChangesOnlyReached pid (λ node. false) s.machine (forked s pid before writes).after.machine
+pub forking_changes : (s : KernelState) (pid : ℕ) (before : Option ℕ) (writes : Bool) → UnmadeReachNothing s.machine → ChangesOnlyReached pid (λ node. false) s.machine (fork_of s pid before writes).after.machine
 forking_changes s pid before writes none =
     subst (λ (t : KernelState). ChangesOnlyReached pid (λ node. false) s.machine t.machine) (sym (after_is s pid before writes)) (by_child s pid before writes (new_process s pid before writes) (end_aside s pid writes) refl (none (next_pid s.machine.processes) (omega arith)))
 
@@ -293,7 +293,7 @@ both_grow s pid first child inside last =
     grows_then s.machine c.machine (after_requests d pid last).machine (lists_grow s pid first)
     (grows_then c.machine d.machine (after_requests d pid last).machine (child_grows c child inside) (lists_grow d pid last))
 
-pub forking_grows : (s : KernelState) (pid : ℕ) (before : Option ℕ) (writes : Bool) → OnlyGrows s.machine (forked s pid before writes).after.machine
+pub forking_grows : (s : KernelState) (pid : ℕ) (before : Option ℕ) (writes : Bool) → OnlyGrows s.machine (fork_of s pid before writes).after.machine
 forking_grows s pid before writes = subst (λ (t : KernelState). OnlyGrows s.machine t.machine) (sym (after_is s pid before writes)) (both_grow s pid (with_fork before writes) (new_process s pid before writes) (in_child before writes) (behind_fork (new_process s pid before writes) (end_aside s pid writes)))
 
 -- ---- what another process alone has
@@ -318,7 +318,7 @@ new_is_new s pid maker before writes born n is =
     let at = (made ready maker n is).number in
     omega (arith, born, grow.processes, at)
 
-pub forking_leaves_owned : (s : KernelState) (pid maker : ℕ) (before : Option ℕ) (writes : Bool) (test : ℕ → Bool) → maker ≢ pid → pid < next_pid s.machine.processes → ((k : ℕ) → test k ≡ true → k < length s.machine.descriptions) → IsOwned pid test s.machine.descriptors → IsOwned pid test (forked s maker before writes).after.machine.descriptors
+pub forking_leaves_owned : (s : KernelState) (pid maker : ℕ) (before : Option ℕ) (writes : Bool) (test : ℕ → Bool) → maker ≢ pid → pid < next_pid s.machine.processes → ((k : ℕ) → test k ≡ true → k < length s.machine.descriptions) → IsOwned pid test s.machine.descriptors → IsOwned pid test (fork_of s maker before writes).after.machine.descriptors
 forking_leaves_owned s pid maker before writes test n born within own =
     subst (λ (t : KernelState). IsOwned pid test t.machine.descriptors) (sym (after_is s maker before writes))
     (both_leave_owned s pid maker (with_fork before writes) (new_process s maker before writes) (in_child before writes) (behind_fork (new_process s maker before writes) (end_aside s maker writes)) test n (new_is_new s pid maker before writes born) within own)

@@ -5,7 +5,7 @@ use Rattle.sh_exec.specs.Turns.{turn}
 use Rattle.sh_exec.specs.declared.process.Process.{Process}
 use Rattle.sh_kernel.specs.State.{KernelState}
 use Rattle.sh_stock.specs.Asking.{Meaning}
-use Rattle.sh_world.specs.Choice.{chosen}
+use Rattle.sh_world.specs.Choice.{choice}
 use Rattle.sh_world.specs.State.{State, run, runnables, step, turn_of}
 use Rattle.sh_world.specs.Tasks.{behind, turn_among, turned_first}
 use Rattle.sh_world.specs.declared.event.Event.{Event}
@@ -37,7 +37,7 @@ module _ {S : Type 0} (m : Meaning S) (first : KernelState) where
 
   run_comes : (s : State S) (events : List Event) → Comes s.machine → Comes (run m s events).machine
   run_comes s [] c = c
-  run_comes s (event ∷ events) c = run_comes (step m s event) events (turned_comes s (chosen event s.last (runnables s)) c)
+  run_comes s (event ∷ events) c = run_comes (step m s event) events (turned_comes s (choice event s.last (runnables s)) c)
 
 pub runs : {S : Type 0} (m : Meaning S) (s : State S) (events : List Event) → ComesByRequests s.machine (run m s events).machine
 runs m s events = run_comes m s.machine s events ([], refl)

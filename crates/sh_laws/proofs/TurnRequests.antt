@@ -4,8 +4,8 @@ use Rattle.std.specs.Prelude.{◌&&◌, not, if◌then◌else◌, is_some}
 use Rattle.sh_exec_parts.specs.declared.redirection.Action.{Action}
 use Rattle.sh_exec_parts.specs.declared.redirection.Action.TheVariants as action
 use Rattle.sh_exec_parts.specs.declared.redirection.Redirection.{Redirection}
-use Rattle.sh_exec_machine.specs.Forking.{Forked, forked}
-use Rattle.sh_exec_machine.specs.Redirecting.{is_itself, placed, redirected}
+use Rattle.sh_exec_machine.specs.Forking.{Forked, fork_of}
+use Rattle.sh_exec_machine.specs.Redirecting.{is_itself, action_outcome, redirection_outcome}
 use Rattle.sh_exec_machine.specs.Transfers.{give_bytes, take_bytes}
 use Rattle.sh_exec_machine.specs.Undoing.{all_restored}
 use Rattle.sh_exec_machine.specs.declared.undone.Undone.{Undone}
@@ -16,7 +16,7 @@ use Rattle.sh_laws.specs.Undoing.{undoing, undoing_one}
 use Rattle.sh_laws.proofs.Forking.{forked_is}
 use Rattle.sh_laws.proofs.Redirecting.{giving_is, redirecting_is, taking_is}
 use Rattle.sh_laws.proofs.Undoing.{undoing_is}
-use Rattle.sh_kernel_descriptors.specs.declared.descriptor.Name.{Name}
+use Rattle.sh_kernel_descriptors.specs.declared.descriptor.DescriptorRef.{DescriptorRef}
 use Rattle.sh_kernel_descriptors.specs.declared.fault.KernelFault.{KernelFault}
 use Rattle.sh_kernel.specs.Calls.{set_aside_call}
 use Rattle.sh_kernel.specs.Requests.{Request, Fork, Read, SetAside, Write, after_request, after_requests}
@@ -28,7 +28,7 @@ IsKept directory pid P = (s : KernelState) (r : Request) → IsFrom directory r 
 
 -- what is kept where a process makes another one, whose number is told
 abbrev pub IsForked : ℕ → (Option ℕ → KernelState → Type 0) → Type 0
-IsForked pid P = (s : KernelState) (before : Option ℕ) (writes : Bool) → P None s → P (forked s pid before writes).child (forked s pid before writes).after
+IsForked pid P = (s : KernelState) (before : Option ℕ) (writes : Bool) → P None s → P (fork_of s pid before writes).child (fork_of s pid before writes).after
 
 module _ (directory : List ℕ) where
   abbrev pub ListFrom : List Request → Type 0
@@ -86,7 +86,7 @@ module _ (directory : List ℕ) where
 
   keeping_from : (s : KernelState) (pid number : ℕ) (r : Redirection) (answer : Result ℕ KernelFault) → ListFrom (keeping s pid directory number r answer)
   keeping_from s pid number r (Ok aside) =
-      all_append (placing directory number r) (back_after aside number (placed s pid directory number r).answer) (placing_from number r.word r.action) (back_from aside number (placed s pid directory number r).answer)
+      all_append (placing directory number r) (back_after aside number (action_outcome s pid directory number r).answer) (placing_from number r.word r.action) (back_from aside number (action_outcome s pid directory number r).answer)
   keeping_from s pid number r (Err f) = placing_from number r.word r.action
 
   redirecting_from : (keeps : Bool) (s : KernelState) (pid : ℕ) (r : Redirection) (o : Option ℕ) → ListFrom (redirecting_to keeps s pid directory r o)
@@ -102,13 +102,13 @@ module _ (directory : List ℕ) where
     list_keeps [] a s p = p
     list_keeps (r ∷ rs) a s p = list_keeps rs a.1 (after_request s pid r) (kept s r a.0 p)
 
-    pub redirect_keeps : (keeps : Bool) (s : KernelState) (r : Redirection) → P s → P (redirected keeps s pid directory r).after
+    pub redirect_keeps : (keeps : Bool) (s : KernelState) (r : Redirection) → P s → P (redirection_outcome keeps s pid directory r).after
     redirect_keeps keeps s r p = subst P (sym (redirecting_is keeps s pid directory r)) (list_keeps (redirecting keeps s pid directory r) (redirecting_from keeps s pid r r.number) s p)
 
     pub undo_keeps : (us : List Undone) (s : KernelState) → P s → P (all_restored pid us s)
     undo_keeps us s p = subst P (sym (undoing_is pid us s)) (list_keeps (undoing us) (undoing_from us) s p)
 
-    pub take_keeps : (s : KernelState) (name : Name) (count : ℕ) → P s → P (take_bytes s pid name count).after
+    pub take_keeps : (s : KernelState) (name : DescriptorRef) (count : ℕ) → P s → P (take_bytes s pid name count).after
     take_keeps s name count p = subst P (sym (taking_is s pid name count)) (kept s (Read name count) tt p)
 
     pub give_keeps : (s : KernelState) (number : ℕ) (bytes : List ℕ) → P s → P (give_bytes s pid number bytes).after

@@ -5,7 +5,7 @@ use Rattle.sh_exec_parts.specs.declared.message.Piece.{Piece}
 use Rattle.sh_exec_parts.specs.declared.redirection.Redirection.{Redirection}
 use Rattle.sh_builtin.specs.declared.act.Leave.{Leave}
 use Rattle.sh_builtin.specs.declared.act.Leave.TheVariants as leave
-use Rattle.sh_exec_command.specs.Series.{given}
+use Rattle.sh_exec_command.specs.Series.{rest_of_series}
 use Rattle.sh_exec_command.specs.declared.running.Active.{Active}
 use Rattle.sh_exec_command.specs.declared.running.Active.TheVariants.{Acting, Next, Done, Leaving}
 use Rattle.sh_exec_command.specs.declared.running.Expanded.{Expanded}
@@ -19,22 +19,22 @@ use Rattle.sh_exec_command.specs.declared.running.Stages.{Stages}
 use Rattle.sh_exec_command.specs.declared.running.Substitution.{Substitution}
 use Rattle.sh_exec_command.specs.declared.running.Undo.{Undo}
 use Rattle.sh_exec_command.specs.declared.running.Wants.{Wants}
-use Rattle.sh_exec_machine.specs.Forking.{forked}
+use Rattle.sh_exec_machine.specs.Forking.{fork_of}
 use Rattle.sh_exec_machine.specs.Transfers.{take_bytes}
-use Rattle.sh_exec_machine.specs.declared.transfer.Taken.{Taken}
-use Rattle.sh_exec_machine.specs.declared.transfer.Taken.TheVariants as taken
-use Rattle.sh_exec_shell.specs.Acting.{collect_by, collect_end, collect_from, collect_turn, collected, end_turn, expand_turn, keeps, next, redirect_from, redirect_one, redirect_turn, with_written, write_turn}
+use Rattle.sh_exec_machine.specs.declared.transfer.ReadOutcome.{ReadOutcome}
+use Rattle.sh_exec_machine.specs.declared.transfer.ReadOutcome.TheVariants as taken
+use Rattle.sh_exec_shell.specs.Acting.{collect_by, collect_end, collect_from, collect_turn, after_collection, end_turn, expand_turn, keeps, next, redirect_from, redirect_one, redirect_turn, with_written, write_turn}
 use Rattle.sh_exec_shell.specs.Forks.{Turned, fork_turn, is_more, program_by, stage_by, stage_from, stage_one, stage_turn, substitute_turn, substitution_by}
-use Rattle.sh_exec_forms.specs.Forms.{Acted, acted, after, after_by, ended, is_loop, left, loop_left, onward, repeated, settled, undone}
+use Rattle.sh_exec_forms.specs.Forms.{Acted, with_run, after, after_by, after_status, is_loop, after_leave, loop_left, onward, condition_run, at_action, undone}
 use Rattle.sh_exec_shell.specs.Reduction.{act_at, act_place, expanded_by, reduce, shell_turn}
 use Rattle.sh_exec_forms.specs.Running.{Run, At, In, ShellState}
 use Rattle.sh_exec_forms.specs.declared.form.Form.{Form}
 use Rattle.sh_exec_forms.specs.declared.form.Form.TheVariants.{Text, Commands, Joined, Negated, Restoring, If, Condition, Body, Each}
-use Rattle.sh_kernel_descriptors.specs.declared.descriptor.Name.TheVariants.{Aside}
+use Rattle.sh_kernel_descriptors.specs.declared.descriptor.DescriptorRef.TheVariants.{Aside}
 use Rattle.sh_kernel.specs.Requests.{Close, End}
 use Rattle.sh_kernel.specs.State.{KernelState}
 use Rattle.sh_syntax.specs.declared.tree.Command.{Command}
-use Rattle.sh_syntax.specs.declared.tree.Complete.{Complete}
+use Rattle.sh_syntax.specs.declared.tree.CompoundList.{CompoundList}
 use Rattle.sh_vars.specs.Environment.{Environment}
 use Rattle.sh_laws.specs.Requests.{number_of}
 use Rattle.sh_laws.proofs.TurnRequests.{IsForked, IsKept, give_keeps, redirect_keeps, take_keeps, undo_keeps}
@@ -45,7 +45,7 @@ module _ (directory : List ℕ) (pid : ℕ) (P : KernelState → Type 0) (kept :
   unfolding undone
   undone_keeps undo s env run p = undo_keeps directory pid P kept undo.descriptors s p
 
-  ended_keeps : (form : Form) (s : KernelState) (env : Environment) (status : ℕ) → P s → P (ended pid form s env status).machine
+  ended_keeps : (form : Form) (s : KernelState) (env : Environment) (status : ℕ) → P s → P (after_status pid form s env status).machine
   ended_keeps (Text rest) s env status p = p
   ended_keeps (Commands items) s env status p = p
   ended_keeps (Joined others) s env status p = p
@@ -65,16 +65,16 @@ module _ (directory : List ℕ) (pid : ℕ) (P : KernelState → Type 0) (kept :
   loop_left_keeps false (leave.Continue (suc inside)) s env next p = p
   loop_left_keeps true (leave.Continue (suc inside)) s env next p = p
 
-  left_keeps : (looped : Bool) (form : Form) (s : KernelState) (env : Environment) (leave : Leave) → P s → P (left pid looped form s env leave).machine
+  left_keeps : (looped : Bool) (form : Form) (s : KernelState) (env : Environment) (leave : Leave) → P s → P (after_leave pid looped form s env leave).machine
   left_keeps looped (Text rest) s env leave p = p
   left_keeps looped (Commands items) s env leave p = p
   left_keeps looped (Joined others) s env leave p = p
   left_keeps looped Negated s env leave p = p
   left_keeps looped (Restoring undo) s env leave p = undone_keeps undo s env (At (Leaving leave)) p
   left_keeps looped (If branches) s env leave p = p
-  left_keeps looped (Condition loop last) s env leave p = loop_left_keeps looped leave s env (repeated loop last) p
-  left_keeps looped (Body loop) s env leave p = loop_left_keeps looped leave s env (repeated loop 0) p
-  left_keeps looped (Each series) s env leave p = loop_left_keeps looped leave s env (At (given series 0)) p
+  left_keeps looped (Condition loop last) s env leave p = loop_left_keeps looped leave s env (condition_run loop last) p
+  left_keeps looped (Body loop) s env leave p = loop_left_keeps looped leave s env (condition_run loop 0) p
+  left_keeps looped (Each series) s env leave p = loop_left_keeps looped leave s env (At (rest_of_series series 0)) p
 
   after_by_keeps : (looped : Bool) (form : Form) (s : KernelState) (env : Environment) (run : Run) → P s → P (after_by pid looped form s env run).machine
   after_by_keeps looped form s env (At (Done status)) p = ended_keeps form s env status p
@@ -87,20 +87,20 @@ module _ (directory : List ℕ) (pid : ℕ) (P : KernelState → Type 0) (kept :
   unfolding after
   after_keeps looped form a p = after_by_keeps looped form a.machine a.environment a.run p
 
-  settled_keeps : (looped : Bool) (s : KernelState) (env : Environment) (run : Run) → P s → P (settled pid looped s env run).machine
+  settled_keeps : (looped : Bool) (s : KernelState) (env : Environment) (run : Run) → P s → P (at_action pid looped s env run).machine
   settled_keeps looped s env (At active) p = p
   settled_keeps looped s env (In form run) p =
-      after_keeps looped form (settled pid (is_loop form || looped) s env run) (settled_keeps (is_loop form || looped) s env run p)
+      after_keeps looped form (at_action pid (is_loop form || looped) s env run) (settled_keeps (is_loop form || looped) s env run p)
 
   -- ---- what a substitution's process writes
-  collected_keeps : (s : KernelState) (env : Environment) (substitution : Substitution) (aside : ℕ) → P s → P (collected s pid env substitution aside).machine
-  unfolding collected
+  collected_keeps : (s : KernelState) (env : Environment) (substitution : Substitution) (aside : ℕ) → P s → P (after_collection s pid env substitution aside).machine
+  unfolding after_collection
   collected_keeps s env substitution aside p = kept s (Close (Aside aside)) tt p
 
-  collect_by_keeps : (s : KernelState) (env : Environment) (substitution : Substitution) (aside : ℕ) (told : Taken) → P s → P (collect_by s pid env substitution aside told).machine
+  collect_by_keeps : (s : KernelState) (env : Environment) (substitution : Substitution) (aside : ℕ) (told : ReadOutcome) → P s → P (collect_by s pid env substitution aside told).machine
   collect_by_keeps s env substitution aside (taken.Bytes bytes) p = at (nat_eq (length bytes) 0)
     where
-      at : (b : Bool) → P (if b then collected s pid env substitution aside else acted s env (next (Collecting (with_written substitution bytes)))).machine
+      at : (b : Bool) → P (if b then after_collection s pid env substitution aside else with_run s env (next (Collecting (with_written substitution bytes)))).machine
       at true = collected_keeps s env substitution aside p
       at false = p
   collect_by_keeps s env substitution aside taken.Wait p = p
@@ -147,7 +147,7 @@ module _ (directory : List ℕ) (pid : ℕ) (P : Option ℕ → KernelState → 
 
   fork_turn_keeps : (s : KernelState) (env : Environment) (prepared : Prepared) → P None s → Leaves (fork_turn s pid env prepared)
   unfolding fork_turn
-  fork_turn_keeps s env prepared p = let f = forked s pid None false in program_keeps f.after env prepared f.child (forks s None false p)
+  fork_turn_keeps s env prepared p = let f = fork_of s pid None false in program_keeps f.after env prepared f.child (forks s None false p)
 
   stage_by_keeps : (s : KernelState) (env : Environment) (command : Command) (commands : List Command) (aside : Option ℕ) (children : List ℕ) (o : Option ℕ) → P o s → Leaves (stage_by s env command commands aside children o)
   stage_by_keeps s env command commands aside children None p = p
@@ -157,20 +157,20 @@ module _ (directory : List ℕ) (pid : ℕ) (P : Option ℕ → KernelState → 
   unfolding stage_one
   stage_from_keeps s env [] aside children p = p
   stage_from_keeps s env (command ∷ commands) aside children p =
-      let f = forked s pid aside (is_more commands) in stage_by_keeps f.after env command commands f.aside children f.child (forks s aside (is_more commands) p)
+      let f = fork_of s pid aside (is_more commands) in stage_by_keeps f.after env command commands f.aside children f.child (forks s aside (is_more commands) p)
 
   stage_turn_keeps : (s : KernelState) (env : Environment) (stages : Stages) → P None s → Leaves (stage_turn s pid env stages)
   unfolding stage_turn
   stage_turn_keeps s env stages p = stage_from_keeps s env stages.commands stages.aside stages.children p
 
-  substitution_keeps : (s : KernelState) (env : Environment) (program : Complete) (wants : Wants) (pending : Pending) (aside o : Option ℕ) → P o s → Leaves (substitution_by s env program wants pending aside o)
+  substitution_keeps : (s : KernelState) (env : Environment) (program : CompoundList) (wants : Wants) (pending : Pending) (aside o : Option ℕ) → P o s → Leaves (substitution_by s env program wants pending aside o)
   substitution_keeps s env program wants pending aside None p = p
   substitution_keeps s env program wants pending aside (Some child) p = p
 
-  substitute_keeps : (s : KernelState) (env : Environment) (program : Complete) (wants : Wants) (pending : Pending) → P None s → Leaves (substitute_turn s pid env program wants pending)
+  substitute_keeps : (s : KernelState) (env : Environment) (program : CompoundList) (wants : Wants) (pending : Pending) → P None s → Leaves (substitute_turn s pid env program wants pending)
   unfolding substitute_turn
   substitute_keeps s env program wants pending p =
-      let f = forked s pid None true in substitution_keeps f.after env program wants pending f.aside f.child (forks s None true p)
+      let f = fork_of s pid None true in substitution_keeps f.after env program wants pending f.aside f.child (forks s None true p)
 
   expanded_keeps : (s : KernelState) (env : Environment) (e : Expanded) → P None s → Leaves (expanded_by s pid env e)
   expanded_keeps s env (expanded.Need program wants pending) p = substitute_keeps s env program wants pending p

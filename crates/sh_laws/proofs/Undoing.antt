@@ -7,11 +7,11 @@ use Rattle.sh_kernel.specs.Laws.{ChangesOnlyReached, IsOwned, OnlyGrows, opens, 
 use Rattle.sh_kernel.proofs.Reached.{lists_grow, lists_leave_owned}
 use Rattle.sh_exec_machine.specs.declared.undone.Undone.{Undone}
 use Rattle.sh_exec_machine.specs.declared.undone.Undone.TheVariants.{Restore, Close}
-use Rattle.sh_exec_machine.specs.Undoing.{all_restored, restored}
+use Rattle.sh_exec_machine.specs.Undoing.{all_restored, after_undo}
 use Rattle.sh_laws.specs.Undoing.{undoing, undoing_one}
 use Rattle.sh_laws.proofs.RequestLists.{after_requests-append, changes_reached}
 
-one_is : (pid : ℕ) (u : Undone) (s : KernelState) → restored pid u s ≡ after_request s pid (undoing_one u)
+one_is : (pid : ℕ) (u : Undone) (s : KernelState) → after_undo pid u s ≡ after_request s pid (undoing_one u)
 one_is pid (Restore aside number) s = refl
 one_is pid (Close number) s = refl
 

@@ -1,15 +1,15 @@
 -- Processes that are still to come reach nothing.
 use Rattle.std.proofs.Common.{◌≡◌, ◌≢◌, ℕ, ◌+◌, ◌<◌, Bool, true, false, cond, List, [], ◌∷◌, length, map, filter, Option, Some, None, refl, sym, ap, ◌∙◌, arith, subst, length-append}
 use Rattle.sh_files.specs.Nodes.{FileMap}
-use Rattle.sh_kernel_descriptors.specs.Closings.{left}
-use Rattle.sh_kernel_descriptors.specs.Machine.{MachineState, forked}
+use Rattle.sh_kernel_descriptors.specs.Closings.{descriptors_left}
+use Rattle.sh_kernel_descriptors.specs.Machine.{MachineState, after_fork}
 use Rattle.sh_kernel_descriptors.specs.Naming.{with_number, with_pipe}
 use Rattle.sh_kernel_descriptors.specs.Opening.{for_reading, with_node}
 use Rattle.sh_kernel_descriptors.specs.Processes.{copies, is_copied, next_pid, of_process, process_at, with_status_of}
 use Rattle.sh_kernel_descriptors.specs.Starting.{to_terminal}
 use Rattle.sh_kernel_descriptors.specs.declared.descriptor.Closing.TheVariants.{Named, All}
 use Rattle.sh_kernel_descriptors.specs.declared.descriptor.Descriptor.{Descriptor}
-use Rattle.sh_kernel_descriptors.specs.declared.descriptor.Name.TheVariants.{Number, Aside}
+use Rattle.sh_kernel_descriptors.specs.declared.descriptor.DescriptorRef.TheVariants.{Number, Aside}
 use Rattle.sh_kernel_descriptors.specs.declared.process.Process.{Process}
 use Rattle.sh_kernel_descriptors.specs.declared.process.Status.{Status}
 use Rattle.sh_kernel.specs.State.{KernelState, starting}
@@ -46,12 +46,12 @@ status_length ps pid status (Some q) = length_set ps _ _
 
 unmade_number : (m : MachineState) (pid number k : ℕ) → pid < next_pid m.processes → UnmadeReachNothing m → UnmadeReachNothing (with_number m pid number k)
 unmade_number m pid number k born h p past =
-    reaches_append (left pid (Named (Number number)) m.descriptors) _ p (λ j. true) (reaches_others_left pid (Named (Number number)) m.descriptors p (λ j. true) (h p past))
+    reaches_append (descriptors_left pid (Named (Number number)) m.descriptors) _ p (λ j. true) (reaches_others_left pid (Named (Number number)) m.descriptors p (λ j. true) (h p past))
     (of_another (record { pid = pid; number = Some number; description = k }) p (λ j. true) (omega (arith, born, past)))
 
-unmade_fork : (m : MachineState) (pid : ℕ) → UnmadeReachNothing m → UnmadeReachNothing (forked m pid)
+unmade_fork : (m : MachineState) (pid : ℕ) → UnmadeReachNothing m → UnmadeReachNothing (after_fork m pid)
 unmade_fork m pid h p past =
-    let longer : length (forked m pid).processes ≡ length m.processes + 1 = length-append m.processes _ in
+    let longer : length (after_fork m pid).processes ≡ length m.processes + 1 = length-append m.processes _ in
     reaches_append m.descriptors (copies m.descriptors pid (next_pid m.processes)) p (λ j. true) (h p (omega (arith, past, longer))) (copies_others m.descriptors pid (next_pid m.processes) p (λ j. true) (omega (arith, past, longer)))
 
 pub unmade_stay : (s : KernelState) (pid : ℕ) (r : Request) → pid < next_pid s.machine.processes → UnmadeReachNothing s.machine → UnmadeReachNothing (after_request s pid r).machine
@@ -68,7 +68,7 @@ unmade_stay s pid r born h =
           reaches_others_left pid All m.descriptors p (λ j. true) (h p (omega (arith, past, same)));
       numbers = λ number k held. unmade_number m pid number k born h;
       renames = λ name number p past. reaches_renamed m.descriptors pid name number p (λ j. true) (h p past);
-      back = λ k number p past. reaches_renamed (left pid (Named (Number number)) m.descriptors) pid (Aside k) (Some number) p (λ j. true) (reaches_others_left pid (Named (Number number)) m.descriptors p (λ j. true) (h p past));
+      back = λ k number p past. reaches_renamed (descriptors_left pid (Named (Number number)) m.descriptors) pid (Aside k) (Some number) p (λ j. true) (reaches_others_left pid (Named (Number number)) m.descriptors p (λ j. true) (h p past));
       forks = unmade_fork m pid h;
       makes_pipe = λ from to. unmade_number (with_number (with_pipe m) pid from (length m.descriptions)) pid to (length m.descriptions + 1) born (unmade_number (with_pipe m) pid from (length m.descriptions) born h);
       opens = λ directory path how append number o is at. unmade_number (with_node m how append o.0 o.1) pid number (length m.descriptions) born h;
@@ -105,7 +105,7 @@ unmade_both s pid first child inside last born there h =
     let more = child_grows c child inside in
     unmade_stay_all (after_child c child inside) pid last (omega (arith, born, grow.processes, more.processes)) (unmade_child c child inside there (unmade_stay_all s pid first born h))
 
-pub unmade_stay_forking : (s : KernelState) (pid : ℕ) (before : Option ℕ) (writes : Bool) → pid < next_pid s.machine.processes → UnmadeReachNothing s.machine → UnmadeReachNothing (forking.forked s pid before writes).after.machine
+pub unmade_stay_forking : (s : KernelState) (pid : ℕ) (before : Option ℕ) (writes : Bool) → pid < next_pid s.machine.processes → UnmadeReachNothing s.machine → UnmadeReachNothing (forking.fork_of s pid before writes).after.machine
 unmade_stay_forking s pid before writes born h =
     subst (λ (t : KernelState). UnmadeReachNothing t.machine) (sym (after_is s pid before writes))
     (unmade_both s pid (with_fork before writes) (new_process s pid before writes) (in_child before writes) (behind_fork (new_process s pid before writes) (end_aside s pid writes)) born (child_is_made s pid before writes) h)

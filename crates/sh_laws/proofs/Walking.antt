@@ -6,13 +6,13 @@ use Rattle.std.specs.FinMap as map
 use Rattle.std.specs.Option.{option_and_then}
 use Rattle.std.specs.Str.{bytes_eq}
 use Rattle.std.proofs.lemmas.Slice.Eq.{bytes_eq-Decides}
-use Rattle.sh_files_image.specs.Paths.{has_slash, is_good_name, joined, last_slash, names_fit, parent, stepped}
+use Rattle.sh_files_image.specs.Paths.{has_slash, is_good_name, path_in, last_slash, names_fit, parent, next_place}
 use Rattle.sh_files_image.specs.Texts.{is_left_out}
 use Rattle.sh_files_image.specs.declared.node.Node.{Node}
 use Rattle.sh_files_image.specs.declared.node.Node.TheVariants.{Directory, File, Null, Terminal}
 use Rattle.sh_files_image.proofs.Places.{order}
 use Rattle.sh_files.specs.Image.{is_directory}
-use Rattle.sh_files.specs.Nodes.{FileMap, entrance, behind_entrance, node_at, starting, walked}
+use Rattle.sh_files.specs.Nodes.{FileMap, entrance, behind_entrance, node_at, starting, walk_end}
 use Rattle.sh_files.specs.Whole.{IsPlaced, IsWhole}
 use Rattle.sh_files.specs.declared.fault.FileFault.{FileFault}
 use Rattle.sh_files.proofs.Lookups.{is, is_same}
@@ -89,23 +89,23 @@ pub record Entry (files : FileMap) (r : List ℕ) : Type 0 where
   pub directory : is_directory (node_at files place) ≡ true
   pub good : is_good_name name ≡ true
   pub plain : has_slash name ≡ false
-  pub path : r ≡ joined place name
+  pub path : r ≡ path_in place name
 
 abbrev pub Standing : FileMap → List ℕ → Type 0
 Standing files r = (is_directory (node_at files r) ≡ true) ⊎ Entry files r
 
-step_stands : (files : FileMap) (place name : List ℕ) → IsWhole files → is_directory (node_at files place) ≡ true → nat_le (length name) 255 ≡ true → has_slash name ≡ false → Standing files (stepped place name)
+step_stands : (files : FileMap) (place name : List ℕ) → IsWhole files → is_directory (node_at files place) ≡ true → nat_le (length name) 255 ≡ true → has_slash name ≡ false → Standing files (next_place place name)
 step_stands files place name w d l s = empty (bytes_eq name []) refl
   where
-    up : (b : Bool) → bytes_eq name (codes "..") ≡ b → bytes_eq name [] ≡ false → bytes_eq name (codes ".") ≡ false → Standing files (if b then parent place else joined place name)
+    up : (b : Bool) → bytes_eq name (codes "..") ≡ b → bytes_eq name [] ≡ false → bytes_eq name (codes ".") ≡ false → Standing files (if b then parent place else path_in place name)
     up true e f g = inl (parent_is files place w d)
     up false e f g = inr (record { place = place; name = name; directory = d; good = rw (f, g, e) l; plain = s; path = refl })
 
-    dot : (b : Bool) → bytes_eq name (codes ".") ≡ b → bytes_eq name [] ≡ false → Standing files (if b then place else if bytes_eq name (codes "..") then parent place else joined place name)
+    dot : (b : Bool) → bytes_eq name (codes ".") ≡ b → bytes_eq name [] ≡ false → Standing files (if b then place else if bytes_eq name (codes "..") then parent place else path_in place name)
     dot true e f = inl d
     dot false e f = up (bytes_eq name (codes "..")) refl f e
 
-    empty : (b : Bool) → bytes_eq name [] ≡ b → Standing files (if b then place else if bytes_eq name (codes ".") then place else if bytes_eq name (codes "..") then parent place else joined place name)
+    empty : (b : Bool) → bytes_eq name [] ≡ b → Standing files (if b then place else if bytes_eq name (codes ".") then place else if bytes_eq name (codes "..") then parent place else path_in place name)
     empty true e = inl d
     empty false e = dot (bytes_eq name (codes ".")) refl e
 
@@ -126,7 +126,7 @@ parent_short : (p : List ℕ) (n : ℕ) → Short p n → Short (parent p) n
 parent_short p n (inl e) = inl (ap parent e)
 parent_short p n (inr l) = let i = take_short (max 1 (last_slash p)) p in inr (omega (arith, i, l))
 
-joined_short : (p name : List ℕ) (n : ℕ) → Short p n → Short (joined p name) (suc (length name) + n)
+joined_short : (p name : List ℕ) (n : ℕ) → Short p n → Short (path_in p name) (suc (length name) + n)
 joined_short p name n s = at (bytes_eq p (codes "/")) refl s
   where
     behind : bytes_eq p (codes "/") ≡ false → Short p n → Short (p ++ 47 ∷ name) (suc (length name) + n)
@@ -137,21 +137,21 @@ joined_short p name n s = at (bytes_eq p (codes "/")) refl s
     at true e k = inr (omega arith)
     at false e k = behind e k
 
-step_short : (place name : List ℕ) (n : ℕ) → Short place n → Short (stepped place name) (suc (length name) + n)
+step_short : (place name : List ℕ) (n : ℕ) → Short place n → Short (next_place place name) (suc (length name) + n)
 step_short place name n s = empty (bytes_eq name []) s
   where
     stay : Short place n → Short place (suc (length name) + n)
     stay k = longer place n (suc (length name) + n) k (omega arith)
 
-    up : (b : Bool) → Short place n → Short (if b then parent place else joined place name) (suc (length name) + n)
+    up : (b : Bool) → Short place n → Short (if b then parent place else path_in place name) (suc (length name) + n)
     up true k = longer (parent place) n (suc (length name) + n) (parent_short place n k) (omega arith)
     up false k = joined_short place name n k
 
-    dot : (b : Bool) → Short place n → Short (if b then place else if bytes_eq name (codes "..") then parent place else joined place name) (suc (length name) + n)
+    dot : (b : Bool) → Short place n → Short (if b then place else if bytes_eq name (codes "..") then parent place else path_in place name) (suc (length name) + n)
     dot true k = stay k
     dot false k = up (bytes_eq name (codes "..")) k
 
-    empty : (b : Bool) → Short place n → Short (if b then place else if bytes_eq name (codes ".") then place else if bytes_eq name (codes "..") then parent place else joined place name) (suc (length name) + n)
+    empty : (b : Bool) → Short place n → Short (if b then place else if bytes_eq name (codes ".") then place else if bytes_eq name (codes "..") then parent place else path_in place name) (suc (length name) + n)
     empty true k = stay k
     empty false k = dot (bytes_eq name (codes ".")) k
 
@@ -163,11 +163,11 @@ entered (Some (File f)) next r h = cc
 entered (Some Null) next r h = cc
 entered (Some Terminal) next r h = cc
 
-pub walk : (files : FileMap) (names : List (List ℕ)) (place r : List ℕ) (n : ℕ) → IsWhole files → Standing files place → Short place n → NoSlash names → names_fit names ≡ true → walked files place names ≡ Ok r
+pub walk : (files : FileMap) (names : List (List ℕ)) (place r : List ℕ) (n : ℕ) → IsWhole files → Standing files place → Short place n → NoSlash names → names_fit names ≡ true → walk_end files place names ≡ Ok r
     → Standing files r × Short r (total names + n)
 walk files [] place r n w s k p f h = let same : place ≡ r = cc in subst (λ q. Standing files q × Short q (0 + n)) same (s, longer place n (0 + n) k (omega arith))
 walk files (name ∷ names) place r n w s k p f h =
-    let g = entered (node_at files place) (walked files (stepped place name) names) r h in
+    let g = entered (node_at files place) (walk_end files (next_place place name) names) r h in
     let l = and_parts (nat_le (length name) 255) (names_fit names) f in
-    let i = walk files names (stepped place name) r (suc (length name) + n) w (step_stands files place name w g.0 l.0 p.0) (step_short place name n k) p.1 l.1 g.1 in
+    let i = walk files names (next_place place name) r (suc (length name) + n) w (step_stands files place name w g.0 l.0 p.0) (step_short place name n k) p.1 l.1 g.1 in
     (i.0, longer r (total names + (suc (length name) + n)) (total (name ∷ names) + n) i.1 (omega arith))

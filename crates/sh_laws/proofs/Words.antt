@@ -2,8 +2,8 @@
 use Rattle.std.proofs.Common.{◌≡◌, ℕ, zero, suc, ◌+◌, ◌-◌, ◌^◌, ◌<◌, ◌≤◌, Bool, true, false, List, [], ◌∷◌, ◌++◌, length, drop, Option, Some, None, Ok, Err, refl, sym, ap, subst, ◌∙◌, arith, if◌then◌else◌}
 use Rattle.std.proofs.lemmas.List.{length-drop, drop-drop}
 use Rattle.sh_token_pieces.specs.declared.context.Context.TheVariants.{Top}
-use Rattle.sh_token_pieces.specs.declared.mark.Mark.{Mark}
-use Rattle.sh_token_pieces.specs.declared.mark.Mark.TheVariants as mark
+use Rattle.sh_token_pieces.specs.declared.piece.Piece.{Piece}
+use Rattle.sh_token_pieces.specs.declared.piece.Piece.TheVariants as piece
 use Rattle.sh_token.specs.declared.token.TokenKind.{TokenKind}
 use Rattle.sh_token.specs.FirstToken.{FirstToken, Found, Unfinished, DeepAt, IsFirst}
 use Rattle.sh_token.specs.Found.{first_token}
@@ -26,26 +26,26 @@ use Rattle.sh_laws.proofs.Standing.{ResultAt, word_at}
 
 -- the pieces of a token that is a word
 abbrev KindPieces : Bool → List ℕ → List ℕ → TokenKind → Type 0
-KindPieces e front rest (TokenKind.Operator o) = Unit {0}
-KindPieces e front rest TokenKind.Number = Unit {0}
-KindPieces e front rest (TokenKind.Word ms) = Pieces e ms front rest
-KindPieces e front rest TokenKind.End = Unit {0}
+KindPieces e prefix rest (TokenKind.Operator o) = Unit {0}
+KindPieces e prefix rest TokenKind.Number = Unit {0}
+KindPieces e prefix rest (TokenKind.Word ms) = Pieces e ms prefix rest
+KindPieces e prefix rest TokenKind.End = Unit {0}
 
-kind_pieces : (e : Bool) (front rest : List ℕ) (number : Bool) (ms : List Mark) → Pieces e ms front rest → KindPieces e front rest (if number then TokenKind.Number else TokenKind.Word ms)
-kind_pieces e front rest true ms p = tt
-kind_pieces e front rest false ms p = p
+kind_pieces : (e : Bool) (prefix rest : List ℕ) (number : Bool) (ms : List Piece) → Pieces e ms prefix rest → KindPieces e prefix rest (if number then TokenKind.Number else TokenKind.Word ms)
+kind_pieces e prefix rest true ms p = tt
+kind_pieces e prefix rest false ms p = p
 
-token_pieces : (e : Bool) (limit : ℕ) (gap : List Mark) (front rest : List ℕ) (kind : TokenKind) → IsToken e limit gap front rest kind → KindPieces e front rest kind
-token_pieces e limit gap front rest _ (ending t f r) = tt
-token_pieces e limit gap front rest _ (operator o i) = tt
-token_pieces e limit gap front rest _ (word ms r x xs middle a n k i t) =
-    let all = pieces_of e limit (mark.WordOpen ∷ ms) gap (Top ∷ []) front middle a in
-    let first : Pieces e ms front middle = subst (λ z. Pieces e ms z middle) (sym all.1) all.2 in
-    kind_pieces e front rest (is_number r ms) ms (subst (λ z. Pieces e ms front z) i.written first)
+token_pieces : (e : Bool) (limit : ℕ) (gap : List Piece) (prefix rest : List ℕ) (kind : TokenKind) → IsToken e limit gap prefix rest kind → KindPieces e prefix rest kind
+token_pieces e limit gap prefix rest _ (ending t f r) = tt
+token_pieces e limit gap prefix rest _ (operator o i) = tt
+token_pieces e limit gap prefix rest _ (word ms r x xs middle a n k i t) =
+    let all = pieces_of e limit (piece.WordOpen ∷ ms) gap (Top ∷ []) prefix middle a in
+    let first : Pieces e ms prefix middle = subst (λ z. Pieces e ms z middle) (sym all.1) all.2 in
+    kind_pieces e prefix rest (is_number r ms) ms (subst (λ z. Pieces e ms prefix z) i.written first)
 
-token_ends : (e : Bool) (limit : ℕ) (bytes front rest : List ℕ) (kind : TokenKind) → HasToken e limit bytes front rest kind → EndsWith bytes front
-token_ends e limit bytes front rest kind h =
-    both_end bytes h.middle front (pieces_end e h.gap bytes h.middle (pieces_of e limit h.gap [] (Top ∷ []) bytes h.middle h.between)) (_, h.joined.is)
+token_ends : (e : Bool) (limit : ℕ) (bytes prefix rest : List ℕ) (kind : TokenKind) → HasToken e limit bytes prefix rest kind → EndsWith bytes prefix
+token_ends e limit bytes prefix rest kind h =
+    both_end bytes h.middle prefix (pieces_end e h.gap bytes h.middle (pieces_of e limit h.gap [] (Top ∷ []) bytes h.middle h.between)) (_, h.joined.is)
 
 no_fault : {A : Type 0} (x : A) (f : PartFault) → Ok x ≡ Err f → ⊥
 no_fault x f h = cc
@@ -55,31 +55,31 @@ module _ (e : Bool) (text : List ℕ) (small : length text < 2 ^ 64) where
   FaultsStand t =
       (left : ℕ) (f : PartFault) → leaf_of read_text left text t.token.kind t.token.span ≡ Err f → Stands t.token.span.start t.token.span.«end» f
 
-  kind_stands : (kind : TokenKind) (lo hi : ℕ) (front rest : List ℕ) → KindPieces e front rest kind → drop lo text ≡ front → lo + length front ≡ length text → hi + length rest ≡ length text
+  kind_stands : (kind : TokenKind) (lo hi : ℕ) (prefix rest : List ℕ) → KindPieces e prefix rest kind → drop lo text ≡ prefix → lo + length prefix ≡ length text → hi + length rest ≡ length text
       → (left : ℕ) (f : PartFault) → leaf_of read_text left text kind (record { start = lo; «end» = hi }) ≡ Err f → Stands lo hi f
-  kind_stands (TokenKind.Operator o) lo hi front rest p d l r left f h = absurd (no_fault _ f h)
-  kind_stands TokenKind.Number lo hi front rest p d l r left f h = absurd (no_fault _ f h)
-  kind_stands (TokenKind.Word ms) lo hi front rest p d l r left f h =
+  kind_stands (TokenKind.Operator o) lo hi prefix rest p d l r left f h = absurd (no_fault _ f h)
+  kind_stands TokenKind.Number lo hi prefix rest p d l r left f h = absurd (no_fault _ f h)
+  kind_stands (TokenKind.Word ms) lo hi prefix rest p d l r left f h =
       let span : Span = record { start = lo; «end» = hi } in
       let pieces : Pieces e ms (drop lo text) rest = subst (λ z. Pieces e ms z rest) (sym d) p in
-      let size : length (drop lo text) ≡ length front = ap length d in
+      let size : length (drop lo text) ≡ length prefix = ap length d in
       let begins : lo ≤ 2 ^ 64 - 1 = omega (l, small, arith) in
       subst (λ x. ResultAt read_text texts_in text lo hi begins x) h
       (word_at read_text texts_in text lo hi begins e left ms span rest pieces (omega (size, l, arith)) r)
-  kind_stands TokenKind.End lo hi front rest p d l r left f h = absurd (no_fault _ f h)
+  kind_stands TokenKind.End lo hi prefix rest p d l r left f h = absurd (no_fault _ f h)
 
   token_stands : (limit at : ℕ) → at ≤ length text → (kind : TokenKind) (start stop : ℕ) → first_token e limit (drop at text) ≡ Found kind start stop
       → (left : ℕ) (f : PartFault) → leaf_of read_text left text kind (record { start = at + start; «end» = at + stop }) ≡ Err f → Stands (at + start) (at + stop) f
   token_stands limit at m kind start stop h =
       let f : IsFirst e limit (drop at text) (Found kind start stop) = subst (λ x. IsFirst e limit (drop at text) x) h (is_first e limit (drop at text)) in
-      let front = f.0 in
+      let prefix = f.0 in
       let rest = f.1.0 in
       let token = f.1.1 in
-      let from : start + length front ≡ length (drop at text) = f.1.2 in
+      let from : start + length prefix ≡ length (drop at text) = f.1.2 in
       let to : stop + length rest ≡ length (drop at text) = f.1.3 in
       let size : length (drop at text) ≡ length text - at = length-drop at text in
-      let begins : drop (at + start) text ≡ front = sym (drop-drop start at text) ∙ end_at (drop at text) front start (token_ends e limit (drop at text) front rest kind token) from in
-      kind_stands kind (at + start) (at + stop) front rest (token_pieces e limit token.gap front rest kind token.token) begins
+      let begins : drop (at + start) text ≡ prefix = sym (drop-drop start at text) ∙ end_at (drop at text) prefix start (token_ends e limit (drop at text) prefix rest kind token) from in
+      kind_stands kind (at + start) (at + stop) prefix rest (token_pieces e limit token.gap prefix rest kind token.token) begins
       (omega (from, size, m, arith)) (omega (to, size, m, arith))
 
   -- ---- the items of the text

@@ -1,4 +1,4 @@
--- What an expansion comes to with more answers.
+-- What an expansion gives with more answers.
 use Rattle.std.specs.Prelude.{◌≡◌}
 use Rattle.sh_expand.specs.Expanding.{Result, Need, Fields, Stops}
 

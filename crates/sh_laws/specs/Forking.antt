@@ -1,10 +1,10 @@
--- A shell makes a process (XCU 2.9.2, 2.12, 2.6.3) by requests of its own, and then some of the new process. While a pipe is laid, its ends
--- are at the numbers 10 and 11, which no script can name.
+-- A shell makes a process (XCU 2.9.2, 2.13, 2.6.3) by requests of its own, and then some of the new process.
+-- While a pipe is laid, its ends are at the numbers 10 and 11, which no script can name.
 use Rattle.std.specs.Prelude.{◌≡◌, ℕ, ◌≤◌, Bool, true, false, List, [], ◌∷◌, ◌++◌, Option, Some, None, is_some}
 use Rattle.std.specs.Result.{result_ok}
 use Rattle.sh_kernel_descriptors.specs.Machine.{MachineState}
 use Rattle.sh_kernel_descriptors.specs.Processes.{next_pid}
-use Rattle.sh_kernel_descriptors.specs.declared.descriptor.Name.TheVariants.{Number, Aside}
+use Rattle.sh_kernel_descriptors.specs.declared.descriptor.DescriptorRef.TheVariants.{Number, Aside}
 use Rattle.sh_kernel.specs.State.{KernelState}
 use Rattle.sh_kernel.specs.Calls.{fork_call, set_aside_call}
 use Rattle.sh_kernel.specs.Reaching.{reaches}
@@ -37,17 +37,17 @@ abbrev pub new_process : KernelState → ℕ → (before : Option ℕ) → (writ
 new_process s pid before writes = result_ok (fork_call (after_requests s pid (before_fork before writes)) pid).answer
 
 -- ---- the new process
--- a number goes over to another one
+-- a descriptor moves from one number to another
 abbrev pub moving : Bool → (from to : ℕ) → List Request
 moving false from to = []
 moving true from to = Duplicate (Number from) to ∷ Close (Number from) ∷ []
 
--- it reads as 0 from the pipe before, and writes as 1 to the new one
+-- the new process reads as 0 from the pipe before, and writes as 1 to the new one
 abbrev pub in_child : (before : Option ℕ) → (writes : Bool) → List Request
 in_child before writes = moving (is_some before) 10 0 ++ moving writes 11 1
 
 -- ---- the shell again
--- it lets the ends go, and where no process could be made, also what is set aside
+-- it closes the ends and, where no process could be made, also what is set aside
 abbrev pub dropping : (child aside : Option ℕ) → List Request
 dropping (Some child) aside = []
 dropping None None = []
@@ -57,9 +57,9 @@ abbrev pub behind_fork : (child aside : Option ℕ) → List Request
 behind_fork child aside = Close (Number 10) ∷ Close (Number 11) ∷ dropping child aside
 
 -- the end that is kept for the next process
-abbrev pub kept : (child aside : Option ℕ) → Option ℕ
-kept (Some child) aside = aside
-kept None aside = None
+abbrev pub end_for_next : (child aside : Option ℕ) → Option ℕ
+end_for_next (Some child) aside = aside
+end_for_next None aside = None
 
 -- ---- all of it
 -- the state after requests of the new process, if there is one

@@ -3,8 +3,8 @@ use Rattle.std.specs.Prelude.{ℕ, List, [], ◌∷◌, ◌++◌, Bool, ◌&&◌
 use Rattle.sh_exec_parts.specs.declared.redirection.Action.{Action}
 use Rattle.sh_exec_parts.specs.declared.redirection.Action.TheVariants as action
 use Rattle.sh_exec_parts.specs.declared.redirection.Redirection.{Redirection}
-use Rattle.sh_exec_machine.specs.Redirecting.{is_itself, placed}
-use Rattle.sh_kernel_descriptors.specs.declared.descriptor.Name.TheVariants.{Number}
+use Rattle.sh_exec_machine.specs.Redirecting.{is_itself, action_outcome}
+use Rattle.sh_kernel_descriptors.specs.declared.descriptor.DescriptorRef.TheVariants.{Number}
 use Rattle.sh_kernel_descriptors.specs.declared.fault.KernelFault.{KernelFault}
 use Rattle.sh_kernel.specs.Calls.{set_aside_call}
 use Rattle.sh_kernel.specs.Requests.{Request}
@@ -28,7 +28,7 @@ back_after aside number (Ok _) = []
 back_after aside number (Err fault) = request.PutBack aside number ∷ []
 
 abbrev pub keeping : KernelState → ℕ → List ℕ → ℕ → Redirection → Result ℕ KernelFault → List Request
-keeping s pid directory number r (Ok aside) = placing directory number r ++ back_after aside number (placed s pid directory number r).answer
+keeping s pid directory number r (Ok aside) = placing directory number r ++ back_after aside number (action_outcome s pid directory number r).answer
 keeping s pid directory number r (Err fault) = placing directory number r
 
 abbrev pub redirecting_to : Bool → KernelState → ℕ → List ℕ → Redirection → Option ℕ → List Request

@@ -32,7 +32,7 @@ abbrev pub after_all : KernelState → List (ℕ × Request) → KernelState
 after_all s [] = s
 after_all s (r ∷ rs) = after_all (after_request s r.0 r.1) rs
 
--- one state comes of the other by requests of this process alone, and of the one that it makes
+-- the second state comes from the first by requests of this process, and of the one that it makes, alone
 abbrev pub ByRequests : (pid : ℕ) → (made : Option ℕ) → List ℕ → KernelState → KernelState → Type 0
 ByRequests pid made directory s t = (rs : List (ℕ × Request)) × (AllBy pid made directory rs × (t ≡ after_all s rs))
 
@@ -48,7 +48,7 @@ pub record ChangesByRequests (pid : ℕ) (made : Option ℕ) (directory : List �
   pub after : t ≡ after_all s requests
   pub changes : ChangesOnlyReached pid (opens_by s requests) s.machine t.machine
 
--- one comes of the other by requests of processes, from whatever directories
+-- the second state comes from the first by requests of processes, from whatever directories
 abbrev pub ComesByRequests : KernelState → KernelState → Type 0
 ComesByRequests s t = (rs : List (ℕ × Request)) × (t ≡ after_all s rs)
 

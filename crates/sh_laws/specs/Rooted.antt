@@ -3,7 +3,7 @@ use Rattle.std.specs.Prelude.{◌≡◌, ℕ, List, [], ◌∷◌, true}
 use Rattle.sh_files_image.specs.Paths.{begins_at_root}
 use Rattle.sh_kernel.specs.Requests.{Request, Close, Duplicate, End, Fork, Here, MakePipe, Open, PutBack, Read, SetAside, StartProgram, Write}
 
--- where it opens a file, the directory that the path goes from passes
+-- where the request opens a file, the directory that the path goes from passes the test
 abbrev pub OpensFrom : (List ℕ → Type 0) → Request → Type 0
 OpensFrom Passes (Read name count) = Unit {0}
 OpensFrom Passes (Write number bytes) = Unit {0}

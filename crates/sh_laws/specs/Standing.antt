@@ -1,4 +1,5 @@
--- Where a fault stands: in the bytes from a place up to, not including, another. Want of memory has no place, and nothing is said of it.
+-- The place of a fault: in the bytes from one place up to, not including, another. Want of memory has no
+-- place, and nothing is said of it.
 use Rattle.std.specs.Prelude.{ℕ, ◌≤◌, ◌<◌, Ok, Err}
 use Rattle.sh_parse_words.specs.declared.fault.PartFault.{PartFault}
 use Rattle.sh_parse_words.specs.declared.fault.PartFault.TheVariants as fault
@@ -11,7 +12,8 @@ Stands start stop (fault.TooDeep at) = (start ≤ at) × (at < stop)
 Stands start stop (fault.Refused at) = (start ≤ at) × (at < stop)
 Stands start stop (fault.NoMemory _) = Unit {0}
 
--- a fault of a text stands before the decision place at which it is told. What is unclosed is so at the text's end
+-- the place of a fault of a text is before the decision place at which the fault is told; what is unclosed is
+-- told at the text's end
 abbrev pub StandsBefore : Answer → Type 0
 StandsBefore (Ok r) = Unit {0}
 StandsBefore (Err (Refused at used)) = at < used

@@ -1,73 +1,95 @@
-//! The laws.
+//! Laws of requests.
 ghost use Rattle.std.specs.Prelude.{◌≡◌, ◌≢◌, ℕ, ◌<◌, Bool, true, false, List, length, Option};
 ghost use Rattle.sh_files.specs.Nodes.{FileMap};
 ghost use Rattle.sh_kernel_descriptors.specs.Processes.{next_pid};
 ghost use Rattle.sh_kernel.specs.State.{KernelState, starting};
 ghost use Rattle.sh_kernel.specs.Laws.{ChangesOnlyReached, IsOwned, OnlyGrows, ReachesNoMore};
-ghost use Rattle.sh_kernel_descriptors.specs.declared.descriptor.Name.{Name};
+ghost use Rattle.sh_kernel_descriptors.specs.declared.descriptor.DescriptorRef.{DescriptorRef};
 ghost use Rattle.sh_kernel.specs.Requests.{Read, Request, Write, after_request, after_requests};
 ghost use Rattle.sh_exec_machine.specs.declared.undone.Undone.{Undone};
 ghost use Rattle.sh_exec_machine.specs.Undoing.{all_restored};
-ghost use Rattle.sh_exec_machine.specs.Forking.{forked};
+ghost use Rattle.sh_exec_machine.specs.Forking.{fork_of};
 ghost use Rattle.sh_exec_parts.specs.declared.redirection.Redirection.{Redirection};
-ghost use Rattle.sh_exec_machine.specs.Redirecting.{redirected};
+ghost use Rattle.sh_exec_machine.specs.Redirecting.{redirection_outcome};
 ghost use Rattle.sh_exec_machine.specs.Transfers.{give_bytes, take_bytes};
 ghost use Rattle.sh_laws.specs.Redirecting.{redirecting};
 ghost use Rattle.sh_laws.specs.Undoing.{undoing};
-ghost use Rattle.sh_laws.specs.Forking.{UnmadeReachNothing, after_both, behind_fork, end_aside, in_child, kept, new_process, with_fork};
+ghost use Rattle.sh_laws.specs.Forking.{UnmadeReachNothing, after_both, behind_fork, end_aside, in_child, end_for_next, new_process, with_fork};
 
 /// Law: redirections are undone by requests of the shell's process alone, one for each redirection, the newest first (XCU 2.9.1).
 pub fn undoing_is_requests()
-    ensures { (pid : ℕ) (us : List Undone) (s : KernelState) → all_restored pid us s ≡ after_requests s pid (undoing us) }
+    ensures { (pid : ℕ) (us : List Undone) (s : KernelState) → all_restored pid us s
+        ≡ after_requests s pid (undoing us) }
 {}
 
-/// Law: a process is made by requests of the shell up to its fork, then by requests of the new process, where there could be one, and then by
-/// requests of the shell again (XCU 2.9.2, 2.12, 2.6.3).
+/// Law: a process is made by requests alone (XCU 2.9.2, 2.13, 2.6.3): first those of the shell up to its
+/// fork, then those of the new process, where there could be one, and then those of the shell again.
 pub fn forking_is_requests()
-    ensures child { (s : KernelState) (pid : ℕ) (before : Option ℕ) (writes : Bool) → (forked s pid before writes).child ≡ new_process s pid before writes }
-    ensures aside { (s : KernelState) (pid : ℕ) (before : Option ℕ) (writes : Bool) → (forked s pid before writes).aside ≡ kept (new_process s pid before writes) (end_aside s pid writes) }
-    ensures state { (s : KernelState) (pid : ℕ) (before : Option ℕ) (writes : Bool) → let child = new_process s pid before writes in (forked s pid before writes).after ≡ after_both s pid (with_fork before writes) child (in_child before writes) (behind_fork child (end_aside s pid writes)) }
+    ensures child { (s : KernelState) (pid : ℕ) (before : Option ℕ) (writes : Bool)
+        → (fork_of s pid before writes).child ≡ new_process s pid before writes }
+    ensures aside { (s : KernelState) (pid : ℕ) (before : Option ℕ) (writes : Bool)
+        → (fork_of s pid before writes).aside ≡ end_for_next (new_process s pid before writes)
+        (end_aside s pid writes) }
+    ensures state { (s : KernelState) (pid : ℕ) (before : Option ℕ) (writes : Bool)
+        → let child = new_process s pid before writes in (fork_of s pid before writes).after
+        ≡ after_both s pid (with_fork before writes) child (in_child before writes)
+        (behind_fork child (end_aside s pid writes)) }
 {}
 
-/// Law: undoing redirections changes no pipe, file or description but those that the shell's process reached, and no other process; what
-/// another process alone has stays that one's; and numbers only grow.
+/// Law: undoing redirections changes only pipes, files and descriptions that the shell's process reached, and
+/// neither the descriptors nor the status of another process that was there. What another process alone has
+/// stays that process's, and numbers only grow.
 pub fn undoing_changes_what_is_reached()
-    ensures changes { (pid : ℕ) (us : List Undone) (s : KernelState) → ChangesOnlyReached pid (λ node. false) s.machine (all_restored pid us s).machine }
+    ensures changes { (pid : ℕ) (us : List Undone) (s : KernelState)
+        → ChangesOnlyReached pid (λ node. false) s.machine (all_restored pid us s).machine }
     ensures owned { (owner pid : ℕ) (us : List Undone) (s : KernelState) (test : ℕ → Bool) → pid ≢ owner → ((k : ℕ) → test k ≡ true → k < length s.machine.descriptions) → IsOwned owner test s.machine.descriptors → IsOwned owner test (all_restored pid us s).machine.descriptors }
-    ensures grows { (pid : ℕ) (us : List Undone) (s : KernelState) → OnlyGrows s.machine (all_restored pid us s).machine }
+    ensures grows { (pid : ℕ) (us : List Undone) (s : KernelState)
+        → OnlyGrows s.machine (all_restored pid us s).machine }
 {}
 
-/// Law: making a process changes no pipe, file or description but those that the shell's process reached, and no other process that was there
-/// (as long as no descriptor is of one still to come); what another process alone has stays that one's, and the new one doesn't come to have it;
-/// and numbers only grow.
+/// Law: making a process changes only pipes, files and descriptions that the shell's process reached, and
+/// neither the descriptors nor the status of another process that was there. This is so as long as no
+/// descriptor is of a process still to come. What another process alone has stays that process's, so the new
+/// process doesn't come to have it; and numbers only grow.
 pub fn forking_changes_what_is_reached()
-    ensures changes { (s : KernelState) (pid : ℕ) (before : Option ℕ) (writes : Bool) → UnmadeReachNothing s.machine → ChangesOnlyReached pid (λ node. false) s.machine (forked s pid before writes).after.machine }
-    ensures owned { (s : KernelState) (owner pid : ℕ) (before : Option ℕ) (writes : Bool) (test : ℕ → Bool) → pid ≢ owner → owner < next_pid s.machine.processes → ((k : ℕ) → test k ≡ true → k < length s.machine.descriptions) → IsOwned owner test s.machine.descriptors → IsOwned owner test (forked s pid before writes).after.machine.descriptors }
-    ensures grows { (s : KernelState) (pid : ℕ) (before : Option ℕ) (writes : Bool) → OnlyGrows s.machine (forked s pid before writes).after.machine }
+    ensures changes { (s : KernelState) (pid : ℕ) (before : Option ℕ) (writes : Bool) → UnmadeReachNothing s.machine → ChangesOnlyReached pid (λ node. false) s.machine (fork_of s pid before writes).after.machine }
+    ensures owned { (s : KernelState) (owner pid : ℕ) (before : Option ℕ) (writes : Bool)
+        (test : ℕ → Bool) → pid ≢ owner → owner < next_pid s.machine.processes
+        → ((k : ℕ) → test k ≡ true → k < length s.machine.descriptions)
+        → IsOwned owner test s.machine.descriptors
+        → IsOwned owner test (fork_of s pid before writes).after.machine.descriptors }
+    ensures grows { (s : KernelState) (pid : ℕ) (before : Option ℕ) (writes : Bool)
+        → OnlyGrows s.machine (fork_of s pid before writes).after.machine }
 {}
 
 /// Law: by making a process the shell comes to reach no pipe, file or description that was there and that it didn't reach (as long as no
 /// descriptor is of a process still to come).
 pub fn forking_reaches_no_more()
-    ensures { (s : KernelState) (pid : ℕ) (before : Option ℕ) (writes : Bool) → UnmadeReachNothing s.machine → ReachesNoMore pid (λ node. false) s.machine (forked s pid before writes).after.machine }
+    ensures { (s : KernelState) (pid : ℕ) (before : Option ℕ) (writes : Bool) → UnmadeReachNothing s.machine → ReachesNoMore pid (λ node. false) s.machine (fork_of s pid before writes).after.machine }
 {}
 
-/// Law: no descriptor is of a process that is still to come: as the first one starts, and after requests of a process that is there, also those
-/// by which it makes another.
+/// Law: as the first process starts, no descriptor is of a process that is still to come. That stays so after
+/// requests of a process that is there, also after those by which it makes another.
 pub fn unmade_processes_reach_nothing()
     ensures start { (files : FileMap) → UnmadeReachNothing (starting files).machine }
     ensures list { (s : KernelState) (pid : ℕ) (rs : List Request) → pid < next_pid s.machine.processes → UnmadeReachNothing s.machine → UnmadeReachNothing (after_requests s pid rs).machine }
-    ensures fork { (s : KernelState) (pid : ℕ) (before : Option ℕ) (writes : Bool) → pid < next_pid s.machine.processes → UnmadeReachNothing s.machine → UnmadeReachNothing (forked s pid before writes).after.machine }
+    ensures fork { (s : KernelState) (pid : ℕ) (before : Option ℕ) (writes : Bool)
+        → pid < next_pid s.machine.processes → UnmadeReachNothing s.machine
+        → UnmadeReachNothing (fork_of s pid before writes).after.machine }
 {}
 
 /// Law: a redirection is done by requests of its process (XCU 2.7): what the number referred to is set aside where it is to come back, the
 /// number is made to refer to something else, and where that fails what was set aside comes back at once.
 pub fn redirecting_is_requests()
-    ensures { (keeps : Bool) (s : KernelState) (pid : ℕ) (directory : List ℕ) (r : Redirection) → (redirected keeps s pid directory r).after ≡ after_requests s pid (redirecting keeps s pid directory r) }
+    ensures { (keeps : Bool) (s : KernelState) (pid : ℕ) (directory : List ℕ) (r : Redirection)
+        → (redirection_outcome keeps s pid directory r).after ≡ after_requests s pid
+        (redirecting keeps s pid directory r) }
 {}
 
-/// Law: what a process takes or gives in one turn is one read or one write.
+/// Law: what a process takes in one turn is one request to read, and what it gives is one request to write.
 pub fn transfers_are_requests()
-    ensures taken { (s : KernelState) (pid : ℕ) (name : Name) (count : ℕ) → (take_bytes s pid name count).after ≡ after_request s pid (Read name count) }
-    ensures given { (s : KernelState) (pid number : ℕ) (bytes : List ℕ) → (give_bytes s pid number bytes).after ≡ after_request s pid (Write number bytes) }
+    ensures taken { (s : KernelState) (pid : ℕ) (name : DescriptorRef) (count : ℕ)
+        → (take_bytes s pid name count).after ≡ after_request s pid (Read name count) }
+    ensures given { (s : KernelState) (pid number : ℕ) (bytes : List ℕ)
+        → (give_bytes s pid number bytes).after ≡ after_request s pid (Write number bytes) }
 {}

@@ -4,7 +4,7 @@ use Rattle.std.specs.Option.{unwrap_or}
 use Rattle.std.proofs.lemmas.List.{append-nil}
 use Rattle.sh_grammar.specs.Computed.{is_whole}
 use Rattle.sh_token_grammar.specs.Shell.{complete}
-use Rattle.sh_syntax.specs.declared.tree.Complete.{Complete as Tree}
+use Rattle.sh_syntax.specs.declared.tree.CompoundList.{CompoundList as Tree}
 use Rattle.sh_syntax.specs.declared.tree.Parts.{Parts}
 use Rattle.sh_token.specs.declared.token.TokenKind.{TokenKind}
 use Rattle.sh_parse_documents.specs.declared.item.Item.{Item}
@@ -20,7 +20,7 @@ use Rattle.sh_parse_commands.proofs.Taking.{behind, judged_next, Told, next_told
 use Rattle.sh_parse_commands.proofs.Faultless.{waiting_push, judged, JudgedSo, judged_told, judged_push, faultless_judged, fault_judged}
 use Rattle.sh_parse_commands.proofs.Texts.{derive_whole, whole_not_derive, derive_not_whole, whole_derive, tree_found, tree_gives, tree_whole, tree_alone, alone_gives, none_told, some_told, some_leaves, tokens_of}
 use Rattle.sh_parse.specs.Aliases.{AliasTable}
-use Rattle.sh_parse.specs.Reading.{Answer, is_newline, nul_in, unless_nul, with_nul, taken, completed, refusal, said, at_end, at_cut, at_last, decided, reading}
+use Rattle.sh_parse.specs.Reading.{Answer, is_newline, nul_in, unless_nul, with_nul, with_token, complete_answer, refusal, answer_at_newline, at_end, at_cut, at_last, first_answer, reading}
 use Rattle.sh_parse.specs.declared.Reading.TheVariants.{Complete, Blank}
 use Rattle.sh_parse.specs.declared.ParseFault.TheVariants.{Unclosed}
 use Rattle.sh_parse.specs.Defined.{outer, last_bodies, TokensSay, blank_line, faulty_line, whole_line, faulty_bodies, faulty_newline, AreOpen, nul_before, Says, of_tokens, of_nul, IsSilent, AreSilent, Ends, blank_text, faulty_text, whole_text, open_text, FaultOr, cut_answer, EndSays, NewlineDecides, EndDecides, IsReading}
@@ -34,13 +34,13 @@ no_value (Err x) f k e h = cc
 
 -- a newline
 abbrev saying : ℕ → Judged → Bool → Bool → Result (List Parts) PartFault → Result Judged PartFault → Option Answer
-saying used j b c o r = if b then Some (Ok (Blank used)) else if c then Some (completed j used o) else refusal used r
+saying used j b c o r = if b then Some (Ok (Blank used)) else if c then Some (complete_answer j used o) else refusal used r
 
 says_blank : (used : ℕ) (j : Judged) (b c : Bool) (o : Result (List Parts) PartFault) (r : Result Judged PartFault) → b ≡ true → saying used j b c o r ≡ Some (Ok (Blank used))
 says_blank used j b c o r e = rw e refl
 
 says_whole : (used : ℕ) (j : Judged) (b c : Bool) (o p : Result (List Parts) PartFault) (r : Result Judged PartFault) → b ≡ false → c ≡ true → o ≡ p
-    → saying used j b c o r ≡ Some (completed j used p)
+    → saying used j b c o r ≡ Some (complete_answer j used p)
 says_whole used j b c o p r e d f = rw (e, d, f) refl
 
 says_refused : (used : ℕ) (j : Judged) (b c : Bool) (o : Result (List Parts) PartFault) (r q : Result Judged PartFault) → b ≡ false → c ≡ false → r ≡ q
@@ -52,7 +52,7 @@ module _ (table : AliasTable) (text : List ℕ) (before : List Item) (newline : 
   g = outer text
 
   abbrev by : Result Judged PartFault → Option Answer
-  by r = said table text (waiting_behind nothing before) newline r
+  by r = answer_at_newline table text (waiting_behind nothing before) newline r
 
   abbrev pub says_at : Option Answer
   says_at = by (judged g before)
@@ -85,12 +85,12 @@ module _ (table : AliasTable) (text : List ℕ) (before : List Item) (newline : 
     next_says n d (Err f) e h = faulty_newline n x d f h refl
 
     bodies_say : (before ≡ [] → ⊥) → AreTokens before → whole ≡ true → (o : Result (List Parts) PartFault) → last_bodies text before newline ≡ o
-        → TokensSay text before newline (completed here newline.«end» o)
+        → TokensSay text before newline (complete_answer here newline.«end» o)
     bodies_say n a w (Ok others) e = whole_line n others e _ (tree_found (outer text) commands before x a w others) refl
     bodies_say n a w (Err f) e = faulty_bodies n x (whole_derive (outer text) commands before w) f e refl
 
     some_say : (before ≡ [] → ⊥) → AreTokens before → (c : Bool) → whole ≡ c
-        → Speaks (if c then Some (completed here newline.«end» (last_bodies text before newline)) else refusal newline.«end» next)
+        → Speaks (if c then Some (complete_answer here newline.«end» (last_bodies text before newline)) else refusal newline.«end» next)
     some_say n a true w = bodies_say n a w (last_bodies text before newline) refl
     some_say n a false w =
         next_says n (whole_not_derive (outer text) commands before w) next refl (next_told (outer text) before newline x.leaves x.bodies commands)
@@ -123,7 +123,7 @@ module _ (table : AliasTable) (text : List ℕ) (before : List Item) (newline : 
   blank_is : before ≡ [] → says_at ≡ Some (Ok (Blank newline.«end»))
   blank_is e = of_none before e
     where
-      of_none : (xs : List Item) → xs ≡ [] → said table text (waiting_behind nothing xs) newline (judged (outer text) xs) ≡ Some (Ok (Blank newline.«end»))
+      of_none : (xs : List Item) → xs ≡ [] → answer_at_newline table text (waiting_behind nothing xs) newline (judged (outer text) xs) ≡ Some (Ok (Blank newline.«end»))
       of_none [] e = refl
       of_none (t ∷ xs) e = absurd (cc)
 
@@ -147,7 +147,7 @@ module _ (table : AliasTable) (text : List ℕ) (before : List Item) (newline : 
   silent_by : (r : Result Judged PartFault) → JudgedSo (outer text) before r → (k : Judged) → (before ≡ [] → ⊥) → (Derive (outer text) before → ⊥)
       → and_then r (λ j. with_item read_text 500 text (due_at newline.token.kind (waiting_behind nothing before)) newline j) ≡ Ok k → by r ≡ None
   silent_by (Ok j) (x, e) k n d h =
-      says_refused newline.«end» j (are_no j.leaves) (is_whole j.grammar j.tokens) (last_bodies text before newline) (taken table text (waiting_behind nothing before) newline j) (Ok k)
+      says_refused newline.«end» j (are_no j.leaves) (is_whole j.grammar j.tokens) (last_bodies text before newline) (with_token table text (waiting_behind nothing before) newline j) (Ok k)
       (ap (λ (i : Judged). are_no i.leaves) e ∙ some_leaves (outer text) before x n)
       (ap (λ (i : Judged). is_whole i.grammar i.tokens) e ∙ derive_not_whole (outer text) commands before d) h
   silent_by (Err f) q k n d h = absurd (no_value (Err f) f k refl h)
@@ -270,7 +270,7 @@ module _ (table : AliasTable) (e : Bool) (text : List ℕ) (ending : Ending) whe
 
   -- what is decided behind tokens
   abbrev from : List Item → List Item → Answer
-  from before tokens = decided table e text (waiting_behind nothing before) (judged (outer text) before) tokens ending
+  from before tokens = first_answer table e text (waiting_behind nothing before) (judged (outer text) before) tokens ending
 
   abbrev goes : Bool → Option Answer → Answer → Answer
   goes b d later = unwrap_or (if b then d else None) later
@@ -279,8 +279,8 @@ module _ (table : AliasTable) (e : Bool) (text : List ℕ) (ending : Ending) whe
       → from before (t ∷ tokens) ≡ goes (is_newline t.token.kind) (line_says table text before t) (from (before ++ t ∷ []) tokens)
   from_next before t tokens =
       ap (λ later. goes (is_newline t.token.kind) (line_says table text before t) later)
-      (ap (λ w. decided table e text w (and_then (judged (outer text) before) (taken table text (waiting_behind nothing before) t)) tokens ending) (sym (waiting_push nothing before t))
-      ∙ ap (λ r. decided table e text (waiting_behind nothing (before ++ t ∷ [])) r tokens ending) (sym (judged_push (outer text) before t)))
+      (ap (λ w. first_answer table e text w (and_then (judged (outer text) before) (with_token table text (waiting_behind nothing before) t)) tokens ending) (sym (waiting_push nothing before t))
+      ∙ ap (λ r. first_answer table e text (waiting_behind nothing (before ++ t ∷ [])) r tokens ending) (sym (judged_push (outer text) before t)))
 
   sound_step : (before : List Item) (t : Item) (tokens : List Item) (later : Answer) (b : Bool) (d : Option Answer) → AreTokens before → AreSilent text [] before
       → is_newline t.token.kind ≡ b → line_says table text before t ≡ d → (AreSilent text [] (before ++ t ∷ []) → Decides (before ++ t ∷ tokens) later)

@@ -6,7 +6,7 @@ use Rattle.sh_token.specs.declared.token.TokenKind.{TokenKind}
 use Rattle.sh_token.specs.FirstToken.{FirstToken, Found, Unfinished, DeepAt, IsFirst}
 use Rattle.sh_token.specs.Found.{first_token}
 use Rattle.sh_token.proofs.Laws.{is_first}
-use Rattle.sh_syntax.specs.declared.tree.Complete.{Complete}
+use Rattle.sh_syntax.specs.declared.tree.CompoundList.{CompoundList}
 use Rattle.sh_parse_documents.specs.declared.item.Item.{Item}
 use Rattle.sh_parse_documents.specs.Bodies.{bodies_size}
 use Rattle.sh_parse_documents.specs.Waiting.{Waiting, nothing, behind_token, due_at}
@@ -124,7 +124,7 @@ first_fault_in g reads tokens f i x =
     let p = token_in 0 (length g.text) x.before x.token x.after (subst (λ xs. AreInside 0 (length g.text) xs) x.joined i) in
     has_fault_in g reads x.before x.token f p.0 p.1 x.fault
 
-end_is_in : (g : Judge) (tokens : List Item) (ending : Ending) (answer : Result Complete PartFault) → EndingIn (length g.text) ending → EndIs g tokens ending answer → FaultsIn (length g.text) answer
+end_is_in : (g : Judge) (tokens : List Item) (ending : Ending) (answer : Result CompoundList PartFault) → EndingIn (length g.text) ending → EndIs g tokens ending answer → FaultsIn (length g.text) answer
 end_is_in g tokens AtEnd answer i (inl (tree, a, h)) = subst (λ x. FaultsIn (length g.text) x) (sym h) tt
 end_is_in g tokens AtEnd answer i (inr (d, h)) = subst (λ x. FaultsIn (length g.text) x) (sym h) (omega arith)
 end_is_in g tokens (Cut at) answer i h =
@@ -132,7 +132,7 @@ end_is_in g tokens (Cut at) answer i h =
     (cut_short_in (length g.text) (cut_at g tokens at) (cut_fault_in (g.left - opened g tokens) g.text (waiting_behind nothing tokens) at i))
 
 -- the texts of substitutions
-program_told_in : (read : Reader) → ReadsIn read → (left : ℕ) (text : List ℕ) (answer : Result Complete PartFault) → IsProgram read left text answer → FaultsIn (length text) answer
+program_told_in : (read : Reader) → ReadsIn read → (left : ℕ) (text : List ℕ) (answer : Result CompoundList PartFault) → IsProgram read left text answer → FaultsIn (length text) answer
 program_told_in read reads left text answer (inl (f, x, h)) =
     subst (λ a. FaultsIn (length text) a) (sym h) (first_fault_in (inner read left text) reads (items_of true text).items f (inside_of true text) x)
 program_told_in read reads left text answer (inr (x, h)) =

@@ -22,13 +22,13 @@ first_placed : (e : Bool) (limit : ℕ) (text : List ℕ) (at : ℕ) (kind : Tok
     → IsPlaced at (length text) (record { kind = kind; span = record { start = at + start; «end» = at + stop } })
 first_placed e limit text at kind start stop h =
     let f : IsFirst e limit (drop at text) (Found kind start stop) = subst (λ x. IsFirst e limit (drop at text) x) h (is_first e limit (drop at text)) in
-    let front = f.0 in
+    let prefix = f.0 in
     let rest = f.1.0 in
     let token = f.1.1 in
-    let from : start + length front ≡ length (drop at text) = f.1.2 in
+    let from : start + length prefix ≡ length (drop at text) = f.1.2 in
     let to : stop + length rest ≡ length (drop at text) = f.1.3 in
-    let c = complete e limit (drop at text) front rest kind token in
-    placed_shown e limit text at (drop at text) c.state front rest kind start stop refl c.is (sym c.kind_is) (omega (from, arith)) (omega (to, arith))
+    let c = complete e limit (drop at text) prefix rest kind token in
+    placed_shown e limit text at (drop at text) c.state prefix rest kind start stop refl c.is (sym c.kind_is) (omega (from, arith)) (omega (to, arith))
 
 -- and so does its item
 pub record ItemInside (at size start stop after : ℕ) : Type 0 where

@@ -37,10 +37,10 @@ behind i (suc n) (x ∷ xs) h l =
     go true h f = absurd (cc)
     go false h f = f h
 
-in_front : (i n j : ℕ) (xs : List ℕ) → position_from (λ b. nat_eq b 0) i (take n xs) ≡ Some j → position_from (λ b. nat_eq b 0) i xs ≡ Some j
-in_front i zero j xs h = absurd (cc)
-in_front i (suc n) j [] h = absurd (cc)
-in_front i (suc n) j (x ∷ xs) h = go (nat_eq x 0) h (λ g. in_front (i + 1) n j xs g)
+in_prefix : (i n j : ℕ) (xs : List ℕ) → position_from (λ b. nat_eq b 0) i (take n xs) ≡ Some j → position_from (λ b. nat_eq b 0) i xs ≡ Some j
+in_prefix i zero j xs h = absurd (cc)
+in_prefix i (suc n) j [] h = absurd (cc)
+in_prefix i (suc n) j (x ∷ xs) h = go (nat_eq x 0) h (λ g. in_prefix (i + 1) n j xs g)
   where
     go : (c : Bool) → cond c (Some i) (position_from (λ b. nat_eq b 0) (i + 1) (take n xs)) ≡ Some j
         → (position_from (λ b. nat_eq b 0) (i + 1) (take n xs) ≡ Some j → position_from (λ b. nat_eq b 0) (i + 1) xs ≡ Some j)
@@ -74,22 +74,22 @@ taken_size (suc n) (x ∷ xs) l = let z = taken_size n xs (omega (l, arith)) in 
 -- a NUL before a place stands before a later one too
 pub nul_stays : (from to j : ℕ) (text : List ℕ) → nul_in (take from text) ≡ Some j → from ≤ to → nul_in (take to text) ≡ Some j
 nul_stays from to j text h l =
-    let front = take to text in
-    let same : take from front ≡ take from text = take_take from to text l in
-    by_from front ∙ in_front 0 from j front (sym (by_from (take from front)) ∙ (ap (λ z. nul_in z) same ∙ h))
+    let prefix = take to text in
+    let same : take from prefix ≡ take from text = take_take from to text l in
+    by_from prefix ∙ in_prefix 0 from j prefix (sym (by_from (take from prefix)) ∙ (ap (λ z. nul_in z) same ∙ h))
 
 -- else it is among the bytes between
 pub nul_follows : (from to : ℕ) (text : List ℕ) → nul_in (take from text) ≡ None → from ≤ to → to ≤ length text
     → nul_in (take to text) ≡ option_map (λ m. from + m) (nul_in (drop from (take to text)))
 nul_follows from to text h l k =
-    let front = take to text in
-    let same : take from front ≡ take from text = take_take from to text l in
-    let size : to ≤ length front = taken_size to text k in
+    let prefix = take to text in
+    let same : take from prefix ≡ take from text = take_take from to text l in
+    let size : to ≤ length prefix = taken_size to text k in
     let z : 0 + from ≡ from + 0 = omega arith in
-    by_from front
-    ∙ (behind 0 from front (sym (by_from (take from front)) ∙ (ap (λ z. nul_in z) same ∙ h)) (omega (l, size, arith))
-    ∙ (ap (λ m. position_from (λ b. nat_eq b 0) m (drop from front)) z
-    ∙ (shift from 0 (drop from front) ∙ ap (option_map (λ m. from + m)) (sym (by_from (drop from front))))))
+    by_from prefix
+    ∙ (behind 0 from prefix (sym (by_from (take from prefix)) ∙ (ap (λ z. nul_in z) same ∙ h)) (omega (l, size, arith))
+    ∙ (ap (λ m. position_from (λ b. nat_eq b 0) m (drop from prefix)) z
+    ∙ (shift from 0 (drop from prefix) ∙ ap (option_map (λ m. from + m)) (sym (by_from (drop from prefix))))))
 
 -- what the tokens say, where a NUL stands before its end
 pub nul_answers : (answer : Result Reading ParseFault) (nul used : ℕ) (known : Answer) → Answers answer known → Answers (Err (fault_with_nul (fault_in answer) nul used)) (before_nul nul used known)

@@ -24,9 +24,9 @@ use Rattle.sh_parse.proofs.Insides.{inside_of, one_inside, some_inside}
 use Rattle.sh_parse_commands.proofs.Within.{FaultIn, FaultsIn, bodies_in}
 use Rattle.sh_parse.proofs.Faults.{SomeIn, cut_fault_in, EndingIn, ending_in, token_in, has_fault_in, first_fault_in, texts_in}
 
-front_inside : (at size : ℕ) (before after : List Item) → AreInside at size (before ++ after) → AreInside at size before
-front_inside at size [] after h = tt
-front_inside at size (t ∷ before) after h = (h.0, h.1, h.2, h.3, front_inside t.«end» size before after h.4)
+prefix_inside : (at size : ℕ) (before after : List Item) → AreInside at size (before ++ after) → AreInside at size before
+prefix_inside at size [] after h = tt
+prefix_inside at size (t ∷ before) after h = (h.0, h.1, h.2, h.3, prefix_inside t.«end» size before after h.4)
 
 fault_inside : (e : Bool) (text : List ℕ) (used : ℕ) (f : PartFault) → (0 < used) × (used ≤ length text) → FaultIn (length text) f → IsInside e text (Err (fault_of used f))
 fault_inside e text used (fault.BadSubstitution at) p h = (h, p.0, p.1)
@@ -44,7 +44,7 @@ tokens_inside e text before newline after answer i (blank_line n h) =
 tokens_inside e text before newline after answer i (faulty_line f x h) =
     told e text answer (Err (fault_of newline.«end» f)) h
     (fault_inside e text newline.«end» f (one_inside 0 (length text) before newline after i)
-    (first_fault_in (outer text) texts_in before f (front_inside 0 (length text) before (newline ∷ after) i) x))
+    (first_fault_in (outer text) texts_in before f (prefix_inside 0 (length text) before (newline ∷ after) i) x))
 tokens_inside e text before newline after answer i (whole_line n others b tree a h) =
     told e text answer (Ok (Complete tree newline.«end»)) h (one_inside 0 (length text) before newline after i)
 tokens_inside e text before newline after answer i (faulty_bodies n x d f b h) =

@@ -1,8 +1,9 @@
--- What a text reads as, by derivations: which answer it has at its first decision place that says anything (XCU 2.1, 2.3, 2.10).
+-- What a text reads as, by derivations: the answer at its first decision place that says anything (XCU 2.1,
+-- 2.3, 2.10).
 use Rattle.std.specs.Prelude.{◌≡◌, ◌⊎◌, ℕ, Bool, true, false, List, [], ◌∷◌, ◌++◌, length, take, Option, Some, None, Result, Ok, Err}
 use Rattle.std.specs.Option.{option_map, unwrap_or}
 use Rattle.sh_token_grammar.specs.Shell.{complete}
-use Rattle.sh_syntax.specs.declared.tree.Complete.{Complete as Tree}
+use Rattle.sh_syntax.specs.declared.tree.CompoundList.{CompoundList as Tree}
 use Rattle.sh_syntax.specs.declared.tree.Parts.{Parts}
 use Rattle.sh_parse_documents.specs.declared.item.Item.{Item}
 use Rattle.sh_parse_documents.specs.Waiting.{nothing, due_at}
@@ -20,7 +21,7 @@ use Rattle.sh_parse.specs.declared.ParseFault.TheVariants.{Refused, Unclosed}
 abbrev pub outer : List ℕ → Judge
 outer text = record { grammar = complete; read = read_text; left = 500; text = text }
 
--- the bodies behind a newline that ends a command of these tokens
+-- the bodies after a newline that ends a command of these tokens
 abbrev pub last_bodies : List ℕ → List Item → Item → Result (List Parts) PartFault
 last_bodies text before newline = bodies_of read_text 500 text (due_at newline.token.kind (waiting_behind nothing before)) newline
 
@@ -30,17 +31,17 @@ pub data TokensSay (text : List ℕ) (before : List Item) (newline : Item) (answ
   blank_line : before ≡ [] → answer ≡ Ok (Blank newline.«end») → TokensSay text before newline answer
   -- one of them has a fault
   faulty_line : (f : PartFault) → FirstFault (outer text) before f → answer ≡ Err (fault_of newline.«end» f) → TokensSay text before newline answer
-  -- they are a complete command, and the bodies behind the newline belong to it
+  -- they are a complete command, and the bodies after the newline belong to it
   whole_line : (before ≡ [] → ⊥) → (others : List Parts) → last_bodies text before newline ≡ Ok others → (tree : Tree) → AreTree (outer text) before others tree
       → answer ≡ Ok (Complete tree newline.«end») → TokensSay text before newline answer
   -- they derive, and those bodies have a fault
   faulty_bodies : (before ≡ [] → ⊥) → AreFaultless (outer text) before → Derive (outer text) before → (f : PartFault) → last_bodies text before newline ≡ Err f
       → answer ≡ Err (fault_of newline.«end» f) → TokensSay text before newline answer
-  -- they don't derive, and the newline behind them has a fault: they are no front with it
+  -- they don't derive, and the newline after them has a fault, such as that they are no prefix with it
   faulty_newline : (before ≡ [] → ⊥) → AreFaultless (outer text) before → (Derive (outer text) before → ⊥) → (f : PartFault)
       → HasFault (outer text) before newline f → answer ≡ Err (fault_of newline.«end» f) → TokensSay text before newline answer
 
--- they say nothing
+-- the tokens say nothing
 pub record AreOpen (text : List ℕ) (before : List Item) (newline : Item) : Type 0 where
   pub some : before ≡ [] → ⊥
   pub unfinished : Derive (outer text) before → ⊥
@@ -50,17 +51,18 @@ pub record AreOpen (text : List ℕ) (before : List Item) (newline : Item) : Typ
 abbrev pub nul_before : List ℕ → Item → Option ℕ
 nul_before text newline = nul_in (take newline.«end» text)
 
--- what a newline says: what the tokens before it do, unless a NUL is the fault at the lesser place; or that a NUL stands there
+-- what a newline says: what the tokens before it say, unless a NUL is the fault at the lesser place; or that
+-- a NUL is before it
 pub data Says (text : List ℕ) (before : List Item) (newline : Item) (answer : Answer) : Type 0 where
   of_tokens : (other : Answer) → TokensSay text before newline other → answer ≡ unless_nul (nul_before text newline) newline.«end» other → Says text before newline answer
   of_nul : AreOpen text before newline → (nul : ℕ) → nul_before text newline ≡ Some nul → answer ≡ Err (Refused nul newline.«end») → Says text before newline answer
 
--- it says nothing
+-- the newline says nothing
 pub record IsSilent (text : List ℕ) (before : List Item) (newline : Item) : Type 0 where
   pub open_tokens : AreOpen text before newline
   pub clean : nul_before text newline ≡ None
 
--- no newline among the tokens, behind those before them, says anything
+-- no newline among these tokens, which come after others, says anything
 abbrev pub AreSilent : List ℕ → List Item → List Item → Type 0
 AreSilent text before [] = Unit {0}
 AreSilent text before (t ∷ tokens) = (is_newline t.token.kind ≡ true → IsSilent text before t) × AreSilent text (before ++ t ∷ []) tokens
@@ -77,8 +79,8 @@ abbrev pub FaultOr : List ℕ → List Item → Answer → Answer → Type 0
 FaultOr text tokens other answer =
     ((f : PartFault) × FirstFault (outer text) tokens f × (answer ≡ Err (fault_of (length text) f))) ⊎ (AreFaultless (outer text) tokens × (answer ≡ other))
 
--- what is told where no token begins behind these, from `at` on, at the end of the input: a level too many that opens there, or else that
--- the text is unclosed
+-- what is told where no token is found after these, from `at` on, at the end of the input: a level too many
+-- that opens there, or else that the text is unclosed
 abbrev pub cut_answer : List ℕ → List Item → ℕ → Answer
 cut_answer text tokens at = Err (unwrap_or (option_map (fault_of (length text)) (cut_at (outer text) tokens at)) (Unclosed (length text)))
 
@@ -86,7 +88,7 @@ cut_answer text tokens at = Err (unwrap_or (option_map (fault_of (length text)) 
 abbrev pub UnlessNul : List ℕ → (Answer → Type 0) → Answer → Type 0
 UnlessNul text Say answer = (other : Answer) × Say other × (answer ≡ unless_nul (nul_in text) (length text) other)
 
--- what the end of the text says: it is a decision place where nothing comes behind it
+-- what the end of the text says: it is a decision place where nothing comes after it
 abbrev pub EndSays : Bool → List ℕ → List Item → Ending → Answer → Type 0
 EndSays e text tokens AtEnd answer = UnlessNul text (λ other. Ends text tokens other) answer
 EndSays true text tokens (Cut at) answer = UnlessNul text (λ other. FaultOr text tokens (cut_answer text tokens at) other) answer

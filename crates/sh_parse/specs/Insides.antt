@@ -1,5 +1,6 @@
--- Where the items of a text stand in it; and what each answer tells of its text: how many of its bytes are read, where it ends, that more
--- is asked for only before the end, and that the place of a fault is one of the text, as is the decision place behind which reading goes on.
+-- Where the items of a text are; and what each answer tells of its text. It tells how many bytes are read,
+-- where the text ends, that more is asked for only before the end, and that the place of a fault, and the
+-- decision place after which reading goes on, are in the text or at its end.
 use Rattle.std.specs.Prelude.{◌≡◌, ◌⊎◌, ℕ, ◌<◌, ◌≤◌, Bool, false, List, [], ◌∷◌, length, Ok, Err}
 use Rattle.sh_parse_documents.specs.declared.item.Item.{Item}
 use Rattle.sh_parse.specs.Reading.{Answer}
@@ -16,7 +17,7 @@ IsInside e text (Err (BadSubstitution at used)) = (at ≤ length text) × (0 < u
 IsInside e text (Err (TooDeep at used)) = (at ≤ length text) × (0 < used) × (used ≤ length text)
 IsInside e text (Err (NoMemory _)) = Unit {0}
 
--- the items stand one behind another, from `at` on, in a text of so many bytes
+-- the items come one after another, from `at` on, in a text of so many bytes
 abbrev pub AreInside : ℕ → ℕ → List Item → Type 0
 AreInside at size [] = Unit {0}
 AreInside at size (t ∷ items) =

@@ -15,7 +15,7 @@ use Rattle.sh_parse_commands.specs.Documents.{bodies_of}
 use Rattle.sh_parse_commands.specs.Judging.{Judged, none_of, open_in, with_item, is_none, are_whole, tree_by}
 use Rattle.sh_parse_commands.specs.Cuts.{cut_fault}
 use Rattle.sh_parse_commands.specs.Programs.{read_text}
-use Rattle.sh_parse.specs.Aliases.{AliasTable, aliased}
+use Rattle.sh_parse.specs.Aliases.{AliasTable, replacement}
 use Rattle.sh_parse.specs.declared.Reading.{Reading}
 use Rattle.sh_parse.specs.declared.Reading.TheVariants.{Complete, Blank, More}
 use Rattle.sh_parse.specs.declared.ParseFault.{ParseFault}
@@ -24,18 +24,19 @@ use Rattle.sh_parse.specs.declared.ParseFault.TheVariants.{Refused, Unclosed, Ba
 abbrev pub Answer : Type 0
 Answer = Result Reading ParseFault
 
--- a fault of the tokens before a decision place, up to and with which so many bytes stand
+-- a fault of the tokens before a decision place, as a fault of the text; so many bytes come up to and with
+-- this place
 abbrev pub fault_of : ℕ → PartFault → ParseFault
 fault_of used (fault.BadSubstitution at) = BadSubstitution at used
 fault_of used (fault.TooDeep at) = TooDeep at used
 fault_of used (fault.Refused at) = Refused at used
 fault_of used (fault.NoMemory lack) = NoMemory lack
 
--- ---- a NUL, which no text of a script has, is a fault at its place
+-- ---- a NUL, which no script may have, is a fault at its place
 abbrev pub nul_in : List ℕ → Option ℕ
 nul_in bytes = position (λ b. nat_eq b 0) bytes
 
--- the fault is told, and not a NUL at this place
+-- the fault is told rather than a NUL at this place
 abbrev pub stands_before : ParseFault → ℕ → Bool
 stands_before (Refused at used) nul = nat_lt at nul
 stands_before (Unclosed at) nul = nat_lt at nul
@@ -43,8 +44,8 @@ stands_before (BadSubstitution at used) nul = nat_lt at nul
 stands_before (TooDeep at used) nul = nat_lt at nul
 stands_before (NoMemory _) nul = true
 
--- what is answered where the bytes up to and with a decision place, so many, have a NUL, and their tokens alone would be answered so: the
--- fault at the lesser place
+-- the answer where the `used` bytes up to and with a decision place have a NUL, and their tokens alone would
+-- have this answer: the fault at the lesser place
 abbrev pub before_nul : ℕ → ℕ → Answer → Answer
 before_nul nul used (Ok r) = Err (Refused nul used)
 before_nul nul used (Err f) = if stands_before f nul then Err f else Err (Refused nul used)
@@ -64,33 +65,35 @@ abbrev pub is_newline : TokenKind → Bool
 is_newline (TokenKind.Operator Operator.Newline) = true
 is_newline kind = false
 
--- a token more, behind tokens of which none has a fault; w: what waits before it
-abbrev pub taken : AliasTable → List ℕ → Waiting → Item → Judged → Result Judged PartFault
-taken table text w item j = with_item read_text 500 text (due_at item.token.kind w) (aliased table j item) j
+-- one more token, after tokens without a fault; w: what is awaited before it
+abbrev pub with_token : AliasTable → List ℕ → Waiting → Item → Judged → Result Judged PartFault
+with_token table text w item j = with_item read_text 500 text (due_at item.token.kind w) (replacement table j item) j
 
--- the tokens are a complete command, the last of its here-documents having these bodies
-abbrev pub completed : Judged → ℕ → Result (List Parts) PartFault → Answer
-completed j used (Ok others) = Ok (Complete (tree_by (record j { bodies = j.bodies ++ others })) used)
-completed j used (Err f) = Err (fault_of used f)
+-- the answer where the tokens are a complete command, the last of whose here-documents have these bodies
+abbrev pub complete_answer : Judged → ℕ → Result (List Parts) PartFault → Answer
+complete_answer j used (Ok others) = Ok (Complete (tree_by (record j { bodies = j.bodies ++ others })) used)
+complete_answer j used (Err f) = Err (fault_of used f)
 
 abbrev pub refusal : ℕ → Result Judged PartFault → Option Answer
 refusal used (Ok j) = None
 refusal used (Err f) = Some (Err (fault_of used f))
 
--- what the tokens before a newline say there: its bodies belong to them; where they are no whole command it is a token like others
-abbrev pub said : AliasTable → List ℕ → Waiting → Item → Result Judged PartFault → Option Answer
-said table text w newline (Err f) = Some (Err (fault_of newline.«end» f))
-said table text w newline (Ok j) =
+-- what the tokens before a newline say there: the bodies after it belong to them; where they are no complete
+-- command, the newline is a token like others
+abbrev pub answer_at_newline : AliasTable → List ℕ → Waiting → Item → Result Judged PartFault → Option Answer
+answer_at_newline table text w newline (Err f) = Some (Err (fault_of newline.«end» f))
+answer_at_newline table text w newline (Ok j) =
     if is_none j then Some (Ok (Blank newline.«end»))
-    else if are_whole j then Some (completed j newline.«end» (bodies_of read_text 500 text (due_at newline.token.kind w) newline))
-    else refusal newline.«end» (taken table text w newline j)
+    else if are_whole j then Some (complete_answer j newline.«end» (bodies_of read_text 500 text (due_at newline.token.kind w) newline))
+    else refusal newline.«end» (with_token table text w newline j)
 
--- what the end of the input says where no token begins behind these, from `at` on: what is told of the one that isn't finished there, or
--- that it isn't
+-- what the end of the input says where no token is found after these, from `at` on: a level too many that
+-- opens there, or else that the text is unclosed
 abbrev pub cut_short : List ℕ → Waiting → Judged → ℕ → Answer
 cut_short text w j at = Err (unwrap_or (option_map (fault_of (length text)) (cut_fault (500 - open_in j) text w at)) (Unclosed (length text)))
 
--- what the tokens say at the end of the input, and where the end of the input cuts off what stands behind them, from `at` on
+-- what the tokens say at the end of the input, and where the end of the input cuts off what comes after them,
+-- from `at` on
 abbrev pub at_end : List ℕ → Result Judged PartFault → Answer
 at_end text (Ok j) =
     if is_none j then Ok (Blank (length text)) else if are_whole j then Ok (Complete (tree_by j) (length text)) else Err (Unclosed (length text))
@@ -100,24 +103,26 @@ abbrev pub at_cut : List ℕ → Waiting → Result Judged PartFault → ℕ →
 at_cut text w (Ok j) at = cut_short text w j at
 at_cut text w (Err f) at = Err (fault_of (length text) f)
 
--- what the end of the text says, where no newline says anything: it is a decision place if nothing comes behind it
+-- what the end of the text says, where no newline says anything: it is a decision place if nothing comes
+-- after it
 abbrev pub at_last : Bool → List ℕ → Waiting → Result Judged PartFault → Ending → Answer
 at_last e text w j AtEnd = unless_nul (nul_in text) (length text) (at_end text j)
 at_last e text w j (Cut at) = if e then unless_nul (nul_in text) (length text) (at_cut text w j at) else Ok More
 
--- what a newline says: what the tokens before it do, or that a NUL stands before its end
+-- what a newline says: what the tokens before it say, or that a NUL is before its end
 abbrev pub newline_says : AliasTable → List ℕ → Waiting → Item → Result Judged PartFault → Option Answer
-newline_says table text w newline j = with_nul (nul_in (take newline.«end» text)) newline.«end» (said table text w newline j)
+newline_says table text w newline j = with_nul (nul_in (take newline.«end» text)) newline.«end» (answer_at_newline table text w newline j)
 
--- what the first decision place says that says anything; j: the tokens before, or their first fault; w: what waits there
-abbrev pub decided : AliasTable → Bool → List ℕ → Waiting → Result Judged PartFault → List Item → Ending → Answer
-decided table e text w j [] ending = at_last e text w j ending
-decided table e text w j (t ∷ tokens) ending =
+-- what the first decision place that says anything says; j: the tokens before, or their first fault; w: what
+-- is awaited there
+abbrev pub first_answer : AliasTable → Bool → List ℕ → Waiting → Result Judged PartFault → List Item → Ending → Answer
+first_answer table e text w j [] ending = at_last e text w j ending
+first_answer table e text w j (t ∷ tokens) ending =
     unwrap_or (if is_newline t.token.kind then newline_says table text w t j else None)
-    (decided table e text (behind_token t.token.kind w) (and_then j (taken table text w t)) tokens ending)
+    (first_answer table e text (behind_token t.token.kind w) (and_then j (with_token table text w t)) tokens ending)
 
 unfoldable pub reading : AliasTable → Bool → List ℕ → Answer
-reading table e text = decided table e text nothing (Ok (none_of complete)) (items_of e text).items (items_of e text).ending
+reading table e text = first_answer table e text nothing (Ok (none_of complete)) (items_of e text).items (items_of e text).ending
 
 -- the answer is this one, unless memory was wanting
 abbrev pub Answers : Answer → Answer → Type 0

@@ -1,8 +1,8 @@
 //! Aliases (XCU 2.3.1).
 ghost use Rattle.std.specs.Prelude.{◌≡◌};
-ghost use Rattle.sh_parse.specs.Aliases.{aliased, no_aliases};
+ghost use Rattle.sh_parse.specs.Aliases.{replacement, no_aliases};
 
-use sh_parse_commands::front::Front;
+use sh_parse_commands::prefix::Prefix;
 use sh_parse_documents::item::Item;
 use std::alloc::Global;
 use std::marker::Model;
@@ -28,9 +28,9 @@ impl Aliases {
     }
 }
 
-/// What is read in the place of a token behind those judged already.
-pub(crate) fn aliased<'i>(_aliases: &Aliases, _front: &Front, item: &'i Item) -> &'i Item
-    ensures { result.now ≡ aliased _aliases.now _front.now item.now }
+/// What is read in place of a token, after the tokens already judged.
+pub(crate) fn aliased<'i>(_aliases: &Aliases, _prefix: &Prefix, item: &'i Item) -> &'i Item
+    ensures { result.now ≡ replacement _aliases.now _prefix.now item.now }
 {
     item
 }

@@ -1,4 +1,4 @@
-//! Faults of tokens as those of a text.
+//! Faults of tokens as faults of a text.
 ghost use Rattle.std.specs.Prelude.{◌≡◌};
 ghost use Rattle.sh_parse.specs.Turns.{fault_with_nul};
 ghost use Rattle.sh_parse.specs.Reading.{fault_of, stands_before};
@@ -6,7 +6,8 @@ ghost use Rattle.sh_parse.specs.Reading.{fault_of, stands_before};
 use crate::ParseFault;
 use sh_parse_words::fault::PartFault;
 
-/// A fault of the tokens before a decision place as one of the text; `used`: how many bytes stand up to and with that place.
+/// A fault of the tokens before a decision place as a fault of the text; `used`: how many bytes there are up
+/// to and with that place.
 pub(crate) fn fault_of(used: usize, fault: PartFault) -> ParseFault
     ensures { result ≡ fault_of used fault }
 {
@@ -18,7 +19,7 @@ pub(crate) fn fault_of(used: usize, fault: PartFault) -> ParseFault
     }
 }
 
-/// Whether a fault is told, and not a NUL at this place.
+/// Whether a fault is told rather than a NUL at this place.
 fn stands_before(fault: ParseFault, nul: usize) -> bool
     ensures { result ≡ stands_before fault nul }
 {
@@ -31,7 +32,8 @@ fn stands_before(fault: ParseFault, nul: usize) -> bool
     }
 }
 
-/// The fault that is told where a NUL stands at `nul`, and the tokens alone have this one or none: the one at the lesser place.
+/// The fault that is told where a NUL is at `nul` and the tokens alone have `fault`: the one at the lesser
+/// place.
 pub(crate) fn fault_with_nul(fault: Option<ParseFault>, nul: usize, used: usize) -> ParseFault
     ensures { result ≡ fault_with_nul fault nul used }
 {

@@ -1,8 +1,9 @@
-//! NULs, which no text of a script has.
+//! NULs, which no script may have.
 ghost use Rattle.std.specs.Prelude.{◌≡◌, ◌≤◌, length, take, drop};
 ghost use Rattle.sh_parse.specs.Reading.{nul_in};
 
-/// The first NUL of the text before the place `to`, where `nul` is the first before `from`.
+/// The place of the first NUL of the text before `to`, where `nul` is the place of the first NUL before
+/// `from`.
 #[tactic(auto, using(crate::proofs::Nuls::nul_stays))]
 pub(crate) fn first_nul(text: &[u8], nul: Option<usize>, from: usize, to: usize) -> Option<usize>
     requires nul { nul ≡ nul_in (take from text.now) }
@@ -25,8 +26,8 @@ fn between(text: &[u8], from: usize, to: usize) -> &[u8]
     requires inside { to ≤ length text.now }
     ensures { result.now ≡ drop from (take to text.now) }
 {
-    let front = &text[..to];
-    &front[from..]
+    let prefix = &text[..to];
+    &prefix[from..]
 }
 
 /// The place of the first NUL of these bytes.

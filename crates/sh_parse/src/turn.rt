@@ -8,8 +8,8 @@ ghost use Rattle.sh_parse_commands.specs.Judging.{with_item, are_whole};
 ghost use Rattle.sh_parse_commands.specs.Programs.{read_text};
 ghost use Rattle.sh_base.specs.Memory.{no_memory};
 ghost use Rattle.sh_parse.specs.declared.ParseFault.TheVariants.{NoMemory};
-ghost use Rattle.sh_parse.specs.Aliases.{aliased};
-ghost use Rattle.sh_parse.specs.Reading.{Answer, Answers, at_cut, at_end, at_last, completed, is_newline, nul_in, unless_nul};
+ghost use Rattle.sh_parse.specs.Aliases.{replacement};
+ghost use Rattle.sh_parse.specs.Reading.{Answer, Answers, at_cut, at_end, at_last, complete_answer, is_newline, nul_in, unless_nul};
 ghost use Rattle.sh_parse.specs.Turns.{GoesOn, Takes, Tells, Turns, fault_in, turn_of};
 
 use crate::aliases::{Aliases, aliased};
@@ -17,7 +17,7 @@ use crate::fault::{fault_of, fault_with_nul};
 use crate::nul::first_nul;
 use crate::{ParseFault, Reading};
 use sh_parse_commands::cut::cut_fault;
-use sh_parse_commands::front::Front;
+use sh_parse_commands::prefix::Prefix;
 use sh_parse_commands::text::{bodies_of, judge};
 use sh_parse_documents::item::{Item, next_item};
 use sh_parse_documents::waiting::Waiting;
@@ -30,23 +30,24 @@ use std::alloc::Global;
 /// How many levels may open.
 const LEVELS: usize = 500;
 
-/// What a token makes of a reading.
+/// What a token does to a reading.
 #[derive(Drop)]
 pub(crate) enum Turn {
-    /// It goes on behind these tokens, or their first fault, from this place of the text, where this waits, and before which the first
-    /// NUL stands there.
-    On(Result<Front, PartFault>, Waiting, usize, Option<usize>),
-    /// It is decided.
+    /// The reading goes on: after these tokens, or with their first fault; with what is awaited; from this
+    /// place of the text; and with the place of the first NUL before it.
+    On(Result<Prefix, PartFault>, Waiting, usize, Option<usize>),
+    /// The reading is decided.
     Read(Reading),
 }
 
-/// Takes the token at a place of the text, which is not behind its end, and before which this NUL is the first.
+/// Takes the token at the place `at`, which is not past the end of the text; `nul` is the place of the first
+/// NUL before it.
 pub(crate) fn next_turn(
     alloc: Global,
     text: &[u8],
     at_end: bool,
     aliases: &Aliases,
-    judged: Result<Front, PartFault>,
+    judged: Result<Prefix, PartFault>,
     waiting: Waiting,
     at: usize,
     nul: Option<usize>,
@@ -72,7 +73,7 @@ pub(crate) fn next_turn(
     }
 }
 
-/// The turn that decides so.
+/// The turn that decides on this reading.
 fn turn_of(reading: Result<Reading, ParseFault>) -> Result<Turn, ParseFault>
     ensures { result ≡ turn_of reading }
 {
@@ -82,36 +83,39 @@ fn turn_of(reading: Result<Reading, ParseFault>) -> Result<Turn, ParseFault>
     }
 }
 
-/// Judges a token behind others, or keeps their first fault.
+/// Judges a token after others, or keeps their first fault.
 fn judge_next(
     alloc: Global,
     text: &[u8],
     aliases: &Aliases,
-    judged: Result<Front, PartFault>,
+    judged: Result<Prefix, PartFault>,
     due: &[Delimiter],
     item: &Item,
-) -> Result<Result<Front, PartFault>, ParseFault>
-    ensures judged { IfOk result (λ next. next ≡ and_then judged (λ j. with_item read_text 500 text.now due.now (aliased aliases.now j item.now) j)) }
+) -> Result<Result<Prefix, PartFault>, ParseFault>
+    ensures judged { IfOk result (λ next.
+        next ≡ and_then judged (λ j.
+        with_item read_text 500 text.now due.now (replacement aliases.now j item.now) j)) }
     ensures memory { IfErr result (λ fault. fault ≡ NoMemory no_memory) }
 {
-    let mut front = match judged {
-        Ok(front) => front,
+    let mut prefix = match judged {
+        Ok(prefix) => prefix,
         Err(fault) => return Ok(Err(fault)),
     };
-    let item = aliased(aliases, &front, item);
-    match judge(alloc, LEVELS, text, due, item, &mut front) {
-        Ok(()) => Ok(Ok(front)),
+    let item = aliased(aliases, &prefix, item);
+    match judge(alloc, LEVELS, text, due, item, &mut prefix) {
+        Ok(()) => Ok(Ok(prefix)),
         Err(PartFault::NoMemory(lack)) => Err(ParseFault::NoMemory(lack)),
         Err(fault) => Ok(Err(fault)),
     }
 }
 
-/// Takes a token behind others, and decides at a newline. Before the token's end this NUL is the first.
+/// Takes a token after others, and decides at a newline; `nul` is the place of the first NUL before the
+/// token's end.
 fn take(
     alloc: Global,
     text: &[u8],
     aliases: &Aliases,
-    judged: Result<Front, PartFault>,
+    judged: Result<Prefix, PartFault>,
     waiting: Waiting,
     item: Item,
     nul: Option<usize>,
@@ -125,12 +129,12 @@ fn take(
     go_on(alloc, text, aliases, judged, waiting, item, nul)
 }
 
-/// Goes on behind a token that decides nothing.
+/// Goes on after a token that decides nothing.
 fn go_on(
     alloc: Global,
     text: &[u8],
     aliases: &Aliases,
-    judged: Result<Front, PartFault>,
+    judged: Result<Prefix, PartFault>,
     waiting: Waiting,
     item: Item,
     nul: Option<usize>,
@@ -150,14 +154,15 @@ fn end_line(
     alloc: Global,
     text: &[u8],
     aliases: &Aliases,
-    judged: Result<Front, PartFault>,
+    judged: Result<Prefix, PartFault>,
     waiting: Waiting,
     newline: Item,
     nul: Option<usize>,
 ) -> Result<Turn, ParseFault>
     requires line { is_newline newline.token.kind ≡ true }
     requires nul { nul ≡ nul_in (take newline.«end» text.now) }
-    ensures { (e : Bool) → Takes aliases.now e text.now judged waiting newline nul newline.«end» result }
+    ensures { (e : Bool) → Takes aliases.now e text.now judged waiting newline nul newline.«end»
+        result }
 {
     let used = newline.end;
     let told = tell(alloc, text, aliases, judged, waiting, newline, nul);
@@ -172,7 +177,7 @@ fn tell(
     alloc: Global,
     text: &[u8],
     aliases: &Aliases,
-    judged: Result<Front, PartFault>,
+    judged: Result<Prefix, PartFault>,
     waiting: Waiting,
     newline: Item,
     nul: Option<usize>,
@@ -180,42 +185,44 @@ fn tell(
     ensures { Tells aliases.now text.now judged waiting newline nul result }
 {
     let used = newline.end;
-    let front = match judged {
-        Ok(front) => front,
+    let prefix = match judged {
+        Ok(prefix) => prefix,
         Err(fault) => return Err(fault_of(used, fault)),
     };
-    if front.is_none() {
+    if prefix.is_none() {
         return Ok(Turn::Read(Reading::Blank { used }));
     }
-    if front.is_whole() {
+    if prefix.is_whole() {
         let due = waiting.due_at(&newline.token.kind);
-        return turn_of(complete(alloc, text, front, due, &newline));
+        return turn_of(complete(alloc, text, prefix, due, &newline));
     }
-    match go_on(alloc, text, aliases, Ok(front), waiting, newline, nul)? {
+    match go_on(alloc, text, aliases, Ok(prefix), waiting, newline, nul)? {
         Turn::On(Err(fault), _, _, _) => Err(fault_of(used, fault)),
         turn => Ok(turn),
     }
 }
 
-/// The tokens are a complete command, and the bodies behind the newline belong to it.
+/// The tokens are a complete command, and the bodies after the newline belong to it.
 fn complete(
     alloc: Global,
     text: &[u8],
-    front: Front,
+    prefix: Prefix,
     due: &[Delimiter],
     newline: &Item,
 ) -> Result<Reading, ParseFault>
-    requires { are_whole front ≡ true }
-    ensures { Answers result (completed front newline.now.«end» (bodies_of read_text 500 text.now due.now newline.now)) }
+    requires { are_whole prefix ≡ true }
+    ensures { Answers result
+        (complete_answer prefix newline.now.«end»
+        (bodies_of read_text 500 text.now due.now newline.now)) }
 {
     let used = newline.end;
     let bodies = match bodies_of(alloc, LEVELS, text, due, newline) {
         Ok(bodies) => bodies,
         Err(fault) => return Err(fault_of(used, fault)),
     };
-    let mut front = front;
-    front.put_bodies(bodies)?;
-    match front.into_tree()? {
+    let mut prefix = prefix;
+    prefix.put_bodies(bodies)?;
+    match prefix.into_tree()? {
         Some(tree) => Ok(Reading::Complete { tree, used }),
         None => Err(ParseFault::Unclosed { at: used }),
     }
@@ -247,7 +254,8 @@ fn fault_in_reading(reading: Result<Reading, ParseFault>) -> Option<ParseFault>
     }
 }
 
-/// What is read up to a decision place up to and with which so many bytes stand, where this NUL is the first among them.
+/// What is read up to a decision place, where `used` bytes come up to and with this place and `nul` is the
+/// place of the first NUL among them.
 #[tactic(auto, using(crate::proofs::Nuls::nul_answers))]
 fn unless_nul(
     reading: Result<Reading, ParseFault>,
@@ -262,10 +270,10 @@ fn unless_nul(
     }
 }
 
-/// Decides at the end of the input, in a text of which this NUL is the first.
+/// Decides at the end of the input; `nul` is the place of the first NUL of the text.
 fn end(
     text: &[u8],
-    judged: Result<Front, PartFault>,
+    judged: Result<Prefix, PartFault>,
     nul: Option<usize>,
 ) -> Result<Reading, ParseFault>
     requires { nul ≡ nul_in text.now }
@@ -275,28 +283,29 @@ fn end(
 }
 
 /// What the tokens say at the end of the input.
-fn tell_end(size: usize, judged: Result<Front, PartFault>) -> Result<Reading, ParseFault>
+fn tell_end(size: usize, judged: Result<Prefix, PartFault>) -> Result<Reading, ParseFault>
     ensures { (text : List ℕ) → length text ≡ size → Answers result (at_end text judged) }
 {
-    let front = match judged {
-        Ok(front) => front,
+    let prefix = match judged {
+        Ok(prefix) => prefix,
         Err(fault) => return Err(fault_of(size, fault)),
     };
-    if front.is_none() {
+    if prefix.is_none() {
         return Ok(Reading::Blank { used: size });
     }
-    match front.into_tree()? {
+    match prefix.into_tree()? {
         Some(tree) => Ok(Reading::Complete { tree, used: size }),
         None => Err(ParseFault::Unclosed { at: size }),
     }
 }
 
-/// Decides where no token begins behind these, from this place on, in a text of which this NUL is the first.
+/// Decides where no token is found after these, from the place `at` on; `nul` is the place of the first NUL
+/// of the text.
 fn cut(
     alloc: Global,
     text: &[u8],
     at_end: bool,
-    judged: Result<Front, PartFault>,
+    judged: Result<Prefix, PartFault>,
     waiting: &Waiting,
     at: usize,
     nul: Option<usize>,
@@ -311,22 +320,22 @@ fn cut(
     unless_nul(told, nul, text.len())
 }
 
-/// What the tokens say where the end of the input cuts off what stands behind them, from this place on.
+/// What the tokens say where the end of the input cuts off what comes after them, from the place `at` on.
 fn tell_cut(
     alloc: Global,
     text: &[u8],
-    judged: Result<Front, PartFault>,
+    judged: Result<Prefix, PartFault>,
     waiting: &Waiting,
     at: usize,
 ) -> Result<Reading, ParseFault>
     ensures { Answers result (at_cut text.now waiting.now judged at) }
 {
     let size = text.len();
-    let front = match judged {
-        Ok(front) => front,
+    let prefix = match judged {
+        Ok(prefix) => prefix,
         Err(fault) => return Err(fault_of(size, fault)),
     };
-    let left = LEVELS.saturating_sub(front.open());
+    let left = LEVELS.saturating_sub(prefix.open());
     match cut_fault(alloc, left, text, waiting, at)? {
         Some(fault) => Err(fault_of(size, fault)),
         None => Err(ParseFault::Unclosed { at: text.len() }),

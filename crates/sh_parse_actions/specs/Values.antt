@@ -1,4 +1,5 @@
--- The parts that productions take from the values of their symbols. A production of nothing has the value `Nothing`, which is each empty part.
+-- The parts that productions take from the values of their symbols. A production of nothing has the value
+-- `Nothing`, which counts as each empty part.
 use Rattle.std.specs.Prelude.{ℕ, nat_eq, Option, Some, None, List, [], ◌∷◌, if◌then◌else◌, option_map}
 use Rattle.std.specs.Option.{option_and_then}
 use Rattle.sh_token_grammar.specs.declared.class.TokenClass.TheVariants.{While, Until}
@@ -7,7 +8,7 @@ use Rattle.sh_syntax.specs.declared.tree.AndOr.{AndOr}
 use Rattle.sh_syntax.specs.declared.tree.CaseEnd.TheVariants.{Omitted}
 use Rattle.sh_syntax.specs.declared.tree.CaseItem.{CaseItem}
 use Rattle.sh_syntax.specs.declared.tree.Command.{Command}
-use Rattle.sh_syntax.specs.declared.tree.Complete.{Complete}
+use Rattle.sh_syntax.specs.declared.tree.CompoundList.{CompoundList}
 use Rattle.sh_syntax.specs.declared.tree.Compound.{Compound}
 use Rattle.sh_syntax.specs.declared.tree.CompoundForm.{CompoundForm}
 use Rattle.sh_syntax.specs.declared.tree.Connected.{Connected}
@@ -88,7 +89,7 @@ unfoldable pub loop_in : Value → Option LoopKind
 loop_in (value.Token class l) = loop_kind class
 loop_in v = None
 
--- an item of a simple command (2.9.1): a word in an assignment's place is one, any other is a word
+-- an assignment of a simple command (XCU 2.9.1)
 abbrev pub leaf_assignment : Leaf → Option SimpleItem
 leaf_assignment (leaf.Assignment w name parts) = Some (item.Assignment name parts (out-Word w).source)
 leaf_assignment l = None
@@ -113,9 +114,9 @@ unfoldable pub and_or_in : Value → Option AndOr
 and_or_in (value.AndOr x) = Some x
 and_or_in v = None
 
-unfoldable pub complete_in : Value → Option Complete
-complete_in (value.Complete x) = Some x
-complete_in v = None
+unfoldable pub compound_list_in : Value → Option CompoundList
+compound_list_in (value.CompoundList x) = Some x
+compound_list_in v = None
 
 unfoldable pub form_in : Value → Option CompoundForm
 form_in (value.Form x) = Some x
@@ -171,7 +172,7 @@ case_items_in value.Nothing = Some []
 case_items_in (value.CaseItems xs) = Some xs
 case_items_in v = None
 
--- what stands behind an AND-OR list; without a separator the shell waits for its end
+-- what comes after an AND-OR list; without a separator the shell waits for the end of the list
 unfoldable pub tail_in : Value → Option Tail
 tail_in value.Nothing = Some (record { separator = Sequential; items = [] })
 tail_in (value.Tail x) = Some x
@@ -198,9 +199,9 @@ children_values (children.One a) = a ∷ []
 children_values (children.Two a b) = a ∷ b ∷ []
 children_values (children.Three a b c) = a ∷ b ∷ c ∷ []
 
--- with one in front, where there are not three already
-abbrev pub joined : Value → Children → Option Children
-joined v children.None = Some (children.One v)
-joined v (children.One a) = Some (children.Two v a)
-joined v (children.Two a b) = Some (children.Three v a b)
-joined v (children.Three a b c) = None
+-- the values with one more before them, where there aren't three already
+abbrev pub with_child : Value → Children → Option Children
+with_child v children.None = Some (children.One v)
+with_child v (children.One a) = Some (children.Two v a)
+with_child v (children.Two a b) = Some (children.Three v a b)
+with_child v (children.Three a b c) = None

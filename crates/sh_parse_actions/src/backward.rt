@@ -1,11 +1,11 @@
-//! Lists that grow at their front.
+//! Lists that grow at their beginning.
 ghost use Rattle.std.specs.Prelude.{◌≡◌, [], ◌∷◌, IfOk, MatchOption, reverse};
 
 use sh_base::sequence::Sequence;
 use std::alloc::{AllocError, Global};
 use std::marker::Model;
 
-/// Items in order, to which further ones come in front. A contract sees the list of the items.
+/// Items in order. Further items are put before them. A contract sees the list of the items.
 #[derive(Drop)]
 pub struct Backward<T> {
     // the last item first
@@ -48,7 +48,7 @@ impl<T> Backward<T> {
 }
 
 impl<T: Drop> Backward<T> {
-    /// The first item, and the others behind it; `None` where there is no item. Takes no memory.
+    /// The first item, and the items after it; `None` where there is no item. Takes no memory.
     pub fn split_first(self) -> Option<(T, Self)>
         ensures { MatchOption result (self ≡ []) (λ split. self ≡ split.0 ∷ split.1) }
     {
@@ -57,7 +57,8 @@ impl<T: Drop> Backward<T> {
         Some((first, others))
     }
 
-    /// The items with one in front of them. The only error is want of memory.
+    /// The items with one more item before them. The only error is want of memory; after it the items are
+    /// dropped.
     pub fn with_first(self, first: T) -> Result<Self, AllocError>
         ensures { IfOk result (λ items. items ≡ first ∷ self) }
     {

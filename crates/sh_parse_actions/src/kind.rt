@@ -4,7 +4,7 @@ use sh_syntax::tree::{Connector, Separator};
 /// The kind of a production: what it makes of the values of those symbols of its body that matter.
 #[derive(Clone, Copy)]
 pub enum Kind {
-    /// Of a body in which no symbol matters: an empty list, no further part, or newlines.
+    /// The kind of a body in which no symbol matters: an empty list, no further part, or newlines.
     Nothing,
     One(Unary),
     Two(Binary),
@@ -16,13 +16,13 @@ pub enum Kind {
 pub enum Unary {
     /// That value.
     Same,
-    /// A list behind a separator.
+    /// A list after a separator.
     Separated(Separator),
     /// `else list`.
     Else,
-    /// The list of a for without words.
+    /// The list of a `for` without words.
     Parameters { is_separated: bool },
-    /// The list of a for with words, behind the last word.
+    /// The list of a `for` with words, after the last word.
     LastValue,
     /// `{ list }`
     Group,
@@ -37,7 +37,7 @@ pub enum Unary {
 /// What a production makes of two values.
 #[derive(Clone, Copy)]
 pub enum Binary {
-    /// A list: its first AND-OR list, and what stands behind that.
+    /// A list: its first AND-OR list, and what comes after that.
     List,
     /// A compound list, from the same two.
     CompoundList,
@@ -45,7 +45,7 @@ pub enum Binary {
     AndOr,
     /// Further pipelines: the connector, the first of them, and the others.
     Connected(Connector),
-    /// A pipeline: whether `!` stands before it, its first command and the further ones.
+    /// A pipeline, with a `!` before it or not: its first command and the further ones.
     Pipeline { is_negated: bool },
     /// Further commands of a pipeline.
     Piped,
@@ -53,7 +53,7 @@ pub enum Binary {
     Compound,
     /// The body of a function: the same two.
     Body,
-    /// A name, and behind it the body of a function or the other items of a simple command.
+    /// A name, and after it the body of a function or the other items of a simple command.
     Named,
     /// A simple command: its first item, which is of this kind, and the others.
     Simple(Item),
@@ -63,13 +63,13 @@ pub enum Binary {
     Redirects,
     /// A redirection without a number: its operator and word.
     Redirect,
-    /// A for: its variable, and what stands behind that.
+    /// A `for`: its variable, and what comes after that.
     For,
-    /// Words of a for.
+    /// Words of a `for`: the first of them, and the others with the list.
     Value,
-    /// A case: its word and items.
+    /// A `case`: its word and items.
     Case,
-    /// Further patterns of an item of a case.
+    /// Further patterns of an item of a `case`.
     Patterns,
 }
 
@@ -78,15 +78,16 @@ pub enum Binary {
 pub enum Ternary {
     /// A redirection: its number, operator and word.
     Redirect,
-    /// An if: its condition, its list, and what stands behind that.
+    /// An `if`: its condition, its list, and what comes after that list.
     If,
     /// `elif`: the same three.
     ElseIf,
     /// A loop: its first word, its condition and its list.
     Loop,
-    /// An item of a case and those behind it: its first pattern, the further ones, and what stands behind its `)`.
+    /// An item of a `case` and the items after it: its first pattern, the further ones, and what comes after
+    /// its `)`.
     CaseItem { has_parenthesis: bool },
-    /// The list of an item of a case: the two parts of a list, and the end of the item.
+    /// The list of an item of a `case`: the two parts of a list, and the end of the item.
     ItemList,
 }
 

@@ -6,16 +6,16 @@ use sh_syntax::tree::{HereDocumentOperator, Parts, RedirectOperator, Word};
 /// What a token is to the tree.
 #[derive(Drop)]
 pub enum Leaf {
-    /// An operator that stands for itself, or a newline: the tree needs no more of it than its place.
+    /// A newline, or an operator other than a redirection operator: the tree needs nothing of it.
     Operator,
     /// The operator of a redirection to what a word names (XCU 2.7).
     Redirection(RedirectOperator),
-    /// The operator of a here-document (XCU 2.7.4), with the body that its delimiter, the next token, has found.
+    /// The operator of a here-document (XCU 2.7.4), with the body. The delimiter is the next token.
     HereDocument {
         operator: HereDocumentOperator,
         body: Shared<Parts>,
     },
-    /// The digits of a descriptor's number.
+    /// The digits of a file descriptor's number.
     Number(Text),
     /// A word that is neither a name nor an assignment.
     Word(Word),
@@ -24,7 +24,7 @@ pub enum Leaf {
         word: Word,
         name: Text,
     },
-    /// A word that begins with an unquoted name and `=`: the name, and the parts behind the `=`.
+    /// A word that begins with an unquoted name and `=`: the name, and the parts after the `=`.
     Assignment {
         word: Word,
         name: Text,

@@ -1,7 +1,7 @@
 //! What each kind of production makes.
 ghost use Rattle.std.specs.Prelude.{◌≡◌, Some, None, IfOk, ◌∷◌};
-ghost use Rattle.sh_parse_actions.specs.Forms.{and_or, case_item, complete, compound, conditional, pipeline};
-ghost use Rattle.sh_parse_actions.specs.Actions.{list_items, made, made_for, made_named, made_of_one, made_of_two, made_of_three, made_one, made_redirect, made_simple, made_three, made_two};
+ghost use Rattle.sh_parse_actions.specs.Forms.{and_or, case_item, compound_list, compound, conditional, pipeline};
+ghost use Rattle.sh_parse_actions.specs.Actions.{list_items, production_value, made_for, made_named, made_of_one, made_of_two, made_of_three, made_one, made_redirect, made_simple, made_three, made_two};
 ghost use Rattle.sh_parse_actions.specs.Values.{children_values, parameters_in, values_in};
 
 use crate::backward::Backward;
@@ -10,12 +10,12 @@ use crate::value::{Children, ElsePart, ItemBody, ItemEnd, Parameters, Tail, Valu
 use sh_base::sequence::{Sequence, Text};
 use sh_base::shared::Shared;
 use sh_syntax::tree::{
-    AndOr, CaseEnd, CaseItem, Command, Complete, Compound, CompoundForm, Connected, Connector,
+    AndOr, CaseEnd, CaseItem, Command, Compound, CompoundForm, CompoundList, Connected, Connector,
     ElseIf, ListItem, Name, Pipeline, Redirect, Separator, SimpleItem, Word,
 };
 use std::alloc::{AllocError, Global};
 
-/// What is made, where there is something.
+/// The value that is made; `None` where there is none.
 type Made = Result<Option<Value>, AllocError>;
 
 fn separated(alloc: Global, separator: Separator, list: Value) -> Option<Value>
@@ -28,7 +28,7 @@ fn separated(alloc: Global, separator: Separator, list: Value) -> Option<Value>
 fn else_list(alloc: Global, list: Value) -> Option<Value>
     ensures { result ≡ made_one Unary.Else list }
 {
-    let list = list.into_complete()?;
+    let list = list.into_compound_list()?;
     Some(Value::Else(ElsePart {
         else_ifs: Backward::new(alloc),
         else_body: Some(list),
@@ -38,14 +38,14 @@ fn else_list(alloc: Global, list: Value) -> Option<Value>
 fn parameters(is_separated: bool, list: Value) -> Option<Value>
     ensures { result ≡ made_one (Unary.Parameters is_separated) list }
 {
-    let body = list.into_complete()?;
+    let body = list.into_compound_list()?;
     Some(Value::Parameters(Parameters { is_separated, body }))
 }
 
 fn last_value(alloc: Global, list: Value) -> Option<Value>
     ensures { result ≡ made_one Unary.LastValue list }
 {
-    let body = list.into_complete()?;
+    let body = list.into_compound_list()?;
     Some(Value::Values(Values {
         words: Backward::new(alloc),
         body,
@@ -55,14 +55,14 @@ fn last_value(alloc: Global, list: Value) -> Option<Value>
 fn group(list: Value) -> Option<Value>
     ensures { result ≡ made_one Unary.Group list }
 {
-    let list = list.into_complete()?;
+    let list = list.into_compound_list()?;
     Some(Value::Form(CompoundForm::Group(list)))
 }
 
 fn subshell(list: Value) -> Option<Value>
     ensures { result ≡ made_one Unary.Subshell list }
 {
-    let list = list.into_complete()?;
+    let list = list.into_compound_list()?;
     Some(Value::Form(CompoundForm::Subshell(list)))
 }
 
@@ -77,10 +77,13 @@ fn ended(alloc: Global, items: Value) -> Option<Value>
 }
 
 /// A list of these items.
-fn complete(alloc: Global, items: Sequence<ListItem>) -> Result<Shared<Complete>, AllocError>
-    ensures { IfOk result (λ list. list ≡ complete items) }
+fn list_of_items(
+    alloc: Global,
+    items: Sequence<ListItem>,
+) -> Result<Shared<CompoundList>, AllocError>
+    ensures { IfOk result (λ list. list ≡ compound_list items) }
 {
-    let list = Shared::new(alloc, Complete { items })?;
+    let list = Shared::new(alloc, CompoundList { items })?;
     Ok(list)
 }
 
@@ -90,7 +93,7 @@ fn empty_item(alloc: Global, end: Value) -> Made
     let Some(end) = end.into_item_end(alloc) else {
         return Ok(None);
     };
-    let body = complete(alloc, Sequence::new(alloc))?;
+    let body = list_of_items(alloc, Sequence::new(alloc))?;
     Ok(Some(Value::ItemBody(ItemBody { body, end })))
 }
 
@@ -111,7 +114,7 @@ fn make_one(alloc: Global, kind: Unary, a: Value) -> Made
     }
 }
 
-/// The items of a list: its first AND-OR list, and what stands behind that.
+/// The items of a list: its first AND-OR list, and what comes after that.
 fn items_of_list(list: Shared<AndOr>, tail: Tail) -> Result<Backward<ListItem>, AllocError>
     ensures { IfOk result (λ items. items ≡ list_items list tail) }
 {
@@ -130,16 +133,16 @@ fn list(alloc: Global, first: Value, tail: Value) -> Made
     Ok(Some(Value::List(items)))
 }
 
-/// A list: its first AND-OR list, and what stands behind that.
-fn complete_from(
+/// A list: its first AND-OR list, and what comes after that.
+fn compound_list_from(
     alloc: Global,
     list: Shared<AndOr>,
     tail: Tail,
-) -> Result<Shared<Complete>, AllocError>
-    ensures { IfOk result (λ shared. shared ≡ complete (list_items list tail)) }
+) -> Result<Shared<CompoundList>, AllocError>
+    ensures { IfOk result (λ shared. shared ≡ compound_list (list_items list tail)) }
 {
     let items = items_of_list(list, tail)?;
-    let list = complete(alloc, items.into_sequence())?;
+    let list = list_of_items(alloc, items.into_sequence())?;
     Ok(list)
 }
 
@@ -149,8 +152,8 @@ fn compound_list(alloc: Global, first: Value, tail: Value) -> Made
     let Some((list, tail)) = first.into_and_or().zip(tail.into_tail(alloc)) else {
         return Ok(None);
     };
-    let list = complete_from(alloc, list, tail)?;
-    Ok(Some(Value::Complete(list)))
+    let list = compound_list_from(alloc, list, tail)?;
+    Ok(Some(Value::CompoundList(list)))
 }
 
 fn and_or(alloc: Global, first: Value, others: Value) -> Made
@@ -260,7 +263,7 @@ fn function(alloc: Global, name: Value, body: Shared<Compound>) -> Made
     Ok(Some(Value::Command(command)))
 }
 
-/// A name, and behind it the body of a function or the other items of a simple command.
+/// A name, and after it the body of a function or the other items of a simple command.
 fn named(alloc: Global, first: Value, behind: Value) -> Made
     ensures { IfOk result (λ v. v ≡ made_two Binary.Named first behind) }
 {
@@ -296,7 +299,7 @@ fn redirects(alloc: Global, first: Value, others: Value) -> Made
     Ok(Some(Value::Redirects(redirects)))
 }
 
-/// A redirection of its number, operator and word.
+/// A redirection from its number, operator and word.
 fn redirect_to(number: Option<Text>, operator: Value, word: Word) -> Option<Value>
     ensures { result ≡ made_redirect number operator word }
 {
@@ -313,7 +316,7 @@ fn redirect(operator: Value, word: Value) -> Option<Value>
     redirect_to(None, operator, word)
 }
 
-/// A for of its variable and what stands behind that.
+/// A `for` from its variable and what comes after that.
 fn for_of(name: Name, behind: Value) -> Option<Value>
     ensures { result ≡ made_for (parameters_in behind) (values_in behind) name }
 {
@@ -415,7 +418,9 @@ fn numbered_redirect(number: Value, operator: Value, word: Value) -> Option<Valu
 fn conditional(alloc: Global, condition: Value, body: Value, others: Value) -> Option<Value>
     ensures { result ≡ made_three Ternary.If condition body others }
 {
-    let lists = condition.into_complete().zip(body.into_complete());
+    let lists = condition
+        .into_compound_list()
+        .zip(body.into_compound_list());
     let ((condition, body), others) = lists.zip(others.into_else(alloc))?;
     let ElsePart {
         else_ifs,
@@ -432,7 +437,9 @@ fn conditional(alloc: Global, condition: Value, body: Value, others: Value) -> O
 fn else_if(alloc: Global, condition: Value, body: Value, others: Value) -> Made
     ensures { IfOk result (λ v. v ≡ made_three Ternary.ElseIf condition body others) }
 {
-    let lists = condition.into_complete().zip(body.into_complete());
+    let lists = condition
+        .into_compound_list()
+        .zip(body.into_compound_list());
     let Some(((condition, body), others)) = lists.zip(others.into_else(alloc)) else {
         return Ok(None);
     };
@@ -450,8 +457,8 @@ fn else_if(alloc: Global, condition: Value, body: Value, others: Value) -> Made
 fn while_loop(first: Value, condition: Value, body: Value) -> Option<Value>
     ensures { result ≡ made_three Ternary.Loop first condition body }
 {
-    let head = first.into_loop().zip(condition.into_complete());
-    let ((kind, condition), body) = head.zip(body.into_complete())?;
+    let head = first.into_loop().zip(condition.into_compound_list());
+    let ((kind, condition), body) = head.zip(body.into_compound_list())?;
     Some(Value::Form(CompoundForm::Loop {
         kind,
         condition,
@@ -459,14 +466,15 @@ fn while_loop(first: Value, condition: Value, body: Value) -> Option<Value>
     }))
 }
 
-/// An item of a case and those behind it.
+/// An item of a `case` and the items after it.
 fn case_items(
     has_parenthesis: bool,
     pattern: Word,
     others: Backward<Word>,
     behind: ItemBody,
 ) -> Result<Backward<CaseItem>, AllocError>
-    ensures { IfOk result (λ items. items ≡ case_item has_parenthesis pattern others behind ∷ behind.end.items) }
+    ensures { IfOk result (λ items.
+        items ≡ case_item has_parenthesis pattern others behind ∷ behind.end.items) }
 {
     let ItemBody { body, end } = behind;
     let ItemEnd { end, items } = end;
@@ -487,7 +495,8 @@ fn case_item(
     others: Value,
     behind: Value,
 ) -> Made
-    ensures { IfOk result (λ v. v ≡ made_three (Ternary.CaseItem has_parenthesis) pattern others behind) }
+    ensures { IfOk result (λ v.
+        v ≡ made_three (Ternary.CaseItem has_parenthesis) pattern others behind) }
 {
     let patterns = pattern.into_word().zip(others.into_patterns(alloc));
     let Some(((pattern, others), behind)) = patterns.zip(behind.into_item_body()) else {
@@ -504,7 +513,7 @@ fn item_list(alloc: Global, first: Value, tail: Value, end: Value) -> Made
     let Some(((list, tail), end)) = lists.zip(end.into_item_end(alloc)) else {
         return Ok(None);
     };
-    let body = complete_from(alloc, list, tail)?;
+    let body = compound_list_from(alloc, list, tail)?;
     Ok(Some(Value::ItemBody(ItemBody { body, end })))
 }
 
@@ -522,7 +531,7 @@ fn make_three(alloc: Global, kind: Ternary, a: Value, b: Value, c: Value) -> Mad
     }
 }
 
-/// Of no value that matters.
+/// What a production makes of no value.
 fn nothing(children: Children) -> Made
     ensures { IfOk result (λ v. v ≡ Some Value.Nothing) }
 {
@@ -556,10 +565,11 @@ fn of_three(alloc: Global, kind: Ternary, children: Children) -> Made
     }
 }
 
-/// What a production of a kind makes of the values of the symbols that matter. `None` where there are more or fewer of them than the kind
-/// asks for, or where one has not the part that is taken from it. The only error is want of memory.
+/// What a production of a kind makes of the values of the symbols that matter. `None` where there are more or
+/// fewer values than the kind asks for, or where a value lacks the part that is taken from it. The only error
+/// is want of memory.
 pub fn make(alloc: Global, kind: Kind, children: Children) -> Result<Option<Value>, AllocError>
-    ensures { IfOk result (λ value. value ≡ made kind (children_values children)) }
+    ensures { IfOk result (λ value. value ≡ production_value kind (children_values children)) }
 {
     match kind {
         Kind::Nothing => nothing(children),

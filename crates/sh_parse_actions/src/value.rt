@@ -1,6 +1,6 @@
-//! What the symbols of a derivation stand for.
+//! The values of the symbols of a derivation.
 ghost use Rattle.std.specs.Prelude.{◌≡◌, Some, None, IfOk, IfErr};
-ghost use Rattle.sh_parse_actions.specs.Values.{and_or_in, body_in, case_items_in, command_in, commands_in, complete_in, else_in, form_in, item_body_in, item_end_in, item_in, items_in, joined, list_in, leaf_assignment, leaf_in, leaf_name, leaf_number, leaf_target, leaf_word, loop_in, loop_kind, name_in, number_in, parameters_in, patterns_in, pipeline_in, pipelines_in, redirect_in, redirects_in, tail_in, target_in, values_in, word_in};
+ghost use Rattle.sh_parse_actions.specs.Values.{and_or_in, body_in, case_items_in, command_in, commands_in, compound_list_in, else_in, form_in, item_body_in, item_end_in, item_in, items_in, with_child, list_in, leaf_assignment, leaf_in, leaf_name, leaf_number, leaf_target, leaf_word, loop_in, loop_kind, name_in, number_in, parameters_in, patterns_in, pipeline_in, pipelines_in, redirect_in, redirects_in, tail_in, target_in, values_in, word_in};
 
 use crate::backward::Backward;
 use crate::kind::Item;
@@ -8,55 +8,55 @@ use crate::leaf::Leaf;
 use sh_base::sequence::Text;
 use sh_base::shared::Shared;
 use sh_syntax::tree::{
-    AndOr, CaseEnd, CaseItem, Command, Complete, Compound, CompoundForm, Connected, ElseIf,
+    AndOr, CaseEnd, CaseItem, Command, Compound, CompoundForm, CompoundList, Connected, ElseIf,
     ListItem, LoopKind, Name, Pipeline, Redirect, Separator, SimpleItem, Target, Word,
 };
 use sh_token_grammar::class::TokenClass;
 use std::alloc::Global;
 
-/// What stands behind an AND-OR list: its separator, and the list's other items.
+/// What comes after an AND-OR list: its separator, and the other items of the list that it is in.
 #[derive(Drop)]
 pub struct Tail {
     pub separator: Separator,
     pub items: Backward<ListItem>,
 }
 
-/// What stands between the list of an if and its `fi`.
+/// What is between the list of an `if` and its `fi`.
 #[derive(Drop)]
 pub struct ElsePart {
     pub else_ifs: Backward<ElseIf>,
-    pub else_body: Option<Shared<Complete>>,
+    pub else_body: Option<Shared<CompoundList>>,
 }
 
-/// The words of a for, and its list.
+/// The words of a `for`, and its list.
 #[derive(Drop)]
 pub struct Values {
     pub words: Backward<Word>,
-    pub body: Shared<Complete>,
+    pub body: Shared<CompoundList>,
 }
 
-/// The list of a for without words.
+/// The list of a `for` without words.
 #[derive(Drop)]
 pub struct Parameters {
     pub is_separated: bool,
-    pub body: Shared<Complete>,
+    pub body: Shared<CompoundList>,
 }
 
-/// What stands behind the list of an item of a case: what ends it, and the items behind it.
+/// What comes after the list of an item of a `case`: what ends the item, and the items after it.
 #[derive(Drop)]
 pub struct ItemEnd {
     pub end: CaseEnd,
     pub items: Backward<CaseItem>,
 }
 
-/// What stands behind the `)` of an item of a case.
+/// What comes after the `)` of an item of a `case`.
 #[derive(Drop)]
 pub struct ItemBody {
-    pub body: Shared<Complete>,
+    pub body: Shared<CompoundList>,
     pub end: ItemEnd,
 }
 
-/// What a symbol of a derivation stands for.
+/// The value of a symbol of a derivation.
 #[derive(Drop)]
 pub enum Value {
     /// An empty list, no further part, or newlines.
@@ -65,7 +65,7 @@ pub enum Value {
     Token { class: u8, leaf: Leaf },
     Redirect(Redirect),
     Redirects(Backward<Redirect>),
-    /// What stands behind an item of a simple command.
+    /// The items of a simple command after one of them.
     Items(Backward<SimpleItem>),
     /// The body of a function.
     Body(Shared<Compound>),
@@ -79,7 +79,7 @@ pub enum Value {
     Tail(Tail),
     List(Backward<ListItem>),
     /// A compound list.
-    Complete(Shared<Complete>),
+    CompoundList(Shared<CompoundList>),
     Form(CompoundForm),
     Else(ElsePart),
     Values(Values),
@@ -101,9 +101,9 @@ pub enum Children {
 }
 
 impl Children {
-    /// The values with one in front of them; `None` where there are three already.
+    /// The values with one more value before them; `None` where there are three already.
     pub fn with_first(self, first: Value) -> Option<Self>
-        ensures { result ≡ joined first self }
+        ensures { result ≡ with_child first self }
     {
         match self {
             Children::None => Some(Children::One(first)),
@@ -118,7 +118,7 @@ impl Children {
         }
     }
 
-    /// Lets the values go, which are more or fewer than is asked for.
+    /// Drops the values, which are more or fewer than the kind asks for.
     pub(crate) fn discard(self) -> Option<Value>
         ensures { result ≡ None }
     {
@@ -200,7 +200,7 @@ impl Leaf {
 }
 
 impl Value {
-    /// Lets the value go, which has no such part.
+    /// Drops the value, which has no such part.
     pub(crate) fn discard<T>(self) -> Option<T>
         ensures { result ≡ None }
     {
@@ -320,12 +320,12 @@ impl Value {
         }
     }
 
-    #[tactic(auto, unfolding(crate::specs::Values::complete_in))]
-    pub(crate) fn into_complete(self) -> Option<Shared<Complete>>
-        ensures { result ≡ complete_in self }
+    #[tactic(auto, unfolding(crate::specs::Values::compound_list_in))]
+    pub(crate) fn into_compound_list(self) -> Option<Shared<CompoundList>>
+        ensures { result ≡ compound_list_in self }
     {
         match self {
-            Value::Complete(x) => Some(x),
+            Value::CompoundList(x) => Some(x),
             other => other.discard(),
         }
     }
@@ -372,7 +372,7 @@ impl Value {
         }
     }
 
-    /// The list of a for without words; any other value comes back.
+    /// The list of a `for` without words; any other value comes back.
     #[tactic(auto, unfolding(crate::specs::Values::parameters_in))]
     pub(crate) fn into_parameters(self) -> Result<Parameters, Value>
         ensures parameters { IfOk result (λ x. parameters_in self ≡ Some x) }
@@ -428,7 +428,8 @@ impl Value {
         }
     }
 
-    /// The items of a list: none at nothing, and `None` for a value that is no list. Takes no memory.
+    /// The items of a list. `Value::Nothing` has no items; a value that is no list gives `None`. Takes no
+    /// memory.
     #[tactic(auto, unfolding(crate::specs::Values::list_in))]
     pub fn into_list(self, alloc: Global) -> Option<Backward<ListItem>>
         ensures { result ≡ list_in self }

@@ -3,14 +3,14 @@
 use Rattle.std.proofs.Common.{◌≡◌, ◌↔◌, ◌⊎◌, inl, inr, ℕ, zero, suc, ◌+◌, ◌-◌, ◌<◌, ◌≤◌, nat_eq, nat_lt, Bool, true, false, List, [], ◌∷◌, ◌++◌, length, drop, take, Option, Some, None, Result, Ok, Err, refl, sym, ap, subst, ◌∙◌, arith, if◌then◌else◌}
 use Rattle.std.proofs.lemmas.Bool.{eqb-false}
 use Rattle.sh_token_pieces.specs.declared.here.Delimiter.{Delimiter}
-use Rattle.sh_token_pieces.specs.declared.mark.Mark.{Mark}
-use Rattle.sh_token_pieces.specs.declared.mark.Mark.TheVariants as mark
-use Rattle.sh_token_pieces.specs.TokenClasses.{literal_front}
+use Rattle.sh_token_pieces.specs.declared.piece.Piece.{Piece}
+use Rattle.sh_token_pieces.specs.declared.piece.Piece.TheVariants as piece
+use Rattle.sh_token_pieces.specs.TokenClasses.{literal_prefix}
 use Rattle.sh_token.specs.Found.{first_token}
 use Rattle.sh_token.specs.declared.token.TokenKind.{TokenKind}
 use Rattle.sh_base.specs.declared.span.Span.{Span}
 use Rattle.sh_token_grammar.specs.Shell.{substitution as substitutions}
-use Rattle.sh_syntax.specs.declared.tree.Complete.{Complete}
+use Rattle.sh_syntax.specs.declared.tree.CompoundList.{CompoundList}
 use Rattle.sh_syntax.specs.declared.tree.Part.{Part}
 use Rattle.sh_syntax.specs.declared.tree.Parts.{Parts}
 use Rattle.sh_parse_documents.specs.declared.document.Document.{Document}
@@ -29,14 +29,14 @@ use Rattle.sh_parse_words.specs.declared.build.Substitution.{Substitution}
 use Rattle.sh_parse_words.specs.declared.build.Substitution.TheVariants as substitution
 use Rattle.sh_parse_words.specs.declared.fault.PartFault.{PartFault}
 use Rattle.sh_parse_words.specs.declared.fault.PartFault.TheVariants as fault
-use Rattle.sh_parse_words.specs.Building.{Building, Outcome, begun, ended, parts_of, with_part, with_bytes, opened, last_frame, other_frames, closed_by, closed, on, skip_close, skipping, open_braces, backquotes_by, in_quotes, backquoted, plainly, taking, take_by, take_piece, with_program}
+use Rattle.sh_parse_words.specs.Building.{Building, Outcome, empty_building, with_literal, parts_of, with_part, with_bytes, opened, last_frame, other_frames, closed_by, with_form_part, on, skip_close, skipping, open_braces, backquotes_by, in_quotes, backquotes_request, plainly, taking, take_by, take_piece, with_program}
 use Rattle.sh_parse_words.specs.Parameters.{braces_of}
 use Rattle.sh_parse_words.specs.Places.{behind_piece}
 use Rattle.sh_parse_commands.specs.Results.{and_then, fault_moved}
 use Rattle.sh_parse_commands.specs.Sources.{text_between, behind_pieces}
-use Rattle.sh_parse_commands.specs.Words.{Reader, text_of, place_in, at_its_level, answer_of, answered, with_piece, begins_closed, with_pieces, whole, parts_in}
+use Rattle.sh_parse_commands.specs.Words.{Reader, text_of, place_in, at_its_level, answer_of, with_answer, with_piece, begins_closed, with_pieces, whole, parts_in}
 use Rattle.sh_parse_commands.specs.Leaves.{name_size, assignment_leaf, plain_leaf, leaf_by, word_leaf, leaf_of}
-use Rattle.sh_parse_commands.specs.Documents.{front_of, unless, expanded_body, document_parts, with_documents, bodies_of}
+use Rattle.sh_parse_commands.specs.Documents.{prefix_of, unless, expanded_body, document_parts, with_documents, bodies_of}
 use Rattle.sh_parse_commands.specs.Judging.{Judged, none_of, with_input, takes, open_in, with_leaf, with_item, with_items}
 use Rattle.sh_parse_commands.specs.Inputs.{input_of}
 use Rattle.sh_parse_commands.specs.Programs.{ended_by, program_in, programs, read_text}
@@ -106,23 +106,23 @@ closed_within_by : (n : ℕ) (b : Building) (o : Option Frame) → IsWithin n b 
 closed_within_by n b None h e l = record { left = h.left; frames = others_left n b.frames h.frames; skip = h.skip }
 closed_within_by n b (Some f) h e l = record { left = l; frames = others_left n b.frames h.frames; skip = no_skip f.left b.skip e }
 
-closed_within : (n : ℕ) (b : Building) → IsWithin n b → b.skip ≡ None → IsWithin n (closed b)
-unfolding closed
+closed_within : (n : ℕ) (b : Building) → IsWithin n b → b.skip ≡ None → IsWithin n (with_form_part b)
+unfolding with_form_part
 closed_within n b h e = closed_within_by n b (last_frame b.frames) h e (last_left n b.frames h.frames)
 
-plainly_within : (n : ℕ) (b : Building) (m : Mark) → IsWithin n b → b.skip ≡ None → IsWithin n (plainly b m)
+plainly_within : (n : ℕ) (b : Building) (m : Piece) → IsWithin n b → b.skip ≡ None → IsWithin n (plainly b m)
 unfolding plainly
-plainly_within n b (mark.Byte c) h e = bytes_within n b _ h
-plainly_within n b (mark.Escaped c) h e = part_within n b _ h
-plainly_within n b (mark.Backslash c) h e = bytes_within n b _ h
-plainly_within n b (mark.SingleQuoted bytes) h e = part_within n b _ h
-plainly_within n b mark.DoubleQuotesOpen h e = opened_within n b form.Quotes b.left h e h.left
-plainly_within n b mark.DoubleQuotesClose h e = closed_within n b h e
-plainly_within n b mark.Dollar h e = bytes_within n b _ h
-plainly_within n b (mark.Variable bytes) h e = part_within n b _ h
-plainly_within n b (mark.Parameter c) h e = part_within n b _ h
-plainly_within n b mark.BraceClose h e = closed_within n b h e
-plainly_within n b mark.ArithmeticClose h e = closed_within n b h e
+plainly_within n b (piece.Byte c) h e = bytes_within n b _ h
+plainly_within n b (piece.Escaped c) h e = part_within n b _ h
+plainly_within n b (piece.Backslash c) h e = bytes_within n b _ h
+plainly_within n b (piece.SingleQuoted bytes) h e = part_within n b _ h
+plainly_within n b piece.DoubleQuotesOpen h e = opened_within n b form.Quotes b.left h e h.left
+plainly_within n b piece.DoubleQuotesClose h e = closed_within n b h e
+plainly_within n b piece.Dollar h e = bytes_within n b _ h
+plainly_within n b (piece.Variable bytes) h e = part_within n b _ h
+plainly_within n b (piece.Parameter c) h e = part_within n b _ h
+plainly_within n b piece.BraceClose h e = closed_within n b h e
+plainly_within n b piece.ArithmeticClose h e = closed_within n b h e
 plainly_within n b m h e = h
 
 level_gives : (n left place : ℕ) (o : Outcome) (z : Bool) → nat_eq left 0 ≡ z → (0 < left → Gives n o) → Gives n (if z then Err (fault.TooDeep place) else o)
@@ -139,40 +139,40 @@ braces_give n b place (Some f) h e =
     level_gives n b.left place (on (opened b (form.Braces f) (b.left - 1))) (nat_eq b.left 0) refl (λ k.
     let l : b.left ≤ n = h.left in (opened_within n b (form.Braces f) (b.left - 1) h e (omega (l, arith)), tt))
 
-asks_backquotes : (n : ℕ) (b : Building) (place behind : ℕ) → b.left ≤ n → (k : ℕ) → b.left ≡ k → Deepens n (backquoted b place behind)
+asks_backquotes : (n : ℕ) (b : Building) (place behind : ℕ) → b.left ≤ n → (k : ℕ) → b.left ≡ k → Deepens n (backquotes_request b place behind)
 asks_backquotes n b place behind l zero e =
     let none : b.left - 1 ≡ 0 = omega (e, arith) in inr (backquotes_form (in_quotes false b.frames), none)
 asks_backquotes n b place behind l (suc k) e = let fewer : b.left - 1 < n = omega (e, l, arith) in inl fewer
 
-taking_gives : (n : ℕ) (b : Building) (m : Mark) (empty : Bool) (place behind : ℕ) → IsWithin n b → b.skip ≡ None → Gives n (taking b m empty place behind)
-taking_gives n b (mark.BraceOpen head) empty place behind h e = braces_give n b place (braces_of head empty) h e
-taking_gives n b mark.ArithmeticOpen empty place behind h e =
+taking_gives : (n : ℕ) (b : Building) (m : Piece) (empty : Bool) (place behind : ℕ) → IsWithin n b → b.skip ≡ None → Gives n (taking b m empty place behind)
+taking_gives n b (piece.BraceOpen head) empty place behind h e = braces_give n b place (braces_of head empty) h e
+taking_gives n b piece.ArithmeticOpen empty place behind h e =
     level_gives n b.left place (on (opened b form.Arithmetic (b.left - 1))) (nat_eq b.left 0) refl (λ l.
     let k : b.left ≤ n = h.left in (opened_within n b form.Arithmetic (b.left - 1) h e (omega (k, arith)), tt))
-taking_gives n b mark.CommandsOpen empty place behind h e =
+taking_gives n b piece.CommandsOpen empty place behind h e =
     level_gives n b.left place (on (record b { skip = Some (record { depth = 0; place = place; start = behind }) })) (nat_eq b.left 0) refl (λ l.
     (record { left = h.left; frames = h.frames; skip = l }, tt))
-taking_gives n b (mark.Backquoted bytes) empty place behind h e = (h, asks_backquotes n b place behind h.left b.left refl)
+taking_gives n b (piece.Backquoted bytes) empty place behind h e = (h, asks_backquotes n b place behind h.left b.left refl)
 taking_gives n b m empty place behind h e = (plainly_within n b m h e, tt)
 
 close_gives : (n : ℕ) (b : Building) (s : Skip) (here : ℕ) (z : Bool) → nat_eq s.depth 0 ≡ z → IsWithin n b → 0 < b.left → Gives n (skip_close b s here)
 close_gives n b s here true e h l = let k : b.left ≤ n = h.left in rw e (record { left = h.left; frames = h.frames; skip = tt }, inl (omega (k, l, arith)))
 close_gives n b s here false e h l = rw e (record { left = h.left; frames = h.frames; skip = l }, tt)
 
-skipping_gives : (n : ℕ) (b : Building) (s : Skip) (m : Mark) (here : ℕ) → IsWithin n b → 0 < b.left → Gives n (skipping b s m here)
-skipping_gives n b s mark.CommandsOpen here h l = (record { left = h.left; frames = h.frames; skip = l }, tt)
-skipping_gives n b s mark.CommandsClose here h l = close_gives n b s here (nat_eq s.depth 0) refl h l
+skipping_gives : (n : ℕ) (b : Building) (s : Skip) (m : Piece) (here : ℕ) → IsWithin n b → 0 < b.left → Gives n (skipping b s m here)
+skipping_gives n b s piece.CommandsOpen here h l = (record { left = h.left; frames = h.frames; skip = l }, tt)
+skipping_gives n b s piece.CommandsClose here h l = close_gives n b s here (nat_eq s.depth 0) refl h l
 skipping_gives n b s m here h l = (h, tt)
 
-take_gives_by : (n : ℕ) (b : Building) (m : Mark) (empty : Bool) (place behind : ℕ) (o : Option Skip) → b.skip ≡ o → IsWithin n b → Gives n (take_by o b m empty place behind)
+take_gives_by : (n : ℕ) (b : Building) (m : Piece) (empty : Bool) (place behind : ℕ) (o : Option Skip) → b.skip ≡ o → IsWithin n b → Gives n (take_by o b m empty place behind)
 take_gives_by n b m empty place behind None e h = taking_gives n b m empty place behind h e
 take_gives_by n b m empty place behind (Some s) e h = skipping_gives n b s m place h (subst (λ x. SkipLeft b.left x) e h.skip)
 
-take_gives : (n : ℕ) (b : Building) (m : Mark) (empty : Bool) (place behind : ℕ) → IsWithin n b → Gives n (take_piece b m empty place behind)
+take_gives : (n : ℕ) (b : Building) (m : Piece) (empty : Bool) (place behind : ℕ) → IsWithin n b → Gives n (take_piece b m empty place behind)
 unfolding take_piece
 take_gives n b m empty place behind h = take_gives_by n b m empty place behind b.skip refl h
 
-program_within : (n : ℕ) (b : Building) (s : Substitution) (c : Complete) → IsWithin n b → IsWithin n (with_program b s c)
+program_within : (n : ℕ) (b : Building) (s : Substitution) (c : CompoundList) → IsWithin n b → IsWithin n (with_program b s c)
 unfolding with_program
 program_within n b s c h = part_within n b _ h
 
@@ -205,31 +205,31 @@ module _ (n size : ℕ) (read other : Reader) (agree : Agree (n + size) read oth
   unfolding answer_of
   answer_same text r s l = ap (λ x. at_its_level r (fault_moved (λ at. place_in r at) x)) (inner_same text r s l)
 
-  answered_same : (text : List ℕ) (b : Building) (o : Option Request) → length text ≤ size → Asks n o → answered read text b o ≡ answered other text b o
+  answered_same : (text : List ℕ) (b : Building) (o : Option Request) → length text ≤ size → Asks n o → with_answer read text b o ≡ with_answer other text b o
   answered_same text b None s l = refl
   answered_same text b (Some r) s l = ap (λ x. and_then x (λ c. Ok (with_program b r.form c))) (answer_same text r s l)
 
-  made_within : (b : Building) (s : Substitution) (x : Result Complete PartFault) → IsWithin n b → After (and_then x (λ c. Ok (with_program b s c)))
+  made_within : (b : Building) (s : Substitution) (x : Result CompoundList PartFault) → IsWithin n b → After (and_then x (λ c. Ok (with_program b s c)))
   made_within b s (Ok c) h = program_within n b s c h
   made_within b s (Err f) h = tt
 
-  answered_within : (text : List ℕ) (b : Building) (o : Option Request) → IsWithin n b → After (answered read text b o)
+  answered_within : (text : List ℕ) (b : Building) (o : Option Request) → IsWithin n b → After (with_answer read text b o)
   answered_within text b None h = h
   answered_within text b (Some r) h = made_within b r.form (answer_of read text r) h
 
-  step_same : (text : List ℕ) (o : Outcome) → length text ≤ size → Gives n o → and_then o (λ t. answered read text t.building t.request) ≡ and_then o (λ t. answered other text t.building t.request)
+  step_same : (text : List ℕ) (o : Outcome) → length text ≤ size → Gives n o → and_then o (λ t. with_answer read text t.building t.request) ≡ and_then o (λ t. with_answer other text t.building t.request)
   step_same text (Ok t) s h = answered_same text t.building t.request s h.1
   step_same text (Err f) s h = refl
 
-  step_within : (text : List ℕ) (o : Outcome) → Gives n o → After (and_then o (λ t. answered read text t.building t.request))
+  step_within : (text : List ℕ) (o : Outcome) → Gives n o → After (and_then o (λ t. with_answer read text t.building t.request))
   step_within text (Ok t) h = answered_within text t.building t.request h.0
   step_within text (Err f) h = tt
 
-  piece_same : (text : List ℕ) (b : Building) (m : Mark) (empty : Bool) (bytes : List ℕ) → length text ≤ size → IsWithin n b → with_piece read text b m empty bytes ≡ with_piece other text b m empty bytes
+  piece_same : (text : List ℕ) (b : Building) (m : Piece) (empty : Bool) (bytes : List ℕ) → length text ≤ size → IsWithin n b → with_piece read text b m empty bytes ≡ with_piece other text b m empty bytes
   unfolding with_piece
   piece_same text b m empty bytes s h = step_same text _ s (take_gives n b m empty _ _ h)
 
-  piece_within : (text : List ℕ) (b : Building) (m : Mark) (empty : Bool) (bytes : List ℕ) → IsWithin n b → After (with_piece read text b m empty bytes)
+  piece_within : (text : List ℕ) (b : Building) (m : Piece) (empty : Bool) (bytes : List ℕ) → IsWithin n b → After (with_piece read text b m empty bytes)
   unfolding with_piece
   piece_within text b m empty bytes h = step_within text _ (take_gives n b m empty _ _ h)
 
@@ -237,28 +237,28 @@ module _ (n size : ℕ) (read other : Reader) (agree : Agree (n + size) read oth
   then_within (Ok b) f g h e = e b h
   then_within (Err x) f g h e = refl
 
-  pieces_same : (text : List ℕ) → length text ≤ size → (ms : List Mark) (b : Building) (bytes : List ℕ) → IsWithin n b → with_pieces read text b ms bytes ≡ with_pieces other text b ms bytes
+  pieces_same : (text : List ℕ) → length text ≤ size → (ms : List Piece) (b : Building) (bytes : List ℕ) → IsWithin n b → with_pieces read text b ms bytes ≡ with_pieces other text b ms bytes
   pieces_same text s [] b bytes h = refl
   pieces_same text s (m ∷ ms) b bytes h =
       then_within (with_piece read text b m (begins_closed ms) bytes) (λ c. with_pieces read text c ms (behind_piece m bytes)) (λ c. with_pieces other text c ms (behind_piece m bytes))
       (piece_within text b m (begins_closed ms) bytes h) (λ c k. pieces_same text s ms c (behind_piece m bytes) k)
       ∙ ap (λ o. and_then o (λ c. with_pieces other text c ms (behind_piece m bytes))) (piece_same text b m (begins_closed ms) bytes s h)
 
-  parts_same : (text : List ℕ) (ms : List Mark) (bytes : List ℕ) → length text ≤ size → parts_in read n text ms bytes ≡ parts_in other n text ms bytes
+  parts_same : (text : List ℕ) (ms : List Piece) (bytes : List ℕ) → length text ≤ size → parts_in read n text ms bytes ≡ parts_in other n text ms bytes
   unfolding parts_in
   parts_same text ms bytes s =
-      ap (λ o. and_then o (λ b. Ok (whole b))) (pieces_same text s ms (begun n) bytes (record { left = omega arith; frames = tt; skip = tt }))
+      ap (λ o. and_then o (λ b. Ok (whole b))) (pieces_same text s ms (empty_building n) bytes (record { left = omega arith; frames = tt; skip = tt }))
 
-  word_by : (text : List ℕ) (ms : List Mark) (span : Span) (front : List ℕ) (o : Option ℕ) → length text ≤ size → leaf_by read n text ms span front o ≡ leaf_by other n text ms span front o
-  word_by text ms span front None s =
-      ap (λ o. and_then o (λ parts. Ok (plain_leaf ms front parts (text_between text span.start span.«end»)))) (parts_same text ms (drop span.start text) s)
-  word_by text ms span front (Some k) s =
-      ap (λ o. and_then o (λ value. Ok (assignment_leaf front k value (text_between text span.start span.«end»))))
+  word_by : (text : List ℕ) (ms : List Piece) (span : Span) (prefix : List ℕ) (o : Option ℕ) → length text ≤ size → leaf_by read n text ms span prefix o ≡ leaf_by other n text ms span prefix o
+  word_by text ms span prefix None s =
+      ap (λ o. and_then o (λ parts. Ok (plain_leaf ms prefix parts (text_between text span.start span.«end»)))) (parts_same text ms (drop span.start text) s)
+  word_by text ms span prefix (Some k) s =
+      ap (λ o. and_then o (λ value. Ok (assignment_leaf prefix k value (text_between text span.start span.«end»))))
       (parts_same text (drop (suc k) ms) (behind_pieces (take (suc k) ms) (drop span.start text)) s)
 
-  word_same : (text : List ℕ) (ms : List Mark) (span : Span) → length text ≤ size → word_leaf read n text ms span ≡ word_leaf other n text ms span
+  word_same : (text : List ℕ) (ms : List Piece) (span : Span) → length text ≤ size → word_leaf read n text ms span ≡ word_leaf other n text ms span
   unfolding word_leaf
-  word_same text ms span s = word_by text ms span (literal_front ms) (name_size (literal_front ms)) s
+  word_same text ms span s = word_by text ms span (literal_prefix ms) (name_size (literal_prefix ms)) s
 
   leaf_same : (text : List ℕ) (kind : TokenKind) (span : Span) → length text ≤ size → leaf_of read n text kind span ≡ leaf_of other n text kind span
   leaf_same text (TokenKind.Operator o) span s = refl
@@ -269,11 +269,11 @@ module _ (n size : ℕ) (read other : Reader) (agree : Agree (n + size) read oth
   body_same : (bytes : List ℕ) → length bytes ≤ size → expanded_body read n bytes ≡ expanded_body other n bytes
   unfolding expanded_body
   body_same bytes s =
-      ap (λ o. and_then o (λ parts. unless (front_of bytes).fault parts)) (parts_same bytes (front_of bytes).pieces bytes s)
+      ap (λ o. and_then o (λ parts. unless (prefix_of bytes).fault parts)) (parts_same bytes (prefix_of bytes).pieces bytes s)
 
   document_same : (d : Document) → length d.text ≤ size → document_parts read n d ≡ document_parts other n d
   unfolding document_parts
-  document_same d s = ap (λ o. if d.is_quoted then Ok (parts_of (ended [] d.text)) else fault_moved (λ at. place_at d at) o) (body_same d.text s)
+  document_same d s = ap (λ o. if d.is_quoted then Ok (parts_of (with_literal [] d.text)) else fault_moved (λ at. place_at d at) o) (body_same d.text s)
 
   documents_same : (ds : List Document) (bodies : List Parts) → DocumentsFit size ds → with_documents read n bodies ds ≡ with_documents other n bodies ds
   documents_same [] bodies s = refl
@@ -366,7 +366,7 @@ text_fixed (suc left) text =
     let e : suc (left + length text) ≡ suc left + length text = omega arith in
     program_same (suc left) (programs (suc left + length text)) read_text text (subst (λ d. Agree d (programs d) read_text) e (agrees (left + length text)))
 
-pub text_defined : (left : ℕ) (text : List ℕ) (answer : Result Complete PartFault) → (read_text left text ≡ answer) ↔ IsProgram read_text left text answer
+pub text_defined : (left : ℕ) (text : List ℕ) (answer : Result CompoundList PartFault) → (read_text left text ≡ answer) ↔ IsProgram read_text left text answer
 text_defined left text answer =
     let p = program_defined read_text left text answer in
     ((λ h. p.0 (sym (text_fixed left text) ∙ h)), (λ h. text_fixed left text ∙ p.1 h))

@@ -9,9 +9,9 @@ use Rattle.sh_token_grammar.specs.declared.class.TokenClass.TheVariants as class
 use Rattle.sh_token_grammar.specs.Classes.{class_number, special_names, is_special_name, control_class, conditional_class, loop_class, or_else, reserved_class, word_class, class_of_text}
 use Rattle.sh_base.specs.Names.{is_name}
 use Rattle.sh_token_grammar.specs.Shell.{names}
-use Rattle.sh_token_pieces.specs.declared.mark.Mark.{Mark}
+use Rattle.sh_token_pieces.specs.declared.piece.Piece.{Piece}
 use Rattle.sh_token_pieces.specs.declared.operator.Operator.{Operator}
-use Rattle.sh_token_pieces.specs.TokenClasses.{class_of_operator, class_of_word, literal_front, is_byte, assigns, equals_place, is_name_before}
+use Rattle.sh_token_pieces.specs.TokenClasses.{class_of_operator, class_of_word, literal_prefix, is_byte, assigns, equals_place, is_name_before}
 use Rattle.sh_token.specs.declared.token.TokenKind.{TokenKind}
 use Rattle.sh_syntax.specs.declared.tree.Parts.{Parts}
 use Rattle.sh_syntax.specs.declared.tree.Word.{Word}
@@ -112,10 +112,10 @@ text_akin : (text : List ℕ) → Akin text (class_of_text text)
 text_akin text = class_akin text (reserved_class text) (reserved_akin text)
 
 -- a word
-not_assigned : (front : List ℕ) (o : Option ℕ) (b : Bool) → is_name_before front o ≡ b → (if b then o else None) ≡ None → b ≡ false
-not_assigned front o false e h = refl
-not_assigned front None true e h = absurd (cc)
-not_assigned front (Some k) true e h = absurd (cc)
+not_assigned : (prefix : List ℕ) (o : Option ℕ) (b : Bool) → is_name_before prefix o ≡ b → (if b then o else None) ≡ None → b ≡ false
+not_assigned prefix o false e h = refl
+not_assigned prefix None true e h = absurd (cc)
+not_assigned prefix (Some k) true e h = absurd (cc)
 
 assigned : (o : Option ℕ) (size : ℕ) (b : Bool) → (if b then o else None) ≡ Some size → b ≡ true
 assigned o size true h = refl
@@ -141,15 +141,15 @@ assignment_fits text true true a = refl
 assignment_fits text false true a = refl
 assignment_fits text bytes false a = absurd (cc)
 
-plain_leaf_fits : (ms : List Mark) (parts : Parts) (source : List ℕ) → assigns (literal_front ms) ≡ false
-    → fits (class_number (class_of_word false ms)) (plain_leaf ms (literal_front ms) parts source) ≡ true
+plain_leaf_fits : (ms : List Piece) (parts : Parts) (source : List ℕ) → assigns (literal_prefix ms) ≡ false
+    → fits (class_number (class_of_word false ms)) (plain_leaf ms (literal_prefix ms) parts source) ≡ true
 unfolding plain_leaf
-plain_leaf_fits ms parts source a = plain_fits (literal_front ms) _ (list_all is_byte ms) (is_name (literal_front ms)) (assigns (literal_front ms)) refl a
+plain_leaf_fits ms parts source a = plain_fits (literal_prefix ms) _ (list_all is_byte ms) (is_name (literal_prefix ms)) (assigns (literal_prefix ms)) refl a
 
-assignment_leaf_fits : (ms : List Mark) (size : ℕ) (value : Parts) (source : List ℕ) → assigns (literal_front ms) ≡ true
-    → fits (class_number (class_of_word false ms)) (assignment_leaf (literal_front ms) size value source) ≡ true
+assignment_leaf_fits : (ms : List Piece) (size : ℕ) (value : Parts) (source : List ℕ) → assigns (literal_prefix ms) ≡ true
+    → fits (class_number (class_of_word false ms)) (assignment_leaf (literal_prefix ms) size value source) ≡ true
 unfolding assignment_leaf
-assignment_leaf_fits ms size value source a = assignment_fits (literal_front ms) (list_all is_byte ms) (assigns (literal_front ms)) a
+assignment_leaf_fits ms size value source a = assignment_fits (literal_prefix ms) (list_all is_byte ms) (assigns (literal_prefix ms)) a
 
 -- what comes before has a value, where a value is made of it
 pub record Made {A B : Type 0} (o : Result A PartFault) (f : A → Result B PartFault) (y : B) : Type 0 where
@@ -173,21 +173,21 @@ made_fits : (number : ℕ) (found : Result Parts PartFault) (make : Parts → Le
 made_fits number (Ok p) make l f h = subst (λ x. fits number x ≡ true) (ok_same (make p) l h) (f p)
 made_fits number (Err e) make l f h = absurd (cc)
 
-word_fits : (read : Reader) (left : ℕ) (text : List ℕ) (ms : List Mark) (span : Span) (size : Option ℕ) (l : Leaf) → name_size (literal_front ms) ≡ size
-    → leaf_by read left text ms span (literal_front ms) size ≡ Ok l → fits (class_number (class_of_word false ms)) l ≡ true
+word_fits : (read : Reader) (left : ℕ) (text : List ℕ) (ms : List Piece) (span : Span) (size : Option ℕ) (l : Leaf) → name_size (literal_prefix ms) ≡ size
+    → leaf_by read left text ms span (literal_prefix ms) size ≡ Ok l → fits (class_number (class_of_word false ms)) l ≡ true
 word_fits read left text ms span None l e h =
     made_fits (class_number (class_of_word false ms)) (parts_in read left text ms (drop span.start text))
-    (λ p. plain_leaf ms (literal_front ms) p (text_between text span.start span.«end»)) l
-    (λ p. plain_leaf_fits ms p (text_between text span.start span.«end») (not_assigned (literal_front ms) (equals_place (literal_front ms)) (assigns (literal_front ms)) refl e)) h
+    (λ p. plain_leaf ms (literal_prefix ms) p (text_between text span.start span.«end»)) l
+    (λ p. plain_leaf_fits ms p (text_between text span.start span.«end») (not_assigned (literal_prefix ms) (equals_place (literal_prefix ms)) (assigns (literal_prefix ms)) refl e)) h
 word_fits read left text ms span (Some size) l e h =
     made_fits (class_number (class_of_word false ms)) (parts_in read left text (drop (suc size) ms) (behind_pieces (take (suc size) ms) (drop span.start text)))
-    (λ p. assignment_leaf (literal_front ms) size p (text_between text span.start span.«end»)) l
-    (λ p. assignment_leaf_fits ms size p (text_between text span.start span.«end») (assigned (equals_place (literal_front ms)) size (assigns (literal_front ms)) e)) h
+    (λ p. assignment_leaf (literal_prefix ms) size p (text_between text span.start span.«end»)) l
+    (λ p. assignment_leaf_fits ms size p (text_between text span.start span.«end») (assigned (equals_place (literal_prefix ms)) size (assigns (literal_prefix ms)) e)) h
 
-word_leaf_fits : (read : Reader) (left : ℕ) (text : List ℕ) (ms : List Mark) (span : Span) (l : Leaf)
+word_leaf_fits : (read : Reader) (left : ℕ) (text : List ℕ) (ms : List Piece) (span : Span) (l : Leaf)
     → word_leaf read left text ms span ≡ Ok l → fits (class_number (class_of_word false ms)) l ≡ true
 unfolding word_leaf
-word_leaf_fits read left text ms span l h = word_fits read left text ms span (name_size (literal_front ms)) l refl h
+word_leaf_fits read left text ms span l h = word_fits read left text ms span (name_size (literal_prefix ms)) l refl h
 
 operator_fits : (o : Operator) → fits (class_number (class_of_operator o)) (operator_leaf o) ≡ true
 operator_fits Operator.And = refl

@@ -3,24 +3,24 @@ use Rattle.std.proofs.Common.{◌≡◌, inl, inr, Bool, true, false, IsTrue, �
 use Rattle.std.specs.Option.{unwrap_or}
 use Rattle.sh_grammar.specs.declared.Action.{Action}
 use Rattle.sh_grammar.specs.declared.Token.{Token as Input}
-use Rattle.sh_grammar.specs.Computed.{is_whole, is_front}
+use Rattle.sh_grammar.specs.Computed.{is_whole, is_prefix}
 use Rattle.sh_grammar.specs.Derived.{tree_of}
 use Rattle.sh_grammar.specs.Grammar.{Tree}
 use Rattle.sh_grammar.specs.Leftmost.{preorder}
 use Rattle.sh_grammar.specs.Passes.{IsPredictive}
 use Rattle.sh_grammar.specs.Tabulation.{Tabulation}
 use Rattle.sh_grammar.specs.Text.{IsText, BeginsText, IsTreeOf}
-use Rattle.sh_grammar.proofs.Computing.{whole_text, front_text}
+use Rattle.sh_grammar.proofs.Computing.{whole_text, prefix_text}
 use Rattle.sh_grammar.proofs.Deriving.{tree_computed}
 use Rattle.sh_token_grammar.specs.Shell.{complete as complete_commands, substitution}
 use Rattle.sh_token_grammar.proofs.Passing.{complete_predictive, substitution_predictive}
-use Rattle.sh_syntax.specs.declared.tree.Complete.{Complete}
+use Rattle.sh_syntax.specs.declared.tree.CompoundList.{CompoundList}
 use Rattle.sh_syntax.specs.declared.tree.ListItem.{ListItem}
 use Rattle.sh_syntax.specs.declared.tree.Parts.{Parts}
 use Rattle.sh_parse_actions.specs.declared.leaf.Leaf.{Leaf}
-use Rattle.sh_parse_actions.specs.Forms.{complete}
+use Rattle.sh_parse_actions.specs.Forms.{compound_list}
 use Rattle.sh_parse_trees.specs.Meaning.{syntax_of, IsSyntaxWhere}
-use Rattle.sh_parse_commands.specs.Judging.{IsShell, Judged, with_input, takes, are_whole, filled, tree_by, tree_where}
+use Rattle.sh_parse_commands.specs.Judging.{IsShell, Judged, with_input, takes, are_whole, with_bodies, tree_by, tree_where}
 
 same_truth : (a b : Bool) (P : Type 0) → (IsTrue a ↔ P) → (IsTrue b ↔ P) → a ≡ b
 same_truth true true P h k = refl
@@ -38,9 +38,9 @@ judged d tokens ls bs = record { grammar = d; tokens = tokens; leaves = ls; bodi
 pub whole_told : (d : Tabulation) (tokens : List Input) (ls : List Leaf) (bs : List Parts) (b : Bool) (j : Judged) → j ≡ judged d tokens ls bs → IsShell d → (IsTrue b ↔ IsText d tokens) → b ≡ are_whole j
 whole_told d tokens ls bs b j e s h = same_truth b (is_whole d tokens) (IsText d tokens) h (whole_text d (shell_predictive d s) tokens) ∙ ap are_whole (sym e)
 
-pub front_told : (d : Tabulation) (tokens : List Input) (ls : List Leaf) (bs : List Parts) (input : Input) (b : Bool) (j : Judged) → j ≡ judged d tokens ls bs → IsShell d → (IsTrue b ↔ BeginsText d (tokens ++ input ∷ [])) → b ≡ takes (with_input j input)
-front_told d tokens ls bs input b j e s h =
-    same_truth b (is_front d (tokens ++ input ∷ [])) (BeginsText d (tokens ++ input ∷ [])) h (front_text d (shell_predictive d s) (tokens ++ input ∷ [])) ∙ ap (λ x. takes (with_input x input)) (sym e)
+pub prefix_told : (d : Tabulation) (tokens : List Input) (ls : List Leaf) (bs : List Parts) (input : Input) (b : Bool) (j : Judged) → j ≡ judged d tokens ls bs → IsShell d → (IsTrue b ↔ BeginsText d (tokens ++ input ∷ [])) → b ≡ takes (with_input j input)
+prefix_told d tokens ls bs input b j e s h =
+    same_truth b (is_prefix d (tokens ++ input ∷ [])) (BeginsText d (tokens ++ input ∷ [])) h (prefix_text d (shell_predictive d s) (tokens ++ input ∷ [])) ∙ ap (λ x. takes (with_input x input)) (sym e)
 
 -- where the tokens are no text there is no tree
 not_whole : (d : Tabulation) (tokens : List Input) (b : Bool) → is_whole d tokens ≡ b → IsShell d → (IsText d tokens → ⊥) → b ≡ false
@@ -58,7 +58,7 @@ pub record Derived (d : Tabulation) (tokens : List Input) (actions : List Action
   pub same : preorder tree ≡ actions
 
 -- the syntax that is found is that of the one derivation
-by_grammar : (d : Tabulation) (tokens : List Input) (actions : List Action) (leaves : List Leaf) (found : Option Complete) → IsShell d → (t : Derived d tokens actions)
+by_grammar : (d : Tabulation) (tokens : List Input) (actions : List Action) (leaves : List Leaf) (found : Option CompoundList) → IsShell d → (t : Derived d tokens actions)
     → IsSyntaxWhere complete_commands actions leaves found → IsSyntaxWhere substitution actions leaves found → found ≡ syntax_of t.tree leaves
 by_grammar d tokens actions leaves found (inl e) t c s = c tokens t.tree (subst (λ x. IsTreeOf x tokens t.tree) e t.is_tree) t.same
 by_grammar d tokens actions leaves found (inr e) t c s = s tokens t.tree (subst (λ x. IsTreeOf x tokens t.tree) e t.is_tree) t.same
@@ -66,20 +66,20 @@ by_grammar d tokens actions leaves found (inr e) t c s = s tokens t.tree (subst 
 whole_by : (d : Tabulation) (tokens : List Input) (actions : List Action) → IsShell d → (t : Derived d tokens actions) → is_whole d tokens ≡ true
 whole_by d tokens actions s t = (whole_text d (shell_predictive d s) tokens).1 (t.tree, t.is_tree)
 
-pub tree_found : (d : Tabulation) (tokens : List Input) (ls : List Leaf) (bs : List Parts) (actions : List Action) (leaves : List Leaf) (found : Option Complete) (j : Judged) → j ≡ judged d tokens ls bs → IsShell d
-    → Derived d tokens actions → IsSyntaxWhere complete_commands actions leaves found → IsSyntaxWhere substitution actions leaves found → leaves ≡ filled ls bs
-    → Some (unwrap_or found (complete [])) ≡ tree_where j
+pub tree_found : (d : Tabulation) (tokens : List Input) (ls : List Leaf) (bs : List Parts) (actions : List Action) (leaves : List Leaf) (found : Option CompoundList) (j : Judged) → j ≡ judged d tokens ls bs → IsShell d
+    → Derived d tokens actions → IsSyntaxWhere complete_commands actions leaves found → IsSyntaxWhere substitution actions leaves found → leaves ≡ with_bodies ls bs
+    → Some (unwrap_or found (compound_list [])) ≡ tree_where j
 unfolding tree_by
 tree_found d tokens ls bs actions leaves found j e s t c u l =
     let is : found ≡ syntax_of t.tree leaves = by_grammar d tokens actions leaves found s t c u in
     let one : tree_of d tokens ≡ t.tree = tree_computed d (shell_predictive d s) tokens t.tree t.is_tree in
-    let same : found ≡ syntax_of (tree_of d tokens) (filled ls bs) = is ∙ ap (λ x. syntax_of t.tree x) l ∙ ap (λ x. syntax_of x (filled ls bs)) (sym one) in
-    ap (λ x. Some (unwrap_or x (complete []))) same
+    let same : found ≡ syntax_of (tree_of d tokens) (with_bodies ls bs) = is ∙ ap (λ x. syntax_of t.tree x) l ∙ ap (λ x. syntax_of x (with_bodies ls bs)) (sym one) in
+    ap (λ x. Some (unwrap_or x (compound_list []))) same
     ∙ ap (λ b. if b then Some (tree_by (judged d tokens ls bs)) else None) (sym (whole_by d tokens actions s t))
     ∙ ap tree_where (sym e)
 
-pub some_tree : (found : Option Complete) (tree : Complete) (t : Option Complete) → found ≡ Some tree → Some (unwrap_or found (complete [])) ≡ t → Some tree ≡ t
-some_tree found tree t e h = ap (λ z. Some (unwrap_or z (complete []))) (sym e) ∙ h
+pub some_tree : (found : Option CompoundList) (tree : CompoundList) (t : Option CompoundList) → found ≡ Some tree → Some (unwrap_or found (compound_list [])) ≡ t → Some tree ≡ t
+some_tree found tree t e h = ap (λ z. Some (unwrap_or z (compound_list []))) (sym e) ∙ h
 
-pub none_found : (found : Option Complete) (items : List ListItem) (t : Option Complete) → found ≡ None → items ≡ [] → Some (unwrap_or found (complete [])) ≡ t → Some (complete items) ≡ t
-none_found found items t e n h = ap (λ z. Some (complete z)) n ∙ ap (λ z. Some (unwrap_or z (complete []))) (sym e) ∙ h
+pub none_found : (found : Option CompoundList) (items : List ListItem) (t : Option CompoundList) → found ≡ None → items ≡ [] → Some (unwrap_or found (compound_list [])) ≡ t → Some (compound_list items) ≡ t
+none_found found items t e n h = ap (λ z. Some (compound_list z)) n ∙ ap (λ z. Some (unwrap_or z (compound_list []))) (sym e) ∙ h

@@ -2,8 +2,8 @@
 use Rattle.std.proofs.Common.{◌≡◌, ◌≤◌, nat_lt, Bool, true, false, List, [], ◌∷◌, ◌++◌, Result, Ok, Err, refl, sym, ap, subst, ◌∙◌, if◌then◌else◌}
 use Rattle.std.proofs.lemmas.Bool.{ltb-true, ltb-false, lt-ltb, le-ltb, false_from_ne_true}
 use Rattle.std.proofs.lemmas.List.{map-append}
-use Rattle.sh_grammar.specs.Computed.{is_front}
-use Rattle.sh_grammar.proofs.Computing.{front_text}
+use Rattle.sh_grammar.specs.Computed.{is_prefix}
+use Rattle.sh_grammar.proofs.Computing.{prefix_text}
 use Rattle.sh_syntax.specs.declared.tree.Parts.{Parts}
 use Rattle.sh_parse_actions.specs.declared.leaf.Leaf.{Leaf}
 use Rattle.sh_parse_documents.specs.declared.item.Item.{Item}
@@ -14,24 +14,24 @@ use Rattle.sh_parse_commands.specs.Inputs.{input_of, inputs_of}
 use Rattle.sh_parse_commands.specs.Results.{and_then}
 use Rattle.sh_parse_commands.specs.Judging.{IsShell, Judged, taken_item, with_item}
 use Rattle.sh_parse_documents.specs.Stream.{waiting_behind}
-use Rattle.sh_parse_commands.specs.Defined.{Judge, AreFront, opened, leaf_at, bodies_at, IsTaken, HasFault, refused, too_deep, in_word, in_body}
+use Rattle.sh_parse_commands.specs.Defined.{Judge, ArePrefix, opened, leaf_at, bodies_at, IsTaken, HasFault, refused, too_deep, in_word, in_body}
 use Rattle.sh_parse_commands.proofs.Shells.{shell_predictive}
 
 -- tokens that are taken, with these leaves and bodies
 abbrev pub behind : Judge → List Item → List Leaf → List Parts → Judged
 behind g tokens ls bs = record { grammar = g.grammar; tokens = inputs_of tokens; leaves = ls; bodies = bs }
 
-is_front_text : (g : Judge) (tokens : List Item) → IsShell g.grammar → is_front g.grammar (inputs_of tokens) ≡ true → AreFront g tokens
-is_front_text g tokens s h = (front_text g.grammar (shell_predictive g.grammar s) (inputs_of tokens)).0 h
+is_prefix_text : (g : Judge) (tokens : List Item) → IsShell g.grammar → is_prefix g.grammar (inputs_of tokens) ≡ true → ArePrefix g tokens
+is_prefix_text g tokens s h = (prefix_text g.grammar (shell_predictive g.grammar s) (inputs_of tokens)).0 h
 
-front_is_true : (g : Judge) (tokens : List Item) → IsShell g.grammar → AreFront g tokens → is_front g.grammar (inputs_of tokens) ≡ true
-front_is_true g tokens s h = (front_text g.grammar (shell_predictive g.grammar s) (inputs_of tokens)).1 h
+prefix_is_true : (g : Judge) (tokens : List Item) → IsShell g.grammar → ArePrefix g tokens → is_prefix g.grammar (inputs_of tokens) ≡ true
+prefix_is_true g tokens s h = (prefix_text g.grammar (shell_predictive g.grammar s) (inputs_of tokens)).1 h
 
-not_front_text : (g : Judge) (tokens : List Item) → IsShell g.grammar → is_front g.grammar (inputs_of tokens) ≡ false → AreFront g tokens → ⊥
-not_front_text g tokens s h f = let t : is_front g.grammar (inputs_of tokens) ≡ true = front_is_true g tokens s f in cc
+not_prefix_text : (g : Judge) (tokens : List Item) → IsShell g.grammar → is_prefix g.grammar (inputs_of tokens) ≡ false → ArePrefix g tokens → ⊥
+not_prefix_text g tokens s h f = let t : is_prefix g.grammar (inputs_of tokens) ≡ true = prefix_is_true g tokens s f in cc
 
-front_is_false : (g : Judge) (tokens : List Item) → IsShell g.grammar → (AreFront g tokens → ⊥) → is_front g.grammar (inputs_of tokens) ≡ false
-front_is_false g tokens s h = false_from_ne_true (is_front g.grammar (inputs_of tokens)) (λ x. h (is_front_text g tokens s x))
+prefix_is_false : (g : Judge) (tokens : List Item) → IsShell g.grammar → (ArePrefix g tokens → ⊥) → is_prefix g.grammar (inputs_of tokens) ≡ false
+prefix_is_false g tokens s h = false_from_ne_true (is_prefix g.grammar (inputs_of tokens)) (λ x. h (is_prefix_text g tokens s x))
 
 -- one token more
 abbrev made : (Leaf → List Parts → Judged) → Result Leaf PartFault → Result (List Parts) PartFault → Result Judged PartFault
@@ -71,14 +71,14 @@ module _ (g : Judge) (before : List Item) (t : Item) (ls : List Leaf) (bs : List
   abbrev answered : Bool → Bool → Result Leaf PartFault → Result (List Parts) PartFault → Result Judged PartFault
   answered b c o p = answer make (fault.TooDeep t.token.span.start) (fault.Refused t.token.span.start) b c o p
 
-  abbrev front : Bool
-  front = is_front g.grammar (inputs_of (before ++ t ∷ []))
+  abbrev prefix : Bool
+  prefix = is_prefix g.grammar (inputs_of (before ++ t ∷ []))
 
   abbrev deep : Bool
   deep = nat_lt g.left (opened g (before ++ t ∷ []))
 
   abbrev by_parts : Result Judged PartFault
-  by_parts = answered front deep (leaf_at g before t) (bodies_at g before t)
+  by_parts = answered prefix deep (leaf_at g before t) (bodies_at g before t)
 
   next_is : judged_next ≡ by_parts
   unfolding with_item
@@ -96,37 +96,37 @@ module _ (g : Judge) (before : List Item) (t : Item) (ls : List Leaf) (bs : List
   Told (Ok k) = Taken k
   Told (Err f) = HasFault g before t f
 
-  parts_told : AreFront g (before ++ t ∷ []) → opened g (before ++ t ∷ []) ≤ g.left → (o : Result Leaf PartFault) (p : Result (List Parts) PartFault)
+  parts_told : ArePrefix g (before ++ t ∷ []) → opened g (before ++ t ∷ []) ≤ g.left → (o : Result Leaf PartFault) (p : Result (List Parts) PartFault)
       → leaf_at g before t ≡ o → bodies_at g before t ≡ p → Told (made make o p)
-  parts_told f l (Ok leaf) (Ok here) e d = record { leaf = leaf; here = here; taken = record { front = f; levels = l; leaf = e; bodies = d }; is = refl }
+  parts_told f l (Ok leaf) (Ok here) e d = record { leaf = leaf; here = here; taken = record { prefix = f; levels = l; leaf = e; bodies = d }; is = refl }
   parts_told f l (Ok leaf) (Err wrong) e d = in_body f l leaf e d
   parts_told f l (Err wrong) p e d = in_word f l e
 
-  levels_told : AreFront g (before ++ t ∷ []) → (c : Bool) → deep ≡ c → Told (answered true c (leaf_at g before t) (bodies_at g before t))
+  levels_told : ArePrefix g (before ++ t ∷ []) → (c : Bool) → deep ≡ c → Told (answered true c (leaf_at g before t) (bodies_at g before t))
   levels_told f true e = too_deep f (ltb-true g.left (opened g (before ++ t ∷ [])) e) refl
   levels_told f false e = parts_told f (ltb-false g.left (opened g (before ++ t ∷ [])) e) (leaf_at g before t) (bodies_at g before t) refl refl
 
-  front_told : IsShell g.grammar → (b : Bool) → front ≡ b → Told (answered b deep (leaf_at g before t) (bodies_at g before t))
-  front_told s true e = levels_told (is_front_text g (before ++ t ∷ []) s e) deep refl
-  front_told s false e = refused (not_front_text g (before ++ t ∷ []) s e) refl
+  prefix_told : IsShell g.grammar → (b : Bool) → prefix ≡ b → Told (answered b deep (leaf_at g before t) (bodies_at g before t))
+  prefix_told s true e = levels_told (is_prefix_text g (before ++ t ∷ []) s e) deep refl
+  prefix_told s false e = refused (not_prefix_text g (before ++ t ∷ []) s e) refl
 
   pub next_told : IsShell g.grammar → Told judged_next
-  next_told s = subst (λ x. Told x) (sym next_is) (front_told s front refl)
+  next_told s = subst (λ x. Told x) (sym next_is) (prefix_told s prefix refl)
 
   pub next_taken : IsShell g.grammar → (l : Leaf) (here : List Parts) → IsTaken g before t l here → judged_next ≡ Ok (make l here)
   next_taken s l here h =
-      next_is ∙ made_ok make _ _ front deep (leaf_at g before t) (bodies_at g before t) l here (front_is_true g (before ++ t ∷ []) s h.front)
+      next_is ∙ made_ok make _ _ prefix deep (leaf_at g before t) (bodies_at g before t) l here (prefix_is_true g (before ++ t ∷ []) s h.prefix)
       (le-ltb g.left (opened g (before ++ t ∷ [])) h.levels) h.leaf h.bodies
 
   pub next_fault : IsShell g.grammar → (f : PartFault) → HasFault g before t f → judged_next ≡ Err f
   next_fault s f (refused n e) =
-      next_is ∙ (made_wrong make _ _ front deep (leaf_at g before t) (bodies_at g before t) (front_is_false g (before ++ t ∷ []) s n) ∙ ap Err (sym e))
+      next_is ∙ (made_wrong make _ _ prefix deep (leaf_at g before t) (bodies_at g before t) (prefix_is_false g (before ++ t ∷ []) s n) ∙ ap Err (sym e))
   next_fault s f (too_deep h l e) =
-      next_is ∙ (made_deep make _ _ front deep (leaf_at g before t) (bodies_at g before t) (front_is_true g (before ++ t ∷ []) s h)
+      next_is ∙ (made_deep make _ _ prefix deep (leaf_at g before t) (bodies_at g before t) (prefix_is_true g (before ++ t ∷ []) s h)
       (lt-ltb g.left (opened g (before ++ t ∷ [])) l) ∙ ap Err (sym e))
   next_fault s f (in_word h l e) =
-      next_is ∙ made_no_leaf make _ _ front deep (leaf_at g before t) (bodies_at g before t) f (front_is_true g (before ++ t ∷ []) s h)
+      next_is ∙ made_no_leaf make _ _ prefix deep (leaf_at g before t) (bodies_at g before t) f (prefix_is_true g (before ++ t ∷ []) s h)
       (le-ltb g.left (opened g (before ++ t ∷ [])) l) e
   next_fault s f (in_body h l leaf e d) =
-      next_is ∙ made_no_bodies make _ _ front deep (leaf_at g before t) (bodies_at g before t) leaf f (front_is_true g (before ++ t ∷ []) s h)
+      next_is ∙ made_no_bodies make _ _ prefix deep (leaf_at g before t) (bodies_at g before t) leaf f (prefix_is_true g (before ++ t ∷ []) s h)
       (le-ltb g.left (opened g (before ++ t ∷ [])) l) e d

@@ -11,12 +11,12 @@ use Rattle.sh_grammar.specs.Tabulation.{Tabulation}
 use Rattle.sh_grammar.specs.Text.{IsTreeOf}
 use Rattle.sh_grammar.proofs.Computing.{tree_once_only, whole_text}
 use Rattle.sh_grammar.proofs.Deriving.{tree_computed}
-use Rattle.sh_syntax.specs.declared.tree.Complete.{Complete}
+use Rattle.sh_syntax.specs.declared.tree.CompoundList.{CompoundList}
 use Rattle.sh_syntax.specs.declared.tree.Parts.{Parts}
 use Rattle.sh_token.specs.declared.token.TokenKind.{TokenKind}
 use Rattle.sh_parse_actions.specs.declared.leaf.Leaf.{Leaf}
 use Rattle.sh_parse_actions.specs.declared.leaf.Leaf.TheVariants as leaf
-use Rattle.sh_parse_actions.specs.Forms.{complete}
+use Rattle.sh_parse_actions.specs.Forms.{compound_list}
 use Rattle.sh_parse_trees.specs.Fitting.{FittingHaveSyntax, all_fit, fits}
 use Rattle.sh_parse_trees.specs.Meaning.{syntax_of}
 use Rattle.sh_parse_trees.proofs.Fitted.{command_syntax, substitution_syntax}
@@ -29,7 +29,7 @@ use Rattle.sh_parse_words.specs.declared.fault.PartFault.TheVariants as fault
 use Rattle.sh_parse_commands.specs.Inputs.{input_of, inputs_of}
 use Rattle.sh_parse_commands.specs.Results.{and_then}
 use Rattle.sh_parse_commands.specs.Words.{Reader}
-use Rattle.sh_parse_commands.specs.Judging.{IsShell, Judged, none_of, with_items, with_body, bodies_behind, filled, are_no, tree_by}
+use Rattle.sh_parse_commands.specs.Judging.{IsShell, Judged, none_of, with_items, with_body, bodies_behind, with_bodies, are_no, tree_by}
 use Rattle.sh_parse_commands.specs.Programs.{ended_by, program_in}
 use Rattle.sh_parse_commands.specs.Defined.{Judge, Derive, AreTaken, AreFaultless, FirstFault, AreTree, AreTokens, EndIs, inner, IsProgram}
 use Rattle.sh_parse_commands.proofs.Fitting.{leaf_fits}
@@ -56,13 +56,13 @@ body_fits number (leaf.Word word) bs = refl
 body_fits number (leaf.Name word name) bs = refl
 body_fits number (leaf.Assignment word name parts) bs = refl
 
-filled_fit : (us : List Input) (ls : List Leaf) (bs : List Parts) → all_fit us ls ≡ true → all_fit us (filled ls bs) ≡ true
+filled_fit : (us : List Input) (ls : List Leaf) (bs : List Parts) → all_fit us ls ≡ true → all_fit us (with_bodies ls bs) ≡ true
 filled_fit [] [] bs h = refl
 filled_fit [] (l ∷ ls) bs h = absurd (cc)
 filled_fit (u ∷ us) [] bs h = absurd (cc)
 filled_fit (u ∷ us) (l ∷ ls) bs h =
     let p = both (fits u.class l) (all_fit us ls) h in
-    and_from (fits u.class (with_body l bs)) (all_fit us (filled ls (bodies_behind l bs))) (sym (body_fits u.class l bs) ∙ p.0) (filled_fit us ls (bodies_behind l bs) p.1)
+    and_from (fits u.class (with_body l bs)) (all_fit us (with_bodies ls (bodies_behind l bs))) (sym (body_fits u.class l bs) ∙ p.0) (filled_fit us ls (bodies_behind l bs) p.1)
   where
     both : (a b : Bool) → (a && b) ≡ true → (a ≡ true) × (b ≡ true)
     both true b e = (refl, e)
@@ -72,21 +72,21 @@ shell_syntax : (d : Tabulation) → IsShell d → FittingHaveSyntax d
 shell_syntax d (inl e) = subst (λ x. FittingHaveSyntax x) (sym e) command_syntax
 shell_syntax d (inr e) = subst (λ x. FittingHaveSyntax x) (sym e) substitution_syntax
 
-some_given : (o : Option Complete) (c : Complete) → is_some o ≡ true → o ≡ Some (unwrap_or o c)
+some_given : (o : Option CompoundList) (c : CompoundList) → is_some o ≡ true → o ≡ Some (unwrap_or o c)
 some_given None c h = absurd (cc)
 some_given (Some x) c h = refl
 
-by_tree : (d : Tabulation) → IsShell d → (us : List Input) (tree : Tree) (ls : List Leaf) → IsTreeOf d us tree → unwrap_or (syntax_of tree ls) (complete []) ≡ unwrap_or (syntax_of (tree_of d us) ls) (complete [])
-by_tree d s us tree ls h = ap (λ x. unwrap_or (syntax_of x ls) (complete [])) (sym (tree_computed d (shell_predictive d s) us tree h))
+by_tree : (d : Tabulation) → IsShell d → (us : List Input) (tree : Tree) (ls : List Leaf) → IsTreeOf d us tree → unwrap_or (syntax_of tree ls) (compound_list []) ≡ unwrap_or (syntax_of (tree_of d us) ls) (compound_list [])
+by_tree d s us tree ls h = ap (λ x. unwrap_or (syntax_of x ls) (compound_list [])) (sym (tree_computed d (shell_predictive d s) us tree h))
 
 -- the one derivation of tokens has their tree as its syntax
 pub tree_given : (g : Judge) → IsShell g.grammar → (tokens : List Item) (ls : List Leaf) (bs : List Parts) → AreTaken g [] tokens ls bs → AreTokens tokens
-    → (tree : Tree) → IsTreeOf g.grammar (inputs_of tokens) tree → (bodies : List Parts) → syntax_of tree (filled ls bodies) ≡ Some (tree_by (behind g tokens ls bodies))
+    → (tree : Tree) → IsTreeOf g.grammar (inputs_of tokens) tree → (bodies : List Parts) → syntax_of tree (with_bodies ls bodies) ≡ Some (tree_by (behind g tokens ls bodies))
 unfolding tree_by
 tree_given g s tokens ls bs h n tree d bodies =
-    some_given (syntax_of tree (filled ls bodies)) (complete [])
-    (shell_syntax g.grammar s (inputs_of tokens) tree (filled ls bodies) d (filled_fit (inputs_of tokens) ls bodies (taken_fit g [] tokens ls bs h n)))
-    ∙ ap Some (by_tree g.grammar s (inputs_of tokens) tree (filled ls bodies) d)
+    some_given (syntax_of tree (with_bodies ls bodies)) (compound_list [])
+    (shell_syntax g.grammar s (inputs_of tokens) tree (with_bodies ls bodies) d (filled_fit (inputs_of tokens) ls bodies (taken_fit g [] tokens ls bs h n)))
+    ∙ ap Some (by_tree g.grammar s (inputs_of tokens) tree (with_bodies ls bodies) d)
 
 pub whole_derive : (g : Judge) → IsShell g.grammar → (tokens : List Item) → is_whole g.grammar (inputs_of tokens) ≡ true → Derive g tokens
 whole_derive g s tokens h = (whole_text g.grammar (shell_predictive g.grammar s) (inputs_of tokens)).0 h
@@ -107,14 +107,14 @@ tree_found g s tokens x n h others =
     let d = whole_derive g s tokens h in
     record { faultless = x; derivation = d.0; derives = d.1; syntax = tree_given g s tokens x.leaves x.bodies x.taken n d.0 d.1 (x.bodies ++ others) }
 
-pub tree_gives : (g : Judge) → IsShell g.grammar → (tokens : List Item) (others : List Parts) (tree : Complete) (a : AreTree g tokens others tree)
+pub tree_gives : (g : Judge) → IsShell g.grammar → (tokens : List Item) (others : List Parts) (tree : CompoundList) (a : AreTree g tokens others tree)
     → tree_by (behind g tokens a.faultless.leaves (a.faultless.bodies ++ others)) ≡ tree
 unfolding tree_by
 tree_gives g s tokens others tree a =
-    sym (by_tree g.grammar s (inputs_of tokens) a.derivation (filled a.faultless.leaves (a.faultless.bodies ++ others)) a.derives)
-    ∙ ap (λ o. unwrap_or o (complete [])) a.syntax
+    sym (by_tree g.grammar s (inputs_of tokens) a.derivation (with_bodies a.faultless.leaves (a.faultless.bodies ++ others)) a.derives)
+    ∙ ap (λ o. unwrap_or o (compound_list [])) a.syntax
 
-pub tree_whole : (g : Judge) → IsShell g.grammar → (tokens : List Item) (others : List Parts) (tree : Complete) → AreTree g tokens others tree → is_whole g.grammar (inputs_of tokens) ≡ true
+pub tree_whole : (g : Judge) → IsShell g.grammar → (tokens : List Item) (others : List Parts) (tree : CompoundList) → AreTree g tokens others tree → is_whole g.grammar (inputs_of tokens) ≡ true
 tree_whole g s tokens others tree a = derive_whole g s tokens (a.derivation, a.derives)
 
 -- the same where no bodies come behind
@@ -122,7 +122,7 @@ pub tree_alone : (g : Judge) → IsShell g.grammar → (tokens : List Item) (x :
     → AreTree g tokens [] (tree_by (behind g tokens x.leaves x.bodies))
 tree_alone g s tokens x n h = subst (λ bs. AreTree g tokens [] (tree_by (behind g tokens x.leaves bs))) (append-nil x.bodies) (tree_found g s tokens x n h [])
 
-pub alone_gives : (g : Judge) → IsShell g.grammar → (tokens : List Item) (tree : Complete) (a : AreTree g tokens [] tree)
+pub alone_gives : (g : Judge) → IsShell g.grammar → (tokens : List Item) (tree : CompoundList) (a : AreTree g tokens [] tree)
     → tree_by (behind g tokens a.faultless.leaves a.faultless.bodies) ≡ tree
 alone_gives g s tokens tree a = ap (λ bs. tree_by (behind g tokens a.faultless.leaves bs)) (sym (append-nil a.faultless.bodies)) ∙ tree_gives g s tokens [] tree a
 
@@ -166,10 +166,10 @@ tokens_of e text = tokens_from (suc (length text)) e text nothing 0
 
 -- what a text is that ends so
 module _ (g : Judge) (s : IsShell g.grammar) (tokens : List Item) where
-  abbrev ends : Ending → Result Complete PartFault
+  abbrev ends : Ending → Result CompoundList PartFault
   ends ending = and_then (judged g tokens) (λ j. ended_by g.left g.text (waiting_behind nothing tokens) j ending)
 
-  abbrev Is : Ending → Result Complete PartFault → Type 0
+  abbrev Is : Ending → Result CompoundList PartFault → Type 0
   Is ending answer = ((f : PartFault) × FirstFault g tokens f × (answer ≡ Err f)) ⊎ (AreFaultless g tokens × EndIs g tokens ending answer)
 
   whole_told : (x : AreFaultless g tokens) → AreTokens tokens → (b : Bool) → is_whole g.grammar (inputs_of tokens) ≡ b
@@ -185,16 +185,16 @@ module _ (g : Judge) (s : IsShell g.grammar) (tokens : List Item) where
   told n ending (Ok k) (x, e) = subst (λ j. Is ending (ended_by g.left g.text (waiting_behind nothing tokens) j ending)) (sym e) (inr (x, end_told x n ending))
   told n ending (Err f) h = inl (f, h, refl)
 
-  whole_gives : (b : Bool) (tree : Complete) (wrong : PartFault) → b ≡ true → (if b then Ok tree else Err wrong) ≡ Ok tree
+  whole_gives : (b : Bool) (tree : CompoundList) (wrong : PartFault) → b ≡ true → (if b then Ok tree else Err wrong) ≡ Ok tree
   whole_gives b tree wrong e = rw e refl
 
-  whole_fails : (b : Bool) (tree : Complete) (wrong : PartFault) → b ≡ false → (if b then Ok tree else Err wrong) ≡ Err wrong
+  whole_fails : (b : Bool) (tree : CompoundList) (wrong : PartFault) → b ≡ false → (if b then Ok tree else Err wrong) ≡ Err wrong
   whole_fails b tree wrong e = rw e refl
 
   with_end : (x : AreFaultless g tokens) (ending : Ending) → ends ending ≡ ended_by g.left g.text (waiting_behind nothing tokens) (behind g tokens x.leaves x.bodies) ending
   with_end x ending = ap (λ o. and_then o (λ j. ended_by g.left g.text (waiting_behind nothing tokens) j ending)) (faultless_judged g s tokens x)
 
-  end_said : (x : AreFaultless g tokens) (ending : Ending) (answer : Result Complete PartFault) → EndIs g tokens ending answer → ends ending ≡ answer
+  end_said : (x : AreFaultless g tokens) (ending : Ending) (answer : Result CompoundList PartFault) → EndIs g tokens ending answer → ends ending ≡ answer
   end_said x AtEnd answer (inl (tree, a, e)) =
       with_end a.faultless AtEnd
       ∙ (whole_gives (is_whole g.grammar (inputs_of tokens)) (tree_by (behind g tokens a.faultless.leaves a.faultless.bodies)) _ (tree_whole g s tokens [] tree a)
@@ -204,11 +204,11 @@ module _ (g : Judge) (s : IsShell g.grammar) (tokens : List Item) where
       ∙ (whole_fails (is_whole g.grammar (inputs_of tokens)) (tree_by (behind g tokens x.leaves x.bodies)) _ (derive_not_whole g s tokens d) ∙ sym e)
   end_said x (Cut at) answer h = with_end x (Cut at) ∙ sym h
 
-  said : (ending : Ending) (answer : Result Complete PartFault) → Is ending answer → ends ending ≡ answer
+  said : (ending : Ending) (answer : Result CompoundList PartFault) → Is ending answer → ends ending ≡ answer
   said ending answer (inl (f, h, e)) = ap (λ o. and_then o (λ j. ended_by g.left g.text (waiting_behind nothing tokens) j ending)) (fault_judged g s tokens f h) ∙ sym e
   said ending answer (inr (x, h)) = end_said x ending answer h
 
-pub program_defined : (read : Reader) (left : ℕ) (text : List ℕ) (answer : Result Complete PartFault) → (program_in read left text ≡ answer) ↔ IsProgram read left text answer
+pub program_defined : (read : Reader) (left : ℕ) (text : List ℕ) (answer : Result CompoundList PartFault) → (program_in read left text ≡ answer) ↔ IsProgram read left text answer
 unfolding program_in
 program_defined read left text answer =
     let g = inner read left text in
@@ -220,14 +220,14 @@ program_defined read left text answer =
 
 -- the same of tokens that are judged without fault
 so_tree : (g : Judge) → IsShell g.grammar → (tokens : List Item) → AreTokens tokens → (j : Judged) → JudgedSo g tokens (Ok j) → (tree : Tree) → IsTreeOf g.grammar (inputs_of tokens) tree
-    → (bodies : List Parts) → syntax_of tree (filled j.leaves bodies) ≡ Some (tree_by (record j { bodies = bodies }))
+    → (bodies : List Parts) → syntax_of tree (with_bodies j.leaves bodies) ≡ Some (tree_by (record j { bodies = bodies }))
 so_tree g s tokens n j (x, e) tree d bodies =
-    subst (λ (k : Judged). syntax_of tree (filled k.leaves bodies) ≡ Some (tree_by (record k { bodies = bodies }))) (sym e)
+    subst (λ (k : Judged). syntax_of tree (with_bodies k.leaves bodies) ≡ Some (tree_by (record k { bodies = bodies }))) (sym e)
     (tree_given g s tokens x.leaves x.bodies x.taken n tree d bodies)
 
 pub judged_tree : (grammar : Tabulation) → IsShell grammar → (read : Reader) (left : ℕ) (text : List ℕ) (tokens : List Item) (j : Judged) → AreTokens tokens
     → with_items read left text nothing tokens (none_of grammar) ≡ Ok j → (tree : Tree) → IsTreeOf grammar (inputs_of tokens) tree
-    → (bodies : List Parts) → syntax_of tree (filled j.leaves bodies) ≡ Some (tree_by (record j { bodies = bodies }))
+    → (bodies : List Parts) → syntax_of tree (with_bodies j.leaves bodies) ≡ Some (tree_by (record j { bodies = bodies }))
 judged_tree grammar s read left text tokens j n h tree d bodies =
     let g : Judge = record { grammar = grammar; read = read; left = left; text = text } in
     so_tree g s tokens n j (subst (λ r. JudgedSo g tokens r) h (judged_told g s tokens)) tree d bodies

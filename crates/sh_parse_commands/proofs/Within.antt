@@ -5,16 +5,16 @@ use Rattle.std.proofs.lemmas.List.{length-take, length-drop}
 use Rattle.sh_token_pieces.specs.declared.here.Delimiter.{Delimiter}
 use Rattle.sh_token_pieces.specs.declared.here.Tabs.{Tabs}
 use Rattle.sh_token_pieces.specs.Here.{lines, line_in, without_tabs, is_end_line, joins_next}
-use Rattle.sh_token_pieces.specs.declared.mark.Mark.{Mark}
-use Rattle.sh_token_pieces.specs.declared.mark.Mark.TheVariants as mark
-use Rattle.sh_token_pieces.specs.TokenClasses.{literal_front}
+use Rattle.sh_token_pieces.specs.declared.piece.Piece.{Piece}
+use Rattle.sh_token_pieces.specs.declared.piece.Piece.TheVariants as piece
+use Rattle.sh_token_pieces.specs.TokenClasses.{literal_prefix}
 use Rattle.sh_token.specs.declared.token.TokenKind.{TokenKind}
 use Rattle.sh_base.specs.declared.span.Span.{Span}
-use Rattle.sh_syntax.specs.declared.tree.Complete.{Complete}
+use Rattle.sh_syntax.specs.declared.tree.CompoundList.{CompoundList}
 use Rattle.sh_syntax.specs.declared.tree.Part.{Part}
 use Rattle.sh_syntax.specs.declared.tree.Parts.{Parts}
 use Rattle.sh_parse_documents.specs.declared.document.Document.{Document}
-use Rattle.sh_parse_documents.specs.Documents.{Line, placed, lines_from, kept, places_from, kept_places, Cut, over, with_line, cut, cut_all, documents, between, place_at}
+use Rattle.sh_parse_documents.specs.Documents.{Line, lines_at, lines_from, body_line, places_from, kept_places, Cut, over, with_line, cut_of, cut_all, documents, between, place_at}
 use Rattle.sh_parse_documents.specs.declared.item.Item.{Item}
 use Rattle.sh_parse_words.specs.declared.parameter.Braces.{Braces}
 use Rattle.sh_parse_words.specs.declared.build.Form.{Form}
@@ -26,12 +26,12 @@ use Rattle.sh_parse_words.specs.declared.build.Substitution.{Substitution}
 use Rattle.sh_parse_words.specs.declared.build.Substitution.TheVariants as substitution
 use Rattle.sh_parse_words.specs.declared.fault.PartFault.{PartFault}
 use Rattle.sh_parse_words.specs.declared.fault.PartFault.TheVariants as fault
-use Rattle.sh_parse_words.specs.Building.{Building, Outcome, begun, ended, parts_of, with_part, with_bytes, opened, last_frame, closed_by, closed, on, skip_close, skipping, open_braces, backquoted, plainly, taking, take_by, take_piece, with_program}
-use Rattle.sh_parse_words.specs.Parameters.{braces_of, capped}
+use Rattle.sh_parse_words.specs.Building.{Building, Outcome, empty_building, with_literal, parts_of, with_part, with_bytes, opened, last_frame, closed_by, with_form_part, on, skip_close, skipping, open_braces, backquotes_request, plainly, taking, take_by, take_piece, with_program}
+use Rattle.sh_parse_words.specs.Parameters.{braces_of, machine_number}
 use Rattle.sh_parse_words.specs.Places.{behind_joins, behind_piece, place_of}
 use Rattle.sh_parse_commands.specs.Results.{and_then, fault_moved}
 use Rattle.sh_parse_commands.specs.Sources.{text_between, behind_pieces}
-use Rattle.sh_parse_commands.specs.Words.{Reader, text_by, text_of, place_by, place_in, refused_or_deep, at_its_level, answer_of, answered, with_piece, begins_closed, with_pieces, whole, parts_in}
+use Rattle.sh_parse_commands.specs.Words.{Reader, text_by, text_of, place_by, place_in, refused_or_deep, at_its_level, answer_of, with_answer, with_piece, begins_closed, with_pieces, whole, parts_in}
 use Rattle.sh_parse_commands.specs.Leaves.{name_size, assignment_leaf, plain_leaf, leaf_by, word_leaf, leaf_of}
 use Rattle.sh_parse_commands.specs.Documents.{expanded_body, document_parts, with_documents, bodies_of}
 
@@ -93,23 +93,23 @@ closed_in_by : (size : ℕ) (b : Building) (o : Option Frame) → SkipIn size b.
 closed_in_by size b None h = h
 closed_in_by size b (Some f) h = h
 
-closed_in : (size : ℕ) (b : Building) → SkipIn size b.skip → SkipIn size (closed b).skip
-unfolding closed
+closed_in : (size : ℕ) (b : Building) → SkipIn size b.skip → SkipIn size (with_form_part b).skip
+unfolding with_form_part
 closed_in size b h = closed_in_by size b (last_frame b.frames) h
 
-plainly_in : (size : ℕ) (b : Building) (m : Mark) → SkipIn size b.skip → SkipIn size (plainly b m).skip
+plainly_in : (size : ℕ) (b : Building) (m : Piece) → SkipIn size b.skip → SkipIn size (plainly b m).skip
 unfolding plainly
-plainly_in size b (mark.Byte c) h = bytes_in size b _ h
-plainly_in size b (mark.Escaped c) h = part_in size b _ h
-plainly_in size b (mark.Backslash c) h = bytes_in size b _ h
-plainly_in size b (mark.SingleQuoted bytes) h = part_in size b _ h
-plainly_in size b mark.DoubleQuotesOpen h = opened_in size b form.Quotes b.left h
-plainly_in size b mark.DoubleQuotesClose h = closed_in size b h
-plainly_in size b mark.Dollar h = bytes_in size b _ h
-plainly_in size b (mark.Variable bytes) h = part_in size b _ h
-plainly_in size b (mark.Parameter c) h = part_in size b _ h
-plainly_in size b mark.BraceClose h = closed_in size b h
-plainly_in size b mark.ArithmeticClose h = closed_in size b h
+plainly_in size b (piece.Byte c) h = bytes_in size b _ h
+plainly_in size b (piece.Escaped c) h = part_in size b _ h
+plainly_in size b (piece.Backslash c) h = bytes_in size b _ h
+plainly_in size b (piece.SingleQuoted bytes) h = part_in size b _ h
+plainly_in size b piece.DoubleQuotesOpen h = opened_in size b form.Quotes b.left h
+plainly_in size b piece.DoubleQuotesClose h = closed_in size b h
+plainly_in size b piece.Dollar h = bytes_in size b _ h
+plainly_in size b (piece.Variable bytes) h = part_in size b _ h
+plainly_in size b (piece.Parameter c) h = part_in size b _ h
+plainly_in size b piece.BraceClose h = closed_in size b h
+plainly_in size b piece.ArithmeticClose h = closed_in size b h
 plainly_in size b m h = h
 
 level_in : (size place : ℕ) (o : Outcome) (z : Bool) → place ≤ size → OutcomeIn size o → OutcomeIn size (if z then Err (fault.TooDeep place) else o)
@@ -121,44 +121,44 @@ braces_in size b place None p h = level_in size place (Err (fault.BadSubstitutio
 braces_in size b place (Some f) p h =
     level_in size place (on (opened b (form.Braces f) (b.left - 1))) (nat_eq b.left 0) p (opened_in size b (form.Braces f) (b.left - 1) h, tt)
 
-taking_in : (size : ℕ) (b : Building) (m : Mark) (empty : Bool) (place behind : ℕ) → place ≤ size → behind ≤ size → SkipIn size b.skip → OutcomeIn size (taking b m empty place behind)
-taking_in size b (mark.BraceOpen head) empty place behind p q h = braces_in size b place (braces_of head empty) p h
-taking_in size b mark.ArithmeticOpen empty place behind p q h =
+taking_in : (size : ℕ) (b : Building) (m : Piece) (empty : Bool) (place behind : ℕ) → place ≤ size → behind ≤ size → SkipIn size b.skip → OutcomeIn size (taking b m empty place behind)
+taking_in size b (piece.BraceOpen head) empty place behind p q h = braces_in size b place (braces_of head empty) p h
+taking_in size b piece.ArithmeticOpen empty place behind p q h =
     level_in size place (on (opened b form.Arithmetic (b.left - 1))) (nat_eq b.left 0) p (opened_in size b form.Arithmetic (b.left - 1) h, tt)
-taking_in size b mark.CommandsOpen empty place behind p q h =
+taking_in size b piece.CommandsOpen empty place behind p q h =
     level_in size place (on (record b { skip = Some (record { depth = 0; place = place; start = behind }) })) (nat_eq b.left 0) p ((p, q), tt)
-taking_in size b (mark.Backquoted bytes) empty place behind p q h = (h, (p, p))
+taking_in size b (piece.Backquoted bytes) empty place behind p q h = (h, (p, p))
 taking_in size b m empty place behind p q h = (plainly_in size b m h, tt)
 
 close_in : (size : ℕ) (b : Building) (s : Skip) (here : ℕ) (z : Bool) → nat_eq s.depth 0 ≡ z → SkipIn size (Some s) → OutcomeIn size (skip_close b s here)
 close_in size b s here true e h = rw e (tt, h)
 close_in size b s here false e h = rw e (h, tt)
 
-skipping_in : (size : ℕ) (b : Building) (s : Skip) (m : Mark) (here : ℕ) → SkipIn size b.skip → SkipIn size (Some s) → OutcomeIn size (skipping b s m here)
-skipping_in size b s mark.CommandsOpen here h k = (k, tt)
-skipping_in size b s mark.CommandsClose here h k = close_in size b s here (nat_eq s.depth 0) refl k
+skipping_in : (size : ℕ) (b : Building) (s : Skip) (m : Piece) (here : ℕ) → SkipIn size b.skip → SkipIn size (Some s) → OutcomeIn size (skipping b s m here)
+skipping_in size b s piece.CommandsOpen here h k = (k, tt)
+skipping_in size b s piece.CommandsClose here h k = close_in size b s here (nat_eq s.depth 0) refl k
 skipping_in size b s m here h k = (h, tt)
 
-take_in_by : (size : ℕ) (b : Building) (m : Mark) (empty : Bool) (place behind : ℕ) (o : Option Skip) → b.skip ≡ o → place ≤ size → behind ≤ size → SkipIn size b.skip
+take_in_by : (size : ℕ) (b : Building) (m : Piece) (empty : Bool) (place behind : ℕ) (o : Option Skip) → b.skip ≡ o → place ≤ size → behind ≤ size → SkipIn size b.skip
     → OutcomeIn size (take_by o b m empty place behind)
 take_in_by size b m empty place behind None e p q h = taking_in size b m empty place behind p q h
 take_in_by size b m empty place behind (Some s) e p q h = skipping_in size b s m place h (subst (λ x. SkipIn size x) e h)
 
-take_in : (size : ℕ) (b : Building) (m : Mark) (empty : Bool) (place behind : ℕ) → place ≤ size → behind ≤ size → SkipIn size b.skip → OutcomeIn size (take_piece b m empty place behind)
+take_in : (size : ℕ) (b : Building) (m : Piece) (empty : Bool) (place behind : ℕ) → place ≤ size → behind ≤ size → SkipIn size b.skip → OutcomeIn size (take_piece b m empty place behind)
 unfolding take_piece
 take_in size b m empty place behind p q h = take_in_by size b m empty place behind b.skip refl p q h
 
-program_in_parts : (size : ℕ) (b : Building) (s : Substitution) (c : Complete) → SkipIn size b.skip → SkipIn size (with_program b s c).skip
+program_in_parts : (size : ℕ) (b : Building) (s : Substitution) (c : CompoundList) → SkipIn size b.skip → SkipIn size (with_program b s c).skip
 unfolding with_program
 program_in_parts size b s c h = part_in size b _ h
 
 -- the commands of a substitution stand in the text around it
-between_in : (text : List ℕ) (start stop at : ℕ) → start ≤ length text → at ≤ length (text_between text start stop) → capped (start + at) ≤ length text
+between_in : (text : List ℕ) (start stop at : ℕ) → start ≤ length text → at ≤ length (text_between text start stop) → machine_number (start + at) ≤ length text
 between_in text start stop at l h =
     let a : length (text_between text start stop) ≡ min (stop - start) (length (drop start text)) = length-take (stop - start) (drop start text) in
     let b : min (stop - start) (length (drop start text)) ≤ length (drop start text) = min-le_right (stop - start) (length (drop start text)) in
     let c : length (drop start text) ≡ length text - start = length-drop start text in
-    let d : capped (start + at) ≤ start + at = min-le_left (start + at) (2 ^ 64 - 1) in
+    let d : machine_number (start + at) ≤ start + at = min-le_left (start + at) (2 ^ 64 - 1) in
     omega (a, b, c, d, l, h, arith)
 
 place_by_in : (text : List ℕ) (r : Request) (s : Substitution) → RequestIn (length text) (Some r) → (at : ℕ) → at ≤ length (text_by s (text_between text r.start r.«end»)) → place_by s r at ≤ length text
@@ -187,15 +187,15 @@ pub pushed_size : (line : List ℕ) (b : ℕ) → length (line ++ b ∷ []) ≡ 
 pushed_size [] b = refl
 pushed_size (c ∷ cs) b = let e = pushed_size cs b in omega (e, arith)
 
-placed_lines : (stop n : ℕ) (line bs : List ℕ) → n + length line + length bs ≤ stop → LinesIn stop (placed n (lines line bs))
+placed_lines : (stop n : ℕ) (line bs : List ℕ) → n + length line + length bs ≤ stop → LinesIn stop (lines_at n (lines line bs))
 placed_lines stop n line [] h = (omega (h, arith), tt, tt)
 placed_lines stop n line (b ∷ bs) h =
     go (nat_eq b 10) refl (placed_lines stop (suc (n + length line)) [] bs (omega (h, arith)))
     (let e = pushed_size line b in placed_lines stop n (line ++ b ∷ []) bs (omega (h, e, arith)))
   where
-    go : (c : Bool) → nat_eq b 10 ≡ c → LinesIn stop (placed (suc (n + length line)) (lines [] bs)) → LinesIn stop (placed n (lines (line ++ b ∷ []) bs)) → LinesIn stop (placed n (lines line (b ∷ bs)))
+    go : (c : Bool) → nat_eq b 10 ≡ c → LinesIn stop (lines_at (suc (n + length line)) (lines [] bs)) → LinesIn stop (lines_at n (lines (line ++ b ∷ []) bs)) → LinesIn stop (lines_at n (lines line (b ∷ bs)))
     go true e f g =
-        rw e (omega (h, arith), next_in stop (record { start = n; bytes = line }) (placed (suc (n + length line)) (lines [] bs)) (omega (h, arith)), f)
+        rw e (omega (h, arith), next_in stop (record { start = n; bytes = line }) (lines_at (suc (n + length line)) (lines [] bs)) (omega (h, arith)), f)
     go false e f g = rw e g
 
 lines_in : (start : ℕ) (bytes : List ℕ) → LinesIn (start + length bytes) (lines_from start bytes)
@@ -226,14 +226,14 @@ line_size : (tabs : Tabs) (line : List ℕ) → length (line_in tabs line) ≤ l
 line_size Tabs.Kept line = omega arith
 line_size Tabs.Stripped line = tabs_size line
 
-pub kept_size : (d : Delimiter) (joined : Bool) (line : List ℕ) → length (kept d joined line) ≤ length line
+pub kept_size : (d : Delimiter) (joined : Bool) (line : List ℕ) → length (body_line d joined line) ≤ length line
 kept_size d true line = omega arith
 kept_size d false line = line_size d.tabs line
 
 kept_in : (size : ℕ) (d : Delimiter) (joined : Bool) (start : ℕ) (line : List ℕ) → start + length line ≤ size → PlacesIn size (kept_places d joined start line)
 kept_in size d joined start line h =
     let k = kept_size d joined line in
-    some_in size (start + (length line - length (kept d joined line))) (length (kept d joined line)) (omega (h, k, arith))
+    some_in size (start + (length line - length (body_line d joined line))) (length (body_line d joined line)) (omega (h, k, arith))
 
 record CutIn (stop : ℕ) (c : Cut) : Type 0 where
   pub places : PlacesIn stop c.places
@@ -247,7 +247,7 @@ with_line_in stop d joined start line c h k =
 nothing_left : (stop : ℕ) → CutIn stop (over stop (lines_from stop []))
 nothing_left stop = record { places = tt; ends = omega arith; rest = (omega arith, tt, tt) }
 
-cut_in : (stop : ℕ) (d : Delimiter) (joined : Bool) (ls : List Line) → LinesIn stop ls → CutIn stop (cut stop d joined ls)
+cut_in : (stop : ℕ) (d : Delimiter) (joined : Bool) (ls : List Line) → LinesIn stop ls → CutIn stop (cut_of stop d joined ls)
 cut_in stop d joined [] h = nothing_left stop
 cut_in stop d joined (l ∷ []) h = go (not joined && is_end_line d l.bytes) (with_line_in stop d joined l.start l.bytes (over stop (lines_from stop [])) h.0 (nothing_left stop))
   where
@@ -259,10 +259,10 @@ cut_in stop d joined (l ∷ k ∷ ls) h =
     go (not joined && is_end_line d l.bytes)
     (let e = pushed_size l.bytes 10 in
     let a : suc (l.start + length l.bytes) ≤ stop = h.1 in
-    with_line_in stop d joined l.start (l.bytes ++ 10 ∷ []) (cut stop d (joins_next d l.bytes) (k ∷ ls)) (omega (e, a, arith)) (cut_in stop d (joins_next d l.bytes) (k ∷ ls) h.2))
+    with_line_in stop d joined l.start (l.bytes ++ 10 ∷ []) (cut_of stop d (joins_next d l.bytes) (k ∷ ls)) (omega (e, a, arith)) (cut_in stop d (joins_next d l.bytes) (k ∷ ls) h.2))
   where
-    go : (c : Bool) → CutIn stop (with_line d joined l.start (l.bytes ++ 10 ∷ []) (cut stop d (joins_next d l.bytes) (k ∷ ls)))
-        → CutIn stop (if c then over l.start (k ∷ ls) else with_line d joined l.start (l.bytes ++ 10 ∷ []) (cut stop d (joins_next d l.bytes) (k ∷ ls)))
+    go : (c : Bool) → CutIn stop (with_line d joined l.start (l.bytes ++ 10 ∷ []) (cut_of stop d (joins_next d l.bytes) (k ∷ ls)))
+        → CutIn stop (if c then over l.start (k ∷ ls) else with_line d joined l.start (l.bytes ++ 10 ∷ []) (cut_of stop d (joins_next d l.bytes) (k ∷ ls)))
     go true x = let a : l.start + length l.bytes ≤ stop = h.0 in record { places = tt; ends = omega (a, arith); rest = h.2 }
     go false x = x
 
@@ -277,7 +277,7 @@ DocumentsIn size (d ∷ ds) = DocumentIn size d × DocumentsIn size ds
 cut_all_in : (stop : ℕ) (due : List Delimiter) (ls : List Line) → LinesIn stop ls → DocumentsIn stop (cut_all stop due ls)
 cut_all_in stop [] ls h = tt
 cut_all_in stop (d ∷ ds) ls h =
-    let c = cut_in stop d false ls h in (record { places = c.places; ends = c.ends }, cut_all_in stop ds (cut stop d false ls).rest c.rest)
+    let c = cut_in stop d false ls h in (record { places = c.places; ends = c.ends }, cut_all_in stop ds (cut_of stop d false ls).rest c.rest)
 
 documents_stop : (start : ℕ) (due : List Delimiter) (bytes : List ℕ) → DocumentsIn (start + length bytes) (documents due start bytes)
 unfolding documents
@@ -324,11 +324,11 @@ module _ (read : Reader) (reads : (left : ℕ) (text : List ℕ) → FaultsIn (l
   either_in size place true f p h = deep_in size place f p h
   either_in size place false f p h = h
 
-  kept_program_in : (size place : ℕ) (z : Bool) (c : Complete) → place ≤ size → FaultsIn size (if z then Err (fault.TooDeep place) else Ok c)
+  kept_program_in : (size place : ℕ) (z : Bool) (c : CompoundList) → place ≤ size → FaultsIn size (if z then Err (fault.TooDeep place) else Ok c)
   kept_program_in size place true c p = p
   kept_program_in size place false c p = tt
 
-  its_level_in : (size : ℕ) (r : Request) (x : Result Complete PartFault) → r.place ≤ size → FaultsIn size x → FaultsIn size (at_its_level r x)
+  its_level_in : (size : ℕ) (r : Request) (x : Result CompoundList PartFault) → r.place ≤ size → FaultsIn size x → FaultsIn size (at_its_level r x)
   its_level_in size r (Ok c) p h = kept_program_in size r.place r.is_too_deep c p
   its_level_in size r (Err f) p h = either_in size r.place r.is_too_deep f p h
 
@@ -338,19 +338,19 @@ module _ (read : Reader) (reads : (left : ℕ) (text : List ℕ) → FaultsIn (l
       its_level_in (length text) r (fault_moved (λ at. place_in r at) (read r.left (text_of r text))) h.0
       (moved_in (length text) (length (text_of r text)) (λ at. place_in r at) (λ at l. place_in_text text r h at l) (read r.left (text_of r text)) (reads r.left (text_of r text)))
 
-  made_in : (size : ℕ) (b : Building) (s : Substitution) (x : Result Complete PartFault) → FaultsIn size x → SkipIn size b.skip → AfterIn size (and_then x (λ c. Ok (with_program b s c)))
+  made_in : (size : ℕ) (b : Building) (s : Substitution) (x : Result CompoundList PartFault) → FaultsIn size x → SkipIn size b.skip → AfterIn size (and_then x (λ c. Ok (with_program b s c)))
   made_in size b s (Ok c) h k = program_in_parts size b s c k
   made_in size b s (Err f) h k = h
 
-  answered_in : (text : List ℕ) (b : Building) (o : Option Request) → SkipIn (length text) b.skip → RequestIn (length text) o → AfterIn (length text) (answered read text b o)
+  answered_in : (text : List ℕ) (b : Building) (o : Option Request) → SkipIn (length text) b.skip → RequestIn (length text) o → AfterIn (length text) (with_answer read text b o)
   answered_in text b None h k = h
   answered_in text b (Some r) h k = made_in (length text) b r.form (answer_of read text r) (answer_in text r k) h
 
-  step_in : (text : List ℕ) (o : Outcome) → OutcomeIn (length text) o → AfterIn (length text) (and_then o (λ t. answered read text t.building t.request))
+  step_in : (text : List ℕ) (o : Outcome) → OutcomeIn (length text) o → AfterIn (length text) (and_then o (λ t. with_answer read text t.building t.request))
   step_in text (Ok t) h = answered_in text t.building t.request h.0 h.1
   step_in text (Err f) h = h
 
-  piece_in : (text : List ℕ) (b : Building) (m : Mark) (empty : Bool) (bytes : List ℕ) → SkipIn (length text) b.skip → AfterIn (length text) (with_piece read text b m empty bytes)
+  piece_in : (text : List ℕ) (b : Building) (m : Piece) (empty : Bool) (bytes : List ℕ) → SkipIn (length text) b.skip → AfterIn (length text) (with_piece read text b m empty bytes)
   unfolding with_piece
   piece_in text b m empty bytes h =
       step_in text (take_piece b m empty (place_of (length text) (behind_joins bytes)) (place_of (length text) (behind_piece m bytes)))
@@ -360,7 +360,7 @@ module _ (read : Reader) (reads : (left : ℕ) (text : List ℕ) → FaultsIn (l
   next_piece_in size (Ok b) f h k = k b h
   next_piece_in size (Err e) f h k = h
 
-  pieces_in : (text : List ℕ) (ms : List Mark) (b : Building) (bytes : List ℕ) → SkipIn (length text) b.skip → AfterIn (length text) (with_pieces read text b ms bytes)
+  pieces_in : (text : List ℕ) (ms : List Piece) (b : Building) (bytes : List ℕ) → SkipIn (length text) b.skip → AfterIn (length text) (with_pieces read text b ms bytes)
   pieces_in text [] b bytes h = h
   pieces_in text (m ∷ ms) b bytes h =
       next_piece_in (length text) (with_piece read text b m (begins_closed ms) bytes) (λ c. with_pieces read text c ms (behind_piece m bytes))
@@ -370,22 +370,22 @@ module _ (read : Reader) (reads : (left : ℕ) (text : List ℕ) → FaultsIn (l
   whole_in size (Ok b) h = tt
   whole_in size (Err f) h = h
 
-  word_parts_in : (left : ℕ) (text : List ℕ) (ms : List Mark) (bytes : List ℕ) → FaultsIn (length text) (parts_in read left text ms bytes)
+  word_parts_in : (left : ℕ) (text : List ℕ) (ms : List Piece) (bytes : List ℕ) → FaultsIn (length text) (parts_in read left text ms bytes)
   unfolding parts_in
-  word_parts_in left text ms bytes = whole_in (length text) (with_pieces read text (begun left) ms bytes) (pieces_in text ms (begun left) bytes tt)
+  word_parts_in left text ms bytes = whole_in (length text) (with_pieces read text (empty_building left) ms bytes) (pieces_in text ms (empty_building left) bytes tt)
 
-  word_by_in : (left : ℕ) (text : List ℕ) (ms : List Mark) (span : Span) (front : List ℕ) (size : Option ℕ) → FaultsIn (length text) (leaf_by read left text ms span front size)
-  word_by_in left text ms span front None =
-      then_in (length text) (parts_in read left text ms (drop span.start text)) (λ parts. Ok (plain_leaf ms front parts (text_between text span.start span.«end»)))
+  word_by_in : (left : ℕ) (text : List ℕ) (ms : List Piece) (span : Span) (prefix : List ℕ) (size : Option ℕ) → FaultsIn (length text) (leaf_by read left text ms span prefix size)
+  word_by_in left text ms span prefix None =
+      then_in (length text) (parts_in read left text ms (drop span.start text)) (λ parts. Ok (plain_leaf ms prefix parts (text_between text span.start span.«end»)))
       (word_parts_in left text ms (drop span.start text)) (λ parts. tt)
-  word_by_in left text ms span front (Some size) =
+  word_by_in left text ms span prefix (Some size) =
       then_in (length text) (parts_in read left text (drop (suc size) ms) (behind_pieces (take (suc size) ms) (drop span.start text)))
-      (λ value. Ok (assignment_leaf front size value (text_between text span.start span.«end»)))
+      (λ value. Ok (assignment_leaf prefix size value (text_between text span.start span.«end»)))
       (word_parts_in left text (drop (suc size) ms) (behind_pieces (take (suc size) ms) (drop span.start text))) (λ value. tt)
 
-  word_in : (left : ℕ) (text : List ℕ) (ms : List Mark) (span : Span) → FaultsIn (length text) (word_leaf read left text ms span)
+  word_in : (left : ℕ) (text : List ℕ) (ms : List Piece) (span : Span) → FaultsIn (length text) (word_leaf read left text ms span)
   unfolding word_leaf
-  word_in left text ms span = word_by_in left text ms span (literal_front ms) (name_size (literal_front ms))
+  word_in left text ms span = word_by_in left text ms span (literal_prefix ms) (name_size (literal_prefix ms))
 
   pub leaf_in : (left : ℕ) (text : List ℕ) (kind : TokenKind) (span : Span) → FaultsIn (length text) (leaf_of read left text kind span)
   leaf_in left text (TokenKind.Operator o) span = tt
@@ -400,7 +400,7 @@ module _ (read : Reader) (reads : (left : ℕ) (text : List ℕ) → FaultsIn (l
   document_in : (left size : ℕ) (d : Document) → DocumentIn size d → FaultsIn size (document_parts read left d)
   unfolding document_parts
   document_in left size d h =
-      quoted_in size d.is_quoted (parts_of (ended [] d.text)) (fault_moved (λ at. place_at d at) (expanded_body read left d.text))
+      quoted_in size d.is_quoted (parts_of (with_literal [] d.text)) (fault_moved (λ at. place_at d at) (expanded_body read left d.text))
       (all_moved_in size (λ at. place_at d at) (λ at. place_at_in size d h at) (expanded_body read left d.text))
 
   all_documents_in : (left size : ℕ) (ds : List Document) (bodies : List Parts) → DocumentsIn size ds → FaultsIn size (with_documents read left bodies ds)

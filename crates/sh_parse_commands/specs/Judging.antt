@@ -1,19 +1,19 @@
--- The tokens of a text, judged one after another: whether the grammar takes each (XCU 2.10.2), how many levels are open there, and what
--- it is to the tree. The first fault is the one that counts.
+-- The tokens of a text, judged one after another: whether the grammar takes each (XCU 2.10.2), how many
+-- levels are open there, and what the token is to the tree. The first fault counts.
 use Rattle.std.specs.Prelude.{◌≡◌, ◌⊎◌, ℕ, ◌-◌, Bool, true, false, nat_lt, List, [], ◌∷◌, ◌++◌, Option, Some, None, Result, Ok, Err, if◌then◌else◌}
 use Rattle.std.specs.Option.{unwrap_or}
 use Rattle.sh_grammar.specs.declared.Token.{Token as Input}
-use Rattle.sh_grammar.specs.Computed.{is_front, is_whole}
+use Rattle.sh_grammar.specs.Computed.{is_prefix, is_whole}
 use Rattle.sh_grammar.specs.Derived.{tree_of}
 use Rattle.sh_grammar.specs.Tabulation.{Tabulation}
 use Rattle.sh_parse_commands.specs.Levels.{open_compounds}
 use Rattle.sh_token_grammar.specs.Shell.{complete as complete_commands, substitution}
 use Rattle.sh_token_pieces.specs.declared.here.Delimiter.{Delimiter}
-use Rattle.sh_syntax.specs.declared.tree.Complete.{Complete}
+use Rattle.sh_syntax.specs.declared.tree.CompoundList.{CompoundList}
 use Rattle.sh_syntax.specs.declared.tree.Parts.{Parts}
 use Rattle.sh_parse_actions.specs.declared.leaf.Leaf.{Leaf}
 use Rattle.sh_parse_actions.specs.declared.leaf.Leaf.TheVariants as leaf
-use Rattle.sh_parse_actions.specs.Forms.{complete}
+use Rattle.sh_parse_actions.specs.Forms.{compound_list}
 use Rattle.sh_parse_trees.specs.Meaning.{syntax_of}
 use Rattle.sh_parse_documents.specs.declared.item.Item.{Item}
 use Rattle.sh_parse_documents.specs.Waiting.{Waiting, behind_token, due_at}
@@ -25,11 +25,11 @@ use Rattle.sh_parse_commands.specs.Words.{Reader}
 use Rattle.sh_parse_commands.specs.Leaves.{leaf_of}
 use Rattle.sh_parse_commands.specs.Documents.{bodies_of}
 
--- the grammar of commands or that of substitutions
+-- the grammar of commands, or the grammar of substitutions
 abbrev pub IsShell : Tabulation → Type 0
 IsShell d = (d ≡ complete_commands) ⊎ (d ≡ substitution)
 
--- tokens that were taken, by a grammar; what each is to the tree; and the bodies of here-documents so far
+-- the tokens taken by a grammar, what each is to the tree, and the bodies of here-documents so far
 pub record Judged : Type 0 where
   pub grammar : Tabulation
   pub tokens : List Input
@@ -43,12 +43,12 @@ abbrev pub with_input : Judged → Input → Judged
 with_input j input = record j { tokens = j.tokens ++ input ∷ [] }
 
 abbrev pub takes : Judged → Bool
-takes j = is_front j.grammar j.tokens
+takes j = is_prefix j.grammar j.tokens
 
 abbrev pub open_in : Judged → ℕ
 open_in j = open_compounds j.grammar j.tokens
 
--- a token that was taken, with the bodies behind it; so many levels may open in it
+-- a token that was taken, with the bodies after it; so many levels may open in it
 abbrev pub with_leaf : Reader → ℕ → List ℕ → List Delimiter → Item → Judged → Result Judged PartFault
 with_leaf read left text due item j =
     and_then (leaf_of read left text item.token.kind item.token.span)
@@ -61,17 +61,17 @@ taken_item read left text due item j =
     then if nat_lt left (open_in j) then Err (fault.TooDeep item.token.span.start) else with_leaf read (left - open_in j) text due item j
     else Err (fault.Refused item.token.span.start)
 
--- a token more, at which these here-documents are due
+-- one more token, at which these here-documents are due
 unfoldable pub with_item : Reader → ℕ → List ℕ → List Delimiter → Item → Judged → Result Judged PartFault
 with_item read left text due item j = taken_item read left text due item (with_input j (input_of item))
 
--- more tokens; w: what waits before them
+-- more tokens; w: what is awaited before them
 abbrev pub with_items : Reader → ℕ → List ℕ → Waiting → List Item → Judged → Result Judged PartFault
 with_items read left text w [] j = Ok j
 with_items read left text w (i ∷ is) j =
     and_then (with_item read left text (due_at i.token.kind w) i j) (λ k. with_items read left text (behind_token i.token.kind w) is k)
 
--- a here-document takes the next body; one whose body doesn't come has none
+-- a here-document takes the next body; where no body is left, it keeps the empty one
 abbrev pub with_body : Leaf → List Parts → Leaf
 with_body (leaf.HereDocument operator body) [] = leaf.HereDocument operator body
 with_body (leaf.HereDocument operator body) (b ∷ bodies) = leaf.HereDocument operator b
@@ -83,9 +83,9 @@ bodies_behind (leaf.HereDocument operator body) (b ∷ bodies) = bodies
 bodies_behind l bodies = bodies
 
 -- the n-th here-document has the n-th body
-abbrev pub filled : List Leaf → List Parts → List Leaf
-filled [] bodies = []
-filled (l ∷ ls) bodies = with_body l bodies ∷ filled ls (bodies_behind l bodies)
+abbrev pub with_bodies : List Leaf → List Parts → List Leaf
+with_bodies [] bodies = []
+with_bodies (l ∷ ls) bodies = with_body l bodies ∷ with_bodies ls (bodies_behind l bodies)
 
 abbrev pub are_no : {A : Type 0} → List A → Bool
 are_no [] = true
@@ -99,8 +99,8 @@ is_none j = are_no j.leaves
 abbrev pub are_whole : Judged → Bool
 are_whole j = is_whole j.grammar j.tokens
 
-unfoldable pub tree_by : Judged → Complete
-tree_by j = unwrap_or (syntax_of (tree_of j.grammar j.tokens) (filled j.leaves j.bodies)) (complete [])
+unfoldable pub tree_by : Judged → CompoundList
+tree_by j = unwrap_or (syntax_of (tree_of j.grammar j.tokens) (with_bodies j.leaves j.bodies)) (compound_list [])
 
-abbrev pub tree_where : Judged → Option Complete
+abbrev pub tree_where : Judged → Option CompoundList
 tree_where j = if are_whole j then Some (tree_by j) else None

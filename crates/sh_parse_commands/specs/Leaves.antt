@@ -3,9 +3,9 @@ use Rattle.std.specs.Prelude.{ℕ, suc, ◌&&◌, List, [], ◌∷◌, ◌++◌,
 use Rattle.std.specs.List.{list_all}
 use Rattle.sh_base.specs.declared.span.Span.{Span}
 use Rattle.sh_base.specs.Names.{is_name}
-use Rattle.sh_token_pieces.specs.declared.mark.Mark.{Mark}
+use Rattle.sh_token_pieces.specs.declared.piece.Piece.{Piece}
 use Rattle.sh_token_pieces.specs.declared.operator.Operator.{Operator}
-use Rattle.sh_token_pieces.specs.TokenClasses.{literal_front, is_byte, assigns, equals_place}
+use Rattle.sh_token_pieces.specs.TokenClasses.{literal_prefix, is_byte, assigns, equals_place}
 use Rattle.sh_token.specs.declared.token.TokenKind.{TokenKind}
 use Rattle.sh_syntax.specs.declared.tree.Part.{Part}
 use Rattle.sh_syntax.specs.declared.tree.Part.TheVariants as part
@@ -22,7 +22,7 @@ use Rattle.sh_parse_commands.specs.Results.{and_then}
 use Rattle.sh_parse_commands.specs.Sources.{text_between, digits_in, behind_pieces}
 use Rattle.sh_parse_commands.specs.Words.{Reader, parts_in}
 
--- an operator; the body of a here-document is put in later
+-- the leaf of an operator; the body of a here-document is put in later
 abbrev pub operator_leaf : Operator → Leaf
 operator_leaf Operator.And = leaf.Operator
 operator_leaf Operator.Semicolon = leaf.Operator
@@ -46,39 +46,39 @@ operator_leaf Operator.Clobber = leaf.Redirection redirect.Clobber
 abbrev pub word_of : Parts → List ℕ → Word
 word_of parts source = view.roll-Word (record { parts = parts; source = source })
 
--- bytes in front of parts
-abbrev pub with_front : List ℕ → List Part → List Part
-with_front front [] = part.Literal front ∷ []
-with_front front (part.Literal bytes ∷ ps) = part.Literal (front ++ bytes) ∷ ps
-with_front front (p ∷ ps) = part.Literal front ∷ p ∷ ps
+-- bytes before parts
+abbrev pub with_prefix : List ℕ → List Part → List Part
+with_prefix prefix [] = part.Literal prefix ∷ []
+with_prefix prefix (part.Literal bytes ∷ ps) = part.Literal (prefix ++ bytes) ∷ ps
+with_prefix prefix (p ∷ ps) = part.Literal prefix ∷ p ∷ ps
 
 abbrev pub items_of : Parts → List Part
 items_of parts = (view.out-Parts parts).items
 
--- the length of the name, where a name and `=` stand first (2.10.2 rule 7)
+-- the length of the name, where the bytes begin with a name and `=` (XCU 2.10.2 rule 7)
 abbrev pub name_size : List ℕ → Option ℕ
-name_size front = if assigns front then equals_place front else None
+name_size prefix = if assigns prefix then equals_place prefix else None
 
--- an assignment: the parts of its word are those behind the `=`, and the name and the `=` in front of them
+-- the leaf of an assignment: the parts of its word are the name and the `=`, and then the parts after the `=`
 unfoldable pub assignment_leaf : List ℕ → ℕ → Parts → List ℕ → Leaf
-assignment_leaf front size value source =
-    leaf.Assignment (word_of (parts_of (with_front (take (suc size) front) (items_of value))) source) (take size front) value
+assignment_leaf prefix size value source =
+    leaf.Assignment (word_of (parts_of (with_prefix (take (suc size) prefix) (items_of value))) source) (take size prefix) value
 
--- a word that is no assignment
-unfoldable pub plain_leaf : List Mark → List ℕ → Parts → List ℕ → Leaf
-plain_leaf ms front parts source =
-    if list_all is_byte ms && is_name front then leaf.Name (word_of parts source) front else leaf.Word (word_of parts source)
+-- the leaf of a word that is no assignment
+unfoldable pub plain_leaf : List Piece → List ℕ → Parts → List ℕ → Leaf
+plain_leaf ms prefix parts source =
+    if list_all is_byte ms && is_name prefix then leaf.Name (word_of parts source) prefix else leaf.Word (word_of parts source)
 
-abbrev pub leaf_by : Reader → ℕ → List ℕ → List Mark → Span → List ℕ → Option ℕ → Result Leaf PartFault
-leaf_by read left text ms span front None =
-    and_then (parts_in read left text ms (drop span.start text)) (λ parts. Ok (plain_leaf ms front parts (text_between text span.start span.«end»)))
-leaf_by read left text ms span front (Some size) =
+abbrev pub leaf_by : Reader → ℕ → List ℕ → List Piece → Span → List ℕ → Option ℕ → Result Leaf PartFault
+leaf_by read left text ms span prefix None =
+    and_then (parts_in read left text ms (drop span.start text)) (λ parts. Ok (plain_leaf ms prefix parts (text_between text span.start span.«end»)))
+leaf_by read left text ms span prefix (Some size) =
     and_then (parts_in read left text (drop (suc size) ms) (behind_pieces (take (suc size) ms) (drop span.start text)))
-    (λ value. Ok (assignment_leaf front size value (text_between text span.start span.«end»)))
+    (λ value. Ok (assignment_leaf prefix size value (text_between text span.start span.«end»)))
 
--- a word of these pieces, which stands there in the text; so many levels may open in it
-unfoldable pub word_leaf : Reader → ℕ → List ℕ → List Mark → Span → Result Leaf PartFault
-word_leaf read left text ms span = leaf_by read left text ms span (literal_front ms) (name_size (literal_front ms))
+-- the leaf of a word of these pieces, which is at this place of the text; so many levels may open in it
+unfoldable pub word_leaf : Reader → ℕ → List ℕ → List Piece → Span → Result Leaf PartFault
+word_leaf read left text ms span = leaf_by read left text ms span (literal_prefix ms) (name_size (literal_prefix ms))
 
 abbrev pub leaf_of : Reader → ℕ → List ℕ → TokenKind → Span → Result Leaf PartFault
 leaf_of read left text (TokenKind.Operator o) span = Ok (operator_leaf o)

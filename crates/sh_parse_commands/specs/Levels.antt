@@ -1,4 +1,5 @@
--- How many compound commands are open behind tokens. The law `open_compounds_are_nested` of `sh_token_grammar` ties it to derivations.
+-- How many compound commands are open after tokens. The law `open_compounds_are_nested` of `sh_token_grammar`
+-- ties this count to derivations.
 use Rattle.std.specs.Prelude.{ℕ, List}
 use Rattle.sh_grammar.specs.declared.Token.{Token as Input}
 use Rattle.sh_grammar.specs.Tabulation.{Tabulation}

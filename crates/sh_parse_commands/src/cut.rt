@@ -8,8 +8,9 @@ use sh_parse_words::fault::PartFault;
 use sh_token::token::TokenFault;
 use std::alloc::{AllocError, Global};
 
-/// Why no token begins at this place of a text that ends with the input, where this waits and so many levels may open: a level
-/// too many that opens there, or `None` where only the text's end comes too early. The only error is want of memory.
+/// Why no token is found at the place `at` of a text that ends with the input, where `waiting` is awaited and
+/// `left` levels may open. It is a level too many that opens there, or `None` where only the end of the text
+/// comes too early. The only error is want of memory.
 #[tactic(auto, unfolding(crate::specs::Cuts::cut_fault), using(crate::proofs::Cutting::none_told, crate::proofs::Cutting::unfinished_told, crate::proofs::Cutting::deep_told))]
 pub fn cut_fault(
     alloc: Global,

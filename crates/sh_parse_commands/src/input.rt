@@ -6,7 +6,7 @@ use sh_grammar::Token as Input;
 use sh_parse_documents::item::Item;
 use sh_token::token::TokenKind;
 use sh_token_grammar::class::TokenClass;
-use sh_token_pieces::mark::word_class;
+use sh_token_pieces::piece::word_class;
 use std::alloc::{AllocError, Global};
 
 /// The class of a token.

@@ -1,7 +1,7 @@
 //! What tokens are to the tree.
 ghost use Rattle.std.specs.Prelude.{◌≡◌, ◌++◌, ◌∷◌, [], IfOk, OnOk};
 ghost use Rattle.sh_parse_words.specs.Building.{parts_of};
-ghost use Rattle.sh_parse_commands.specs.Leaves.{operator_leaf, word_of, with_front, items_of, name_size, assignment_leaf, plain_leaf};
+ghost use Rattle.sh_parse_commands.specs.Leaves.{operator_leaf, word_of, with_prefix, items_of, name_size, assignment_leaf, plain_leaf};
 
 use crate::source::{bytes_through, first_bytes};
 use sh_base::name::is_name;
@@ -9,8 +9,8 @@ use sh_base::sequence::{Sequence, Text};
 use sh_base::shared::Shared;
 use sh_parse_actions::leaf::Leaf;
 use sh_syntax::tree::{HereDocumentOperator, Parameter, Part, Parts, RedirectOperator, Word};
-use sh_token_pieces::mark::{Mark, are_bytes, begins_with_name, equals_at};
 use sh_token_pieces::operator::Operator;
+use sh_token_pieces::piece::{Piece, are_bytes, begins_with_name, equals_at};
 use std::alloc::{AllocError, Global};
 
 fn here_document(alloc: Global, operator: HereDocumentOperator) -> Result<Leaf, AllocError>
@@ -25,7 +25,7 @@ fn here_document(alloc: Global, operator: HereDocumentOperator) -> Result<Leaf, 
     Ok(Leaf::HereDocument { operator, body })
 }
 
-/// An operator; the body of a here-document is put in later.
+/// The leaf of an operator; the body of a here-document is put in later.
 pub(crate) fn operator_leaf(alloc: Global, operator: Operator) -> Result<Leaf, AllocError>
     ensures { IfOk result (λ leaf. leaf ≡ operator_leaf operator) }
 {
@@ -43,12 +43,12 @@ pub(crate) fn operator_leaf(alloc: Global, operator: Operator) -> Result<Leaf, A
     }
 }
 
-/// The length of the name, where a name and `=` stand first.
-pub(crate) fn name_size(front: &[u8]) -> Option<usize>
-    ensures { result ≡ name_size front.now }
+/// The length of the name, where the bytes begin with a name and `=`.
+pub(crate) fn name_size(prefix: &[u8]) -> Option<usize>
+    ensures { result ≡ name_size prefix.now }
 {
-    if begins_with_name(front) {
-        equals_at(front)
+    if begins_with_name(prefix) {
+        equals_at(prefix)
     } else {
         None
     }
@@ -74,7 +74,7 @@ fn same_parameter(alloc: Global, parameter: &Parameter) -> Result<Parameter, All
     }
 }
 
-/// The same part again, which shares what stands in it.
+/// A copy of a part, which shares what is inside the part.
 fn same_part(alloc: Global, part: &Part) -> Result<Part, AllocError>
     ensures { IfOk result (λ copy. copy ≡ part.now) }
 {
@@ -145,7 +145,7 @@ fn same_part(alloc: Global, part: &Part) -> Result<Part, AllocError>
     }
 }
 
-/// Puts the same parts again behind some.
+/// Adds copies of parts after others.
 fn put_same(alloc: Global, parts: &mut Vec<Part>, others: &[Part]) -> Result<(), AllocError>
     ensures { OnOk result (parts.new.items ≡ parts.old.items ++ others.now) }
 {
@@ -158,26 +158,26 @@ fn put_same(alloc: Global, parts: &mut Vec<Part>, others: &[Part]) -> Result<(),
     Ok(())
 }
 
-fn literal(alloc: Global, front: &[u8], bytes: &[u8]) -> Result<Part, AllocError>
-    ensures { IfOk result (λ part. part ≡ Part.Literal (front.now ++ bytes.now)) }
+fn literal(alloc: Global, prefix: &[u8], bytes: &[u8]) -> Result<Part, AllocError>
+    ensures { IfOk result (λ part. part ≡ Part.Literal (prefix.now ++ bytes.now)) }
 {
-    let mut text = front.to_vec(alloc)?;
+    let mut text = prefix.to_vec(alloc)?;
     text.extend_from_slice(bytes)?;
     Ok(Part::Literal(Sequence::from_vec(text)))
 }
 
-/// Bytes in front of parts, which are the same again.
-fn with_front(alloc: Global, front: &[u8], items: &[Part]) -> Result<Vec<Part>, AllocError>
-    ensures { IfOk result (λ all. all.items ≡ with_front front.now items.now) }
+/// Bytes before copies of parts.
+fn with_prefix(alloc: Global, prefix: &[u8], items: &[Part]) -> Result<Vec<Part>, AllocError>
+    ensures { IfOk result (λ all. all.items ≡ with_prefix prefix.now items.now) }
 {
     let mut all = Vec::new(alloc);
     if let Some((Part::Literal(bytes), others)) = items.split_first() {
-        let first = literal(alloc, front, bytes.as_slice())?;
+        let first = literal(alloc, prefix, bytes.as_slice())?;
         all.push(first)?;
         put_same(alloc, &mut all, others)?;
         return Ok(all);
     }
-    let first = literal(alloc, front, &[])?;
+    let first = literal(alloc, prefix, &[])?;
     all.push(first)?;
     put_same(alloc, &mut all, items)?;
     Ok(all)
@@ -194,18 +194,18 @@ fn word_of(alloc: Global, parts: Parts, source: &[u8]) -> Result<Word, AllocErro
     })
 }
 
-/// An assignment, whose name has so many bytes.
+/// The leaf of an assignment, whose name has `size` bytes.
 #[tactic(auto, unfolding(crate::specs::Leaves::assignment_leaf))]
 pub(crate) fn assignment_leaf(
     alloc: Global,
-    front: &[u8],
+    prefix: &[u8],
     size: usize,
     value: Parts,
     source: &[u8],
 ) -> Result<Leaf, AllocError>
-    ensures { IfOk result (λ leaf. leaf ≡ assignment_leaf front.now size value source.now) }
+    ensures { IfOk result (λ leaf. leaf ≡ assignment_leaf prefix.now size value source.now) }
 {
-    let items = with_front(alloc, bytes_through(front, size), value.items.as_slice())?;
+    let items = with_prefix(alloc, bytes_through(prefix, size), value.items.as_slice())?;
     let word = word_of(
         alloc,
         Parts {
@@ -213,7 +213,7 @@ pub(crate) fn assignment_leaf(
         },
         source,
     )?;
-    let name = first_bytes(front, size).to_vec(alloc)?;
+    let name = first_bytes(prefix, size).to_vec(alloc)?;
     let value = Shared::new(alloc, value)?;
     Ok(Leaf::Assignment {
         word,
@@ -222,22 +222,22 @@ pub(crate) fn assignment_leaf(
     })
 }
 
-/// A word that is no assignment.
+/// The leaf of a word that is no assignment.
 #[tactic(auto, unfolding(crate::specs::Leaves::plain_leaf))]
 pub(crate) fn plain_leaf(
     alloc: Global,
-    pieces: &[Mark],
-    front: Vec<u8>,
+    pieces: &[Piece],
+    prefix: Vec<u8>,
     parts: Parts,
     source: &[u8],
 ) -> Result<Leaf, AllocError>
-    ensures { IfOk result (λ leaf. leaf ≡ plain_leaf pieces.now front.items parts source.now) }
+    ensures { IfOk result (λ leaf. leaf ≡ plain_leaf pieces.now prefix.items parts source.now) }
 {
     let word = word_of(alloc, parts, source)?;
-    if are_bytes(pieces) && is_name(front.as_slice()) {
+    if are_bytes(pieces) && is_name(prefix.as_slice()) {
         return Ok(Leaf::Name {
             word,
-            name: Sequence::from_vec(front),
+            name: Sequence::from_vec(prefix),
         });
     }
     Ok(Leaf::Word(word))

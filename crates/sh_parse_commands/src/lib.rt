@@ -1,13 +1,14 @@
-//! Lists of commands from texts: tokens judged one after another by the grammar (XCU 2.10.2), the parts of each word with the
-//! commands of its substitutions (XCU 2.6.3), the bodies of here-documents (XCU 2.7.4), and the syntax tree of them all.
+//! Lists of commands from texts: tokens judged one after another by the grammar (XCU 2.10.2), the parts of
+//! each word with the commands of its substitutions (XCU 2.6.3), the parts of the bodies of here-documents
+//! (XCU 2.7.4), and the syntax tree of all these.
 #![tactic(auto)]
 
-mod body_front;
+mod body_prefix;
 pub mod cut;
-pub mod front;
 mod input;
 mod laws;
 mod leaf;
+pub mod prefix;
 mod program;
 mod source;
 pub mod text;

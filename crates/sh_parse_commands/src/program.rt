@@ -1,4 +1,5 @@
-//! The list of commands of a text: its tokens are judged, the words of these have substitutions, and those are texts again.
+//! The list of commands of a text: its tokens are judged, their words have substitutions, and the
+//! substitutions have texts again.
 ghost use Rattle.std.specs.Prelude.{◌≡◌, IfOk, OnOk, length};
 ghost use Rattle.sh_parse_documents.specs.Scanned.{ending_of};
 ghost use Rattle.sh_parse_words.specs.Building.{Takes, take_piece};
@@ -10,11 +11,11 @@ ghost use Rattle.sh_parse_commands.specs.Documents.{expanded_body, document_part
 ghost use Rattle.sh_parse_commands.specs.Judging.{with_item};
 ghost use Rattle.sh_parse_commands.specs.Programs.{programs, ended_by};
 
-use crate::body_front::{fault_at, front_of, literal_parts, unless};
+use crate::body_prefix::{fault_at, literal_parts, prefix_of, unless};
 use crate::cut::cut_fault;
-use crate::front::Front;
 use crate::input::input;
 use crate::leaf::{assignment_leaf, name_size, operator_leaf, plain_leaf};
+use crate::prefix::Prefix;
 use crate::source::{
     behind_pieces, digits_in, pieces_behind, pieces_through, text_between, text_from,
 };
@@ -30,10 +31,10 @@ use sh_parse_documents::waiting::Waiting;
 use sh_parse_words::build::{Builder, Request};
 use sh_parse_words::fault::PartFault;
 use sh_parse_words::place::{behind_joins, behind_piece};
-use sh_syntax::tree::{Complete, Parts};
+use sh_syntax::tree::{CompoundList, Parts};
 use sh_token::token::TokenKind;
 use sh_token_pieces::here::Delimiter;
-use sh_token_pieces::mark::{Mark, literal_front};
+use sh_token_pieces::piece::{Piece, literal_prefix};
 use std::alloc::{AllocError, Global};
 
 /// The commands that the parts of a word wait for.
@@ -44,7 +45,7 @@ fn answer(
     depth: usize,
     text: &[u8],
     request: &Request,
-) -> Result<Complete, PartFault>
+) -> Result<CompoundList, PartFault>
     ensures { Gives result (answer_of (programs depth) text.now request.now) }
 {
     let inner = text_of(alloc, request, text)?;
@@ -54,22 +55,25 @@ fn answer(
     }
 }
 
-/// Takes a piece, which the bytes that are left of the text begin with.
+/// Takes a piece. `bytes` is what is left of the text, and begins with the piece.
 fn take_piece(
     text: &[u8],
     builder: &mut Builder,
-    piece: &Mark,
+    piece: &Piece,
     is_empty: bool,
     bytes: &[u8],
 ) -> Result<Option<Request>, PartFault>
-    ensures { Takes result builder.new (take_piece builder.old piece.now is_empty (place_of (length text.now) (behind_joins bytes.now)) (place_of (length text.now) (behind_piece piece.now bytes.now))) }
+    ensures { Takes result builder.new
+        (take_piece builder.old piece.now is_empty
+        (place_of (length text.now) (behind_joins bytes.now))
+        (place_of (length text.now) (behind_piece piece.now bytes.now))) }
 {
     let place = place_of(text.len(), behind_joins(bytes));
     let behind = place_of(text.len(), behind_piece(piece, bytes));
     builder.take(piece, is_empty, place, behind)
 }
 
-/// Takes a piece more, with the commands that it asks for.
+/// Takes one more piece, with the commands that it asks for.
 #[tactic(auto, using(crate::proofs::Steps::piece_alone, crate::proofs::Steps::piece_answered, crate::proofs::Steps::piece_fault, crate::proofs::Steps::piece_answer_fault))]
 #[cycle(program)]
 fn put_piece(
@@ -77,11 +81,12 @@ fn put_piece(
     depth: usize,
     text: &[u8],
     builder: &mut Builder,
-    piece: &Mark,
+    piece: &Piece,
     is_empty: bool,
     bytes: &[u8],
 ) -> Result<(), PartFault>
-    ensures { Changes result builder.new (with_piece (programs depth) text.now builder.old piece.now is_empty bytes.now) }
+    ensures { Changes result builder.new
+        (with_piece (programs depth) text.now builder.old piece.now is_empty bytes.now) }
 {
     let request = match take_piece(text, builder, piece, is_empty, bytes) {
         Ok(Some(request)) => request,
@@ -98,7 +103,7 @@ fn put_piece(
     }
 }
 
-/// The parts of pieces with which the bytes begin that are left of the text.
+/// The parts of pieces. `bytes` is what is left of the text, and begins with the pieces.
 #[tactic(auto, using(crate::proofs::Steps::parts_done, crate::proofs::Steps::parts_fault))]
 #[cycle(program)]
 fn parts_in(
@@ -106,7 +111,7 @@ fn parts_in(
     depth: usize,
     left: usize,
     text: &[u8],
-    pieces: &[Mark],
+    pieces: &[Piece],
     bytes: &[u8],
 ) -> Result<Parts, PartFault>
     ensures { Gives result (parts_in (programs depth) left text.now pieces.now bytes.now) }
@@ -146,18 +151,18 @@ fn word_leaf(
     depth: usize,
     left: usize,
     text: &[u8],
-    pieces: &[Mark],
+    pieces: &[Piece],
     span: Span,
 ) -> Result<Leaf, PartFault>
     ensures { Gives result (word_leaf (programs depth) left text.now pieces.now span) }
 {
     let bytes = text_from(text, span.start);
     let source = text_between(text, span.start, span.end);
-    let front = literal_front(alloc, pieces)?;
-    let Some(size) = name_size(front.as_slice()) else {
+    let prefix = literal_prefix(alloc, pieces)?;
+    let Some(size) = name_size(prefix.as_slice()) else {
         return match parts_in(alloc, depth, left, text, pieces, bytes) {
             Ok(parts) => {
-                let leaf = plain_leaf(alloc, pieces, front, parts, source)?;
+                let leaf = plain_leaf(alloc, pieces, prefix, parts, source)?;
                 Ok(leaf)
             },
             Err(fault) => Err(fault),
@@ -167,7 +172,7 @@ fn word_leaf(
     let others = pieces_behind(pieces, size);
     match parts_in(alloc, depth, left, text, others, behind) {
         Ok(value) => {
-            let leaf = assignment_leaf(alloc, front.as_slice(), size, value, source)?;
+            let leaf = assignment_leaf(alloc, prefix.as_slice(), size, value, source)?;
             Ok(leaf)
         },
         Err(fault) => Err(fault),
@@ -206,9 +211,9 @@ fn leaf_of(
 fn expanded_body(alloc: Global, depth: usize, left: usize, body: &[u8]) -> Result<Parts, PartFault>
     ensures { Gives result (expanded_body (programs depth) left body.now) }
 {
-    let front = front_of(alloc, body)?;
-    match parts_in(alloc, depth, left, body, front.pieces.as_slice(), body) {
-        Ok(parts) => unless(front.fault, parts),
+    let prefix = prefix_of(alloc, body)?;
+    match parts_in(alloc, depth, left, body, prefix.pieces.as_slice(), body) {
+        Ok(parts) => unless(prefix.fault, parts),
         Err(fault) => Err(fault),
     }
 }
@@ -234,8 +239,8 @@ fn document_parts(
     }
 }
 
-/// The parts of the bodies behind an item, of the here-documents that are due there, where so many levels may open. `depth` is how deep
-/// texts may nest in them.
+/// The parts of the bodies after an item, for the here-documents that are due at it, where `left` levels may
+/// open. `depth` is how deep texts may nest in them.
 #[tactic(auto, using(crate::proofs::Steps::bodies_done, crate::proofs::Steps::bodies_fault))]
 #[cycle(program)]
 pub(crate) fn bodies_within(
@@ -263,8 +268,8 @@ pub(crate) fn bodies_within(
     Ok(bodies)
 }
 
-/// Takes a token more of a text in which so many levels may open, with the bodies behind it of the here-documents that are due there.
-/// `depth` is how deep texts may nest in it.
+/// Takes one more token of a text in which `left` levels may open, with the bodies of the here-documents that
+/// are due at it. `depth` is how deep texts may nest in it.
 #[tactic(auto, using(crate::proofs::Steps::item_refused, crate::proofs::Steps::item_deep, crate::proofs::Steps::leaf_fault, crate::proofs::Steps::item_bodies_fault, crate::proofs::Steps::item_taken))]
 #[cycle(program)]
 pub(crate) fn judge_within(
@@ -274,16 +279,17 @@ pub(crate) fn judge_within(
     text: &[u8],
     due: &[Delimiter],
     item: &Item,
-    front: &mut Front,
+    prefix: &mut Prefix,
 ) -> Result<(), PartFault>
-    ensures { Changes result front.new (with_item (programs depth) left text.now due.now item.now front.old) }
+    ensures { Changes result prefix.new
+        (with_item (programs depth) left text.now due.now item.now prefix.old) }
 {
     let input = input(alloc, item)?;
     let start = item.token.span.start;
-    if !front.show(input)? {
+    if !prefix.show(input)? {
         return Err(PartFault::Refused { at: start });
     }
-    let open = front.open();
+    let open = prefix.open();
     if left < open {
         return Err(PartFault::TooDeep { at: start });
     }
@@ -294,58 +300,59 @@ pub(crate) fn judge_within(
     };
     match bodies_within(alloc, depth, inner, text, due, item) {
         Ok(bodies) => {
-            front.put(leaf, bodies)?;
+            prefix.put(leaf, bodies)?;
             Ok(())
         },
         Err(fault) => Err(fault),
     }
 }
 
-/// What comes behind the tokens of a text, in which so many levels may open, where this waits: its end, or at this place no token.
+/// What a text gives after its tokens, where `left` levels may open and `waiting` is awaited. `cut` is the
+/// place from which on no token is found, or `None` where the text ends.
 fn ended_by(
     alloc: Global,
     left: usize,
     text: &[u8],
     waiting: Waiting,
-    front: Front,
+    prefix: Prefix,
     cut: Option<usize>,
-) -> Result<Complete, PartFault>
-    ensures { Gives result (ended_by left text.now waiting front (ending_of cut)) }
+) -> Result<CompoundList, PartFault>
+    ensures { Gives result (ended_by left text.now waiting prefix (ending_of cut)) }
 {
     let size = text.len();
     let Some(at) = cut else {
-        return match front.into_tree()? {
+        return match prefix.into_tree()? {
             Some(tree) => Ok(tree),
             None => Err(PartFault::Refused { at: size }),
         };
     };
-    let left = left.saturating_sub(front.open());
+    let left = left.saturating_sub(prefix.open());
     match cut_fault(alloc, left, text, &waiting, at)? {
         Some(fault) => Err(fault),
         None => Err(PartFault::Refused { at: size }),
     }
 }
 
-/// The list of commands of a text, in which so many levels may open, and whose substitutions nest so deep.
+/// The list of commands of a text, in which `left` levels may open and substitutions may nest `depth` deep.
 #[tactic(auto, using(crate::proofs::Steps::text_fault, crate::proofs::Steps::text_ended))]
 #[cycle(program)]
-fn program(alloc: Global, depth: usize, left: usize, text: &[u8]) -> Result<Complete, PartFault>
+fn program(alloc: Global, depth: usize, left: usize, text: &[u8]) -> Result<CompoundList, PartFault>
     ensures { Gives result (programs depth left text.now) }
 {
     if depth == 0 {
         return Err(PartFault::TooDeep { at: 0 });
     }
     let found = scan_items(alloc, text, true)?;
-    let mut front = Front::of_substitution(alloc)?;
+    let mut prefix = Prefix::of_substitution(alloc)?;
     let mut waiting = Waiting::new(alloc);
     let mut rest = found.items.as_slice();
     while let Some((item, others)) = rest.split_first() {
         let due = waiting.due_at(&item.token.kind);
-        if let Err(fault) = judge_within(alloc, depth - 1, left, text, due, item, &mut front) {
+        if let Err(fault) = judge_within(alloc, depth - 1, left, text, due, item, &mut prefix) {
             return Err(fault);
         }
         waiting.pass(&item.token.kind)?;
         rest = others;
     }
-    ended_by(alloc, left, text, waiting, front, found.cut)
+    ended_by(alloc, left, text, waiting, prefix, found.cut)
 }

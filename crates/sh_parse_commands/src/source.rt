@@ -1,10 +1,10 @@
 //! Parts of texts.
 ghost use Rattle.std.specs.Prelude.{◌≡◌, IfOk, suc, take, drop};
-ghost use Rattle.sh_parse_commands.specs.Sources.{text_between, inside, backquoted, digits_in, behind_pieces};
+ghost use Rattle.sh_parse_commands.specs.Sources.{text_between, inside, backquotes_text, digits_in, behind_pieces};
 
 use sh_parse_words::backquotes::unescaped;
 use sh_parse_words::place::behind_piece;
-use sh_token_pieces::mark::Mark;
+use sh_token_pieces::piece::Piece;
 use std::alloc::{AllocError, Global};
 
 /// The bytes from a place on.
@@ -18,7 +18,7 @@ pub(crate) fn text_from(text: &[u8], start: usize) -> &[u8]
     }
 }
 
-/// So many bytes at the front.
+/// The first `size` bytes.
 pub(crate) fn first_bytes(bytes: &[u8], size: usize) -> &[u8]
     ensures { result.now ≡ take size bytes.now }
 {
@@ -36,20 +36,21 @@ pub(crate) fn text_between(text: &[u8], start: usize, end: usize) -> &[u8]
     first_bytes(text_from(text, start), end.saturating_sub(start))
 }
 
-/// Without the first byte and the last.
+/// The bytes without the first and the last.
 fn inside(bytes: &[u8]) -> &[u8]
     ensures { result.now ≡ inside bytes.now }
 {
     first_bytes(text_from(bytes, 1), bytes.len().saturating_sub(2))
 }
 
-/// The commands between backquotes, which stand in double quotes or not, by the bytes from the one to the other.
+/// The text of the commands between backquotes, from the bytes with both backquotes; `is_quoted`: they are in
+/// double quotes.
 pub(crate) fn backquoted(
     alloc: Global,
     is_quoted: bool,
     bytes: &[u8],
 ) -> Result<Vec<u8>, AllocError>
-    ensures { IfOk result (λ text. text.items ≡ backquoted is_quoted bytes.now) }
+    ensures { IfOk result (λ text. text.items ≡ backquotes_text is_quoted bytes.now) }
 {
     let text = unescaped(alloc, is_quoted, inside(bytes))?;
     Ok(text)
@@ -70,8 +71,8 @@ pub(crate) fn digits_in(alloc: Global, bytes: &[u8]) -> Result<Vec<u8>, AllocErr
     Ok(digits)
 }
 
-/// What comes behind pieces with which the bytes begin.
-pub(crate) fn behind_pieces<'t>(pieces: &[Mark], bytes: &'t [u8]) -> &'t [u8]
+/// What comes after pieces with which the bytes begin.
+pub(crate) fn behind_pieces<'t>(pieces: &[Piece], bytes: &'t [u8]) -> &'t [u8]
     ensures { result.now ≡ behind_pieces pieces.now bytes.now }
 {
     let mut left = bytes;
@@ -83,8 +84,8 @@ pub(crate) fn behind_pieces<'t>(pieces: &[Mark], bytes: &'t [u8]) -> &'t [u8]
     left
 }
 
-/// The pieces behind the one at a place.
-pub(crate) fn pieces_behind(pieces: &[Mark], place: usize) -> &[Mark]
+/// The pieces after the one at a place.
+pub(crate) fn pieces_behind(pieces: &[Piece], place: usize) -> &[Piece]
     ensures { result.now ≡ drop (suc place) pieces.now }
 {
     if place < pieces.len() {
@@ -95,7 +96,7 @@ pub(crate) fn pieces_behind(pieces: &[Mark], place: usize) -> &[Mark]
 }
 
 /// The pieces up to and with the one at a place.
-pub(crate) fn pieces_through(pieces: &[Mark], place: usize) -> &[Mark]
+pub(crate) fn pieces_through(pieces: &[Piece], place: usize) -> &[Piece]
     ensures { result.now ≡ take (suc place) pieces.now }
 {
     if place < pieces.len() {

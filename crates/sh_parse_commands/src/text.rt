@@ -1,11 +1,11 @@
-//! The tokens of a text and the bodies behind them, whose substitutions may nest as deep as levels allow.
+//! The tokens of a text and the bodies after them. Their substitutions may nest as deep as the levels allow.
 ghost use Rattle.std.specs.Prelude.{◌≡◌, ◌≤◌, ◌+◌, suc, length};
 ghost use Rattle.sh_parse_commands.specs.Results.{GivesBodies, Changes};
 ghost use Rattle.sh_parse_commands.specs.Documents.{bodies_of};
 ghost use Rattle.sh_parse_commands.specs.Judging.{with_item};
 ghost use Rattle.sh_parse_commands.specs.Programs.{read_text};
 
-use crate::front::Front;
+use crate::prefix::Prefix;
 use crate::program::{bodies_within, judge_within};
 use sh_base::shared::Shared;
 use sh_parse_documents::item::Item;
@@ -14,7 +14,7 @@ use sh_syntax::tree::Parts;
 use sh_token_pieces::here::Delimiter;
 use std::alloc::Global;
 
-/// How deep texts can nest in this one, in which so many levels may open.
+/// A bound on how deep texts can nest in this one, in which `left` levels may open.
 fn depth_in(left: usize, text: &[u8]) -> usize
     requires { left ≤ 500 }
     ensures { result ≡ suc (left + length text.now) }
@@ -22,7 +22,9 @@ fn depth_in(left: usize, text: &[u8]) -> usize
     text.len() + left + 1
 }
 
-/// Takes a token more of a text in which so many levels may open, with the bodies behind it of the here-documents that are due there.
+/// Takes one more token of a text in which `left` levels may open, with the bodies of the here-documents that
+/// are due at it (`due`). A fault is the first one of the token, its word or these bodies, or want of memory.
+/// After a fault nothing is promised of `prefix`.
 #[tactic(auto, using(crate::proofs::Judged::judged))]
 pub fn judge(
     alloc: Global,
@@ -30,15 +32,17 @@ pub fn judge(
     text: &[u8],
     due: &[Delimiter],
     item: &Item,
-    front: &mut Front,
+    prefix: &mut Prefix,
 ) -> Result<(), PartFault>
     requires { left ≤ 500 }
-    ensures { Changes result front.new (with_item read_text left text.now due.now item.now front.old) }
+    ensures { Changes result prefix.new
+        (with_item read_text left text.now due.now item.now prefix.old) }
 {
-    judge_within(alloc, depth_in(left, text), left, text, due, item, front)
+    judge_within(alloc, depth_in(left, text), left, text, due, item, prefix)
 }
 
-/// The parts of the bodies behind an item, of the here-documents that are due there, where so many levels may open.
+/// The parts of the bodies after an item, for the here-documents that are due at it, where `left` levels may
+/// open. A fault is the first one of these bodies, or want of memory.
 #[tactic(auto, using(crate::proofs::Judged::bodies))]
 pub fn bodies_of(
     alloc: Global,

@@ -1,14 +1,14 @@
 //! What the parts of a word need: places, and the texts of substitutions.
 ghost use Rattle.std.specs.Prelude.{◌≡◌, IfOk, Ok, length};
 ghost use Rattle.sh_parse_words.specs.Places.{place_of};
-ghost use Rattle.sh_parse_commands.specs.Results.{moved};
+ghost use Rattle.sh_parse_commands.specs.Results.{at_other_place};
 ghost use Rattle.sh_parse_commands.specs.Words.{text_of, place_in, refused_or_deep, level_fault, at_its_level, closes_braces, begins_closed};
 
 use crate::source::{backquoted, text_between};
 use sh_parse_words::build::{Request, Substitution};
 use sh_parse_words::fault::PartFault;
-use sh_syntax::tree::Complete;
-use sh_token_pieces::mark::Mark;
+use sh_syntax::tree::CompoundList;
+use sh_token_pieces::piece::Piece;
 use std::alloc::{AllocError, Global};
 
 /// The place in a text of so many bytes from which these are left.
@@ -31,7 +31,7 @@ pub(crate) fn text_of(alloc: Global, request: &Request, text: &[u8]) -> Result<V
     }
 }
 
-/// Where a fault at a place of the text of a substitution stands in the text around it.
+/// The place in the text around a substitution of a fault at a place of the substitution's text.
 #[tactic(auto, unfolding(crate::specs::Words::place_in))]
 fn place_in(request: &Request, at: usize) -> usize
     ensures { result ≡ place_in request.now at }
@@ -43,9 +43,9 @@ fn place_in(request: &Request, at: usize) -> usize
     }
 }
 
-/// A fault in a substitution as one of the text around it.
+/// A fault in a substitution as a fault of the text around it.
 pub(crate) fn fault_in(request: &Request, fault: PartFault) -> PartFault
-    ensures { result ≡ moved (λ at. place_in request.now at) fault }
+    ensures { result ≡ at_other_place (λ at. place_in request.now at) fault }
 {
     match fault {
         PartFault::BadSubstitution { at } => PartFault::BadSubstitution {
@@ -61,7 +61,7 @@ pub(crate) fn fault_in(request: &Request, fault: PartFault) -> PartFault
     }
 }
 
-/// What is told of backquotes at a place that open a level too many, where their text has this fault.
+/// The fault of backquotes at a place that open a level too many, where their text has this fault.
 fn refused_or_deep(place: usize, fault: PartFault) -> PartFault
     ensures { result ≡ refused_or_deep place fault }
 {
@@ -73,7 +73,7 @@ fn refused_or_deep(place: usize, fault: PartFault) -> PartFault
     }
 }
 
-/// What is told of a substitution whose text has this fault.
+/// The fault of a substitution whose text has this fault.
 pub(crate) fn level_fault(request: &Request, fault: PartFault) -> PartFault
     ensures { result ≡ level_fault request.now fault }
 {
@@ -85,7 +85,10 @@ pub(crate) fn level_fault(request: &Request, fault: PartFault) -> PartFault
 }
 
 /// The commands of a substitution, if it doesn't open a level too many.
-pub(crate) fn at_its_level(request: &Request, program: Complete) -> Result<Complete, PartFault>
+pub(crate) fn at_its_level(
+    request: &Request,
+    program: CompoundList,
+) -> Result<CompoundList, PartFault>
     ensures { result ≡ at_its_level request.now (Ok program) }
 {
     if request.is_too_deep {
@@ -95,17 +98,17 @@ pub(crate) fn at_its_level(request: &Request, program: Complete) -> Result<Compl
     Ok(program)
 }
 
-fn closes_braces(piece: &Mark) -> bool
+fn closes_braces(piece: &Piece) -> bool
     ensures { result ≡ closes_braces piece.now }
 {
     match piece {
-        Mark::BraceClose => true,
+        Piece::BraceClose => true,
         _ => false,
     }
 }
 
 /// Whether a `}` comes first.
-pub(crate) fn begins_closed(pieces: &[Mark]) -> bool
+pub(crate) fn begins_closed(pieces: &[Piece]) -> bool
     ensures { result ≡ begins_closed pieces.now }
 {
     match pieces.split_first() {

@@ -8,7 +8,8 @@ use Rattle.sh_token_pieces.specs.Here.{lines, is_end_line, joins_next, are_bodie
 abbrev pub AreWhole : List Delimiter → List ℕ → ℕ → Type 0
 AreWhole due bytes n = are_bodies due false (lines [] (take n bytes)) ≡ true
 
--- no first bytes are; so the end of the input ends them: behind an end line without a newline, or within a body that has no end line
+-- no first bytes are whole bodies; so the end of the input ends the bodies, after an end line without a
+-- newline or within a body without an end line
 abbrev pub AreCut : Bool → List Delimiter → List ℕ → ℕ → Type 0
 AreCut e due bytes n = (e ≡ true) × (n ≡ length bytes) × ((k : ℕ) → AreWhole due bytes k → ⊥)
 
@@ -16,7 +17,8 @@ AreCut e due bytes n = (e ≡ true) × (n ≡ length bytes) × ((k : ℕ) → Ar
 abbrev pub AreBodies : Bool → List Delimiter → List ℕ → ℕ → Type 0
 AreBodies e due bytes n = (AreWhole due bytes n × n ≤ length bytes) ⊎ AreCut e due bytes n
 
--- the same as a value, by the lines; `line` is what came before on the first one, and joined says that the one before goes on with it
+-- the same as a value, line by line; `line` is what came before on the first line; joined: the line before is
+-- joined with the first line
 abbrev pub size_from : Bool → List Delimiter → Bool → List ℕ → List ℕ → Option ℕ
 size_from e [] joined line bytes = Some 0
 size_from e (d ∷ ds) joined line [] = if e then Some 0 else None

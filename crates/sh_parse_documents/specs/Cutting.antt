@@ -6,6 +6,6 @@ use Rattle.sh_parse_documents.specs.Documents.{Line, lines_from, Cut}
 abbrev pub lines_before : ℕ → List ℕ → List Line
 lines_before stop bytes = lines_from (stop - length bytes) bytes
 
--- the bytes that a body has already
+-- a body with the bytes that it has already before it
 abbrev pub behind_taken : List ℕ → List ℕ → Cut → Cut
 behind_taken text places c = record c { text = text ++ c.text; places = places ++ c.places }

@@ -1,4 +1,4 @@
--- Where an item stands in its text.
+-- The place of an item in its text.
 use Rattle.std.specs.Prelude.{ℕ, ◌≤◌}
 use Rattle.sh_token.specs.Placed.{IsPlaced}
 use Rattle.sh_parse_documents.specs.declared.item.Item.{Item}

@@ -1,11 +1,11 @@
--- The tokens of a text with the bodies behind them, one after another, and what ends them (XCU 2.3, 2.7.4).
+-- The tokens of a text with the bodies after them, one after another, and what ends them (XCU 2.3, 2.7.4).
 use Rattle.std.specs.Prelude.{ℕ, zero, suc, ◌+◌, Bool, List, [], ◌∷◌, length, drop}
 use Rattle.sh_token.specs.declared.token.TokenKind.{TokenKind}
 use Rattle.sh_parse_documents.specs.declared.item.Item.{Item}
 use Rattle.sh_parse_documents.specs.Waiting.{Waiting, nothing, behind_token}
 use Rattle.sh_parse_documents.specs.Items.{FirstItem, FoundItem, NoItem, first_item}
 
--- what comes behind the last item: the end of the input; or, from `at` on, what isn't finished
+-- what comes after the last item: the end of the input; or, from `at` on, what isn't finished
 pub data Ending : Type 0 where
   AtEnd : Ending
   Cut : (at : ℕ) → Ending
@@ -27,8 +27,9 @@ abbrev pub with_first : (Waiting → ℕ → Items) → Waiting → ℕ → Firs
 with_first others w at (FoundItem kind start stop after) = with_item kind (at + start) (at + stop) (at + after) (others (behind_token kind w) (at + after))
 with_first others w at (NoItem fault) = none (Cut at)
 
--- those of the text from a place on, where this waits, of which there are less than this number; e: the text's end is that of the input.
--- How deep they may be is said where they are judged: no text opens as many levels as it has bytes
+-- the items of the text from a place on, fewer than this number, where `w` is awaited; e: the end of the text
+-- is the end of the input. No bound of the levels is set here: a text never opens more levels than it has
+-- bytes
 abbrev pub items_from : ℕ → Bool → List ℕ → Waiting → ℕ → Items
 items_from zero e text w at = none (Cut at)
 items_from (suc n) e text w at = with_first (λ v place. items_from n e text v place) w at (first_item e (length text) w (drop at text))
@@ -37,7 +38,7 @@ items_from (suc n) e text w at = with_first (λ v place. items_from n e text v p
 abbrev pub items_of : Bool → List ℕ → Items
 items_of e text = items_from (suc (length text)) e text nothing 0
 
--- what waits behind items, where this waits before them
+-- what is awaited after some items, where `w` is awaited before them
 abbrev pub waiting_behind : Waiting → List Item → Waiting
 waiting_behind w [] = w
 waiting_behind w (t ∷ items) = waiting_behind (behind_token t.token.kind w) items

@@ -10,7 +10,7 @@ use Rattle.sh_token.specs.declared.token.TokenKind.{TokenKind}
 pub record Waiting : Type 0 where
   -- the next word is the delimiter of a here-document
   pub expected : Option Tabs
-  -- the here-documents whose bodies come behind the next newline, in order
+  -- the here-documents whose bodies come after the next newline, in order
   pub due : List Delimiter
 
 abbrev pub nothing : Waiting
@@ -20,14 +20,14 @@ abbrev pub behind_operator : Operator → Waiting → Waiting
 behind_operator Operator.Newline w = nothing
 behind_operator o w = record { expected = tabs_of o; due = w.due }
 
--- what waits behind a token
+-- what is awaited after a token
 abbrev pub behind_token : TokenKind → Waiting → Waiting
 behind_token (TokenKind.Operator o) w = behind_operator o w
 behind_token (TokenKind.Word ms) w = record { expected = None; due = with_delimiter w.expected ms w.due }
 behind_token TokenKind.Number w = record { expected = None; due = w.due }
 behind_token TokenKind.End w = w
 
--- the here-documents whose bodies come directly behind it
+-- the here-documents whose bodies come directly after a token
 abbrev pub due_at_operator : Operator → Waiting → List Delimiter
 due_at_operator Operator.Newline w = w.due
 due_at_operator o w = []

@@ -6,10 +6,11 @@ ghost use Rattle.sh_parse_documents.specs.Bodies.{AreBodies, bodies_size};
 
 use sh_token_pieces::here::Delimiter;
 
-/// How many bytes of the text the bodies of these here-documents take, in order: each goes up to and with the first
-/// line that is its delimiter alone, which no line before goes on with. `at_end`: the text's end is that of the input,
-/// and ends an end line that has no newline, or a body that has no end line. `None` where the text ends within a body,
-/// and the input goes on. Time is linear in what is taken; no memory is.
+/// How many bytes of the text the bodies of these here-documents take, in order. Each goes up to and with the
+/// first line that is its delimiter alone and that isn't joined to the line before (XCU 2.7.4). `at_end`: the
+/// end of the text is the end of the input, which also ends an end line without a newline, or a body without
+/// an end line. `None` where the text ends within a body and the input goes on. The time is linear in the
+/// bytes of the bodies. It takes no memory.
 pub fn bodies_size(text: &[u8], due: &[Delimiter], at_end: bool) -> Option<usize>
     ensures size { result ≡ bodies_size at_end due.now text.now }
     ensures inside { IfSome result (λ size. size ≤ length text.now) }
@@ -35,14 +36,14 @@ pub fn bodies_size(text: &[u8], due: &[Delimiter], at_end: bool) -> Option<usize
     Some(text.len() - rest.len())
 }
 
-/// Whether the line ends the body; `joined`: the one before goes on with it.
+/// Whether the line ends the body; `joined`: the line before is joined with it.
 fn ends_body(delimiter: &Delimiter, joined: bool, line: &[u8]) -> bool
     ensures { result ≡ (not joined && is_end_line delimiter.now line.now) }
 {
     !joined && delimiter.is_end_line(line)
 }
 
-/// The bytes behind the one at a place.
+/// The bytes after the one at a place.
 fn behind(bytes: &[u8], place: usize) -> &[u8]
     ensures { result.now ≡ drop (suc place) bytes.now }
 {
@@ -61,8 +62,9 @@ fn first_newline(bytes: &[u8]) -> Option<usize>
     bytes.iter().position(|b| *b == b'\n')
 }
 
-/// `bodies_size` tells so many bytes exactly where the bodies are these: no other number is, and where none is told no number of
-/// bytes is.
+/// Law: `bodies_size` gives a number exactly where the bodies are that many bytes. So no other number is
+/// right, and where it gives none, no number is.
 pub fn bodies_are_the_defined_ones()
-    ensures { (e : Bool) (due : List Awaited) (bytes : List ℕ) (n : ℕ) → (bodies_size e due bytes ≡ Some n) ↔ AreBodies e due bytes n }
+    ensures { (e : Bool) (due : List Awaited) (bytes : List ℕ) (n : ℕ)
+        → (bodies_size e due bytes ≡ Some n) ↔ AreBodies e due bytes n }
 {}

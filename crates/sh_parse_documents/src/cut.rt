@@ -1,14 +1,14 @@
 //! One body at a time.
 ghost use Rattle.std.specs.Prelude.{◌≡◌, ◌+◌, ◌^◌, ◌<◌, ◌≤◌, ◌++◌, ◌&&◌, not, false, length, IfOk, OnOk};
 ghost use Rattle.sh_token_pieces.specs.Here.{is_end_line};
-ghost use Rattle.sh_parse_documents.specs.Documents.{kept, kept_places, places_from, cut};
+ghost use Rattle.sh_parse_documents.specs.Documents.{body_line, kept_places, places_from, cut_of};
 ghost use Rattle.sh_parse_documents.specs.Cutting.{lines_before};
 
-use crate::line::{behind_place, first_newline, front, kept, up_to};
+use crate::line::{behind_place, first_newline, kept, prefix, up_to};
 use sh_token_pieces::here::Delimiter;
 use std::alloc::{AllocError, Global};
 
-/// A body: its bytes, the place of each, the place at which it ends, and the bytes behind its end line.
+/// A body: its bytes, the place of each byte, the place at which it ends, and the bytes after its end line.
 #[derive(Drop)]
 pub(crate) struct Cut<'t> {
     pub(crate) text: Vec<u8>,
@@ -25,7 +25,15 @@ pub(crate) fn cut_body<'t>(
     stop: usize,
 ) -> Result<Cut<'t>, AllocError>
     requires { length bytes.now ≤ stop }
-    ensures cut { IfOk result (λ found. record { text = found.text.items; places = found.places.items; «end» = found.«end»; rest = lines_before stop found.rest.now } ≡ cut stop delimiter.now false (lines_before stop bytes.now)) }
+    ensures cut { IfOk result (λ found.
+        record {
+          text = found.text.items;
+          places = found.places.items;
+          «end» = found.«end»;
+          rest
+              = lines_before stop found.rest.now;
+        } ≡ cut_of stop delimiter.now false
+        (lines_before stop bytes.now)) }
     ensures inside { IfOk result (λ found. length found.rest.now ≤ stop) }
 {
     let mut text = Vec::new(alloc);
@@ -33,7 +41,7 @@ pub(crate) fn cut_body<'t>(
     let mut joined = false;
     let mut rest = bytes;
     while let Some(place) = first_newline(rest) {
-        let line = front(rest, place);
+        let line = prefix(rest, place);
         let start = stop - rest.len();
         let after = behind_place(rest, place);
         if ends_body(delimiter, joined, line) {
@@ -79,14 +87,14 @@ pub(crate) fn cut_body<'t>(
     })
 }
 
-/// Whether the line ends the body; `joined`: the one before goes on with it.
+/// Whether the line ends the body; `joined`: the line before is joined with it.
 fn ends_body(delimiter: &Delimiter, joined: bool, line: &[u8]) -> bool
     ensures { result ≡ (not joined && is_end_line delimiter.now line.now) }
 {
     !joined && delimiter.is_end_line(line)
 }
 
-/// Puts what the body takes of a line behind it; `start` is the line's place.
+/// Appends to a body what it takes of a line; `start` is the line's place.
 fn push_line(
     text: &mut Vec<u8>,
     places: &mut Vec<usize>,
@@ -96,15 +104,17 @@ fn push_line(
     start: usize,
 ) -> Result<(), AllocError>
     requires { start + length line.now < 2 ^ 64 }
-    ensures text { OnOk result (text.new.items ≡ text.old.items ++ kept delimiter.now joined line.now) }
-    ensures places { OnOk result (places.new.items ≡ places.old.items ++ kept_places delimiter.now joined start line.now) }
+    ensures text { OnOk result
+        (text.new.items ≡ text.old.items ++ body_line delimiter.now joined line.now) }
+    ensures places { OnOk result
+        (places.new.items ≡ places.old.items ++ kept_places delimiter.now joined start line.now) }
 {
     let bytes = kept(delimiter, joined, line);
     text.extend_from_slice(bytes)?;
     push_places(places, start + (line.len() - bytes.len()), bytes.len())
 }
 
-/// Puts so many places one after another behind others.
+/// Appends `count` places, one after another, from `start` on.
 #[tactic(auto, using(crate::proofs::Places::first_place, crate::proofs::Places::no_place))]
 fn push_places(places: &mut Vec<usize>, start: usize, count: usize) -> Result<(), AllocError>
     requires { start + count < 2 ^ 64 }

@@ -8,21 +8,24 @@ use sh_base::sequence::{Sequence, Text};
 use sh_token_pieces::here::Delimiter;
 use std::alloc::{AllocError, Global};
 
-/// The body of a here-document, and where it stands in the text that it was cut from.
+/// The body of a here-document, and its places in the text that it was cut from. A place is a number of bytes
+/// before it.
 #[derive(Debug, Drop)]
 pub struct Document {
-    /// Whether a part of its delimiter is quoted: then it isn't expanded.
+    /// Whether a part of its delimiter is quoted: then the body isn't expanded.
     pub is_quoted: bool,
-    /// Its lines, each with its newline; with `<<-` without the tabs at their fronts.
+    /// Its lines, each with its newline; with `<<-` without the tabs at their beginnings.
     pub text: Text,
     /// The place of each of its bytes in the text.
     pub places: Sequence<usize>,
-    /// The place at which it ends: that of its end line, or, without one, of the end of the bytes that it was cut from.
+    /// The place at which it ends: the place of its end line, or, without one, the end of the bytes that it
+    /// was cut from.
     pub end: usize,
 }
 
 impl Document {
-    /// The place in the text of the byte at an offset of the body; where it has no byte, the place at which it ends.
+    /// The place in the text of the byte at an offset of the body; where the body has no such byte, the place
+    /// at which it ends.
     #[tactic(auto, unfolding(crate::specs::Documents::place_at))]
     pub fn place(&self, offset: usize) -> usize
         ensures { result ≡ place_at self.now offset }
@@ -34,13 +37,14 @@ impl Document {
     }
 }
 
-/// The bodies of the here-documents with these delimiters, in order, in the bytes of the text from `start` up to `stop`. The
-/// only error is want of memory.
+/// The bodies of the here-documents with these delimiters, in order, in the bytes of the text from `start` up
+/// to, not including, `stop`. The only error is want of memory.
 ///
-/// A body is the lines up to, not including, the first one that is its delimiter alone and that no line before goes on with: behind
-/// that line stands its newline, or the bytes end with it. Where no line is that, all bytes are the body, and the bodies behind it
-/// are empty. Behind `<<-` the tabs at the front of a line are dropped, but for a line that the one before goes on with. The time is
-/// linear in the bytes and the delimiters, and so is the memory.
+/// A body has the lines up to, not including, its end line. That is the first line that is its delimiter
+/// alone and that isn't joined to the line before; it ends with a newline, or where the bytes end. Without an
+/// end line all bytes are the body, and the bodies after it are empty. After `<<-` the tabs at the beginning
+/// of a line are dropped, unless the line is joined to the line before. Time and memory are linear in the
+/// bytes and the delimiters (XCU 2.7.4).
 pub fn documents(
     alloc: Global,
     due: &[Delimiter],
@@ -48,7 +52,8 @@ pub fn documents(
     start: usize,
     stop: usize,
 ) -> Result<Vec<Document>, AllocError>
-    ensures { IfOk result (λ found. found.items ≡ documents due.now start (between start stop text.now)) }
+    ensures { IfOk result (λ found.
+        found.items ≡ documents due.now start (between start stop text.now)) }
 {
     let bytes = between(text, start, stop);
     let end = start + bytes.len();

@@ -1,4 +1,4 @@
-//! The tokens of a text with the bodies of here-documents behind them.
+//! The tokens of a text with the bodies of here-documents after them.
 ghost use Rattle.std.specs.Prelude.{◌≡◌, ◌≤◌, IfOk, length, drop};
 ghost use Rattle.sh_parse_documents.specs.Places.{IsItemPlaced};
 ghost use Rattle.sh_parse_documents.specs.Items.{GivesItem, item_at, first_item};
@@ -8,17 +8,20 @@ use crate::waiting::Waiting;
 use sh_token::token::{Token, TokenFault, next_token_within};
 use std::alloc::Global;
 
-/// A token, and behind a newline the bodies of the here-documents that were due.
+/// A token; with a newline, also the bodies of the here-documents that were due.
 #[derive(Debug, Drop)]
 pub struct Item {
     pub token: Token,
-    /// The place behind the bodies, which begin where the token ends; without any that is where the token ends.
+    /// The place after the bodies, which begin where the token ends. Without bodies this is where the token
+    /// ends.
     pub end: usize,
 }
 
-/// The first token of the text from the byte at `at` on, where this waits, with the bodies behind it. `at_end`: the text's
-/// end is that of the input, which cuts off a body that isn't over. `levels`: how many may be open in the token; no text opens
-/// as many as it has bytes. The faults are those of a token; `Unfinished` also where a body isn't over and the input goes on.
+/// The first token of the text from the byte at `at` on, with the bodies after it; `waiting` is what is
+/// awaited there. `at_end`: the end of the text is the end of the input, which cuts off a body that isn't
+/// over. `levels`: how many levels may be open in the token; a text never opens more levels than it has
+/// bytes. The faults are the faults of a token; `Unfinished` also where a body isn't over and the input goes
+/// on.
 #[tactic(auto, unfolding(crate::specs::Items::first_item))]
 pub fn next_item(
     alloc: Global,
@@ -28,7 +31,8 @@ pub fn next_item(
     levels: usize,
     waiting: &Waiting,
 ) -> Result<Item, TokenFault>
-    ensures answers { GivesItem result (item_at at (first_item at_end levels waiting.now (drop at text.now))) }
+    ensures answers { GivesItem result
+        (item_at at (first_item at_end levels waiting.now (drop at text.now))) }
     ensures placed { IfOk result (λ item. IsItemPlaced at (length text.now) item) }
 {
     let token = next_token_within(alloc, text, at, at_end, levels)?;
@@ -41,7 +45,7 @@ pub fn next_item(
     Ok(Item { token, end })
 }
 
-/// The text from a place on, which is empty behind the text.
+/// The text from a place on. It is empty past the end of the text.
 fn bytes_from(text: &[u8], at: usize) -> &[u8]
     ensures { result.now ≡ drop at text.now }
 {

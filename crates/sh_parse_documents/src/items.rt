@@ -1,4 +1,4 @@
-//! All tokens of a text with the bodies of here-documents behind them.
+//! All tokens of a text with the bodies of here-documents after them.
 ghost use Rattle.std.specs.Prelude.{◌≡◌, IfOk};
 ghost use Rattle.sh_parse_documents.specs.Stream.{items_of};
 ghost use Rattle.sh_parse_documents.specs.Scanned.{all_items};
@@ -11,15 +11,16 @@ use std::alloc::{AllocError, Global};
 /// The tokens of a text.
 #[derive(Debug, Drop)]
 pub struct Items {
-    /// The tokens, but for the end of the input.
+    /// The tokens, without the end of the input.
     pub items: Vec<Item>,
-    /// Where no token begins any more, since what stands there isn't finished; `None` where the end of the input comes.
+    /// The place after the last item, where what comes next isn't finished; `None` where the end of the input
+    /// comes next.
     pub cut: Option<usize>,
 }
 
-/// The tokens of a text (XCU 2.3), each newline with the bodies of the here-documents that are due at it (XCU 2.7.4), up to the
-/// end of the input or what is no token. `at_end`: the text's end is that of the input. The only error is want of memory. The time
-/// is linear in the text, and so is the memory.
+/// The tokens of a text (XCU 2.3), each newline with the bodies of the here-documents that are due at it (XCU
+/// 2.7.4), up to the end of the input or to what isn't finished. `at_end`: the end of the text is the end of
+/// the input. The only error is want of memory. Time and memory are linear in the text.
 pub fn scan_items(alloc: Global, text: &[u8], at_end: bool) -> Result<Items, AllocError>
     ensures { IfOk result (λ found. items_of at_end text.now ≡ all_items found) }
 {

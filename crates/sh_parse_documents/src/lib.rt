@@ -1,5 +1,5 @@
-//! The items of a text: its tokens (XCU 2.3), each newline with the bodies of the here-documents that were due at it (XCU 2.7.4), and the
-//! bytes of those bodies.
+//! The items of a text: its tokens (XCU 2.3), each newline with the bodies of the here-documents that were
+//! due at it (XCU 2.7.4), and the bytes of those bodies.
 #![tactic(auto)]
 
 pub mod bodies;

@@ -1,7 +1,7 @@
 //! Lines of bodies.
 ghost use Rattle.std.specs.Prelude.{◌≡◌, ◌<◌, ◌≤◌, ◌-◌, IfSome, suc, length, drop, take, position, nat_eq};
 ghost use Rattle.sh_token_pieces.specs.Here.{without_tabs};
-ghost use Rattle.sh_parse_documents.specs.Documents.{kept, between};
+ghost use Rattle.sh_parse_documents.specs.Documents.{body_line, between};
 
 use sh_token_pieces::here::{Delimiter, Tabs};
 
@@ -14,7 +14,7 @@ pub(crate) fn first_newline(bytes: &[u8]) -> Option<usize>
 }
 
 /// The first so many bytes.
-pub(crate) fn front(bytes: &[u8], count: usize) -> &[u8]
+pub(crate) fn prefix(bytes: &[u8], count: usize) -> &[u8]
     ensures { result.now ≡ take count bytes.now }
 {
     if count <= bytes.len() {
@@ -24,7 +24,7 @@ pub(crate) fn front(bytes: &[u8], count: usize) -> &[u8]
     }
 }
 
-/// What is left behind so many bytes.
+/// What is left after so many bytes.
 fn behind(bytes: &[u8], count: usize) -> &[u8]
     ensures { result.now ≡ drop count bytes.now }
 {
@@ -46,7 +46,7 @@ pub(crate) fn up_to(bytes: &[u8], place: usize) -> &[u8]
     }
 }
 
-/// The bytes behind the one at a place.
+/// The bytes after the one at a place.
 pub(crate) fn behind_place(bytes: &[u8], place: usize) -> &[u8]
     ensures { result.now ≡ drop (suc place) bytes.now }
 {
@@ -62,10 +62,10 @@ pub(crate) fn between(text: &[u8], start: usize, stop: usize) -> &[u8]
     ensures value { result.now ≡ between start stop text.now }
     ensures inside { length result.now ≤ length text.now - start }
 {
-    front(behind(text, start), stop.saturating_sub(start))
+    prefix(behind(text, start), stop.saturating_sub(start))
 }
 
-/// A line without the tabs at its front.
+/// A line without the tabs at its beginning.
 fn without_tabs(line: &[u8]) -> &[u8]
     ensures value { result.now ≡ without_tabs line.now }
     ensures shorter { length result.now ≤ length line.now }
@@ -80,9 +80,9 @@ fn without_tabs(line: &[u8]) -> &[u8]
     rest
 }
 
-/// What a body takes of a line; `joined`: the line before goes on with it.
+/// What a body takes of a line; `joined`: the line before is joined with it.
 pub(crate) fn kept<'t>(delimiter: &Delimiter, joined: bool, line: &'t [u8]) -> &'t [u8]
-    ensures value { result.now ≡ kept delimiter.now joined line.now }
+    ensures value { result.now ≡ body_line delimiter.now joined line.now }
     ensures shorter { length result.now ≤ length line.now }
 {
     if joined {

@@ -5,12 +5,12 @@ ghost use Rattle.sh_parse_documents.specs.Waiting.{nothing, behind_token, due_at
 
 use sh_token::token::TokenKind;
 use sh_token_pieces::here::{Delimiter, Tabs};
-use sh_token_pieces::mark::Mark;
 use sh_token_pieces::operator::Operator;
+use sh_token_pieces::piece::Piece;
 use std::alloc::{AllocError, Global};
 use std::marker::Model;
 
-/// What waits behind some tokens: a delimiter, or bodies at the next newline.
+/// What is awaited after some tokens: a delimiter, or bodies at the next newline.
 #[derive(Drop)]
 pub struct Waiting {
     alloc: Global,
@@ -27,7 +27,7 @@ impl Model for Waiting {
 }
 
 impl Waiting {
-    /// Nothing waits. Takes no memory.
+    /// Nothing is awaited. Takes no memory.
     pub fn new(alloc: Global) -> Self
         ensures { result ≡ nothing }
     {
@@ -38,7 +38,7 @@ impl Waiting {
         }
     }
 
-    /// The here-documents whose bodies come directly behind a token.
+    /// The here-documents whose bodies come directly after a token.
     pub fn due_at(&self, kind: &TokenKind) -> &[Delimiter]
         ensures { result.now ≡ due_at kind.now self.now }
     {
@@ -48,7 +48,7 @@ impl Waiting {
         }
     }
 
-    /// Goes on behind a token, and behind the bodies that come with it. The one error is want of memory, which leaves
+    /// Passes a token, and the bodies that come with it. The one error is want of memory, which leaves
     /// everything as it was.
     pub fn pass(&mut self, kind: &TokenKind) -> Result<(), AllocError>
         ensures passed { OnOk result (self.new ≡ behind_token kind.now self.old) }
@@ -78,13 +78,13 @@ impl Waiting {
     }
 }
 
-/// A word is the delimiter of a here-document that is due, if one is expected. The one error is want of memory, which leaves all as
-/// it was.
+/// If a delimiter is expected, this word is it: then one more here-document is due. The one error is want of
+/// memory, which leaves everything as it was.
 fn add_delimiter(
     alloc: Global,
     due: &mut Vec<Delimiter>,
     expected: Option<Tabs>,
-    pieces: &[Mark],
+    pieces: &[Piece],
 ) -> Result<(), AllocError>
     ensures added { OnOk result (due.new.items ≡ with_delimiter expected pieces.now due.old.items) }
     ensures kept { OnErr result (due.new.items ≡ due.old.items) }

@@ -26,7 +26,7 @@ use sh_rows::Row;
 use sh_syntax::tree::{
     Absence, Affix, ConditionalAction, Extent, Parameter, Part, Parts, SpecialParameter,
 };
-use sh_token_pieces::mark::Mark;
+use sh_token_pieces::piece::Piece;
 use std::alloc::{AllocError, Global};
 
 /// The sign of a special parameter.
@@ -129,19 +129,19 @@ fn text(alloc: Global, bytes: &[u8]) -> Result<Text, AllocError> {
 }
 
 /// The piece that is so written; a `$` for itself where none is.
-fn piece_of(alloc: Global, written: &[u8]) -> Result<Mark, AllocError> {
+fn piece_of(alloc: Global, written: &[u8]) -> Result<Piece, AllocError> {
     match written {
-        b"\"(" => Ok(Mark::DoubleQuotesOpen),
-        b"\")" => Ok(Mark::DoubleQuotesClose),
-        b"((" => Ok(Mark::ArithmeticOpen),
-        b"(" => Ok(Mark::CommandsOpen),
-        b")" => Ok(Mark::CommandsClose),
-        [b'.', byte] => Ok(Mark::Byte(*byte)),
-        [b'/', byte] => Ok(Mark::Backslash(*byte)),
-        [b'$', name @ ..] => Ok(Mark::Variable(text(alloc, name)?)),
-        [b'{', head @ ..] => Ok(Mark::BraceOpen(text(alloc, head)?)),
-        [b'`', inside @ ..] => Ok(Mark::Backquoted(text(alloc, inside)?)),
-        _ => Ok(Mark::Dollar),
+        b"\"(" => Ok(Piece::DoubleQuotesOpen),
+        b"\")" => Ok(Piece::DoubleQuotesClose),
+        b"((" => Ok(Piece::ArithmeticOpen),
+        b"(" => Ok(Piece::CommandsOpen),
+        b")" => Ok(Piece::CommandsClose),
+        [b'.', byte] => Ok(Piece::Byte(*byte)),
+        [b'/', byte] => Ok(Piece::Backslash(*byte)),
+        [b'$', name @ ..] => Ok(Piece::Variable(text(alloc, name)?)),
+        [b'{', head @ ..] => Ok(Piece::BraceOpen(text(alloc, head)?)),
+        [b'`', inside @ ..] => Ok(Piece::Backquoted(text(alloc, inside)?)),
+        _ => Ok(Piece::Dollar),
     }
 }
 

@@ -6,7 +6,7 @@
 //!
 //! `last WANTED TEXT`: the same where the text's end is that of the input.
 //!
-//! `fronts SIGNS TEXT`, `last-fronts SIGNS TEXT`: what the fronts of a text read as, from the empty one on, a sign each: `m` more is
+//! `fronts SIGNS TEXT`, `last-fronts SIGNS TEXT`: what the prefixes of a text read as, from the empty one on, a sign each: `m` more is
 //! needed; `b`, `c`, `u` it is blank, complete or unclosed as a whole; `l` it is refused at its last byte; `r`, `s`, `d` it is refused,
 //! a bad substitution or too deep at the place that `^` marks. `?` is anything else.
 //!
@@ -21,7 +21,7 @@ use sh_parse_rows_tokens::fields::{Found, built, marked};
 use sh_parse_rows_tokens::show::{put_number, put_place, put_word};
 use sh_rows::Row;
 use sh_syntax::text::command_text;
-use sh_syntax::tree::{Complete, ListItem, Separator};
+use sh_syntax::tree::{CompoundList, ListItem, Separator};
 use std::alloc::{AllocError, Global};
 
 /// What a text reads as, its tree left out. A place is a number of bytes.
@@ -52,7 +52,7 @@ pub fn read(
     alloc: Global,
     text: &[u8],
     at_end: bool,
-) -> Result<(Outcome, Option<Complete>), NoMemory> {
+) -> Result<(Outcome, Option<CompoundList>), NoMemory> {
     match read_command(alloc, text, at_end, &Aliases::new(alloc)) {
         Ok(Reading::Complete { tree, used }) => Ok((Outcome::Complete(used), Some(tree))),
         Ok(Reading::Blank { used }) => Ok((Outcome::Blank(used), None)),
@@ -106,7 +106,7 @@ fn put_list(alloc: Global, shown: &mut Vec<u8>, item: &ListItem) -> Result<(), N
 }
 
 /// The AND-OR lists of a tree.
-fn lists(alloc: Global, tree: &Complete) -> Result<Vec<u8>, NoMemory> {
+fn lists(alloc: Global, tree: &CompoundList) -> Result<Vec<u8>, NoMemory> {
     let mut shown = Vec::new(alloc);
     for item in tree.items.as_slice() {
         put_list(alloc, &mut shown, item)?;
@@ -115,7 +115,7 @@ fn lists(alloc: Global, tree: &Complete) -> Result<Vec<u8>, NoMemory> {
 }
 
 /// The AND-OR lists of what a text reads as.
-fn lists_of(alloc: Global, tree: Option<Complete>) -> Result<Vec<u8>, NoMemory> {
+fn lists_of(alloc: Global, tree: Option<CompoundList>) -> Result<Vec<u8>, NoMemory> {
     let Some(tree) = tree else {
         return Ok(Vec::new(alloc));
     };
@@ -152,7 +152,7 @@ fn sign_if(is_so: bool, sign: u8) -> u8 {
     if is_so { sign } else { b'?' }
 }
 
-/// The sign of a front of so many bytes.
+/// The sign of a prefix of so many bytes.
 fn sign_of(outcome: Outcome, size: usize, mark: usize) -> u8 {
     match outcome {
         Outcome::Complete(used) => sign_if(used == size, b'c'),
@@ -166,19 +166,19 @@ fn sign_of(outcome: Outcome, size: usize, mark: usize) -> u8 {
     }
 }
 
-/// The signs of the fronts of a text in which a place may be marked.
+/// The signs of the prefixes of a text in which a place may be marked.
 fn signs(alloc: Global, field: &[u8], at_end: bool) -> Result<Vec<u8>, NoMemory> {
     let (text, mark) = marked(alloc, field)?;
     let mut signs = Vec::new(alloc);
     for size in 0..=text.len() {
-        let front = text.as_slice().get(..size).unwrap_or(b"");
-        let outcome = read_outcome(alloc, front, at_end)?;
+        let prefix = text.as_slice().get(..size).unwrap_or(b"");
+        let outcome = read_outcome(alloc, prefix, at_end)?;
         signs.push(sign_of(outcome, size, mark))?;
     }
     Ok(signs)
 }
 
-/// The signs of the fronts of a built text, counted.
+/// The signs of the prefixes of a built text, counted.
 fn runs(alloc: Global, row: &Row, at_end: bool) -> Result<Vec<u8>, NoMemory> {
     let text = built(alloc, row)?;
     let signs = signs(alloc, &text, at_end)?;

@@ -16,7 +16,7 @@ use sh_parse_rows_tokens::fields::{Found, built};
 use sh_parse_rows_tokens::show::{put_number, word_of};
 use sh_rows::Row;
 use sh_syntax::text::{command_text, pipeline_text};
-use sh_syntax::tree::{AndOr, Command, Complete, Part, Parts, SimpleItem, Target};
+use sh_syntax::tree::{AndOr, Command, CompoundList, Part, Parts, SimpleItem, Target};
 use std::alloc::{AllocError, Global};
 
 /// What is shown of a tree.
@@ -55,7 +55,7 @@ fn put_bodies(shown: &mut Vec<u8>, list: &AndOr) -> Result<(), AllocError> {
 }
 
 /// The bodies of the lists of a tree.
-fn bodies(alloc: Global, tree: &Complete) -> Result<Vec<u8>, NoMemory> {
+fn bodies(alloc: Global, tree: &CompoundList) -> Result<Vec<u8>, NoMemory> {
     let mut shown = Vec::new(alloc);
     for item in tree.items.as_slice() {
         put_bodies(&mut shown, item.list.get())?;
@@ -64,7 +64,7 @@ fn bodies(alloc: Global, tree: &Complete) -> Result<Vec<u8>, NoMemory> {
 }
 
 /// The first AND-OR list of a tree, or its first pipeline, as a text.
-fn first(alloc: Global, tree: &Complete, is_whole: bool) -> Result<Vec<u8>, NoMemory> {
+fn first(alloc: Global, tree: &CompoundList, is_whole: bool) -> Result<Vec<u8>, NoMemory> {
     let Some(item) = tree.items.as_slice().first() else {
         return Ok(Vec::new(alloc));
     };

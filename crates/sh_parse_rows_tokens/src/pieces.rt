@@ -12,7 +12,7 @@ use crate::show::{put_place, put_word};
 use sh_base::NoMemory;
 use sh_rows::Row;
 use sh_token::body_pieces::{BodyFault, body_pieces};
-use sh_token_pieces::mark::Mark;
+use sh_token_pieces::piece::Piece;
 use std::alloc::{AllocError, Global};
 
 /// How many levels may be open in a body.
@@ -32,37 +32,37 @@ fn put(shown: &mut Vec<u8>, sign: &[u8], bytes: &[u8]) -> Result<(), AllocError>
 }
 
 /// Writes a piece.
-fn put_mark(shown: &mut Vec<u8>, mark: &Mark) -> Result<(), AllocError> {
-    match mark {
-        Mark::Byte(byte) => put(shown, b".", &[*byte]),
-        Mark::Escaped(byte) => put(shown, b"\\", &[*byte]),
-        Mark::Backslash(byte) => put(shown, b"/", &[*byte]),
-        Mark::SingleQuoted(text) => put(shown, b"'", text.as_slice()),
-        Mark::DoubleQuotesOpen => put(shown, b"\"(", b""),
-        Mark::DoubleQuotesClose => put(shown, b"\")", b""),
-        Mark::Dollar => put(shown, b"$", b""),
-        Mark::Variable(text) => put(shown, b"$", text.as_slice()),
-        Mark::Parameter(byte) => put(shown, b"@", &[*byte]),
-        Mark::BraceOpen(text) => put(shown, b"{", text.as_slice()),
-        Mark::BraceClose => put(shown, b"}", b""),
-        Mark::ArithmeticOpen => put(shown, b"((", b""),
-        Mark::ArithmeticClose => put(shown, b"))", b""),
-        Mark::CommandsOpen => put(shown, b"(", b""),
-        Mark::CommandsClose => put(shown, b")", b""),
-        Mark::Backquoted(text) => put(shown, b"`", text.as_slice()),
-        Mark::WordOpen => put(shown, b"[", b""),
-        Mark::WordClose(_) => put(shown, b"]", b""),
-        Mark::Blank(byte) => put(shown, b"b", &[*byte]),
-        Mark::Comment(text) => put(shown, b"#", text.as_slice()),
-        Mark::Bodies(text) => put(shown, b"&", text.as_slice()),
-        Mark::Operator(operator) => put(shown, b";", operator.text()),
+fn put_piece(shown: &mut Vec<u8>, piece: &Piece) -> Result<(), AllocError> {
+    match piece {
+        Piece::Byte(byte) => put(shown, b".", &[*byte]),
+        Piece::Escaped(byte) => put(shown, b"\\", &[*byte]),
+        Piece::Backslash(byte) => put(shown, b"/", &[*byte]),
+        Piece::SingleQuoted(text) => put(shown, b"'", text.as_slice()),
+        Piece::DoubleQuotesOpen => put(shown, b"\"(", b""),
+        Piece::DoubleQuotesClose => put(shown, b"\")", b""),
+        Piece::Dollar => put(shown, b"$", b""),
+        Piece::Variable(text) => put(shown, b"$", text.as_slice()),
+        Piece::Parameter(byte) => put(shown, b"@", &[*byte]),
+        Piece::BraceOpen(text) => put(shown, b"{", text.as_slice()),
+        Piece::BraceClose => put(shown, b"}", b""),
+        Piece::ArithmeticOpen => put(shown, b"((", b""),
+        Piece::ArithmeticClose => put(shown, b"))", b""),
+        Piece::CommandsOpen => put(shown, b"(", b""),
+        Piece::CommandsClose => put(shown, b")", b""),
+        Piece::Backquoted(text) => put(shown, b"`", text.as_slice()),
+        Piece::WordOpen => put(shown, b"[", b""),
+        Piece::WordClose(_) => put(shown, b"]", b""),
+        Piece::Blank(byte) => put(shown, b"b", &[*byte]),
+        Piece::Comment(text) => put(shown, b"#", text.as_slice()),
+        Piece::Bodies(text) => put(shown, b"&", text.as_slice()),
+        Piece::Operator(operator) => put(shown, b";", operator.text()),
     }
 }
 
 /// Writes the pieces of a body.
-fn put_marks(shown: &mut Vec<u8>, marks: &[Mark]) -> Result<(), AllocError> {
-    for mark in marks {
-        put_mark(shown, mark)?;
+fn put_pieces(shown: &mut Vec<u8>, pieces: &[Piece]) -> Result<(), AllocError> {
+    for piece in pieces {
+        put_piece(shown, piece)?;
     }
     Ok(())
 }
@@ -82,9 +82,9 @@ fn put_fault(shown: &mut Vec<u8>, fault: BodyFault) -> Result<(), AllocError> {
 fn pieces_of(alloc: Global, body: &[u8]) -> Result<Vec<u8>, NoMemory> {
     let mut shown = Vec::new(alloc);
     match body_pieces(alloc, body, LEVELS) {
-        Ok(marks) => {
-            let put = put_marks(&mut shown, marks.as_slice());
-            drop(marks);
+        Ok(pieces) => {
+            let put = put_pieces(&mut shown, pieces.as_slice());
+            drop(pieces);
             put?;
         },
         Err(fault) => put_fault(&mut shown, fault)?,
@@ -97,8 +97,8 @@ fn fault_of(alloc: Global, row: &Row) -> Result<Vec<u8>, NoMemory> {
     let body = built(alloc, row)?;
     let mut shown = Vec::new(alloc);
     match body_pieces(alloc, &body, LEVELS) {
-        Ok(marks) => {
-            drop(marks);
+        Ok(pieces) => {
+            drop(pieces);
             put_word(&mut shown, b"closed")?;
         },
         Err(fault) => put_fault(&mut shown, fault)?,

@@ -6,7 +6,7 @@
 //! `last-token WANTED TEXT`: the same where the text's end is that of the input.
 //!
 //! `token-fronts SIGNS TEXT`, `last-token-fronts SIGNS TEXT`: what stands first in the fronts of a text, from the empty one on, a sign
-//! each: `t` a token that is the whole front, `u` one that is unfinished. `?` is anything else.
+//! each: `t` a token that is the whole prefix, `u` one that is unfinished. `?` is anything else.
 use crate::by_kind;
 use crate::fields::{Found, built};
 use crate::show::{put_place, put_word};
@@ -73,7 +73,7 @@ fn shown_of_built(alloc: Global, row: &Row) -> Result<Vec<u8>, NoMemory> {
     shown_of(alloc, &text, false)
 }
 
-/// The sign of a front of so many bytes.
+/// The sign of a prefix of so many bytes.
 fn sign_of(first: First, size: usize) -> u8 {
     match first {
         First::Token(0, end) if end == size => b't',
@@ -82,12 +82,12 @@ fn sign_of(first: First, size: usize) -> u8 {
     }
 }
 
-/// The signs of the fronts of a text.
+/// The signs of the prefixes of a text.
 fn signs(alloc: Global, text: &[u8], at_end: bool) -> Result<Vec<u8>, NoMemory> {
     let mut signs = Vec::new(alloc);
     for size in 0..=text.len() {
-        let front = text.get(..size).unwrap_or(b"");
-        let first = first_token(alloc, front, at_end)?;
+        let prefix = text.get(..size).unwrap_or(b"");
+        let first = first_token(alloc, prefix, at_end)?;
         signs.push(sign_of(first, size))?;
     }
     Ok(signs)

@@ -29,7 +29,8 @@ use sh_parse_trees::syntax_tree;
 use sh_rows::Row;
 use sh_syntax::text::command_text;
 use sh_syntax::tree::{
-    Command, Complete, HereDocumentOperator, Parts, RedirectOperator, Separator, SimpleItem, Word,
+    Command, CompoundList, HereDocumentOperator, Parts, RedirectOperator, Separator, SimpleItem,
+    Word,
 };
 use std::alloc::{AllocError, Global};
 
@@ -139,7 +140,7 @@ fn tree_over(
     text: &[u8],
     leaves: &[&[u8]],
     start: Start,
-) -> Result<Option<Complete>, NoMemory> {
+) -> Result<Option<CompoundList>, NoMemory> {
     let Some(actions) = actions_of(alloc, &pieces(alloc, text)?, start)? else {
         return Ok(None);
     };
@@ -149,7 +150,7 @@ fn tree_over(
 }
 
 /// The tree of a text, if it has one.
-fn tree_of(alloc: Global, text: &[u8], start: Start) -> Result<Option<Complete>, NoMemory> {
+fn tree_of(alloc: Global, text: &[u8], start: Start) -> Result<Option<CompoundList>, NoMemory> {
     let tokens = pieces(alloc, text)?;
     tree_over(alloc, text, &tokens, start)
 }
@@ -168,7 +169,7 @@ enum Shown {
 fn put_text(
     alloc: Global,
     shown: &mut Vec<u8>,
-    tree: &Complete,
+    tree: &CompoundList,
     is_whole: bool,
 ) -> Result<(), NoMemory> {
     let [item] = tree.items.as_slice() else {
@@ -185,7 +186,7 @@ fn put_text(
 }
 
 /// Writes what stands behind each list, and how many pipelines each has behind its first.
-fn put_lists(shown: &mut Vec<u8>, tree: &Complete) -> Result<(), NoMemory> {
+fn put_lists(shown: &mut Vec<u8>, tree: &CompoundList) -> Result<(), NoMemory> {
     for item in tree.items.as_slice() {
         let sign = match item.separator {
             Separator::Sequential => b';',
@@ -220,7 +221,7 @@ fn put_items(shown: &mut Vec<u8>, command: &Command) -> Result<(), NoMemory> {
 fn put_tree(
     alloc: Global,
     shown: &mut Vec<u8>,
-    tree: &Complete,
+    tree: &CompoundList,
     what: Shown,
 ) -> Result<(), NoMemory> {
     match what {

@@ -12,7 +12,7 @@ use Rattle.sh_parse_actions.specs.declared.leaf.Leaf.{Leaf as TokenLeaf}
 use Rattle.sh_parse_actions.specs.declared.value.Value.{Value}
 use Rattle.sh_parse_trees.specs.declared.stack.Making.{Making}
 use Rattle.sh_parse_trees.specs.Meaning.{value_made, value_of, values_of, width}
-use Rattle.sh_parse_trees.specs.Stack.{expanded, run_from, shifted, stepped}
+use Rattle.sh_parse_trees.specs.Stack.{after_expansion, run_from, after_shift, after_action}
 
 abbrev pub shifts : List Action → ℕ
 shifts [] = 0
@@ -54,7 +54,7 @@ expand_used : (o : Option (List Value)) (ls : List TokenLeaf) (m : Making) → o
 expand_used None ls m e = absurd (cc)
 expand_used (Some vs) ls m e = let is : ◌≡◌ {A = Making} (record { leaves = ls; values = vs }) m = cc in ap (λ (k : Making). length k.leaves) is
 
-shift_used : (class : ℕ) (ls : List TokenLeaf) (vs : List Value) (m : Making) → shifted class ls vs ≡ Some m → length ls ≡ suc (length m.leaves)
+shift_used : (class : ℕ) (ls : List TokenLeaf) (vs : List Value) (m : Making) → after_shift class ls vs ≡ Some m → length ls ≡ suc (length m.leaves)
 shift_used class [] vs m e = absurd (cc)
 shift_used class (leaf ∷ ls) vs m e =
     let is : ls ≡ m.leaves = cc in ap (λ (ks : List TokenLeaf). suc (length ks)) is
@@ -62,10 +62,10 @@ shift_used class (leaf ∷ ls) vs m e =
 pub used : (actions : List Action) (k m : Making) → run_from actions k ≡ Some m → length k.leaves ≡ length m.leaves + shifts actions
 used [] k m e = let is : k ≡ m = cc in omega (arith, ap (λ (j : Making). length j.leaves) is)
 used (Expand p ∷ actions) k m e =
-    option_and_then_some (run_from actions) (stepped (Expand p) k) m e
-    (λ j h r. expand_used (expanded p k.values) k.leaves j h ∙ used actions j m r)
+    option_and_then_some (run_from actions) (after_action (Expand p) k) m e
+    (λ j h r. expand_used (after_expansion p k.values) k.leaves j h ∙ used actions j m r)
 used (Shift t ∷ actions) k m e =
-    option_and_then_some (run_from actions) (stepped (Shift t) k) m e
+    option_and_then_some (run_from actions) (after_action (Shift t) k) m e
     (λ j h r. omega (arith, shift_used t.class k.leaves k.values j h, used actions j m r))
 
 -- a value has as many leaves as its derivation has tokens

@@ -10,7 +10,7 @@ use Rattle.sh_token_grammar.specs.Shell.{complete, substitution}
 use Rattle.sh_parse_actions.specs.declared.kind.Kind.{Kind}
 use Rattle.sh_parse_actions.specs.declared.leaf.Leaf.{Leaf as TokenLeaf}
 use Rattle.sh_parse_actions.specs.declared.value.Value.{Value}
-use Rattle.sh_parse_actions.specs.Actions.{made}
+use Rattle.sh_parse_actions.specs.Actions.{production_value}
 use Rattle.sh_parse_actions.specs.Values.{list_in}
 use Rattle.sh_parse_trees.specs.Fitting.{FittingHaveSyntax, all_fit, fits}
 use Rattle.sh_parse_trees.specs.Meaning.{whole_list, kept_by, kept_values, syntax_of, value_made, value_of, values_of, width}
@@ -40,7 +40,7 @@ GoodAll sorts None = ⊥
 GoodAll sorts (Some vs) = AllHave sorts vs
 
 kind_good : (kept : List Bool) (sorts : List ℕ) (head : ℕ) (vs : List Value) (o : Option Kind) (kind : Kind) → o ≡ Some kind
-    → Good head (made kind (kept_values kept vs)) → Good head (option_and_then (λ k. made k (kept_values kept vs)) o)
+    → Good head (production_value kind (kept_values kept vs)) → Good head (option_and_then (λ k. production_value k (kept_values kept vs)) o)
 kind_good kept sorts head vs o kind e h = rw e h
 
 node_good : (p n : ℕ) (body : List Symbol) → IsRule (grammar_of complete) p n body → (o : Option (List Value)) → GoodAll (map symbol_sort body) o

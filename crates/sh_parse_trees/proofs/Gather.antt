@@ -5,11 +5,11 @@ use Rattle.sh_parse_actions.specs.declared.kind.Kind.{Kind}
 use Rattle.sh_parse_actions.specs.declared.value.Children.{Children}
 use Rattle.sh_parse_actions.specs.declared.value.Children.TheVariants as children
 use Rattle.sh_parse_actions.specs.declared.value.Value.{Value}
-use Rattle.sh_parse_actions.specs.Actions.{made}
-use Rattle.sh_parse_actions.specs.Values.{children_values, joined}
+use Rattle.sh_parse_actions.specs.Actions.{production_value}
+use Rattle.sh_parse_actions.specs.Values.{children_values, with_child}
 use Rattle.sh_parse_trees.specs.Meaning.{kept_by, kept_values, value_made}
 use Rattle.sh_parse_trees.specs.Productions.{productions, kept_symbols, kinds}
-use Rattle.sh_parse_trees.specs.Stack.{expanded, gathered, made_on, put}
+use Rattle.sh_parse_trees.specs.Stack.{after_expansion, children_and_rest, made_on, with_value}
 use Rattle.sh_parse_trees.proofs.Bools.{left_true, right_true}
 
 abbrev pub how_many : List Bool → ℕ
@@ -38,13 +38,13 @@ few p = small (how_many (kept_by p)) (few_at kept_symbols p few_are)
 
 pub record Gathers (kept : List Bool) (vs stack : List Value) : Type 0 where
   pub c : Children
-  pub is : gathered kept (vs ++ stack) ≡ Some (c, stack)
+  pub is : children_and_rest kept (vs ++ stack) ≡ Some (c, stack)
   pub values : children_values c ≡ kept_values kept vs
   pub size : length (children_values c) ≡ how_many kept
 
 pub record Joins (v : Value) (c : Children) : Type 0 where
   pub all : Children
-  pub is : joined v c ≡ Some all
+  pub is : with_child v c ≡ Some all
   pub values : children_values all ≡ v ∷ children_values c
 
 joins : (v : Value) (c : Children) → length (children_values c) ≤ 2 → Joins v c
@@ -57,14 +57,14 @@ with_kept : (kept : List Bool) (v : Value) (vs stack : List Value) (g : Gathers 
 with_kept kept v vs stack g j =
     record {
       c = j.all;
-      is = ap (option_and_then (put true v)) g.is ∙ ap (option_map (λ c. (c, stack))) j.is;
+      is = ap (option_and_then (with_value true v)) g.is ∙ ap (option_map (λ c. (c, stack))) j.is;
       values = j.values ∙ ap (λ us. v ∷ us) g.values;
       size = ap length j.values ∙ ap suc g.size;
     }
 
 without : (kept : List Bool) (v : Value) (vs stack : List Value) → Gathers kept vs stack → Gathers (false ∷ kept) (v ∷ vs) stack
 without kept v vs stack g =
-    record { c = g.c; is = ap (option_and_then (put false v)) g.is; values = g.values; size = g.size }
+    record { c = g.c; is = ap (option_and_then (with_value false v)) g.is; values = g.values; size = g.size }
 
 pub gathers : (kept : List Bool) (vs stack : List Value) → length vs ≡ length kept → how_many kept ≤ 3 → Gathers kept vs stack
 gathers [] [] stack n h = record { c = children.None; is = refl; values = refl; size = refl }
@@ -76,12 +76,12 @@ gathers [] (v ∷ vs) stack n h = absurd (omega arith)
 gathers (keeps ∷ kept) [] stack n h = absurd (omega arith)
 
 made_there : (o : Option Kind) (c : Children) (us stack : List Value) → children_values c ≡ us
-    → option_and_then (λ kind. made_on kind (c, stack)) o ≡ option_map (λ v. v ∷ stack) (option_and_then (λ kind. made kind us) o)
+    → option_and_then (λ kind. made_on kind (c, stack)) o ≡ option_map (λ v. v ∷ stack) (option_and_then (λ kind. production_value kind us) o)
 made_there None c us stack e = refl
-made_there (Some kind) c us stack e = ap (λ xs. option_map (λ v. v ∷ stack) (made kind xs)) e
+made_there (Some kind) c us stack e = ap (λ xs. option_map (λ v. v ∷ stack) (production_value kind xs)) e
 
 pub expanded_is : (p : ℕ) (vs stack : List Value) → length vs ≡ length (kept_by p)
-    → expanded p (vs ++ stack) ≡ option_map (λ v. v ∷ stack) (value_made p vs)
+    → after_expansion p (vs ++ stack) ≡ option_map (λ v. v ∷ stack) (value_made p vs)
 expanded_is p vs stack n =
     let g : Gathers (kept_by p) vs stack = gathers (kept_by p) vs stack n (few p) in
     ap (λ o. option_and_then (λ kind. option_and_then (made_on kind) o) (slice_get kinds p)) g.is

@@ -11,7 +11,7 @@ use Rattle.sh_parse_actions.specs.declared.leaf.Leaf.{Leaf as TokenLeaf}
 use Rattle.sh_parse_actions.specs.declared.value.Value.{Value}
 use Rattle.sh_parse_trees.specs.declared.stack.Making.{Making}
 use Rattle.sh_parse_trees.specs.Meaning.{kept_by, value_made, value_of, values_of, width}
-use Rattle.sh_parse_trees.specs.Stack.{run_from, stepped}
+use Rattle.sh_parse_trees.specs.Stack.{run_from, after_action}
 use Rattle.sh_parse_trees.proofs.Gather.{expanded_is}
 use Rattle.sh_parse_trees.proofs.Whole.{AllWhole, Whole, count}
 
@@ -21,7 +21,7 @@ making ls vs = record { leaves = ls; values = vs }
 pub run-append : (xs ys : List Action) (m : Making) → run_from (xs ++ ys) m ≡ option_and_then (run_from ys) (run_from xs m)
 run-append [] ys m = refl
 run-append (a ∷ xs) ys m =
-    elim (stepped a m) as (λ o. option_and_then (run_from (xs ++ ys)) o ≡ option_and_then (run_from ys) (option_and_then (run_from xs) o))
+    elim (after_action a m) as (λ o. option_and_then (run_from (xs ++ ys)) o ≡ option_and_then (run_from ys) (option_and_then (run_from xs) o))
     [ None ↦ refl | Some n ↦ run-append xs ys n ]
 
 -- as many values as children

@@ -12,7 +12,7 @@ use Rattle.sh_parse_actions.specs.declared.kind.Kind.{Kind}
 use Rattle.sh_parse_actions.specs.declared.leaf.Leaf.{Leaf}
 use Rattle.sh_parse_actions.specs.declared.leaf.Leaf.TheVariants as leaf
 use Rattle.sh_parse_actions.specs.declared.value.Value.TheVariants as value
-use Rattle.sh_parse_actions.specs.Values.{and_or_in, body_in, case_items_in, command_in, commands_in, complete_in, else_in, form_in, item_body_in, item_end_in, item_in, items_in, leaf_in, list_in, loop_in, name_in, number_in, parameters_in, patterns_in, pipeline_in, pipelines_in, redirect_in, redirects_in, tail_in, values_in, word_in}
+use Rattle.sh_parse_actions.specs.Values.{and_or_in, body_in, case_items_in, command_in, commands_in, compound_list_in, else_in, form_in, item_body_in, item_end_in, item_in, items_in, leaf_in, list_in, loop_in, name_in, number_in, parameters_in, patterns_in, pipeline_in, pipelines_in, redirect_in, redirects_in, tail_in, values_in, word_in}
 use Rattle.sh_parse_trees.specs.Fitting.{fits}
 use Rattle.sh_parse_trees.specs.Productions.{Production, kept_of, kept_symbols, kinds, productions}
 use Rattle.sh_parse_trees.proofs.Bools.{left_true, right_true}
@@ -81,7 +81,7 @@ abbrev all_given : Leaf → Bool
 all_given l = below 35 (λ k. below 32 (λ c. given l k c))
 
 leaves_given : (l : Leaf) → all_given l ≡ true
-unfolding complete and_or_in body_in case_items_in command_in commands_in complete_in else_in form_in item_body_in item_end_in item_in items_in leaf_in list_in loop_in name_in number_in parameters_in patterns_in pipeline_in pipelines_in redirect_in redirects_in tail_in values_in word_in
+unfolding complete and_or_in body_in case_items_in command_in commands_in compound_list_in else_in form_in item_body_in item_end_in item_in items_in leaf_in list_in loop_in name_in number_in parameters_in patterns_in pipeline_in pipelines_in redirect_in redirects_in tail_in values_in word_in
 leaves_given leaf.Operator = refl
 leaves_given (leaf.Redirection operator) = refl
 leaves_given (leaf.HereDocument operator body) = refl

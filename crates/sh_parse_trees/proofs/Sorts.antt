@@ -21,8 +21,8 @@ use Rattle.sh_parse_actions.specs.declared.value.Parameters.{Parameters}
 use Rattle.sh_parse_actions.specs.declared.value.Values.{Values}
 use Rattle.sh_parse_actions.specs.declared.value.Value.{Value}
 use Rattle.sh_parse_actions.specs.declared.value.Value.TheVariants as value
-use Rattle.sh_parse_actions.specs.Actions.{made, made_for, made_named, made_one, made_redirect, made_three, made_two}
-use Rattle.sh_parse_actions.specs.Values.{leaf_target, and_or_in, body_in, case_items_in, command_in, commands_in, complete_in, else_in, form_in, item_body_in, item_end_in, item_in, items_in, leaf_in, list_in, loop_in, name_in, number_in, parameters_in, patterns_in, pipeline_in, pipelines_in, redirect_in, redirects_in, tail_in, target_in, values_in, word_in}
+use Rattle.sh_parse_actions.specs.Actions.{production_value, made_for, made_named, made_one, made_redirect, made_three, made_two}
+use Rattle.sh_parse_actions.specs.Values.{leaf_target, and_or_in, body_in, case_items_in, command_in, commands_in, compound_list_in, else_in, form_in, item_body_in, item_end_in, item_in, items_in, leaf_in, list_in, loop_in, name_in, number_in, parameters_in, patterns_in, pipeline_in, pipelines_in, redirect_in, redirects_in, tail_in, target_in, values_in, word_in}
 use Rattle.sh_parse_trees.proofs.Bools.{left_true, right_true, or_true, second_true}
 
 -- sorts by number: a value is of a sort where it has a part of that sort
@@ -57,7 +57,7 @@ tests v =
     (is_some (and_or_in v)) ∷
     (is_some (tail_in v)) ∷
     (is_some (list_in v)) ∷
-    (is_some (complete_in v)) ∷
+    (is_some (compound_list_in v)) ∷
     (is_some (form_in v)) ∷
     (is_some (else_in v)) ∷
     (is_some (values_in v)) ∷
@@ -255,16 +255,16 @@ pub one_good : (kind : Unary) (head : ℕ) (a : Value) → Has (takes_one kind h
 unfolding tail_in else_in parameters_in values_in form_in item_body_in item_end_in
 one_good one.Same head a h = h
 one_good (one.Separated separator) head a h = map_good _ (list_in a) 16 h (λ x. refl)
-one_good one.Else head a h = map_good _ (complete_in a) 20 h (λ x. refl)
-one_good (one.Parameters is_separated) head a h = map_good _ (complete_in a) 22 h (λ x. refl)
-one_good one.LastValue head a h = map_good _ (complete_in a) 21 h (λ x. refl)
-one_good one.Group head a h = map_good _ (complete_in a) 19 h (λ x. refl)
-one_good one.Subshell head a h = map_good _ (complete_in a) 19 h (λ x. refl)
+one_good one.Else head a h = map_good _ (compound_list_in a) 20 h (λ x. refl)
+one_good (one.Parameters is_separated) head a h = map_good _ (compound_list_in a) 22 h (λ x. refl)
+one_good one.LastValue head a h = map_good _ (compound_list_in a) 21 h (λ x. refl)
+one_good one.Group head a h = map_good _ (compound_list_in a) 19 h (λ x. refl)
+one_good one.Subshell head a h = map_good _ (compound_list_in a) 19 h (λ x. refl)
 one_good one.EmptyItem head a h = map_good _ (item_end_in a) 26 h (λ x. refl)
 one_good one.Break head a h = map_good _ (case_items_in a) 25 h (λ x. refl)
 
 pub two_good : (kind : Binary) (a b : Value) → Has (first_of_two kind) a → Has (second_of_two kind) b → Good (makes_two kind) (made_two kind a b)
-unfolding list_in complete_in and_or_in pipelines_in pipeline_in commands_in command_in body_in items_in redirects_in redirect_in form_in values_in patterns_in
+unfolding list_in compound_list_in and_or_in pipelines_in pipeline_in commands_in command_in body_in items_in redirects_in redirect_in form_in values_in patterns_in
 two_good two.List a b h k = map_good _ (option_zip (and_or_in a) (tail_in b)) 17 (zip_some _ _ h k) (λ p. refl)
 two_good two.CompoundList a b h k = map_good _ (option_zip (and_or_in a) (tail_in b)) 18 (zip_some _ _ h k) (λ p. refl)
 two_good two.AndOr a b h k = map_good _ (option_zip (pipeline_in a) (pipelines_in b)) 15 (zip_some _ _ h k) (λ p. refl)
@@ -288,11 +288,11 @@ pub three_good : (kind : Ternary) (a b c : Value) → Has (first_of_three kind) 
 unfolding form_in else_in case_items_in item_body_in
 three_good three.Redirect a b c h k l = then_good _ (option_zip (number_in a) (word_in c)) 7 (zip_some _ _ h l) (λ p. redirect_good (Some p.0) b p.1 k)
 three_good three.If a b c h k l =
-    map_good _ (option_zip (option_zip (complete_in a) (complete_in b)) (else_in c)) 19 (zip_some _ _ (zip_some _ _ h k) l) (λ p. refl)
+    map_good _ (option_zip (option_zip (compound_list_in a) (compound_list_in b)) (else_in c)) 19 (zip_some _ _ (zip_some _ _ h k) l) (λ p. refl)
 three_good three.ElseIf a b c h k l =
-    map_good _ (option_zip (option_zip (complete_in a) (complete_in b)) (else_in c)) 20 (zip_some _ _ (zip_some _ _ h k) l) (λ p. refl)
+    map_good _ (option_zip (option_zip (compound_list_in a) (compound_list_in b)) (else_in c)) 20 (zip_some _ _ (zip_some _ _ h k) l) (λ p. refl)
 three_good three.Loop a b c h k l =
-    map_good _ (option_zip (option_zip (loop_in a) (complete_in b)) (complete_in c)) 19 (zip_some _ _ (zip_some _ _ h k) l) (λ p. refl)
+    map_good _ (option_zip (option_zip (loop_in a) (compound_list_in b)) (compound_list_in c)) 19 (zip_some _ _ (zip_some _ _ h k) l) (λ p. refl)
 three_good (three.CaseItem has_parenthesis) a b c h k l =
     map_good _ (option_zip (option_zip (word_in a) (patterns_in b)) (item_body_in c)) 24 (zip_some _ _ (zip_some _ _ h k) l) (λ p. refl)
 three_good three.ItemList a b c h k l =
@@ -359,7 +359,7 @@ AllHave (s ∷ sorts) (v ∷ vs) = Has s v × AllHave sorts vs
 AllHave [] (v ∷ vs) = ⊥
 AllHave (s ∷ sorts) [] = ⊥
 
-one_checked : (kind : Unary) (sorts : List ℕ) (vs : List Value) (head : ℕ) → checked_one kind sorts head ≡ true → AllHave sorts vs → Good head (made (One kind) vs)
+one_checked : (kind : Unary) (sorts : List ℕ) (vs : List Value) (head : ℕ) → checked_one kind sorts head ≡ true → AllHave sorts vs → Good head (production_value (One kind) vs)
 one_checked kind (s ∷ []) (a ∷ []) head e (h, t) =
     serves_good _ head _ (right_true (serves s (takes_one kind head)) _ e)
     (one_good kind head a (serves_has s (takes_one kind head) a (left_true _ _ e) h))
@@ -368,7 +368,7 @@ one_checked kind (s ∷ []) (a ∷ b ∷ vs) head e h = absurd (h.1)
 one_checked kind [] vs head e h = absurd (cc)
 one_checked kind (s ∷ r ∷ sorts) vs head e h = absurd (cc)
 
-two_checked : (kind : Binary) (sorts : List ℕ) (vs : List Value) (head : ℕ) → checked_two kind sorts head ≡ true → AllHave sorts vs → Good head (made (Two kind) vs)
+two_checked : (kind : Binary) (sorts : List ℕ) (vs : List Value) (head : ℕ) → checked_two kind sorts head ≡ true → AllHave sorts vs → Good head (production_value (Two kind) vs)
 two_checked kind (s ∷ r ∷ []) (a ∷ b ∷ []) head e (h, (k, t)) =
     let f = right_true (serves s (first_of_two kind)) _ e in
     serves_good _ head _ (right_true (serves r (second_of_two kind)) _ f)
@@ -380,7 +380,7 @@ two_checked kind [] vs head e h = absurd (cc)
 two_checked kind (s ∷ []) vs head e h = absurd (cc)
 two_checked kind (s ∷ r ∷ q ∷ sorts) vs head e h = absurd (cc)
 
-three_checked : (kind : Ternary) (sorts : List ℕ) (vs : List Value) (head : ℕ) → checked_three kind sorts head ≡ true → AllHave sorts vs → Good head (made (Three kind) vs)
+three_checked : (kind : Ternary) (sorts : List ℕ) (vs : List Value) (head : ℕ) → checked_three kind sorts head ≡ true → AllHave sorts vs → Good head (production_value (Three kind) vs)
 three_checked kind (s ∷ r ∷ q ∷ []) (a ∷ b ∷ c ∷ []) head e (h, (k, (l, t))) =
     let f = right_true (serves s (first_of_three kind)) _ e in
     let g = right_true (serves r (second_of_three kind)) _ f in
@@ -396,7 +396,7 @@ three_checked kind (s ∷ []) vs head e h = absurd (cc)
 three_checked kind (s ∷ r ∷ []) vs head e h = absurd (cc)
 three_checked kind (s ∷ r ∷ q ∷ p ∷ sorts) vs head e h = absurd (cc)
 
-pub checked_good : (kind : Kind) (sorts : List ℕ) (vs : List Value) (head : ℕ) → checked kind sorts head ≡ true → AllHave sorts vs → Good head (made kind vs)
+pub checked_good : (kind : Kind) (sorts : List ℕ) (vs : List Value) (head : ℕ) → checked kind sorts head ≡ true → AllHave sorts vs → Good head (production_value kind vs)
 checked_good Nothing sorts vs head e h = e
 checked_good (One kind) sorts vs head e h = one_checked kind sorts vs head e h
 checked_good (Two kind) sorts vs head e h = two_checked kind sorts vs head e h

@@ -13,7 +13,7 @@ use Rattle.sh_parse_actions.specs.declared.leaf.Leaf.{Leaf}
 use Rattle.sh_parse_actions.specs.declared.leaf.Leaf.TheVariants as leaf
 use Rattle.sh_parse_trees.specs.Meaning.{syntax_of}
 
--- operators that stand for themselves, and the newline
+-- the operators other than redirection operators, and the newline
 abbrev pub signs : List TokenClass
 signs =
     class.Semicolon ∷ class.And ∷ class.AndIf ∷ class.OrIf ∷ class.Pipe ∷ class.LeftParenthesis ∷ class.RightParenthesis ∷ class.DoubleSemicolon
@@ -26,7 +26,7 @@ other_words = class.Other ∷ class.Bang ∷ class.LeftBrace ∷ class.RightBrac
 abbrev pub is_one_of : List TokenClass → ℕ → Bool
 is_one_of classes number = list_any (λ c. nat_eq number (class_number c)) classes
 
--- the leaf is one of a token of the class of this number
+-- the leaf fits a token of the class of this number
 abbrev pub fits : ℕ → Leaf → Bool
 fits number leaf.Operator = is_one_of signs number
 fits number (leaf.Redirection operator) = nat_eq number (class_number class.Redirection)
@@ -36,7 +36,7 @@ fits number (leaf.Word word) = is_one_of other_words number
 fits number (leaf.Name word name) = is_one_of names number
 fits number (leaf.Assignment word name parts) = nat_eq number (class_number class.Assignment)
 
--- there is a leaf for each token, in the same order
+-- there is a fitting leaf for each token, in the same order
 abbrev pub all_fit : List Token → List Leaf → Bool
 all_fit [] [] = true
 all_fit [] (l ∷ ls) = false

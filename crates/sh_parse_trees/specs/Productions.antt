@@ -1,12 +1,13 @@
--- What each production of the grammar (XCU 2.10.2) is to the tree, beside the production: its head, the symbols of its body, of each
--- whether its value is kept, and the kind of what is made of the values that are kept. The others are tokens that the production
--- names, as an operator or a reserved word, newlines, and the mark of the end of a compound command.
+-- What each production of the grammar (XCU 2.10.2) is to the tree. A row has the head of the production, the
+-- symbols of its body, for each symbol whether its value is kept, and the kind of what is made of the kept
+-- values. The symbols that aren't kept are the operators and reserved words that the production names,
+-- newlines, and the mark of the end of a compound command.
 use Rattle.std.specs.Prelude.{◌≡◌, Bool, true, false, List, [], ◌∷◌, map}
 use Rattle.sh_grammar.specs.declared.Symbol.{Symbol}
 use Rattle.sh_grammar.specs.Grammar.{Rule}
 use Rattle.sh_grammar.specs.Tabulation.{Tabulation, grammar_of}
 use Rattle.sh_token_grammar.specs.declared.class.TokenClass.TheVariants.{And, AndIf, Bang, Case, Do, Done, DoubleSemicolon, Elif, Else, Esac, Fi, For, If, In, LeftBrace, LeftParenthesis, Newline, Number, OrIf, Pipe, Redirection, RightBrace, RightParenthesis, Semicolon, Then}
-use Rattle.sh_token_grammar.specs.Shell.{number_of, token, and_or, any_word, arguments, assignment, behind_name, behind_separator, behind_variable, command, command_word, complete_command, compound, compound_end, compound_list, else_part, for_lines, function_name, item_body, item_end, item_list, items, last_and_ors, loop, more_and_ors, more_commands, more_patterns, more_pipelines, newlines, other_word, others, pattern_word, pipeline, prefix, redirect, redirects, substituted, substituted_list, values, variable_name}
+use Rattle.sh_token_grammar.specs.Shell.{number_of, token, and_or, any_word, arguments, assignment, behind_name, behind_separator, behind_variable, command, command_word, complete_command, compound, compound_end, compound_list, else_part, for_lines, function_name, item_body, item_end, item_list, items, last_and_ors, loop, more_and_ors, more_commands, more_patterns, more_pipelines, newlines, other_word, others, pattern_word, pipeline, prefix, redirect, redirects, substitution_text, substituted_list, values, variable_name}
 use Rattle.sh_syntax.specs.declared.tree.Connector.TheVariants as connector
 use Rattle.sh_syntax.specs.declared.tree.Separator.TheVariants as separator
 use Rattle.sh_parse_actions.specs.declared.kind.Item.TheVariants as item
@@ -106,13 +107,13 @@ productions =
     ∷ production item_list (keep and_or ∷ keep more_and_ors ∷ keep item_end ∷ []) (Three three.ItemList)
     ∷ production item_end [] Nothing
     ∷ production item_end (skip (token DoubleSemicolon) ∷ skip newlines ∷ keep items ∷ []) (One one.Break)
-    ∷ production substituted (skip newlines ∷ keep substituted_list ∷ []) (One one.Same)
+    ∷ production substitution_text (skip newlines ∷ keep substituted_list ∷ []) (One one.Same)
     ∷ production substituted_list [] Nothing
     ∷ production substituted_list (keep and_or ∷ keep more_and_ors ∷ []) (Two two.List)
     ∷ production compound_end [] Nothing
     ∷ []
 
--- these are the productions of the grammar, all of them in its order
+-- the rows are the productions of the grammar, all of them and in its order
 abbrev pub rule_of : Production → Rule
 rule_of p = record { head = number_of p.head; body = map (λ s. s.symbol) p.body }
 

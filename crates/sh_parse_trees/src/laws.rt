@@ -9,8 +9,8 @@ pub fn fitting_leaves_have_syntax()
     ensures substitution { FittingHaveSyntax substitution }
 {}
 
-/// Law: the productions that have their kinds beside them are those of the grammar, symbol by symbol and in its order: the row of `&&` is
-/// the production of `&&`.
+/// Law: the productions that have their kinds beside them are the productions of the grammar, symbol by
+/// symbol and in its order. So the row of `&&` is the production of `&&`.
 pub fn kinds_stand_beside_their_productions()
     ensures command { AreThoseOf complete }
     ensures substitution { AreThoseOf substitution }

@@ -1,5 +1,5 @@
-//! Syntax trees of the shell from derivations by its grammar (XCU 2.10.2): the recognizer gives a derivation as a list of actions, and
-//! each token comes with its leaf, what the tree has of it.
+//! Syntax trees of the shell from derivations by its grammar (XCU 2.10.2). The recognizer gives a derivation
+//! as a list of actions, and each token comes with its leaf, which is what the tree has of the token.
 #![tactic(auto)]
 
 mod laws;

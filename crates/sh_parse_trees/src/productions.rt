@@ -1,4 +1,5 @@
-//! For each production of the grammar, in the order of the grammar: which symbols of its body matter to the tree, and its kind.
+//! For each production of the grammar, in the order of the grammar: which symbols of its body matter to the
+//! tree, and its kind.
 ghost use Rattle.std.specs.Prelude.{◌≡◌, slice_get, slice_index_or, map, []};
 ghost use Rattle.sh_parse_trees.specs.Productions.{kept_symbols, kinds};
 

@@ -1,6 +1,6 @@
 //! The making of a tree, from the last action of its derivation back to the first.
 ghost use Rattle.std.specs.Prelude.{◌≡◌, IfOk, reverse};
-ghost use Rattle.sh_parse_trees.specs.Stack.{expanded, gathered, made_on, put, run_from, shifted, started, stepped};
+ghost use Rattle.sh_parse_trees.specs.Stack.{after_expansion, children_and_rest, made_on, with_value, run_from, after_shift, at_start, after_action};
 
 use crate::productions::{kept, kind};
 use sh_grammar::Action;
@@ -14,20 +14,21 @@ use std::alloc::{AllocError, Global};
 /// A tree that is being made.
 #[derive(Drop)]
 pub(crate) struct Making {
-    /// The leaves of the tokens before, the last one first.
+    /// The leaves of the tokens that are still to come, which are the tokens further left; the last one is
+    /// taken first.
     pub(crate) leaves: Backward<Leaf>,
-    /// The values of the symbols behind, the leftmost first.
+    /// The values of the symbols to the right, the leftmost first.
     pub(crate) values: Backward<Value>,
 }
 
-/// Puts a value that matters in front of the children.
+/// Puts a value before the children if it matters, else drops it.
 fn put(
     keeps: bool,
     value: Value,
     children: Children,
     values: Backward<Value>,
 ) -> Option<(Children, Backward<Value>)>
-    ensures { result ≡ put keeps value (children, values) }
+    ensures { result ≡ with_value keeps value (children, values) }
 {
     if keeps {
         let children = children.with_first(value)?;
@@ -37,9 +38,10 @@ fn put(
     Some((children, values))
 }
 
-/// Takes the values of a production's symbols off: those that matter, and the others.
+/// Takes off the values of a production's symbols. It gives the values that matter, and the values of the
+/// other symbols to the right.
 fn gather(values: Backward<Value>, kept: &[bool]) -> Option<(Children, Backward<Value>)>
-    ensures { result ≡ gathered kept.now values }
+    ensures { result ≡ children_and_rest kept.now values }
 {
     let Some((keeps, others)) = kept.split_first() else {
         return Some((Children::None, values));
@@ -52,7 +54,7 @@ fn gather(values: Backward<Value>, kept: &[bool]) -> Option<(Children, Backward<
     put(*keeps, value, children, values)
 }
 
-/// Puts what a kind makes of the children on the others.
+/// Puts what a kind makes of the children before the other values.
 fn make_on(
     alloc: Global,
     kind: Kind,
@@ -68,13 +70,13 @@ fn make_on(
     Ok(Some(values))
 }
 
-/// Puts the value of a production in place of those of its symbols.
+/// Replaces the values of a production's symbols with the value of the production.
 fn expand(
     alloc: Global,
     production: u8,
     values: Backward<Value>,
 ) -> Result<Option<Backward<Value>>, AllocError>
-    ensures { IfOk result (λ found. found ≡ expanded production values) }
+    ensures { IfOk result (λ found. found ≡ after_expansion production values) }
 {
     let Some(kind) = kind(production) else {
         return Ok(None);
@@ -86,13 +88,13 @@ fn expand(
     Ok(found)
 }
 
-/// Puts a token in front, with the last of the leaves.
+/// Puts a token before the other values, with the last of the leaves.
 fn shift(
     class: u8,
     leaves: Backward<Leaf>,
     values: Backward<Value>,
 ) -> Result<Option<Making>, AllocError>
-    ensures { IfOk result (λ found. found ≡ shifted class leaves values) }
+    ensures { IfOk result (λ found. found ≡ after_shift class leaves values) }
 {
     let Some((leaf, leaves)) = leaves.split_first() else {
         return Ok(None);
@@ -103,7 +105,7 @@ fn shift(
 
 /// Does what an action asks for.
 fn step(alloc: Global, action: Action, making: Making) -> Result<Option<Making>, AllocError>
-    ensures { IfOk result (λ found. found ≡ stepped action making) }
+    ensures { IfOk result (λ found. found ≡ after_action action making) }
 {
     let Making { leaves, values } = making;
     match action {
@@ -126,19 +128,19 @@ pub(crate) fn run(
     actions: &[Action],
     leaves: Vec<Leaf>,
 ) -> Result<Option<Making>, AllocError>
-    ensures { IfOk result (λ found. found ≡ run_from (reverse actions.now) (started leaves.items)) }
+    ensures { IfOk result (λ found. found ≡ run_from (reverse actions.now) (at_start leaves.items)) }
 {
     let mut making = Making {
         leaves: Backward::from_last(leaves),
         values: Backward::new(alloc),
     };
     let mut rest = actions;
-    while let Some((last, front)) = rest.split_last() {
+    while let Some((last, prefix)) = rest.split_last() {
         let Some(next) = step(alloc, *last, making)? else {
             return Ok(None);
         };
         making = next;
-        rest = front;
+        rest = prefix;
     }
     Ok(Some(making))
 }

@@ -1,4 +1,5 @@
--- What a `${..}` asks for (XCU 2.6.2), by the bytes between `${` and its word, and by whether anything stands behind these.
+-- What a `${..}` asks for (XCU 2.6.2), by the bytes between `${` and its word, and by whether the `}` comes
+-- directly after them.
 use Rattle.std.specs.Prelude.{ℕ, zero, suc, ◌+◌, ◌*◌, ◌-◌, ◌^◌, min, Bool, true, false, ◌||◌, not, nat_eq, List, [], ◌∷◌, length, take, drop, position, Option, Some, None, if◌then◌else◌}
 use Rattle.std.specs.Option.{option_map, option_and_then, unwrap_or}
 use Rattle.std.specs.Char.{is_ascii_digit}
@@ -17,19 +18,19 @@ use Rattle.sh_syntax.specs.declared.tree.Extent.TheVariants.{Smallest, Largest}
 use Rattle.sh_parse_words.specs.declared.parameter.Braces.{Braces}
 use Rattle.sh_parse_words.specs.declared.parameter.Braces.TheVariants as braces
 
--- numbers as large as a machine's largest are all one
-abbrev pub capped : ℕ → ℕ
-capped n = min n (2 ^ 64 - 1)
+-- a number above the largest of the machine counts as the largest
+abbrev pub machine_number : ℕ → ℕ
+machine_number n = min n (2 ^ 64 - 1)
 
--- digits as a decimal number; `n`: that of the digits before them
+-- the value of decimal digits, where the digits before them have the value `n`
 abbrev pub number_behind : ℕ → List ℕ → ℕ
 number_behind n [] = n
-number_behind n (b ∷ bs) = number_behind (capped (capped (n * 10) + (b - 48))) bs
+number_behind n (b ∷ bs) = number_behind (machine_number (machine_number (n * 10) + (b - 48))) bs
 
 -- `${01}` is `$1`, and `${00}` is `$0`
-abbrev pub numbered : ℕ → Parameter
-numbered zero = Special Zero
-numbered (suc n) = Positional (suc n)
+abbrev pub parameter_by_number : ℕ → Parameter
+parameter_by_number zero = Special Zero
+parameter_by_number (suc n) = Positional (suc n)
 
 abbrev pub special : ℕ → Option Parameter
 special b =
@@ -55,7 +56,7 @@ parameter_size (b ∷ bs) =
 abbrev pub parameter : List ℕ → Option Parameter
 parameter [] = None
 parameter (b ∷ bs) =
-    if begins_name b then Some (Variable (b ∷ bs)) else if is_ascii_digit b then Some (numbered (number_behind 0 (b ∷ bs))) else special b
+    if begins_name b then Some (Variable (b ∷ bs)) else if is_ascii_digit b then Some (parameter_by_number (number_behind 0 (b ∷ bs))) else special b
 
 abbrev pub action : ℕ → Option ConditionalAction
 action b =
@@ -76,7 +77,7 @@ abbrev pub or_removal : Option Braces → Option Braces → Option Braces
 or_removal (Some x) other = Some x
 or_removal None other = other
 
--- what an operator behind the parameter asks for; without one nothing may stand behind the parameter
+-- what an operator after the parameter asks for; without an operator the `}` has to come after the parameter
 abbrev pub by_operator : Parameter → List ℕ → Bool → Option Braces
 by_operator p [] empty = if empty then Some (braces.Value p) else None
 by_operator p (b ∷ []) empty = or_removal (conditional p Unset (action b)) (removal p b Smallest)
@@ -84,7 +85,7 @@ by_operator p (b ∷ c ∷ []) empty =
     if nat_eq b 58 then conditional p UnsetOrNull (action c) else if nat_eq b c then removal p b Largest else None
 by_operator p (b ∷ c ∷ d ∷ bs) empty = None
 
--- the parameter that the bytes are as a whole
+-- the parameter that all the bytes together are
 abbrev pub whole_parameter : List ℕ → Option Parameter
 whole_parameter bytes = if nat_eq (parameter_size bytes) (length bytes) then parameter bytes else None
 
@@ -98,7 +99,7 @@ abbrev pub length_or : Option Parameter → List ℕ → Option Braces
 length_or (Some p) bytes = length_of p
 length_or None bytes = by_operator (Special Count) bytes true
 
--- behind `${#`: where a parameter is all that there is, its length is asked for; else `$#` is the parameter
+-- after `${#`: where a parameter and nothing else comes, its length is asked for; else `$#` is the parameter
 abbrev pub behind_hash : List ℕ → Bool → Option Braces
 behind_hash bytes empty = if empty then length_or (whole_parameter bytes) bytes else by_operator (Special Count) bytes false
 
@@ -109,7 +110,8 @@ with_parameter (Some p) bytes empty = by_operator p bytes empty
 abbrev pub behind_other : List ℕ → Bool → Option Braces
 behind_other bytes empty = with_parameter (parameter (take (parameter_size bytes) bytes)) (drop (parameter_size bytes) bytes) empty
 
--- what the bytes between `${` and the word ask for; empty: nothing stands behind them. None: a bad substitution
+-- what the bytes between `${` and the word ask for; empty: the `}` comes directly after them. None: a bad
+-- substitution
 unfoldable pub braces_of : List ℕ → Bool → Option Braces
 braces_of [] empty = None
 braces_of (b ∷ bs) empty = if nat_eq b 35 then behind_hash bs empty else behind_other (b ∷ bs) empty

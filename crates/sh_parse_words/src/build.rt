@@ -4,14 +4,14 @@ ghost use Rattle.sh_syntax.specs.declared.tree.Part.{Part as PartTree};
 ghost use Rattle.sh_parse_words.specs.Parameters.{braces_of, short};
 ghost use Rattle.sh_parse_words.specs.declared.fault.PartFault.TheVariants as fault;
 ghost use Rattle.sh_parse_words.specs.declared.build.Form.TheVariants as form;
-ghost use Rattle.sh_parse_words.specs.Building.{Building, Takes, begun, parts_of, ended, flushed, with_part, with_bytes, braces_part, form_part, opened, closed, on, skipping, skip_close, braces_quote, form_quotes, in_quotes, backquotes_by, backquoted, parameter_part, open_braces, at_level, taking, plainly, take_piece, program_part, with_program, finished, last_frame, other_frames};
+ghost use Rattle.sh_parse_words.specs.Building.{Building, Takes, empty_building, parts_of, with_literal, with_literal_part, with_part, with_bytes, braces_part, form_part, opened, with_form_part, on, skipping, skip_close, braces_quote, form_quotes, in_quotes, backquotes_by, backquotes_request, parameter_part, open_braces, at_level, taking, plainly, take_piece, program_part, with_program, whole_parts, last_frame, other_frames};
 
 use crate::fault::PartFault;
 use crate::parameter::{Braces, parameter};
 use sh_base::sequence::{Sequence, Text};
 use sh_base::shared::Shared;
-use sh_syntax::tree::{Complete, Parameter, Part, Parts};
-use sh_token_pieces::mark::Mark;
+use sh_syntax::tree::{CompoundList, Parameter, Part, Parts};
+use sh_token_pieces::piece::Piece;
 use std::alloc::{AllocError, Global};
 use std::marker::Model;
 use std::mem;
@@ -27,20 +27,20 @@ pub enum Form {
     Arithmetic,
 }
 
-/// An open form, with what stands around it.
+/// An open form, with what is around it.
 #[derive(Drop)]
 pub struct Frame {
     pub form: Form,
     /// The parts before it.
     pub before: Sequence<Part>,
-    /// How many levels might still open before it.
+    /// How many levels might still open around it.
     pub left: usize,
 }
 
 /// A command substitution whose pieces are passed over, since its text is read by itself.
 #[derive(Clone, Copy, Debug)]
 pub struct Skip {
-    /// How many substitutions are open inside it.
+    /// How many substitutions are open inside this one.
     pub depth: usize,
     /// The place of its `$`.
     pub place: usize,
@@ -55,26 +55,27 @@ pub enum Substitution {
     Commands,
     /// Backquotes outside of double quotes.
     Backquotes,
-    /// Backquotes in double quotes, where a backslash before a `"` isn't of their text (XCU 2.2.3).
+    /// Backquotes in double quotes, where a backslash before a `"` doesn't belong to their text (XCU 2.2.3).
     QuotedBackquotes,
 }
 
-/// The commands that the parts wait for. Places are numbers of bytes before them, in the text in which the word stands.
+/// The commands that the parts wait for. A place is the number of bytes before it, in the text that has the
+/// word.
 #[derive(Clone, Copy, Debug)]
 pub struct Request {
     pub form: Substitution,
     /// The place of the substitution.
     pub place: usize,
-    /// From where to where its text stands: with the backquotes, without `$(` and `)`.
+    /// Where its text begins and ends: with the backquotes, but without `$(` and `)`.
     pub start: usize,
     pub end: usize,
     /// How many levels may open in it.
     pub left: usize,
-    /// Whether the substitution opens a level too many itself; of a `$(..)` the commands are not asked for then.
+    /// Whether the substitution itself opens a level too many. A `$(..)` that does so asks for no commands.
     pub is_too_deep: bool,
 }
 
-/// Parts that are being put together. Contracts see what has come so far (`Building`).
+/// Parts that are being put together. Contracts see what it has taken so far (`Building`).
 #[derive(Drop)]
 pub struct Builder {
     alloc: Global,
@@ -98,7 +99,7 @@ impl Model for Builder {
 }
 
 impl Form {
-    /// Whether what stands in the form stands in double quotes, by whether the form does.
+    /// Whether what is inside the form is in double quotes; `around`: the form itself is.
     fn quotes(&self, around: bool) -> bool
         ensures { result ≡ form_quotes self.now around }
     {
@@ -109,7 +110,7 @@ impl Form {
         }
     }
 
-    /// The part that the form is with what stands in it.
+    /// The part that the form makes of what is inside it.
     fn part(self, alloc: Global, inside: Sequence<Part>) -> Result<Part, AllocError>
         ensures { IfOk result (λ part. part ≡ form_part self (parts_of inside)) }
     {
@@ -122,7 +123,7 @@ impl Form {
     }
 }
 
-/// Whether the word of a `${..}` stands in double quotes, by whether this does.
+/// Whether the word of a `${..}` is in double quotes; `around`: the `${..}` itself is.
 fn braces_quote(braces: &Braces, around: bool) -> bool
     ensures { result ≡ braces_quote braces.now around }
 {
@@ -134,7 +135,7 @@ fn braces_quote(braces: &Braces, around: bool) -> bool
     }
 }
 
-/// Whether what stands in the innermost of these forms stands in double quotes, by whether all of them do.
+/// Whether what is inside the innermost of these forms is in double quotes; `around`: the outermost form is.
 fn in_quotes(around: bool, frames: &[Frame]) -> bool
     ensures { result ≡ in_quotes around frames.now }
 {
@@ -147,7 +148,7 @@ fn in_quotes(around: bool, frames: &[Frame]) -> bool
     is_quoted
 }
 
-/// The form of backquotes, by whether they stand in double quotes.
+/// The form of backquotes; `is_quoted`: they are in double quotes.
 fn backquotes_by(is_quoted: bool) -> Substitution
     ensures { result ≡ backquotes_by is_quoted }
 {
@@ -194,7 +195,7 @@ fn copied(alloc: Global, text: &Text) -> Result<Text, AllocError>
     Ok(Sequence::from_vec(bytes))
 }
 
-/// The part that `$` and one byte are.
+/// The part that `$` and one byte make.
 fn short_part(alloc: Global, b: u8) -> Result<Part, AllocError>
     ensures { IfOk result (λ part. part ≡ parameter_part b (short b)) }
 {
@@ -216,9 +217,9 @@ fn innermost(frames: &mut Sequence<Frame>) -> Option<Frame>
 }
 
 impl Builder {
-    /// No part yet, where so many levels may open.
+    /// A builder without parts, in which so many levels may open. It takes no memory.
     pub fn new(alloc: Global, left: usize) -> Self
-        ensures { result ≡ begun left }
+        ensures { result ≡ empty_building left }
     {
         Builder {
             alloc,
@@ -230,9 +231,9 @@ impl Builder {
         }
     }
 
-    /// Makes a part of the bytes that stand for themselves.
+    /// Makes a part of the last bytes, which stand for themselves.
     fn flush(&mut self) -> Result<(), AllocError>
-        ensures { OnOk result (self.new ≡ flushed self.old) }
+        ensures { OnOk result (self.new ≡ with_literal_part self.old) }
     {
         if self.literal.is_empty() {
             return Ok(());
@@ -276,9 +277,9 @@ impl Builder {
     }
 
     /// Closes the innermost form.
-    #[tactic(auto, unfolding(crate::specs::Building::closed))]
+    #[tactic(auto, unfolding(crate::specs::Building::with_form_part))]
     fn close(&mut self) -> Result<(), AllocError>
-        ensures { OnOk result (self.new ≡ closed self.old) }
+        ensures { OnOk result (self.new ≡ with_form_part self.old) }
     {
         let Some(frame) = innermost(&mut self.frames) else {
             return Ok(());
@@ -292,7 +293,7 @@ impl Builder {
         Ok(())
     }
 
-    /// Whether a form may open one level more.
+    /// Whether one more level may open.
     fn has_level(&self) -> bool
         ensures { result ≡ not (nat_eq self.now.left 0) }
     {
@@ -321,7 +322,9 @@ impl Builder {
 
     /// Opens a `$((..))`.
     fn open_arithmetic(&mut self, place: usize) -> Result<Option<Request>, PartFault>
-        ensures { Takes result self.new (at_level self.old.left place (on (opened self.old form.Arithmetic (self.old.left - 1)))) }
+        ensures { Takes result self.new
+            (at_level self.old.left place
+            (on (opened self.old form.Arithmetic (self.old.left - 1)))) }
     {
         if !self.has_level() {
             return Err(PartFault::TooDeep { at: place });
@@ -333,7 +336,10 @@ impl Builder {
 
     /// Begins to pass over a `$(..)`, whose text begins at `start`.
     fn skip(&mut self, place: usize, start: usize) -> Result<Option<Request>, PartFault>
-        ensures { Takes result self.new (at_level self.old.left place (on (record self.old { skip = Some (record { depth = 0; place = place; start = start }) }))) }
+        ensures { Takes result self.new
+            (at_level self.old.left place
+            (on (record self.old
+            { skip = Some (record { depth = 0; place = place; start = start }) }))) }
     {
         if !self.has_level() {
             return Err(PartFault::TooDeep { at: place });
@@ -348,7 +354,7 @@ impl Builder {
 
     /// Asks for the commands between backquotes.
     fn ask_backquoted(&self, place: usize, behind: usize) -> Request
-        ensures { result ≡ backquoted self.now place behind }
+        ensures { result ≡ backquotes_request self.now place behind }
     {
         Request {
             form: backquotes_by(in_quotes(false, self.frames.as_slice())),
@@ -360,9 +366,10 @@ impl Builder {
         }
     }
 
-    /// The end of a `$(..)` that is passed over, or of one inside it.
+    /// Ends the `$(..)` that is passed over, or one inside it.
     fn close_skipped(&mut self, skip: Skip, here: usize) -> Option<Request>
-        ensures { Ok (record { building = self.new; request = result }) ≡ skip_close self.old skip here }
+        ensures { Ok (record { building = self.new; request = result })
+            ≡ skip_close self.old skip here }
     {
         if skip.depth != 0 {
             self.skip = Some(Skip {
@@ -386,60 +393,63 @@ impl Builder {
     fn pass_over(
         &mut self,
         skip: Skip,
-        piece: &Mark,
+        piece: &Piece,
         here: usize,
     ) -> Result<Option<Request>, AllocError>
-        ensures { IfOk result (λ request. Ok (record { building = self.new; request = request }) ≡ skipping self.old skip piece.now here) }
+        ensures { IfOk result (λ request.
+            Ok (record { building = self.new; request = request })
+            ≡ skipping self.old skip piece.now here) }
     {
         match piece {
-            Mark::CommandsOpen => {
-                // more than can be counted would not fit into memory
+            Piece::CommandsOpen => {
+                // more substitutions than can be counted would not fit into memory
                 let Some(depth) = skip.depth.checked_add(1) else {
                     return Err(AllocError);
                 };
                 self.skip = Some(Skip { depth, ..skip });
                 Ok(None)
             },
-            Mark::CommandsClose => Ok(self.close_skipped(skip, here)),
+            Piece::CommandsClose => Ok(self.close_skipped(skip, here)),
             _ => Ok(None),
         }
     }
 
     /// Takes a piece that asks for nothing and opens no level.
     #[tactic(auto, unfolding(crate::specs::Building::plainly))]
-    fn take_plain(&mut self, piece: &Mark) -> Result<(), AllocError>
+    fn take_plain(&mut self, piece: &Piece) -> Result<(), AllocError>
         ensures { OnOk result (self.new ≡ plainly self.old piece.now) }
     {
         match piece {
-            Mark::Byte(b) => self.put_bytes(&[*b]),
-            Mark::Backslash(b) => self.put_bytes(&[b'\\', *b]),
-            Mark::Dollar => self.put_bytes(b"$"),
-            Mark::Escaped(b) => self.put(Part::Escaped(*b)),
-            Mark::SingleQuoted(bytes) => {
+            Piece::Byte(b) => self.put_bytes(&[*b]),
+            Piece::Backslash(b) => self.put_bytes(&[b'\\', *b]),
+            Piece::Dollar => self.put_bytes(b"$"),
+            Piece::Escaped(b) => self.put(Part::Escaped(*b)),
+            Piece::SingleQuoted(bytes) => {
                 let bytes = copied(self.alloc, bytes)?;
                 self.put(Part::SingleQuoted(bytes))
             },
-            Mark::Variable(name) => {
+            Piece::Variable(name) => {
                 let name = copied(self.alloc, name)?;
                 self.put(Part::Parameter(Parameter::Variable(name)))
             },
-            Mark::Parameter(b) => {
+            Piece::Parameter(b) => {
                 let part = short_part(self.alloc, *b)?;
                 self.put(part)
             },
-            Mark::DoubleQuotesOpen => self.open(Form::Quotes, self.left),
-            Mark::DoubleQuotesClose | Mark::BraceClose | Mark::ArithmeticClose => self.close(),
+            Piece::DoubleQuotesOpen => self.open(Form::Quotes, self.left),
+            Piece::DoubleQuotesClose | Piece::BraceClose | Piece::ArithmeticClose => self.close(),
             _ => Ok(()),
         }
     }
 
-    /// Takes the next piece, which stands at `place` in the text, where `behind` is what comes behind it. `is_empty`: the next
-    /// piece is a `}`. The commands that are asked for are to be given by `put_program` before the next piece is taken. After an
-    /// `Err` the parts are of no use.
+    /// Takes the next piece, which is at `place` in the text; the text after the piece begins at `behind`.
+    /// `is_empty`: the next piece is a `}`. If it asks for commands, give them to `put_program` before the
+    /// next piece. The errors are `BadSubstitution`, `TooDeep` and want of memory; after one of them the
+    /// parts are of no use.
     #[tactic(auto, unfolding(crate::specs::Building::take_piece))]
     pub fn take(
         &mut self,
-        piece: &Mark,
+        piece: &Piece,
         is_empty: bool,
         place: usize,
         behind: usize,
@@ -451,10 +461,10 @@ impl Builder {
             return Ok(request);
         }
         match piece {
-            Mark::BraceOpen(head) => self.open_braces(head.as_slice(), is_empty, place),
-            Mark::ArithmeticOpen => self.open_arithmetic(place),
-            Mark::CommandsOpen => self.skip(place, behind),
-            Mark::Backquoted(_) => Ok(Some(self.ask_backquoted(place, behind))),
+            Piece::BraceOpen(head) => self.open_braces(head.as_slice(), is_empty, place),
+            Piece::ArithmeticOpen => self.open_arithmetic(place),
+            Piece::CommandsOpen => self.skip(place, behind),
+            Piece::Backquoted(_) => Ok(Some(self.ask_backquoted(place, behind))),
             _ => {
                 self.take_plain(piece)?;
                 Ok(None)
@@ -462,13 +472,13 @@ impl Builder {
         }
     }
 
-    /// Puts the commands that were asked for behind the parts so far. The only error is want of memory, after which the parts are
-    /// of no use.
+    /// Puts the commands that were asked for after the parts so far. The only error is want of memory, after
+    /// which the parts are of no use.
     #[tactic(auto, unfolding(crate::specs::Building::with_program))]
     pub fn put_program(
         &mut self,
         form: Substitution,
-        program: Shared<Complete>,
+        program: Shared<CompoundList>,
     ) -> Result<(), AllocError>
         ensures { OnOk result (self.new ≡ with_program self.old form program) }
     {
@@ -480,9 +490,9 @@ impl Builder {
     }
 
     /// The parts, or `None` where a form is still open. The only error is want of memory.
-    #[tactic(auto, unfolding(crate::specs::Building::finished))]
+    #[tactic(auto, unfolding(crate::specs::Building::whole_parts))]
     pub fn finish(self) -> Result<Option<Parts>, AllocError>
-        ensures { IfOk result (λ parts. parts ≡ finished self) }
+        ensures { IfOk result (λ parts. parts ≡ whole_parts self) }
     {
         let mut builder = self;
         builder.flush()?;

@@ -5,13 +5,13 @@ use sh_base::NoMemory;
 use std::alloc::{AllocError, AllocFailed};
 use thiserror::Error;
 
-/// Why a word has no parts. A place is the number of bytes before it, in the text in which the word stands.
+/// Why a word has no parts. A place is the number of bytes before it, in the text that has the word.
 #[derive(Clone, Copy, Debug, PartialEq, Eq, Error)]
 pub enum PartFault {
-    /// The `${` at `at` asks for nothing that there is (XCU 2.6.2).
+    /// The `${` at `at` has none of the forms of a parameter expansion (XCU 2.6.2).
     #[error("bad substitution at byte {at}")]
     BadSubstitution { at: usize },
-    /// The form at `at` opens one level more than there may be.
+    /// The form at `at` opens a level too many.
     #[error("nested too deep at byte {at}")]
     TooDeep { at: usize },
     /// The text of the command substitution at `at` is no list of commands (XCU 2.6.3).

@@ -1,5 +1,5 @@
-//! The parts of a word (XCU 2.2, 2.6) from its pieces: what the scanner found in one list becomes the tree of quotes,
-//! expansions and substitutions that is expanded.
+//! The parts of a word (XCU 2.2, 2.6) from its pieces: the flat list that the scanner found becomes the tree
+//! of quotes, expansions and substitutions that the shell expands.
 #![tactic(auto)]
 
 pub mod backquotes;

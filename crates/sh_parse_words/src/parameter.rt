@@ -1,7 +1,7 @@
 //! Parameters, and what a `${..}` asks for (XCU 2.5, 2.6.2).
 ghost use Rattle.std.specs.Prelude.{◌≡◌, ◌≤◌, IfOk, suc, length, position, not, take, drop, ◌∷◌, []};
 ghost use Rattle.std.specs.Option.{option_map, unwrap_or};
-ghost use Rattle.sh_parse_words.specs.Parameters.{number_behind, numbered, special, count_while, parameter_size, parameter, action, removal, by_operator, whole_parameter, length_of, behind_hash, behind_other, braces_of, short};
+ghost use Rattle.sh_parse_words.specs.Parameters.{number_behind, parameter_by_number, special, count_while, parameter_size, parameter, action, removal, by_operator, whole_parameter, length_of, behind_hash, behind_other, braces_of, short};
 ghost use Rattle.std.specs.Char.{is_ascii_digit};
 ghost use Rattle.sh_base.specs.Names.{continues_name};
 
@@ -10,7 +10,7 @@ use sh_base::sequence::Sequence;
 use sh_syntax::tree::{Absence, Affix, ConditionalAction, Extent, Parameter, SpecialParameter};
 use std::alloc::{AllocError, Global};
 
-/// What a `${..}` asks for (XCU 2.6.2). The word or pattern is what stands behind its operator.
+/// What a `${..}` asks for (XCU 2.6.2), without its word or pattern, which comes after the operator.
 #[derive(Debug, Drop)]
 pub enum Braces {
     /// `${p}`: the parameter's value.
@@ -31,7 +31,7 @@ pub enum Braces {
     },
 }
 
-/// Digits as a decimal number, at most the largest.
+/// The value of decimal digits. It is the largest `usize` where the value is larger.
 fn number(digits: &[u8]) -> usize
     ensures { result ≡ number_behind 0 digits.now }
 {
@@ -47,7 +47,7 @@ fn number(digits: &[u8]) -> usize
 }
 
 fn numbered(number: usize) -> Parameter
-    ensures { result ≡ numbered number }
+    ensures { result ≡ parameter_by_number number }
 {
     if number == 0 {
         Parameter::Special(SpecialParameter::Zero)
@@ -111,8 +111,8 @@ fn parameter_size(bytes: &[u8]) -> usize
     }
 }
 
-/// The parameter that bytes behind a `$` or `${` are: a name, digits, or one byte. `None` where they are none. The only error is
-/// want of memory.
+/// The parameter that bytes after a `$` or `${` are: a name, digits, or one byte. `None` where they are no
+/// parameter. The only error is want of memory.
 pub fn parameter(alloc: Global, bytes: &[u8]) -> Result<Option<Parameter>, AllocError>
     ensures { IfOk result (λ found. found ≡ parameter bytes.now) }
 {
@@ -159,7 +159,7 @@ fn removal(parameter: Parameter, b: u8, extent: Extent) -> Option<Braces>
     }
 }
 
-/// What an operator behind the parameter asks for.
+/// What an operator after the parameter asks for; `is_empty`: no word comes after it.
 fn by_operator(parameter: Parameter, operator: &[u8], is_empty: bool) -> Option<Braces>
     ensures { result ≡ by_operator parameter operator.now is_empty }
 {
@@ -187,7 +187,7 @@ fn by_operator(parameter: Parameter, operator: &[u8], is_empty: bool) -> Option<
     }
 }
 
-/// The parameter that the bytes are as a whole.
+/// The parameter that all the bytes together are.
 fn whole_parameter(alloc: Global, bytes: &[u8]) -> Result<Option<Parameter>, AllocError>
     ensures { IfOk result (λ found. found ≡ whole_parameter bytes.now) }
 {
@@ -206,7 +206,7 @@ fn length_of(parameter: Parameter) -> Option<Braces>
     }
 }
 
-/// What bytes behind `${#` ask for.
+/// What bytes after `${#` ask for.
 fn behind_hash(alloc: Global, bytes: &[u8], is_empty: bool) -> Result<Option<Braces>, AllocError>
     ensures { IfOk result (λ found. found ≡ behind_hash bytes.now is_empty) }
 {
@@ -220,7 +220,7 @@ fn behind_hash(alloc: Global, bytes: &[u8], is_empty: bool) -> Result<Option<Bra
     }
 }
 
-/// What other bytes behind `${` ask for.
+/// What other bytes after `${` ask for.
 fn behind_other(alloc: Global, bytes: &[u8], is_empty: bool) -> Result<Option<Braces>, AllocError>
     ensures { IfOk result (λ found. found ≡ behind_other bytes.now is_empty) }
 {
@@ -233,7 +233,7 @@ fn behind_other(alloc: Global, bytes: &[u8], is_empty: bool) -> Result<Option<Br
 
 /// The first bytes and the others.
 fn parted(bytes: &[u8], count: usize) -> (&[u8], &[u8])
-    ensures front { result.0.now ≡ take count bytes.now }
+    ensures prefix { result.0.now ≡ take count bytes.now }
     ensures rest { result.1.now ≡ drop count bytes.now }
 {
     if count < bytes.len() {
@@ -244,8 +244,8 @@ fn parted(bytes: &[u8], count: usize) -> (&[u8], &[u8])
 }
 
 impl Braces {
-    /// What the bytes between `${` and its word ask for; `is_empty`: nothing stands behind them. `None` is a bad substitution
-    /// (XCU 2.6.2). The only error is want of memory.
+    /// What the bytes between `${` and its word ask for; `is_empty`: the `}` comes directly after them.
+    /// `None` is a bad substitution (XCU 2.6.2). The only error is want of memory.
     #[tactic(auto, unfolding(crate::specs::Parameters::braces_of))]
     pub fn of_head(alloc: Global, head: &[u8], is_empty: bool) -> Result<Option<Self>, AllocError>
         ensures { IfOk result (λ found. found ≡ braces_of head.now is_empty) }

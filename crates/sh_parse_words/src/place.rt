@@ -1,11 +1,11 @@
-//! Where pieces stand in their text.
+//! Where pieces are in their text.
 ghost use Rattle.std.specs.Prelude.{◌≡◌, drop};
-ghost use Rattle.sh_token_pieces.specs.Spelling.{spell_mark};
+ghost use Rattle.sh_token_pieces.specs.Spelling.{spell_piece};
 ghost use Rattle.sh_parse_words.specs.Places.{behind_joins, behind_plain, behind_piece};
 
-use sh_token_pieces::mark::Mark;
+use sh_token_pieces::piece::Piece;
 
-/// The text behind the joined lines at its beginning (XCU 2.2.1).
+/// The text after the joined lines at its beginning (XCU 2.2.1).
 pub fn behind_joins(bytes: &[u8]) -> &[u8]
     ensures { result.now ≡ behind_joins bytes.now }
 {
@@ -22,7 +22,7 @@ pub fn behind_joins(bytes: &[u8]) -> &[u8]
     rest
 }
 
-/// The text behind so many bytes of it.
+/// The text after its first `count` bytes.
 fn behind(bytes: &[u8], count: usize) -> &[u8]
     ensures { result.now ≡ drop count bytes.now }
 {
@@ -33,7 +33,7 @@ fn behind(bytes: &[u8], count: usize) -> &[u8]
     }
 }
 
-/// The text behind so many bytes of it that stand for themselves, each with the joined lines before it.
+/// The text after its first `count` bytes, each with the joined lines before it.
 fn behind_plain(bytes: &[u8], count: usize) -> &[u8]
     ensures { result.now ≡ behind_plain count bytes.now }
 {
@@ -46,29 +46,31 @@ fn behind_plain(bytes: &[u8], count: usize) -> &[u8]
     rest
 }
 
-/// The text behind a piece with which it begins.
+/// The text after a piece with which it begins.
 #[tactic(auto, unfolding(crate::specs::Places::behind_piece), using(crate::proofs::Places::plain_is, crate::proofs::Places::raw_is, crate::proofs::Places::raw_closed))]
-pub fn behind_piece<'t>(piece: &Mark, bytes: &'t [u8]) -> &'t [u8]
+pub fn behind_piece<'t>(piece: &Piece, bytes: &'t [u8]) -> &'t [u8]
     ensures { result.now ≡ behind_piece piece.now bytes.now }
 {
     match piece {
-        Mark::WordOpen | Mark::WordClose(_) => bytes,
-        Mark::Escaped(_) | Mark::Backslash(_) => behind(behind_joins(bytes), 2),
-        Mark::SingleQuoted(text) | Mark::Backquoted(text) => {
+        Piece::WordOpen | Piece::WordClose(_) => bytes,
+        Piece::Escaped(_) | Piece::Backslash(_) => behind(behind_joins(bytes), 2),
+        Piece::SingleQuoted(text) | Piece::Backquoted(text) => {
             behind(behind(behind_plain(bytes, 1), text.len()), 1)
         },
-        Mark::Comment(text) | Mark::Bodies(text) => behind(behind_plain(bytes, 1), text.len()),
-        Mark::Variable(name) => behind_plain(behind_plain(bytes, 1), name.len()),
-        Mark::BraceOpen(head) => behind_plain(behind_plain(bytes, 2), head.len()),
-        Mark::ArithmeticOpen => behind_plain(bytes, 3),
-        Mark::Parameter(_) | Mark::ArithmeticClose | Mark::CommandsOpen => behind_plain(bytes, 2),
-        Mark::Operator(operator) => behind_plain(bytes, operator.text().len()),
-        Mark::Byte(_)
-        | Mark::DoubleQuotesOpen
-        | Mark::DoubleQuotesClose
-        | Mark::Dollar
-        | Mark::BraceClose
-        | Mark::CommandsClose
-        | Mark::Blank(_) => behind_plain(bytes, 1),
+        Piece::Comment(text) | Piece::Bodies(text) => behind(behind_plain(bytes, 1), text.len()),
+        Piece::Variable(name) => behind_plain(behind_plain(bytes, 1), name.len()),
+        Piece::BraceOpen(head) => behind_plain(behind_plain(bytes, 2), head.len()),
+        Piece::ArithmeticOpen => behind_plain(bytes, 3),
+        Piece::Parameter(_) | Piece::ArithmeticClose | Piece::CommandsOpen => behind_plain(
+            bytes, 2,
+        ),
+        Piece::Operator(operator) => behind_plain(bytes, operator.text().len()),
+        Piece::Byte(_)
+        | Piece::DoubleQuotesOpen
+        | Piece::DoubleQuotesClose
+        | Piece::Dollar
+        | Piece::BraceClose
+        | Piece::CommandsClose
+        | Piece::Blank(_) => behind_plain(bytes, 1),
     }
 }

@@ -3,7 +3,7 @@ use Rattle.std.proofs.Common.{◌≡◌, ◌⊎◌, inl, inr, ⊎_elim, ℕ, zer
 use Rattle.std.specs.Prelude.{◌↔◌, if◌then◌else◌}
 use Rattle.std.proofs.Math.Nat.{le-suc_iff}
 use Rattle.std.proofs.lemmas.Bool.{cases_lt}
-use Rattle.sh_pattern.specs.declared.mark.Mark.{Mark}
+use Rattle.sh_pattern.specs.declared.pattern_byte.PatternByte.{PatternByte}
 use Rattle.sh_pattern.specs.declared.element.Kind.{Kind}
 use Rattle.sh_pattern.specs.declared.element.Kind.TheVariants.{Star, Any, Byte, Bracket}
 use Rattle.sh_pattern.specs.Deciding.{are_matched, begins, first, greatest, is_empty, is_match, least, longest, or_number, shortest, some_end}
@@ -56,7 +56,7 @@ begins_both takes test Fact d (b ∷ t) = (
   λ h. and_both (takes b) (test t) h.0 ((d t).1 h.1),
 )
 
-first_both : (k : Kind) (inside : List Mark) (test : List ℕ → Bool) (Fact : List ℕ → Type 0) → Decides test Fact → Decides (first k inside test) (First k inside Fact)
+first_both : (k : Kind) (inside : List PatternByte) (test : List ℕ → Bool) (Fact : List ℕ → Type 0) → Decides test Fact → Decides (first k inside test) (First k inside Fact)
 first_both Star inside test Fact d t = (λ h. end_found test Fact d t h, λ h. end_finds test Fact d t h.0 h.1)
 first_both Any inside test Fact d t = begins_both (one_of Any inside) test Fact d t
 first_both (Byte c) inside test Fact d t = begins_both (one_of (Byte c) inside) test Fact d t
@@ -70,7 +70,7 @@ matched_both : (p : List Element) → Decides (are_matched p) (AreMatched p)
 matched_both [] = empty_both
 matched_both (e ∷ p) = first_both e.kind e.inside (are_matched p) (AreMatched p) (matched_both p)
 
-pub match_both : (p : List Mark) → Decides (is_match p) (Matches p)
+pub match_both : (p : List PatternByte) → Decides (is_match p) (Matches p)
 unfolding is_match
 match_both p = matched_both (elements 0 p)
 
@@ -169,26 +169,26 @@ greatest_once Fact most (Some n) (Some m) h k =
     below a b l = elim (cases_lt a b) [ inl z ↦ inl z | inr g ↦ inr (omega (arith, l, g)) ]
 
 -- ---- parts of a text
-tests : (p : List Mark) (part : ℕ → List ℕ) → Tests (λ n. is_match p (part n)) (λ n. Matches p (part n))
+tests : (p : List PatternByte) (part : ℕ → List ℕ) → Tests (λ n. is_match p (part n)) (λ n. Matches p (part n))
 tests p part n = match_both p (part n)
 
-shortest_to : (p : List Mark) (part : ℕ → List ℕ) (most : ℕ) (o : Option ℕ) → IsShortest p part most o → LeastIs (λ n. Matches p (part n)) most o
+shortest_to : (p : List PatternByte) (part : ℕ → List ℕ) (most : ℕ) (o : Option ℕ) → IsShortest p part most o → LeastIs (λ n. Matches p (part n)) most o
 shortest_to p part most None h = h
 shortest_to p part most (Some n) h = record { within = h.0; passes = h.1; first = h.2 }
 
-shortest_of : (p : List Mark) (part : ℕ → List ℕ) (most : ℕ) (o : Option ℕ) → LeastIs (λ n. Matches p (part n)) most o → IsShortest p part most o
+shortest_of : (p : List PatternByte) (part : ℕ → List ℕ) (most : ℕ) (o : Option ℕ) → LeastIs (λ n. Matches p (part n)) most o → IsShortest p part most o
 shortest_of p part most None h = h
 shortest_of p part most (Some n) h = (h.within, h.passes, h.first)
 
-longest_to : (p : List Mark) (part : ℕ → List ℕ) (most : ℕ) (o : Option ℕ) → IsLongest p part most o → GreatestIs (λ n. Matches p (part n)) most o
+longest_to : (p : List PatternByte) (part : ℕ → List ℕ) (most : ℕ) (o : Option ℕ) → IsLongest p part most o → GreatestIs (λ n. Matches p (part n)) most o
 longest_to p part most None h = h
 longest_to p part most (Some n) h = record { within = h.0; passes = h.1; last = h.2 }
 
-longest_of : (p : List Mark) (part : ℕ → List ℕ) (most : ℕ) (o : Option ℕ) → GreatestIs (λ n. Matches p (part n)) most o → IsLongest p part most o
+longest_of : (p : List PatternByte) (part : ℕ → List ℕ) (most : ℕ) (o : Option ℕ) → GreatestIs (λ n. Matches p (part n)) most o → IsLongest p part most o
 longest_of p part most None h = h
 longest_of p part most (Some n) h = (h.within, h.passes, h.last)
 
-pub shortest_both : (p : List Mark) (part : ℕ → List ℕ) (most : ℕ) (o : Option ℕ) → IsShortest p part most o ↔ (o ≡ shortest p part most)
+pub shortest_both : (p : List PatternByte) (part : ℕ → List ℕ) (most : ℕ) (o : Option ℕ) → IsShortest p part most o ↔ (o ≡ shortest p part most)
 unfolding shortest
 shortest_both p part most o =
     let Fact : ℕ → Type 0 = λ n. Matches p (part n) in
@@ -197,7 +197,7 @@ shortest_both p part most o =
       λ e. subst (λ x. IsShortest p part most x) (sym e) (shortest_of p part most (least (λ n. is_match p (part n)) most) l),
     )
 
-pub longest_both : (p : List Mark) (part : ℕ → List ℕ) (most : ℕ) (o : Option ℕ) → IsLongest p part most o ↔ (o ≡ longest p part most)
+pub longest_both : (p : List PatternByte) (part : ℕ → List ℕ) (most : ℕ) (o : Option ℕ) → IsLongest p part most o ↔ (o ≡ longest p part most)
 unfolding longest
 longest_both p part most o =
     let Fact : ℕ → Type 0 = λ n. Matches p (part n) in

@@ -19,7 +19,7 @@ pub enum Class {
     Xdigit,
 }
 
-/// Whether a byte lies in a range.
+/// Whether a byte is in a range, both ends included.
 pub(crate) fn is_between(low: u8, high: u8, byte: u8) -> bool
     ensures { result ≡ is_between low high byte }
 {

@@ -3,9 +3,9 @@ ghost use Rattle.std.specs.Prelude.{◌≡◌, ◌≤◌, ◌<◌, ◌^◌, leng
 ghost use Rattle.sh_pattern.specs.Match.{bare_kind, bare_skip, bracket_kind, bracket_skip, is_star, one_of, read_kind, read_skip};
 
 use crate::item::{find_close, takes_byte};
-use crate::mark::Mark;
+use crate::pattern_byte::PatternByte;
 
-/// What an element is.
+/// What an element of a pattern is.
 #[derive(Clone, Copy, Debug, PartialEq, Eq)]
 pub(crate) enum Kind {
     /// `*`: any number of bytes.
@@ -18,14 +18,14 @@ pub(crate) enum Kind {
     Bracket,
 }
 
-/// An element, and how many marks behind its first one belong to it.
+/// An element, and how many bytes of the pattern after its first one belong to it.
 #[derive(Clone, Copy, Debug, PartialEq, Eq)]
 pub(crate) struct Found {
     pub kind: Kind,
     pub skip: usize,
 }
 
-/// A bracket, by where it is closed.
+/// The element that begins with `[`, where `close` bytes of the pattern are between it and its `]`.
 fn bracket(close: Option<usize>) -> Found
     requires { bracket_skip close < 2 ^ 63 }
     ensures kind { result.kind ≡ bracket_kind close }
@@ -43,8 +43,8 @@ fn bracket(close: Option<usize>) -> Found
     }
 }
 
-/// The element that begins with an unquoted byte.
-fn read_bare(byte: u8, behind: &[Mark]) -> Found
+/// The element that begins with an unquoted byte. `behind` is the pattern after that byte.
+fn read_bare(byte: u8, behind: &[PatternByte]) -> Found
     ensures kind { result.kind ≡ bare_kind byte behind.now }
     ensures skip { result.skip ≡ bare_skip byte behind.now }
     ensures within { result.skip ≤ length behind.now }
@@ -70,8 +70,8 @@ fn read_bare(byte: u8, behind: &[Mark]) -> Found
     }
 }
 
-/// The element that begins with a mark.
-pub(crate) fn read(mark: Mark, behind: &[Mark]) -> Found
+/// The element that begins with the byte `mark`. `behind` is the pattern after that byte.
+pub(crate) fn read(mark: PatternByte, behind: &[PatternByte]) -> Found
     ensures kind { result.kind ≡ read_kind mark behind.now }
     ensures skip { result.skip ≡ read_skip mark behind.now }
     ensures within { result.skip ≤ length behind.now }
@@ -100,8 +100,8 @@ impl Kind {
 }
 
 impl Found {
-    /// Whether the element takes a byte, the marks behind its first one being given.
-    pub fn takes(self, behind: &[Mark], byte: u8) -> bool
+    /// Whether the element takes this one byte. `behind` is the pattern after the element's first byte.
+    pub fn takes(self, behind: &[PatternByte], byte: u8) -> bool
         requires { self.skip ≤ length behind.now }
         ensures { result ≡ one_of self.kind (take self.skip behind.now) byte }
     {

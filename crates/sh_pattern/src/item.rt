@@ -1,10 +1,10 @@
 //! Bracket lists.
 ghost use Rattle.std.specs.Prelude.{◌≡◌, ◌≤◌, ◌<◌, ◌+◌, IfSome, length, map, option_map, suc, take, drop};
 ghost use Rattle.std.specs.Str.{bytes_eq};
-ghost use Rattle.sh_pattern.specs.Items.{byte_of, class_of, close_of, closing, ends_class, first_closing, first_has, is_negation, is_range, item_has, item_of, letters, list_has, name_length, named, other_class_of, plain_item, plain_skip, range_end, skip_of, some_has};
+ghost use Rattle.sh_pattern.specs.Items.{byte_of, class_of, close_of, closing, ends_class, first_closing, first_has, is_negation, is_range, item_has, item_of, letters, list_has, name_length, item_of_class, other_class_of, plain_item, plain_skip, range_end, skip_of, some_has};
 
 use crate::class::{Class, is_between, is_letter};
-use crate::mark::{Mark, is_bare};
+use crate::pattern_byte::{PatternByte, is_bare};
 
 /// An item of a bracket list.
 #[derive(Clone, Copy, Debug, PartialEq, Eq)]
@@ -19,7 +19,7 @@ pub enum Item {
     Unknown,
 }
 
-/// An item, and how many marks behind its first one belong to it.
+/// An item, and how many bytes of the pattern after its first one belong to it.
 #[derive(Clone, Copy, Debug, PartialEq, Eq)]
 pub(crate) struct Taken {
     pub item: Item,
@@ -40,8 +40,8 @@ impl Item {
     }
 }
 
-/// Whether marks have these bytes.
-fn is_named(marks: &[Mark], name: &[u8]) -> bool
+/// Whether the bytes of `marks`, literal or not, are `name`.
+fn is_named(marks: &[PatternByte], name: &[u8]) -> bool
     ensures { result ≡ bytes_eq (map byte_of marks.now) name.now }
 {
     let mut marks = marks;
@@ -60,7 +60,7 @@ fn is_named(marks: &[Mark], name: &[u8]) -> bool
 }
 
 /// The class of a name.
-fn class_named(name: &[Mark]) -> Option<Class>
+fn class_named(name: &[PatternByte]) -> Option<Class>
     ensures { result ≡ class_of (map byte_of name.now) }
 {
     if is_named(name, b"alnum") {
@@ -84,8 +84,8 @@ fn class_named(name: &[Mark]) -> Option<Class>
     other_class_named(name)
 }
 
-/// The class of a name of the second half.
-fn other_class_named(name: &[Mark]) -> Option<Class>
+/// The class of a name, of the last six classes.
+fn other_class_named(name: &[PatternByte]) -> Option<Class>
     ensures { result ≡ other_class_of (map byte_of name.now) }
 {
     if is_named(name, b"lower") {
@@ -109,9 +109,9 @@ fn other_class_named(name: &[Mark]) -> Option<Class>
     None
 }
 
-/// The item of a class's name.
-fn class_item(name: &[Mark]) -> Item
-    ensures { result ≡ named (class_of (map byte_of name.now)) }
+/// The item for a class of this name.
+fn class_item(name: &[PatternByte]) -> Item
+    ensures { result ≡ item_of_class (class_of (map byte_of name.now)) }
 {
     match class_named(name) {
         Some(class) => Item::Named(class),
@@ -119,8 +119,8 @@ fn class_item(name: &[Mark]) -> Item
     }
 }
 
-/// How many letters marks begin with.
-fn count_letters(marks: &[Mark]) -> usize
+/// With how many letters `marks` begins.
+fn count_letters(marks: &[PatternByte]) -> usize
     ensures count { result ≡ letters marks.now }
     ensures within { result ≤ length marks.now }
 {
@@ -134,8 +134,8 @@ fn count_letters(marks: &[Mark]) -> usize
     marks.len()
 }
 
-/// Whether marks begin with `:]`.
-fn begins_class_end(marks: &[Mark]) -> bool
+/// Whether `marks` begins with an unquoted `:]`.
+fn begins_class_end(marks: &[PatternByte]) -> bool
     ensures { result ≡ ends_class marks.now }
 {
     match marks {
@@ -144,8 +144,9 @@ fn begins_class_end(marks: &[Mark]) -> bool
     }
 }
 
-/// How many letters a class's name has, where a class stands behind a `[`.
-fn class_name(behind: &[Mark]) -> Option<usize>
+/// How many letters the name has, where `behind`, the pattern after a `[`, begins with a class as in
+/// `[:alpha:]`.
+fn class_name(behind: &[PatternByte]) -> Option<usize>
     ensures count { result ≡ name_length behind.now }
     ensures within { IfSome result (λ n. n + 3 ≤ length behind.now) }
 {
@@ -159,8 +160,8 @@ fn class_name(behind: &[Mark]) -> Option<usize>
     None
 }
 
-/// An item that is no class.
-fn plain(mark: Mark, behind: &[Mark]) -> Taken
+/// The item that begins with `mark` and is no class. `behind` is the pattern after `mark`.
+fn plain(mark: PatternByte, behind: &[PatternByte]) -> Taken
     ensures item { result.item ≡ plain_item mark behind.now }
     ensures skip { result.skip ≡ plain_skip behind.now }
     ensures within { result.skip ≤ length behind.now }
@@ -179,8 +180,8 @@ fn plain(mark: Mark, behind: &[Mark]) -> Taken
     }
 }
 
-/// The item that begins with a mark.
-fn take_item(mark: Mark, behind: &[Mark]) -> Taken
+/// The item that begins with `mark`. `behind` is the pattern after `mark`.
+fn take_item(mark: PatternByte, behind: &[PatternByte]) -> Taken
     ensures item { result.item ≡ item_of mark behind.now }
     ensures skip { result.skip ≡ skip_of mark behind.now }
     ensures within { result.skip ≤ length behind.now }
@@ -197,8 +198,8 @@ fn take_item(mark: Mark, behind: &[Mark]) -> Taken
     }
 }
 
-/// The place of the `]` that ends the items, the first so many marks belonging to an item before.
-fn close_from(marks: &[Mark], skip: usize) -> Option<usize>
+/// The index of the `]` that ends the items. The first `skip` bytes of `marks` belong to an earlier item.
+fn close_from(marks: &[PatternByte], skip: usize) -> Option<usize>
     requires { skip ≤ length marks.now }
     ensures place { result ≡ closing skip marks.now }
     ensures within { IfSome result (λ n. n < length marks.now) }
@@ -214,8 +215,9 @@ fn close_from(marks: &[Mark], skip: usize) -> Option<usize>
     None
 }
 
-/// Whether some item before the `]` takes a byte.
-fn has_from(marks: &[Mark], skip: usize, byte: u8) -> bool
+/// Whether some item before the `]` takes a byte. The first `skip` bytes of `marks` belong to an earlier
+/// item.
+fn has_from(marks: &[PatternByte], skip: usize, byte: u8) -> bool
     requires { skip ≤ length marks.now }
     ensures { result ≡ some_has skip marks.now byte }
 {
@@ -234,8 +236,8 @@ fn has_from(marks: &[Mark], skip: usize, byte: u8) -> bool
     false
 }
 
-/// The place of the `]` that ends a list, whose first item may begin with `]`.
-fn close_first(marks: &[Mark]) -> Option<usize>
+/// The index of the `]` that ends a list. The first item of the list may begin with `]`.
+fn close_first(marks: &[PatternByte]) -> Option<usize>
     ensures place { result ≡ first_closing marks.now }
     ensures within { IfSome result (λ n. n < length marks.now) }
 {
@@ -248,8 +250,8 @@ fn close_first(marks: &[Mark]) -> Option<usize>
     }
 }
 
-/// Whether some item of a list takes a byte.
-fn has_first(marks: &[Mark], byte: u8) -> bool
+/// Whether some item of a list takes a byte. The first item of the list may begin with `]`.
+fn has_first(marks: &[PatternByte], byte: u8) -> bool
     ensures { result ≡ first_has marks.now byte }
 {
     let Some((mark, behind)) = marks.split_first() else {
@@ -259,15 +261,15 @@ fn has_first(marks: &[Mark], byte: u8) -> bool
     taken.item.has(byte) || has_from(behind, taken.skip, byte)
 }
 
-/// Whether a mark negates a list.
-fn negates(mark: Mark) -> bool
+/// Whether `mark` is a `!` or `^` that negates a list, at its start.
+fn negates(mark: PatternByte) -> bool
     ensures { result ≡ is_negation mark }
 {
     is_bare(b'!', mark) || is_bare(b'^', mark)
 }
 
-/// How many marks stand between a `[` and its `]`, if it is closed.
-pub(crate) fn find_close(behind: &[Mark]) -> Option<usize>
+/// How many bytes of the pattern are between a `[` and its `]`; `None` where the `[` isn't closed.
+pub(crate) fn find_close(behind: &[PatternByte]) -> Option<usize>
     ensures place { result ≡ close_of behind.now }
     ensures within { IfSome result (λ n. n < length behind.now) }
 {
@@ -283,8 +285,8 @@ pub(crate) fn find_close(behind: &[Mark]) -> Option<usize>
     }
 }
 
-/// Whether the list behind a `[` takes a byte.
-pub(crate) fn takes_byte(behind: &[Mark], byte: u8) -> bool
+/// Whether the list after a `[` takes a byte.
+pub(crate) fn takes_byte(behind: &[PatternByte], byte: u8) -> bool
     ensures { result ≡ list_has behind.now byte }
 {
     let Some((mark, others)) = behind.split_first() else {

@@ -1,13 +1,14 @@
-//! Fronts and backs of a text that a pattern matches (XCU 2.6.2, `${x#p}` and its kind).
+//! Prefixes and suffixes of a text that a pattern matches (XCU 2.6.2: `#`, `##`, `%` and `%%`).
 ghost use Rattle.std.specs.Prelude.{◌≡◌, length};
-ghost use Rattle.sh_pattern.specs.Match.{IsLongest, IsShortest, back, front};
+ghost use Rattle.sh_pattern.specs.Match.{IsLongest, IsShortest, suffix, prefix};
 
-use crate::mark::Mark;
+use crate::pattern_byte::PatternByte;
 use crate::search::matches;
 
-/// How many bytes the shortest front has that the pattern matches; `None` where it matches no front.
-pub fn shortest_front(pattern: &[Mark], text: &[u8]) -> Option<usize>
-    ensures { IsShortest pattern.now (front text.now) (length text.now) result }
+/// How many bytes the shortest prefix has that the pattern matches, as `${x#p}` needs (XCU 2.6.2). It is
+/// `None` where the pattern matches no prefix.
+pub fn shortest_front(pattern: &[PatternByte], text: &[u8]) -> Option<usize>
+    ensures { IsShortest pattern.now (prefix text.now) (length text.now) result }
 {
     let mut n = 0;
     while n < text.len() {
@@ -23,9 +24,10 @@ pub fn shortest_front(pattern: &[Mark], text: &[u8]) -> Option<usize>
     }
 }
 
-/// How many bytes the longest front has that the pattern matches; `None` where it matches no front.
-pub fn longest_front(pattern: &[Mark], text: &[u8]) -> Option<usize>
-    ensures { IsLongest pattern.now (front text.now) (length text.now) result }
+/// How many bytes the longest prefix has that the pattern matches, as `${x##p}` needs (XCU 2.6.2). It is
+/// `None` where the pattern matches no prefix.
+pub fn longest_front(pattern: &[PatternByte], text: &[u8]) -> Option<usize>
+    ensures { IsLongest pattern.now (prefix text.now) (length text.now) result }
 {
     let mut n = text.len();
     while n > 0 {
@@ -41,9 +43,10 @@ pub fn longest_front(pattern: &[Mark], text: &[u8]) -> Option<usize>
     }
 }
 
-/// How many bytes the shortest back has that the pattern matches; `None` where it matches no back.
-pub fn shortest_back(pattern: &[Mark], text: &[u8]) -> Option<usize>
-    ensures { IsShortest pattern.now (back text.now) (length text.now) result }
+/// How many bytes the shortest suffix has that the pattern matches, as `${x%p}` needs (XCU 2.6.2). It is
+/// `None` where the pattern matches no suffix.
+pub fn shortest_back(pattern: &[PatternByte], text: &[u8]) -> Option<usize>
+    ensures { IsShortest pattern.now (suffix text.now) (length text.now) result }
 {
     let mut bytes = 0;
     while bytes < text.len() {
@@ -59,9 +62,10 @@ pub fn shortest_back(pattern: &[Mark], text: &[u8]) -> Option<usize>
     }
 }
 
-/// How many bytes the longest back has that the pattern matches; `None` where it matches no back.
-pub fn longest_back(pattern: &[Mark], text: &[u8]) -> Option<usize>
-    ensures { IsLongest pattern.now (back text.now) (length text.now) result }
+/// How many bytes the longest suffix has that the pattern matches, as `${x%%p}` needs (XCU 2.6.2). It is
+/// `None` where the pattern matches no suffix.
+pub fn longest_back(pattern: &[PatternByte], text: &[u8]) -> Option<usize>
+    ensures { IsLongest pattern.now (suffix text.now) (length text.now) result }
 {
     let mut bytes = text.len();
     while bytes > 0 {

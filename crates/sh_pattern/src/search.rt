@@ -4,10 +4,11 @@ ghost use Rattle.sh_pattern.specs.Match.{AreMatched, Matches};
 ghost use Rattle.sh_pattern.specs.Place.{IsPlaced, Reached, from, work};
 
 use crate::element::read;
-use crate::mark::Mark;
+use crate::pattern_byte::PatternByte;
 
-/// Where the search stands: behind the last star, the byte from which what follows it is tried, and the
-/// place and the byte reached.
+/// The state of the search. `star` is the index in the pattern after the last `*`, and `from` the index in
+/// the text from which the pattern after that `*` is tried. `at` and `byte` are the indices reached in the
+/// pattern and in the text.
 #[derive(Clone, Copy, Debug, PartialEq, Eq)]
 pub(crate) struct Place {
     pub star: usize,
@@ -16,8 +17,8 @@ pub(crate) struct Place {
     pub byte: usize,
 }
 
-/// One step: a star is remembered, a byte is taken, or what follows the last star is tried one byte later.
-fn step(pattern: &[Mark], text: &[u8], place: Place) -> Place
+/// One step: a `*` is remembered, a byte is taken, or what follows the last `*` is tried one byte later.
+fn step(pattern: &[PatternByte], text: &[u8], place: Place) -> Place
     requires inside { place.byte < length text.now }
     requires placed { IsPlaced pattern.now text.now place }
     ensures placed { IsPlaced pattern.now text.now result }
@@ -59,8 +60,8 @@ fn step(pattern: &[Mark], text: &[u8], place: Place) -> Place
     }
 }
 
-/// Whether the pattern from a place on matches nothing.
-fn vanishes(pattern: &[Mark], start: usize) -> bool
+/// Whether the pattern from `start` on matches the empty text.
+fn vanishes(pattern: &[PatternByte], start: usize) -> bool
     requires { start ≤ length pattern.now }
     ensures { IsTrue result ↔ AreMatched (from pattern.now start) [] }
 {
@@ -75,11 +76,13 @@ fn vanishes(pattern: &[Mark], start: usize) -> bool
     true
 }
 
-/// Whether a star and the pattern from a place on match the text from a place on.
-fn matches_behind(pattern: &[Mark], text: &[u8], star: usize, start: usize) -> bool
+/// Whether a `*` followed by the pattern from `star` on matches the text from `start` on.
+fn matches_behind(pattern: &[PatternByte], text: &[u8], star: usize, start: usize) -> bool
     requires star { star ≤ length pattern.now }
     requires start { start ≤ length text.now }
-    ensures { IsTrue result ↔ Reached pattern.now text.now (record { star = star; from = start; at = star; byte = start }) }
+    ensures { IsTrue result
+        ↔ Reached pattern.now text.now
+        (record { star = star; from = start; at = star; byte = start }) }
 {
     let mut place = Place {
         star,
@@ -93,9 +96,9 @@ fn matches_behind(pattern: &[Mark], text: &[u8], star: usize, start: usize) -> b
     vanishes(pattern, place.at)
 }
 
-/// Whether a pattern matches a text (XCU 2.14). Takes no memory, and at most as many steps as the text
-/// has bytes times the pattern's length.
-pub fn matches(pattern: &[Mark], text: &[u8]) -> bool
+/// Whether a pattern matches a whole text (XCU 2.14). Takes no memory. The number of steps grows at most with
+/// the text's length times the pattern's; no clause says so.
+pub fn matches(pattern: &[PatternByte], text: &[u8]) -> bool
     ensures { IsTrue result ↔ Matches pattern.now text.now }
 {
     let mut at = 0;

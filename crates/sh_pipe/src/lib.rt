@@ -51,8 +51,9 @@ impl Pipe {
         Ok(Pipe { bytes, capacity })
     }
 
-    /// Reads what is there, up to the buffer's length, into the front of the buffer, and says how many
-    /// bytes these are; 0 is end of file (XSH read). `has_writer` says whether a writer is left.
+    /// Reads what is there, up to the buffer's length, into the front of the buffer, and says how many bytes
+    /// these are; 0 is end of file (XSH read). `has_writer` says whether a writer is left. The one error is
+    /// `WouldWait`, where the pipe is empty and a writer is left.
     pub fn read_into(&mut self, buf: &mut [u8], has_writer: bool) -> Result<usize, PipeFault>
         ensures result { result ≡ read_result self.old (length buf.old) has_writer }
         ensures buffer { buf.new ≡ read_buffer self.old buf.old has_writer }
@@ -67,8 +68,9 @@ impl Pipe {
         Ok(count)
     }
 
-    /// Writes: at most `PIPE_BUF` bytes go whole or wait; of more as many go as there is room for, at least
-    /// one (XSH write). It says how many went. `has_reader` says whether a reader is left.
+    /// Writes, and says how many bytes went: at most `PIPE_BUF` bytes go whole or wait; of a longer write as
+    /// many go as there is room for, at least one (XSH write). `has_reader` says whether a reader is left.
+    /// `NoReader` where none is left, else `WouldWait` where no byte can go.
     pub fn write(&mut self, bytes: &[u8], has_reader: bool) -> Result<usize, PipeFault>
         ensures result { result ≡ write_result self.old bytes.now has_reader }
         ensures pipe { self.new ≡ after_write self.old bytes.now has_reader }
@@ -97,7 +99,7 @@ fn push_all(v: &mut Vec<u8>, bytes: &[u8])
     }
 }
 
-/// Lets the first bytes go.
+/// Removes the first bytes.
 fn remove_front(v: &mut Vec<u8>, count: usize)
     requires { count ≤ vec_len v.old }
     ensures items { v.new.items ≡ drop count v.old.items }

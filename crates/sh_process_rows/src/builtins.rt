@@ -3,7 +3,7 @@
 use crate::outcomes::{put_next, words_of};
 use sh_base::NoMemory;
 use sh_base::sequence::{Sequence, Text};
-use sh_builtin_vars::{Mark, Outcome, cd, mark, pwd, set, shift, unset};
+use sh_builtin_vars::{Attribute, Outcome, cd, mark, pwd, set, shift, unset};
 use sh_files::Files;
 use sh_rows::RowFault;
 use sh_vars::{Options, Vars};
@@ -37,10 +37,10 @@ fn run(alloc: Global, files: &Files, vars: &mut Vars, words: &[Text]) -> Result<
     match name.as_slice() {
         b"args" => parameters(alloc, vars),
         b"cd" => cd(alloc, files, vars, arguments),
-        b"export" => mark(alloc, Mark::Export, vars, arguments),
+        b"export" => mark(alloc, Attribute::Export, vars, arguments),
         b"flags" => flags(alloc, vars.options()),
         b"pwd" => pwd(alloc, vars, arguments),
-        b"readonly" => mark(alloc, Mark::ReadOnly, vars, arguments),
+        b"readonly" => mark(alloc, Attribute::ReadOnly, vars, arguments),
         b"set" => set(alloc, vars, arguments),
         b"shift" => Ok(shift(vars, arguments)),
         _ => unset(alloc, vars, arguments),

@@ -1,7 +1,7 @@
 //! `calls STEPS ANSWERS`: calls of processes on a kernel with a directory and one file. The first word of a step is the process.
 use crate::steps::{count, is, process, say, small, truth, word};
 use sh_files::{Files, Opening};
-use sh_kernel::{Kernel, KernelFault, Name, Next, Status};
+use sh_kernel::{DescriptorRef, Kernel, KernelFault, Next, Status};
 use sh_rows::RowFault;
 use std::alloc::Global;
 
@@ -43,10 +43,13 @@ impl Machine {
         let pid = process(step, 0);
         let number = small(step, 2);
         if is(step, 1, "close") {
-            return Some(self.kernel.close(pid, Name::Number(number)));
+            return Some(self.kernel.close(pid, DescriptorRef::Number(number)));
         }
         if is(step, 1, "dup") {
-            return Some(self.kernel.dup(pid, Name::Number(number), small(step, 3)));
+            return Some(
+                self.kernel
+                    .dup(pid, DescriptorRef::Number(number), small(step, 3)),
+            );
         }
         if is(step, 1, "pipe") {
             return Some(self.kernel.pipe(pid, number, small(step, 3)));
@@ -147,7 +150,7 @@ fn read(
     said: &mut Vec<u8>,
 ) -> Result<(), RowFault> {
     let mut buffer = vec![in alloc; 0u8; count(step, 3)]?;
-    let name = Name::Number(small(step, 2));
+    let name = DescriptorRef::Number(small(step, 2));
     let got = match kernel.read(process(step, 0), name, &mut buffer) {
         Ok(got) => got,
         Err(fault) => return say_fault(alloc, said, fault),
@@ -178,7 +181,7 @@ fn write(
 /// What a process would do next: `read N`, `write N SIZE`, `wait PID` or another thing, from a place of the step on.
 fn next<'a>(step: &[u8], awaited: &'a [u32]) -> Next<'a> {
     if is(step, 2, "read") {
-        return Next::Read(Name::Number(small(step, 3)));
+        return Next::Read(DescriptorRef::Number(small(step, 3)));
     }
     if is(step, 2, "write") {
         return Next::Write(small(step, 3), count(step, 4));

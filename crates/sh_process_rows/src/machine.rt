@@ -5,7 +5,7 @@ use sh_base::sequence::Sequence;
 use sh_exec_machine::{fork_process, redirect, restore_all};
 use sh_exec_parts::redirection::{Action, Redirection};
 use sh_files::Files;
-use sh_kernel::{Kernel, KernelFault, Name};
+use sh_kernel::{DescriptorRef, Kernel, KernelFault};
 use sh_rows::RowFault;
 use std::alloc::{AllocError, Global};
 
@@ -24,11 +24,11 @@ fn pipes(kernel: &mut Kernel) -> bool {
     writer.child == Some(101)
         && reader.child == Some(102)
         && reader.aside.is_none()
-        && kernel.read(102, Name::Number(0), &mut buffer) == Err(KernelFault::WouldWait)
+        && kernel.read(102, DescriptorRef::Number(0), &mut buffer) == Err(KernelFault::WouldWait)
         && kernel.write(101, 1, b"ab") == Ok(2)
         && kernel.end(101, 0) == Ok(())
-        && kernel.read(102, Name::Number(0), &mut buffer) == Ok(2)
-        && kernel.read(102, Name::Number(0), &mut buffer) == Ok(0)
+        && kernel.read(102, DescriptorRef::Number(0), &mut buffer) == Ok(2)
+        && kernel.read(102, DescriptorRef::Number(0), &mut buffer) == Ok(0)
 }
 
 /// Whether `1>f` in the shell moves its output, and undoing it moves it back.

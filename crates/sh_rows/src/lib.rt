@@ -1,6 +1,8 @@
-//! Rows of tests: what is asked and what has to come of it, a line each of a file that a program reads.
+//! Rows of tests: each is a line of a file that a program reads, with what is asked and what has to be the
+//! answer.
 //!
-//! A program of rows implements [`Judge`] and hands itself to [`judge_files`]. A row costs no proof, as a call of a test does.
+//! A program of rows implements [`Judge`] and hands itself to [`judge_files`]. A row costs no proof; a call
+//! in a test does.
 #![tactic(auto)]
 
 mod report;

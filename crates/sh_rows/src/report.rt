@@ -1,23 +1,23 @@
-//! What is said of rows.
+//! What a program of rows tells of its rows.
 use crate::row::{Row, RowFault, read_rows};
 use std::alloc::Global;
 use std::process::ExitCode;
 use std::{env, fs, io};
 
-/// What is found of a row.
+/// The result of a row.
 #[derive(Drop)]
 pub enum Verdict {
-    /// It comes to what it should.
+    /// The answer is the wanted one.
     Well,
-    /// It comes to something else.
+    /// The answer is another one.
     Wrong {
-        /// What it comes to.
+        /// The answer that was found.
         found: Vec<u8>,
     },
 }
 
 impl Verdict {
-    /// Whether what was found is what has to come.
+    /// `Well` where what was found is what is wanted, else `Wrong`.
     pub fn of(found: Vec<u8>, wanted: &[u8]) -> Self {
         if found.as_slice() == wanted {
             return Verdict::Well;
@@ -28,21 +28,21 @@ impl Verdict {
 
 /// What judges the rows of a file.
 pub trait Judge {
-    /// Tells whether a row comes to what it should.
+    /// Tells whether the answer of a row is the wanted one.
     ///
     /// # Errors
     ///
-    /// [`RowFault::NoRow`] where the row is of no kind that is known, and [`RowFault::NoMemory`].
+    /// [`RowFault::NoRow`] where the kind of the row isn't known, and [`RowFault::NoMemory`].
     fn judge(&self, alloc: Global, row: &Row) -> Result<Verdict, RowFault>;
 }
 
-/// Says what a row came to in place of what it should.
+/// Prints the answer of a row, which isn't the wanted one.
 fn tell(rt: &HostRuntime, file: &str, line: usize, found: &[u8]) {
     let found = found.escape_ascii();
     let _ = println!(rt; "{file}: line {line} comes to {found}");
 }
 
-/// Judges the rows of a file, and counts those that come to something else, each with a line that says so.
+/// Judges the rows of a file, and counts the wrong ones. It prints a line for each of them.
 fn count_wrong(
     rt: &HostRuntime,
     judge: &impl Judge,
@@ -59,7 +59,7 @@ fn count_wrong(
     Ok(wrong)
 }
 
-/// Judges a file, and says how many rows it has. Answers whether all are well.
+/// Judges a file, and prints how many rows it has. Answers whether all are well.
 fn judge_file(rt: &HostRuntime, judge: &impl Judge, file: &str) -> Result<bool, RowFault> {
     let Ok(bytes) = fs::read(rt, file) else {
         return Err(RowFault::NoFile);
@@ -73,7 +73,7 @@ fn judge_file(rt: &HostRuntime, judge: &impl Judge, file: &str) -> Result<bool, 
     Ok(wrong == 0)
 }
 
-/// The words of the command line behind the program's name.
+/// The words of the command line after the program's name.
 fn words(rt: &HostRuntime) -> io::Result<Vec<String>> {
     let mut words = Vec::new(rt.alloc());
     for word in env::args(rt)?.skip(1) {
@@ -82,10 +82,10 @@ fn words(rt: &HostRuntime) -> io::Result<Vec<String>> {
     Ok(words)
 }
 
-/// Judges the rows of the files that the command line names, in their order, and says which come to something else.
+/// Judges the rows of the files that the command line names, in their order, and prints which are wrong.
 ///
-/// The exit status is 0 where all are well, 1 where some aren't, and 3 where a file can't be read, a line is no row or memory is wanting,
-/// with a line on standard error.
+/// The exit status is 0 where all are well, and 1 where some aren't. It is 3, with a line on standard error,
+/// where a file can't be read, a line is no row or memory is wanting.
 pub fn judge_files(rt: &HostRuntime, judge: &impl Judge) -> ExitCode {
     let Ok(files) = words(rt) else {
         let _ = eprintln!(rt; "out of memory");

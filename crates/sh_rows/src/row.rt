@@ -4,16 +4,16 @@ ghost use Rattle.std.specs.Prelude.{◌<◌, length};
 use std::alloc::{AllocError, AllocFailed, Global};
 use thiserror::Error;
 
-/// A row: its fields, of which the first says what kind of row it is.
+/// A row: its fields. The first field says what kind of row it is.
 #[derive(Drop)]
 pub struct Row {
-    /// The line of the file, the first being 1.
+    /// The number of its line in the file; the first line is 1.
     pub line: usize,
     fields: Vec<Vec<u8>>,
 }
 
 impl Row {
-    /// The bytes of a field, the kind being field 0; none where the row has fewer fields.
+    /// The bytes of a field; field 0 is the kind. Empty where the row has fewer fields.
     pub fn field(&self, place: usize) -> &[u8] {
         match self.fields.get(place) {
             Some(field) => field.as_slice(),
@@ -21,7 +21,7 @@ impl Row {
         }
     }
 
-    /// Whether the row is of a kind, with so many fields behind it.
+    /// Whether the row is of a kind, with so many fields after it.
     pub fn is(&self, kind: &str, fields: usize) -> bool {
         self.field(0) == kind.as_bytes() && self.fields.len().saturating_sub(1) == fields
     }
@@ -53,7 +53,7 @@ impl<T: Drop> From<AllocFailed<T>> for RowFault {
     }
 }
 
-/// The bytes up to the first one that is `separator`, and those behind it; all and none where none is.
+/// The bytes before the first `separator`, and the bytes after it. Without a separator, all bytes and none.
 fn cut(bytes: &[u8], separator: u8) -> (&[u8], &[u8])
     ensures { 0 < length bytes.now → length result.1.now < length bytes.now }
 {
@@ -63,7 +63,7 @@ fn cut(bytes: &[u8], separator: u8) -> (&[u8], &[u8])
     }
 }
 
-/// The value of a hexadecimal digit; 0 of another byte.
+/// The value of a hexadecimal digit; 0 for any other byte.
 fn digit(byte: u8) -> u8 {
     match byte {
         b'0'..=b'9' => byte.saturating_sub(b'0'),
@@ -72,7 +72,7 @@ fn digit(byte: u8) -> u8 {
     }
 }
 
-/// What the bytes before the next one of a field mean for it.
+/// What the bytes of a field so far mean for the next byte.
 #[derive(Clone, Copy)]
 enum Held {
     Nothing,
@@ -81,7 +81,7 @@ enum Held {
     HighDigit(u8),
 }
 
-/// The byte of a field: `\n`, `\t`, `\\` and `\xHH` stand for one byte each.
+/// Takes a byte of a field: `\n`, `\t`, `\\` and `\xHH` stand for one byte each.
 fn take(text: &mut Vec<u8>, held: Held, byte: u8) -> Result<Held, AllocError> {
     match held {
         Held::Nothing if byte == b'\\' => return Ok(Held::Backslash),
@@ -106,7 +106,7 @@ fn text_of(alloc: Global, field: &[u8]) -> Result<Vec<u8>, RowFault> {
     Ok(text)
 }
 
-/// The fields of a line, which stand between tabs.
+/// The fields of a line, which are separated by tabs.
 fn fields_of(alloc: Global, line: &[u8]) -> Result<Vec<Vec<u8>>, RowFault> {
     let mut fields = Vec::new(alloc);
     for field in line.split(|byte| *byte == b'\t') {
@@ -115,7 +115,7 @@ fn fields_of(alloc: Global, line: &[u8]) -> Result<Vec<Vec<u8>>, RowFault> {
     Ok(fields)
 }
 
-/// The rows of a file's bytes, a line each. Empty lines and lines that begin with `#` are none.
+/// The rows of a file's bytes, a line each. Empty lines and lines that begin with `#` are no rows.
 ///
 /// In fields `\n`, `\t`, `\\` and `\x` with two hexadecimal digits stand for one byte each.
 ///

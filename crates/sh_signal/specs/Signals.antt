@@ -60,14 +60,14 @@ default_of TerminalStop = default.Stop
 default_of TerminalInput = default.Stop
 default_of TerminalOutput = default.Stop
 
--- by their numbers
+-- all signals, in the order of their numbers
 abbrev pub signals : List Signal
 signals =
     Hangup ∷ Interrupt ∷ Quit ∷ Abort ∷ Kill ∷ User1 ∷ User2 ∷ Pipe ∷ Alarm ∷ Terminate ∷ Child ∷ Continue ∷ Stop ∷ TerminalStop ∷ TerminalInput
     ∷ TerminalOutput ∷ []
 
-abbrev pub numbered : ℕ → Option Signal
-numbered n = find (λ signal. number_of signal == n) signals
+abbrev pub signal_with_number : ℕ → Option Signal
+signal_with_number n = find (λ signal. number_of signal == n) signals
 
-abbrev pub named : List ℕ → Option Signal
-named name = find (λ signal. bytes_eq name (name_of signal)) signals
+abbrev pub signal_with_name : List ℕ → Option Signal
+signal_with_name name = find (λ signal. bytes_eq name (name_of signal)) signals

@@ -1,6 +1,6 @@
 //! Signals.
 ghost use Rattle.std.specs.Prelude.{◌≡◌};
-ghost use Rattle.sh_signal.specs.Signals.{default_of, name_of, named, number_of, numbered};
+ghost use Rattle.sh_signal.specs.Signals.{default_of, name_of, signal_with_name, number_of, signal_with_number};
 
 /// A signal (XBD 13, signal.h).
 #[derive(Clone, Copy, Debug, PartialEq, Eq)]
@@ -44,9 +44,9 @@ pub enum Signal {
 pub enum DefaultAction {
     /// The process ends.
     End,
-    /// Nothing.
+    /// Nothing happens.
     Ignore,
-    /// The process goes on, if it is stopped.
+    /// A stopped process goes on.
     Continue,
     /// The process stops.
     Stop,
@@ -127,7 +127,7 @@ impl Signal {
 
     /// The signal of a number, `None` where there is none.
     pub fn from_number(number: u64) -> Option<Signal>
-        ensures { result ≡ numbered number }
+        ensures { result ≡ signal_with_number number }
     {
         match number {
             1 => Some(Signal::Hangup),
@@ -152,7 +152,7 @@ impl Signal {
 
     /// The signal of a name without SIG, in capital letters, `None` where there is none.
     pub fn from_name(name: &[u8]) -> Option<Signal>
-        ensures { result ≡ named name.now }
+        ensures { result ≡ signal_with_name name.now }
     {
         if name == b"HUP".as_slice() {
             return Some(Signal::Hangup);

@@ -1,4 +1,4 @@
-pub mod Fronts
+pub mod Prefixes
 pub mod LineMeanings
 pub mod Searches
 pub mod Statuses

@@ -7,7 +7,7 @@ use Rattle.std.proofs.lemmas.Bool.{cases_lt}
 use Rattle.std.proofs.lemmas.Bool.Decides.{nat_tests, Decides-eqb}
 use Rattle.std.proofs.lemmas.Slice.Eq.{starts_is}
 use Rattle.sh_stock.specs.LineLaws.{first_lines-none, newlines-append, not_zero}
-use Rattle.sh_stock.specs.Lines.{HaveNone, IsPart, last_of, lines_behind, contains, ended, first_lines, is_empty, is_newline, newlines, unfinished, whole_lines}
+use Rattle.sh_stock.specs.Lines.{HaveNone, IsPart, last_of, lines_behind, contains, with_newline, first_lines, is_empty, is_newline, newlines, unfinished_line, whole_lines}
 
 is_ten : (byte : ℕ) → is_newline byte ≡ true → byte ≡ 10
 is_ten byte h = grind (arith, nat_tests)
@@ -16,25 +16,25 @@ last-joined : (line : List ℕ) → concat (last_of line) ≡ line
 last-joined [] = refl
 last-joined (byte ∷ bytes) = append-nil (byte ∷ bytes)
 
-joined_by : (line : List ℕ) (byte : ℕ) (x : List ℕ) (ends : Bool) → is_newline byte ≡ ends → ((front : List ℕ) → concat (lines_behind front x) ≡ front ++ x) → concat (map ended (if ends then line ∷ whole_lines [] x else whole_lines (line ++ byte ∷ []) x) ++ last_of (if ends then unfinished [] x else unfinished (line ++ byte ∷ []) x)) ≡ line ++ byte ∷ x
+joined_by : (line : List ℕ) (byte : ℕ) (x : List ℕ) (ends : Bool) → is_newline byte ≡ ends → ((prefix : List ℕ) → concat (lines_behind prefix x) ≡ prefix ++ x) → concat (map with_newline (if ends then line ∷ whole_lines [] x else whole_lines (line ++ byte ∷ []) x) ++ last_of (if ends then unfinished_line [] x else unfinished_line (line ++ byte ∷ []) x)) ≡ line ++ byte ∷ x
 joined_by line byte x true e rest =
     ap (λ (zs : List ℕ). (line ++ 10 ∷ []) ++ zs) (rest []) ∙ (append_assoc line (10 ∷ []) x ∙ ap (λ (b : ℕ). line ++ b ∷ x) (sym (is_ten byte e)))
 joined_by line byte x false e rest = rest (line ++ byte ∷ []) ∙ append_assoc line (byte ∷ []) x
 
 pub lines-joined : (line x : List ℕ) → concat (lines_behind line x) ≡ line ++ x
 lines-joined line [] = last-joined line ∙ sym (append-nil line)
-lines-joined line (byte ∷ x) = joined_by line byte x (is_newline byte) refl (λ front. lines-joined front x)
+lines-joined line (byte ∷ x) = joined_by line byte x (is_newline byte) refl (λ prefix. lines-joined prefix x)
 
 one_more : (line : List ℕ) (byte : ℕ) → is_newline byte ≡ false → newlines line ≡ 0 → newlines (line ++ byte ∷ []) ≡ 0
 one_more line byte e h = newlines-append line (byte ∷ []) ∙ (ap (λ (n : ℕ). n + newlines (byte ∷ [])) h ∙ rw e refl)
 
-none_by : (line : List ℕ) (byte : ℕ) (x : List ℕ) (ends : Bool) → is_newline byte ≡ ends → newlines line ≡ 0 → ((front : List ℕ) → newlines front ≡ 0 → HaveNone (whole_lines front x) × (newlines (unfinished front x) ≡ 0)) → HaveNone (if ends then line ∷ whole_lines [] x else whole_lines (line ++ byte ∷ []) x) × (newlines (if ends then unfinished [] x else unfinished (line ++ byte ∷ []) x) ≡ 0)
+none_by : (line : List ℕ) (byte : ℕ) (x : List ℕ) (ends : Bool) → is_newline byte ≡ ends → newlines line ≡ 0 → ((prefix : List ℕ) → newlines prefix ≡ 0 → HaveNone (whole_lines prefix x) × (newlines (unfinished_line prefix x) ≡ 0)) → HaveNone (if ends then line ∷ whole_lines [] x else whole_lines (line ++ byte ∷ []) x) × (newlines (if ends then unfinished_line [] x else unfinished_line (line ++ byte ∷ []) x) ≡ 0)
 none_by line byte x true e h rest = let later = rest [] refl in ((h, later.0), later.1)
 none_by line byte x false e h rest = rest (line ++ byte ∷ []) (one_more line byte e h)
 
-pub lines-none : (line x : List ℕ) → newlines line ≡ 0 → HaveNone (whole_lines line x) × (newlines (unfinished line x) ≡ 0)
+pub lines-none : (line x : List ℕ) → newlines line ≡ 0 → HaveNone (whole_lines line x) × (newlines (unfinished_line line x) ≡ 0)
 lines-none line [] h = (tt, h)
-lines-none line (byte ∷ x) h = none_by line byte x (is_newline byte) refl h (λ front none. lines-none front x none)
+lines-none line (byte ∷ x) h = none_by line byte x (is_newline byte) refl h (λ prefix none. lines-none prefix x none)
 
 contains-itself : (text after : List ℕ) → contains text (text ++ after) ≡ true
 contains-itself [] [] = refl
@@ -83,9 +83,9 @@ from_start : (m : ℕ) (x : List ℕ) → (0 < m → concat (take m (lines_behin
 from_start m x rest (inl h) = rest h
 from_start m x rest (inr h) = let none : m ≡ 0 = omega arith in rw none (sym (first_lines-none x))
 
-taken_by : (n : ℕ) (line : List ℕ) (byte : ℕ) (x : List ℕ) (ends : Bool) → is_newline byte ≡ ends → 0 < n → ((m : ℕ) (front : List ℕ) → 0 < m → concat (take m (lines_behind front x)) ≡ front ++ first_lines m x) → concat (take n (map ended (if ends then line ∷ whole_lines [] x else whole_lines (line ++ byte ∷ []) x) ++ last_of (if ends then unfinished [] x else unfinished (line ++ byte ∷ []) x))) ≡ line ++ byte ∷ first_lines (if ends then n - 1 else n) x
+taken_by : (n : ℕ) (line : List ℕ) (byte : ℕ) (x : List ℕ) (ends : Bool) → is_newline byte ≡ ends → 0 < n → ((m : ℕ) (prefix : List ℕ) → 0 < m → concat (take m (lines_behind prefix x)) ≡ prefix ++ first_lines m x) → concat (take n (map with_newline (if ends then line ∷ whole_lines [] x else whole_lines (line ++ byte ∷ []) x) ++ last_of (if ends then unfinished_line [] x else unfinished_line (line ++ byte ∷ []) x))) ≡ line ++ byte ∷ first_lines (if ends then n - 1 else n) x
 taken_by n line byte x true e h rest =
-    ap concat (take_some n (ended line) (lines_behind [] x) h)
+    ap concat (take_some n (with_newline line) (lines_behind [] x) h)
     ∙ (ap (λ (zs : List ℕ). (line ++ 10 ∷ []) ++ zs) (from_start (n - 1) x (λ some. rest (n - 1) [] some) (cases_lt 0 (n - 1)))
     ∙ (append_assoc line (10 ∷ []) (first_lines (n - 1) x) ∙ ap (λ (b : ℕ). line ++ b ∷ first_lines (n - 1) x) (sym (is_ten byte e))))
 taken_by n line byte x false e h rest = rest n (line ++ byte ∷ []) h ∙ append_assoc line (byte ∷ []) (first_lines n x)
@@ -93,7 +93,7 @@ taken_by n line byte x false e h rest = rest n (line ++ byte ∷ []) h ∙ appen
 some_taken : (n : ℕ) (line x : List ℕ) → 0 < n → concat (take n (lines_behind line x)) ≡ line ++ first_lines n x
 some_taken n line [] h = last_taken n line h ∙ sym (append-nil line)
 some_taken n line (byte ∷ x) h =
-    taken_by n line byte x (is_newline byte) refl h (λ m front some. some_taken m front x some) ∙ ap (λ (b : Bool). line ++ (if b then [] else byte ∷ first_lines (if is_newline byte then n - 1 else n) x)) (sym (not_zero n h))
+    taken_by n line byte x (is_newline byte) refl h (λ m prefix some. some_taken m prefix x some) ∙ ap (λ (b : Bool). line ++ (if b then [] else byte ∷ first_lines (if is_newline byte then n - 1 else n) x)) (sym (not_zero n h))
 
 pub first-taken : (n : ℕ) (x : List ℕ) → concat (take n (lines_behind [] x)) ≡ first_lines n x
 first-taken n x = from_start n x (λ h. some_taken n [] x h) (cases_lt 0 n)

@@ -8,7 +8,7 @@ use Rattle.sh_stock.specs.Filtering.{Filtering, IsFilter, KeepsFilterLaws, Keeps
 use Rattle.sh_stock.specs.Filters.{cat_filter, count_filter, filter_alone, filtering_of, filterings, head_filter}
 use Rattle.sh_stock.specs.HavingLaw.{having_is_filter, having_keeps_parts}
 use Rattle.sh_stock.specs.HeadLaw.{head_is_filter, head_keeps_parts}
-use Rattle.sh_stock.specs.Programs.{alone, head_of, misused, name_of, programs, started_by}
+use Rattle.sh_stock.specs.Programs.{alone, head_of, usage_error, name_of, programs, started_by}
 use Rattle.sh_base.specs.Decimals.{is_number, value_of}
 use Rattle.sh_stock.specs.declared.name.Name.{Name}
 use Rattle.sh_stock.specs.declared.name.Name.TheVariants.{Cat, Echo, True, False, Yes, Spin, Head, Having, Count, ReadStop}
@@ -19,7 +19,7 @@ pub record IsMade (f : Filtering) (program : Program) : Type 0 where
   pub parts : KeepsParts f
   pub filters : IsFilter programs program f
 
--- whatever filter is made is made well, and of a program
+-- where there is a filter there is a program, and the law holds between them
 abbrev pub MadeWell : Option Filtering → Option Program → Type 0
 MadeWell None program = Unit {0}
 MadeWell (Some f) None = ⊥
@@ -29,7 +29,7 @@ alone_well : (f : Filtering) (program : Program) (operands : List (List ℕ)) �
 alone_well f program [] made = made
 alone_well f program (operand ∷ operands) made = tt
 
-head_well : (right : Bool) (n : ℕ) → MadeWell (if right then Some (head_filter n) else None) (Some (if right then head_of n else misused))
+head_well : (right : Bool) (n : ℕ) → MadeWell (if right then Some (head_filter n) else None) (Some (if right then head_of n else usage_error))
 head_well true n = record { parts = head_keeps_parts n; filters = head_is_filter n }
 head_well false n = tt
 

@@ -6,15 +6,15 @@ use Rattle.sh_stock.specs.declared.asking.Answer.TheVariants.{Started, Bytes, Do
 use Rattle.sh_stock.specs.declared.asking.Ask.{Ask}
 use Rattle.sh_stock.specs.declared.asking.Ask.TheVariants.{Read, Write, Stop, Idle, End}
 
--- what a filter writes of its whole input, the status it ends with then, and what it is certain to write, whatever
--- follows, once it has read a front of the input
+-- what a filter writes for its whole input, the status it ends with then, and what it is certain to write,
+-- whatever follows, once it has read a prefix of the input
 pub record Filtering : Type 0 where
   pub output : List ℕ → List ℕ
   pub status : List ℕ → ℕ
   pub part : List ℕ → List ℕ
 
 abbrev pub Begins : List ℕ → List ℕ → Type 0
-Begins front whole = (rest : List ℕ) × (front ++ rest ≡ whole)
+Begins prefix whole = (rest : List ℕ) × (prefix ++ rest ≡ whole)
 
 -- what is certain stays certain
 pub record KeepsParts (f : Filtering) : Type 0 where
@@ -50,9 +50,9 @@ written_after written Stop = written
 written_after written Idle = written
 written_after written (End status) = written
 
--- a program behind its first turn
-abbrev pub begun : {S : Type 0} → Meaning S → S → Course S
-begun m program =
+-- a program after its first turn
+abbrev pub first_course : {S : Type 0} → Meaning S → S → Course S
+first_course m program =
     record {
       program = (m.turn program Started).program;
       ask = (m.turn program Started).ask;
@@ -61,7 +61,7 @@ begun m program =
       written = [];
     }
 
--- and once its ask is done and answered
+-- the course once the ask is done and answered
 abbrev pub after : {S : Type 0} → Meaning S → Course S → Answer → Course S
 after m c answer =
     record {
@@ -72,12 +72,13 @@ after m c answer =
       written = written_after c.written c.ask;
     }
 
--- the course behind these answers, the latest of which comes first
+-- the course after these answers; the list has the latest answer first
 abbrev pub course : {S : Type 0} → Meaning S → S → List Answer → Course S
-course m program [] = begun m program
+course m program [] = first_course m program
 course m program (answer ∷ answers) = after m (course m program answers) answer
 
--- the answers of a read that doesn't fail: any bytes, as many as it asks for at most; behind the end of file none
+-- the answers to a read that doesn't fail: any bytes, at most as many as it asks for; after the end of file
+-- none
 abbrev pub FitsRead : ℕ → Bool → Answer → Type 0
 FitsRead n ended Started = ⊥
 FitsRead n ended (Bytes bytes) = (length bytes ≤ n) × (ended ≡ true → bytes ≡ [])
@@ -90,7 +91,7 @@ IsDone (Bytes bytes) = ⊥
 IsDone Done = Unit {0}
 IsDone Failed = ⊥
 
--- the answers of an ask that doesn't fail; an end has none
+-- the answers to an ask that doesn't fail; an end has none
 abbrev pub Fits : Ask → Bool → Answer → Type 0
 Fits (Read n) ended answer = FitsRead n ended answer
 Fits (Write bytes) ended answer = IsDone answer
@@ -108,19 +109,19 @@ abbrev pub certain : Filtering → Bool → List ℕ → List ℕ
 certain f true read = f.output read
 certain f false read = f.part read
 
--- a filter that ends has written its output, and ends with its status: those of what it read, behind the end of file;
--- those of any input that begins so, where it ends earlier
+-- a filter that ends has written its output, and ends with its status. After the end of file these are for
+-- what it read. Where it ends earlier, they are for every input that begins with what it read
 abbrev pub EndsWell : Filtering → Bool → ℕ → List ℕ → List ℕ → Type 0
 EndsWell f true status read written = (f.output read ≡ written) × (f.status read ≡ status)
 EndsWell f false status read written =
     (y : List ℕ) → (f.output (read ++ y) ≡ written) × (f.status (read ++ y) ≡ status)
 
--- what holds of a filter all along
+-- what holds of each course of a filter
 pub record Holds {S : Type 0} (f : Filtering) (c : Course S) : Type 0 where
   pub written : Begins c.written (certain f c.ended c.read)
   pub ends : (status : ℕ) → c.ask ≡ End status → EndsWell f c.ended status c.read c.written
 
--- a program is a filter: for every cutting of the input into reads, and while no ask fails
+-- a program is a filter: however the input is cut into reads, as long as no ask fails
 abbrev pub IsFilter : {S : Type 0} → Meaning S → S → Filtering → Type 0
 IsFilter m program f = (answers : List Answer) → AllFit m program answers → Holds f (course m program answers)
 

@@ -2,17 +2,17 @@
 use Rattle.std.specs.Prelude.{ℕ, List, [], ◌∷◌, ◌++◌, ◌&&◌, not, min, length, codes, Option, Some, None, if◌then◌else◌}
 use Rattle.std.specs.Str.{bytes_eq}
 use Rattle.sh_stock.specs.Filtering.{Filtering}
-use Rattle.sh_stock.specs.Lines.{contains, first_lines, is_empty, kept_lines, unfinished}
+use Rattle.sh_stock.specs.Lines.{contains, first_lines, is_empty, kept_lines, unfinished_line}
 use Rattle.sh_stock.specs.Programs.{count_limit, count_text, name_of}
 use Rattle.sh_base.specs.Decimals.{is_number, value_of}
 use Rattle.sh_stock.specs.declared.name.Name.{Name}
 use Rattle.sh_stock.specs.declared.name.Name.TheVariants.{Cat, Echo, True, False, Yes, Spin, Head, Having, Count, ReadStop}
 
--- the input
+-- cat: its output is its input
 abbrev pub cat_filter : Filtering
 cat_filter = record { output = λ x. x; status = λ x. 0; part = λ x. x }
 
--- the first lines
+-- head: the first lines of the input
 abbrev pub head_filter : ℕ → Filtering
 head_filter lines = record { output = λ x. first_lines lines x; status = λ x. 0; part = λ x. first_lines lines x }
 
@@ -22,13 +22,13 @@ last_line text line = if not (is_empty line) && contains text line then line els
 
 -- the lines that contain a text
 abbrev pub having_output : List ℕ → List ℕ → List ℕ
-having_output text x = kept_lines text [] x ++ last_line text (unfinished [] x)
+having_output text x = kept_lines text [] x ++ last_line text (unfinished_line [] x)
 
--- 0 if any was written, else 1
+-- 0 if some bytes were written, else 1
 abbrev pub having_status : List ℕ → ℕ
 having_status written = if is_empty written then 1 else 0
 
--- having; it is certain to write the whole lines that contain the text
+-- having: it is certain to write the whole lines that contain the text
 abbrev pub having_filter : List ℕ → Filtering
 having_filter text =
     record {
@@ -37,7 +37,7 @@ having_filter text =
       part = λ x. kept_lines text [] x;
     }
 
--- the number of bytes
+-- count: the number of bytes of the input, at most `count_limit`
 abbrev pub count_filter : Filtering
 count_filter = record { output = λ x. count_text (min count_limit (length x)); status = λ x. 0; part = λ x. [] }
 

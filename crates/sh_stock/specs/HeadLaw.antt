@@ -3,7 +3,7 @@ use Rattle.std.specs.Prelude.{◌≡◌, ℕ, ◌-◌, ◌<◌, ◌≤◌, ◌�
 use Rattle.std.proofs.Common.{ap, ◌∙◌, sym, inl, inr, append-nil, append_assoc, arith}
 use Rattle.std.proofs.lemmas.Bool.{cases_lt}
 use Rattle.sh_stock.specs.Courses.{is_filter}
-use Rattle.sh_stock.specs.Filtering.{Begins, Course, Fits, Holds, IsFilter, KeepsParts, after, begun}
+use Rattle.sh_stock.specs.Filtering.{Begins, Course, Fits, Holds, IsFilter, KeepsParts, after, first_course}
 use Rattle.sh_stock.specs.Filters.{head_filter}
 use Rattle.sh_stock.specs.LineLaws.{first_lines-all, first_lines-enough, first_lines-few, first_lines-none, newlines-append, not_zero}
 use Rattle.sh_stock.specs.Lines.{first_lines, newlines}
@@ -88,15 +88,15 @@ head_holds n (Last x bytes taken h) = record { written = (taken, sym (h []) ∙ 
 head_holds n (Early x written h) = record { written = ([], append-nil written ∙ (sym (h []) ∙ ap (first_lines n) (append-nil x))); ends = λ status e y. (h y, cc) }
 head_holds n (Ended x h) = record { written = ([], append-nil x ∙ sym h); ends = λ status e. (h, cc) }
 
-first_by : (n : ℕ) → (0 < n) ⊎ (n ≤ 0) → (place : HeadPlace n) × (begun programs (head_of n) ≡ head_at n place)
+first_by : (n : ℕ) → (0 < n) ⊎ (n ≤ 0) → (place : HeadPlace n) × (first_course programs (head_of n) ≡ head_at n place)
 first_by n (inl h) =
     let same : n ≡ n - 0 = omega arith in
-    (Reading [] h, ap (begun programs) (head_of-some n h) ∙ ap (λ (k : ℕ). begun programs (Head k)) same)
+    (Reading [] h, ap (first_course programs) (head_of-some n h) ∙ ap (λ (k : ℕ). first_course programs (Head k)) same)
 first_by n (inr h) =
     let none : n ≡ 0 = omega arith in
-    (Early [] [] (λ y. ap (λ (k : ℕ). first_lines k y) none ∙ first_lines-none y), ap (begun programs) (head_of-none n none))
+    (Early [] [] (λ y. ap (λ (k : ℕ). first_lines k y) none ∙ first_lines-none y), ap (first_course programs) (head_of-none n none))
 
-head_first : (n : ℕ) → (place : HeadPlace n) × (begun programs (head_of n) ≡ head_at n place)
+head_first : (n : ℕ) → (place : HeadPlace n) × (first_course programs (head_of n) ≡ head_at n place)
 head_first n = first_by n (cases_lt 0 n)
 
 pub head_is_filter : (n : ℕ) → IsFilter programs (head_of n) (head_filter n)

@@ -1,9 +1,10 @@
--- The stock programs keep the laws of programs: a read is of one byte at least, and so is a write.
+-- The stock programs keep the laws of programs: a read asks for at least one byte, and a write has at least
+-- one.
 use Rattle.std.specs.Prelude.{ℕ, ◌≤◌, ◌&&◌, ◌++◌, List, [], ◌∷◌, Bool, true, false, not, length, if◌then◌else◌, decimal}
 use Rattle.std.specs.List.{list_any}
 use Rattle.std.proofs.Common.{arith, subst, length-append}
 use Rattle.sh_stock.specs.Asking.{KeepsLaws}
-use Rattle.sh_stock.specs.Lines.{contains, is_empty, is_newline, kept_lines, unfinished}
+use Rattle.sh_stock.specs.Lines.{contains, is_empty, is_newline, kept_lines, unfinished_line}
 use Rattle.sh_stock.specs.Programs.{cat_turn, count_read, count_turn, ending_turn, ends, having_goes_on, having_read, having_turn, head_turn, program_turn, programs, readstop_read, readstop_turn, reads_one, spin_turn, stops, writes, writes_any, writing_turn, yes_turn}
 use Rattle.sh_stock.specs.declared.asking.Answer.{Answer}
 use Rattle.sh_stock.specs.declared.asking.Answer.TheVariants.{Started, Bytes, Done, Failed}
@@ -72,7 +73,7 @@ goes_on-allowed search (byte ∷ bytes) = omega arith
 
 having_read-allowed : (search : Search) (bytes : List ℕ) → IsAllowed (having_read search bytes).ask
 having_read-allowed search [] = last-allowed search.line (contains search.text search.line) (if search.found then 0 else 1)
-having_read-allowed search (byte ∷ bytes) = goes_on-allowed (record search { line = unfinished search.line (byte ∷ bytes) }) (kept_lines search.text search.line (byte ∷ bytes))
+having_read-allowed search (byte ∷ bytes) = goes_on-allowed (record search { line = unfinished_line search.line (byte ∷ bytes) }) (kept_lines search.text search.line (byte ∷ bytes))
 
 having-allowed : (search : Search) (answer : Answer) → IsAllowed (having_turn search answer).ask
 having-allowed search Started = omega arith

@@ -1,11 +1,11 @@
--- The stock programs: what each asks in its first turn, at the bytes of a read (none at end of file), when a write or a
--- stop is done, and when a read or a write failed.
+-- The stock programs: what each asks in its first turn, after a read (which gives no bytes at end of file),
+-- after a write or a stop, and after a read or a write that failed.
 use Rattle.std.specs.Prelude.{ℕ, List, [], ◌∷◌, ◌++◌, ◌+◌, ◌-◌, ◌^◌, true, false, ◌&&◌, ◌==◌, not, min, length, codes, decimal, Option, Some, None, if◌then◌else◌}
 use Rattle.std.specs.List.{join_with_byte, list_any}
 use Rattle.sh_base.specs.Decimals.{is_number, value_of}
 use Rattle.std.specs.Str.{bytes_eq}
 use Rattle.sh_stock.specs.Asking.{Meaning}
-use Rattle.sh_stock.specs.Lines.{first_lines, newlines, unfinished, contains, kept_lines, is_empty, is_newline}
+use Rattle.sh_stock.specs.Lines.{first_lines, newlines, unfinished_line, contains, kept_lines, is_empty, is_newline}
 use Rattle.sh_stock.specs.declared.asking.Answer.{Answer}
 use Rattle.sh_stock.specs.declared.asking.Answer.TheVariants.{Started, Bytes, Done, Failed}
 use Rattle.sh_stock.specs.declared.asking.Ask.TheVariants.{Read, Write, Stop, Idle, End}
@@ -73,11 +73,11 @@ spin_turn (Bytes bytes) = idles
 spin_turn Done = idles
 spin_turn Failed = ends 1
 
--- head where so many lines are left to write
+-- head with this many lines left to write
 abbrev pub head_of : ℕ → Program
 head_of lines = if lines == 0 then Ending 0 else Head lines
 
--- writes up to and with the newline of the last line that is left, and then ends
+-- writes up to and including the newline of the last line that is left, and then ends
 abbrev pub head_turn : ℕ → Answer → Turn Program
 head_turn lines Started = reads (Head lines)
 head_turn lines (Bytes bytes) = writes_any (first_lines lines bytes) (head_of (lines - newlines bytes))
@@ -89,7 +89,7 @@ abbrev pub having_goes_on : Search → List ℕ → Turn Program
 having_goes_on search [] = reads (Having search)
 having_goes_on search (byte ∷ bytes) = writes (byte ∷ bytes) (Having (record search { found = true }))
 
--- at end of file an unfinished line that contains the text is written as it stands
+-- at end of file an unfinished line that contains the text is written without a newline
 abbrev pub having_ends : Search → Turn Program
 having_ends search =
     if not (is_empty search.line) && contains search.text search.line
@@ -99,7 +99,7 @@ having_ends search =
 abbrev pub having_read : Search → List ℕ → Turn Program
 having_read search [] = having_ends search
 having_read search (byte ∷ bytes) =
-    having_goes_on (record search { line = unfinished search.line (byte ∷ bytes) }) (kept_lines search.text search.line (byte ∷ bytes))
+    having_goes_on (record search { line = unfinished_line search.line (byte ∷ bytes) }) (kept_lines search.text search.line (byte ∷ bytes))
 
 abbrev pub having_turn : Search → Answer → Turn Program
 having_turn search Started = reads (Having search)
@@ -107,7 +107,7 @@ having_turn search (Bytes bytes) = having_read search bytes
 having_turn search Done = reads (Having search)
 having_turn search Failed = ends 1
 
--- the greatest number that `count` tells
+-- the greatest number that `count` writes
 abbrev pub count_limit : ℕ
 count_limit = 2 ^ 128 - 1
 
@@ -124,7 +124,7 @@ count_turn count (Bytes bytes) = count_read count bytes
 count_turn count Done = reads (Count count)
 count_turn count Failed = ends 1
 
--- readstop with its line so far, in front of more bytes
+-- readstop with its line so far, when it has read these bytes
 abbrev pub readstop_read : List ℕ → List ℕ → Turn Program
 readstop_read line [] = stops (Writing line)
 readstop_read line (byte ∷ bytes) =
@@ -132,7 +132,7 @@ readstop_read line (byte ∷ bytes) =
     then stops (Writing (line ++ byte ∷ bytes))
     else reads_one (ReadStop (line ++ byte ∷ bytes))
 
--- reads a line byte by byte, is sent STOP, and when continued writes the line
+-- reads a line byte by byte, asks to be stopped, and when continued writes the line
 abbrev pub readstop_turn : List ℕ → Answer → Turn Program
 readstop_turn line Started = reads_one (ReadStop line)
 readstop_turn line (Bytes bytes) = readstop_read line bytes
@@ -150,14 +150,14 @@ program_turn (Having search) answer = having_turn search answer
 program_turn (Count count) answer = count_turn count answer
 program_turn (ReadStop line) answer = readstop_turn line answer
 
--- what wrong operands make of a program
-abbrev pub misused : Program
-misused = Ending 2
+-- the program that wrong operands give
+abbrev pub usage_error : Program
+usage_error = Ending 2
 
--- a program that takes no operands
+-- a program that takes no operands, started with these
 abbrev pub alone : Program → List (List ℕ) → Program
 alone program [] = program
-alone program (operand ∷ operands) = misused
+alone program (operand ∷ operands) = usage_error
 
 abbrev pub echo_text : List (List ℕ) → List ℕ
 echo_text operands = join_with_byte 32 operands ++ 10 ∷ []
@@ -165,35 +165,35 @@ echo_text operands = join_with_byte 32 operands ++ 10 ∷ []
 -- head -n NUMBER
 abbrev pub head_started_by : List ℕ → List ℕ → Program
 head_started_by option number =
-    if bytes_eq option (codes "-n") && is_number number then head_of (value_of number) else misused
+    if bytes_eq option (codes "-n") && is_number number then head_of (value_of number) else usage_error
 
 abbrev pub head_started : List (List ℕ) → Program
-head_started [] = misused
-head_started (option ∷ []) = misused
+head_started [] = usage_error
+head_started (option ∷ []) = usage_error
 head_started (option ∷ number ∷ []) = head_started_by option number
-head_started (option ∷ number ∷ other ∷ others) = misused
+head_started (option ∷ number ∷ other ∷ others) = usage_error
 
 -- having TEXT
 abbrev pub having_started : List (List ℕ) → Program
-having_started [] = misused
+having_started [] = usage_error
 having_started (text ∷ []) = Having (record { text = text; line = []; found = false })
-having_started (text ∷ other ∷ others) = misused
+having_started (text ∷ other ∷ others) = usage_error
 
-abbrev pub started : Name → List (List ℕ) → Program
-started name.Cat operands = alone Cat operands
-started name.Echo operands = Writing (echo_text operands)
-started name.True operands = alone (Ending 0) operands
-started name.False operands = alone (Ending 1) operands
-started name.Yes operands = alone Yes operands
-started name.Spin operands = alone Spin operands
-started name.Head operands = head_started operands
-started name.Having operands = having_started operands
-started name.Count operands = alone (Count 0) operands
-started name.ReadStop operands = alone (ReadStop []) operands
+abbrev pub program_of : Name → List (List ℕ) → Program
+program_of name.Cat operands = alone Cat operands
+program_of name.Echo operands = Writing (echo_text operands)
+program_of name.True operands = alone (Ending 0) operands
+program_of name.False operands = alone (Ending 1) operands
+program_of name.Yes operands = alone Yes operands
+program_of name.Spin operands = alone Spin operands
+program_of name.Head operands = head_started operands
+program_of name.Having operands = having_started operands
+program_of name.Count operands = alone (Count 0) operands
+program_of name.ReadStop operands = alone (ReadStop []) operands
 
 abbrev pub started_by : Option Name → List (List ℕ) → Option Program
 started_by None operands = None
-started_by (Some name) operands = Some (started name operands)
+started_by (Some name) operands = Some (program_of name operands)
 
 -- the program of a name
 abbrev pub name_of : List ℕ → Option Name

@@ -4,15 +4,15 @@ use sh_base::sequence::Text;
 /// What a program asks of the machine that runs it.
 #[derive(Drop)]
 pub enum Ask {
-    /// A read from descriptor 0 of up to so many bytes, at least one.
+    /// A read of at most this many bytes from file descriptor 0. The number is at least 1.
     Read(usize),
-    /// A write of these bytes, at least one, to descriptor 1.
+    /// A write of these bytes, at least one, to file descriptor 1.
     Write(Text),
-    /// That it be sent STOP.
+    /// To be stopped, as by SIGSTOP. A machine may answer at once, as if the program were continued.
     Stop,
     /// Nothing: an idle turn.
     Idle,
-    /// Its end, with this status. No turn follows.
+    /// The program's end, with this exit status. No turn follows.
     End(u8),
 }
 
@@ -23,17 +23,17 @@ pub enum Answer {
     Started,
     /// What a read gave; no bytes at end of file.
     Bytes(Text),
-    /// A write is done whole, or an idle turn is over, or a stopped program is continued.
+    /// All bytes of a write are written, or an idle turn is over, or a stopped program is continued.
     Done,
     /// A read or a write failed.
     Failed,
 }
 
-/// What a turn leaves.
+/// The result of a turn.
 #[derive(Drop)]
 pub struct Turn<S> {
     /// The program, ready for the answer.
     pub program: S,
-    /// What it asks.
+    /// What the program asks.
     pub ask: Ask,
 }

@@ -1,10 +1,11 @@
-//! The stock programs of a modelled machine, and those of them that are filters.
+//! The stock programs of a modelled machine, and which of them are filters.
 //!
-//! A program is a state machine: each turn takes the answer to its last ask and gives its next ask. [`Stock`] is what a
-//! machine needs to know of a kind of program, and [`Filter`] what a proof about pipelines needs to know: a filter's
-//! output and status are functions of its input alone, in whatever pieces it is read. [`Program`] has the programs
-//! `cat`, `echo`, `true`, `false`, `yes`, `spin`, `head`, `having`, `count` and `readstop`; `specs/Programs.antt` is the
-//! table of their turns, and `specs/Filters.antt` says which are filters.
+//! A program is a state machine: each turn takes the answer to its last ask and gives its next ask. [`Stock`]
+//! is what a machine needs to know of a kind of program, and [`Filter`] what a proof about pipelines needs to
+//! know: a filter's output and status are functions of its input alone, however the input is cut into reads.
+//! [`Program`] has the programs `cat`, `echo`, `true`, `false`, `yes`, `spin`, `head`, `having`, `count` and
+//! `readstop`; `specs/Programs.antt` is the table of their turns, and `specs/Filters.antt` says which are
+//! filters.
 #![tactic(auto)]
 
 mod asking;

@@ -1,6 +1,6 @@
 // Lines of bytes.
 ghost use Rattle.std.specs.Prelude.{◌≡◌, ◌-◌, IfOk, OnOk, take};
-ghost use Rattle.sh_stock.specs.Lines.{contains, first_lines, is_newline, kept_lines, newlines, unfinished};
+ghost use Rattle.sh_stock.specs.Lines.{contains, first_lines, is_newline, kept_lines, newlines, unfinished_line};
 ghost use Rattle.std.specs.List.{list_any};
 
 use sh_base::NoMemory;
@@ -20,9 +20,9 @@ fn is_newline(byte: u8) -> bool
     byte == b'\n'
 }
 
-/// How many bytes the first lines take, and how many lines are missing then.
+/// How many bytes the first `lines` lines take, and how many of these lines are missing.
 pub(crate) fn find_end(lines: u64, bytes: &[u8]) -> (usize, u64)
-    ensures front { take result.0 bytes.now ≡ first_lines lines bytes.now }
+    ensures prefix { take result.0 bytes.now ≡ first_lines lines bytes.now }
     ensures missing { result.1 ≡ lines - newlines bytes.now }
 {
     let mut missing = lines;
@@ -37,7 +37,7 @@ pub(crate) fn find_end(lines: u64, bytes: &[u8]) -> (usize, u64)
     (bytes.len(), missing)
 }
 
-/// Whether a text stands somewhere in a line.
+/// Whether a text is somewhere in a line.
 pub(crate) fn contains(text: &[u8], line: &[u8]) -> bool
     ensures { result ≡ contains text.now line.now }
 {
@@ -51,7 +51,8 @@ pub(crate) fn contains(text: &[u8], line: &[u8]) -> bool
     text.is_empty()
 }
 
-/// Adds bytes to an unfinished line, and gives those of the lines now whole that contain a text.
+/// Adds bytes to an unfinished line. It gives the lines that are whole now and contain a text, with their
+/// newlines. After an error, which only want of memory gives, the line is left open.
 pub(crate) fn keep_lines(
     alloc: Global,
     text: &[u8],
@@ -59,7 +60,7 @@ pub(crate) fn keep_lines(
     bytes: &[u8],
 ) -> Result<Text, NoMemory>
     ensures kept { IfOk result (λ kept. kept ≡ kept_lines text.now line.old bytes.now) }
-    ensures line { OnOk result (line.new ≡ unfinished line.old bytes.now) }
+    ensures line { OnOk result (line.new ≡ unfinished_line line.old bytes.now) }
 {
     let mut kept = Text::new(alloc);
     'bytes: for byte in bytes {

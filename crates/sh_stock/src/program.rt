@@ -32,7 +32,7 @@ pub struct Search {
 pub enum Program {
     /// It ends with this status: `true`, `false`, one with wrong operands, and one that has done its work.
     Ending(u8),
-    /// It writes this text, if that has bytes, and ends with 0: `echo`, and `readstop` when continued.
+    /// It writes this text, if the text has bytes, and ends with 0: `echo`, and `readstop` when continued.
     Writing(Text),
     /// It writes what it reads.
     Cat,
@@ -40,11 +40,11 @@ pub enum Program {
     Yes,
     /// It is idle for ever.
     Spin,
-    /// `head` with so many lines left to write.
+    /// `head` with this many lines left to write.
     Head(u64),
     /// It writes the lines that contain a text.
     Having(Search),
-    /// `count` with the number of bytes so far, which stays at 2^128 - 1 where it would pass it.
+    /// `count` with the number of bytes so far, or 2^128 - 1 where there are more.
     Count(u128),
     /// `readstop` with the line so far.
     ReadStop(Text),
@@ -82,7 +82,7 @@ impl Filter for Program {
     ghost filter_laws = { programs-filter_laws };
 }
 
-/// A program and its next ask, once the last one is answered. The one error is want of memory.
+/// A program and its next ask, once its last ask is answered. The only error is want of memory.
 fn step(alloc: Global, program: Program, answer: Answer) -> Result<Turn<Program>, NoMemory>
     ensures { IfOk result (λ turn. turn ≡ program_turn program answer) }
 {
@@ -119,7 +119,7 @@ fn reads(program: Program) -> Turn<Program>
     }
 }
 
-/// The turn in which a program writes; it ends with 0 where there is nothing to write.
+/// The turn in which a program writes. It ends with 0 where there is nothing to write.
 fn writes_any(bytes: Text, next: Program) -> Turn<Program>
     ensures { result ≡ writes_any bytes next }
 {
@@ -207,7 +207,7 @@ fn spin_turn(answer: Answer) -> Turn<Program>
     }
 }
 
-/// `head` with so many lines left to write.
+/// `head` with this many lines left to write.
 pub(crate) fn head_of(lines: u64) -> Program
     ensures { result ≡ head_of lines }
 {
@@ -246,7 +246,7 @@ fn having_ends(search: Search) -> Turn<Program>
     ends(if found { 0 } else { 1 })
 }
 
-/// The turn of `having` with these lines to write.
+/// The turn of `having` with these lines to write. It reads where there are none.
 fn having_goes_on(search: Search, kept: Text) -> Turn<Program>
     ensures { result ≡ having_goes_on search kept }
 {

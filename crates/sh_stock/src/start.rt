@@ -1,6 +1,6 @@
 // The programs before their first turn, by name and operands.
 ghost use Rattle.std.specs.Prelude.{◌≡◌, IfOk};
-ghost use Rattle.sh_stock.specs.Programs.{alone, echo_text, head_started, head_started_by, having_started, misused, started};
+ghost use Rattle.sh_stock.specs.Programs.{alone, echo_text, head_started, head_started_by, having_started, usage_error, program_of};
 
 use crate::name::Name;
 use crate::program::{Program, Search, head_of};
@@ -11,7 +11,7 @@ use std::alloc::Global;
 
 /// The program of a name with its operands.
 pub(crate) fn started(alloc: Global, name: Name, operands: &[Text]) -> Result<Program, NoMemory>
-    ensures { IfOk result (λ program. program ≡ started name operands.now) }
+    ensures { IfOk result (λ program. program ≡ program_of name operands.now) }
 {
     match name {
         Name::Cat => Ok(alone(Program::Cat, operands)),
@@ -27,14 +27,14 @@ pub(crate) fn started(alloc: Global, name: Name, operands: &[Text]) -> Result<Pr
     }
 }
 
-/// What wrong operands make of a program.
+/// The program that wrong operands give.
 fn misused() -> Program
-    ensures { result ≡ misused }
+    ensures { result ≡ usage_error }
 {
     Program::Ending(2)
 }
 
-/// A program that takes no operands.
+/// A program that takes no operands, started with these.
 fn alone(program: Program, operands: &[Text]) -> Program
     ensures { result ≡ alone program operands.now }
 {
@@ -44,7 +44,7 @@ fn alone(program: Program, operands: &[Text]) -> Program
     misused()
 }
 
-/// The operands with a space between them, and a newline.
+/// The operands with a space between each two, and a newline at the end.
 fn echo_text(alloc: Global, operands: &[Text]) -> Result<Text, NoMemory>
     ensures { IfOk result (λ text. text ≡ echo_text operands.now) }
 {

@@ -10,35 +10,36 @@ use std::alloc::Global;
 
 /// A kind of program that a machine can run turn by turn.
 ///
-/// A program's first turn is answered by [`Answer::Started`], and each later one by the answer to what the last one
-/// asked. Its next ask and state are functions of its state and the answer.
+/// A program's first turn gets [`Answer::Started`], and each later turn gets the answer to the ask before.
+/// The next ask and state of a program are functions of its state and the answer.
 pub trait Stock: Drop {
-    /// What its programs do.
+    /// What the programs of this kind do.
     ghost meaning: { Meaning Self };
 
-    /// The program of a name with its operands, before its first turn; `None` where no program has the name. Wrong
-    /// operands give a program that ends with 2 in its first turn.
+    /// The program of a name with its operands, before its first turn; `None` where no program has the name.
+    /// By convention, which no law states, wrong operands give a program that ends with 2 in its first turn.
+    /// The only error is want of memory.
     fn start(alloc: Global, name: &[u8], operands: &[Text]) -> Result<Option<Self>, NoMemory>
         ensures { IfOk result (λ program. program ≡ meaning.start name.now operands.now) };
 
-    /// One turn: the answer to the last ask comes in, and the next ask goes out. After an `Err`, which only want of
-    /// memory gives, the program is left open, and no turn is to follow.
+    /// One turn: the answer to the last ask comes in, and the next ask goes out. The only error is want of
+    /// memory. After it the program is left open, and no turn is to follow.
     fn turn(&mut self, alloc: Global, answer: Answer) -> Result<Ask, NoMemory>
         ensures ask { IfOk result (λ ask. ask ≡ (meaning.turn self.old answer).ask) }
         ensures program { OnOk result (self.new ≡ (meaning.turn self.old answer).program) };
 
-    /// A read is of one byte at least, and so is a write.
+    /// A read asks for at least one byte, and a write has at least one.
     ghost laws: { KeepsLaws meaning };
 }
 
-/// A kind of program some of which are filters: what such a one writes, and its status, are functions of its input
-/// alone, however that is cut into reads.
+/// A kind of program with filters among them. What a filter writes, and its exit status, are functions of its
+/// input alone, however the input is cut into reads.
 pub trait Filter: Stock {
     /// For a name and operands that make a filter: its output and status by its whole input, and what it is certain to
-    /// write when it has read a front of the input.
+    /// write when it has read a prefix of the input.
     ghost filtering: { List ℕ → List (List ℕ) → Option Filtering };
 
-    /// A filter writes a beginning of what is certain, and where it ends it has written its output and ends with its
-    /// status, while no ask of it fails.
+    /// As long as no ask of a filter fails, what it has written is a prefix of what is certain. Where it
+    /// ends, it has written its output, and ends with its status.
     ghost filter_laws: { KeepsFilterLaws Self.meaning filtering };
 }

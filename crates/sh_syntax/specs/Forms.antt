@@ -1,6 +1,6 @@
--- The tokens of each form of a tree (XCU 2.6 to 2.9, 2.10.2): words as in the source, `;` or `&` behind each AND-OR list
--- inside a compound list, `;` for what separates the words of a for from its `do`; no other newline and no body of a
--- here-document is shown. A step gives the tokens of one form, in which the tokens of its parts stand already.
+-- The tokens of each form of a tree (XCU 2.6 to 2.9, 2.10.2): words as in the source, `;` or `&` after each
+-- AND-OR list of a compound list, `;` for what separates the words of a `for` from its `do`. No other newline
+-- and no body of a here-document is shown. A step gives the tokens of one form from the tokens of its parts.
 use Rattle.std.specs.Prelude.{List, [], ◌∷◌, ◌++◌, Option, Some, None, codes}
 use Rattle.std.specs.List.{flat_map}
 use Rattle.sh_syntax.specs.Tokens.{Token, Spelled}
@@ -10,17 +10,17 @@ use Rattle.sh_syntax.specs.declared.tree.Command.TheOpen as layer
 abbrev pub Tokens : Type 0
 Tokens = List Token
 
--- one form of a type whose parts have given way to their tokens
+-- one form of a type, its parts replaced by their tokens
 abbrev pub Layer : (Type 0 → Type 0 → Type 0 → Type 0 → Type 0 → Type 0 → Type 0 → Type 0
     → Type 0 → Type 0 → Type 0 → Type 0 → Type 0 → Type 0 → Type 0 → Type 0 → Type 0) → Type 0
 Layer F = F Tokens Tokens Tokens Tokens Tokens Tokens Tokens Tokens Tokens Tokens Tokens Tokens Tokens Tokens Tokens Tokens
 
--- tokens of one part after another
+-- the tokens of the parts, one part after another
 abbrev pub all : List Tokens → Tokens
 all = flat_map (λ x. x)
 
-abbrev pub complete_step : Layer layer.Complete-F → Tokens
-complete_step list = all list.items
+abbrev pub compound_list_step : Layer layer.CompoundList-F → Tokens
+compound_list_step list = all list.items
 
 abbrev pub list_item_step : Layer layer.ListItem-F → Tokens
 list_item_step list_item = list_item.list ++ sign (separator_spelling list_item.separator)
@@ -91,7 +91,7 @@ case_item_step item =
     optional item.has_parenthesis (codes "(") ++ item.pattern ++ flat_map behind_bar item.more_patterns ++ sign (codes ")")
     ++ item.body ++ case_end_tokens item.end
 
--- the parts of a word aren't shown apart
+-- the parts of a word aren't shown by themselves: the source of the word is shown
 abbrev pub parts_step : Layer layer.Parts-F → Tokens
 parts_step parts = []
 

@@ -48,11 +48,11 @@ abbrev pub case_end_tokens : CaseEnd → List Token
 case_end_tokens end.Omitted = []
 case_end_tokens end.Break = sign (codes ";;")
 
--- a descriptor's number, where there is one
+-- a file descriptor's number, where one is given
 abbrev pub number_tokens : Option (List ℕ) → List Token
 number_tokens None = []
 number_tokens (Some digits) = Number digits ∷ []
 
--- a token that stands only in some of the texts
+-- a token that only some of the texts have
 abbrev pub optional : Bool → List ℕ → List Token
 optional stands bytes = if stands then sign bytes else []

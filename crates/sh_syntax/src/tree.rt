@@ -1,14 +1,14 @@
-//! Syntax trees of the Shell Command Language (XCU 2.2, 2.5 to 2.7, 2.9 and 2.10). What a running shell
-//! goes on to hold, beside its tree, is `Shared`. Nested syntax makes a tree deep, of 500 levels at
-//! most; a list of any length is a sequence, never a chain of pairs. Contracts see a
-//! tree as plain data, without pointers.
+//! Syntax trees of the Shell Command Language (XCU 2.2, 2.5 to 2.7, 2.9 and 2.10). Parts that a running shell
+//! also holds outside of the tree are `Shared`. Only nested syntax makes a tree deep, and `sh_parse` reads at
+//! most 500 levels. A list of any length is a sequence, never a chain of pairs. Contracts see a tree as plain
+//! data, without pointers.
 ghost use Rattle.std.specs.Prelude.{◌≡◌};
 ghost use Rattle.sh_syntax.specs.declared.tree.Command.TheViews as view;
 
 use sh_base::sequence::{Sequence, Text};
 use sh_base::shared::Shared;
 
-/// A word (XCU 2.3): its parts, and its bytes as they stand in the source.
+/// A word (XCU 2.3): its parts, and its bytes as they are in the source.
 #[cycle(syntax)]
 #[derive(Drop)]
 pub struct Word {
@@ -30,11 +30,11 @@ pub struct Parts {
 pub enum Part {
     /// Bytes that stand for themselves, as many as there are in a row.
     Literal(Text),
-    /// A byte behind a backslash that quotes it (XCU 2.2.1).
+    /// A byte after a backslash that quotes it (XCU 2.2.1).
     Escaped(u8),
     /// The bytes between single quotes (XCU 2.2.2).
     SingleQuoted(Text),
-    /// What stands between double quotes (XCU 2.2.3).
+    /// What is between double quotes (XCU 2.2.3).
     DoubleQuoted(Shared<Parts>),
     /// `$p` or `${p}` (XCU 2.6.2).
     Parameter(Parameter),
@@ -54,10 +54,10 @@ pub enum Part {
         extent: Extent,
         pattern: Shared<Parts>,
     },
-    /// `$(..)`: a command substitution (XCU 2.6.3). With no item where nothing stands in it.
-    Substitution(Shared<Complete>),
+    /// `$(..)`: a command substitution (XCU 2.6.3). The list has no item where no command is in it.
+    Substitution(Shared<CompoundList>),
     /// A command substitution in backquotes, as for `$(..)`.
-    Backquoted(Shared<Complete>),
+    Backquoted(Shared<CompoundList>),
     /// `$((..))`: an arithmetic expansion (XCU 2.6.4).
     Arithmetic(Shared<Parts>),
 }
@@ -110,7 +110,7 @@ pub enum ConditionalAction {
     Default,
     /// `=`: assigns it.
     Assign,
-    /// `?`: ends with it as a message.
+    /// `?`: fails, with it as the message.
     Error,
     /// `+`: uses it where there is a value.
     Alternative,
@@ -119,9 +119,9 @@ pub enum ConditionalAction {
 /// Which end of a value a pattern is taken off (XCU 2.6.2).
 #[derive(Clone, Copy, Debug, PartialEq, Eq)]
 pub enum Affix {
-    /// `#`: the front.
+    /// `#`: the prefix.
     Prefix,
-    /// `%`: the back.
+    /// `%`: the suffix.
     Suffix,
 }
 
@@ -134,7 +134,7 @@ pub enum Extent {
     Largest,
 }
 
-/// A name as it stands in the source (XBD 3.216).
+/// A name as it is in the source (XBD 3.216).
 #[derive(Debug, Drop)]
 pub struct Name {
     pub name: Text,
@@ -146,16 +146,16 @@ pub struct Name {
 #[cycle(syntax)]
 #[derive(Drop)]
 pub struct Redirect {
-    /// The digits of the descriptor's number, where there is one.
+    /// The digits of the file descriptor's number, where one is given.
     pub number: Option<Text>,
     pub target: Target,
 }
 
-/// What a redirection puts in the descriptor's place (XCU 2.7).
+/// What a redirection makes the file descriptor refer to (XCU 2.7).
 #[cycle(syntax)]
 #[derive(Drop)]
 pub enum Target {
-    /// A file, or another descriptor, that a word names.
+    /// A file, or another file descriptor, that a word names.
     Named {
         operator: RedirectOperator,
         word: Word,
@@ -233,34 +233,34 @@ pub struct Compound {
 #[derive(Drop)]
 pub enum CompoundForm {
     /// `{ list ; }`
-    Group(Shared<Complete>),
+    Group(Shared<CompoundList>),
     /// `( list )`
-    Subshell(Shared<Complete>),
+    Subshell(Shared<CompoundList>),
     /// `if list then list`, each further `elif list then list`, `else list`, `fi`.
     If {
-        condition: Shared<Complete>,
-        body: Shared<Complete>,
+        condition: Shared<CompoundList>,
+        body: Shared<CompoundList>,
         else_ifs: Sequence<ElseIf>,
-        else_body: Option<Shared<Complete>>,
+        else_body: Option<Shared<CompoundList>>,
     },
     /// `while list do list done`, or the same with `until`.
     Loop {
         kind: LoopKind,
-        condition: Shared<Complete>,
-        body: Shared<Complete>,
+        condition: Shared<CompoundList>,
+        body: Shared<CompoundList>,
     },
     /// `for NAME in words ; do list done`
     For {
         name: Name,
         words: Sequence<Word>,
-        body: Shared<Complete>,
+        body: Shared<CompoundList>,
     },
     /// `for NAME do list done`, over the positional parameters.
     ForParameters {
         name: Name,
-        /// Whether a semicolon or newline stands before the `do`.
+        /// Whether a semicolon or newline is before the `do`.
         is_separated: bool,
-        body: Shared<Complete>,
+        body: Shared<CompoundList>,
     },
     /// `case word in items esac`
     Case {
@@ -273,8 +273,8 @@ pub enum CompoundForm {
 #[cycle(syntax)]
 #[derive(Drop)]
 pub struct ElseIf {
-    pub condition: Shared<Complete>,
-    pub body: Shared<Complete>,
+    pub condition: Shared<CompoundList>,
+    pub body: Shared<CompoundList>,
 }
 
 /// How long a loop runs (XCU 2.9.4.5, 2.9.4.6).
@@ -290,13 +290,13 @@ pub enum LoopKind {
 #[cycle(syntax)]
 #[derive(Drop)]
 pub struct CaseItem {
-    /// Whether the optional `(` stands before the patterns.
+    /// Whether the optional `(` is before the patterns.
     pub has_parenthesis: bool,
     pub pattern: Word,
-    /// The patterns behind a `|`.
+    /// The patterns after a `|`.
     pub more_patterns: Sequence<Word>,
-    /// Without an item where nothing stands behind the `)`.
-    pub body: Shared<Complete>,
+    /// The list after the `)`. It has no item where no command is there.
+    pub body: Shared<CompoundList>,
     pub end: CaseEnd,
 }
 
@@ -312,10 +312,10 @@ pub enum CaseEnd {
 /// A pipeline (XCU 2.9.2).
 #[cycle(syntax)]
 pub struct Pipeline {
-    /// Whether a `!` stands before it.
+    /// Whether a `!` is before it.
     pub is_negated: bool,
     pub first: Shared<Command>,
-    /// The commands behind a `|`.
+    /// The commands after a `|`.
     pub rest: Sequence<Shared<Command>>,
 }
 
@@ -323,7 +323,7 @@ pub struct Pipeline {
 #[cycle(syntax)]
 pub struct AndOr {
     pub first: Shared<Pipeline>,
-    /// The pipelines behind a `&&` or `||`.
+    /// The pipelines after a `&&` or `||`.
     pub rest: Sequence<Connected>,
 }
 
@@ -338,25 +338,25 @@ pub struct Connected {
 /// What joins two pipelines (XCU 2.9.3.2, 2.9.3.3).
 #[derive(Clone, Copy, Debug, PartialEq, Eq)]
 pub enum Connector {
-    /// `&&`: run if what stands before it succeeds.
+    /// `&&`: run if what is before it succeeds.
     And,
-    /// `||`: run if what stands before it fails.
+    /// `||`: run if what is before it fails.
     Or,
 }
 
 /// AND-OR lists one after another: a complete command (XCU 2.10.2), the list inside a compound command, or
 /// the commands of a substitution.
 #[cycle(syntax)]
-pub struct Complete {
+pub struct CompoundList {
     pub items: Sequence<ListItem>,
 }
 
-impl Complete {
+impl CompoundList {
     /// Takes the AND-OR lists out.
     pub fn into_items(self) -> Sequence<ListItem>
-        ensures { result ≡ (view.out-Complete self).items }
+        ensures { result ≡ (view.out-CompoundList self).items }
     {
-        let Complete { items: lists } = self;
+        let CompoundList { items: lists } = self;
         lists
     }
 }
@@ -369,17 +369,17 @@ pub struct ListItem {
     pub separator: Separator,
 }
 
-/// What stands behind an AND-OR list (XCU 2.9.3).
+/// What comes after an AND-OR list (XCU 2.9.3).
 #[derive(Clone, Copy, Debug, PartialEq, Eq)]
 pub enum Separator {
-    /// `;`, a newline or nothing: the shell waits for its end.
+    /// `;`, a newline or nothing: the shell waits for the end of the list.
     Sequential,
     /// `&`: the shell goes on at once.
     Asynchronous,
 }
 
-// The types that stand behind a `Shared` say how they are let go, in place of a derive: that is proved once here, and no crate
-// above proves it anew for the whole cycle of a tree's types.
+// The types inside a `Shared` say how they are dropped, instead of deriving it. That is proved once here, so
+// no crate above has to prove it again for the whole cycle of a tree's types.
 
 impl Drop for Parts {
     #[cycle(letting_go)]
@@ -434,10 +434,10 @@ impl Drop for AndOr {
     }
 }
 
-impl Drop for Complete {
+impl Drop for CompoundList {
     #[cycle(letting_go)]
     fn drop(self) {
-        let Complete { items } = self;
+        let CompoundList { items } = self;
         drop(items);
     }
 }

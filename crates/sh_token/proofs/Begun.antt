@@ -11,21 +11,21 @@ use Rattle.sh_token_pieces.specs.declared.head.Head.{Head}
 use Rattle.sh_token_pieces.specs.declared.operator.Operator.{Operator}
 use Rattle.sh_token_pieces.specs.declared.context.Context.{Context}
 use Rattle.sh_token_pieces.specs.declared.context.Context.TheVariants.{Top, Commands, Word, Quotes, Braces, Arithmetic, Parenthesis, Body}
-use Rattle.sh_token_pieces.specs.declared.mark.Mark.{Mark}
-use Rattle.sh_token_pieces.specs.declared.mark.Mark.TheVariants.{Byte, SingleQuoted, Dollar, Variable, Parameter, BraceOpen, ArithmeticOpen, ArithmeticClose, CommandsOpen, Backquoted, Comment, Bodies}
+use Rattle.sh_token_pieces.specs.declared.piece.Piece.{Piece}
+use Rattle.sh_token_pieces.specs.declared.piece.Piece.TheVariants.{Byte, SingleQuoted, Dollar, Variable, Parameter, BraceOpen, ArithmeticOpen, ArithmeticClose, CommandsOpen, Backquoted, Comment, Bodies}
 use Rattle.sh_token_pieces.specs.declared.pending.Pending.{Pending}
 use Rattle.sh_token_pieces.specs.Bytes.{is_short_parameter, is_form, is_no_quote, is_no_newline}
 use Rattle.sh_token_pieces.specs.Characters.{joins, Reads, Written, plain, raw, Ahead, Next, ahead, next_is}
 use Rattle.sh_token_pieces.specs.Operators.{operator_text}
-use Rattle.sh_token_pieces.specs.Growth.{grown, may_grow}
+use Rattle.sh_token_pieces.specs.Growth.{longer_operator, may_grow}
 use Rattle.sh_token_pieces.specs.Heads.{grown_head, head_step, head_of, grows_head}
 use Rattle.sh_token_pieces.specs.Pendings.{is_raw}
 use Rattle.sh_token_pieces.specs.Nested.{none_yet}
-use Rattle.sh_token_pieces.specs.Marks.{stands, IsMark, behind, ends_token, in_word, is_text, top_of, between_tokens, is_quoted, is_arithmetic, has_single_quotes, is_backquoted, is_head, braces_of, parenthesized, levels, is_some, ends_operator, ends_comment, with_token, is_more, has_due, due_in}
+use Rattle.sh_token_pieces.specs.Pieces.{stands, IsPiece, behind, ends_token, in_word, is_text, top_of, between_tokens, is_quoted, is_arithmetic, has_single_quotes, is_backquoted, is_head, braces_of, behind_byte, levels, is_some, ends_operator, ends_comment, with_token, is_more, has_due, due_in}
 use Rattle.sh_token_pieces.specs.TokenClasses.{OfOperator, OfBodies, class_of_operator}
 use Rattle.sh_token_grammar.specs.Levels.{begins_compound}
 use Rattle.sh_token.specs.Tokens.{OpensLevel, braces, parenthesis}
-use Rattle.sh_token.specs.Machine.{State, Stepped, On, Before, TooDeep, opens, at_dollar, grow_to, then_act, act, plain_byte, quoted_byte, form_byte, after_dollar, after_parenthesis, in_name, headed, in_head, in_single, in_backquotes, in_escape, at_parenthesis, in_operator, in_comment, step, operator_out, same, into, out_level, level_over, in_body, bodies_out}
+use Rattle.sh_token.specs.Machine.{State, Stepped, On, Before, TooDeep, opens, at_dollar, grow_to, then_act, act, plain_byte, quoted_byte, form_byte, after_dollar, after_parenthesis, in_name, head_byte, in_head, in_single, in_backquotes, in_escape, at_parenthesis, in_operator, in_comment, step, operator_out, same, into, out_level, level_over, in_body, bodies_out}
 use Rattle.sh_token.proofs.Running.{begin_of, is_raw_character}
 use Rattle.sh_token.proofs.Tests.{and_both, and_left, not_false, text_token, levels_taken, levels_opened, more_none}
 use Rattle.sh_token.proofs.Leads.{begun, kept, settled}
@@ -55,7 +55,7 @@ single_right Arithmetic next a h = h
 single_right Parenthesis next a h = absurd (cc)
 single_right Body next a h = absurd (cc)
 
-right_stays : (x : Context) (xs : List Context) → is_arithmetic x ≡ true → parenthesized 41 x xs ≡ x ∷ xs
+right_stays : (x : Context) (xs : List Context) → is_arithmetic x ≡ true → behind_byte 41 x xs ≡ x ∷ xs
 right_stays Top xs a = refl
 right_stays (Commands ts) xs a = refl
 right_stays (Word n) xs a = refl
@@ -68,8 +68,8 @@ right_stays Body xs a = absurd (cc)
 no_form : (b : ℕ) → begins_name b ≡ false → is_short_parameter b ≡ false → nat_eq b 123 ≡ false → nat_eq b 40 ≡ false → is_form b ≡ false
 no_form b h i j k = rw (h, i, j, k) refl
 
-module _ (e : Bool) (limit : ℕ) (subject : Subject) (front : List ℕ) (blank : IsBlank subject) (previous : List ℕ) (x : Context) (xs : List Context) (done : List Mark) (mid m : List ℕ)
-    (p : Path e limit subject front done (x ∷ xs) mid) where
+module _ (e : Bool) (limit : ℕ) (subject : Subject) (prefix : List ℕ) (blank : IsBlank subject) (previous : List ℕ) (x : Context) (xs : List Context) (done : List Piece) (mid m : List ℕ)
+    (p : Path e limit subject prefix done (x ∷ xs) mid) where
   abbrev lv : ℕ
   lv = levels (x ∷ xs)
 
@@ -77,20 +77,20 @@ module _ (e : Bool) (limit : ℕ) (subject : Subject) (front : List ℕ) (blank 
   begin_at q acc = begun limit (x ∷ xs) done (pending_levels q lv) q acc
 
   abbrev Goes : Stepped → Character → List ℕ → Type 0
-  Goes y c rest = Going e limit subject front y previous (begin_of c rest) m rest
+  Goes y c rest = Going e limit subject prefix y previous (begin_of c rest) m rest
 
   -- a piece goes on
   held_on : (q : Pending) (acc : List ℕ) (c : Character) (rest : List ℕ) → Held e limit q (x ∷ xs) acc mid rest → Preceded q acc (begin_of c rest) rest → Goes (On (begin_at q acc)) c rest
-  held_on q acc c rest h r = begins_piece e limit subject front blank previous (x ∷ xs) done q acc mid (begin_of c rest) m rest p h r
+  held_on q acc c rest h r = begins_piece e limit subject prefix blank previous (x ∷ xs) done q acc mid (begin_of c rest) m rest p h r
 
   -- it is over with this character
-  ended : (k : Mark) (c : Character) (rest : List ℕ) (t : State) → IsMark e limit done x xs k mid rest → ends_token k (behind done x xs k) ≡ false → t ≡ settled limit (done ++ k ∷ []) (behind done x xs k) → Goes (On t) c rest
-  ended k c rest t i h w = ends_piece e limit subject front blank previous x xs done k mid rest (begin_of c rest) m t p i h w
+  ended : (k : Piece) (c : Character) (rest : List ℕ) (t : State) → IsPiece e limit done x xs k mid rest → ends_token k (behind done x xs k) ≡ false → t ≡ settled limit (done ++ k ∷ []) (behind done x xs k) → Goes (On t) c rest
+  ended k c rest t i h w = ends_piece e limit subject prefix blank previous x xs done k mid rest (begin_of c rest) m t p i h w
 
   -- it is over before this character
-  over_before : (k : Mark) (c : Character) (rest : List ℕ) (t : State) → IsMark e limit done x xs k mid m → ends_token k (behind done x xs k) ≡ false → is_raw_character c ≡ false → Reads e c m rest
+  over_before : (k : Piece) (c : Character) (rest : List ℕ) (t : State) → IsPiece e limit done x xs k mid m → ends_token k (behind done x xs k) ≡ false → is_raw_character c ≡ false → Reads e c m rest
       → settled limit (done ++ k ∷ []) (behind done x xs k) ≡ t → Goes (act t c) c rest
-  over_before k c rest t i h r f w = then_sound e limit subject front blank previous x xs done k mid m rest c t p i h r f w
+  over_before k c rest t i h r f w = then_sound e limit subject prefix blank previous x xs done k mid m rest c t p i h r f w
 
   -- behind a dollar
   level_deep : (q : Pending) (c : ℕ) (rest : List ℕ) → in_word x ≡ true → (nat_lt lv limit ≡ true → Goes (On (begun limit (x ∷ xs) done (suc lv) q [])) (Plain c) rest) → Written e (Plain 36 ∷ []) mid m → previous ≡ 36 ∷ m
@@ -98,47 +98,47 @@ module _ (e : Bool) (limit : ℕ) (subject : Subject) (front : List ℕ) (blank 
   level_deep q c rest w f v r o = go (nat_lt lv limit) refl
     where
       go : (d : Bool) → nat_lt lv limit ≡ d
-          → Going e limit subject front (at_dollar (cond d (On (begun limit (x ∷ xs) done (suc lv) q [])) (TooDeep (begin_at Pending.Dollar [])))) previous (c ∷ rest) m rest
+          → Going e limit subject prefix (at_dollar (cond d (On (begun limit (x ∷ xs) done (suc lv) q [])) (TooDeep (begin_at Pending.Dollar [])))) previous (c ∷ rest) m rest
       go true h = f h
       go false h =
           record {
-            it = subst (λ z. DeepHere e limit subject front z) (sym r)
-                (deep_here e limit subject front done (x ∷ xs) mid (36 ∷ m) p h w (record { lines = v.1.0; is = v.1.1 ∙ ap (λ z. joins v.1.0 ++ 36 ∷ z) v.2; over = no_join_at 36 m refl }) o);
+            it = subst (λ z. DeepHere e limit subject prefix z) (sym r)
+                (deep_here e limit subject prefix done (x ∷ xs) mid (36 ∷ m) p h w (record { lines = v.1.0; is = v.1.1 ∙ ap (λ z. joins v.1.0 ++ 36 ∷ z) v.2; over = no_join_at 36 m refl }) o);
           }
 
-  pub dollar_mark : in_word x ≡ true → not (next_is is_form (ahead e m)) ≡ true → Written e (Plain 36 ∷ []) mid m → IsMark e limit done x xs Dollar mid m
-  dollar_mark w h v = record { written = v; fits = and_both (in_word x) (not (next_is is_form (ahead e m))) w h; level = refl; compound = refl }
+  pub dollar_piece : in_word x ≡ true → not (next_is is_form (ahead e m)) ≡ true → Written e (Plain 36 ∷ []) mid m → IsPiece e limit done x xs Dollar mid m
+  dollar_piece w h v = record { written = v; fits = and_both (in_word x) (not (next_is is_form (ahead e m))) w h; level = refl; compound = refl }
 
   dollar_plain : (b : ℕ) (rest : List ℕ) → in_word x ≡ true → Written e (Plain 36 ∷ []) mid m → previous ≡ 36 ∷ m → Reads e (Plain b) m rest → Goes (form_byte (begin_at Pending.Dollar []) b) (Plain b) rest
   dollar_plain b rest w v r f =
-      either e limit subject front (begins_name b) _ _ previous (b ∷ rest) m rest
+      either e limit subject prefix (begins_name b) _ _ previous (b ∷ rest) m rest
       (λ h. held_on Pending.Name (b ∷ []) (Plain b) rest (and_both (begins_name b) true h refl, w, written_snoc e (Plain 36 ∷ []) (Plain b) mid m rest v f) tt)
-      (λ hn. either e limit subject front (is_short_parameter b) _ _ previous (b ∷ rest) m rest
+      (λ hn. either e limit subject prefix (is_short_parameter b) _ _ previous (b ∷ rest) m rest
       (λ h. ended (Parameter b) (Plain b) rest (same (Parameter b) (begin_at Pending.Dollar []))
       (record { written = written_snoc e (Plain 36 ∷ []) (Plain b) mid m rest v f; fits = and_both (in_word x) (is_short_parameter b) w h; level = refl; compound = refl }) refl refl)
-      (λ hs. either e limit subject front (nat_eq b 123) _ _ previous (b ∷ rest) m rest
+      (λ hs. either e limit subject prefix (nat_eq b 123) _ _ previous (b ∷ rest) m rest
       (λ h. let g = plain_at e b 123 m rest h f in
       level_deep (Pending.Head Head.Start) b rest w
       (λ l. held_on (Pending.Head Head.Start) [] (Plain b) rest (refl, w, l, written_snoc e (Plain 36 ∷ []) (Plain 123) mid m rest v g) tt) v r (braces rest (m, (0, refl, inl refl), (rest, g, refl))))
-      (λ hb. either e limit subject front (nat_eq b 40) _ _ previous (b ∷ rest) m rest
+      (λ hb. either e limit subject prefix (nat_eq b 40) _ _ previous (b ∷ rest) m rest
       (λ h. let g = plain_at e b 40 m rest h f in
       level_deep Pending.DollarParenthesis b rest w
       (λ l. held_on Pending.DollarParenthesis [] (Plain b) rest (refl, w, l, written_snoc e (Plain 36 ∷ []) (Plain 40) mid m rest v g) tt) v r (parenthesis rest (m, (0, refl, inl refl), (rest, g, refl))))
-      (λ hp. over_before Dollar (Plain b) rest (same Dollar (begin_at Pending.Dollar [])) (dollar_mark w (not_next is_form b (ahead e m) (no_form b hn hs hb hp) (ahead_plain e b m rest f)) v) refl refl f refl))))
+      (λ hp. over_before Dollar (Plain b) rest (same Dollar (begin_at Pending.Dollar [])) (dollar_piece w (not_next is_form b (ahead e m) (no_form b hn hs hb hp) (ahead_plain e b m rest f)) v) refl refl f refl))))
 
   dollar_sound : (c : Character) (rest : List ℕ) → is_raw_character c ≡ false → in_word x ≡ true → Written e (Plain 36 ∷ []) mid m → previous ≡ 36 ∷ m → Reads e c m rest
       → Goes (after_dollar (begin_at Pending.Dollar []) c) c rest
   unfolding after_dollar
   dollar_sound (Plain b) rest k w v r f = dollar_plain b rest w v r f
   dollar_sound (Quoted b) rest k w v r f =
-      over_before Dollar (Quoted b) rest (same Dollar (begin_at Pending.Dollar [])) (dollar_mark w (not_quoted is_form b (ahead e m) (ahead_quoted e b m rest f)) v) refl refl f refl
+      over_before Dollar (Quoted b) rest (same Dollar (begin_at Pending.Dollar [])) (dollar_piece w (not_quoted is_form b (ahead e m) (ahead_quoted e b m rest f)) v) refl refl f refl
   dollar_sound (Raw b) rest k w v r f = absurd (cc)
 
   opened_level : nat_lt lv limit ≡ true → (true && not (nat_lt lv limit)) ≡ false
   opened_level l = rw l refl
 
-  commands_mark : in_word x ≡ true → nat_lt lv limit ≡ true → not (next_is (λ z. nat_eq z 40) (ahead e m)) ≡ true → Written e (Plain 36 ∷ Plain 40 ∷ []) mid m → IsMark e limit done x xs CommandsOpen mid m
-  commands_mark w l h v = record { written = v; fits = and_both (in_word x) (not (next_is (λ z. nat_eq z 40) (ahead e m))) w h; level = opened_level l; compound = refl }
+  commands_piece : in_word x ≡ true → nat_lt lv limit ≡ true → not (next_is (λ z. nat_eq z 40) (ahead e m)) ≡ true → Written e (Plain 36 ∷ Plain 40 ∷ []) mid m → IsPiece e limit done x xs CommandsOpen mid m
+  commands_piece w l h v = record { written = v; fits = and_both (in_word x) (not (next_is (λ z. nat_eq z 40) (ahead e m))) w h; level = opened_level l; compound = refl }
 
   commands_state : settled limit (done ++ CommandsOpen ∷ []) (Commands none_yet ∷ x ∷ xs) ≡ into (Commands none_yet) CommandsOpen (begin_at Pending.DollarParenthesis [])
   commands_state = ap (kept limit (Commands none_yet ∷ x ∷ xs) (done ++ CommandsOpen ∷ [])) (levels_opened lv)
@@ -147,42 +147,42 @@ module _ (e : Bool) (limit : ℕ) (subject : Subject) (front : List ℕ) (blank 
       → Goes (after_parenthesis (begin_at Pending.DollarParenthesis []) c) c rest
   unfolding after_parenthesis
   parenthesis_sound (Plain b) rest k w l v f =
-      either e limit subject front (nat_eq b 40) _ _ previous (b ∷ rest) m rest
+      either e limit subject prefix (nat_eq b 40) _ _ previous (b ∷ rest) m rest
       (λ h. ended ArithmeticOpen (Plain b) rest (into Arithmetic ArithmeticOpen (begin_at Pending.DollarParenthesis []))
       (record { written = written_snoc e (Plain 36 ∷ Plain 40 ∷ []) (Plain 40) mid m rest v (plain_at e b 40 m rest h f); fits = w; level = opened_level l; compound = refl }) refl refl)
       (λ h. over_before CommandsOpen (Plain b) rest (into (Commands none_yet) CommandsOpen (begin_at Pending.DollarParenthesis []))
-      (commands_mark w l (not_next (λ z. nat_eq z 40) b (ahead e m) h (ahead_plain e b m rest f)) v) refl refl f commands_state)
+      (commands_piece w l (not_next (λ z. nat_eq z 40) b (ahead e m) h (ahead_plain e b m rest f)) v) refl refl f commands_state)
   parenthesis_sound (Quoted b) rest k w l v f =
       over_before CommandsOpen (Quoted b) rest (into (Commands none_yet) CommandsOpen (begin_at Pending.DollarParenthesis []))
-      (commands_mark w l (not_quoted (λ z. nat_eq z 40) b (ahead e m) (ahead_quoted e b m rest f)) v) refl refl f commands_state
+      (commands_piece w l (not_quoted (λ z. nat_eq z 40) b (ahead e m) (ahead_quoted e b m rest f)) v) refl refl f commands_state
   parenthesis_sound (Raw b) rest k w l v f = absurd (cc)
 
-  pub name_mark : (acc : List ℕ) → is_name acc ≡ true → in_word x ≡ true → not (next_is continues_name (ahead e m)) ≡ true → Written e (Plain 36 ∷ plain acc) mid m → IsMark e limit done x xs (Variable acc) mid m
-  name_mark acc n w h v =
+  pub name_piece : (acc : List ℕ) → is_name acc ≡ true → in_word x ≡ true → not (next_is continues_name (ahead e m)) ≡ true → Written e (Plain 36 ∷ plain acc) mid m → IsPiece e limit done x xs (Variable acc) mid m
+  name_piece acc n w h v =
       record { written = v; fits = and_both (in_word x) (is_name acc && not (next_is continues_name (ahead e m))) w (and_both (is_name acc) (not (next_is continues_name (ahead e m))) n h); level = refl; compound = refl }
 
   name_sound : (acc : List ℕ) (c : Character) (rest : List ℕ) → is_raw_character c ≡ false → is_name acc ≡ true → in_word x ≡ true → Written e (Plain 36 ∷ plain acc) mid m → Reads e c m rest
       → Goes (in_name (begin_at Pending.Name acc) c) c rest
   unfolding in_name
   name_sound acc (Plain b) rest k n w v f =
-      either e limit subject front (continues_name b) _ _ previous (b ∷ rest) m rest
+      either e limit subject prefix (continues_name b) _ _ previous (b ∷ rest) m rest
       (λ h. held_on Pending.Name (acc ++ b ∷ []) (Plain b) rest
       (name_snoc acc b n h, w, subst (λ z. Written e (Plain 36 ∷ z) mid rest) (plain_snoc acc b) (written_snoc e (Plain 36 ∷ plain acc) (Plain b) mid m rest v f)) tt)
-      (λ h. over_before (Variable acc) (Plain b) rest (same (Variable acc) (begin_at Pending.Name acc)) (name_mark acc n w (not_next continues_name b (ahead e m) h (ahead_plain e b m rest f)) v) refl refl f refl)
+      (λ h. over_before (Variable acc) (Plain b) rest (same (Variable acc) (begin_at Pending.Name acc)) (name_piece acc n w (not_next continues_name b (ahead e m) h (ahead_plain e b m rest f)) v) refl refl f refl)
   name_sound acc (Quoted b) rest k n w v f =
-      over_before (Variable acc) (Quoted b) rest (same (Variable acc) (begin_at Pending.Name acc)) (name_mark acc n w (not_quoted continues_name b (ahead e m) (ahead_quoted e b m rest f)) v) refl refl f refl
+      over_before (Variable acc) (Quoted b) rest (same (Variable acc) (begin_at Pending.Name acc)) (name_piece acc n w (not_quoted continues_name b (ahead e m) (ahead_quoted e b m rest f)) v) refl refl f refl
   name_sound acc (Raw b) rest k n w v f = absurd (cc)
 
-  head_mark : (h : Head) (acc : List ℕ) → head_of acc ≡ Some h → in_word x ≡ true → nat_lt lv limit ≡ true → not (next_is (grows_head h) (ahead e m)) ≡ true → Written e (Plain 36 ∷ Plain 123 ∷ plain acc) mid m
-      → IsMark e limit done x xs (BraceOpen acc) mid m
-  head_mark h acc n w l g v =
+  head_piece : (h : Head) (acc : List ℕ) → head_of acc ≡ Some h → in_word x ≡ true → nat_lt lv limit ≡ true → not (next_is (grows_head h) (ahead e m)) ≡ true → Written e (Plain 36 ∷ Plain 123 ∷ plain acc) mid m
+      → IsPiece e limit done x xs (BraceOpen acc) mid m
+  head_piece h acc n w l g v =
       record { written = v; fits = and_both (in_word x) (is_head (head_of acc) (ahead e m)) w (ap (λ z. is_head z (ahead e m)) n ∙ g); level = opened_level l; compound = refl }
 
   head_over : (h : Head) (acc : List ℕ) (c : Character) (rest : List ℕ) → is_raw_character c ≡ false → head_of acc ≡ Some h → in_word x ≡ true → nat_lt lv limit ≡ true
       → not (next_is (grows_head h) (ahead e m)) ≡ true → Written e (Plain 36 ∷ Plain 123 ∷ plain acc) mid m → Reads e c m rest
       → Goes (act (into (braces_of (is_quoted x) (Some h)) (BraceOpen acc) (begin_at (Pending.Head h) acc)) c) c rest
   head_over h acc c rest k n w l g v f =
-      over_before (BraceOpen acc) c rest (into (braces_of (is_quoted x) (Some h)) (BraceOpen acc) (begin_at (Pending.Head h) acc)) (head_mark h acc n w l g v) refl k f
+      over_before (BraceOpen acc) c rest (into (braces_of (is_quoted x) (Some h)) (BraceOpen acc) (begin_at (Pending.Head h) acc)) (head_piece h acc n w l g v) refl k f
       (ap (λ z. settled limit (done ++ BraceOpen acc ∷ []) (braces_of (is_quoted x) z ∷ x ∷ xs)) n)
 
   head_sound : (h : Head) (acc : List ℕ) (c : Character) (rest : List ℕ) → is_raw_character c ≡ false → head_of acc ≡ Some h → in_word x ≡ true → nat_lt lv limit ≡ true
@@ -190,7 +190,7 @@ module _ (e : Bool) (limit : ℕ) (subject : Subject) (front : List ℕ) (blank 
   unfolding in_head
   head_sound h acc (Plain b) rest k n w l v f = go (grown_head h b) refl
     where
-      go : (y : Option Head) → grown_head h b ≡ y → Goes (headed h (begin_at (Pending.Head h) acc) b y) (Plain b) rest
+      go : (y : Option Head) → grown_head h b ≡ y → Goes (head_byte h (begin_at (Pending.Head h) acc) b y) (Plain b) rest
       go (Some g) i =
           held_on (Pending.Head g) (acc ++ b ∷ []) (Plain b) rest (
             head_snoc (Some Head.Start) acc b ∙ (ap (λ z. head_step z b) n ∙ i),
@@ -208,7 +208,7 @@ module _ (e : Bool) (limit : ℕ) (subject : Subject) (front : List ℕ) (blank 
   single_sound acc (Plain b) rest k n w v f = absurd (cc)
   single_sound acc (Quoted b) rest k n w v f = absurd (cc)
   single_sound acc (Raw b) rest k n w v f =
-      either e limit subject front (nat_eq b 39) _ _ previous (b ∷ rest) m rest
+      either e limit subject prefix (nat_eq b 39) _ _ previous (b ∷ rest) m rest
       (λ h. ended (SingleQuoted acc) (Raw b) rest (same (SingleQuoted acc) (begin_at Pending.Single acc))
       (record {
         written = subst (λ z. Written e (Plain 39 ∷ (raw acc ++ Raw z ∷ [])) mid rest) (eqb-true b 39 h) (written_snoc e (Plain 39 ∷ raw acc) (Raw b) mid m rest v f);
@@ -236,7 +236,7 @@ module _ (e : Bool) (limit : ℕ) (subject : Subject) (front : List ℕ) (blank 
   back_sound acc (Plain b) rest k n w l v f = absurd (cc)
   back_sound acc (Quoted b) rest k n w l v f = absurd (cc)
   back_sound acc (Raw b) rest k n w l v f =
-      either e limit subject front (nat_eq b 96) _ _ previous (b ∷ rest) m rest
+      either e limit subject prefix (nat_eq b 96) _ _ previous (b ∷ rest) m rest
       (λ h. ended (Backquoted acc) (Raw b) rest (level_over (Backquoted acc) (begin_at Pending.Backquotes acc))
       (record {
         written = subst (λ z. Written e (Plain 96 ∷ (raw acc ++ Raw z ∷ [])) mid rest) (eqb-true b 96 h) (written_snoc e (Plain 96 ∷ raw acc) (Raw b) mid m rest v f);
@@ -244,7 +244,7 @@ module _ (e : Bool) (limit : ℕ) (subject : Subject) (front : List ℕ) (blank 
         level = opened_level l;
         compound = refl;
       }) refl (ap (kept limit (x ∷ xs) (done ++ Backquoted acc ∷ [])) (before lv)))
-      (λ h96. either e limit subject front (nat_eq b 92) _ _ previous (b ∷ rest) m rest
+      (λ h96. either e limit subject prefix (nat_eq b 92) _ _ previous (b ∷ rest) m rest
       (λ h. held_on Pending.BackquotesEscape (acc ++ b ∷ []) (Raw b) rest
       ((λ c bs. ap is_backquoted (append_assoc acc (b ∷ []) (c ∷ bs)) ∙ (n (b ∷ c ∷ bs) ∙ back_pair b c bs h)), w, l, more_raw acc b rest v f) tt)
       (λ h92. held_on Pending.Backquotes (acc ++ b ∷ []) (Raw b) rest
@@ -257,26 +257,26 @@ module _ (e : Bool) (limit : ℕ) (subject : Subject) (front : List ℕ) (blank 
   pair_sound acc (Raw b) rest k n w l v f =
       held_on Pending.Backquotes (acc ++ b ∷ []) (Raw b) rest ((λ bs. ap is_backquoted (append_assoc acc (b ∷ []) bs) ∙ n b bs), w, l, more_raw acc b rest v f) (preceded_more acc b (b ∷ rest) rest)
 
-  right_mark : is_arithmetic x ≡ true → not (next_is (λ z. nat_eq z 41) (ahead e m)) ≡ true → Written e (Plain 41 ∷ []) mid m → IsMark e limit done x xs (Byte 41) mid m
-  right_mark a h v = record { written = v; fits = single_right x (ahead e m) a h; level = refl; compound = refl }
+  right_piece : is_arithmetic x ≡ true → not (next_is (λ z. nat_eq z 41) (ahead e m)) ≡ true → Written e (Plain 41 ∷ []) mid m → IsPiece e limit done x xs (Byte 41) mid m
+  right_piece a h v = record { written = v; fits = single_right x (ahead e m) a h; level = refl; compound = refl }
 
   right_sound : (c : Character) (rest : List ℕ) → is_raw_character c ≡ false → is_arithmetic x ≡ true → Written e (Plain 41 ∷ []) mid m → Reads e c m rest
       → Goes (at_parenthesis (begin_at Pending.Parenthesis []) c) c rest
   unfolding at_parenthesis
   right_sound (Plain b) rest k a v f =
-      either e limit subject front (nat_eq b 41) _ _ previous (b ∷ rest) m rest
+      either e limit subject prefix (nat_eq b 41) _ _ previous (b ∷ rest) m rest
       (λ h. ended ArithmeticClose (Plain b) rest (out_level ArithmeticClose (begin_at Pending.Parenthesis []))
       (record { written = written_snoc e (Plain 41 ∷ []) (Plain 41) mid m rest v (plain_at e b 41 m rest h f); fits = a; level = refl; compound = refl }) refl
       (ap (kept limit xs (done ++ ArithmeticClose ∷ [])) (arithmetic_level x xs a)))
-      (λ h. over_before (Byte 41) (Plain b) rest (same (Byte 41) (begin_at Pending.Parenthesis [])) (right_mark a (not_next (λ z. nat_eq z 41) b (ahead e m) h (ahead_plain e b m rest f)) v) refl refl f
+      (λ h. over_before (Byte 41) (Plain b) rest (same (Byte 41) (begin_at Pending.Parenthesis [])) (right_piece a (not_next (λ z. nat_eq z 41) b (ahead e m) h (ahead_plain e b m rest f)) v) refl refl f
       (ap (settled limit (done ++ Byte 41 ∷ [])) (right_stays x xs a)))
   right_sound (Quoted b) rest k a v f =
-      over_before (Byte 41) (Quoted b) rest (same (Byte 41) (begin_at Pending.Parenthesis [])) (right_mark a (not_quoted (λ z. nat_eq z 41) b (ahead e m) (ahead_quoted e b m rest f)) v) refl refl f
+      over_before (Byte 41) (Quoted b) rest (same (Byte 41) (begin_at Pending.Parenthesis [])) (right_piece a (not_quoted (λ z. nat_eq z 41) b (ahead e m) (ahead_quoted e b m rest f)) v) refl refl f
       (ap (settled limit (done ++ Byte 41 ∷ [])) (right_stays x xs a))
   right_sound (Raw b) rest k a v f = absurd (cc)
 
-  operator_mark : (o : Operator) → between_tokens x ≡ true → may_grow o ≡ true → ends_operator o (ahead e m) ≡ true → Written e (plain (operator_text o)) mid m → IsMark e limit done x xs (Mark.Operator o) mid m
-  operator_mark o i g h v =
+  operator_piece : (o : Operator) → between_tokens x ≡ true → may_grow o ≡ true → ends_operator o (ahead e m) ≡ true → Written e (plain (operator_text o)) mid m → IsPiece e limit done x xs (Piece.Operator o) mid m
+  operator_piece o i g h v =
       record {
         written = v;
         fits = and_both (between_tokens x) (ends_operator o (ahead e m) && not (is_more o x)) i
@@ -291,17 +291,17 @@ module _ (e : Bool) (limit : ℕ) (subject : Subject) (front : List ℕ) (blank 
   operator_before o c rest k i g h v f =
       let t : is_text (top_of (with_token (OfOperator o) (x ∷ xs))) ≡ false = text_token (OfOperator o) (x ∷ xs) ∙ p.inside.inner in
       subst (λ z. Goes (cond z (Before (operator_out o (begin_at (Pending.Operator o) []))) (act (operator_out o (begin_at (Pending.Operator o) [])) c)) c rest) (sym t)
-      (over_before (Mark.Operator o) c rest (operator_out o (begin_at (Pending.Operator o) [])) (operator_mark o i g h v) t k f
-      (ap (kept limit (with_token (OfOperator o) (x ∷ xs)) (done ++ Mark.Operator o ∷ [])) (sym (levels_taken (OfOperator o) (x ∷ xs)))))
+      (over_before (Piece.Operator o) c rest (operator_out o (begin_at (Pending.Operator o) [])) (operator_piece o i g h v) t k f
+      (ap (kept limit (with_token (OfOperator o) (x ∷ xs)) (done ++ Piece.Operator o ∷ [])) (sym (levels_taken (OfOperator o) (x ∷ xs)))))
 
   operator_sound : (o : Operator) (c : Character) (rest : List ℕ) → is_raw_character c ≡ false → between_tokens x ≡ true → may_grow o ≡ true → Written e (plain (operator_text o)) mid m → Reads e c m rest
       → Goes (in_operator o (begin_at (Pending.Operator o) []) c) c rest
   unfolding in_operator
-  operator_sound o (Plain b) rest k i g v f = go (grown o b) refl
+  operator_sound o (Plain b) rest k i g v f = go (longer_operator o b) refl
     where
-      go : (y : Option Operator) → grown o b ≡ y → Goes (grow_to o y (begin_at (Pending.Operator o) []) b) (Plain b) rest
+      go : (y : Option Operator) → longer_operator o b ≡ y → Goes (grow_to o y (begin_at (Pending.Operator o) []) b) (Plain b) rest
       go (Some longer) h =
-          grow_sound e limit subject front blank previous x xs done mid p longer rest (b ∷ rest) m p.inside.inner i (more_none longer x (grown_no_right o longer b g h) (grown_no_newline o longer b g h))
+          grow_sound e limit subject prefix blank previous x xs done mid p longer rest (b ∷ rest) m p.inside.inner i (more_none longer x (grown_no_right o longer b g h) (grown_no_newline o longer b g h))
           (subst (λ z. Written e z mid rest) (plain_snoc (operator_text o) b ∙ ap plain (sym (grown_text o longer b h))) (written_snoc e (plain (operator_text o)) (Plain b) mid m rest v f))
       go None h = operator_before o (Plain b) rest refl i g (ap (ends_operator o) (ahead_plain e b m rest f) ∙ ap (λ z. not (is_some z)) h) v f
   operator_sound o (Quoted b) rest k i g v f = operator_before o (Quoted b) rest refl i g (ap (ends_operator o) (ahead_quoted e b m rest f)) v f
@@ -313,7 +313,7 @@ module _ (e : Bool) (limit : ℕ) (subject : Subject) (front : List ℕ) (blank 
   comment_sound acc (Plain b) rest k n i v f = absurd (cc)
   comment_sound acc (Quoted b) rest k n i v f = absurd (cc)
   comment_sound acc (Raw b) rest k n i v f =
-      either e limit subject front (nat_eq b 10) _ _ previous (b ∷ rest) m rest
+      either e limit subject prefix (nat_eq b 10) _ _ previous (b ∷ rest) m rest
       (λ h. let z = eqb-true b 10 h in
       let g : m ≡ 10 ∷ rest = f ∙ ap (λ y. y ∷ rest) z in
       subst (λ y. Goes (plain_byte (same (Comment acc) (begin_at Pending.Comment acc)) y) (Raw y) rest) (sym z)
@@ -351,9 +351,9 @@ module _ (e : Bool) (limit : ℕ) (subject : Subject) (front : List ℕ) (blank 
 
   nothing_sound : (c : Character) (rest : List ℕ) → is_raw_character c ≡ false → mid ≡ m → Reads e c m rest → Goes (act (settled limit done (x ∷ xs)) c) c rest
   nothing_sound (Plain b) rest k w f =
-      subst (λ z. Going e limit subject front (plain_byte (settled limit done (x ∷ xs)) b) previous (b ∷ rest) z rest) w (plain_sound e limit subject front blank previous x xs done mid b rest p (subst (λ z. Reads e (Plain b) z rest) (sym w) f))
+      subst (λ z. Going e limit subject prefix (plain_byte (settled limit done (x ∷ xs)) b) previous (b ∷ rest) z rest) w (plain_sound e limit subject prefix blank previous x xs done mid b rest p (subst (λ z. Reads e (Plain b) z rest) (sym w) f))
   nothing_sound (Quoted b) rest k w f =
-      subst (λ z. Going e limit subject front (quoted_byte (settled limit done (x ∷ xs)) b) previous (92 ∷ b ∷ rest) z rest) w (quoted_sound e limit subject front blank previous x xs done mid b rest p (subst (λ z. Reads e (Quoted b) z rest) (sym w) f))
+      subst (λ z. Going e limit subject prefix (quoted_byte (settled limit done (x ∷ xs)) b) previous (92 ∷ b ∷ rest) z rest) w (quoted_sound e limit subject prefix blank previous x xs done mid b rest p (subst (λ z. Reads e (Quoted b) z rest) (sym w) f))
   nothing_sound (Raw b) rest k w f = absurd (cc)
 
   -- what each character makes of it

@@ -8,20 +8,20 @@ use Rattle.sh_token_pieces.specs.declared.operator.Operator.{Operator}
 use Rattle.sh_token_pieces.specs.declared.operator.Operator.TheVariants.{And, Semicolon, Pipe, Less, Great, LeftParenthesis, RightParenthesis, Newline, AndIf, OrIf, DoubleSemicolon, DoubleLess, DoubleGreat, LessAnd, GreatAnd, LessGreat, DoubleLessDash, Clobber}
 use Rattle.sh_token_pieces.specs.declared.context.Context.{Context}
 use Rattle.sh_token_pieces.specs.declared.context.Context.TheVariants.{Top, Commands, Word, Quotes, Braces, Arithmetic, Parenthesis, Body}
-use Rattle.sh_token_pieces.specs.declared.mark.Mark.{Mark}
-use Rattle.sh_token_pieces.specs.declared.mark.Mark.TheVariants.{CommandsClose, WordOpen, WordClose, Blank, Comment, Bodies}
+use Rattle.sh_token_pieces.specs.declared.piece.Piece.{Piece}
+use Rattle.sh_token_pieces.specs.declared.piece.Piece.TheVariants.{CommandsClose, WordOpen, WordClose, Blank, Comment, Bodies}
 use Rattle.sh_token_pieces.specs.declared.pending.Pending.{Pending}
 use Rattle.sh_token_pieces.specs.Bytes.{is_blank, is_operator_byte, is_redirection, is_end, is_no_newline}
 use Rattle.sh_token_pieces.specs.Characters.{Reads, Written, plain, raw, Ahead, Next, ahead, next_is}
 use Rattle.sh_token_pieces.specs.Pendings.{is_raw}
 use Rattle.sh_token_pieces.specs.Operators.{operator_text}
-use Rattle.sh_token_pieces.specs.Growth.{grown, may_grow, operator_of}
-use Rattle.sh_token_pieces.specs.Marks.{is_text, is_body, top_of, between_tokens, is_word, may_close, levels, ends_comment, begins_word, ends_word, same_as, is_some, ends_operator, is_right_parenthesis, is_newline, is_more, has_due, due_in, with_token, word_begins, compounds_in}
+use Rattle.sh_token_pieces.specs.Growth.{longer_operator, may_grow, operator_of}
+use Rattle.sh_token_pieces.specs.Pieces.{is_text, is_body, top_of, between_tokens, is_word, may_close, levels, ends_comment, begins_word, ends_word, same_as, is_some, ends_operator, is_right_parenthesis, is_newline, is_more, has_due, due_in, with_token, word_begins, compounds_in}
 use Rattle.sh_token_pieces.specs.Nested.{open_in}
 use Rattle.sh_token_pieces.specs.TokenClasses.{Told, OfOperator, OfWord, OfBodies, class_of_operator}
 use Rattle.sh_token_grammar.specs.Levels.{begins_compound}
 use Rattle.sh_token.specs.Machine.{State, On, step, is_top, is_over_full, in_place, grow, grow_to, word_byte, between, after_word, end_word, plain_byte, quoted_byte, in_operator, in_comment, word_out, operator_out, same, pend, into, out_level}
-use Rattle.sh_token.specs.Run.{is_gap_state, fed, run, word_end}
+use Rattle.sh_token.specs.Run.{is_gap_state, byte_step, run, word_end}
 use Rattle.sh_token.proofs.Running.{Alike}
 use Rattle.sh_token.proofs.Tests.{and_true, not_true, or_false, and_left, text_token, between_token, levels_taken, levels_left}
 use Rattle.sh_token.proofs.Leads.{begun, kept, settled, Leads, joined, goes, same_ahead, raw_keeps}
@@ -87,9 +87,9 @@ pub record First (b : ℕ) (p : Operator) : Type 0 where
 
 pub data Made (o : Operator) : Type 0 where
   one_byte : (b : ℕ) → operator_text o ≡ b ∷ [] → First b o → nat_eq b 41 ≡ is_right_parenthesis o → nat_eq b 10 ≡ is_newline o → Made o
-  two_bytes : (b c : ℕ) → (p : Operator) → operator_text o ≡ b ∷ c ∷ [] → First b p → nat_eq b 41 ≡ false → nat_eq b 10 ≡ false → may_grow p ≡ true → grown p c ≡ Some o → Made o
-  three_bytes : (b c d : ℕ) → (p q : Operator) → operator_text o ≡ b ∷ c ∷ d ∷ [] → First b p → nat_eq b 41 ≡ false → nat_eq b 10 ≡ false → may_grow p ≡ true → grown p c ≡ Some q → may_grow q ≡ true
-      → grown q d ≡ Some o → Made o
+  two_bytes : (b c : ℕ) → (p : Operator) → operator_text o ≡ b ∷ c ∷ [] → First b p → nat_eq b 41 ≡ false → nat_eq b 10 ≡ false → may_grow p ≡ true → longer_operator p c ≡ Some o → Made o
+  three_bytes : (b c d : ℕ) → (p q : Operator) → operator_text o ≡ b ∷ c ∷ d ∷ [] → First b p → nat_eq b 41 ≡ false → nat_eq b 10 ≡ false → may_grow p ≡ true → longer_operator p c ≡ Some q → may_grow q ≡ true
+      → longer_operator q d ≡ Some o → Made o
 
 pub made : (o : Operator) → Made o
 made And = one_byte 38 refl (record { is = refl; byte = refl; blank = refl; hash = refl }) refl refl
@@ -111,8 +111,8 @@ made LessGreat = two_bytes 60 62 Less refl (record { is = refl; byte = refl; bla
 made DoubleLessDash = three_bytes 60 60 45 Less DoubleLess refl (record { is = refl; byte = refl; blank = refl; hash = refl }) refl refl refl refl refl refl
 made Clobber = two_bytes 62 124 Great refl (record { is = refl; byte = refl; blank = refl; hash = refl }) refl refl refl refl
 
-pub no_longer : (o : Operator) (c : ℕ) (next : Ahead) → ends_operator o next ≡ true → next ≡ Next (Plain c) → grown o c ≡ None
-no_longer o c next h w = go (grown o c) (not_true (is_some (grown o c)) (sym (ap (ends_operator o) w) ∙ h))
+pub no_longer : (o : Operator) (c : ℕ) (next : Ahead) → ends_operator o next ≡ true → next ≡ Next (Plain c) → longer_operator o c ≡ None
+no_longer o c next h w = go (longer_operator o c) (not_true (is_some (longer_operator o c)) (sym (ap (ends_operator o) w) ∙ h))
   where
     go : (y : Option Operator) → is_some y ≡ false → y ≡ None
     go None i = refl
@@ -164,7 +164,7 @@ pub between_word : (s : State) (b : ℕ) → is_blank b ≡ false → nat_eq b 3
 unfolding between
 between_word s b h i j k l = rw (h, i, j, and_left (nat_eq b 41) (may_close (top_of s.contexts)) k, and_left (nat_eq b 10) (has_due (top_of s.contexts)) l) refl
 
-module _ (limit : ℕ) (x : Context) (xs : List Context) (done : List Mark) where
+module _ (limit : ℕ) (x : Context) (xs : List Context) (done : List Piece) where
   abbrev base : State
   base = settled limit done (x ∷ xs)
 
@@ -184,14 +184,14 @@ module _ (limit : ℕ) (x : Context) (xs : List Context) (done : List Mark) wher
   pub first_byte : (b : ℕ) (p : Operator) → between_tokens x ≡ true → First b p → (nat_eq b 41 && may_close x) ≡ false → (nat_eq b 10 && has_due x) ≡ false → step base (Plain b) ≡ grow p base
   first_byte b p h f c d = plain_between base b h ∙ (between_operator base b f.blank f.hash c d f.byte ∙ ap (λ q. grow q base) f.is)
 
-  pub next_byte : (p o : Operator) (c : ℕ) → grown p c ≡ Some o → step (begun limit (x ∷ xs) done (levels (x ∷ xs)) (Pending.Operator p) []) (Plain c) ≡ grow o base
+  pub next_byte : (p o : Operator) (c : ℕ) → longer_operator p c ≡ Some o → step (begun limit (x ∷ xs) done (levels (x ∷ xs)) (Pending.Operator p) []) (Plain c) ≡ grow o base
   unfolding in_operator
   next_byte p o c h = ap (λ y. grow_to p y (begun limit (x ∷ xs) done (levels (x ∷ xs)) (Pending.Operator p) []) c) h
 
   pub growing : (o : Operator) → may_grow o ≡ true → grow o base ≡ On (begun limit (x ∷ xs) done (levels (x ∷ xs)) (Pending.Operator o) [])
   growing o h = rw h refl
 
-module _ (k e : Bool) (limit : ℕ) (x : Context) (xs : List Context) (done : List Mark) where
+module _ (k e : Bool) (limit : ℕ) (x : Context) (xs : List Context) (done : List Piece) where
   abbrev lv : ℕ
   lv = levels (x ∷ xs)
 
@@ -203,14 +203,14 @@ module _ (k e : Bool) (limit : ℕ) (x : Context) (xs : List Context) (done : Li
   blank_leads b m rest g h i w = one k e at_start (settled limit (done ++ Blank b ∷ []) (x ∷ xs)) m rest (Plain b) g refl w (plain_between at_start b h ∙ between_blank at_start b i)
 
   comment_over : (bs m : List ℕ) → ends_comment e m ≡ true → Leads k e (begun limit (x ∷ xs) done lv Pending.Comment bs) m (settled limit (done ++ Comment bs ∷ []) (x ∷ xs)) m
-  unfolding fed in_comment
-  comment_over bs [] h p n b = record { places = p; next = n; behind = b; front = λ i. refl; same = subst (λ e. run e false (begun limit (x ∷ xs) done lv Pending.Comment bs) p [] ≡ run e false (settled limit (done ++ Comment bs ∷ []) (x ∷ xs)) p []) (sym h) refl }
+  unfolding byte_step in_comment
+  comment_over bs [] h p n b = record { places = p; next = n; behind = b; prefix = λ i. refl; same = subst (λ e. run e false (begun limit (x ∷ xs) done lv Pending.Comment bs) p [] ≡ run e false (settled limit (done ++ Comment bs ∷ []) (x ∷ xs)) p []) (sym h) refl }
   comment_over bs (c ∷ cs) h p n b =
       record {
         places = p;
         next = n;
         behind = b;
-        front = λ i. refl;
+        prefix = λ i. refl;
         same = subst (λ c. run e false (begun limit (x ∷ xs) done lv Pending.Comment bs) p (c ∷ cs) ≡ run e false (settled limit (done ++ Comment bs ∷ []) (x ∷ xs)) p (c ∷ cs)) (sym (eqb-true c 10 h)) refl;
       }
 
@@ -285,7 +285,7 @@ module _ (k e : Bool) (limit : ℕ) (x : Context) (xs : List Context) (done : Li
       goes k e at_start (begun limit (x ∷ xs) done lv (Pending.Operator p) []) m rest (Plain b) (λ z. t) refl r
       (first_byte limit x xs done b p h f (and_left (nat_eq b 41) (may_close x) c) (and_left (nat_eq b 10) (has_due x) d) ∙ growing limit x xs done p j)
 
-  further : (p q : Operator) (c : ℕ) (m rest : List ℕ) → grown p c ≡ Some q → may_grow q ≡ true → Reads e (Plain c) m rest
+  further : (p q : Operator) (c : ℕ) (m rest : List ℕ) → longer_operator p c ≡ Some q → may_grow q ≡ true → Reads e (Plain c) m rest
       → Leads k e (begun limit (x ∷ xs) done lv (Pending.Operator p) []) m (begun limit (x ∷ xs) done lv (Pending.Operator q) []) rest
   further p q c m rest h j r =
       goes k e (begun limit (x ∷ xs) done lv (Pending.Operator p) []) (begun limit (x ∷ xs) done lv (Pending.Operator q) []) m rest (Plain c) (λ z. refl) refl r
@@ -312,10 +312,10 @@ module _ (k e : Bool) (limit : ℕ) (x : Context) (xs : List Context) (done : Li
 
   pub operator_leads : (o : Operator) (m rest : List ℕ) → (begins_compound (class_of_operator o) && nat_lt limit (levels (with_token (OfOperator o) (x ∷ xs)))) ≡ false → is_text x ≡ false → between_tokens x ≡ true → ends_operator o (ahead e rest) ≡ true
       → is_more o x ≡ false → Written e (plain (operator_text o)) m rest
-      → Leads k e at_start m (settled limit (done ++ Mark.Operator o ∷ []) (with_token (OfOperator o) (x ∷ xs))) rest
+      → Leads k e at_start m (settled limit (done ++ Piece.Operator o ∷ []) (with_token (OfOperator o) (x ∷ xs))) rest
   operator_leads o m rest n t h i c w =
       let q = levels_taken (OfOperator o) (x ∷ xs) in
-      subst (λ l. Leads k e at_start m (kept limit (with_token (OfOperator o) (x ∷ xs)) (done ++ Mark.Operator o ∷ []) l) rest) q
+      subst (λ l. Leads k e at_start m (kept limit (with_token (OfOperator o) (x ∷ xs)) (done ++ Piece.Operator o ∷ []) l) rest) q
       (operator_made o m rest (ap (λ l. begins_compound (class_of_operator o) && nat_lt limit l) q ∙ n) (made o) t h i c w)
 
 -- a newline behind which bodies come
@@ -333,7 +333,7 @@ between_due : (s : State) → has_due (top_of s.contexts) ≡ true → between s
 unfolding between
 between_due s h = rw h refl
 
-pub bodies_leads : (k e : Bool) (limit : ℕ) (x : Context) (xs : List Context) (done : List Mark) (bs m rest : List ℕ) → is_text x ≡ false → has_due x ≡ true → are_bodies (due_in x) false (lines [] bs) ≡ true
+pub bodies_leads : (k e : Bool) (limit : ℕ) (x : Context) (xs : List Context) (done : List Piece) (bs m rest : List ℕ) → is_text x ≡ false → has_due x ≡ true → are_bodies (due_in x) false (lines [] bs) ≡ true
     → Written e (Plain 10 ∷ raw bs) m rest → Leads k e (settled limit done (x ∷ xs)) m (settled limit (done ++ Bodies bs ∷ []) (with_token OfBodies (x ∷ xs))) rest
 bodies_leads k e limit x xs done bs m rest t h a w =
     let s = settled limit done (x ∷ xs) in
@@ -345,7 +345,7 @@ bodies_leads k e limit x xs done bs m rest t h a w =
     (bodies_keep limit x xs done lv k e bs 0 0 false [] w.0 rest (at_first (due_in x) h) a w.2))
 
 -- the end of a word within a substitution
-pub closing_word : (limit : ℕ) (n : ℕ) (xs : List Context) (done : List Mark) (b : ℕ) → is_end b ≡ true
+pub closing_word : (limit : ℕ) (n : ℕ) (xs : List Context) (done : List Piece) (b : ℕ) → is_end b ≡ true
     → plain_byte (settled limit done (Word n ∷ xs)) b ≡ end_word (is_redirection b) (settled limit done (Word n ∷ xs)) b
 unfolding plain_byte
 closing_word limit n xs done b h = rw h refl
@@ -358,7 +358,7 @@ same_is true b h = sym h
 same_is false true h = absurd (cc)
 same_is false false h = refl
 
-module _ (k e : Bool) (limit : ℕ) (n : ℕ) (xs : List Context) (done : List Mark) (r : Bool) (m : List ℕ) where
+module _ (k e : Bool) (limit : ℕ) (n : ℕ) (xs : List Context) (done : List Piece) (r : Bool) (m : List ℕ) where
   abbrev class : Told
   class = OfWord r (drop (suc n) done)
 

@@ -4,14 +4,14 @@ use Rattle.std.proofs.lemmas.List.{append-nil, length-append, length-drop}
 use Rattle.std.proofs.Math.Seq.{drop-append_seam}
 use Rattle.sh_token_pieces.specs.declared.character.Character.TheVariants.{Raw}
 use Rattle.sh_token_pieces.specs.declared.context.Context.{Context}
-use Rattle.sh_token_pieces.specs.declared.mark.Mark.{Mark}
-use Rattle.sh_token_pieces.specs.declared.mark.Mark.TheVariants.{Bodies}
+use Rattle.sh_token_pieces.specs.declared.piece.Piece.{Piece}
+use Rattle.sh_token_pieces.specs.declared.piece.Piece.TheVariants.{Bodies}
 use Rattle.sh_token_pieces.specs.declared.pending.Pending.{Pending}
 use Rattle.sh_token_pieces.specs.declared.here.Delimiter.{Delimiter}
 use Rattle.sh_token_pieces.specs.Characters.{Written, raw}
 use Rattle.sh_token_pieces.specs.Here.{lines, is_end_line, joins_next, is_nothing, are_bodies}
 use Rattle.sh_token_pieces.specs.TokenClasses.{OfBodies}
-use Rattle.sh_token_pieces.specs.Marks.{due_in, are_some, top_of, with_token}
+use Rattle.sh_token_pieces.specs.Pieces.{due_in, are_some, top_of, with_token}
 use Rattle.sh_token.specs.Machine.{State, On, in_place, in_body, line_end, line_over, line_of, bodies_out}
 use Rattle.sh_token.proofs.Leads.{begun, kept, Leads, stay, joined, goes}
 
@@ -71,17 +71,17 @@ one_line d others j line ls r =
 
 -- where the machine stands in the bodies: behind the bytes `acc`, in a line that began behind `line` of them
 pub record Stands (due : List Delimiter) (line bodies : ℕ) (j : Bool) (acc : List ℕ) : Type 0 where
-  pub front : List ℕ
+  pub prefix : List ℕ
   pub current : List ℕ
-  pub is : acc ≡ front ++ current
-  pub begin : line ≡ length front
+  pub is : acc ≡ prefix ++ current
+  pub begin : line ≡ length prefix
   pub awaits : are_some (drop bodies due) ≡ true
   pub same : (zs : List ℕ) → are_bodies due false (lines [] (acc ++ zs)) ≡ are_bodies (drop bodies due) j (lines current zs)
 
 pub at_first : (due : List Delimiter) → are_some due ≡ true → Stands due 0 0 false []
-at_first due h = record { front = []; current = []; is = refl; begin = refl; awaits = h; same = λ zs. refl }
+at_first due h = record { prefix = []; current = []; is = refl; begin = refl; awaits = h; same = λ zs. refl }
 
-module _ (limit : ℕ) (x : Context) (xs : List Context) (done : List Mark) (lv : ℕ) where
+module _ (limit : ℕ) (x : Context) (xs : List Context) (done : List Piece) (lv : ℕ) where
   abbrev pub within : ℕ → ℕ → Bool → List ℕ → State
   within line bodies j acc = begun limit (x ∷ xs) done lv (Pending.Body line bodies j) acc
 
@@ -98,16 +98,16 @@ module _ (limit : ℕ) (x : Context) (xs : List Context) (done : List Mark) (lv 
     byte_on b h =
         on line bodies j
         (record {
-          front = r.front;
+          prefix = r.prefix;
           current = r.current ++ b ∷ [];
-          is = ap (λ z. z ++ b ∷ []) r.is ∙ append_assoc r.front r.current (b ∷ []);
+          is = ap (λ z. z ++ b ∷ []) r.is ∙ append_assoc r.prefix r.current (b ∷ []);
           begin = r.begin;
           awaits = r.awaits;
           same = λ zs. ap (λ z. are_bodies (due_in x) false (lines [] z)) (append_assoc acc (b ∷ []) zs) ∙ (r.same (b ∷ zs) ∙ (rw h refl));
         }) (rw h refl)
 
     line_is : line_of line (within line bodies j acc) ≡ r.current
-    line_is = ap (drop line) r.is ∙ (ap (λ z. drop z (r.front ++ r.current)) r.begin ∙ drop-append_seam r.front r.current)
+    line_is = ap (drop line) r.is ∙ (ap (λ z. drop z (r.prefix ++ r.current)) r.begin ∙ drop-append_seam r.prefix r.current)
 
     -- a line is over
     ended : (ds : List Delimiter) → drop bodies (due_in x) ≡ ds
@@ -128,7 +128,7 @@ module _ (limit : ℕ) (x : Context) (xs : List Context) (done : List Mark) (lv 
         → ((zs : List ℕ) → are_bodies (due_in x) false (lines [] (acc ++ 10 ∷ zs)) ≡ are_bodies (drop n (due_in x)) i (lines [] zs)) → Stands (due_in x) (suc (length acc)) n i (acc ++ 10 ∷ [])
     line_on n i w s =
         record {
-          front = acc ++ 10 ∷ [];
+          prefix = acc ++ 10 ∷ [];
           current = [];
           is = sym (append-nil (acc ++ 10 ∷ []));
           begin = sym next_line;

@@ -1,14 +1,14 @@
 -- The pieces of a body are those of the definition.
 use Rattle.std.proofs.Common.{◌≡◌, ◌↔◌, ℕ, ◌+◌, ◌-◌, ◌≤◌, true, List, [], ◌∷◌, length, refl, sym, ap, ◌∙◌, subst, arith}
 use Rattle.sh_token_pieces.specs.declared.context.Context.TheVariants.{Body}
-use Rattle.sh_token_pieces.specs.declared.mark.Mark.{Mark}
+use Rattle.sh_token_pieces.specs.declared.piece.Piece.{Piece}
 use Rattle.sh_token_pieces.specs.declared.character.Character.TheVariants.{Plain}
 use Rattle.sh_token.specs.Tokens.{OpensLevel, braces, parenthesis, backquote}
-use Rattle.sh_token.specs.Body.{IsFront, IsBodyTooDeep, IsBodyOpen, BodyPieces, AllOf, OpenAt, TooDeepAt, IsBody}
+use Rattle.sh_token.specs.Body.{IsPrefix, IsBodyTooDeep, IsBodyOpen, BodyPieces, AllOf, OpenAt, TooDeepAt, IsBody}
 use Rattle.sh_token.specs.Machine.{State}
 use Rattle.sh_token.specs.Run.{Scanned, Ended, Deep, Open, scanned_in}
 use Rattle.sh_token.specs.Found.{of_body, pieces_of_body}
-use Rattle.sh_token.proofs.Laws.{reads_length, marks_length, joined_length}
+use Rattle.sh_token.proofs.Laws.{reads_length, pieces_length, joined_length}
 use Rattle.sh_token.proofs.BodyComplete.{body_complete, body_deep, form_behind}
 use Rattle.sh_token.proofs.BodySound.{Shown, body_sound}
 
@@ -30,15 +30,15 @@ some_first place (parenthesis after w) l = let a = reads_length true (Plain 36) 
 some_first place (backquote after w) l = let a = reads_length true (Plain 96) place w.0 w.1 in absurd (omega arith)
 
 module _ (limit : ℕ) (bytes : List ℕ) where
-  front_length : (marks : List Mark) (place : List ℕ) → IsFront limit bytes marks place → length place ≤ length bytes
-  front_length marks place f =
-      let a = marks_length true limit marks [] (Body ∷ []) bytes f.last f.pieces in
+  prefix_length : (pieces : List Piece) (place : List ℕ) → IsPrefix limit bytes pieces place → length place ≤ length bytes
+  prefix_length pieces place f =
+      let a = pieces_length true limit pieces [] (Body ∷ []) bytes f.last f.pieces in
       let b = joined_length f.last place f.joined in
       omega arith
 
   deep_length : (place : List ℕ) → IsBodyTooDeep limit bytes place → length place ≤ length bytes
   deep_length place d =
-      let a = marks_length true limit d.marks [] (Body ∷ []) bytes d.last d.before in
+      let a = pieces_length true limit d.pieces [] (Body ∷ []) bytes d.last d.before in
       let b = joined_length d.last place d.placed in
       omega arith
 
@@ -57,11 +57,11 @@ module _ (limit : ℕ) (bytes : List ℕ) where
   found (Deep r) h = let d = found_deep r h in let l = deep_length r d in (r, d, omega arith)
   found (Open f) h =
       let g = shown (Open f) h in
-      let l = front_length g.marks f g.front in (
+      let l = prefix_length g.pieces f g.prefix in (
         f,
         record {
-          marks = g.marks;
-          front = g.front;
+          pieces = g.pieces;
+          prefix = g.prefix;
           begins = g.begins;
           furthest = λ others other i. form_behind limit bytes f other others h i;
           level = λ deep d. deep_not_open deep f (sym (body_deep limit bytes deep d) ∙ h);
@@ -69,8 +69,8 @@ module _ (limit : ℕ) (bytes : List ℕ) where
         omega arith,
       )
 
-  all_only : (marks : List Mark) → IsFront limit bytes marks [] → of_body bytes (scanned_in Body true limit bytes) ≡ AllOf marks
-  all_only marks f = let c = body_complete limit bytes marks f in ap (of_body bytes) c.is
+  all_only : (pieces : List Piece) → IsPrefix limit bytes pieces [] → of_body bytes (scanned_in Body true limit bytes) ≡ AllOf pieces
+  all_only pieces f = let c = body_complete limit bytes pieces f in ap (of_body bytes) c.is
 
   deep_only : (place : ℕ) (rest : List ℕ) → IsBodyTooDeep limit bytes rest → place + length rest ≡ length bytes → of_body bytes (scanned_in Body true limit bytes) ≡ TooDeepAt place
   deep_only place rest d w = let x : length bytes - length rest ≡ place = omega arith in ap (of_body bytes) (body_deep limit bytes rest d) ∙ ap TooDeepAt x
@@ -80,8 +80,8 @@ module _ (limit : ℕ) (bytes : List ℕ) where
   open_only place rest (Deep r) h o w = absurd (o.level r (found_deep r h))
   open_only place rest (Open f) h o w =
       let g = shown (Open f) h in
-      let a = o.furthest g.marks f g.front in
-      let b = form_behind limit bytes f rest o.marks h o.front in
+      let a = o.furthest g.pieces f g.prefix in
+      let b = form_behind limit bytes f rest o.pieces h o.prefix in
       let x : length bytes - length f ≡ place = omega arith in
       ap OpenAt x
 
@@ -90,6 +90,6 @@ module _ (limit : ℕ) (bytes : List ℕ) where
   body_law answer = ((λ h. subst (IsBody limit bytes) h (found (scanned_in Body true limit bytes) refl)), λ h. only answer h)
     where
       only : (answer : BodyPieces) → IsBody limit bytes answer → of_body bytes (scanned_in Body true limit bytes) ≡ answer
-      only (AllOf marks) h = all_only marks h
+      only (AllOf pieces) h = all_only pieces h
       only (OpenAt place) h = open_only place h.0 (scanned_in Body true limit bytes) refl h.1 h.2
       only (TooDeepAt place) h = deep_only place h.0 h.1 h.2

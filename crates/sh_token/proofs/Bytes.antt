@@ -2,12 +2,12 @@
 use Rattle.std.proofs.Common.{◌≡◌, ℕ, Bool, true, false, ◌||◌, ◌&&◌, not, nat_eq, List, [], ◌∷◌, ◌++◌, refl, subst, cond, eqb-true}
 use Rattle.sh_token_pieces.specs.declared.context.Context.{Context}
 use Rattle.sh_token_pieces.specs.declared.context.Context.TheVariants.{Top, Commands, Word, Quotes, Braces, Arithmetic, Parenthesis, Body}
-use Rattle.sh_token_pieces.specs.declared.mark.Mark.{Mark}
-use Rattle.sh_token_pieces.specs.declared.mark.Mark.TheVariants.{Byte, Escaped, Backslash, DoubleQuotesOpen, DoubleQuotesClose, BraceClose}
+use Rattle.sh_token_pieces.specs.declared.piece.Piece.{Piece}
+use Rattle.sh_token_pieces.specs.declared.piece.Piece.TheVariants.{Byte, Escaped, Backslash, DoubleQuotesOpen, DoubleQuotesClose, BraceClose}
 use Rattle.sh_token_pieces.specs.declared.pending.Pending.{Pending}
 use Rattle.sh_token_pieces.specs.Bytes.{is_end}
 use Rattle.sh_token_pieces.specs.Characters.{Ahead, next_is}
-use Rattle.sh_token_pieces.specs.Marks.{stands, quotes, in_word, between_tokens, is_word, is_quotes, is_braces, is_arithmetic, is_parenthesis, has_single_quotes, has_double_quotes, parenthesized, levels}
+use Rattle.sh_token_pieces.specs.Pieces.{stands, quotes, in_word, between_tokens, is_word, is_quotes, is_braces, is_arithmetic, is_parenthesis, has_single_quotes, has_double_quotes, behind_byte, levels}
 use Rattle.sh_token.specs.Machine.{State, On, inner_byte, word_byte, plain_byte, quoted_byte, pend, same, into, out, out_level}
 use Rattle.sh_token.proofs.Tests.{and_true, not_true, not_or, or_false, and_false, and_left, word_no_gap}
 use Rattle.sh_token.proofs.Leads.{begun, kept}
@@ -121,7 +121,7 @@ stood Body b next h =
       going = refl;
     }
 
-module _ (limit : ℕ) (x : Context) (xs : List Context) (done : List Mark) (lv : ℕ) where
+module _ (limit : ℕ) (x : Context) (xs : List Context) (done : List Piece) (lv : ℕ) where
   abbrev pub here : State
   here = kept limit (x ∷ xs) done lv
 
@@ -134,7 +134,7 @@ module _ (limit : ℕ) (x : Context) (xs : List Context) (done : List Mark) (lv 
   unfolding plain_byte word_byte
   byte_stood b h = rw (h.within, h.going, h.single, h.double, h.quote, h.brace, h.dollar, h.backquote) refl
 
-  pub inner_on : (b : ℕ) → (nat_eq b 41 && is_arithmetic x) ≡ false → inner_byte x here b ≡ On (kept limit (parenthesized b x xs) (done ++ Byte b ∷ []) lv)
+  pub inner_on : (b : ℕ) → (nat_eq b 41 && is_arithmetic x) ≡ false → inner_byte x here b ≡ On (kept limit (behind_byte b x xs) (done ++ Byte b ∷ []) lv)
   unfolding inner_byte
   inner_on b h = rw h (go (nat_eq b 41 && is_parenthesis x) (nat_eq b 40 && (is_arithmetic x || is_parenthesis x)) refl refl)
     where
@@ -155,7 +155,7 @@ module _ (limit : ℕ) (x : Context) (xs : List Context) (done : List Mark) (lv 
   unfolding inner_byte
   inner_parenthesis b h = rw h refl
 
-  pub levels_parenthesized : (b : ℕ) → levels (parenthesized b x xs) ≡ levels (x ∷ xs)
+  pub levels_parenthesized : (b : ℕ) → levels (behind_byte b x xs) ≡ levels (x ∷ xs)
   levels_parenthesized b = go (nat_eq b 40 && (is_arithmetic x || is_parenthesis x)) (nat_eq b 41 && is_parenthesis x) refl
     where
       none : (y : Context) → is_parenthesis y ≡ true → levels xs ≡ levels (y ∷ xs)
@@ -193,7 +193,7 @@ module _ (limit : ℕ) (x : Context) (xs : List Context) (done : List Mark) (lv 
   backslash_in b w h = rw (word_no_gap x w, h) refl
 
 -- the bytes that open and close forms
-pub single_opens : (limit : ℕ) (x : Context) (xs : List Context) (done : List Mark) (lv : ℕ) → has_single_quotes x ≡ true → plain_byte (kept limit (x ∷ xs) done lv) 39 ≡ On (begun limit (x ∷ xs) done lv Pending.Single [])
+pub single_opens : (limit : ℕ) (x : Context) (xs : List Context) (done : List Piece) (lv : ℕ) → has_single_quotes x ≡ true → plain_byte (kept limit (x ∷ xs) done lv) 39 ≡ On (begun limit (x ∷ xs) done lv Pending.Single [])
 unfolding plain_byte word_byte
 single_opens limit Top xs done lv h = absurd (cc)
 single_opens limit (Commands ts) xs done lv h = absurd (cc)
@@ -205,7 +205,7 @@ single_opens limit Arithmetic xs done lv h = absurd (cc)
 single_opens limit Parenthesis xs done lv h = absurd (cc)
 single_opens limit Body xs done lv h = absurd (cc)
 
-pub double_opens : (limit : ℕ) (x : Context) (xs : List Context) (done : List Mark) (lv : ℕ) → has_double_quotes x ≡ true
+pub double_opens : (limit : ℕ) (x : Context) (xs : List Context) (done : List Piece) (lv : ℕ) → has_double_quotes x ≡ true
     → plain_byte (kept limit (x ∷ xs) done lv) 34 ≡ On (kept limit (Quotes ∷ x ∷ xs) (done ++ DoubleQuotesOpen ∷ []) lv)
 unfolding plain_byte word_byte
 double_opens limit Top xs done lv h = absurd (cc)
@@ -217,7 +217,7 @@ double_opens limit Arithmetic xs done lv h = absurd (cc)
 double_opens limit Parenthesis xs done lv h = absurd (cc)
 double_opens limit Body xs done lv h = absurd (cc)
 
-pub double_closes : (limit : ℕ) (x : Context) (xs : List Context) (done : List Mark) (lv : ℕ) → is_quotes x ≡ true
+pub double_closes : (limit : ℕ) (x : Context) (xs : List Context) (done : List Piece) (lv : ℕ) → is_quotes x ≡ true
     → plain_byte (kept limit (x ∷ xs) done lv) 34 ≡ On (kept limit xs (done ++ DoubleQuotesClose ∷ []) lv)
 unfolding plain_byte word_byte
 double_closes limit Top xs done lv h = absurd (cc)
@@ -229,7 +229,7 @@ double_closes limit Arithmetic xs done lv h = absurd (cc)
 double_closes limit Parenthesis xs done lv h = absurd (cc)
 double_closes limit Body xs done lv h = absurd (cc)
 
-pub brace_closes : (limit : ℕ) (x : Context) (xs : List Context) (done : List Mark) (lv : ℕ) → is_braces x ≡ true
+pub brace_closes : (limit : ℕ) (x : Context) (xs : List Context) (done : List Piece) (lv : ℕ) → is_braces x ≡ true
     → plain_byte (kept limit (x ∷ xs) done lv) 125 ≡ On (out_level BraceClose (kept limit (x ∷ xs) done lv))
 unfolding plain_byte word_byte
 brace_closes limit Top xs done lv h = absurd (cc)
@@ -241,7 +241,7 @@ brace_closes limit Arithmetic xs done lv h = absurd (cc)
 brace_closes limit Parenthesis xs done lv h = absurd (cc)
 brace_closes limit Body xs done lv h = absurd (cc)
 
-pub dollar_in : (limit : ℕ) (x : Context) (xs : List Context) (done : List Mark) (lv : ℕ) → in_word x ≡ true → plain_byte (kept limit (x ∷ xs) done lv) 36 ≡ On (begun limit (x ∷ xs) done lv Pending.Dollar [])
+pub dollar_in : (limit : ℕ) (x : Context) (xs : List Context) (done : List Piece) (lv : ℕ) → in_word x ≡ true → plain_byte (kept limit (x ∷ xs) done lv) 36 ≡ On (begun limit (x ∷ xs) done lv Pending.Dollar [])
 unfolding plain_byte word_byte
 dollar_in limit Top xs done lv h = absurd (cc)
 dollar_in limit (Commands ts) xs done lv h = absurd (cc)

@@ -3,11 +3,11 @@ use Rattle.std.proofs.Common.{◌≡◌, ℕ, Bool, true, false, ◌||◌, ◌&&
 use Rattle.sh_token_pieces.specs.declared.context.Context.{Context}
 use Rattle.sh_token_pieces.specs.declared.context.Context.TheVariants.{Top, Commands, Word, Quotes, Braces, Arithmetic, Parenthesis, Body}
 use Rattle.sh_token_pieces.specs.declared.head.Head.{Head}
-use Rattle.sh_token_pieces.specs.declared.mark.Mark.{Mark}
-use Rattle.sh_token_pieces.specs.declared.mark.Mark.TheVariants.{Byte, Escaped, Backslash, SingleQuoted, DoubleQuotesOpen, DoubleQuotesClose, Dollar, Variable, Parameter, BraceOpen, BraceClose, ArithmeticOpen, ArithmeticClose, CommandsOpen, CommandsClose, Backquoted, WordOpen, WordClose, Blank, Comment, Bodies}
+use Rattle.sh_token_pieces.specs.declared.piece.Piece.{Piece}
+use Rattle.sh_token_pieces.specs.declared.piece.Piece.TheVariants.{Byte, Escaped, Backslash, SingleQuoted, DoubleQuotesOpen, DoubleQuotesClose, Dollar, Variable, Parameter, BraceOpen, BraceClose, ArithmeticOpen, ArithmeticClose, CommandsOpen, CommandsClose, Backquoted, WordOpen, WordClose, Blank, Comment, Bodies}
 use Rattle.sh_token_pieces.specs.Heads.{head_of, reads_bare}
 use Rattle.sh_token_pieces.specs.Nested.{Nested, none_yet}
-use Rattle.sh_token_pieces.specs.Marks.{behind, contexts_behind, with_token, word_over, parenthesized, braces_of, is_text, is_body, is_word, is_arithmetic, is_parenthesis, is_quoted, top_of}
+use Rattle.sh_token_pieces.specs.Pieces.{behind, contexts_behind, with_token, word_over, behind_byte, braces_of, is_text, is_body, is_word, is_arithmetic, is_parenthesis, is_quoted, top_of}
 use Rattle.sh_token_pieces.specs.TokenClasses.{Told, OfOperator, OfWord, OfBodies, with_told}
 use Rattle.sh_token.proofs.Tests.{and_true, and_both, not_false, nested}
 
@@ -47,7 +47,7 @@ free_token f v c (Arithmetic ∷ xs) h = h
 free_token f v c (Parenthesis ∷ xs) h = h
 free_token f v c (Body ∷ xs) h = h
 
-free_over : (f : Context → Bool) → Never f → (r : Bool) (done : List Mark) (x : Context) (xs : List Context) → free f (x ∷ xs) ≡ true → free f (word_over r done (x ∷ xs)) ≡ true
+free_over : (f : Context → Bool) → Never f → (r : Bool) (done : List Piece) (x : Context) (xs : List Context) → free f (x ∷ xs) ≡ true → free f (word_over r done (x ∷ xs)) ≡ true
 free_over f v r done Top xs h = free_out f Top xs h
 free_over f v r done (Commands ts) xs h = free_out f (Commands ts) xs h
 free_over f v r done (Word n) xs h = free_token f v (OfWord r (drop (suc n) done)) xs (free_out f (Word n) xs h)
@@ -57,7 +57,7 @@ free_over f v r done Arithmetic xs h = free_out f Arithmetic xs h
 free_over f v r done Parenthesis xs h = free_out f Parenthesis xs h
 free_over f v r done Body xs h = free_out f Body xs h
 
-free_parenthesized : (f : Context → Bool) → Never f → (b : ℕ) (x : Context) (xs : List Context) → free f (x ∷ xs) ≡ true → free f (parenthesized b x xs) ≡ true
+free_parenthesized : (f : Context → Bool) → Never f → (b : ℕ) (x : Context) (xs : List Context) → free f (x ∷ xs) ≡ true → free f (behind_byte b x xs) ≡ true
 free_parenthesized f v b x xs h = go (nat_eq b 40 && (is_arithmetic x || is_parenthesis x)) (nat_eq b 41 && is_parenthesis x)
   where
     go : (c d : Bool) → free f (cond c (Parenthesis ∷ x ∷ xs) (cond d xs (x ∷ xs))) ≡ true
@@ -69,7 +69,7 @@ free_braces : (f : Context → Bool) → Never f → (q : Bool) (g : Option Head
 free_braces f v q None xs h = free_in f (Braces q) xs (v.braces q) h
 free_braces f v q (Some g) xs h = free_in f (Braces (q && not (reads_bare g))) xs (v.braces (q && not (reads_bare g))) h
 
-pub free_behind : (f : Context → Bool) → Never f → (done : List Mark) (x : Context) (xs : List Context) (m : Mark) → free f (x ∷ xs) ≡ true → free f (behind done x xs m) ≡ true
+pub free_behind : (f : Context → Bool) → Never f → (done : List Piece) (x : Context) (xs : List Context) (m : Piece) → free f (x ∷ xs) ≡ true → free f (behind done x xs m) ≡ true
 free_behind f v done x xs (Byte b) h = free_parenthesized f v b x xs h
 free_behind f v done x xs (Escaped b) h = h
 free_behind f v done x xs (Backslash b) h = h
@@ -91,9 +91,9 @@ free_behind f v done x xs (WordClose r) h = free_over f v r done x xs h
 free_behind f v done x xs (Blank b) h = h
 free_behind f v done x xs (Comment bs) h = h
 free_behind f v done x xs (Bodies bs) h = free_token f v OfBodies (x ∷ xs) h
-free_behind f v done x xs (Mark.Operator o) h = free_token f v (OfOperator o) (x ∷ xs) h
+free_behind f v done x xs (Piece.Operator o) h = free_token f v (OfOperator o) (x ∷ xs) h
 
-pub free_contexts : (f : Context → Bool) → Never f → (ms done : List Mark) (xs : List Context) → free f xs ≡ true → free f (contexts_behind done xs ms) ≡ true
+pub free_contexts : (f : Context → Bool) → Never f → (ms done : List Piece) (xs : List Context) → free f xs ≡ true → free f (contexts_behind done xs ms) ≡ true
 free_contexts f v [] done xs h = h
 free_contexts f v (m ∷ ms) done [] h = refl
 free_contexts f v (m ∷ ms) done (x ∷ xs) h = free_contexts f v ms (done ++ m ∷ []) (behind done x xs m) (free_behind f v done x xs m h)

@@ -5,8 +5,8 @@ use Rattle.sh_token.proofs.Tests.{and_false}
 use Rattle.sh_token_pieces.specs.declared.operator.Operator.{Operator}
 use Rattle.sh_token_pieces.specs.declared.operator.Operator.TheVariants.{And, Semicolon, Pipe, Less, Great, LeftParenthesis, RightParenthesis, Newline, AndIf, OrIf, DoubleSemicolon, DoubleLess, DoubleGreat, LessAnd, GreatAnd, LessGreat, DoubleLessDash, Clobber}
 use Rattle.sh_token_pieces.specs.Operators.{operator_text}
-use Rattle.sh_token_pieces.specs.Growth.{grown, may_grow}
-use Rattle.sh_token_pieces.specs.Marks.{is_right_parenthesis, is_newline}
+use Rattle.sh_token_pieces.specs.Growth.{longer_operator, may_grow}
+use Rattle.sh_token_pieces.specs.Pieces.{is_right_parenthesis, is_newline}
 use Rattle.sh_token_pieces.specs.TokenClasses.{class_of_operator}
 use Rattle.sh_token_grammar.specs.Levels.{begins_compound}
 
@@ -32,7 +32,7 @@ three o p b c d f q r s t u v = first (nat_eq b c) refl
         second true g h = let i : r ≡ p = cc in ap operator_text (sym i) ∙ (u ∙ ap (λ y. operator_text o ++ y ∷ []) (sym (eqb-true b d g)))
         second false g h = only o p b f s v h
 
-pub grown_text : (o p : Operator) (b : ℕ) → grown o b ≡ Some p → operator_text p ≡ operator_text o ++ b ∷ []
+pub grown_text : (o p : Operator) (b : ℕ) → longer_operator o b ≡ Some p → operator_text p ≡ operator_text o ++ b ∷ []
 grown_text And p b h = only And p b 38 AndIf refl h
 grown_text Semicolon p b h = only Semicolon p b 59 DoubleSemicolon refl h
 grown_text Pipe p b h = only Pipe p b 124 OrIf refl h
@@ -134,8 +134,8 @@ longer LessGreat b c h = absurd (cc)
 longer DoubleLessDash b c h = absurd (cc)
 longer Clobber b c h = absurd (cc)
 
-pub grown_no_right : (o p : Operator) (b : ℕ) → may_grow o ≡ true → grown o b ≡ Some p → is_right_parenthesis p ≡ false
+pub grown_no_right : (o p : Operator) (b : ℕ) → may_grow o ≡ true → longer_operator o b ≡ Some p → is_right_parenthesis p ≡ false
 grown_no_right o p b g h = ap (λ t. bytes_eq t (41 ∷ [])) (grown_text o p b h) ∙ longer o b 41 g
 
-pub grown_no_newline : (o p : Operator) (b : ℕ) → may_grow o ≡ true → grown o b ≡ Some p → is_newline p ≡ false
+pub grown_no_newline : (o p : Operator) (b : ℕ) → may_grow o ≡ true → longer_operator o b ≡ Some p → is_newline p ≡ false
 grown_no_newline o p b g h = ap (λ t. bytes_eq t (10 ∷ [])) (grown_text o p b h) ∙ longer o b 10 g

@@ -6,33 +6,33 @@ use Rattle.sh_token_pieces.specs.declared.character.Character.{Character}
 use Rattle.sh_token_pieces.specs.declared.character.Character.TheVariants.{Plain, Raw}
 use Rattle.sh_token_pieces.specs.declared.head.Head.{Head}
 use Rattle.sh_token_pieces.specs.declared.context.Context.{Context}
-use Rattle.sh_token_pieces.specs.declared.mark.Mark.{Mark}
+use Rattle.sh_token_pieces.specs.declared.piece.Piece.{Piece}
 use Rattle.sh_token_pieces.specs.declared.pending.Pending.{Pending}
 use Rattle.sh_token_pieces.specs.Characters.{Reads, Written, plain, raw}
 use Rattle.sh_token_pieces.specs.Pendings.{is_raw, is_gap_pending}
-use Rattle.sh_token_pieces.specs.Marks.{levels, is_text, top_of, is_backquoted}
+use Rattle.sh_token_pieces.specs.Pieces.{levels, is_text, top_of, is_backquoted}
 use Rattle.sh_token_pieces.specs.Heads.{grown_head, head_from}
-use Rattle.sh_token.specs.Machine.{State, On, step, headed, in_head, in_backquotes}
-use Rattle.sh_token.specs.Run.{is_gap_state, begins_form, begins_word, Places, fronted, with_front, moved, run}
+use Rattle.sh_token.specs.Machine.{State, On, step, head_byte, in_head, in_backquotes}
+use Rattle.sh_token.specs.Run.{is_gap_state, begins_form, begins_word, Places, with_next_prefix, with_prefix, after_character, run}
 use Rattle.sh_token.proofs.Running.{placed, after, begin_of, is_raw_character, character_run, Alike, Cooked, alike}
 use Rattle.sh_token.proofs.Tests.{and_true, not_true}
 
 -- a state with a piece that has begun, and one with none
-abbrev pub begun : ℕ → List Context → List Mark → ℕ → Pending → List ℕ → State
+abbrev pub begun : ℕ → List Context → List Piece → ℕ → Pending → List ℕ → State
 begun limit xs done lv p acc = record { contexts = xs; done = done; pending = p; bytes = acc; levels = lv; limit = limit }
 
-abbrev pub kept : ℕ → List Context → List Mark → ℕ → State
+abbrev pub kept : ℕ → List Context → List Piece → ℕ → State
 kept limit xs done lv = begun limit xs done lv Pending.Nothing []
 
-abbrev pub settled : ℕ → List Mark → List Context → State
+abbrev pub settled : ℕ → List Piece → List Context → State
 settled limit done xs = kept limit xs done (levels xs)
 
--- from these places the run comes to another state, where the text is the rest; k: the front stays
+-- from these places the run comes to another state, where the text is the rest; k: the prefix stays
 pub record Lead (k e : Bool) (s : State) (p : Places) (m : List ℕ) (t : State) (rest : List ℕ) : Type 0 where
   pub places : Places
   pub next : places.next ≡ rest
   pub behind : places.behind ≡ rest
-  pub front : k ≡ true → places.front ≡ p.front
+  pub prefix : k ≡ true → places.prefix ≡ p.prefix
   pub same : run e false s p m ≡ run e false t places rest
 
 abbrev pub Leads : Bool → Bool → State → List ℕ → State → List ℕ → Type 0
@@ -40,33 +40,33 @@ Leads k e s m t rest = (p : Places) → p.next ≡ m → p.behind ≡ m → Lead
 
 module _ (k e : Bool) where
   pub stay : (s : State) (m rest : List ℕ) → m ≡ rest → Leads k e s m s rest
-  stay s m rest w p n b = record { places = p; next = n ∙ w; behind = b ∙ w; front = λ h. refl; same = ap (run e false s p) w }
+  stay s m rest w p n b = record { places = p; next = n ∙ w; behind = b ∙ w; prefix = λ h. refl; same = ap (run e false s p) w }
 
   pub joined : (s t u : State) (m n rest : List ℕ) → Leads k e s m t n → Leads k e t n u rest → Leads k e s m u rest
   joined s t u m n rest a b p x y =
       let c = a p x y in
       let d = b c.places c.next c.behind in
-      record { places = d.places; next = d.next; behind = d.behind; front = λ h. d.front h ∙ c.front h; same = c.same ∙ d.same }
+      record { places = d.places; next = d.next; behind = d.behind; prefix = λ h. d.prefix h ∙ c.prefix h; same = c.same ∙ d.same }
 
   -- a character that goes on
   pub goes : (s t : State) (m rest : List ℕ) (c : Character) → (k ≡ true → is_gap_state s ≡ false) → is_raw s.pending ≡ is_raw_character c → Reads e c m rest → step s c ≡ On t
       → Leads k e s m t rest
   goes s t m rest c g r h w p x y =
-      let q = with_front s (placed (begin_of c rest) p) in
+      let q = with_prefix s (placed (begin_of c rest) p) in
       record {
-        places = moved (begins_form t) (begins_word t) rest q;
+        places = after_character (begins_form t) (begins_word t) rest q;
         next = refl;
         behind = refl;
-        front = λ i. ap (λ z. (fronted z (placed (begin_of c rest) p)).front) (g i);
+        prefix = λ i. ap (λ z. (with_next_prefix z (placed (begin_of c rest) p)).prefix) (g i);
         same = character_run e s p c m rest r h x ∙ ap (λ z. after e z q rest) w;
       }
 
   -- a state that does the same with what comes next
   pub same_ahead : (t s : State) (m : List ℕ) → Cooked t s → Alike e false t s m → Leads k e t m s m
-  same_ahead t s m c a p x y = record { places = p; next = x; behind = y; front = λ h. refl; same = alike e false t s p c m a }
+  same_ahead t s m c a p x y = record { places = p; next = x; behind = y; prefix = λ h. refl; same = alike e false t s p c m a }
 
   -- bytes that a piece which has begun keeps
-  module _ (limit : ℕ) (xs : List Context) (done : List Mark) (lv : ℕ) where
+  module _ (limit : ℕ) (xs : List Context) (done : List Piece) (lv : ℕ) where
     abbrev pub holding : Pending → List ℕ → State
     holding p acc = begun limit xs done lv p acc
 
@@ -99,7 +99,7 @@ module _ (k e : Bool) where
 
     head_step_on : (h g : Head) (acc : List ℕ) (b : ℕ) → grown_head h b ≡ Some g → step (holding (Pending.Head h) acc) (Plain b) ≡ On (holding (Pending.Head g) (acc ++ b ∷ []))
     unfolding in_head
-    head_step_on h g acc b w = ap (λ z. headed h (holding (Pending.Head h) acc) b z) w
+    head_step_on h g acc b w = ap (λ z. head_byte h (holding (Pending.Head h) acc) b z) w
 
     pub head_keeps : (bs : List ℕ) (h last : Head) (acc m rest : List ℕ) → head_from (Some h) bs ≡ Some last → Written e (plain bs) m rest
         → Leads k e (holding (Pending.Head h) acc) m (holding (Pending.Head last) (acc ++ bs)) rest

@@ -4,16 +4,16 @@ use Rattle.sh_token_pieces.specs.declared.character.Character.{Character}
 use Rattle.sh_token_pieces.specs.declared.character.Character.TheVariants.{Plain, Quoted, Raw}
 use Rattle.sh_token_pieces.specs.declared.context.Context.{Context}
 use Rattle.sh_token_pieces.specs.declared.context.Context.TheVariants.{Top, Commands, Word, Quotes, Braces, Arithmetic, Parenthesis, Body}
-use Rattle.sh_token_pieces.specs.declared.mark.Mark.{Mark}
-use Rattle.sh_token_pieces.specs.declared.mark.Mark.TheVariants.{Byte, Dollar, Variable}
+use Rattle.sh_token_pieces.specs.declared.piece.Piece.{Piece}
+use Rattle.sh_token_pieces.specs.declared.piece.Piece.TheVariants.{Byte, Dollar, Variable}
 use Rattle.sh_token_pieces.specs.declared.pending.Pending.{Pending}
 use Rattle.sh_token_pieces.specs.declared.head.Head.{Head}
 use Rattle.sh_token_pieces.specs.Bytes.{is_short_parameter}
 use Rattle.sh_base.specs.Names.{begins_name, continues_name}
 use Rattle.sh_token_pieces.specs.Pendings.{is_raw}
-use Rattle.sh_token_pieces.specs.Marks.{is_body, top_of}
+use Rattle.sh_token_pieces.specs.Pieces.{is_body, top_of}
 use Rattle.sh_token.specs.Machine.{State, Stepped, On, Before, After, TooDeep, DollarTooDeep, WordTooDeep, step, plain_byte, quoted_byte, word_byte, inner_byte, in_name, after_dollar, at_dollar, opens, pend, same}
-use Rattle.sh_token.specs.Run.{Fed, Waits, Takes, fed, Open, Places, is_gap_state, begins_form, begins_word as word_begun, Ending, EndsIn, EndsDeep, EndsNot, ended_in, last_token, fronted, with_front, moved, waited, last_places, last_step, last, run}
+use Rattle.sh_token.specs.Run.{Fed, Waits, Takes, byte_step, Open, Places, is_gap_state, begins_form, begins_word as word_begun, Ending, EndsIn, EndsDeep, EndsNot, ended_in, last_token, with_next_prefix, with_prefix, after_character, after_wait, last_places, last_step, last, run}
 use Rattle.sh_token.proofs.Running.{follow, is_raw_character}
 use Rattle.sh_token.proofs.Tests.{and_false}
 use Rattle.sh_token.proofs.Leads.{begun}
@@ -49,7 +49,7 @@ tame_if : (c : Bool) (x y : Stepped) → Tame x → Tame y → Tame (cond c x y)
 tame_if true x y h g = h
 tame_if false x y h g = g
 
-module _ (limit : ℕ) (xs : List Context) (done : List Mark) (lv : ℕ) (q : Pending) (acc : List ℕ) where
+module _ (limit : ℕ) (xs : List Context) (done : List Piece) (lv : ℕ) (q : Pending) (acc : List ℕ) where
   abbrev here : State
   here = begun limit (Body ∷ xs) done lv q acc
 
@@ -67,7 +67,7 @@ module _ (limit : ℕ) (xs : List Context) (done : List Mark) (lv : ℕ) (q : Pe
   unfolding quoted_byte
   tame_quoted b = inl refl
 
-tame_body : (limit : ℕ) (xs : List Context) (done : List Mark) (lv : ℕ) (q : Pending) (acc : List ℕ) (c : Character) → is_loose_in q ≡ true → Tame (step (begun limit (Body ∷ xs) done lv q acc) c)
+tame_body : (limit : ℕ) (xs : List Context) (done : List Piece) (lv : ℕ) (q : Pending) (acc : List ℕ) (c : Character) → is_loose_in q ≡ true → Tame (step (begun limit (Body ∷ xs) done lv q acc) c)
 unfolding in_name
 tame_body limit xs done lv Pending.Nothing acc (Plain b) h = tame_plain limit xs done lv Pending.Nothing acc b
 tame_body limit xs done lv Pending.Nothing acc (Quoted b) h = tame_quoted limit xs done lv Pending.Nothing acc b
@@ -86,7 +86,7 @@ tame_body limit xs done lv (Pending.Operator o) acc c h = absurd (cc)
 tame_body limit xs done lv Pending.Comment acc c h = absurd (cc)
 tame_body limit xs done lv (Pending.Body l n j) acc c h = absurd (cc)
 
-tame_in : (limit : ℕ) (xs : List Context) (done : List Mark) (lv : ℕ) (q : Pending) (acc : List ℕ) (c : Character) → is_loose (begun limit xs done lv q acc) ≡ true → Tame (step (begun limit xs done lv q acc) c)
+tame_in : (limit : ℕ) (xs : List Context) (done : List Piece) (lv : ℕ) (q : Pending) (acc : List ℕ) (c : Character) → is_loose (begun limit xs done lv q acc) ≡ true → Tame (step (begun limit xs done lv q acc) c)
 tame_in limit [] done lv q acc c h = absurd (cc)
 tame_in limit (Top ∷ xs) done lv q acc c h = absurd (cc)
 tame_in limit (Commands ts ∷ xs) done lv q acc c h = absurd (cc)
@@ -127,7 +127,7 @@ dollar_of c (TooDeep t) h = tt
 dollar_of c (DollarTooDeep t) h = tt
 dollar_of c (WordTooDeep t) h = tt
 
-pub dollar_tame : (limit : ℕ) (xs : List Context) (done : List Mark) (lv : ℕ) (acc : List ℕ) (c : Character) → is_raw_character c ≡ false → DollarTame c (step (begun limit (Body ∷ xs) done lv Pending.Dollar acc) c)
+pub dollar_tame : (limit : ℕ) (xs : List Context) (done : List Piece) (lv : ℕ) (acc : List ℕ) (c : Character) → is_raw_character c ≡ false → DollarTame c (step (begun limit (Body ∷ xs) done lv Pending.Dollar acc) c)
 unfolding after_dollar
 dollar_tame limit xs done lv acc (Plain b) k =
     dollar_if (Plain b) (begins_name b) _ _ (λ h. inl refl)
@@ -154,8 +154,8 @@ fed_if : (c : Bool) (x y : Fed) → FedTame x → FedTame y → FedTame (cond c 
 fed_if true x y h g = h
 fed_if false x y h g = g
 
-fed_tame : (s : State) (held : Bool) (b : ℕ) → is_loose s ≡ true → FedTame (fed (record { state = s; held = held }) b)
-unfolding fed
+fed_tame : (s : State) (held : Bool) (b : ℕ) → is_loose s ≡ true → FedTame (byte_step (record { state = s; held = held }) b)
+unfolding byte_step
 fed_tame s true b h = fed_if (nat_eq b 10) _ _ h (step_tame s (Quoted b) h)
 fed_tame s false b h = fed_if (is_raw s.pending) _ _ (step_tame s (Raw b) h) (fed_if (nat_eq b 92) _ _ h (step_tame s (Plain b) h))
 
@@ -164,15 +164,15 @@ open_is : (f g : List ℕ) → Open f ≡ Open g → f ≡ g
 open_is f g h = cc
 
 module _ (size : ℕ) (f : List ℕ) where
-  front_next : (c : Bool) (p : Places) → length p.next ≤ size → length (fronted c p).next ≤ size
-  front_next true p h = h
-  front_next false p h = h
+  prefix_next : (c : Bool) (p : Places) → length p.next ≤ size → length (with_next_prefix c p).next ≤ size
+  prefix_next true p h = h
+  prefix_next false p h = h
 
-  front_form : (c : Bool) (p : Places) → length p.form ≤ size → length (fronted c p).form ≤ size
-  front_form true p h = h
-  front_form false p h = h
+  prefix_form : (c : Bool) (p : Places) → length p.form ≤ size → length (with_next_prefix c p).form ≤ size
+  prefix_form true p h = h
+  prefix_form false p h = h
 
-  moved_form : (c d : Bool) (after : List ℕ) (p : Places) → length p.next ≤ size → (c ≡ false → length p.form ≤ size) → length (moved c d after p).form ≤ size
+  moved_form : (c d : Bool) (after : List ℕ) (p : Places) → length p.next ≤ size → (c ≡ false → length p.form ≤ size) → length (after_character c d after p).form ≤ size
   moved_form true d after p h g = h
   moved_form false d after p h g = g refl
 
@@ -189,7 +189,7 @@ module _ (size : ℕ) (f : List ℕ) where
   last_form true s p n g w = go (step s (Plain 92)) w
     where
       go : (x : Stepped) → last_step x p ≡ Open f → length f ≤ size
-      go (On t) w = ended_form t (with_front t (moved (begins_form t) (word_begun t) [] p)) (front_form (is_gap_state t) (moved (begins_form t) (word_begun t) [] p) (moved_form (begins_form t) (word_begun t) [] p n (λ z. g))) w
+      go (On t) w = ended_form t (with_prefix t (after_character (begins_form t) (word_begun t) [] p)) (prefix_form (is_gap_state t) (after_character (begins_form t) (word_begun t) [] p) (moved_form (begins_form t) (word_begun t) [] p n (λ z. g))) w
       go (Before t) w = absurd (cc)
       go (After t) w = absurd (cc)
       go (TooDeep t) w = absurd (cc)
@@ -201,8 +201,8 @@ module _ (size : ℕ) (f : List ℕ) where
 
   follow_form : (e : Bool) (x : Fed) (q : Places) (bs : List ℕ) → length bs ≤ size → Bounded e bs → length q.next ≤ size → length q.form ≤ size → follow e x q bs ≡ Open f → length f ≤ size
   follow_form e (Waits true t) q bs l ih n g w = ih true t q n g w
-  follow_form e (Waits false t) q bs l ih n g w = ih false t (waited false bs q) l g w
-  follow_form e (Takes (On t)) q bs l ih n g w = ih false t (moved (begins_form t) (word_begun t) bs q) l (moved_form (begins_form t) (word_begun t) bs q n (λ z. g)) w
+  follow_form e (Waits false t) q bs l ih n g w = ih false t (after_wait false bs q) l g w
+  follow_form e (Takes (On t)) q bs l ih n g w = ih false t (after_character (begins_form t) (word_begun t) bs q) l (moved_form (begins_form t) (word_begun t) bs q n (λ z. g)) w
   follow_form e (Takes (Before t)) q bs l ih n g w = absurd (cc)
   follow_form e (Takes (After t)) q bs l ih n g w = absurd (cc)
   follow_form e (Takes (TooDeep t)) q bs l ih n g w = absurd (cc)
@@ -210,13 +210,13 @@ module _ (size : ℕ) (f : List ℕ) where
   follow_form e (Takes (WordTooDeep t)) q bs l ih n g w = absurd (cc)
 
   run_form : (e : Bool) (m : List ℕ) → length m ≤ size → Bounded e m
-  run_form true [] l h s p n g w = last_form h s (with_front s p) (front_next (is_gap_state s) p n) (front_form (is_gap_state s) p g) w
+  run_form true [] l h s p n g w = last_form h s (with_prefix s p) (prefix_next (is_gap_state s) p n) (prefix_form (is_gap_state s) p g) w
   run_form false [] l h s p n g w = omega (arith, ap length (open_is p.form f w), g)
   run_form e (b ∷ bs) l h s p n g w =
-      follow_form e (fed (record { state = s; held = h }) b) (with_front s p) bs (omega arith) (run_form e bs (omega arith)) (front_next (is_gap_state s) p n) (front_form (is_gap_state s) p g) w
+      follow_form e (byte_step (record { state = s; held = h }) b) (with_prefix s p) bs (omega arith) (run_form e bs (omega arith)) (prefix_next (is_gap_state s) p n) (prefix_form (is_gap_state s) p g) w
 
   -- a body in which no form is open ends so
-  body_ends : (limit : ℕ) (xs : List Context) (done : List Mark) (lv : ℕ) (q : Pending) (acc : List ℕ) (p : Places) → is_loose_in q ≡ true → last_places (begun limit (Body ∷ xs) done lv q acc) p ≡ Open f → ⊥
+  body_ends : (limit : ℕ) (xs : List Context) (done : List Piece) (lv : ℕ) (q : Pending) (acc : List ℕ) (p : Places) → is_loose_in q ≡ true → last_places (begun limit (Body ∷ xs) done lv q acc) p ≡ Open f → ⊥
   body_ends limit xs done lv Pending.Nothing acc p h w = absurd (cc)
   body_ends limit xs done lv Pending.Name acc p h w = absurd (cc)
   body_ends limit xs done lv Pending.Dollar acc p h w = absurd (cc)
@@ -230,7 +230,7 @@ module _ (size : ℕ) (f : List ℕ) where
   body_ends limit xs done lv Pending.Comment acc p h w = absurd (cc)
   body_ends limit xs done lv (Pending.Body l n j) acc p h w = absurd (cc)
 
-  ends_in : (limit : ℕ) (xs : List Context) (done : List Mark) (lv : ℕ) (q : Pending) (acc : List ℕ) (p : Places) → is_loose (begun limit xs done lv q acc) ≡ true → last_places (begun limit xs done lv q acc) p ≡ Open f → ⊥
+  ends_in : (limit : ℕ) (xs : List Context) (done : List Piece) (lv : ℕ) (q : Pending) (acc : List ℕ) (p : Places) → is_loose (begun limit xs done lv q acc) ≡ true → last_places (begun limit xs done lv q acc) p ≡ Open f → ⊥
   ends_in limit [] done lv q acc p h w = absurd (cc)
   ends_in limit (Top ∷ xs) done lv q acc p h w = absurd (cc)
   ends_in limit (Commands ts ∷ xs) done lv q acc p h w = absurd (cc)
@@ -244,7 +244,7 @@ module _ (size : ℕ) (f : List ℕ) where
   loose_ends : (s : State) (p : Places) → is_loose s ≡ true → last_places s p ≡ Open f → ⊥
   loose_ends s p h w = ends_in s.limit s.contexts s.done s.levels s.pending s.bytes p h w
 
-  begun_form : (c d : Bool) (after : List ℕ) (p : Places) → c ≡ true → length p.next ≤ size → length (moved c d after p).form ≤ size
+  begun_form : (c d : Bool) (after : List ℕ) (p : Places) → c ≡ true → length p.next ≤ size → length (after_character c d after p).form ≤ size
   begun_form true d after p h n = n
   begun_form false d after p h n = absurd (cc)
 
@@ -253,8 +253,8 @@ module _ (size : ℕ) (f : List ℕ) where
   loose_last true s p l n w = go (step s (Plain 92)) (step_tame s (Plain 92) l) w
     where
       go : (x : Stepped) → Tame x → last_step x p ≡ Open f → length f ≤ size
-      go (On t) (inl i) w = absurd (loose_ends t (with_front t (moved (begins_form t) (word_begun t) [] p)) i w)
-      go (On t) (inr i) w = ended_form t (with_front t (moved (begins_form t) (word_begun t) [] p)) (front_form (is_gap_state t) (moved (begins_form t) (word_begun t) [] p) (begun_form (begins_form t) (word_begun t) [] p i n)) w
+      go (On t) (inl i) w = absurd (loose_ends t (with_prefix t (after_character (begins_form t) (word_begun t) [] p)) i w)
+      go (On t) (inr i) w = ended_form t (with_prefix t (after_character (begins_form t) (word_begun t) [] p)) (prefix_form (is_gap_state t) (after_character (begins_form t) (word_begun t) [] p) (begun_form (begins_form t) (word_begun t) [] p i n)) w
       go (Before t) i w = absurd (cc)
       go (After t) i w = absurd (cc)
       go (TooDeep t) i w = absurd (cc)
@@ -266,9 +266,9 @@ module _ (size : ℕ) (f : List ℕ) where
 
   loose_follow : (x : Fed) (q : Places) (bs : List ℕ) → FedTame x → length bs ≤ size → LooseBounded bs → length q.next ≤ size → follow true x q bs ≡ Open f → length f ≤ size
   loose_follow (Waits true t) q bs i l ih n w = ih true t q i n w
-  loose_follow (Waits false t) q bs i l ih n w = ih false t (waited false bs q) i l w
-  loose_follow (Takes (On t)) q bs (inl i) l ih n w = ih false t (moved (begins_form t) (word_begun t) bs q) i l w
-  loose_follow (Takes (On t)) q bs (inr i) l ih n w = run_form true bs l false t (moved (begins_form t) (word_begun t) bs q) l (begun_form (begins_form t) (word_begun t) bs q i n) w
+  loose_follow (Waits false t) q bs i l ih n w = ih false t (after_wait false bs q) i l w
+  loose_follow (Takes (On t)) q bs (inl i) l ih n w = ih false t (after_character (begins_form t) (word_begun t) bs q) i l w
+  loose_follow (Takes (On t)) q bs (inr i) l ih n w = run_form true bs l false t (after_character (begins_form t) (word_begun t) bs q) l (begun_form (begins_form t) (word_begun t) bs q i n) w
   loose_follow (Takes (Before t)) q bs i l ih n w = absurd (cc)
   loose_follow (Takes (After t)) q bs i l ih n w = absurd (cc)
   loose_follow (Takes (TooDeep t)) q bs i l ih n w = absurd (cc)
@@ -277,6 +277,6 @@ module _ (size : ℕ) (f : List ℕ) where
 
   -- where no form has begun, the last one begins further on
   pub loose_run : (m : List ℕ) → length m ≤ size → LooseBounded m
-  loose_run [] l h s p i n w = loose_last h s (with_front s p) i (front_next (is_gap_state s) p n) w
+  loose_run [] l h s p i n w = loose_last h s (with_prefix s p) i (prefix_next (is_gap_state s) p n) w
   loose_run (b ∷ bs) l h s p i n w =
-      loose_follow (fed (record { state = s; held = h }) b) (with_front s p) bs (fed_tame s h b i) (omega arith) (loose_run bs (omega arith)) (front_next (is_gap_state s) p n) w
+      loose_follow (byte_step (record { state = s; held = h }) b) (with_prefix s p) bs (fed_tame s h b i) (omega arith) (loose_run bs (omega arith)) (prefix_next (is_gap_state s) p n) w

@@ -6,8 +6,8 @@ use Rattle.sh_base.specs.Names.{is_name}
 use Rattle.sh_token_pieces.specs.declared.character.Character.TheVariants.{Plain}
 use Rattle.sh_token_pieces.specs.declared.context.Context.{Context}
 use Rattle.sh_token_pieces.specs.declared.context.Context.TheVariants.{Top, Commands, Word, Quotes, Braces, Arithmetic, Parenthesis, Body}
-use Rattle.sh_token_pieces.specs.declared.mark.Mark.{Mark}
-use Rattle.sh_token_pieces.specs.declared.mark.Mark.TheVariants.{Byte, Escaped, Backslash, SingleQuoted, DoubleQuotesOpen, DoubleQuotesClose, Dollar, Variable, Parameter, BraceOpen, BraceClose, ArithmeticOpen, ArithmeticClose, CommandsOpen, CommandsClose, Backquoted, WordOpen, WordClose, Blank, Comment, Bodies}
+use Rattle.sh_token_pieces.specs.declared.piece.Piece.{Piece}
+use Rattle.sh_token_pieces.specs.declared.piece.Piece.TheVariants.{Byte, Escaped, Backslash, SingleQuoted, DoubleQuotesOpen, DoubleQuotesClose, Dollar, Variable, Parameter, BraceOpen, BraceClose, ArithmeticOpen, ArithmeticClose, CommandsOpen, CommandsClose, Backquoted, WordOpen, WordClose, Blank, Comment, Bodies}
 use Rattle.sh_token_pieces.specs.declared.pending.Pending.{Pending}
 use Rattle.sh_token_pieces.specs.Bytes.{is_no_quote, is_no_newline, is_redirection}
 use Rattle.sh_token_pieces.specs.Characters.{Written, plain, raw, ahead, next_is}
@@ -16,7 +16,7 @@ use Rattle.sh_token_pieces.specs.Growth.{may_grow}
 use Rattle.sh_token_pieces.specs.declared.head.Head.{Head}
 use Rattle.sh_token_pieces.specs.declared.operator.Operator.{Operator}
 use Rattle.sh_token_pieces.specs.Heads.{head_of}
-use Rattle.sh_token_pieces.specs.Marks.{IsMark, AreMarks, behind, contexts_behind, ends_token, ends_none, ends_word, same_as, in_word, is_text, is_body, is_word, top_of, between_tokens, is_arithmetic, is_parenthesis, parenthesized, is_quoted, braces_of, has_single_quotes, is_backquoted, is_gap, levels, due_in, with_token, word_over, word_begins}
+use Rattle.sh_token_pieces.specs.Pieces.{IsPiece, ArePieces, behind, contexts_behind, ends_token, ends_none, ends_word, same_as, in_word, is_text, is_body, is_word, top_of, between_tokens, is_arithmetic, is_parenthesis, behind_byte, is_quoted, braces_of, has_single_quotes, is_backquoted, is_gap, levels, due_in, with_token, word_over, word_begins}
 use Rattle.sh_token_pieces.specs.TokenClasses.{Told, OfOperator, OfWord, OfBodies, class_of_word}
 use Rattle.sh_token_grammar.specs.Levels.{begins_compound}
 use Rattle.sh_token.specs.Tokens.{begins_join, Joined, IsToken, word, OpensLevel, Exceeds, OpensTooMany, form, operator}
@@ -29,25 +29,25 @@ use Rattle.sh_token.proofs.Grounds.{free, free_contexts, never_text, never_body,
 use Rattle.sh_token.proofs.Leads.{begun, settled}
 use Rattle.sh_token.proofs.Inner.{Inside, inside_behind}
 use Rattle.sh_token.proofs.Gaps.{behind_open, word_kind_of}
-use Rattle.sh_token.proofs.WordStarts.{parts, contexts_parts, ends_front, word_placed}
+use Rattle.sh_token.proofs.WordStarts.{parts, contexts_parts, ends_prefix, word_placed}
 
 -- one piece more
-pub marks_snoc : (e : Bool) (limit : ℕ) (ms done : List Mark) (xs : List Context) (x : Context) (ys : List Context) (m : Mark) (bytes mid after : List ℕ) → AreMarks e limit done xs ms bytes mid
-    → contexts_behind done xs ms ≡ x ∷ ys → IsMark e limit (done ++ ms) x ys m mid after → AreMarks e limit done xs (ms ++ m ∷ []) bytes after
-marks_snoc e limit [] done xs x ys m bytes mid after a k i =
-    subst (λ z. AreMarks e limit done z (m ∷ []) bytes after) (sym k)
-    (subst (λ b. AreMarks e limit done (x ∷ ys) (m ∷ []) b after) (sym a) (after, subst (λ d. IsMark e limit d x ys m mid after) (append-nil done) i, refl))
-marks_snoc e limit (n ∷ ms) done [] x ys m bytes mid after a k i = absurd a
-marks_snoc e limit (n ∷ ms) done (z ∷ zs) x ys m bytes mid after a k i = (a.0, a.1, marks_snoc e limit ms (done ++ n ∷ []) (behind done z zs n) x ys m a.0 mid after a.2 k (subst (λ d. IsMark e limit d x ys m mid after) (sym (append_assoc done (n ∷ []) ms)) i))
+pub are_pieces_snoc : (e : Bool) (limit : ℕ) (ms done : List Piece) (xs : List Context) (x : Context) (ys : List Context) (m : Piece) (bytes mid after : List ℕ) → ArePieces e limit done xs ms bytes mid
+    → contexts_behind done xs ms ≡ x ∷ ys → IsPiece e limit (done ++ ms) x ys m mid after → ArePieces e limit done xs (ms ++ m ∷ []) bytes after
+are_pieces_snoc e limit [] done xs x ys m bytes mid after a k i =
+    subst (λ z. ArePieces e limit done z (m ∷ []) bytes after) (sym k)
+    (subst (λ b. ArePieces e limit done (x ∷ ys) (m ∷ []) b after) (sym a) (after, subst (λ d. IsPiece e limit d x ys m mid after) (append-nil done) i, refl))
+are_pieces_snoc e limit (n ∷ ms) done [] x ys m bytes mid after a k i = absurd a
+are_pieces_snoc e limit (n ∷ ms) done (z ∷ zs) x ys m bytes mid after a k i = (a.0, a.1, are_pieces_snoc e limit ms (done ++ n ∷ []) (behind done z zs n) x ys m a.0 mid after a.2 k (subst (λ d. IsPiece e limit d x ys m mid after) (sym (append_assoc done (n ∷ []) ms)) i))
 
-pub contexts_snoc : (ms done : List Mark) (xs : List Context) (x : Context) (ys : List Context) (m : Mark) → contexts_behind done xs ms ≡ x ∷ ys
+pub contexts_snoc : (ms done : List Piece) (xs : List Context) (x : Context) (ys : List Context) (m : Piece) → contexts_behind done xs ms ≡ x ∷ ys
     → contexts_behind done xs (ms ++ m ∷ []) ≡ behind (done ++ ms) x ys m
 contexts_snoc [] done xs x ys m k =
     subst (λ z. contexts_behind done z (m ∷ []) ≡ behind (done ++ []) x ys m) (sym k) (ap (λ d. behind d x ys m) (sym (append-nil done)))
 contexts_snoc (n ∷ ms) done [] x ys m k = absurd (cc)
 contexts_snoc (n ∷ ms) done (z ∷ zs) x ys m k = contexts_snoc ms (done ++ n ∷ []) (behind done z zs n) x ys m k ∙ ap (λ d. behind d x ys m) (append_assoc done (n ∷ []) ms)
 
-ends_snoc : (ms done : List Mark) (xs : List Context) (x : Context) (ys : List Context) (m : Mark) → ends_none done xs ms ≡ true → contexts_behind done xs ms ≡ x ∷ ys
+ends_snoc : (ms done : List Piece) (xs : List Context) (x : Context) (ys : List Context) (m : Piece) → ends_none done xs ms ≡ true → contexts_behind done xs ms ≡ x ∷ ys
     → ends_token m (behind (done ++ ms) x ys m) ≡ false → ends_none done xs (ms ++ m ∷ []) ≡ true
 ends_snoc [] done xs x ys m h k t =
     subst (λ z. ends_none done z (m ∷ []) ≡ true) (sym k)
@@ -116,11 +116,11 @@ no_join_at b (c ∷ cs) h = rw h refl
 
 -- what is read: the first word behind a gap, or a body
 pub data Subject : Type 0 where
-  WordBehind : (gap : List Mark) → Subject
+  WordBehind : (gap : List Piece) → Subject
   WholeBody : Subject
 
 -- the pieces before it, the contexts that it begins in, its pieces by those behind its beginning
-abbrev pub gap_of : Subject → List Mark
+abbrev pub gap_of : Subject → List Piece
 gap_of (WordBehind gap) = gap
 gap_of WholeBody = []
 
@@ -128,7 +128,7 @@ abbrev pub ground_of : Subject → List Context
 ground_of (WordBehind gap) = Top ∷ []
 ground_of WholeBody = Body ∷ []
 
-abbrev pub pieces_of : Subject → List Mark → List Mark
+abbrev pub pieces_of : Subject → List Piece → List Piece
 pieces_of (WordBehind gap) ms = WordOpen ∷ ms
 pieces_of WholeBody ms = ms
 
@@ -137,28 +137,28 @@ IsBlank (WordBehind gap) = list_all is_gap gap ≡ true
 IsBlank WholeBody = Unit {0}
 
 -- it is over, these being the pieces; a body is so only at the end of the input
-abbrev pub IsOver : Bool → ℕ → Subject → List ℕ → List ℕ → List Mark → Type 0
-IsOver e limit (WordBehind gap) front rest done = IsToken e limit gap front rest (kind_of done)
-IsOver e limit WholeBody front rest done = ⊥
+abbrev pub IsOver : Bool → ℕ → Subject → List ℕ → List ℕ → List Piece → Type 0
+IsOver e limit (WordBehind gap) prefix rest done = IsToken e limit gap prefix rest (kind_of done)
+IsOver e limit WholeBody prefix rest done = ⊥
 
-pieces_snoc : (g : Subject) (ms : List Mark) (m : Mark) → pieces_of g (ms ++ m ∷ []) ≡ pieces_of g ms ++ m ∷ []
+pieces_snoc : (g : Subject) (ms : List Piece) (m : Piece) → pieces_of g (ms ++ m ∷ []) ≡ pieces_of g ms ++ m ∷ []
 pieces_snoc (WordBehind gap) ms m = refl
 pieces_snoc WholeBody ms m = refl
 
-pieces_parts : (g : Subject) (ms : List Mark) (m : Mark) (ns : List Mark) → pieces_of g (ms ++ m ∷ ns) ≡ pieces_of g ms ++ m ∷ ns
+pieces_parts : (g : Subject) (ms : List Piece) (m : Piece) (ns : List Piece) → pieces_of g (ms ++ m ∷ ns) ≡ pieces_of g ms ++ m ∷ ns
 pieces_parts (WordBehind gap) ms m ns = refl
 pieces_parts WholeBody ms m ns = refl
 
 module _ (subject : Subject) where
   -- a word of a substitution that is open began behind these pieces
-  pub record Since (inner : List Mark) (n : ℕ) (ys : List Context) : Type 0 where
-    pub before : List Mark
-    pub marks : List Mark
-    pub is : inner ≡ before ++ WordOpen ∷ marks
+  pub record Since (inner : List Piece) (n : ℕ) (ys : List Context) : Type 0 where
+    pub before : List Piece
+    pub pieces : List Piece
+    pub is : inner ≡ before ++ WordOpen ∷ pieces
     pub place : length (gap_of subject ++ pieces_of subject before) ≡ n
     pub there : contexts_behind (gap_of subject) (ground_of subject) (pieces_of subject before) ≡ ys
 
-  abbrev pub Opened : List Mark → List Context → Type 0
+  abbrev pub Opened : List Piece → List Context → Type 0
   Opened inner [] = Unit {0}
   Opened inner (Top ∷ ys) = Opened inner ys
   Opened inner (Commands ts ∷ ys) = Opened inner ys
@@ -169,10 +169,10 @@ module _ (subject : Subject) where
   Opened inner (Parenthesis ∷ ys) = Opened inner ys
   Opened inner (Body ∷ ys) = Opened inner ys
 
-  module _ (inner : List Mark) (m : Mark) where
+  module _ (inner : List Piece) (m : Piece) where
     since_on : (n : ℕ) (ys : List Context) → Since inner n ys → Since (inner ++ m ∷ []) n ys
     since_on n ys s =
-        record { before = s.before; marks = s.marks ++ m ∷ []; is = ap (λ z. z ++ m ∷ []) s.is ∙ append_assoc s.before (WordOpen ∷ s.marks) (m ∷ []); place = s.place; there = s.there }
+        record { before = s.before; pieces = s.pieces ++ m ∷ []; is = ap (λ z. z ++ m ∷ []) s.is ∙ append_assoc s.before (WordOpen ∷ s.pieces) (m ∷ []); place = s.place; there = s.there }
 
     opened_on : (xs : List Context) → Opened inner xs → Opened (inner ++ m ∷ []) xs
     opened_on [] o = o
@@ -185,7 +185,7 @@ module _ (subject : Subject) where
     opened_on (Parenthesis ∷ ys) o = opened_on ys o
     opened_on (Body ∷ ys) o = opened_on ys o
 
-  module _ (inner : List Mark) where
+  module _ (inner : List Piece) where
     opened_below : (x : Context) (xs : List Context) → Opened inner (x ∷ xs) → Opened inner xs
     opened_below Top xs o = o
     opened_below (Commands ts) xs o = o
@@ -207,7 +207,7 @@ module _ (subject : Subject) where
     opened_token c (Parenthesis ∷ xs) o = o
     opened_token c (Body ∷ xs) o = o
 
-    opened_close : (r : Bool) (done : List Mark) (x : Context) (xs : List Context) → Opened inner (x ∷ xs) → Opened inner (word_over r done (x ∷ xs))
+    opened_close : (r : Bool) (done : List Piece) (x : Context) (xs : List Context) → Opened inner (x ∷ xs) → Opened inner (word_over r done (x ∷ xs))
     opened_close r done Top xs o = o
     opened_close r done (Commands ts) xs o = o
     opened_close r done (Word n) xs o = opened_token (OfWord r (drop (suc n) done)) xs o.1
@@ -217,7 +217,7 @@ module _ (subject : Subject) where
     opened_close r done Parenthesis xs o = o
     opened_close r done Body xs o = o
 
-    opened_byte : (b : ℕ) (x : Context) (xs : List Context) → Opened inner (x ∷ xs) → Opened inner (parenthesized b x xs)
+    opened_byte : (b : ℕ) (x : Context) (xs : List Context) → Opened inner (x ∷ xs) → Opened inner (behind_byte b x xs)
     opened_byte b x xs o = go (nat_eq b 40 && (is_arithmetic x || is_parenthesis x)) (nat_eq b 41 && is_parenthesis x)
       where
         go : (c d : Bool) → Opened inner (cond c (Parenthesis ∷ x ∷ xs) (cond d xs (x ∷ xs)))
@@ -229,7 +229,7 @@ module _ (subject : Subject) where
     opened_braces None q xs o = o
     opened_braces (Some h) q xs o = o
 
-  opened_behind : (inner done : List Mark) (x : Context) (xs : List Context) (m : Mark) → gap_of subject ++ pieces_of subject inner ≡ done → contexts_behind (gap_of subject) (ground_of subject) (pieces_of subject inner) ≡ x ∷ xs
+  opened_behind : (inner done : List Piece) (x : Context) (xs : List Context) (m : Piece) → gap_of subject ++ pieces_of subject inner ≡ done → contexts_behind (gap_of subject) (ground_of subject) (pieces_of subject inner) ≡ x ∷ xs
       → Opened (inner ++ m ∷ []) (x ∷ xs) → Opened (inner ++ m ∷ []) (behind done x xs m)
   opened_behind inner done x xs (Byte b) i k o = opened_byte (inner ++ Byte b ∷ []) b x xs o
   opened_behind inner done x xs (Escaped b) i k o = o
@@ -247,25 +247,25 @@ module _ (subject : Subject) where
   opened_behind inner done x xs CommandsOpen i k o = o
   opened_behind inner done x xs CommandsClose i k o = opened_below (inner ++ CommandsClose ∷ []) x xs o
   opened_behind inner done x xs (Backquoted bs) i k o = o
-  opened_behind inner done x xs WordOpen i k o = ((λ t. record { before = inner; marks = []; is = refl; place = ap length i; there = k }), o)
+  opened_behind inner done x xs WordOpen i k o = ((λ t. record { before = inner; pieces = []; is = refl; place = ap length i; there = k }), o)
   opened_behind inner done x xs (WordClose r) i k o = opened_close (inner ++ WordClose r ∷ []) r done x xs o
   opened_behind inner done x xs (Blank b) i k o = o
   opened_behind inner done x xs (Comment bs) i k o = o
   opened_behind inner done x xs (Bodies bs) i k o = opened_token (inner ++ Bodies bs ∷ []) OfBodies (x ∷ xs) o
-  opened_behind inner done x xs (Mark.Operator q) i k o = opened_token (inner ++ Mark.Operator q ∷ []) (OfOperator q) (x ∷ xs) o
+  opened_behind inner done x xs (Piece.Operator q) i k o = opened_token (inner ++ Piece.Operator q ∷ []) (OfOperator q) (x ∷ xs) o
 
-module _ (e : Bool) (limit : ℕ) (subject : Subject) (front : List ℕ) where
+module _ (e : Bool) (limit : ℕ) (subject : Subject) (prefix : List ℕ) where
   -- the pieces so far
-  pub record Path (done : List Mark) (xs : List Context) (mid : List ℕ) : Type 0 where
-    pub inner : List Mark
+  pub record Path (done : List Piece) (xs : List Context) (mid : List ℕ) : Type 0 where
+    pub inner : List Piece
     pub is : gap_of subject ++ pieces_of subject inner ≡ done
-    pub walked : AreMarks e limit (gap_of subject) (ground_of subject) (pieces_of subject inner) front mid
+    pub walked : ArePieces e limit (gap_of subject) (ground_of subject) (pieces_of subject inner) prefix mid
     pub going : ends_none (gap_of subject) (ground_of subject) (pieces_of subject inner) ≡ true
     pub contexts : contexts_behind (gap_of subject) (ground_of subject) (pieces_of subject inner) ≡ xs
     pub inside : Inside xs
     pub opened : Opened subject inner xs
 
-  pub path_on : (done : List Mark) (x : Context) (xs : List Context) (m : Mark) (mid after : List ℕ) → Path done (x ∷ xs) mid → IsMark e limit done x xs m mid after
+  pub path_on : (done : List Piece) (x : Context) (xs : List Context) (m : Piece) (mid after : List ℕ) → Path done (x ∷ xs) mid → IsPiece e limit done x xs m mid after
       → ends_token m (behind done x xs m) ≡ false → Path (done ++ m ∷ []) (behind done x xs m) after
   path_on done x xs m mid after p i h =
       let gap = gap_of subject in
@@ -275,7 +275,7 @@ module _ (e : Bool) (limit : ℕ) (subject : Subject) (front : List ℕ) where
       record {
         inner = p.inner ++ m ∷ [];
         is = ap (λ z. gap ++ z) s ∙ (sym (append_assoc gap ms (m ∷ [])) ∙ ap (λ d. d ++ m ∷ []) p.is);
-        walked = subst (λ z. AreMarks e limit gap ground z front after) (sym s) (marks_snoc e limit ms gap ground x xs m front mid after p.walked p.contexts (subst (λ d. IsMark e limit d x xs m mid after) (sym p.is) i));
+        walked = subst (λ z. ArePieces e limit gap ground z prefix after) (sym s) (are_pieces_snoc e limit ms gap ground x xs m prefix mid after p.walked p.contexts (subst (λ d. IsPiece e limit d x xs m mid after) (sym p.is) i));
         going = subst (λ z. ends_none gap ground z ≡ true) (sym s) (ends_snoc ms gap ground x xs m p.going p.contexts (ap (λ d. ends_token m (behind d x xs m)) p.is ∙ h));
         contexts = ap (contexts_behind gap ground) s ∙ (contexts_snoc ms gap ground x xs m p.contexts ∙ ap (λ d. behind d x xs m) p.is);
         inside = inside_behind e limit done x xs m mid after p.inside i h;
@@ -285,7 +285,7 @@ module _ (e : Bool) (limit : ℕ) (subject : Subject) (front : List ℕ) where
   -- a state within it, where the text is m
   pub record At (t : State) (previous m : List ℕ) : Type 0 where
     pub xs : List Context
-    pub done : List Mark
+    pub done : List Piece
     pub pending : Pending
     pub acc : List ℕ
     pub mid : List ℕ
@@ -296,17 +296,17 @@ module _ (e : Bool) (limit : ℕ) (subject : Subject) (front : List ℕ) where
 
   -- level 501 opens there
   pub record DeepHere (place : List ℕ) : Type 0 where
-    pub marks : List Mark
+    pub pieces : List Piece
     pub last : List ℕ
-    pub before : AreMarks e limit (gap_of subject) (ground_of subject) (pieces_of subject marks) front last
-    pub going : ends_none (gap_of subject) (ground_of subject) (pieces_of subject marks) ≡ true
+    pub before : ArePieces e limit (gap_of subject) (ground_of subject) (pieces_of subject pieces) prefix last
+    pub going : ends_none (gap_of subject) (ground_of subject) (pieces_of subject pieces) ≡ true
     pub placed : Joined last place
-    pub opens : OpensTooMany e limit (gap_of subject ++ pieces_of subject marks) place (contexts_behind (gap_of subject) (ground_of subject) (pieces_of subject marks))
+    pub opens : OpensTooMany e limit (gap_of subject ++ pieces_of subject pieces) place (contexts_behind (gap_of subject) (ground_of subject) (pieces_of subject pieces))
 
-  opens_here : (done : List Mark) (xs : List Context) (mid place : List ℕ) → Path done xs mid → Joined mid place → OpensTooMany e limit done place xs → DeepHere place
+  opens_here : (done : List Piece) (xs : List Context) (mid place : List ℕ) → Path done xs mid → Joined mid place → OpensTooMany e limit done place xs → DeepHere place
   opens_here done xs mid place p j o =
       record {
-        marks = p.inner;
+        pieces = p.inner;
         last = mid;
         before = p.walked;
         going = p.going;
@@ -315,11 +315,11 @@ module _ (e : Bool) (limit : ℕ) (subject : Subject) (front : List ℕ) where
             (subst (OpensTooMany e limit done place) (sym p.contexts) o);
       }
 
-  pub deep_here : (done : List Mark) (xs : List Context) (mid place : List ℕ) → Path done xs mid → nat_lt (levels xs) limit ≡ false → in_word (top_of xs) ≡ true → Joined mid place
+  pub deep_here : (done : List Piece) (xs : List Context) (mid place : List ℕ) → Path done xs mid → nat_lt (levels xs) limit ≡ false → in_word (top_of xs) ≡ true → Joined mid place
       → OpensLevel e place → DeepHere place
   deep_here done xs mid place p f w j o = opens_here done xs mid place p j (form xs w f o)
 
-  pub operator_here : (done : List Mark) (x : Context) (xs : List Context) (mid place : List ℕ) (o : Operator) → Path done (x ∷ xs) mid → Joined mid place → Exceeds e limit done x xs (Mark.Operator o) place → DeepHere place
+  pub operator_here : (done : List Piece) (x : Context) (xs : List Context) (mid place : List ℕ) (o : Operator) → Path done (x ∷ xs) mid → Joined mid place → Exceeds e limit done x xs (Piece.Operator o) place → DeepHere place
   operator_here done x xs mid place o p j d = opens_here done (x ∷ xs) mid place p j (operator o x xs d)
 
   -- somewhere
@@ -327,50 +327,50 @@ module _ (e : Bool) (limit : ℕ) (subject : Subject) (front : List ℕ) where
     pub place : List ℕ
     pub here : DeepHere place
 
-  since_here : (done : List Mark) (n : ℕ) (ys : List Context) (mid : List ℕ) (r : Bool) → Path done (Word n ∷ ys) mid → (inner before marks : List Mark) → inner ≡ before ++ WordOpen ∷ marks
+  since_here : (done : List Piece) (n : ℕ) (ys : List Context) (mid : List ℕ) (r : Bool) → Path done (Word n ∷ ys) mid → (inner before pieces : List Piece) → inner ≡ before ++ WordOpen ∷ pieces
       → length (gap_of subject ++ pieces_of subject before) ≡ n → contexts_behind (gap_of subject) (ground_of subject) (pieces_of subject before) ≡ ys → gap_of subject ++ pieces_of subject inner ≡ done
-      → AreMarks e limit (gap_of subject) (ground_of subject) (pieces_of subject inner) front mid → ends_none (gap_of subject) (ground_of subject) (pieces_of subject inner) ≡ true
+      → ArePieces e limit (gap_of subject) (ground_of subject) (pieces_of subject inner) prefix mid → ends_none (gap_of subject) (ground_of subject) (pieces_of subject inner) ≡ true
       → contexts_behind (gap_of subject) (ground_of subject) (pieces_of subject inner) ≡ Word n ∷ ys → Exceeds e limit done (Word n) ys (WordClose r) mid → DeepSome
-  since_here done n ys mid r p inner before marks i l t s a g k d =
+  since_here done n ys mid r p inner before pieces i l t s a g k d =
       let gap = gap_of subject in
       let ground = ground_of subject in
       let ms = pieces_of subject before in
-      let all : pieces_of subject inner ≡ ms ++ WordOpen ∷ marks = ap (pieces_of subject) i ∙ pieces_parts subject before WordOpen marks in
-      let is : done ≡ (gap ++ ms) ++ WordOpen ∷ marks = sym s ∙ (ap (λ z. gap ++ z) all ∙ sym (append_assoc gap ms (WordOpen ∷ marks))) in
-      let q = parts e limit ms (WordOpen ∷ marks) gap ground front mid (subst (λ z. AreMarks e limit gap ground z front mid) all a) in
-      let c : contexts_behind (gap ++ ms) ys (WordOpen ∷ marks) ≡ Word (length (gap ++ ms)) ∷ ys =
-      ap (λ z. contexts_behind (gap ++ ms) z (WordOpen ∷ marks)) (sym t)
-      ∙ (sym (contexts_parts ms (WordOpen ∷ marks) gap ground) ∙ (ap (contexts_behind gap ground) (sym all) ∙ (k ∙ ap (λ z. Word z ∷ ys) (sym l))))
+      let all : pieces_of subject inner ≡ ms ++ WordOpen ∷ pieces = ap (pieces_of subject) i ∙ pieces_parts subject before WordOpen pieces in
+      let is : done ≡ (gap ++ ms) ++ WordOpen ∷ pieces = sym s ∙ (ap (λ z. gap ++ z) all ∙ sym (append_assoc gap ms (WordOpen ∷ pieces))) in
+      let q = parts e limit ms (WordOpen ∷ pieces) gap ground prefix mid (subst (λ z. ArePieces e limit gap ground z prefix mid) all a) in
+      let c : contexts_behind (gap ++ ms) ys (WordOpen ∷ pieces) ≡ Word (length (gap ++ ms)) ∷ ys =
+      ap (λ z. contexts_behind (gap ++ ms) z (WordOpen ∷ pieces)) (sym t)
+      ∙ (sym (contexts_parts ms (WordOpen ∷ pieces) gap ground) ∙ (ap (contexts_behind gap ground) (sym all) ∙ (k ∙ ap (λ z. Word z ∷ ys) (sym l))))
       in
-      let w : Exceeds e limit ((gap ++ ms) ++ WordOpen ∷ marks) (Word (length (gap ++ ms))) ys (WordClose r) mid =
-      subst (λ z. Exceeds e limit ((gap ++ ms) ++ WordOpen ∷ marks) (Word z) ys (WordClose r) mid) (sym l) (subst (λ z. Exceeds e limit z (Word n) ys (WordClose r) mid) is d)
+      let w : Exceeds e limit ((gap ++ ms) ++ WordOpen ∷ pieces) (Word (length (gap ++ ms))) ys (WordClose r) mid =
+      subst (λ z. Exceeds e limit ((gap ++ ms) ++ WordOpen ∷ pieces) (Word z) ys (WordClose r) mid) (sym l) (subst (λ z. Exceeds e limit z (Word n) ys (WordClose r) mid) is d)
       in
-      let b = (and_true (word_begins r ((gap ++ ms) ++ WordOpen ∷ marks) (Word (length (gap ++ ms)))) (nat_lt limit (levels (behind ((gap ++ ms) ++ WordOpen ∷ marks) (Word (length (gap ++ ms))) ys (WordClose r)))) w.exceeds).0 in
-      let h = ap (λ z. begins_compound (class_of_word r z)) (sym (behind_open (gap ++ ms) marks)) ∙ b in
-      let x = word_placed e limit (gap ++ ms) ys r q.middle mid marks h (subst (λ z. AreMarks e limit (gap ++ ms) z (WordOpen ∷ marks) q.middle mid) t q.right) c w in
+      let b = (and_true (word_begins r ((gap ++ ms) ++ WordOpen ∷ pieces) (Word (length (gap ++ ms)))) (nat_lt limit (levels (behind ((gap ++ ms) ++ WordOpen ∷ pieces) (Word (length (gap ++ ms))) ys (WordClose r)))) w.exceeds).0 in
+      let h = ap (λ z. begins_compound (class_of_word r z)) (sym (behind_open (gap ++ ms) pieces)) ∙ b in
+      let x = word_placed e limit (gap ++ ms) ys r q.middle mid pieces h (subst (λ z. ArePieces e limit (gap ++ ms) z (WordOpen ∷ pieces) q.middle mid) t q.right) c w in
       record {
         place = x.place;
         here = record {
-          marks = before;
+          pieces = before;
           last = q.middle;
           before = q.left;
-          going = ends_front ms (WordOpen ∷ marks) gap ground (subst (λ z. ends_none gap ground z ≡ true) all g);
+          going = ends_prefix ms (WordOpen ∷ pieces) gap ground (subst (λ z. ends_none gap ground z ≡ true) all g);
           placed = x.joined;
           opens = subst (OpensTooMany e limit (gap ++ ms) x.place) (sym t) x.opens;
         };
       }
 
   -- the word that is over there
-  pub word_here : (done : List Mark) (n : ℕ) (ys : List Context) (mid : List ℕ) (r : Bool) → Path done (Word n ∷ ys) mid → is_text (top_of ys) ≡ false → Exceeds e limit done (Word n) ys (WordClose r) mid → DeepSome
+  pub word_here : (done : List Piece) (n : ℕ) (ys : List Context) (mid : List ℕ) (r : Bool) → Path done (Word n ∷ ys) mid → is_text (top_of ys) ≡ false → Exceeds e limit done (Word n) ys (WordClose r) mid → DeepSome
   word_here done n ys mid r p t d =
       let s = p.opened.0 t in
-      since_here done n ys mid r p p.inner s.before s.marks s.is s.place s.there p.is p.walked p.going p.contexts d
+      since_here done n ys mid r p p.inner s.before s.pieces s.is s.place s.there p.is p.walked p.going p.contexts d
 
   -- what a character makes of it: `begin` is where it begins, `m` what it was read of
   abbrev pub Onward : Stepped → List ℕ → List ℕ → List ℕ → List ℕ → Type 0
   Onward (On t) previous begin m rest = At t begin rest
-  Onward (Before t) previous begin m rest = IsOver e limit subject front m t.done
-  Onward (After t) previous begin m rest = IsOver e limit subject front rest t.done
+  Onward (Before t) previous begin m rest = IsOver e limit subject prefix m t.done
+  Onward (After t) previous begin m rest = IsOver e limit subject prefix rest t.done
   Onward (TooDeep t) previous begin m rest = DeepSome
   Onward (DollarTooDeep t) previous begin m rest = DeepHere previous
   Onward (WordTooDeep t) previous begin m rest = DeepSome
@@ -384,28 +384,28 @@ module _ (e : Bool) (limit : ℕ) (subject : Subject) (front : List ℕ) where
   either false x y previous begin m rest t u = u refl
 
   -- a state with nothing begun
-  pub settled_at : (t : State) (done : List Mark) (xs : List Context) (previous begin m rest : List ℕ) → t ≡ settled limit done xs → Path done xs rest → Going (On t) previous begin m rest
+  pub settled_at : (t : State) (done : List Piece) (xs : List Context) (previous begin m rest : List ℕ) → t ≡ settled limit done xs → Path done xs rest → Going (On t) previous begin m rest
   settled_at t done xs previous begin m rest w p =
       record { it = record { xs = xs; done = done; pending = Pending.Nothing; acc = []; mid = rest; is = w; path = p; held = (refl, refl); preceded = tt } }
 
 -- the end of a word of the text itself
-pub final_word : (e : Bool) (limit : ℕ) (subject : Subject) (front : List ℕ) (done : List Mark) (x : Context) (xs : List Context) (r : Bool) (mid rest : List ℕ) → IsBlank subject → Path e limit subject front done (x ∷ xs) mid
-    → IsMark e limit done x xs (WordClose r) mid rest → is_text (top_of xs) ≡ true → IsOver e limit subject front rest (done ++ WordClose r ∷ [])
-final_word e limit (WordBehind gap) front done x xs r mid rest h p i t =
-    subst (λ k. IsToken e limit gap front rest k) (sym (ap (λ d. kind_of (d ++ WordClose r ∷ [])) (sym p.is ∙ sym (append_assoc gap (WordOpen ∷ []) p.inner)) ∙ word_kind_of gap p.inner r h))
-    (word p.inner r x xs mid p.walked p.going p.contexts (subst (λ z. IsMark e limit z x xs (WordClose r) mid rest) (sym p.is) i) t)
-final_word e limit WholeBody front done x xs r mid rest h p i t =
+pub final_word : (e : Bool) (limit : ℕ) (subject : Subject) (prefix : List ℕ) (done : List Piece) (x : Context) (xs : List Context) (r : Bool) (mid rest : List ℕ) → IsBlank subject → Path e limit subject prefix done (x ∷ xs) mid
+    → IsPiece e limit done x xs (WordClose r) mid rest → is_text (top_of xs) ≡ true → IsOver e limit subject prefix rest (done ++ WordClose r ∷ [])
+final_word e limit (WordBehind gap) prefix done x xs r mid rest h p i t =
+    subst (λ k. IsToken e limit gap prefix rest k) (sym (ap (λ d. kind_of (d ++ WordClose r ∷ [])) (sym p.is ∙ sym (append_assoc gap (WordOpen ∷ []) p.inner)) ∙ word_kind_of gap p.inner r h))
+    (word p.inner r x xs mid p.walked p.going p.contexts (subst (λ z. IsPiece e limit z x xs (WordClose r) mid rest) (sym p.is) i) t)
+final_word e limit WholeBody prefix done x xs r mid rest h p i t =
     let f = subst (λ ys. free is_text ys ≡ true) p.contexts (free_contexts is_text never_text p.inner [] (Body ∷ []) refl) in
     absurd (no_token_over x xs f p.inside.order (and_true (is_word x) (ends_word (ahead e rest) && same_as r (next_is is_redirection (ahead e rest))) i.fits).0 t)
 
 -- no body is below a word
-pub no_body : (e : Bool) (limit : ℕ) (gap : List Mark) (front : List ℕ) (done : List Mark) (xs : List Context) (mid : List ℕ) → Path e limit (WordBehind gap) front done (Body ∷ xs) mid → ⊥
-no_body e limit gap front done xs mid p =
+pub no_body : (e : Bool) (limit : ℕ) (gap : List Piece) (prefix : List ℕ) (done : List Piece) (xs : List Context) (mid : List ℕ) → Path e limit (WordBehind gap) prefix done (Body ∷ xs) mid → ⊥
+no_body e limit gap prefix done xs mid p =
     let f : free is_body (Body ∷ xs) ≡ true = subst (λ ys. free is_body ys ≡ true) p.contexts (free_contexts is_body never_body (WordOpen ∷ p.inner) gap (Top ∷ []) refl) in
     absurd (cc)
 
 -- where the run of a first word comes to
-abbrev pub Shown : (e : Bool) (limit : ℕ) (gap : List Mark) (front : List ℕ) → Scanned → Type 0
-Shown e limit gap front (Ended k f r) = (f ≡ front) × IsToken e limit gap front r (kind_of k.done)
-Shown e limit gap front (Deep r) = DeepSome e limit (WordBehind gap) front
-Shown e limit gap front (Open f) = Unit {0}
+abbrev pub Shown : (e : Bool) (limit : ℕ) (gap : List Piece) (prefix : List ℕ) → Scanned → Type 0
+Shown e limit gap prefix (Ended k f r) = (f ≡ prefix) × IsToken e limit gap prefix r (kind_of k.done)
+Shown e limit gap prefix (Deep r) = DeepSome e limit (WordBehind gap) prefix
+Shown e limit gap prefix (Open f) = Unit {0}

@@ -9,16 +9,16 @@ use Rattle.sh_token_pieces.specs.declared.character.Character.TheVariants.{Plain
 use Rattle.sh_token_pieces.specs.declared.head.Head.{Head}
 use Rattle.sh_token_pieces.specs.declared.context.Context.{Context}
 use Rattle.sh_token_pieces.specs.declared.context.Context.TheVariants.{Top, Commands, Word, Quotes, Braces, Arithmetic, Parenthesis, Body}
-use Rattle.sh_token_pieces.specs.declared.mark.Mark.{Mark}
-use Rattle.sh_token_pieces.specs.declared.mark.Mark.TheVariants.{Byte, Escaped, Backslash, SingleQuoted, DoubleQuotesOpen, DoubleQuotesClose, Dollar, Variable, Parameter, BraceOpen, BraceClose, ArithmeticOpen, ArithmeticClose, CommandsOpen, Backquoted}
+use Rattle.sh_token_pieces.specs.declared.piece.Piece.{Piece}
+use Rattle.sh_token_pieces.specs.declared.piece.Piece.TheVariants.{Byte, Escaped, Backslash, SingleQuoted, DoubleQuotesOpen, DoubleQuotesClose, Dollar, Variable, Parameter, BraceOpen, BraceClose, ArithmeticOpen, ArithmeticClose, CommandsOpen, Backquoted}
 use Rattle.sh_token_pieces.specs.declared.pending.Pending.{Pending}
 use Rattle.sh_token_pieces.specs.Bytes.{is_special, is_short_parameter, is_form, is_no_quote}
 use Rattle.sh_token_pieces.specs.Characters.{Reads, Written, plain, raw, Ahead, Next, ahead, next_is}
 use Rattle.sh_token_pieces.specs.Pendings.{is_raw}
 use Rattle.sh_token_pieces.specs.Heads.{head_of, grown_head, is_some_head, grows_head, reads_bare}
 use Rattle.sh_token_pieces.specs.Nested.{none_yet}
-use Rattle.sh_token_pieces.specs.Marks.{stands, quotes, in_word, is_text, is_body, is_word, is_quotes, is_braces, is_arithmetic, has_single_quotes, has_double_quotes, is_quoted, is_backquoted, is_head, braces_of, parenthesized, levels, compounds_in}
-use Rattle.sh_token.specs.Machine.{State, On, step, opens, inner_byte, word_byte, plain_byte, form_byte, after_dollar, after_parenthesis, in_name, headed, in_head, in_single, in_backquotes, at_parenthesis, same}
+use Rattle.sh_token_pieces.specs.Pieces.{stands, quotes, in_word, is_text, is_body, is_word, is_quotes, is_braces, is_arithmetic, has_single_quotes, has_double_quotes, is_quoted, is_backquoted, is_head, braces_of, behind_byte, levels, compounds_in}
+use Rattle.sh_token.specs.Machine.{State, On, step, opens, inner_byte, word_byte, plain_byte, form_byte, after_dollar, after_parenthesis, in_name, head_byte, in_head, in_single, in_backquotes, at_parenthesis, same}
 use Rattle.sh_token.specs.Run.{is_gap_state}
 use Rattle.sh_token.proofs.Running.{is_raw_character, Alike}
 use Rattle.sh_token.proofs.Tests.{and_true, not_true, or_false, stands_in_word, word_no_text, single_in_word, double_in_word, quotes_left, braces_left, arithmetic_left, levels_opened}
@@ -73,7 +73,7 @@ quotes_level Arithmetic xs h = absurd (cc)
 quotes_level Parenthesis xs h = absurd (cc)
 quotes_level Body xs h = absurd (cc)
 
-arithmetic_closes : (limit : ℕ) (x : Context) (xs : List Context) (done : List Mark) (lv : ℕ) → is_arithmetic x ≡ true
+arithmetic_closes : (limit : ℕ) (x : Context) (xs : List Context) (done : List Piece) (lv : ℕ) → is_arithmetic x ≡ true
     → plain_byte (kept limit (x ∷ xs) done lv) 41 ≡ On (begun limit (x ∷ xs) done lv Pending.Parenthesis [])
 unfolding plain_byte word_byte inner_byte
 arithmetic_closes limit Top xs done lv h = absurd (cc)
@@ -95,7 +95,7 @@ arithmetic_level Arithmetic xs h = level_left (levels xs)
 arithmetic_level Parenthesis xs h = absurd (cc)
 arithmetic_level Body xs h = absurd (cc)
 
-pub backquote_in : (limit : ℕ) (x : Context) (xs : List Context) (done : List Mark) (lv : ℕ) → in_word x ≡ true → plain_byte (kept limit (x ∷ xs) done lv) 96 ≡ opens Pending.Backquotes (kept limit (x ∷ xs) done lv)
+pub backquote_in : (limit : ℕ) (x : Context) (xs : List Context) (done : List Piece) (lv : ℕ) → in_word x ≡ true → plain_byte (kept limit (x ∷ xs) done lv) 96 ≡ opens Pending.Backquotes (kept limit (x ∷ xs) done lv)
 unfolding plain_byte word_byte
 backquote_in limit Top xs done lv h = absurd (cc)
 backquote_in limit (Commands ts) xs done lv h = absurd (cc)
@@ -221,7 +221,7 @@ level_open limit lv h = go (nat_lt lv limit) h
     go true i = refl
     go false i = absurd (cc)
 
-pub open_on : (limit : ℕ) (p : Pending) (xs : List Context) (done : List Mark) (lv : ℕ) (q : Pending) → nat_lt lv limit ≡ true → opens p (begun limit xs done lv q []) ≡ On (begun limit xs done (suc lv) p [])
+pub open_on : (limit : ℕ) (p : Pending) (xs : List Context) (done : List Piece) (lv : ℕ) (q : Pending) → nat_lt lv limit ≡ true → opens p (begun limit xs done lv q []) ≡ On (begun limit xs done (suc lv) p [])
 open_on limit p xs done lv q h = rw h refl
 
 module _ (k e : Bool) where
@@ -230,7 +230,7 @@ module _ (k e : Bool) where
       → Leads k e s m t rest
   one s t m rest c g r w h = joined k e s t t m w.0 rest (goes k e s t m w.0 c g r w.1 h) (stay k e t w.0 rest w.2)
 
-module _ (k e : Bool) (limit : ℕ) (x : Context) (xs : List Context) (done : List Mark) where
+module _ (k e : Bool) (limit : ℕ) (x : Context) (xs : List Context) (done : List Piece) where
   abbrev lv : ℕ
   lv = levels (x ∷ xs)
 
@@ -238,7 +238,7 @@ module _ (k e : Bool) (limit : ℕ) (x : Context) (xs : List Context) (done : Li
   at_start = settled limit done (x ∷ xs)
 
   pub byte_leads : (b : ℕ) (m rest : List ℕ) → stands x b (ahead e rest) ≡ true → Written e (Plain b ∷ []) m rest
-      → Leads k e at_start m (settled limit (done ++ Byte b ∷ []) (parenthesized b x xs)) rest
+      → Leads k e at_start m (settled limit (done ++ Byte b ∷ []) (behind_byte b x xs)) rest
   unfolding at_parenthesis
   byte_leads b m rest h w = go (nat_eq b 41 && is_arithmetic x) refl
     where
@@ -262,22 +262,22 @@ module _ (k e : Bool) (limit : ℕ) (x : Context) (xs : List Context) (done : Li
             ends = λ j. rw (word_no_text x word, arithmetic_no_body x a, arithmetic_no_word x a) refl;
           }
 
-      go : (c : Bool) → (nat_eq b 41 && is_arithmetic x) ≡ c → Leads k e at_start m (settled limit (done ++ Byte b ∷ []) (parenthesized b x xs)) rest
+      go : (c : Bool) → (nat_eq b 41 && is_arithmetic x) ≡ c → Leads k e at_start m (settled limit (done ++ Byte b ∷ []) (behind_byte b x xs)) rest
       go false i =
-          subst (λ l. Leads k e at_start m (kept limit (parenthesized b x xs) (done ++ Byte b ∷ []) l) rest) (sym (levels_parenthesized limit x xs done lv b))
-          (one k e at_start (kept limit (parenthesized b x xs) (done ++ Byte b ∷ []) lv) m rest (Plain b) text refl w (byte_stood limit x xs done lv b s ∙ inner_on limit x xs done lv b i))
+          subst (λ l. Leads k e at_start m (kept limit (behind_byte b x xs) (done ++ Byte b ∷ []) l) rest) (sym (levels_parenthesized limit x xs done lv b))
+          (one k e at_start (kept limit (behind_byte b x xs) (done ++ Byte b ∷ []) lv) m rest (Plain b) text refl w (byte_stood limit x xs done lv b s ∙ inner_on limit x xs done lv b i))
       go true i =
           let t = and_true (nat_eq b 41) (is_arithmetic x) i in
           let y = eqb-true b 41 t.0 in
-          let z : parenthesized 41 x xs ≡ x ∷ xs = no_parenthesis x t.1 in
-          subst (λ b. Leads k e at_start m (settled limit (done ++ Byte b ∷ []) (parenthesized b x xs)) rest) (sym y)
+          let z : behind_byte 41 x xs ≡ x ∷ xs = no_parenthesis x t.1 in
+          subst (λ b. Leads k e at_start m (settled limit (done ++ Byte b ∷ []) (behind_byte b x xs)) rest) (sym y)
           (subst (λ ys. Leads k e at_start m (settled limit (done ++ Byte 41 ∷ []) ys) rest) (sym z)
           (joined k e at_start (over Pending.Parenthesis) (kept limit (x ∷ xs) (done ++ Byte 41 ∷ []) lv) m rest rest
           (one k e at_start (over Pending.Parenthesis) m rest (Plain b) text refl w (byte_stood limit x xs done lv b s ∙ inner_parenthesis limit x xs done lv b i))
           (same_ahead k e (over Pending.Parenthesis) (kept limit (x ∷ xs) (done ++ Byte 41 ∷ []) lv) rest (record { left = refl; right = refl; gap = sym (word_no_text x word) })
           (parenthesis t.0 t.1))))
         where
-          no_parenthesis : (y : Context) → is_arithmetic y ≡ true → parenthesized 41 y xs ≡ y ∷ xs
+          no_parenthesis : (y : Context) → is_arithmetic y ≡ true → behind_byte 41 y xs ≡ y ∷ xs
           no_parenthesis Top a = refl
           no_parenthesis (Commands ts) a = refl
           no_parenthesis (Word n) a = refl
@@ -429,7 +429,7 @@ module _ (k e : Bool) (limit : ℕ) (x : Context) (xs : List Context) (done : Li
       alike_head : Alike e false (begun limit (x ∷ xs) done (suc lv) (Pending.Head h) bs) (settled limit (done ++ BraceOpen bs ∷ []) (Braces (is_quoted x && not (reads_bare h)) ∷ x ∷ xs)) rest
       alike_head =
           record {
-            plains = λ b j. ap (λ z. headed h (begun limit (x ∷ xs) done (suc lv) (Pending.Head h) bs) b z) (no_growth h b (fails (grows_head h) (ahead e rest) b (not_true (next_is (grows_head h) (ahead e rest)) f) j));
+            plains = λ b j. ap (λ z. head_byte h (begun limit (x ∷ xs) done (suc lv) (Pending.Head h) bs) b z) (no_growth h b (fails (grows_head h) (ahead e rest) b (not_true (next_is (grows_head h) (ahead e rest)) f) j));
             quoteds = λ b j. refl;
             ends = λ j. refl;
           }

@@ -7,14 +7,14 @@ use Rattle.sh_token_pieces.specs.declared.operator.Operator.{Operator}
 use Rattle.sh_token_pieces.specs.declared.operator.Operator.TheVariants.{And, Semicolon, Pipe, Less, Great, LeftParenthesis, RightParenthesis, Newline}
 use Rattle.sh_token_pieces.specs.declared.context.Context.{Context}
 use Rattle.sh_token_pieces.specs.declared.context.Context.TheVariants.{Top, Commands, Word, Quotes, Braces, Arithmetic, Parenthesis, Body}
-use Rattle.sh_token_pieces.specs.declared.mark.Mark.{Mark}
-use Rattle.sh_token_pieces.specs.declared.mark.Mark.TheVariants.{Byte, Escaped, Backslash, DoubleQuotesOpen, DoubleQuotesClose, BraceClose}
+use Rattle.sh_token_pieces.specs.declared.piece.Piece.{Piece}
+use Rattle.sh_token_pieces.specs.declared.piece.Piece.TheVariants.{Byte, Escaped, Backslash, DoubleQuotesOpen, DoubleQuotesClose, BraceClose}
 use Rattle.sh_token_pieces.specs.declared.pending.Pending.{Pending}
 use Rattle.sh_token_pieces.specs.Bytes.{is_operator_byte, is_end}
 use Rattle.sh_token_pieces.specs.Characters.{Reads, Written, plain, Ahead, Next, InputEnd, Unknown, ahead}
 use Rattle.sh_token_pieces.specs.Operators.{operator_text}
-use Rattle.sh_token_pieces.specs.Growth.{grown, may_grow, operator_of}
-use Rattle.sh_token_pieces.specs.Marks.{stands, quotes, fits, exceeds, IsMark, behind, ends_token, in_word, is_text, between_tokens, is_word, is_quotes, is_braces, is_arithmetic, has_single_quotes, has_double_quotes, parenthesized, levels, is_some, ends_operator, is_right_parenthesis, with_token, is_newline, is_more}
+use Rattle.sh_token_pieces.specs.Growth.{longer_operator, may_grow, operator_of}
+use Rattle.sh_token_pieces.specs.Pieces.{stands, quotes, fits, exceeds, IsPiece, behind, ends_token, in_word, is_text, between_tokens, is_word, is_quotes, is_braces, is_arithmetic, has_single_quotes, has_double_quotes, behind_byte, levels, is_some, ends_operator, is_right_parenthesis, with_token, is_newline, is_more}
 use Rattle.sh_token_pieces.specs.TokenClasses.{OfOperator, class_of_operator}
 use Rattle.sh_token_grammar.specs.Levels.{begins_compound}
 use Rattle.sh_token.specs.Tokens.{Joined, OpensLevel, backquote}
@@ -91,9 +91,9 @@ right_parenthesis_byte b h g = ap (λ t. bytes_eq t (41 ∷ [])) (operator_of_te
 
 -- an operator that doesn't grow ends wherever it stands
 pub whole_operator : (o : Operator) (next : Ahead) → may_grow o ≡ false → ends_operator o next ≡ true
-whole_operator o (Next (Plain b)) h = not_false (is_some (grown o b)) (no_longer o b h)
+whole_operator o (Next (Plain b)) h = not_false (is_some (longer_operator o b)) (no_longer o b h)
   where
-    no_longer : (o : Operator) (b : ℕ) → may_grow o ≡ false → is_some (grown o b) ≡ false
+    no_longer : (o : Operator) (b : ℕ) → may_grow o ≡ false → is_some (longer_operator o b) ≡ false
     no_longer And b h = absurd (cc)
     no_longer Semicolon b h = absurd (cc)
     no_longer Pipe b h = absurd (cc)
@@ -117,82 +117,82 @@ whole_operator o (Next (Raw b)) h = refl
 whole_operator o InputEnd h = refl
 whole_operator o Unknown h = not_false (may_grow o) h
 
-module _ (e : Bool) (limit : ℕ) (subject : Subject) (front : List ℕ) (blank : IsBlank subject) (previous : List ℕ) where
+module _ (e : Bool) (limit : ℕ) (subject : Subject) (prefix : List ℕ) (blank : IsBlank subject) (previous : List ℕ) where
   -- a piece is over, with nothing begun behind it
-  pub ends_piece : (x : Context) (xs : List Context) (done : List Mark) (m : Mark) (mid rest begin start : List ℕ) (t : State) → Path e limit subject front done (x ∷ xs) mid → IsMark e limit done x xs m mid rest
-      → ends_token m (behind done x xs m) ≡ false → t ≡ settled limit (done ++ m ∷ []) (behind done x xs m) → Going e limit subject front (On t) previous begin start rest
+  pub ends_piece : (x : Context) (xs : List Context) (done : List Piece) (m : Piece) (mid rest begin start : List ℕ) (t : State) → Path e limit subject prefix done (x ∷ xs) mid → IsPiece e limit done x xs m mid rest
+      → ends_token m (behind done x xs m) ≡ false → t ≡ settled limit (done ++ m ∷ []) (behind done x xs m) → Going e limit subject prefix (On t) previous begin start rest
   ends_piece x xs done m mid rest begin start t p i h w =
-      settled_at e limit subject front t (done ++ m ∷ []) (behind done x xs m) previous begin start rest w (path_on e limit subject front done x xs m mid rest p i h)
+      settled_at e limit subject prefix t (done ++ m ∷ []) (behind done x xs m) previous begin start rest w (path_on e limit subject prefix done x xs m mid rest p i h)
 
   -- a piece begins
-  pub begins_piece : (xs : List Context) (done : List Mark) (q : Pending) (acc mid begin start rest : List ℕ) → Path e limit subject front done xs mid → Held e limit q xs acc mid rest
-      → Preceded q acc begin rest → Going e limit subject front (On (begun limit xs done (pending_levels q (levels xs)) q acc)) previous begin start rest
+  pub begins_piece : (xs : List Context) (done : List Piece) (q : Pending) (acc mid begin start rest : List ℕ) → Path e limit subject prefix done xs mid → Held e limit q xs acc mid rest
+      → Preceded q acc begin rest → Going e limit subject prefix (On (begun limit xs done (pending_levels q (levels xs)) q acc)) previous begin start rest
   begins_piece xs done q acc mid begin start rest p h r = record { it = record { xs = xs; done = done; pending = q; acc = acc; mid = mid; is = refl; path = p; held = h; preceded = r } }
 
   -- what opens a level
-  pub opens_piece : (x : Context) (xs : List Context) (done : List Mark) (q : Pending) (acc mid start rest place : List ℕ) → Path e limit subject front done (x ∷ xs) mid → in_word x ≡ true
-      → (nat_lt (levels (x ∷ xs)) limit ≡ true → Going e limit subject front (On (begun limit (x ∷ xs) done (suc (levels (x ∷ xs))) q [])) previous place start rest) → Joined mid place → OpensLevel e place
-      → Going e limit subject front (opens q (settled limit done (x ∷ xs))) previous place start rest
+  pub opens_piece : (x : Context) (xs : List Context) (done : List Piece) (q : Pending) (acc mid start rest place : List ℕ) → Path e limit subject prefix done (x ∷ xs) mid → in_word x ≡ true
+      → (nat_lt (levels (x ∷ xs)) limit ≡ true → Going e limit subject prefix (On (begun limit (x ∷ xs) done (suc (levels (x ∷ xs))) q [])) previous place start rest) → Joined mid place → OpensLevel e place
+      → Going e limit subject prefix (opens q (settled limit done (x ∷ xs))) previous place start rest
   opens_piece x xs done q acc mid start rest place p w f j o =
-      either e limit subject front (nat_lt (levels (x ∷ xs)) limit) _ _ previous place start rest f (λ h. record { it = record { place = place; here = deep_here e limit subject front done (x ∷ xs) mid place p h w j o } })
+      either e limit subject prefix (nat_lt (levels (x ∷ xs)) limit) _ _ previous place start rest f (λ h. record { it = record { place = place; here = deep_here e limit subject prefix done (x ∷ xs) mid place p h w j o } })
 
-  module _ (x : Context) (xs : List Context) (done : List Mark) (mid : List ℕ) (p : Path e limit subject front done (x ∷ xs) mid) where
+  module _ (x : Context) (xs : List Context) (done : List Piece) (mid : List ℕ) (p : Path e limit subject prefix done (x ∷ xs) mid) where
     abbrev s : State
     s = settled limit done (x ∷ xs)
 
-    byte_sound : (b : ℕ) (rest : List ℕ) → Reads e (Plain b) mid rest → stands x b (ahead e rest) ≡ true → (nat_eq b 41 && is_arithmetic x) ≡ false → Going e limit subject front (inner_byte x s b) previous (b ∷ rest) mid rest
+    byte_sound : (b : ℕ) (rest : List ℕ) → Reads e (Plain b) mid rest → stands x b (ahead e rest) ≡ true → (nat_eq b 41 && is_arithmetic x) ≡ false → Going e limit subject prefix (inner_byte x s b) previous (b ∷ rest) mid rest
     byte_sound b rest r i h =
-        subst (λ z. Going e limit subject front z previous (b ∷ rest) mid rest) (sym (inner_on limit x xs done (levels (x ∷ xs)) b h))
-        (ends_piece x xs done (Byte b) mid rest (b ∷ rest) mid (kept limit (parenthesized b x xs) (done ++ Byte b ∷ []) (levels (x ∷ xs))) p
+        subst (λ z. Going e limit subject prefix z previous (b ∷ rest) mid rest) (sym (inner_on limit x xs done (levels (x ∷ xs)) b h))
+        (ends_piece x xs done (Byte b) mid rest (b ∷ rest) mid (kept limit (behind_byte b x xs) (done ++ Byte b ∷ []) (levels (x ∷ xs))) p
         (record { written = one_of e (Plain b) mid rest r; fits = i; level = refl; compound = refl }) refl
-        (ap (kept limit (parenthesized b x xs) (done ++ Byte b ∷ [])) (sym (levels_parenthesized limit x xs done (levels (x ∷ xs)) b))))
+        (ap (kept limit (behind_byte b x xs) (done ++ Byte b ∷ [])) (sym (levels_parenthesized limit x xs done (levels (x ∷ xs)) b))))
 
-    inner_sound : (b : ℕ) (rest : List ℕ) → Reads e (Plain b) mid rest → ((nat_eq b 41 && is_arithmetic x) ≡ false → stands x b (ahead e rest) ≡ true) → Going e limit subject front (inner_byte x s b) previous (b ∷ rest) mid rest
+    inner_sound : (b : ℕ) (rest : List ℕ) → Reads e (Plain b) mid rest → ((nat_eq b 41 && is_arithmetic x) ≡ false → stands x b (ahead e rest) ≡ true) → Going e limit subject prefix (inner_byte x s b) previous (b ∷ rest) mid rest
     inner_sound b rest r i = go (nat_eq b 41 && is_arithmetic x) refl
       where
-        go : (c : Bool) → (nat_eq b 41 && is_arithmetic x) ≡ c → Going e limit subject front (inner_byte x s b) previous (b ∷ rest) mid rest
+        go : (c : Bool) → (nat_eq b 41 && is_arithmetic x) ≡ c → Going e limit subject prefix (inner_byte x s b) previous (b ∷ rest) mid rest
         go false h = byte_sound b rest r (i h) h
         go true h =
             let t = and_true (nat_eq b 41) (is_arithmetic x) h in
-            subst (λ z. Going e limit subject front z previous (b ∷ rest) mid rest) (sym (inner_parenthesis limit x xs done (levels (x ∷ xs)) b h))
+            subst (λ z. Going e limit subject prefix z previous (b ∷ rest) mid rest) (sym (inner_parenthesis limit x xs done (levels (x ∷ xs)) b h))
             (begins_piece (x ∷ xs) done Pending.Parenthesis [] mid (b ∷ rest) mid rest p (refl, t.1, one_of e (Plain 41) mid rest (plain_at e b 41 mid rest t.0 r)) tt)
 
-    pub word_byte_sound : (b : ℕ) (rest : List ℕ) → in_word x ≡ true → (is_word x && is_end b) ≡ false → Reads e (Plain b) mid rest → Going e limit subject front (word_byte x s b) previous (b ∷ rest) mid rest
+    pub word_byte_sound : (b : ℕ) (rest : List ℕ) → in_word x ≡ true → (is_word x && is_end b) ≡ false → Reads e (Plain b) mid rest → Going e limit subject prefix (word_byte x s b) previous (b ∷ rest) mid rest
     unfolding word_byte
     word_byte_sound b rest w n r =
-        either e limit subject front (nat_eq b 39 && has_single_quotes x) _ _ previous (b ∷ rest) mid rest
+        either e limit subject prefix (nat_eq b 39 && has_single_quotes x) _ _ previous (b ∷ rest) mid rest
         (λ h. let t = and_true (nat_eq b 39) (has_single_quotes x) h in
         begins_piece (x ∷ xs) done Pending.Single [] mid (b ∷ rest) mid rest p (refl, t.1, one_of e (Plain 39) mid rest (plain_at e b 39 mid rest t.0 r)) tt)
-        (λ h39. either e limit subject front (nat_eq b 34 && has_double_quotes x) _ _ previous (b ∷ rest) mid rest
+        (λ h39. either e limit subject prefix (nat_eq b 34 && has_double_quotes x) _ _ previous (b ∷ rest) mid rest
         (λ h. let t = and_true (nat_eq b 34) (has_double_quotes x) h in
         ends_piece x xs done DoubleQuotesOpen mid rest (b ∷ rest) mid (into Quotes DoubleQuotesOpen s) p
         (record { written = one_of e (Plain 34) mid rest (plain_at e b 34 mid rest t.0 r); fits = t.1; level = refl; compound = refl }) refl refl)
-        (λ h34. either e limit subject front (nat_eq b 34 && is_quotes x) _ _ previous (b ∷ rest) mid rest
+        (λ h34. either e limit subject prefix (nat_eq b 34 && is_quotes x) _ _ previous (b ∷ rest) mid rest
         (λ h. let t = and_true (nat_eq b 34) (is_quotes x) h in
         ends_piece x xs done DoubleQuotesClose mid rest (b ∷ rest) mid (out DoubleQuotesClose s) p
         (record { written = one_of e (Plain 34) mid rest (plain_at e b 34 mid rest t.0 r); fits = t.1; level = refl; compound = refl }) refl
         (ap (kept limit xs (done ++ DoubleQuotesClose ∷ [])) (quotes_level x xs t.1)))
-        (λ hq. either e limit subject front (nat_eq b 125 && is_braces x) _ _ previous (b ∷ rest) mid rest
+        (λ hq. either e limit subject prefix (nat_eq b 125 && is_braces x) _ _ previous (b ∷ rest) mid rest
         (λ h. let t = and_true (nat_eq b 125) (is_braces x) h in
         ends_piece x xs done BraceClose mid rest (b ∷ rest) mid (out_level BraceClose s) p
         (record { written = one_of e (Plain 125) mid rest (plain_at e b 125 mid rest t.0 r); fits = t.1; level = refl; compound = refl }) refl
         (ap (kept limit xs (done ++ BraceClose ∷ [])) (brace_level x xs t.1)))
-        (λ h125. either e limit subject front (nat_eq b 36) _ _ previous (b ∷ rest) mid rest
+        (λ h125. either e limit subject prefix (nat_eq b 36) _ _ previous (b ∷ rest) mid rest
         (λ h. begins_piece (x ∷ xs) done Pending.Dollar [] mid (b ∷ rest) mid rest p (refl, w, one_of e (Plain 36) mid rest (plain_at e b 36 mid rest h r)) (ap (λ z. z ∷ rest) (eqb-true b 36 h)))
-        (λ h36. either e limit subject front (nat_eq b 96) _ _ previous (b ∷ rest) mid rest
-        (λ h. subst (λ z. Going e limit subject front (opens Pending.Backquotes s) previous (z ∷ rest) mid rest) (sym (eqb-true b 96 h)) (back_sound rest w (plain_at e b 96 mid rest h r)))
+        (λ h36. either e limit subject prefix (nat_eq b 96) _ _ previous (b ∷ rest) mid rest
+        (λ h. subst (λ z. Going e limit subject prefix (opens Pending.Backquotes s) previous (z ∷ rest) mid rest) (sym (eqb-true b 96 h)) (back_sound rest w (plain_at e b 96 mid rest h r)))
         (λ h96. inner_sound b rest r (λ h41. stands_so x b (ahead e rest) w n h39 h34 hq h125 h36 h96 h41)))))))
       where
-        back_sound : (rest : List ℕ) → in_word x ≡ true → Reads e (Plain 96) mid rest → Going e limit subject front (opens Pending.Backquotes s) previous (96 ∷ rest) mid rest
+        back_sound : (rest : List ℕ) → in_word x ≡ true → Reads e (Plain 96) mid rest → Going e limit subject prefix (opens Pending.Backquotes s) previous (96 ∷ rest) mid rest
         back_sound rest w r =
             opens_piece x xs done Pending.Backquotes [] mid mid rest (96 ∷ rest) p w
             (λ l. begins_piece (x ∷ xs) done Pending.Backquotes [] mid (96 ∷ rest) mid rest p ((λ bs. refl), w, l, one_of e (Plain 96) mid rest r) refl)
             (record { lines = r.0; is = r.1; over = no_join_at 96 rest refl }) (backquote rest (rest, (0, refl, inl refl), refl))
 
-    pub escape_sound : (b : ℕ) (rest : List ℕ) → in_word x ≡ true → Reads e (Quoted b) mid rest → Going e limit subject front (escape x s b) previous (92 ∷ b ∷ rest) mid rest
+    pub escape_sound : (b : ℕ) (rest : List ℕ) → in_word x ≡ true → Reads e (Quoted b) mid rest → Going e limit subject prefix (escape x s b) previous (92 ∷ b ∷ rest) mid rest
     escape_sound b rest w r = go (quotes x b) refl
       where
-        go : (c : Bool) → quotes x b ≡ c → Going e limit subject front (On (same (cond c (Escaped b) (Backslash b)) s)) previous (92 ∷ b ∷ rest) mid rest
+        go : (c : Bool) → quotes x b ≡ c → Going e limit subject prefix (On (same (cond c (Escaped b) (Backslash b)) s)) previous (92 ∷ b ∷ rest) mid rest
         go true h =
             ends_piece x xs done (Escaped b) mid rest (92 ∷ b ∷ rest) mid (same (Escaped b) s) p (record { written = one_of e (Quoted b) mid rest r; fits = h; level = refl; compound = refl }) refl refl
         go false h =
@@ -200,7 +200,7 @@ module _ (e : Bool) (limit : ℕ) (subject : Subject) (front : List ℕ) (blank 
             (record { written = one_of e (Quoted b) mid rest r; fits = and_both (in_word x) (not (quotes x b)) w (not_false (quotes x b) h); level = refl; compound = refl }) refl refl
 
     -- an operator, in a substitution
-    operator_fits : (o : Operator) (rest : List ℕ) → between_tokens x ≡ true → may_grow o ≡ false → is_more o x ≡ false → fits e x (Mark.Operator o) rest ≡ true
+    operator_fits : (o : Operator) (rest : List ℕ) → between_tokens x ≡ true → may_grow o ≡ false → is_more o x ≡ false → fits e x (Piece.Operator o) rest ≡ true
     operator_fits o rest b g c =
         and_both (between_tokens x) (ends_operator o (ahead e rest) && not (is_more o x)) b
         (and_both (ends_operator o (ahead e rest)) (not (is_more o x)) (whole_operator o (ahead e rest) g) (not_false (is_more o x) c))
@@ -209,30 +209,30 @@ module _ (e : Bool) (limit : ℕ) (subject : Subject) (front : List ℕ) (blank 
     abbrev too_many : Operator → Bool
     too_many o = begins_compound (class_of_operator o) && is_over_full (operator_out o s)
 
-    too_many_is : (o : Operator) → exceeds limit done x xs (Mark.Operator o) ≡ too_many o
+    too_many_is : (o : Operator) → exceeds limit done x xs (Piece.Operator o) ≡ too_many o
     too_many_is o = ap (λ l. begins_compound (class_of_operator o) && nat_lt limit l) (sym (levels_taken (OfOperator o) (x ∷ xs)))
 
-    operator_deep : (o : Operator) (rest : List ℕ) → between_tokens x ≡ true → may_grow o ≡ false → is_more o x ≡ false → Written e (plain (operator_text o)) mid rest → too_many o ≡ true → DeepSome e limit subject front
+    operator_deep : (o : Operator) (rest : List ℕ) → between_tokens x ≡ true → may_grow o ≡ false → is_more o x ≡ false → Written e (plain (operator_text o)) mid rest → too_many o ≡ true → DeepSome e limit subject prefix
     operator_deep o rest b g c w h =
         let f = parenthesis_from e o mid rest (begins_by o (and_true (begins_compound (class_of_operator o)) (is_over_full (operator_out o s)) h).0) w in
         record {
           place = f.place;
-          here = operator_here e limit subject front done x xs mid f.place o p f.joined (record { after = rest; written = f.written; fits = operator_fits o rest b g c; exceeds = too_many_is o ∙ h });
+          here = operator_here e limit subject prefix done x xs mid f.place o p f.joined (record { after = rest; written = f.written; fits = operator_fits o rest b g c; exceeds = too_many_is o ∙ h });
         }
 
     pub operator_over : (o : Operator) (rest begin start : List ℕ) → is_text x ≡ false → between_tokens x ≡ true → may_grow o ≡ false → is_more o x ≡ false → Written e (plain (operator_text o)) mid rest
-        → Going e limit subject front (over o (operator_out o s)) previous begin start rest
+        → Going e limit subject prefix (over o (operator_out o s)) previous begin start rest
     operator_over o rest begin start t b g c w =
-        subst (λ z. Going e limit subject front (cond z (After (operator_out o s)) (cond (too_many o) (TooDeep (operator_out o s)) (On (operator_out o s)))) previous begin start rest) (sym (text_token (OfOperator o) (x ∷ xs) ∙ t))
-        (either e limit subject front (too_many o) _ _ previous begin start rest
+        subst (λ z. Going e limit subject prefix (cond z (After (operator_out o s)) (cond (too_many o) (TooDeep (operator_out o s)) (On (operator_out o s)))) previous begin start rest) (sym (text_token (OfOperator o) (x ∷ xs) ∙ t))
+        (either e limit subject prefix (too_many o) _ _ previous begin start rest
         (λ h. record { it = operator_deep o rest b g c w h })
-        (λ h. ends_piece x xs done (Mark.Operator o) mid rest begin start (operator_out o s) p
+        (λ h. ends_piece x xs done (Piece.Operator o) mid rest begin start (operator_out o s) p
         (record { written = w; fits = operator_fits o rest b g c; level = refl; compound = too_many_is o ∙ h }) (text_token (OfOperator o) (x ∷ xs) ∙ t)
-        (ap (kept limit (with_token (OfOperator o) (x ∷ xs)) (done ++ Mark.Operator o ∷ [])) (levels_taken (OfOperator o) (x ∷ xs)))))
+        (ap (kept limit (with_token (OfOperator o) (x ∷ xs)) (done ++ Piece.Operator o ∷ [])) (levels_taken (OfOperator o) (x ∷ xs)))))
 
     pub grow_sound : (o : Operator) (rest begin start : List ℕ) → is_text x ≡ false → between_tokens x ≡ true → is_more o x ≡ false → Written e (plain (operator_text o)) mid rest
-        → Going e limit subject front (grow o s) previous begin start rest
+        → Going e limit subject prefix (grow o s) previous begin start rest
     grow_sound o rest begin start t b c w =
-        either e limit subject front (may_grow o) _ _ previous begin start rest
+        either e limit subject prefix (may_grow o) _ _ previous begin start rest
         (λ h. begins_piece (x ∷ xs) done (Pending.Operator o) [] mid begin start rest p (refl, b, h, w) tt)
         (λ h. operator_over o rest begin start t b h c w)

@@ -2,15 +2,15 @@
 use Rattle.std.proofs.Common.{◌≡◌, ◌⊎◌, inl, inr, ◌∙◌, nat_lt, ℕ, suc, ◌+◌, ◌-◌, arith, Bool, true, false, ◌||◌, ◌&&◌, not, nat_eq, List, [], ◌∷◌, length, drop, Option, Some, None, refl, ap, cond, eqb-true}
 use Rattle.std.proofs.lemmas.Bool.{ltb-true}
 use Rattle.sh_token_pieces.specs.declared.operator.Operator.{Operator}
-use Rattle.sh_token_pieces.specs.declared.mark.Mark.{Mark}
-use Rattle.sh_token_pieces.specs.declared.mark.Mark.TheVariants.{Byte, Escaped, Backslash, SingleQuoted, DoubleQuotesOpen, DoubleQuotesClose, Dollar, Variable, Parameter, BraceOpen, BraceClose, ArithmeticOpen, ArithmeticClose, CommandsOpen, CommandsClose, Backquoted, WordOpen, WordClose, Blank, Comment, Bodies}
+use Rattle.sh_token_pieces.specs.declared.piece.Piece.{Piece}
+use Rattle.sh_token_pieces.specs.declared.piece.Piece.TheVariants.{Byte, Escaped, Backslash, SingleQuoted, DoubleQuotesOpen, DoubleQuotesClose, Dollar, Variable, Parameter, BraceOpen, BraceClose, ArithmeticOpen, ArithmeticClose, CommandsOpen, CommandsClose, Backquoted, WordOpen, WordClose, Blank, Comment, Bodies}
 use Rattle.sh_token_pieces.specs.declared.context.Context.{Context}
 use Rattle.sh_token_pieces.specs.declared.context.Context.TheVariants.{Top, Commands, Word, Quotes, Braces, Arithmetic, Parenthesis, Body}
 use Rattle.sh_token_pieces.specs.declared.head.Head.{Head}
 use Rattle.sh_token_pieces.specs.Bytes.{is_redirection}
 use Rattle.sh_token_pieces.specs.Characters.{Ahead, ahead, next_is}
 use Rattle.sh_token_pieces.specs.Heads.{head_of}
-use Rattle.sh_token_pieces.specs.Marks.{stands, ends_word, same_as, fits, behind, with_token, word_over, parenthesized, braces_of, in_word, is_text, is_body, between_tokens, is_word, is_quotes, is_braces, is_arithmetic, is_parenthesis, has_single_quotes, has_double_quotes, is_quoted, may_close, top_of, levels, is_right_parenthesis, is_newline, is_more}
+use Rattle.sh_token_pieces.specs.Pieces.{stands, ends_word, same_as, fits, behind, with_token, word_over, behind_byte, braces_of, in_word, is_text, is_body, between_tokens, is_word, is_quotes, is_braces, is_arithmetic, is_parenthesis, has_single_quotes, has_double_quotes, is_quoted, may_close, top_of, levels, is_right_parenthesis, is_newline, is_more}
 use Rattle.sh_token_pieces.specs.Nested.{open_in}
 use Rattle.sh_token_pieces.specs.TokenClasses.{Told, OfOperator, OfWord, OfBodies, with_told}
 use Rattle.sh_token_grammar.specs.Shell.{substitution}
@@ -334,7 +334,7 @@ nested_word n x xs b h = rw (b, h) refl
 nested_in : (x : Context) (xs : List Context) → in_word x ≡ true → nested (x ∷ xs) ≡ true → (in_word x && nested (x ∷ xs)) ≡ true
 nested_in x xs b h = and_both (in_word x) (nested (x ∷ xs)) b h
 
-parenthesis_nested : (b : ℕ) (x : Context) (xs : List Context) → in_word x ≡ true → nested (x ∷ xs) ≡ true → nested (parenthesized b x xs) ≡ true
+parenthesis_nested : (b : ℕ) (x : Context) (xs : List Context) → in_word x ≡ true → nested (x ∷ xs) ≡ true → nested (behind_byte b x xs) ≡ true
 parenthesis_nested b x xs w h = go (nat_eq b 40 && (is_arithmetic x || is_parenthesis x)) (nat_eq b 41 && is_parenthesis x) refl
   where
     go : (c d : Bool) → (nat_eq b 41 && is_parenthesis x) ≡ d → nested (cond c (Parenthesis ∷ x ∷ xs) (cond d xs (x ∷ xs))) ≡ true
@@ -352,7 +352,7 @@ stands_in_word Arithmetic b next h = refl
 stands_in_word Parenthesis b next h = refl
 stands_in_word Body b next h = refl
 
-close_nested : (r : Bool) (done : List Mark) (x : Context) (xs : List Context) → is_word x ≡ true → nested (x ∷ xs) ≡ true → nested (word_over r done (x ∷ xs)) ≡ true
+close_nested : (r : Bool) (done : List Piece) (x : Context) (xs : List Context) → is_word x ≡ true → nested (x ∷ xs) ≡ true → nested (word_over r done (x ∷ xs)) ≡ true
 close_nested r done Top xs w h = absurd (cc)
 close_nested r done (Commands ts) xs w h = absurd (cc)
 close_nested r done (Word n) xs w h = nested_token (OfWord r (drop (suc n) done)) xs (below (Word n) xs refl h)
@@ -367,7 +367,7 @@ braces_nested None q x xs w n = nested_in x xs w n
 braces_nested (Some h) q x xs w n = nested_in x xs w n
 
 -- each piece that fits keeps them nested
-pub nested_behind : (e : Bool) (done : List Mark) (x : Context) (xs : List Context) (m : Mark) (after : List ℕ) → nested (x ∷ xs) ≡ true → fits e x m after ≡ true → nested (behind done x xs m) ≡ true
+pub nested_behind : (e : Bool) (done : List Piece) (x : Context) (xs : List Context) (m : Piece) (after : List ℕ) → nested (x ∷ xs) ≡ true → fits e x m after ≡ true → nested (behind done x xs m) ≡ true
 nested_behind e done x xs (Byte b) after n f = parenthesis_nested b x xs (stands_in_word x b _ f) n
 nested_behind e done x xs (Escaped b) after n f = n
 nested_behind e done x xs (Backslash b) after n f = n
@@ -389,7 +389,7 @@ nested_behind e done x xs (WordClose r) after n f = close_nested r done x xs (an
 nested_behind e done x xs (Blank b) after n f = n
 nested_behind e done x xs (Comment bs) after n f = n
 nested_behind e done x xs (Bodies bs) after n f = nested_token OfBodies (x ∷ xs) n
-nested_behind e done x xs (Mark.Operator o) after n f = nested_token (OfOperator o) (x ∷ xs) n
+nested_behind e done x xs (Piece.Operator o) after n f = nested_token (OfOperator o) (x ∷ xs) n
 
 -- an operator that is neither a `)` nor a newline is nothing more
 pub more_none : (o : Operator) (x : Context) → is_right_parenthesis o ≡ false → is_newline o ≡ false → is_more o x ≡ false

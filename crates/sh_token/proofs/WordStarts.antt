@@ -8,12 +8,12 @@ use Rattle.sh_token_pieces.specs.declared.operator.Operator.{Operator}
 use Rattle.sh_token_pieces.specs.declared.operator.Operator.TheVariants.{And, Semicolon, Pipe, Less, Great, LeftParenthesis, RightParenthesis, Newline}
 use Rattle.sh_token_pieces.specs.declared.context.Context.{Context}
 use Rattle.sh_token_pieces.specs.declared.context.Context.TheVariants.{Word}
-use Rattle.sh_token_pieces.specs.declared.mark.Mark.{Mark}
-use Rattle.sh_token_pieces.specs.declared.mark.Mark.TheVariants.{Byte, Escaped, Backslash, SingleQuoted, DoubleQuotesOpen, DoubleQuotesClose, Dollar, Variable, Parameter, BraceOpen, BraceClose, ArithmeticOpen, ArithmeticClose, CommandsOpen, CommandsClose, Backquoted, WordOpen, WordClose, Blank, Comment, Bodies}
+use Rattle.sh_token_pieces.specs.declared.piece.Piece.{Piece}
+use Rattle.sh_token_pieces.specs.declared.piece.Piece.TheVariants.{Byte, Escaped, Backslash, SingleQuoted, DoubleQuotesOpen, DoubleQuotesClose, Dollar, Variable, Parameter, BraceOpen, BraceClose, ArithmeticOpen, ArithmeticClose, CommandsOpen, CommandsClose, Backquoted, WordOpen, WordClose, Blank, Comment, Bodies}
 use Rattle.sh_token_pieces.specs.Characters.{joins, Written, plain, ahead}
 use Rattle.sh_token_pieces.specs.Operators.{operator_text}
-use Rattle.sh_token_pieces.specs.Marks.{AreMarks, behind, contexts_behind, ends_token, ends_none, between_tokens, begins_word}
-use Rattle.sh_token_pieces.specs.TokenClasses.{is_byte, assigns, literal_front, class_of_literal, class_of_word, class_of_operator}
+use Rattle.sh_token_pieces.specs.Pieces.{ArePieces, behind, contexts_behind, ends_token, ends_none, between_tokens, begins_word}
+use Rattle.sh_token_pieces.specs.TokenClasses.{is_byte, assigns, literal_prefix, class_of_literal, class_of_word, class_of_operator}
 use Rattle.sh_token.specs.Tokens.{begins_join, Joined, Exceeds, OpensTooMany, word}
 use Rattle.sh_token.proofs.Tests.{and_true, and_both}
 
@@ -21,11 +21,11 @@ pub ahead_joins : (e : Bool) (n : ℕ) (ys : List ℕ) → ahead e (joins n ++ y
 ahead_joins e zero ys = refl
 ahead_joins e (suc n) ys = ahead_joins e n ys
 
-pub record IsByte (m : Mark) : Type 0 where
+pub record IsByte (m : Piece) : Type 0 where
   pub byte : ℕ
   pub is : m ≡ Byte byte
 
-pub byte_of : (m : Mark) → is_byte m ≡ true → IsByte m
+pub byte_of : (m : Piece) → is_byte m ≡ true → IsByte m
 byte_of (Byte b) h = record { byte = b; is = refl }
 byte_of (Escaped b) h = absurd (cc)
 byte_of (Backslash b) h = absurd (cc)
@@ -47,13 +47,13 @@ byte_of (WordClose r) h = absurd (cc)
 byte_of (Blank b) h = absurd (cc)
 byte_of (Comment bs) h = absurd (cc)
 byte_of (Bodies bs) h = absurd (cc)
-byte_of (Mark.Operator o) h = absurd (cc)
+byte_of (Piece.Operator o) h = absurd (cc)
 
 -- a word with which a compound command begins has bytes alone
-pub begins_bytes : (r : Bool) (ms : List Mark) → begins_compound (class_of_word r ms) ≡ true → list_all is_byte ms ≡ true
-begins_bytes r ms h = go (list_all is_byte ms) (assigns (literal_front ms)) h
+pub begins_bytes : (r : Bool) (ms : List Piece) → begins_compound (class_of_word r ms) ≡ true → list_all is_byte ms ≡ true
+begins_bytes r ms h = go (list_all is_byte ms) (assigns (literal_prefix ms)) h
   where
-    go : (c d : Bool) → begins_compound (cond c (class_of_literal r (literal_front ms)) (cond d TokenClass.Assignment TokenClass.Other)) ≡ true → c ≡ true
+    go : (c d : Bool) → begins_compound (cond c (class_of_literal r (literal_prefix ms)) (cond d TokenClass.Assignment TokenClass.Other)) ≡ true → c ≡ true
     go true d g = refl
     go false true g = absurd (cc)
     go false false g = absurd (cc)
@@ -63,38 +63,38 @@ begins_some true h = absurd (cc)
 begins_some false h = absurd (cc)
 
 -- pieces one behind another
-pub record Parts (e : Bool) (limit : ℕ) (done : List Mark) (xs : List Context) (ms ns : List Mark) (bytes rest : List ℕ) : Type 0 where
+pub record Parts (e : Bool) (limit : ℕ) (done : List Piece) (xs : List Context) (ms ns : List Piece) (bytes rest : List ℕ) : Type 0 where
   pub middle : List ℕ
-  pub left : AreMarks e limit done xs ms bytes middle
-  pub right : AreMarks e limit (done ++ ms) (contexts_behind done xs ms) ns middle rest
+  pub left : ArePieces e limit done xs ms bytes middle
+  pub right : ArePieces e limit (done ++ ms) (contexts_behind done xs ms) ns middle rest
 
-pub parts : (e : Bool) (limit : ℕ) (ms ns done : List Mark) (xs : List Context) (bytes rest : List ℕ) → AreMarks e limit done xs (ms ++ ns) bytes rest → Parts e limit done xs ms ns bytes rest
-parts e limit [] ns done xs bytes rest a = record { middle = bytes; left = refl; right = subst (λ d. AreMarks e limit d xs ns bytes rest) (sym (append-nil done)) a }
+pub parts : (e : Bool) (limit : ℕ) (ms ns done : List Piece) (xs : List Context) (bytes rest : List ℕ) → ArePieces e limit done xs (ms ++ ns) bytes rest → Parts e limit done xs ms ns bytes rest
+parts e limit [] ns done xs bytes rest a = record { middle = bytes; left = refl; right = subst (λ d. ArePieces e limit d xs ns bytes rest) (sym (append-nil done)) a }
 parts e limit (m ∷ ms) ns done [] bytes rest a = absurd a
 parts e limit (m ∷ ms) ns done (x ∷ xs) bytes rest a =
     let p = parts e limit ms ns (done ++ m ∷ []) (behind done x xs m) a.0 rest a.2 in
     record {
       middle = p.middle;
       left = (a.0, a.1, p.left);
-      right = subst (λ d. AreMarks e limit d (contexts_behind (done ++ m ∷ []) (behind done x xs m) ms) ns p.middle rest) (append_assoc done (m ∷ []) ms) p.right;
+      right = subst (λ d. ArePieces e limit d (contexts_behind (done ++ m ∷ []) (behind done x xs m) ms) ns p.middle rest) (append_assoc done (m ∷ []) ms) p.right;
     }
 
-none_open : (done ms : List Mark) → contexts_behind done [] ms ≡ []
+none_open : (done ms : List Piece) → contexts_behind done [] ms ≡ []
 none_open done [] = refl
 none_open done (m ∷ ms) = refl
 
-pub contexts_parts : (ms ns done : List Mark) (xs : List Context) → contexts_behind done xs (ms ++ ns) ≡ contexts_behind (done ++ ms) (contexts_behind done xs ms) ns
+pub contexts_parts : (ms ns done : List Piece) (xs : List Context) → contexts_behind done xs (ms ++ ns) ≡ contexts_behind (done ++ ms) (contexts_behind done xs ms) ns
 contexts_parts [] ns done xs = ap (λ d. contexts_behind d xs ns) (sym (append-nil done))
 contexts_parts (m ∷ ms) ns done [] = sym (none_open (done ++ m ∷ ms) ns)
 contexts_parts (m ∷ ms) ns done (x ∷ xs) =
     contexts_parts ms ns (done ++ m ∷ []) (behind done x xs m) ∙ ap (λ d. contexts_behind d (contexts_behind (done ++ m ∷ []) (behind done x xs m) ms) ns) (append_assoc done (m ∷ []) ms)
 
-pub ends_front : (ms ns done : List Mark) (xs : List Context) → ends_none done xs (ms ++ ns) ≡ true → ends_none done xs ms ≡ true
-ends_front [] ns done xs h = refl
-ends_front (m ∷ ms) ns done [] h = refl
-ends_front (m ∷ ms) ns done (x ∷ xs) h =
+pub ends_prefix : (ms ns done : List Piece) (xs : List Context) → ends_none done xs (ms ++ ns) ≡ true → ends_none done xs ms ≡ true
+ends_prefix [] ns done xs h = refl
+ends_prefix (m ∷ ms) ns done [] h = refl
+ends_prefix (m ∷ ms) ns done (x ∷ xs) h =
     let p = and_true (not (ends_token m (behind done x xs m))) (ends_none (done ++ m ∷ []) (behind done x xs m) (ms ++ ns)) h in
-    and_both (not (ends_token m (behind done x xs m))) (ends_none (done ++ m ∷ []) (behind done x xs m) ms) p.0 (ends_front ms ns (done ++ m ∷ []) (behind done x xs m) p.1)
+    and_both (not (ends_token m (behind done x xs m))) (ends_none (done ++ m ∷ []) (behind done x xs m) ms) p.0 (ends_prefix ms ns (done ++ m ∷ []) (behind done x xs m) p.1)
 
 -- the first byte of a word, joined lines before it left out
 no_join : (e : Bool) (b : ℕ) (rest : List ℕ) → (nat_eq b 92 ≡ false) ⊎ ((b ≡ 92) × (e ≡ true) × (rest ≡ [])) → begins_join (b ∷ rest) ≡ false
@@ -135,19 +135,19 @@ parenthesis_from e o mid rest i w = subst (λ z. From e z mid rest) (sym i) (go 
     go : Written e (plain (operator_text LeftParenthesis)) mid rest → From e LeftParenthesis mid rest
     go v = record { place = 40 ∷ v.0; joined = record { lines = v.1.0; is = v.1.1; over = no_join e 40 v.0 v.1.2 }; written = (v.0, (0, refl, v.1.2), v.2) }
 
-module _ (e : Bool) (limit : ℕ) (done : List Mark) (xs : List Context) (r : Bool) (last rest : List ℕ) where
+module _ (e : Bool) (limit : ℕ) (done : List Piece) (xs : List Context) (r : Bool) (last rest : List ℕ) where
   pub record Placed : Type 0 where
     pub place : List ℕ
     pub joined : Joined last place
     pub opens : OpensTooMany e limit done place xs
 
-  abbrev Sinks : List Mark → Type 0
+  abbrev Sinks : List Piece → Type 0
   Sinks ms = Exceeds e limit (done ++ WordOpen ∷ ms) (Word (length done)) xs (WordClose r) rest
 
-  abbrev Closed : List Mark → Type 0
+  abbrev Closed : List Piece → Type 0
   Closed ms = contexts_behind done xs (WordOpen ∷ ms) ≡ Word (length done) ∷ xs
 
-first_placed : (e : Bool) (limit : ℕ) (done : List Mark) (x : Context) (xs : List Context) (r : Bool) (last rest : List ℕ) (b : ℕ) (ms : List Mark) → AreMarks e limit done (x ∷ xs) (WordOpen ∷ Byte b ∷ ms) last rest
+first_placed : (e : Bool) (limit : ℕ) (done : List Piece) (x : Context) (xs : List Context) (r : Bool) (last rest : List ℕ) (b : ℕ) (ms : List Piece) → ArePieces e limit done (x ∷ xs) (WordOpen ∷ Byte b ∷ ms) last rest
     → Closed e limit done (x ∷ xs) r last rest (Byte b ∷ ms) → Sinks e limit done (x ∷ xs) r last rest (Byte b ∷ ms) → Placed e limit done (x ∷ xs) r last rest
 first_placed e limit done x xs r last rest b ms a k d =
     let f = a.2.1.written in
@@ -166,11 +166,11 @@ first_placed e limit done x xs r last rest b ms a k d =
           k d;
     }
 
-pub word_placed : (e : Bool) (limit : ℕ) (done : List Mark) (xs : List Context) (r : Bool) (last rest : List ℕ) (ms : List Mark) → begins_compound (class_of_word r ms) ≡ true → AreMarks e limit done xs (WordOpen ∷ ms) last rest
+pub word_placed : (e : Bool) (limit : ℕ) (done : List Piece) (xs : List Context) (r : Bool) (last rest : List ℕ) (ms : List Piece) → begins_compound (class_of_word r ms) ≡ true → ArePieces e limit done xs (WordOpen ∷ ms) last rest
     → Closed e limit done xs r last rest ms → Sinks e limit done xs r last rest ms → Placed e limit done xs r last rest
 word_placed e limit done [] r last rest ms h a k d = absurd a
 word_placed e limit done (x ∷ xs) r last rest [] h a k d = absurd (begins_some r h)
 word_placed e limit done (x ∷ xs) r last rest (m ∷ ms) h a k d =
     let b = byte_of m (and_true (is_byte m) (list_all is_byte ms) (begins_bytes r (m ∷ ms) h)).0 in
-    first_placed e limit done x xs r last rest b.byte ms (subst (λ z. AreMarks e limit done (x ∷ xs) (WordOpen ∷ z ∷ ms) last rest) b.is a)
+    first_placed e limit done x xs r last rest b.byte ms (subst (λ z. ArePieces e limit done (x ∷ xs) (WordOpen ∷ z ∷ ms) last rest) b.is a)
     (subst (λ z. Closed e limit done (x ∷ xs) r last rest (z ∷ ms)) b.is k) (subst (λ z. Sinks e limit done (x ∷ xs) r last rest (z ∷ ms)) b.is d)

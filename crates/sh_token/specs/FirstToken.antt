@@ -11,16 +11,16 @@ pub data FirstToken : Type 0 where
   Unfinished : FirstToken
   DeepAt : (place : ℕ) → FirstToken
 
--- what the first token of these bytes is, in which so many levels may be open; e: they are the last of the input.
+-- this is the answer for the bytes, in which so many levels may be open; e: they are the last of the input.
 -- A NUL is a byte like any other: it is a fault of the text, and not of its tokens
 abbrev pub IsFirst : Bool → ℕ → List ℕ → FirstToken → Type 0
 IsFirst e limit bytes (Found kind start stop) =
-    (front : List ℕ) × ((rest : List ℕ) × HasToken e limit bytes front rest kind × (start + length front ≡ length bytes) × (stop + length rest ≡ length bytes))
+    (prefix : List ℕ) × ((rest : List ℕ) × HasToken e limit bytes prefix rest kind × (start + length prefix ≡ length bytes) × (stop + length rest ≡ length bytes))
 IsFirst e limit bytes (DeepAt place) = (rest : List ℕ) × IsTooDeep e limit bytes rest × (place + length rest ≡ length bytes)
 IsFirst e limit bytes Unfinished =
-    ((front rest : List ℕ) (kind : TokenKind) → HasToken e limit bytes front rest kind → ⊥) × ((rest : List ℕ) → IsTooDeep e limit bytes rest → ⊥)
+    ((prefix rest : List ℕ) (kind : TokenKind) → HasToken e limit bytes prefix rest kind → ⊥) × ((rest : List ℕ) → IsTooDeep e limit bytes rest → ⊥)
 
--- the same in a text in which the bytes begin at `at`
+-- the same answer, as a call gives it for a text in which the bytes begin at `at`
 abbrev pub answer_at : ℕ → FirstToken → Result Token TokenFault
 answer_at at (Found kind start stop) = Ok (record { kind = kind; span = record { start = at + start; «end» = at + stop } })
 answer_at at Unfinished = Err TokenFault.Unfinished

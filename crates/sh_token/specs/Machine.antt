@@ -1,19 +1,20 @@
--- The scanner as a machine: the contexts, the pieces so far, a piece that has begun, and a backslash that waits for its byte.
+-- The scanner as a machine: the contexts, the pieces so far, a piece that has begun, and a backslash that
+-- waits for the byte after it.
 use Rattle.std.specs.Prelude.{ℕ, suc, ◌+◌, Bool, false, ◌&&◌, ◌||◌, not, nat_eq, nat_lt, List, [], ◌∷◌, ◌++◌, length, drop, ◌-◌, Option, Some, None, if◌then◌else◌}
 use Rattle.sh_token_pieces.specs.declared.character.Character.{Character}
 use Rattle.sh_token_pieces.specs.declared.character.Character.TheVariants.{Plain, Quoted, Raw}
 use Rattle.sh_token_pieces.specs.declared.operator.Operator.{Operator}
 use Rattle.sh_token_pieces.specs.declared.head.Head.{Head}
-use Rattle.sh_token_pieces.specs.declared.mark.Mark.{Mark}
-use Rattle.sh_token_pieces.specs.declared.mark.Mark.TheVariants.{Byte, Escaped, Backslash, SingleQuoted, DoubleQuotesOpen, DoubleQuotesClose, Dollar, Variable, Parameter, BraceOpen, BraceClose, ArithmeticOpen, ArithmeticClose, CommandsOpen, CommandsClose, Backquoted, WordOpen, WordClose, Blank, Comment, Bodies}
+use Rattle.sh_token_pieces.specs.declared.piece.Piece.{Piece}
+use Rattle.sh_token_pieces.specs.declared.piece.Piece.TheVariants.{Byte, Escaped, Backslash, SingleQuoted, DoubleQuotesOpen, DoubleQuotesClose, Dollar, Variable, Parameter, BraceOpen, BraceClose, ArithmeticOpen, ArithmeticClose, CommandsOpen, CommandsClose, Backquoted, WordOpen, WordClose, Blank, Comment, Bodies}
 use Rattle.sh_token_pieces.specs.declared.pending.Pending.{Pending}
 use Rattle.sh_token_pieces.specs.Bytes.{is_blank, is_operator_byte, is_end, is_redirection, is_short_parameter}
 use Rattle.sh_base.specs.Names.{begins_name, continues_name}
-use Rattle.sh_token_pieces.specs.Growth.{grown, may_grow, operator_of}
+use Rattle.sh_token_pieces.specs.Growth.{longer_operator, may_grow, operator_of}
 use Rattle.sh_token_pieces.specs.Heads.{grown_head}
 use Rattle.sh_token_pieces.specs.declared.context.Context.{Context}
 use Rattle.sh_token_pieces.specs.declared.context.Context.TheVariants.{Commands, Word, Quotes, Arithmetic, Parenthesis}
-use Rattle.sh_token_pieces.specs.Marks.{is_text, top_of, between_tokens, has_single_quotes, has_double_quotes, is_quotes, is_braces, is_arithmetic, is_parenthesis, is_word, quotes, may_close, is_quoted, braces_of, with_token, word_over, word_begins, compounds_in, around_of, due_in, has_due}
+use Rattle.sh_token_pieces.specs.Pieces.{is_text, top_of, between_tokens, has_single_quotes, has_double_quotes, is_quotes, is_braces, is_arithmetic, is_parenthesis, is_word, quotes, may_close, is_quoted, braces_of, with_token, word_over, word_begins, compounds_in, around_of, due_in, has_due}
 use Rattle.sh_token_grammar.specs.Levels.{begins_compound}
 use Rattle.sh_token_pieces.specs.TokenClasses.{OfOperator, OfBodies, class_of_operator}
 use Rattle.sh_token_pieces.specs.Nested.{none_yet}
@@ -23,15 +24,15 @@ use Rattle.sh_token_pieces.specs.Here.{is_end_line, joins_next}
 
 pub record State : Type 0 where
   pub contexts : List Context
-  pub done : List Mark
+  pub done : List Piece
   pub pending : Pending
   pub bytes : List ℕ
-  -- how many levels are open, that of the piece that has begun included
+  -- how many levels are open, with the one of the piece that has begun
   pub levels : ℕ
   -- and how many may be
   pub limit : ℕ
 
--- what a character makes of it
+-- the state after a character, and what the character does
 pub data Stepped : Type 0 where
   On : (s : State) → Stepped
   -- a token of the text itself ended before the character, or ends with it
@@ -40,42 +41,42 @@ pub data Stepped : Type 0 where
   -- a level too many would open with the character, or with the `$` before it
   TooDeep : (s : State) → Stepped
   DollarTooDeep : (s : State) → Stepped
-  -- or has opened with the word of a substitution that ended before the character
+  -- a level too many has opened with the word of a substitution that ended before the character
   WordTooDeep : (s : State) → Stepped
 
--- a piece is over that leaves the contexts as they were, that goes into a context, or that leaves one
-abbrev pub same : Mark → State → State
+-- a finished piece that changes no context, that opens a context, or that closes one
+abbrev pub same : Piece → State → State
 same m s = record { contexts = s.contexts; done = s.done ++ m ∷ []; pending = Pending.Nothing; bytes = []; levels = s.levels; limit = s.limit }
 
-abbrev pub into : Context → Mark → State → State
+abbrev pub into : Context → Piece → State → State
 into x m s = record { contexts = x ∷ s.contexts; done = s.done ++ m ∷ []; pending = Pending.Nothing; bytes = []; levels = s.levels; limit = s.limit }
 
 abbrev pub outer : List Context → List Context
 outer [] = []
 outer (x ∷ xs) = xs
 
-abbrev pub out : Mark → State → State
+abbrev pub out : Piece → State → State
 out m s = record { contexts = outer s.contexts; done = s.done ++ m ∷ []; pending = Pending.Nothing; bytes = []; levels = s.levels; limit = s.limit }
 
--- the levels with the compound commands of one context in place of those of another
+-- the levels, with the compound commands of the context y in place of the compound commands of x
 abbrev pub in_place : Context → Context → ℕ → ℕ
 in_place x y n = (n - compounds_in x) + compounds_in y
 
--- one that leaves a level, with the compound commands in it
-abbrev pub out_level : Mark → State → State
+-- a piece that closes a level, with the compound commands in it
+abbrev pub out_level : Piece → State → State
 out_level m s =
     record { contexts = outer s.contexts; done = s.done ++ m ∷ []; pending = Pending.Nothing; bytes = []; levels = (s.levels - compounds_in (top_of s.contexts)) - 1; limit = s.limit }
 
-abbrev pub level_over : Mark → State → State
+abbrev pub level_over : Piece → State → State
 level_over m s = record { contexts = s.contexts; done = s.done ++ m ∷ []; pending = Pending.Nothing; bytes = []; levels = s.levels - 1; limit = s.limit }
 
--- a word is over; r: < or > follows it
+-- a word ends; r: < or > follows it
 abbrev pub word_out : Bool → State → State
 word_out r s = record { contexts = word_over r s.done s.contexts; done = s.done ++ WordClose r ∷ []; pending = Pending.Nothing; bytes = []; levels = in_place (around_of s.contexts) (top_of (word_over r s.done s.contexts)) s.levels; limit = s.limit }
 
 abbrev pub operator_out : Operator → State → State
 operator_out o s =
-    record { contexts = with_token (OfOperator o) s.contexts; done = s.done ++ Mark.Operator o ∷ []; pending = Pending.Nothing; bytes = []; levels = in_place (top_of s.contexts) (top_of (with_token (OfOperator o) s.contexts)) s.levels; limit = s.limit }
+    record { contexts = with_token (OfOperator o) s.contexts; done = s.done ++ Piece.Operator o ∷ []; pending = Pending.Nothing; bytes = []; levels = in_place (top_of s.contexts) (top_of (with_token (OfOperator o) s.contexts)) s.levels; limit = s.limit }
 
 -- the bodies of the here-documents that were due are over
 abbrev pub bodies_out : State → State
@@ -95,7 +96,7 @@ opens p s =
     then On (record { contexts = s.contexts; done = s.done; pending = p; bytes = []; levels = suc s.levels; limit = s.limit })
     else TooDeep s
 
--- where the piece began with a `$` that came before
+-- the same where the piece begins with the `$` before the character
 abbrev pub at_dollar : Stepped → Stepped
 at_dollar (On s) = On s
 at_dollar (Before s) = Before s
@@ -107,7 +108,7 @@ at_dollar (WordTooDeep s) = WordTooDeep s
 abbrev pub is_top : List Context → Bool
 is_top xs = is_text (top_of xs)
 
--- a byte of a word or of a part of one, in the innermost context, but for one that ends the word
+-- a byte of a word or of a part of one, in the innermost context, which doesn't end the word
 unfoldable pub inner_byte : Context → State → ℕ → Stepped
 inner_byte x s b =
     if nat_eq b 41 && is_arithmetic x then On (pend Pending.Parenthesis s)
@@ -136,7 +137,7 @@ over o s =
     else if begins_compound (class_of_operator o) && is_over_full s then TooDeep s
     else On s
 
--- an operator as far as it has come
+-- the operator read so far: it waits for a byte more, or it is over
 abbrev pub grow : Operator → State → Stepped
 grow o s = if may_grow o then On (pend (Pending.Operator o) s) else over o (operator_out o s)
 
@@ -150,7 +151,7 @@ between s b =
     else if is_operator_byte b then grow (operator_of b) s
     else word_byte (Word (length s.done)) (into (Word (length s.done)) WordOpen s) b
 
--- behind a word; begins: a compound command may begin with it
+-- a byte after a word; begins: a compound command may begin with the word
 abbrev pub after_word : Bool → State → ℕ → Stepped
 after_word begins s b =
     if is_top s.contexts then Before s
@@ -160,14 +161,14 @@ after_word begins s b =
 abbrev pub end_word : Bool → State → ℕ → Stepped
 end_word r s b = after_word (word_begins r s.done (top_of s.contexts)) (word_out r s) b
 
--- a byte where nothing has begun
+-- a byte where no piece has begun
 unfoldable pub plain_byte : State → ℕ → Stepped
 plain_byte s b =
     if between_tokens (top_of s.contexts) then between s b
     else if is_word (top_of s.contexts) && is_end b then end_word (is_redirection b) s b
     else word_byte (top_of s.contexts) s b
 
--- a byte behind a backslash, where nothing has begun
+-- a byte after a backslash, where no piece has begun
 abbrev pub escape : Context → State → ℕ → Stepped
 escape x s b = On (same (if quotes x b then Escaped b else Backslash b) s)
 
@@ -205,12 +206,12 @@ in_name s (Plain b) = if continues_name b then On (keep Pending.Name b s) else p
 in_name s (Quoted b) = quoted_byte (same (Variable s.bytes) s) b
 in_name s (Raw b) = On s
 
-abbrev pub headed : Head → State → ℕ → Option Head → Stepped
-headed h s b (Some longer) = On (keep (Pending.Head longer) b s)
-headed h s b None = plain_byte (into (braces_of (is_quoted (top_of s.contexts)) (Some h)) (BraceOpen s.bytes) s) b
+abbrev pub head_byte : Head → State → ℕ → Option Head → Stepped
+head_byte h s b (Some longer) = On (keep (Pending.Head longer) b s)
+head_byte h s b None = plain_byte (into (braces_of (is_quoted (top_of s.contexts)) (Some h)) (BraceOpen s.bytes) s) b
 
 unfoldable pub in_head : Head → State → Character → Stepped
-in_head h s (Plain b) = headed h s b (grown_head h b)
+in_head h s (Plain b) = head_byte h s b (grown_head h b)
 in_head h s (Quoted b) = quoted_byte (into (braces_of (is_quoted (top_of s.contexts)) (Some h)) (BraceOpen s.bytes) s) b
 in_head h s (Raw b) = On s
 
@@ -246,7 +247,7 @@ grow_to o (Some longer) s b = grow longer s
 grow_to o None s b = then_act (operator_out o s) (Plain b)
 
 unfoldable pub in_operator : Operator → State → Character → Stepped
-in_operator o s (Plain b) = grow_to o (grown o b) s b
+in_operator o s (Plain b) = grow_to o (longer_operator o b) s b
 in_operator o s (Quoted b) = then_act (operator_out o s) (Quoted b)
 in_operator o s (Raw b) = On s
 
@@ -255,12 +256,12 @@ in_comment s (Raw b) = if nat_eq b 10 then plain_byte (same (Comment s.bytes) s)
 in_comment s (Plain b) = On s
 in_comment s (Quoted b) = On s
 
--- the line that began behind so many bytes of the bodies
+-- the line that began after so many bytes of the bodies
 abbrev pub line_of : ℕ → State → List ℕ
 line_of line s = drop line s.bytes
 
--- what a line of a body is, which is over, where these of all that are due are awaited from its body on; joined: the line before goes on
--- with it
+-- what a finished line of a body is, where `all` bodies are due and this body and those after it are still
+-- awaited; joined: the line before is joined with this line
 abbrev pub body_end : ℕ → List Delimiter → LineEnd
 body_end all [] = LineEnd.LastBody
 body_end all (d ∷ ds) = LineEnd.Body (all - length (d ∷ ds))
@@ -269,14 +270,14 @@ abbrev pub line_end : ℕ → List Delimiter → Bool → List ℕ → LineEnd
 line_end all [] joined line = LineEnd.Unawaited
 line_end all (d ∷ ds) joined line = if not joined && is_end_line d line then body_end all ds else LineEnd.Line (joins_next d line)
 
--- behind so many bodies
+-- the state after a finished line, after so many bodies
 abbrev pub line_over : LineEnd → ℕ → State → Stepped
 line_over LineEnd.Unawaited bodies s = On s
 line_over LineEnd.LastBody bodies s = On (bodies_out s)
 line_over (LineEnd.Body n) bodies s = On (keep (Pending.Body (suc (length s.bytes)) n false) 10 s)
 line_over (LineEnd.Line joins) bodies s = On (keep (Pending.Body (suc (length s.bytes)) bodies joins) 10 s)
 
--- the end of a line, behind so many bodies, where these are due in all
+-- what a finished line is, after so many bodies, where these bodies are due in all
 abbrev pub line_at : List Delimiter → ℕ → Bool → List ℕ → LineEnd
 line_at due bodies joined line = line_end (length due) (drop bodies due) joined line
 

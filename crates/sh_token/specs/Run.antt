@@ -3,13 +3,13 @@ use Rattle.std.specs.Prelude.{ℕ, suc, Bool, true, false, ◌&&◌, not, nat_eq
 use Rattle.sh_token_pieces.specs.declared.character.Character.TheVariants.{Plain, Quoted, Raw}
 use Rattle.sh_token_pieces.specs.declared.context.Context.{Context}
 use Rattle.sh_token_pieces.specs.declared.context.Context.TheVariants.{Top}
-use Rattle.sh_token_pieces.specs.declared.mark.Mark.TheVariants.{Variable, Dollar, Comment}
+use Rattle.sh_token_pieces.specs.declared.piece.Piece.TheVariants.{Variable, Dollar, Comment}
 use Rattle.sh_token_pieces.specs.declared.pending.Pending.{Pending}
-use Rattle.sh_token_pieces.specs.Marks.{is_text, is_body, is_word, word_begins, word_place, top_of}
+use Rattle.sh_token_pieces.specs.Pieces.{is_text, is_body, is_word, word_begins, word_place, top_of}
 use Rattle.sh_token_pieces.specs.Pendings.{is_raw, is_gap_pending}
 use Rattle.sh_token.specs.Machine.{State, Stepped, On, Before, After, TooDeep, DollarTooDeep, WordTooDeep, step, is_top, is_over_full, same, word_out, operator_out}
 
--- a scanner between two bytes; held: a backslash came, and not yet the byte behind it
+-- a scanner between two bytes; held: a backslash came, and not yet the byte after it
 pub record Scan : Type 0 where
   pub state : State
   pub held : Bool
@@ -19,17 +19,18 @@ pub data Fed : Type 0 where
   Waits : (held : Bool) → (state : State) → Fed
   Takes : (stepped : Stepped) → Fed
 
-unfoldable pub fed : Scan → ℕ → Fed
-fed s b =
+unfoldable pub byte_step : Scan → ℕ → Fed
+byte_step s b =
     if s.held then (if nat_eq b 10 then Waits false s.state else Takes (step s.state (Quoted b)))
     else if is_raw s.state.pending then Takes (step s.state (Raw b))
     else if nat_eq b 92 then Waits true s.state
     else Takes (step s.state (Plain b))
 
--- how a text goes: a token of it, the text from its first byte on, and the text behind it; or the text from where a level too many opens;
--- or, where its end comes first, the text from where a form of a body began last
+-- what a scan finds: a token, the text from its first byte on, and the text after it; or the text from the
+-- place where a level too many opens; or, where the text ends first, the text from the place where a form of
+-- a body began last
 pub data Scanned : Type 0 where
-  Ended : (state : State) → (front rest : List ℕ) → Scanned
+  Ended : (state : State) → (prefix rest : List ℕ) → Scanned
   Deep : (rest : List ℕ) → Scanned
   Open : (form : List ℕ) → Scanned
 
@@ -77,11 +78,12 @@ is_first_piece (Some k) n = nat_eq n (suc (suc k))
 abbrev pub begins_word : State → Bool
 begins_word s = is_nothing s.pending && is_first_piece (word_place (top_of s.contexts)) (length s.done)
 
--- the text's parts that are kept: from the token's first byte on, from the first byte of the last character on, behind that
--- character, from the next character's first byte on, from the last byte on with which a form of a body may begin, and from the first byte
--- on of the word that began last, if that is a byte that stands for itself
+-- ends of the text that are kept, in the order of the fields: from the token's first byte on; from the first
+-- byte of the last character on; after that character; from the first byte of the next character on; from the
+-- last byte on with which a form of a body may begin; from the first byte on of the word that began last, if
+-- this byte stands for itself
 pub record Places : Type 0 where
-  pub front : List ℕ
+  pub prefix : List ℕ
   pub previous : List ℕ
   pub behind : List ℕ
   pub next : List ℕ
@@ -94,7 +96,7 @@ pub data Ending : Type 0 where
   EndsDeep : Ending
   EndsNot : Ending
 
--- a word is over; begins: a compound command may begin with it
+-- a word has ended; begins: a compound command may begin with it
 abbrev pub word_end : Bool → State → Ending
 word_end begins s =
     if is_top s.contexts then EndsIn s
@@ -126,26 +128,27 @@ ended_in Pending.BackquotesEscape s = EndsNot
 ended_in Pending.Parenthesis s = EndsNot
 ended_in (Pending.Body l n j) s = EndsNot
 
--- where no token has begun, it begins with the next character
-abbrev pub fronted : Bool → Places → Places
-fronted true p = record { front = p.next; previous = p.previous; behind = p.next; next = p.next; form = p.form; word = p.word }
-fronted false p = p
+-- where no token has begun, the token begins with the next character
+abbrev pub with_next_prefix : Bool → Places → Places
+with_next_prefix true p = record { prefix = p.next; previous = p.previous; behind = p.next; next = p.next; form = p.form; word = p.word }
+with_next_prefix false p = p
 
-abbrev pub with_front : State → Places → Places
-with_front s p = fronted (is_gap_state s) p
+abbrev pub with_prefix : State → Places → Places
+with_prefix s p = with_next_prefix (is_gap_state s) p
 
--- behind a character that was taken, where the text is this; form, word: a form of a body, or a word, may begin with it
-abbrev pub moved : Bool → Bool → List ℕ → Places → Places
-moved form word after p =
-    record { front = p.front; previous = p.next; behind = after; next = after; form = if form then p.next else p.form; word = if word then p.next else p.word }
+-- after a character that was taken; `after` is the text there; form, word: a form of a body, or a word, may
+-- begin with it
+abbrev pub after_character : Bool → Bool → List ℕ → Places → Places
+after_character form word after p =
+    record { prefix = p.prefix; previous = p.next; behind = after; next = after; form = if form then p.next else p.form; word = if word then p.next else p.word }
 
--- behind a byte that waits, or a joined line
-abbrev pub waited : Bool → List ℕ → Places → Places
-waited true after p = p
-waited false after p = record { front = p.front; previous = p.previous; behind = p.behind; next = after; form = p.form; word = p.word }
+-- after a byte that waits, or a joined line
+abbrev pub after_wait : Bool → List ℕ → Places → Places
+after_wait true after p = p
+after_wait false after p = record { prefix = p.prefix; previous = p.previous; behind = p.behind; next = after; form = p.form; word = p.word }
 
 abbrev pub last_token : Ending → Places → Scanned
-last_token (EndsIn s) p = Ended s p.front p.behind
+last_token (EndsIn s) p = Ended s p.prefix p.behind
 last_token EndsDeep p = Deep p.word
 last_token EndsNot p = Open p.form
 
@@ -154,9 +157,9 @@ last_places s p = last_token (ended_in s.pending s) p
 
 -- the end of the input, where a backslash that waits stands for itself
 abbrev pub last_step : Stepped → Places → Scanned
-last_step (On s) p = last_places s (with_front s (moved (begins_form s) (begins_word s) [] p))
-last_step (Before s) p = Ended s p.front p.behind
-last_step (After s) p = Ended s p.front []
+last_step (On s) p = last_places s (with_prefix s (after_character (begins_form s) (begins_word s) [] p))
+last_step (Before s) p = Ended s p.prefix p.behind
+last_step (After s) p = Ended s p.prefix []
 last_step (TooDeep s) p = Deep p.next
 last_step (DollarTooDeep s) p = Deep p.previous
 last_step (WordTooDeep s) p = Deep p.word
@@ -175,14 +178,14 @@ on (Takes (DollarTooDeep s)) w t b a d g k = g
 on (Takes (WordTooDeep s)) w t b a d g k = k
 
 abbrev pub run : Bool → Bool → State → Places → List ℕ → Scanned
-run e h s p [] = if e then last h s (with_front s p) else Open p.form
+run e h s p [] = if e then last h s (with_prefix s p) else Open p.form
 run e h s p (b ∷ bs) =
-    let q = with_front s p in
-    on (fed (record { state = s; held = h }) b)
-    (λ held t. run e held t (waited held bs q) bs)
-    (λ t. run e false t (moved (begins_form t) (begins_word t) bs q) bs)
-    (λ t. Ended t q.front q.behind)
-    (λ t. Ended t q.front bs)
+    let q = with_prefix s p in
+    on (byte_step (record { state = s; held = h }) b)
+    (λ held t. run e held t (after_wait held bs q) bs)
+    (λ t. run e false t (after_character (begins_form t) (begins_word t) bs q) bs)
+    (λ t. Ended t q.prefix q.behind)
+    (λ t. Ended t q.prefix bs)
     (Deep q.next)
     (Deep q.previous)
     (Deep q.word)
@@ -192,7 +195,7 @@ start x limit = record { contexts = x ∷ []; done = []; pending = Pending.Nothi
 
 -- a text that begins in this context, and in which so many levels may be open
 abbrev pub scanned_in : Context → Bool → ℕ → List ℕ → Scanned
-scanned_in x e limit bytes = run e false (start x limit) (record { front = bytes; previous = bytes; behind = bytes; next = bytes; form = bytes; word = bytes }) bytes
+scanned_in x e limit bytes = run e false (start x limit) (record { prefix = bytes; previous = bytes; behind = bytes; next = bytes; form = bytes; word = bytes }) bytes
 
-abbrev pub scanned : Bool → ℕ → List ℕ → Scanned
-scanned e limit bytes = scanned_in Top e limit bytes
+abbrev pub scan_of : Bool → ℕ → List ℕ → Scanned
+scan_of e limit bytes = scanned_in Top e limit bytes

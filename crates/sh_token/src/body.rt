@@ -1,8 +1,8 @@
 //! The bodies of here-documents of a substitution (XCU 2.7.4), byte by byte.
-ghost use Rattle.sh_token_pieces.specs.Marks.{top_of, due_in};
+ghost use Rattle.sh_token_pieces.specs.Pieces.{top_of, due_in};
 ghost use Rattle.std.specs.Prelude.{◌≡◌, IfOk, drop};
 ghost use Rattle.sh_token.specs.Machine.{body_end, line_at, line_over, line_of, in_body};
-ghost use Rattle.sh_token.specs.Steps.{stepped};
+ghost use Rattle.sh_token.specs.Steps.{with_state};
 
 use crate::state::State;
 use crate::step::Step;
@@ -11,20 +11,20 @@ use sh_token_pieces::here::Delimiter;
 use sh_token_pieces::pending::Pending;
 use std::alloc::AllocError;
 
-/// What a line of a body is, which is over.
+/// What a finished line of a body is.
 #[derive(Clone, Copy)]
 enum LineEnd {
-    /// None was awaited.
+    /// No body was awaited.
     Unawaited,
     /// The end line of the last body.
     LastBody,
-    /// The end line of another one; so many bodies are over with it.
+    /// The end line of another body; so many bodies are over with it.
     Body(usize),
-    /// A line of the body; it goes on with the next one if true.
+    /// A line of the body; it is joined with the next line if true.
     Line(bool),
 }
 
-/// The end line of a body, where these of all are due behind it.
+/// The end line of a body, where `all` bodies are due and the bodies of `others` come after this one.
 fn body_end(all: usize, others: &[Delimiter]) -> LineEnd
     ensures { result ≡ body_end all others.now }
 {
@@ -46,7 +46,7 @@ fn awaited(due: &[Delimiter], bodies: usize) -> &[Delimiter]
     }
 }
 
-/// What the line is, behind so many bodies of all that are due; `joined`: the one before goes on with it.
+/// What the line is, after so many of the bodies that are due; `joined`: the line before is joined with it.
 fn line_end(due: &[Delimiter], bodies: usize, joined: bool, line: &[u8]) -> LineEnd
     ensures { result ≡ line_at due.now bodies joined line.now }
 {
@@ -60,9 +60,12 @@ fn line_end(due: &[Delimiter], bodies: usize, joined: bool, line: &[u8]) -> Line
     }
 }
 
-/// A line is over, behind so many bodies.
+/// Ends a line, after so many bodies.
 fn end_line(state: &mut State, line: usize, bodies: usize, joined: bool) -> Result<Step, AllocError>
-    ensures { IfOk result (λ w. line_over (line_at (due_in (top_of state.old.contexts)) bodies joined (line_of line state.old)) bodies state.old ≡ stepped w state.new) }
+    ensures { IfOk result (λ w.
+        line_over
+        (line_at (due_in (top_of state.old.contexts)) bodies joined (line_of line state.old))
+        bodies state.old ≡ with_state w state.new) }
 {
     match line_end(state.contexts().due(), bodies, joined, state.line(line)) {
         LineEnd::Unawaited => Ok(Step::On),
@@ -81,7 +84,8 @@ fn end_line(state: &mut State, line: usize, bodies: usize, joined: bool) -> Resu
     }
 }
 
-/// A character in the bodies of here-documents; its line began behind so many bytes and bodies.
+/// Takes a character in the bodies of here-documents. Its line began after `line` bytes of them and after
+/// `bodies` bodies.
 #[tactic(auto, unfolding(crate::specs::Machine::in_body))]
 pub(crate) fn take_in_body(
     line: usize,
@@ -90,7 +94,7 @@ pub(crate) fn take_in_body(
     state: &mut State,
     c: Character,
 ) -> Result<Step, AllocError>
-    ensures { IfOk result (λ w. in_body line bodies joined state.old c ≡ stepped w state.new) }
+    ensures { IfOk result (λ w. in_body line bodies joined state.old c ≡ with_state w state.new) }
 {
     match c {
         Character::Raw(b) => {

@@ -9,18 +9,18 @@ use crate::scanner::{Outcome, scan};
 use sh_base::NoMemory;
 use sh_base::sequence::Sequence;
 use sh_token_pieces::context::Context;
-use sh_token_pieces::mark::Mark;
+use sh_token_pieces::piece::Piece;
 use std::alloc::{AllocError, Global};
 use thiserror::Error;
 
 /// Why a body has no pieces.
 #[derive(Clone, Copy, Debug, PartialEq, Eq, Error)]
 pub enum BodyFault {
-    /// The form that begins with the `$` or the backquote at `at` is open at the end of the body, and lies in no other.
+    /// The form that begins with the `$` or the backquote at byte `at` is open at the end of the body, and is
+    /// in no other form.
     #[error("unfinished expansion at byte {at}")]
     Open { at: usize },
-    /// More levels than may be open, counted from the body: the piece at `at`, or the compound command that begins there, opens one
-    /// too many.
+    /// The piece at byte `at` of the body, or the compound command that begins there, opens a level too many.
     #[error("too deep at byte {at}")]
     TooDeep { at: usize },
     /// There was not enough memory.
@@ -39,12 +39,13 @@ impl From<AllocError> for BodyFault {
     }
 }
 
-/// The pieces of a body, joined lines left out: parameter, command and arithmetic expansions, and what a backslash
-/// quotes, which is `$`, a backquote and a backslash (XCU 2.7.4). Quotes outside of the expansions are bytes like any
-/// others, and so are NULs. `levels`: how many may be open. Where a place is given, it is in the body.
+/// The pieces of a body, joined lines left out: parameter, command and arithmetic expansions, and what a
+/// backslash quotes: `$`, a backquote and a backslash (XCU 2.7.4). Quotes outside of the expansions are bytes
+/// like any others, and so are NULs. `levels`: how many levels may be open, counted from the body on. A place
+/// in a fault is the number of bytes of the body before it.
 #[tactic(auto, unfolding(crate::specs::Found::pieces_of_body))]
-pub fn body_pieces(alloc: Global, body: &[u8], levels: usize) -> Result<Sequence<Mark>, BodyFault>
-    // The answer is the one of `pieces_of_body`, or memory ran out.
+pub fn body_pieces(alloc: Global, body: &[u8], levels: usize) -> Result<Sequence<Piece>, BodyFault>
+    // The answer is the value of `pieces_of_body`, or memory ran out.
     ensures { GivesPieces result (body_answer (pieces_of_body levels body.now)) }
 {
     match scan(alloc, Context::Body, body, true, levels)? {
@@ -58,8 +59,9 @@ pub fn body_pieces(alloc: Global, body: &[u8], levels: usize) -> Result<Sequence
     }
 }
 
-/// `pieces_of_body` gives an answer exactly when the body has it by the definition: each body has its pieces, or a form that
-/// it doesn't close, or a level too many.
+/// Law: `pieces_of_body` gives an answer exactly where the body has this answer by the definition. So each
+/// body has its pieces, or a form that it doesn't close, or a level too many.
 pub fn body_is_the_defined_one()
-    ensures { (levels : ℕ) (bytes : List ℕ) (answer : BodyPieces) → (pieces_of_body levels bytes ≡ answer) ↔ IsBody levels bytes answer }
+    ensures { (levels : ℕ) (bytes : List ℕ) (answer : BodyPieces)
+        → (pieces_of_body levels bytes ≡ answer) ↔ IsBody levels bytes answer }
 {}

@@ -6,21 +6,21 @@ ghost use Rattle.sh_token.specs.Tokens.{is_number, word_kind};
 use crate::token::TokenKind;
 use sh_base::sequence::Sequence;
 use sh_token_grammar::class::TokenClass;
-use sh_token_pieces::mark::{Mark, word_class};
+use sh_token_pieces::piece::{Piece, word_class};
 use std::alloc::{AllocError, Global};
 
 /// Whether a piece belongs to a token.
-fn is_of_token(mark: &Mark) -> bool
-    ensures { result ≡ is_of_token mark.now }
+fn is_of_token(piece: &Piece) -> bool
+    ensures { result ≡ is_of_token piece.now }
 {
-    match mark {
-        Mark::Blank(_) | Mark::Comment(_) => false,
+    match piece {
+        Piece::Blank(_) | Piece::Comment(_) => false,
         _ => true,
     }
 }
 
-/// How many pieces lie before the token.
-fn gap_length(pieces: &[Mark]) -> usize
+/// How many pieces are before the token.
+fn gap_length(pieces: &[Piece]) -> usize
     ensures { result ≡ gap_length pieces.now }
 {
     match token_place(pieces) {
@@ -30,22 +30,22 @@ fn gap_length(pieces: &[Mark]) -> usize
 }
 
 /// Where the token begins.
-fn token_place(pieces: &[Mark]) -> Option<usize>
+fn token_place(pieces: &[Piece]) -> Option<usize>
     ensures { result ≡ position is_of_token pieces.now }
 {
-    pieces.iter().position(|mark| is_of_token(mark))
+    pieces.iter().position(|piece| is_of_token(piece))
 }
 
-/// Whether a word is a descriptor number; `redirection`: `<` or `>` follows it.
-fn is_number(alloc: Global, redirection: bool, pieces: &[Mark]) -> Result<bool, AllocError>
+/// Whether a word is the number of a file descriptor; `redirection`: `<` or `>` follows it.
+fn is_number(alloc: Global, redirection: bool, pieces: &[Piece]) -> Result<bool, AllocError>
     ensures { IfOk result (λ number. number ≡ is_number redirection pieces.now) }
 {
     let class = word_class(alloc, redirection, pieces)?;
     Ok(class.number() == TokenClass::Number.number())
 }
 
-/// The pieces behind one more than so many.
-fn behind(mut pieces: Vec<Mark>, count: usize) -> Result<Vec<Mark>, AllocError>
+/// The pieces after the first `count + 1`.
+fn behind(mut pieces: Vec<Piece>, count: usize) -> Result<Vec<Piece>, AllocError>
     ensures { IfOk result (λ rest. rest.items ≡ drop (suc count) pieces.items) }
 {
     if count < pieces.len() {
@@ -56,7 +56,7 @@ fn behind(mut pieces: Vec<Mark>, count: usize) -> Result<Vec<Mark>, AllocError>
     Ok(pieces)
 }
 
-fn word_kind(alloc: Global, redirection: bool, word: Vec<Mark>) -> Result<TokenKind, AllocError>
+fn word_kind(alloc: Global, redirection: bool, word: Vec<Piece>) -> Result<TokenKind, AllocError>
     ensures { IfOk result (λ kind. kind ≡ word_kind redirection word.items) }
 {
     if is_number(alloc, redirection, word.as_slice())? {
@@ -65,13 +65,13 @@ fn word_kind(alloc: Global, redirection: bool, word: Vec<Mark>) -> Result<TokenK
     Ok(TokenKind::Word(Sequence::from_vec(word)))
 }
 
-/// The kind of the token whose last piece is `last`, behind these.
-fn kind_behind(alloc: Global, last: Mark, pieces: Vec<Mark>) -> Result<TokenKind, AllocError>
+/// The kind of the token whose last piece is `last`, after the other `pieces`.
+fn kind_behind(alloc: Global, last: Piece, pieces: Vec<Piece>) -> Result<TokenKind, AllocError>
     ensures { IfOk result (λ kind. kind ≡ kind_by last pieces.items) }
 {
     match last {
-        Mark::Operator(operator) => Ok(TokenKind::Operator(operator)),
-        Mark::WordClose(redirection) => {
+        Piece::Operator(operator) => Ok(TokenKind::Operator(operator)),
+        Piece::WordClose(redirection) => {
             let gap = gap_length(pieces.as_slice());
             let word = behind(pieces, gap)?;
             let kind = word_kind(alloc, redirection, word)?;
@@ -82,7 +82,7 @@ fn kind_behind(alloc: Global, last: Mark, pieces: Vec<Mark>) -> Result<TokenKind
 }
 
 /// The kind of the token that these pieces are.
-pub(crate) fn kind(alloc: Global, mut pieces: Vec<Mark>) -> Result<TokenKind, AllocError>
+pub(crate) fn kind(alloc: Global, mut pieces: Vec<Piece>) -> Result<TokenKind, AllocError>
     ensures { IfOk result (λ kind. kind ≡ kind_of pieces.items) }
 {
     let Some(last) = pieces.pop() else {

@@ -1,23 +1,23 @@
 //! A scanner for one token, which is fed byte by byte.
-ghost use Rattle.sh_token_pieces.specs.Marks.{top_of};
+ghost use Rattle.sh_token_pieces.specs.Pieces.{top_of};
 ghost use Rattle.std.specs.Prelude.{◌≡◌, IfOk, Option, Some, None, length};
 ghost use Rattle.sh_token.specs.Machine.{step, same, word_out, operator_out};
-ghost use Rattle.sh_token.specs.Run.{Places, Scanned, Ended, Deep, Open, fed, is_gap_state, begins_in, begins_form, word_ended, gap_ended, ended_in, word_end, last_token, last_places, last_step, fronted, with_front, last, moved, waited, run, start, scanned_in};
-ghost use Rattle.sh_token.specs.Steps.{stepped, event, outcome, places, ending};
+ghost use Rattle.sh_token.specs.Run.{Places, Scanned, Ended, Deep, Open, byte_step, is_gap_state, begins_in, begins_form, word_ended, gap_ended, ended_in, word_end, last_token, last_places, last_step, with_next_prefix, with_prefix, last, after_character, after_wait, run, start, scanned_in};
+ghost use Rattle.sh_token.specs.Steps.{with_state, event, outcome, places, ending};
 
 use crate::state::State;
 use crate::step::{Step, take};
 use sh_token_pieces::character::Character;
 use sh_token_pieces::context::Context;
 use sh_token_pieces::contexts::Contexts;
-use sh_token_pieces::mark::Mark;
 use sh_token_pieces::pending::Pending;
+use sh_token_pieces::piece::Piece;
 use std::alloc::{AllocError, Global};
 
 /// What a byte has done.
 #[derive(Clone, Copy)]
 pub(crate) enum Event {
-    /// It waits for the next one if true; else it was the end of a joined line.
+    /// The byte waits for the next one if true; else it was the end of a joined line.
     Waits(bool),
     Takes(Step),
 }
@@ -33,23 +33,24 @@ pub(crate) enum Ending {
     Open,
 }
 
-/// How a text goes.
+/// What a scan of a text finds.
 #[derive(Drop)]
 pub(crate) enum Outcome<'a> {
-    /// A token, with the text from its first byte on and the text behind it.
+    /// A token, with the text from its first byte on and the text after it.
     Ended(State, &'a [u8], &'a [u8]),
-    /// The text from where a level too many opens.
+    /// The text from the place where a level too many opens.
     Deep(&'a [u8]),
-    /// The text from where a form of a body began last.
+    /// No token: the text from the place where a form of a body began last.
     Open(&'a [u8]),
 }
 
-/// The text's parts that are kept: from the token's first byte on, from the first byte of the last character
-/// on, behind that character, from the next character's first byte on, from the last byte on with which a form
-/// of a body may begin, and from the first byte on of the word of a substitution that began last.
+/// Ends of the text that are kept. `prefix`: from the token's first byte on. `previous`: from the first byte
+/// of the last character on. `behind`: after that character. `next`: from the first byte of the next
+/// character on. `form`: from the last byte on with which a form of a body may begin. `word`: from the first
+/// byte on of the word of a substitution that began last.
 #[derive(Clone, Copy)]
 pub(crate) struct Marked<'a> {
-    front: &'a [u8],
+    prefix: &'a [u8],
     previous: &'a [u8],
     behind: &'a [u8],
     next: &'a [u8],
@@ -57,10 +58,11 @@ pub(crate) struct Marked<'a> {
     word: &'a [u8],
 }
 
-/// One byte; `held`: a backslash came before it.
-#[tactic(auto, unfolding(crate::specs::Run::fed))]
+/// Takes one byte; `held`: a backslash came before it.
+#[tactic(auto, unfolding(crate::specs::Run::byte_step))]
 fn feed(state: &mut State, held: bool, b: u8) -> Result<Event, AllocError>
-    ensures { IfOk result (λ w. fed (record { state = state.old; held = held }) b ≡ event w state.new) }
+    ensures { IfOk result (λ w.
+        byte_step (record { state = state.old; held = held }) b ≡ event w state.new) }
 {
     if held {
         if b == b'\n' {
@@ -94,7 +96,8 @@ fn is_at_form(state: &State) -> bool
     state.contexts().is_body() && state.begins()
 }
 
-/// A word is over; `begins`: a compound command may begin with it.
+/// What the end of the input ends, where it ended a word; `begins`: a compound command may begin with the
+/// word.
 fn end_of_word(begins: bool, state: &State) -> Ending
     ensures { word_end begins state.now ≡ ending result state.now }
 {
@@ -107,7 +110,7 @@ fn end_of_word(begins: bool, state: &State) -> Ending
     Ending::Open
 }
 
-/// A body, or a word, ends at the end of the input, or none does.
+/// Ends a body or a word at the end of the input, if one is open.
 fn end_word(state: &mut State) -> Result<Ending, AllocError>
     ensures { IfOk result (λ e. word_ended state.old ≡ ending e state.new) }
 {
@@ -122,7 +125,7 @@ fn end_word(state: &mut State) -> Result<Ending, AllocError>
     Ok(end_of_word(begins, state))
 }
 
-/// The token that the end of the input ends, where nothing has begun.
+/// What the end of the input ends, where no piece has begun.
 fn end_gap(state: &mut State) -> Result<Ending, AllocError>
     ensures { IfOk result (λ e. gap_ended state.old ≡ ending e state.new) }
 {
@@ -133,7 +136,7 @@ fn end_gap(state: &mut State) -> Result<Ending, AllocError>
     Ok(end)
 }
 
-/// The token that the end of the input ends, if there is one.
+/// What the end of the input ends.
 fn end(state: &mut State) -> Result<Ending, AllocError>
     ensures { IfOk result (λ e. ended_in state.old.pending state.old ≡ ending e state.new) }
 {
@@ -144,12 +147,12 @@ fn end(state: &mut State) -> Result<Ending, AllocError>
         },
         Pending::Comment => {
             let bytes = state.take_bytes();
-            state.same(Mark::Comment(bytes))?;
+            state.same(Piece::Comment(bytes))?;
             let end = end_gap(state)?;
             Ok(end)
         },
         Pending::Dollar => {
-            state.same(Mark::Dollar)?;
+            state.same(Piece::Dollar)?;
             let end = end_word(state)?;
             Ok(end)
         },
@@ -187,17 +190,17 @@ fn end_outcome<'a>(end: Ending, state: State, at: Marked<'a>) -> Outcome<'a>
     ensures { last_token (ending end state) (places at.entry) ≡ outcome result }
 {
     match end {
-        Ending::Ended => Outcome::Ended(state, at.front, at.behind),
+        Ending::Ended => Outcome::Ended(state, at.prefix, at.behind),
         Ending::TooDeep => Outcome::Deep(at.word),
         Ending::Open => Outcome::Open(at.form),
     }
 }
 
-/// The end of the input behind a character.
+/// The end of the input, directly after a character.
 fn finish_at<'a>(state: State, at: Marked<'a>) -> Result<Outcome<'a>, AllocError>
-    ensures { IfOk result (λ r. last_places state (with_front state (places at.entry)) ≡ outcome r) }
+    ensures { IfOk result (λ r. last_places state (with_prefix state (places at.entry)) ≡ outcome r) }
 {
-    let here = at.with_front(is_in_gap(&state));
+    let here = at.with_prefix(is_in_gap(&state));
     end_at(state, here)
 }
 
@@ -215,8 +218,8 @@ fn finish<'a>(held: bool, mut state: State, at: Marked<'a>) -> Result<Outcome<'a
             let outcome = finish_at(state, at.moved(begins, word, &[]))?;
             Ok(outcome)
         },
-        Step::Before => Ok(Outcome::Ended(state, at.front, at.behind)),
-        Step::After => Ok(Outcome::Ended(state, at.front, &[])),
+        Step::Before => Ok(Outcome::Ended(state, at.prefix, at.behind)),
+        Step::After => Ok(Outcome::Ended(state, at.prefix, &[])),
         Step::TooDeep => Ok(Outcome::Deep(at.next)),
         Step::DollarTooDeep => Ok(Outcome::Deep(at.previous)),
         Step::WordTooDeep => Ok(Outcome::Deep(at.word)),
@@ -224,13 +227,13 @@ fn finish<'a>(held: bool, mut state: State, at: Marked<'a>) -> Result<Outcome<'a
 }
 
 impl<'a> Marked<'a> {
-    /// Where no token has begun, it begins with the next character.
-    fn with_front(self, in_gap: bool) -> Self
-        ensures { places result ≡ fronted in_gap (places self.entry) }
+    /// Where no token has begun, the token begins with the next character.
+    fn with_prefix(self, in_gap: bool) -> Self
+        ensures { places result ≡ with_next_prefix in_gap (places self.entry) }
     {
         if in_gap {
             Marked {
-                front: self.next,
+                prefix: self.next,
                 behind: self.next,
                 ..self
             }
@@ -239,9 +242,9 @@ impl<'a> Marked<'a> {
         }
     }
 
-    /// Behind a byte that waits, or a joined line.
+    /// After a byte that waits, or a joined line.
     fn waited(self, held: bool, after: &'a [u8]) -> Self
-        ensures { places result ≡ waited held after.now (places self.entry) }
+        ensures { places result ≡ after_wait held after.now (places self.entry) }
     {
         if held {
             self
@@ -253,12 +256,13 @@ impl<'a> Marked<'a> {
         }
     }
 
-    /// Behind a character that was taken, with which a form of a body may begin, or a word of a substitution.
+    /// After a character that was taken. `begins`: a form of a body may begin with it; `word`: a word of a
+    /// substitution may.
     fn moved(self, begins: bool, word: bool, after: &'a [u8]) -> Self
-        ensures { places result ≡ moved begins word after.now (places self.entry) }
+        ensures { places result ≡ after_character begins word after.now (places self.entry) }
     {
         Marked {
-            front: self.front,
+            prefix: self.prefix,
             previous: self.next,
             behind: after,
             next: after,
@@ -268,7 +272,8 @@ impl<'a> Marked<'a> {
     }
 }
 
-/// Feeds a scanner with a text that begins in this context, up to the end of its first token; so many levels may be open.
+/// Scans a text that begins in this context, up to the end of its first token. At most `limit` levels may be
+/// open.
 pub(crate) fn scan<'a>(
     alloc: Global,
     ground: Context,
@@ -281,7 +286,7 @@ pub(crate) fn scan<'a>(
     let mut state = State::new(alloc, ground, limit)?;
     let mut held = false;
     let mut at = Marked {
-        front: text,
+        prefix: text,
         previous: text,
         behind: text,
         next: text,
@@ -290,7 +295,7 @@ pub(crate) fn scan<'a>(
     };
     let mut left = text;
     while let Some((b, after)) = left.split_first() {
-        let here = at.with_front(is_in_gap(&state));
+        let here = at.with_prefix(is_in_gap(&state));
         match feed(&mut state, held, *b)? {
             Event::Waits(waits) => {
                 held = waits;
@@ -304,8 +309,12 @@ pub(crate) fn scan<'a>(
                 left = after;
                 continue;
             },
-            Event::Takes(Step::Before) => return Ok(Outcome::Ended(state, here.front, here.behind)),
-            Event::Takes(Step::After) => return Ok(Outcome::Ended(state, here.front, after)),
+            Event::Takes(Step::Before) => return Ok(Outcome::Ended(
+                state,
+                here.prefix,
+                here.behind,
+            )),
+            Event::Takes(Step::After) => return Ok(Outcome::Ended(state, here.prefix, after)),
             Event::Takes(Step::TooDeep) => return Ok(Outcome::Deep(here.next)),
             Event::Takes(Step::DollarTooDeep) => return Ok(Outcome::Deep(here.previous)),
             Event::Takes(Step::WordTooDeep) => return Ok(Outcome::Deep(here.word)),
@@ -314,7 +323,7 @@ pub(crate) fn scan<'a>(
     if !at_end {
         return Ok(Outcome::Open(at.form));
     }
-    let here = at.with_front(is_in_gap(&state));
+    let here = at.with_prefix(is_in_gap(&state));
     let outcome = finish(held, state, here)?;
     Ok(outcome)
 }

@@ -1,12 +1,12 @@
 //! A scanner between two characters.
-ghost use Rattle.sh_token_pieces.specs.Marks.{top_of};
+ghost use Rattle.sh_token_pieces.specs.Pieces.{top_of};
 ghost use Rattle.std.specs.Prelude.{◌≡◌, ◌++◌, ◌∷◌, [], OnOk, IfOk, length, drop, suc, Some, ◌+◌, ◌-◌};
 ghost use Rattle.sh_token_pieces.specs.declared.context.Context.TheVariants.{Word, Commands};
 ghost use Rattle.sh_token_pieces.specs.declared.pending.Pending.{Pending};
-ghost use Rattle.sh_token_pieces.specs.declared.mark.Mark.TheVariants.{WordOpen, CommandsOpen, Variable, BraceOpen};
-ghost use Rattle.sh_token_pieces.specs.Marks.{between_tokens, is_word, is_quotes, is_braces, is_arithmetic, is_parenthesis, quotes, has_single_quotes, has_double_quotes, is_quoted, may_close, braces_of, compounds_in, word_begins};
+ghost use Rattle.sh_token_pieces.specs.declared.piece.Piece.TheVariants.{WordOpen, CommandsOpen, Variable, BraceOpen};
+ghost use Rattle.sh_token_pieces.specs.Pieces.{between_tokens, is_word, is_quotes, is_braces, is_arithmetic, is_parenthesis, quotes, has_single_quotes, has_double_quotes, is_quoted, may_close, braces_of, compounds_in, word_begins};
 ghost use Rattle.sh_token_pieces.specs.Nested.{none_yet};
-ghost use Rattle.sh_token.specs.Steps.{stepped};
+ghost use Rattle.sh_token.specs.Steps.{with_state};
 ghost use Rattle.sh_token.specs.Run.{start, begins_in, begins_word};
 ghost use Rattle.sh_token.specs.Machine.{same, into, out, pend, keep, opens, out_level, level_over, word_out, operator_out, bodies_out, line_of, is_over_full};
 
@@ -15,19 +15,20 @@ use sh_base::sequence::{Sequence, Text};
 use sh_token_pieces::context::{Context, Nested};
 use sh_token_pieces::contexts::Contexts;
 use sh_token_pieces::head::Head;
-use sh_token_pieces::mark::Mark;
 use sh_token_pieces::operator::Operator;
 use sh_token_pieces::pending::Pending;
+use sh_token_pieces::piece::Piece;
 use std::alloc::{AllocError, Global};
 use std::marker::Model;
 use std::mem;
 
-/// The open contexts, the pieces so far, a piece that has begun and its bytes; how many levels are open, and how many may be.
+/// The open contexts, the pieces so far, a piece that has begun and its bytes; how many levels are open, and
+/// how many may be open.
 #[derive(Drop)]
 pub(crate) struct State {
     alloc: Global,
     contexts: Contexts,
-    done: Vec<Mark>,
+    done: Vec<Piece>,
     pending: Pending,
     bytes: Vec<u8>,
     levels: usize,
@@ -43,7 +44,7 @@ impl Model for State {
 }
 
 impl State {
-    /// At the beginning of a text, in this context, where so many levels may be open.
+    /// The state at the beginning of a text, in this context, where at most `limit` levels may be open.
     pub(crate) fn new(alloc: Global, ground: Context, limit: usize) -> Result<Self, AllocError>
         ensures { IfOk result (λ s. s ≡ start ground limit) }
     {
@@ -71,7 +72,7 @@ impl State {
         self.pending
     }
 
-    /// Whether the piece that has begun did so with the last character, and may be a form of a body.
+    /// Whether a piece has begun with the last character, and may be a form of a body.
     pub(crate) fn begins(&self) -> bool
         ensures { result ≡ begins_in self.now.pending self.now.bytes }
     {
@@ -82,7 +83,7 @@ impl State {
         }
     }
 
-    /// The bytes of the piece that has begun; then there are none.
+    /// Takes out the bytes of the piece that has begun.
     pub(crate) fn take_bytes(&mut self) -> Text
         ensures taken { result ≡ self.old.bytes }
         ensures left { self.new ≡ record self.old { bytes = [] } }
@@ -91,52 +92,55 @@ impl State {
         Sequence::from_vec(mem::replace(&mut self.bytes, empty))
     }
 
-    /// A piece is over, the contexts being what they then are.
-    fn push(&mut self, mark: Mark) -> Result<(), AllocError>
-        ensures { OnOk result (self.new ≡ same mark self.old) }
+    /// Adds a finished piece. The contexts stay as they are.
+    fn push(&mut self, piece: Piece) -> Result<(), AllocError>
+        ensures { OnOk result (self.new ≡ same piece self.old) }
     {
-        self.done.push(mark)?;
+        self.done.push(piece)?;
         self.pending = Pending::Nothing;
         self.bytes.clear();
         Ok(())
     }
 
-    /// A piece that leaves the contexts as they are.
-    pub(crate) fn same(&mut self, mark: Mark) -> Result<(), AllocError>
-        ensures { OnOk result (self.new ≡ same mark self.old) }
+    /// Adds a piece that changes no context.
+    pub(crate) fn same(&mut self, piece: Piece) -> Result<(), AllocError>
+        ensures { OnOk result (self.new ≡ same piece self.old) }
     {
-        self.push(mark)
+        self.push(piece)
     }
 
-    /// A piece that goes into a context.
-    pub(crate) fn into(&mut self, context: Context, mark: Mark) -> Result<(), AllocError>
-        ensures { OnOk result (self.new ≡ into context mark self.old) }
+    /// Adds a piece that opens a context.
+    pub(crate) fn into(&mut self, context: Context, piece: Piece) -> Result<(), AllocError>
+        ensures { OnOk result (self.new ≡ into context piece self.old) }
     {
         self.contexts.push(context)?;
-        self.push(mark)
+        self.push(piece)
     }
 
-    /// A piece that leaves a context.
-    pub(crate) fn out(&mut self, mark: Mark) -> Result<(), AllocError>
-        ensures { OnOk result (self.new ≡ out mark self.old) }
+    /// Adds a piece that closes a context.
+    pub(crate) fn out(&mut self, piece: Piece) -> Result<(), AllocError>
+        ensures { OnOk result (self.new ≡ out piece self.old) }
     {
         self.contexts.pop();
-        self.push(mark)
+        self.push(piece)
     }
 
-    /// A piece that leaves a context which is a level, with the compound commands in it.
-    pub(crate) fn out_level(&mut self, mark: Mark) -> Result<(), AllocError>
-        ensures { OnOk result (self.new ≡ out_level mark self.old) }
+    /// Adds a piece that closes a context which is a level. The compound commands in the context are closed
+    /// with it.
+    pub(crate) fn out_level(&mut self, piece: Piece) -> Result<(), AllocError>
+        ensures { OnOk result (self.new ≡ out_level piece self.old) }
     {
         let compounds = self.contexts.open_compounds();
         self.contexts.pop();
         self.levels = self.levels.saturating_sub(compounds);
-        self.level_over(mark)
+        self.level_over(piece)
     }
 
-    /// The levels with the compound commands of the innermost context in place of so many.
+    /// Counts the open compound commands of the innermost context anew; there were `before` of them.
     fn replace_compounds(&mut self, before: usize) -> Result<(), AllocError>
-        ensures { OnOk result (self.new ≡ record self.old { levels = (self.old.levels - before) + compounds_in (top_of self.old.contexts) }) }
+        ensures { OnOk result
+            (self.new ≡ record self.old
+            { levels = (self.old.levels - before) + compounds_in (top_of self.old.contexts) }) }
     {
         let others = self.levels.saturating_sub(before);
         let Some(levels) = others.checked_add(self.contexts.open_compounds()) else {
@@ -153,9 +157,11 @@ impl State {
         self.limit < self.levels
     }
 
-    /// Whether a compound command may begin with the word that is over.
+    /// Whether a compound command may begin with the word that ends here; `redirection`: `<` or `>` follows
+    /// it.
     pub(crate) fn word_begins_compound(&self, redirection: bool) -> Result<bool, AllocError>
-        ensures { IfOk result (λ begins. begins ≡ word_begins redirection self.now.done (top_of self.now.contexts)) }
+        ensures { IfOk result (λ begins.
+            begins ≡ word_begins redirection self.now.done (top_of self.now.contexts)) }
     {
         self.contexts
             .word_begins_compound(redirection, self.done.as_slice())
@@ -174,15 +180,15 @@ impl State {
         matches!(self.pending, Pending::Nothing) && self.done.len() - begin == 2
     }
 
-    /// A piece that was a level.
-    pub(crate) fn level_over(&mut self, mark: Mark) -> Result<(), AllocError>
-        ensures { OnOk result (self.new ≡ level_over mark self.old) }
+    /// Adds a piece that was a level by itself, which is closed.
+    pub(crate) fn level_over(&mut self, piece: Piece) -> Result<(), AllocError>
+        ensures { OnOk result (self.new ≡ level_over piece self.old) }
     {
         self.levels = self.levels.saturating_sub(1);
-        self.push(mark)
+        self.push(piece)
     }
 
-    /// A piece begins.
+    /// Begins a piece.
     pub(crate) fn pend(&mut self, pending: Pending)
         ensures { self.new ≡ pend pending self.old }
     {
@@ -190,7 +196,7 @@ impl State {
         self.bytes.clear();
     }
 
-    /// A byte more of the piece that has begun.
+    /// Adds a byte to the piece that has begun.
     pub(crate) fn keep(&mut self, pending: Pending, b: u8) -> Result<(), AllocError>
         ensures { OnOk result (self.new ≡ keep pending b self.old) }
     {
@@ -199,9 +205,11 @@ impl State {
         Ok(())
     }
 
-    /// A newline of the bodies of here-documents, with which a line is over.
+    /// Adds a newline to the bodies of here-documents, which ends a line of them.
     pub(crate) fn keep_line(&mut self, bodies: usize, joined: bool) -> Result<(), AllocError>
-        ensures { OnOk result (self.new ≡ keep (Pending.Body (suc (length self.old.bytes)) bodies joined) 10 self.old) }
+        ensures { OnOk result
+            (self.new ≡ keep (Pending.Body (suc (length self.old.bytes)) bodies joined) 10
+            self.old) }
     {
         self.bytes.push(b'\n')?;
         self.pending = Pending::Body {
@@ -212,9 +220,9 @@ impl State {
         Ok(())
     }
 
-    /// A piece begins that opens a level, unless that is one too many.
+    /// Begins a piece that opens a level, unless this level is one too many.
     pub(crate) fn open(&mut self, pending: Pending) -> Step
-        ensures { opens pending self.old ≡ stepped result self.new }
+        ensures { opens pending self.old ≡ with_state result self.new }
     {
         if self.levels >= self.limit {
             return Step::TooDeep;
@@ -224,35 +232,35 @@ impl State {
         Step::On
     }
 
-    /// A word begins.
+    /// Begins a word.
     pub(crate) fn open_word(&mut self) -> Result<(), AllocError>
         ensures { OnOk result (self.new ≡ into (Word (length self.old.done)) WordOpen self.old) }
     {
         let begin = self.done.len();
-        self.into(Context::Word(begin), Mark::WordOpen)
+        self.into(Context::Word(begin), Piece::WordOpen)
     }
 
-    /// A word is over; `redirection`: `<` or `>` follows it.
+    /// Ends a word; `redirection`: `<` or `>` follows it.
     pub(crate) fn close_word(&mut self, redirection: bool) -> Result<(), AllocError>
         ensures { OnOk result (self.new ≡ word_out redirection self.old) }
     {
         let compounds = self.contexts.compounds_around();
         self.contexts.close_word(redirection, self.done.as_slice())?;
         self.replace_compounds(compounds)?;
-        self.push(Mark::WordClose(redirection))
+        self.push(Piece::WordClose(redirection))
     }
 
-    /// An operator is over.
+    /// Ends an operator.
     pub(crate) fn operator_out(&mut self, operator: Operator) -> Result<(), AllocError>
         ensures { OnOk result (self.new ≡ operator_out operator self.old) }
     {
         let compounds = self.contexts.open_compounds();
         self.contexts.take_operator(operator)?;
         self.replace_compounds(compounds)?;
-        self.push(Mark::Operator(operator))
+        self.push(Piece::Operator(operator))
     }
 
-    /// The bodies of the here-documents that were due are over with a newline.
+    /// Ends the bodies of the here-documents that were due, with a newline.
     pub(crate) fn bodies_out(&mut self) -> Result<(), AllocError>
         ensures { OnOk result (self.new ≡ bodies_out self.old) }
     {
@@ -261,10 +269,10 @@ impl State {
         self.replace_compounds(compounds)?;
         self.bytes.push(b'\n')?;
         let bytes = self.take_bytes();
-        self.push(Mark::Bodies(bytes))
+        self.push(Piece::Bodies(bytes))
     }
 
-    /// The line that began behind so many bytes of the bodies.
+    /// The line that began after so many bytes of the bodies.
     pub(crate) fn line(&self, line: usize) -> &[u8]
         ensures { result.now ≡ line_of line self.now }
     {
@@ -275,33 +283,35 @@ impl State {
         }
     }
 
-    /// The tokens of a command substitution begin.
+    /// Begins the tokens of a command substitution.
     pub(crate) fn open_commands(&mut self) -> Result<(), AllocError>
         ensures { OnOk result (self.new ≡ into (Commands none_yet) CommandsOpen self.old) }
     {
         let nested = Nested::new(self.alloc)?;
-        self.into(Context::Commands(nested), Mark::CommandsOpen)
+        self.into(Context::Commands(nested), Piece::CommandsOpen)
     }
 
-    /// The name behind a `$` is over.
+    /// Ends the name after a `$`.
     pub(crate) fn close_name(&mut self) -> Result<(), AllocError>
         ensures { OnOk result (self.new ≡ same (Variable self.old.bytes) self.old) }
     {
         let bytes = self.take_bytes();
-        self.same(Mark::Variable(bytes))
+        self.same(Piece::Variable(bytes))
     }
 
-    /// What stands between `${` and its word is over.
+    /// Ends what is between `${` and its word.
     pub(crate) fn close_head(&mut self, head: Head) -> Result<(), AllocError>
-        ensures { OnOk result (self.new ≡ into (braces_of (is_quoted (top_of self.old.contexts)) (Some head)) (BraceOpen self.old.bytes) self.old) }
+        ensures { OnOk result
+            (self.new ≡ into (braces_of (is_quoted (top_of self.old.contexts)) (Some head))
+            (BraceOpen self.old.bytes) self.old) }
     {
         let quoted = self.contexts.is_quoted() && !head.reads_bare();
         let bytes = self.take_bytes();
-        self.into(Context::Braces(quoted), Mark::BraceOpen(bytes))
+        self.into(Context::Braces(quoted), Piece::BraceOpen(bytes))
     }
 
     /// The pieces.
-    pub(crate) fn into_pieces(self) -> Vec<Mark>
+    pub(crate) fn into_pieces(self) -> Vec<Piece>
         ensures { result.items ≡ self.done }
     {
         let State { done, .. } = self;

@@ -1,11 +1,11 @@
-//! What a character makes of a scanner.
-ghost use Rattle.sh_token_pieces.specs.Marks.{top_of};
+//! What a character does to a scanner.
+ghost use Rattle.sh_token_pieces.specs.Pieces.{top_of};
 ghost use Rattle.sh_token_pieces.specs.Growth.{operator_of, may_grow};
 ghost use Rattle.std.specs.Prelude.{◌≡◌, IfOk, Option, Some, None};
-ghost use Rattle.sh_token_pieces.specs.Growth.{grown};
+ghost use Rattle.sh_token_pieces.specs.Growth.{longer_operator};
 ghost use Rattle.sh_token_pieces.specs.Heads.{grown_head};
-ghost use Rattle.sh_token.specs.Machine.{inner_byte, word_byte, grow, between, after_word, end_word, plain_byte, escape, quoted_byte, act, form_byte, after_dollar, after_parenthesis, in_name, headed, in_head, in_single, in_backquotes, in_escape, at_parenthesis, then_act, grow_to, in_operator, in_comment, step_in, step, opens, at_dollar, over};
-ghost use Rattle.sh_token.specs.Steps.{stepped};
+ghost use Rattle.sh_token.specs.Machine.{inner_byte, word_byte, grow, between, after_word, end_word, plain_byte, escape, quoted_byte, act, form_byte, after_dollar, after_parenthesis, in_name, head_byte, in_head, in_single, in_backquotes, in_escape, at_parenthesis, then_act, grow_to, in_operator, in_comment, step_in, step, opens, at_dollar, over};
+ghost use Rattle.sh_token.specs.Steps.{with_state};
 
 use crate::body::take_in_body;
 use crate::state::State;
@@ -14,9 +14,9 @@ use sh_token_pieces::byte;
 use sh_token_pieces::character::Character;
 use sh_token_pieces::context::Context;
 use sh_token_pieces::head::Head;
-use sh_token_pieces::mark::Mark;
 use sh_token_pieces::operator::Operator;
 use sh_token_pieces::pending::Pending;
+use sh_token_pieces::piece::Piece;
 use std::alloc::AllocError;
 
 /// What a character has done.
@@ -25,35 +25,36 @@ pub(crate) enum Step {
     On,
     /// A token of the text itself ended before the character.
     Before,
-    /// It ends with the character.
+    /// A token of the text itself ends with the character.
     After,
     /// A level too many would open with the character.
     TooDeep,
     /// A level too many would open with the `$` before it.
     DollarTooDeep,
-    /// A level too many has opened with the word of a substitution that ended before the character.
+    /// The word of a substitution that ended before the character has opened a level too many.
     WordTooDeep,
 }
 
-/// A byte of a word or of a part of one, but for one that ends the word.
+/// Takes a byte of a word or of a part of one that doesn't end the word.
 #[tactic(auto, unfolding(crate::specs::Machine::word_byte))]
 fn take_word_byte(state: &mut State, b: u8) -> Result<Step, AllocError>
-    ensures { IfOk result (λ w. word_byte (top_of state.old.contexts) state.old b ≡ stepped w state.new) }
+    ensures { IfOk result (λ w.
+        word_byte (top_of state.old.contexts) state.old b ≡ with_state w state.new) }
 {
     if b == b'\'' && state.contexts().has_single_quotes() {
         state.pend(Pending::Single);
         return Ok(Step::On);
     }
     if b == b'"' && state.contexts().has_double_quotes() {
-        state.into(Context::Quotes, Mark::DoubleQuotesOpen)?;
+        state.into(Context::Quotes, Piece::DoubleQuotesOpen)?;
         return Ok(Step::On);
     }
     if b == b'"' && state.contexts().is_quotes() {
-        state.out(Mark::DoubleQuotesClose)?;
+        state.out(Piece::DoubleQuotesClose)?;
         return Ok(Step::On);
     }
     if b == b'}' && state.contexts().is_braces() {
-        state.out_level(Mark::BraceClose)?;
+        state.out_level(Piece::BraceClose)?;
         return Ok(Step::On);
     }
     if b == b'$' {
@@ -67,30 +68,31 @@ fn take_word_byte(state: &mut State, b: u8) -> Result<Step, AllocError>
     Ok(step)
 }
 
-/// A byte that is no quote, brace, dollar or backquote there.
+/// Takes a byte of a word that is no quote, brace, dollar or backquote there.
 #[tactic(auto, unfolding(crate::specs::Machine::inner_byte))]
 fn take_inner_byte(state: &mut State, b: u8) -> Result<Step, AllocError>
-    ensures { IfOk result (λ w. inner_byte (top_of state.old.contexts) state.old b ≡ stepped w state.new) }
+    ensures { IfOk result (λ w.
+        inner_byte (top_of state.old.contexts) state.old b ≡ with_state w state.new) }
 {
     if b == b')' && state.contexts().is_arithmetic() {
         state.pend(Pending::Parenthesis);
         return Ok(Step::On);
     }
     if b == b')' && state.contexts().is_parenthesis() {
-        state.out(Mark::Byte(b))?;
+        state.out(Piece::Byte(b))?;
         return Ok(Step::On);
     }
     if b == b'(' && (state.contexts().is_arithmetic() || state.contexts().is_parenthesis()) {
-        state.into(Context::Parenthesis, Mark::Byte(b))?;
+        state.into(Context::Parenthesis, Piece::Byte(b))?;
         return Ok(Step::On);
     }
-    state.same(Mark::Byte(b))?;
+    state.same(Piece::Byte(b))?;
     Ok(Step::On)
 }
 
-/// An operator as far as it has come.
+/// Takes the operator read so far: it waits for a byte more, or it is over.
 fn take_operator(state: &mut State, operator: Operator) -> Result<Step, AllocError>
-    ensures { IfOk result (λ w. grow operator state.old ≡ stepped w state.new) }
+    ensures { IfOk result (λ w. grow operator state.old ≡ with_state w state.new) }
 {
     if operator.may_grow() {
         state.pend(Pending::Operator(operator));
@@ -106,13 +108,13 @@ fn take_operator(state: &mut State, operator: Operator) -> Result<Step, AllocErr
     Ok(Step::On)
 }
 
-/// A byte between tokens.
+/// Takes a byte between tokens.
 #[tactic(auto, unfolding(crate::specs::Machine::between))]
 fn take_between(state: &mut State, b: u8) -> Result<Step, AllocError>
-    ensures { IfOk result (λ w. between state.old b ≡ stepped w state.new) }
+    ensures { IfOk result (λ w. between state.old b ≡ with_state w state.new) }
 {
     if byte::blank(b) {
-        state.same(Mark::Blank(b))?;
+        state.same(Piece::Blank(b))?;
         return Ok(Step::On);
     }
     if b == b'#' {
@@ -120,7 +122,7 @@ fn take_between(state: &mut State, b: u8) -> Result<Step, AllocError>
         return Ok(Step::On);
     }
     if b == b')' && state.contexts().may_close() {
-        state.out_level(Mark::CommandsClose)?;
+        state.out_level(Piece::CommandsClose)?;
         return Ok(Step::On);
     }
     if b == b'\n' && !state.contexts().due().is_empty() {
@@ -140,9 +142,9 @@ fn take_between(state: &mut State, b: u8) -> Result<Step, AllocError>
     Ok(step)
 }
 
-/// A byte behind a word; `begins`: a compound command may begin with it.
+/// Takes a byte after a word; `begins`: a compound command may begin with the word.
 fn take_after_word(begins: bool, state: &mut State, b: u8) -> Result<Step, AllocError>
-    ensures { IfOk result (λ w. after_word begins state.old b ≡ stepped w state.new) }
+    ensures { IfOk result (λ w. after_word begins state.old b ≡ with_state w state.new) }
 {
     if state.contexts().is_text() {
         return Ok(Step::Before);
@@ -154,9 +156,9 @@ fn take_after_word(begins: bool, state: &mut State, b: u8) -> Result<Step, Alloc
     Ok(step)
 }
 
-/// A byte that ends a word; `redirection`: it is `<` or `>`.
+/// Takes a byte that ends a word; `redirection`: the byte is `<` or `>`.
 fn take_word_end(redirection: bool, state: &mut State, b: u8) -> Result<Step, AllocError>
-    ensures { IfOk result (λ w. end_word redirection state.old b ≡ stepped w state.new) }
+    ensures { IfOk result (λ w. end_word redirection state.old b ≡ with_state w state.new) }
 {
     let begins = state.word_begins_compound(redirection)?;
     state.close_word(redirection)?;
@@ -164,10 +166,10 @@ fn take_word_end(redirection: bool, state: &mut State, b: u8) -> Result<Step, Al
     Ok(step)
 }
 
-/// A byte where nothing has begun.
+/// Takes a byte where no piece has begun.
 #[tactic(auto, unfolding(crate::specs::Machine::plain_byte))]
 fn take_plain_byte(state: &mut State, b: u8) -> Result<Step, AllocError>
-    ensures { IfOk result (λ w. plain_byte state.old b ≡ stepped w state.new) }
+    ensures { IfOk result (λ w. plain_byte state.old b ≡ with_state w state.new) }
 {
     if state.contexts().is_between_tokens() {
         let step = take_between(state, b)?;
@@ -181,22 +183,23 @@ fn take_plain_byte(state: &mut State, b: u8) -> Result<Step, AllocError>
     Ok(step)
 }
 
-/// A byte behind a backslash, in a word or a part of one.
+/// Takes a byte after a backslash, in a word or a part of one.
 fn take_escape(state: &mut State, b: u8) -> Result<Step, AllocError>
-    ensures { IfOk result (λ w. escape (top_of state.old.contexts) state.old b ≡ stepped w state.new) }
+    ensures { IfOk result (λ w.
+        escape (top_of state.old.contexts) state.old b ≡ with_state w state.new) }
 {
     if state.contexts().quotes(b) {
-        state.same(Mark::Escaped(b))?;
+        state.same(Piece::Escaped(b))?;
     } else {
-        state.same(Mark::Backslash(b))?;
+        state.same(Piece::Backslash(b))?;
     }
     Ok(Step::On)
 }
 
-/// A byte behind a backslash, where nothing has begun.
+/// Takes a byte after a backslash, where no piece has begun.
 #[tactic(auto, unfolding(crate::specs::Machine::quoted_byte))]
 fn take_quoted_byte(state: &mut State, b: u8) -> Result<Step, AllocError>
-    ensures { IfOk result (λ w. quoted_byte state.old b ≡ stepped w state.new) }
+    ensures { IfOk result (λ w. quoted_byte state.old b ≡ with_state w state.new) }
 {
     if state.contexts().is_between_tokens() {
         state.open_word()?;
@@ -205,9 +208,9 @@ fn take_quoted_byte(state: &mut State, b: u8) -> Result<Step, AllocError>
     Ok(step)
 }
 
-/// A character where nothing has begun.
+/// Takes a character where no piece has begun.
 fn act(state: &mut State, c: Character) -> Result<Step, AllocError>
-    ensures { IfOk result (λ w. act state.old c ≡ stepped w state.new) }
+    ensures { IfOk result (λ w. act state.old c ≡ with_state w state.new) }
 {
     match c {
         Character::Plain(b) => {
@@ -222,9 +225,9 @@ fn act(state: &mut State, c: Character) -> Result<Step, AllocError>
     }
 }
 
-/// A piece begins that opens a level with the `$` before it.
+/// Begins a piece that opens a level with the `$` before it.
 fn open_form(state: &mut State, pending: Pending) -> Step
-    ensures { at_dollar (opens pending state.old) ≡ stepped result state.new }
+    ensures { at_dollar (opens pending state.old) ≡ with_state result state.new }
 {
     match state.open(pending) {
         Step::On => Step::On,
@@ -236,9 +239,9 @@ fn open_form(state: &mut State, pending: Pending) -> Step
     }
 }
 
-/// A byte behind a `$`.
+/// Takes a byte after a `$`.
 fn take_form_byte(state: &mut State, b: u8) -> Result<Step, AllocError>
-    ensures { IfOk result (λ w. form_byte state.old b ≡ stepped w state.new) }
+    ensures { IfOk result (λ w. form_byte state.old b ≡ with_state w state.new) }
 {
     if begins_name(b) {
         state.pend(Pending::Name);
@@ -246,7 +249,7 @@ fn take_form_byte(state: &mut State, b: u8) -> Result<Step, AllocError>
         return Ok(Step::On);
     }
     if byte::is_short_parameter(b) {
-        state.same(Mark::Parameter(b))?;
+        state.same(Piece::Parameter(b))?;
         return Ok(Step::On);
     }
     if b == b'{' {
@@ -255,15 +258,15 @@ fn take_form_byte(state: &mut State, b: u8) -> Result<Step, AllocError>
     if b == b'(' {
         return Ok(open_form(state, Pending::DollarParenthesis));
     }
-    state.same(Mark::Dollar)?;
+    state.same(Piece::Dollar)?;
     let step = take_plain_byte(state, b)?;
     Ok(step)
 }
 
-/// A character behind a `$`.
+/// Takes a character after a `$`.
 #[tactic(auto, unfolding(crate::specs::Machine::after_dollar))]
 fn take_after_dollar(state: &mut State, c: Character) -> Result<Step, AllocError>
-    ensures { IfOk result (λ w. after_dollar state.old c ≡ stepped w state.new) }
+    ensures { IfOk result (λ w. after_dollar state.old c ≡ with_state w state.new) }
 {
     match c {
         Character::Plain(b) => {
@@ -271,7 +274,7 @@ fn take_after_dollar(state: &mut State, c: Character) -> Result<Step, AllocError
             Ok(step)
         },
         Character::Quoted(b) => {
-            state.same(Mark::Dollar)?;
+            state.same(Piece::Dollar)?;
             let step = take_quoted_byte(state, b)?;
             Ok(step)
         },
@@ -279,15 +282,15 @@ fn take_after_dollar(state: &mut State, c: Character) -> Result<Step, AllocError
     }
 }
 
-/// A character behind `$(`.
+/// Takes a character after `$(`.
 #[tactic(auto, unfolding(crate::specs::Machine::after_parenthesis))]
 fn take_after_parenthesis(state: &mut State, c: Character) -> Result<Step, AllocError>
-    ensures { IfOk result (λ w. after_parenthesis state.old c ≡ stepped w state.new) }
+    ensures { IfOk result (λ w. after_parenthesis state.old c ≡ with_state w state.new) }
 {
     match c {
         Character::Plain(b) => {
             if b == b'(' {
-                state.into(Context::Arithmetic, Mark::ArithmeticOpen)?;
+                state.into(Context::Arithmetic, Piece::ArithmeticOpen)?;
                 return Ok(Step::On);
             }
             state.open_commands()?;
@@ -303,10 +306,10 @@ fn take_after_parenthesis(state: &mut State, c: Character) -> Result<Step, Alloc
     }
 }
 
-/// A character in the name behind a `$`, or behind it.
+/// Takes a character in the name after a `$`, or after this name.
 #[tactic(auto, unfolding(crate::specs::Machine::in_name))]
 fn take_in_name(state: &mut State, c: Character) -> Result<Step, AllocError>
-    ensures { IfOk result (λ w. in_name state.old c ≡ stepped w state.new) }
+    ensures { IfOk result (λ w. in_name state.old c ≡ with_state w state.new) }
 {
     match c {
         Character::Plain(b) => {
@@ -327,9 +330,10 @@ fn take_in_name(state: &mut State, c: Character) -> Result<Step, AllocError>
     }
 }
 
-/// A byte behind `${`.
+/// Takes a byte after `${`.
 fn take_head_byte(head: Head, state: &mut State, b: u8) -> Result<Step, AllocError>
-    ensures { IfOk result (λ w. headed head state.old b (grown_head head b) ≡ stepped w state.new) }
+    ensures { IfOk result (λ w.
+        head_byte head state.old b (grown_head head b) ≡ with_state w state.new) }
 {
     if let Some(longer) = head.grown(b) {
         state.keep(Pending::Head(longer), b)?;
@@ -340,10 +344,10 @@ fn take_head_byte(head: Head, state: &mut State, b: u8) -> Result<Step, AllocErr
     Ok(step)
 }
 
-/// A character behind `${`.
+/// Takes a character after `${`.
 #[tactic(auto, unfolding(crate::specs::Machine::in_head))]
 fn take_in_head(head: Head, state: &mut State, c: Character) -> Result<Step, AllocError>
-    ensures { IfOk result (λ w. in_head head state.old c ≡ stepped w state.new) }
+    ensures { IfOk result (λ w. in_head head state.old c ≡ with_state w state.new) }
 {
     match c {
         Character::Plain(b) => {
@@ -359,16 +363,16 @@ fn take_in_head(head: Head, state: &mut State, c: Character) -> Result<Step, All
     }
 }
 
-/// A character between single quotes.
+/// Takes a character between single quotes.
 #[tactic(auto, unfolding(crate::specs::Machine::in_single))]
 fn take_in_single(state: &mut State, c: Character) -> Result<Step, AllocError>
-    ensures { IfOk result (λ w. in_single state.old c ≡ stepped w state.new) }
+    ensures { IfOk result (λ w. in_single state.old c ≡ with_state w state.new) }
 {
     match c {
         Character::Raw(b) => {
             if b == b'\'' {
                 let bytes = state.take_bytes();
-                state.same(Mark::SingleQuoted(bytes))?;
+                state.same(Piece::SingleQuoted(bytes))?;
                 return Ok(Step::On);
             }
             state.keep(Pending::Single, b)?;
@@ -379,16 +383,16 @@ fn take_in_single(state: &mut State, c: Character) -> Result<Step, AllocError>
     }
 }
 
-/// A character between backquotes.
+/// Takes a character between backquotes.
 #[tactic(auto, unfolding(crate::specs::Machine::in_backquotes))]
 fn take_in_backquotes(state: &mut State, c: Character) -> Result<Step, AllocError>
-    ensures { IfOk result (λ w. in_backquotes state.old c ≡ stepped w state.new) }
+    ensures { IfOk result (λ w. in_backquotes state.old c ≡ with_state w state.new) }
 {
     match c {
         Character::Raw(b) => {
             if b == b'`' {
                 let bytes = state.take_bytes();
-                state.level_over(Mark::Backquoted(bytes))?;
+                state.level_over(Piece::Backquoted(bytes))?;
                 return Ok(Step::On);
             }
             if b == b'\\' {
@@ -403,9 +407,9 @@ fn take_in_backquotes(state: &mut State, c: Character) -> Result<Step, AllocErro
     }
 }
 
-/// A character between backquotes, behind a backslash.
+/// Takes a character between backquotes, after a backslash.
 fn take_in_escape(state: &mut State, c: Character) -> Result<Step, AllocError>
-    ensures { IfOk result (λ w. in_escape state.old c ≡ stepped w state.new) }
+    ensures { IfOk result (λ w. in_escape state.old c ≡ with_state w state.new) }
 {
     match c {
         Character::Raw(b) => {
@@ -417,23 +421,23 @@ fn take_in_escape(state: &mut State, c: Character) -> Result<Step, AllocError>
     }
 }
 
-/// A character behind a `)` that may end arithmetic.
+/// Takes a character after a `)` that may end arithmetic.
 #[tactic(auto, unfolding(crate::specs::Machine::at_parenthesis))]
 fn take_at_parenthesis(state: &mut State, c: Character) -> Result<Step, AllocError>
-    ensures { IfOk result (λ w. at_parenthesis state.old c ≡ stepped w state.new) }
+    ensures { IfOk result (λ w. at_parenthesis state.old c ≡ with_state w state.new) }
 {
     match c {
         Character::Plain(b) => {
             if b == b')' {
-                state.out_level(Mark::ArithmeticClose)?;
+                state.out_level(Piece::ArithmeticClose)?;
                 return Ok(Step::On);
             }
-            state.same(Mark::Byte(b')'))?;
+            state.same(Piece::Byte(b')'))?;
             let step = take_plain_byte(state, b)?;
             Ok(step)
         },
         Character::Quoted(b) => {
-            state.same(Mark::Byte(b')'))?;
+            state.same(Piece::Byte(b')'))?;
             let step = take_quoted_byte(state, b)?;
             Ok(step)
         },
@@ -441,9 +445,9 @@ fn take_at_parenthesis(state: &mut State, c: Character) -> Result<Step, AllocErr
     }
 }
 
-/// A character behind an operator.
+/// Takes a character after an operator.
 fn then_act(state: &mut State, c: Character) -> Result<Step, AllocError>
-    ensures { IfOk result (λ w. then_act state.old c ≡ stepped w state.new) }
+    ensures { IfOk result (λ w. then_act state.old c ≡ with_state w state.new) }
 {
     if state.contexts().is_text() {
         return Ok(Step::Before);
@@ -452,9 +456,10 @@ fn then_act(state: &mut State, c: Character) -> Result<Step, AllocError>
     Ok(step)
 }
 
-/// A byte in an operator, or behind it.
+/// Takes a byte in an operator, or after it.
 fn grow_operator(operator: Operator, state: &mut State, b: u8) -> Result<Step, AllocError>
-    ensures { IfOk result (λ w. grow_to operator (grown operator b) state.old b ≡ stepped w state.new) }
+    ensures { IfOk result (λ w.
+        grow_to operator (longer_operator operator b) state.old b ≡ with_state w state.new) }
 {
     if let Some(longer) = operator.grown(b) {
         let step = take_operator(state, longer)?;
@@ -465,10 +470,10 @@ fn grow_operator(operator: Operator, state: &mut State, b: u8) -> Result<Step, A
     Ok(step)
 }
 
-/// A character in an operator, or behind it.
+/// Takes a character in an operator, or after it.
 #[tactic(auto, unfolding(crate::specs::Machine::in_operator))]
 fn take_in_operator(operator: Operator, state: &mut State, c: Character) -> Result<Step, AllocError>
-    ensures { IfOk result (λ w. in_operator operator state.old c ≡ stepped w state.new) }
+    ensures { IfOk result (λ w. in_operator operator state.old c ≡ with_state w state.new) }
 {
     match c {
         Character::Plain(b) => {
@@ -484,16 +489,16 @@ fn take_in_operator(operator: Operator, state: &mut State, c: Character) -> Resu
     }
 }
 
-/// A character in a comment, or behind it.
+/// Takes a character in a comment, or after it.
 #[tactic(auto, unfolding(crate::specs::Machine::in_comment))]
 fn take_in_comment(state: &mut State, c: Character) -> Result<Step, AllocError>
-    ensures { IfOk result (λ w. in_comment state.old c ≡ stepped w state.new) }
+    ensures { IfOk result (λ w. in_comment state.old c ≡ with_state w state.new) }
 {
     match c {
         Character::Raw(b) => {
             if b == b'\n' {
                 let bytes = state.take_bytes();
-                state.same(Mark::Comment(bytes))?;
+                state.same(Piece::Comment(bytes))?;
                 let step = take_plain_byte(state, b)?;
                 return Ok(step);
             }
@@ -505,16 +510,16 @@ fn take_in_comment(state: &mut State, c: Character) -> Result<Step, AllocError>
     }
 }
 
-/// One character.
+/// Takes one character.
 pub(crate) fn take(state: &mut State, c: Character) -> Result<Step, AllocError>
-    ensures { IfOk result (λ w. step state.old c ≡ stepped w state.new) }
+    ensures { IfOk result (λ w. step state.old c ≡ with_state w state.new) }
 {
     let step = take_in(state.pending(), state, c)?;
     Ok(step)
 }
 
 fn take_in(pending: Pending, state: &mut State, c: Character) -> Result<Step, AllocError>
-    ensures { IfOk result (λ w. step_in pending state.old c ≡ stepped w state.new) }
+    ensures { IfOk result (λ w. step_in pending state.old c ≡ with_state w state.new) }
 {
     match pending {
         Pending::Nothing => act(state, c),

@@ -11,8 +11,8 @@ use sh_base::NoMemory;
 use sh_base::sequence::Sequence;
 use sh_base::span::Span;
 use sh_token_pieces::context::Context;
-use sh_token_pieces::mark::Mark;
 use sh_token_pieces::operator::Operator;
+use sh_token_pieces::piece::Piece;
 use std::alloc::{AllocError, Global};
 use thiserror::Error;
 
@@ -20,15 +20,15 @@ use thiserror::Error;
 #[derive(Debug, Drop)]
 pub enum TokenKind {
     Operator(Operator),
-    /// A descriptor's number: digits directly before `<` or `>`.
+    /// The number of a file descriptor: digits directly before `<` or `>`.
     Number,
     /// A word, by its pieces.
-    Word(Sequence<Mark>),
+    Word(Sequence<Piece>),
     /// The end of the input.
     End,
 }
 
-/// A token and where it stands in the text, from its first byte up to, not including, what is behind its last.
+/// A token and its place in the text: from its first byte to its last.
 #[derive(Debug, Drop)]
 pub struct Token {
     pub kind: TokenKind,
@@ -38,10 +38,10 @@ pub struct Token {
 /// Why there is no token.
 #[derive(Clone, Copy, Debug, PartialEq, Eq, Error)]
 pub enum TokenFault {
-    /// The text ends within the token, or the token might go on behind it.
+    /// The text ends within the token, or the token might go on after the text.
     #[error("unfinished token")]
     Unfinished,
-    /// More levels than may be open: the piece at `at`, or the compound command that begins there, opens one too many.
+    /// The piece at byte `at` of the text, or the compound command that begins there, opens a level too many.
     #[error("too deep at byte {at}")]
     TooDeep { at: usize },
     /// There was not enough memory.
@@ -60,25 +60,26 @@ impl From<AllocError> for TokenFault {
     }
 }
 
-/// How many levels a token may have.
+/// How many levels may be open in a token.
 const LEVELS: usize = 500;
 
-/// The first token of the text from the byte at `at` on (XCU 2.3), and why there is none. `at_end`: the
-/// text's end is that of the input. Behind the text nothing stands, so that an `at` there gives `End`, or
-/// `Unfinished` where the input goes on. The bodies of here-documents inside a command substitution belong to the
-/// word (XCU 2.7.4); one that is due where the substitution ends is empty. Bodies of here-documents of the text itself
-/// are for the caller to take. In the token 500 levels may be open: `${`, `$(`, `$((` and backquotes are levels, and so are the
-/// compound commands inside a `$(`, each from its first token to its last. A NUL is a byte like any other: that no text of a script
-/// has one is for the caller to say.
+/// The first token of the text from the byte at `at` on (XCU 2.3), or the fault because of which there is
+/// none. `at_end`: the end of the text is the end of the input. An `at` past the end of the text gives `End`,
+/// or `Unfinished` where the input goes on. The bodies of here-documents inside a command substitution belong
+/// to the word (XCU 2.7.4); a here-document that is still due where the substitution ends has an empty body.
+/// The caller takes the bodies of here-documents of the text itself. In the token 500 levels may be open:
+/// `${`, `$(`, `$((` and backquotes are levels. So are the compound commands inside a `$(`, each open from
+/// its first token to its last. A NUL is a byte like any other: refusing it is up to the caller.
 pub fn next_token(alloc: Global, text: &[u8], at: usize, at_end: bool) -> Result<Token, TokenFault>
-    // The answer is the first token's, by `first_token`, or memory ran out.
+    // The answer is the value of `first_token`, or memory ran out.
     ensures answers { Gives result (answer_at at (first_token at_end 500 (drop at text.now))) }
     ensures placed { IfOk result (λ token. IsPlaced at (length text.now) token) }
 {
     next_token_within(alloc, text, at, at_end, LEVELS)
 }
 
-/// The same where `levels` may be open in the token. No text opens as many levels as it has bytes.
+/// The same as `next_token`, where `levels` levels may be open in the token. A text never opens more levels
+/// than it has bytes.
 #[tactic(auto, unfolding(crate::specs::Found::first_token))]
 pub fn next_token_within(
     alloc: Global,
@@ -92,8 +93,8 @@ pub fn next_token_within(
 {
     let bytes = bytes_from(text, at);
     match scan(alloc, Context::Top, bytes, at_end, levels)? {
-        Outcome::Ended(state, front, rest) => {
-            let start = bytes.len().saturating_sub(front.len());
+        Outcome::Ended(state, prefix, rest) => {
+            let start = bytes.len().saturating_sub(prefix.len());
             let end = bytes.len().saturating_sub(rest.len());
             let kind = kind(alloc, state.into_pieces())?;
             let span = Span {
@@ -110,15 +111,16 @@ pub fn next_token_within(
     }
 }
 
-/// The text from a place on, which is empty behind the text.
+/// The text from a place on. It is empty past the end of the text.
 fn bytes_from(text: &[u8], at: usize) -> &[u8]
     ensures { result.now ≡ drop at text.now }
 {
     if at <= text.len() { &text[at..] } else { &[] }
 }
 
-/// `first_token` gives an answer exactly when the text has it by the definition of tokens: each text has one token, or the end
-/// of the input, or one of the faults.
+/// Law: `first_token` gives an answer exactly where the text has this answer by the definition of tokens. So
+/// each text has one token, or the end of the input, or one of the faults.
 pub fn first_token_is_the_defined_one()
-    ensures { (e : Bool) (levels : ℕ) (bytes : List ℕ) (answer : FirstToken) → (first_token e levels bytes ≡ answer) ↔ IsFirst e levels bytes answer }
+    ensures { (e : Bool) (levels : ℕ) (bytes : List ℕ) (answer : FirstToken)
+        → (first_token e levels bytes ≡ answer) ↔ IsFirst e levels bytes answer }
 {}

@@ -41,7 +41,7 @@ class_number Assignment = 29
 class_number Other = 30
 class_number End = 31
 
--- the special built-ins (2.15) whose names are such names
+-- the special built-ins (XCU 2.15) whose names are names (XBD 3.216)
 abbrev pub special_names : List (List ℕ)
 special_names =
     codes "break" ∷ codes "continue" ∷ codes "eval" ∷ codes "exec" ∷ codes "exit" ∷ codes "export" ∷ codes "readonly" ∷ codes "return" ∷ codes "set"
@@ -90,6 +90,6 @@ abbrev pub word_class : List ℕ → Option TokenClass → TokenClass
 word_class text (Some c) = c
 word_class text None = if is_special_name text then SpecialName else if is_name text then Name else Other
 
--- the class of a word whose bytes all stand for themselves, and that is no assignment
+-- the class of a word that is no assignment and whose bytes are all literal
 abbrev pub class_of_text : List ℕ → TokenClass
 class_of_text text = word_class text (reserved_class text)

@@ -1,8 +1,9 @@
--- How many compound commands (XCU 2.9.4) are open behind some tokens: each from its first token to its last, that one too.
+-- How many compound commands (XCU 2.9.4) are open after some tokens. Each is open after each of its tokens,
+-- the last one included.
 use Rattle.std.specs.Prelude.{◌≡◌, ◌<◌, ℕ, suc, Bool, true, false, List, length, map, take}
 use Rattle.sh_grammar.specs.declared.Token.{Token}
 use Rattle.sh_grammar.specs.Around.{nodes_around}
-use Rattle.sh_grammar.specs.Awaited.{awaited}
+use Rattle.sh_grammar.specs.Awaited.{awaited_count}
 use Rattle.sh_grammar.specs.Grammar.{Rule, Tree}
 use Rattle.sh_grammar.specs.Tabulation.{Tabulation, rules_of}
 use Rattle.sh_grammar.specs.Text.{IsTreeOf}
@@ -10,9 +11,9 @@ use Rattle.sh_token_grammar.specs.declared.class.TokenClass.{TokenClass}
 use Rattle.sh_token_grammar.specs.declared.class.TokenClass.TheVariants.{Semicolon, And, AndIf, OrIf, Pipe, LeftParenthesis, RightParenthesis, DoubleSemicolon, Newline, Redirection, Number, Bang, LeftBrace, RightBrace, If, Then, Elif, Else, Fi, While, Until, Do, Done, For, In, Case, Esac, Name, SpecialName, Assignment, Other, End}
 use Rattle.sh_token_grammar.specs.Shell.{compound, compound_end, number_of, productions}
 
--- those whose end is still awaited behind the last token
+-- the compound commands whose end is still awaited after the last token
 abbrev pub open_compounds : Tabulation → List Token → ℕ
-open_compounds d tokens = awaited d (number_of compound_end) tokens
+open_compounds d tokens = awaited_count d (number_of compound_end) tokens
 
 -- the productions of both grammars
 abbrev pub rules : List Rule
@@ -22,7 +23,7 @@ rules = rules_of (map (λ p. p.head) productions) (map (λ p. p.body) production
 abbrev pub compounds_round : Tree → ℕ → ℕ
 compounds_round tree i = nodes_around rules (number_of compound) tree i
 
--- behind each token of a text, those that are open are those around that token
+-- after each token of a text, as many compound commands are open as there are around that token
 abbrev pub OpenAreRound : Tabulation → Type 0
 OpenAreRound d =
     (tokens : List Token) (tree : Tree) → IsTreeOf d tokens tree → (i : ℕ) → i < length tokens → open_compounds d (take (suc i) tokens) ≡ compounds_round tree i

@@ -1,5 +1,6 @@
--- The grammar of the shell (XCU 2.10.2) as productions. A reserved word is one only where a production has it; a word that follows
--- a simple command directly belongs to it, which the guards of the last productions of `prefix` and `arguments` say.
+-- The grammar of the shell (XCU 2.10.2) as productions. A word is a reserved word only where a production has
+-- it as one. A word directly after a simple command belongs to that command: the guards of the empty
+-- productions of `prefix` and `arguments` say so.
 use Rattle.std.specs.Prelude.{ℕ, ◌+◌, ◌^◌, List, [], ◌∷◌, map}
 use Rattle.sh_grammar.specs.declared.Symbol.{Symbol}
 use Rattle.sh_grammar.specs.declared.Symbol.TheVariants.{Terminal, Nonterminal}
@@ -9,13 +10,14 @@ use Rattle.sh_token_grammar.specs.declared.class.TokenClass.TheVariants.{Semicol
 use Rattle.sh_token_grammar.specs.declared.tables.TheConstants.{FIRSTS, NULLABLES, PREDICTS}
 use Rattle.sh_token_grammar.specs.Classes.{class_number}
 
--- the terminals: of each class alone, but the classes of words that a text decides, and those of several classes
+-- the terminals: one for each of the classes 0 to 26, and eight more for words
 abbrev pub token : TokenClass → Symbol
 token c = Terminal (class_number c)
 
--- any word; the name of a function, which is neither a reserved word nor a special built-in's; the variable of a for, which any name
--- may be; the first word of a simple command, which is no reserved word, where no `(` may follow it, and its first word behind
--- an assignment or a redirection; an assignment; the first word of an item without `(`; what begins a loop
+-- any word; a first word that may name a function, so neither a reserved word nor the name of a special
+-- built-in; the variable of a `for`, which may be any name; the other first words of a simple command, which
+-- no `(` may follow; the first word of a simple command after an assignment or a redirection, a reserved word
+-- too; an assignment; the first pattern of a case item without `(`; what begins a loop
 abbrev pub any_word : Symbol
 any_word = Terminal 27
 
@@ -91,7 +93,7 @@ classes =
     (While ∷ Until ∷ []) ∷ []
 
 -- the nonterminals
--- a complete command, and what comes behind one of its AND-OR lists and behind a separator
+-- a complete command, and what comes after one of its AND-OR lists and after a separator
 abbrev pub complete_command : Symbol
 complete_command = Nonterminal 0
 
@@ -115,7 +117,8 @@ pipeline = Nonterminal 5
 abbrev pub more_commands : Symbol
 more_commands = Nonterminal 6
 
--- a command, and what comes behind a name, behind assignments and redirections, and behind the first word of a simple one
+-- a command, and what comes after a name, after assignments and redirections, and after the first word of a
+-- simple command
 abbrev pub command : Symbol
 command = Nonterminal 7
 
@@ -139,7 +142,7 @@ redirect = Nonterminal 12
 abbrev pub newlines : Symbol
 newlines = Nonterminal 13
 
--- a compound list, and what comes behind one of its AND-OR lists
+-- a compound list, and what comes after one of its AND-OR lists
 abbrev pub compound_list : Symbol
 compound_list = Nonterminal 14
 
@@ -153,7 +156,7 @@ last_and_ors = Nonterminal 16
 abbrev pub compound : Symbol
 compound = Nonterminal 17
 
--- the parts of if, for and case
+-- the parts of `if`, `for` and `case`
 abbrev pub else_part : Symbol
 else_part = Nonterminal 18
 
@@ -182,13 +185,14 @@ abbrev pub item_end : Symbol
 item_end = Nonterminal 26
 
 -- the text of a command substitution: a compound list, or newlines alone
-abbrev pub substituted : Symbol
-substituted = Nonterminal 27
+abbrev pub substitution_text : Symbol
+substitution_text = Nonterminal 27
 
 abbrev pub substituted_list : Symbol
 substituted_list = Nonterminal 28
 
--- the end of a compound command, a mark that stands for nothing: as long as it is awaited the command is open
+-- the end of a compound command, a mark that derives no token: the command is open as long as the mark is
+-- awaited
 abbrev pub compound_end : Symbol
 compound_end = Nonterminal 29
 
@@ -210,7 +214,7 @@ pub record Production : Type 0 where
 abbrev pub rule : Symbol → List Symbol → Production
 rule symbol body = record { head = number_of symbol; body = body; guard = End ∷ Name ∷ SpecialName ∷ Assignment ∷ Other ∷ Bang ∷ LeftBrace ∷ RightBrace ∷ If ∷ Then ∷ Elif ∷ Else ∷ Fi ∷ While ∷ Until ∷ Do ∷ Done ∷ For ∷ In ∷ Case ∷ Esac ∷ Semicolon ∷ And ∷ AndIf ∷ OrIf ∷ Pipe ∷ LeftParenthesis ∷ RightParenthesis ∷ DoubleSemicolon ∷ Newline ∷ Redirection ∷ Number ∷ [] }
 
--- one that is used only where no word comes next
+-- a production that is used only where no word comes next
 abbrev pub rule_before_no_word : Symbol → List Symbol → Production
 rule_before_no_word symbol body = record { head = number_of symbol; body = body; guard = End ∷ operators }
 
@@ -285,13 +289,13 @@ productions =
     ∷ rule item_list (and_or ∷ more_and_ors ∷ item_end ∷ [])
     ∷ rule item_end []
     ∷ rule item_end (token DoubleSemicolon ∷ newlines ∷ items ∷ [])
-    ∷ rule substituted (newlines ∷ substituted_list ∷ [])
+    ∷ rule substitution_text (newlines ∷ substituted_list ∷ [])
     ∷ rule substituted_list []
     ∷ rule substituted_list (and_or ∷ more_and_ors ∷ [])
     ∷ rule compound_end []
     ∷ []
 
--- the grammar with this start symbol, and the parser's table for it, which says nothing of what derives
+-- the grammar with this start symbol, and the parser's table for it, which doesn't decide what derives
 abbrev pub grammar_from : Symbol → Tabulation
 grammar_from symbol =
     record {
@@ -312,4 +316,4 @@ complete = grammar_from complete_command
 
 -- the tokens between `$(` and `)`
 unfoldable pub substitution : Tabulation
-substitution = grammar_from substituted
+substitution = grammar_from substitution_text

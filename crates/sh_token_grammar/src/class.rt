@@ -7,8 +7,8 @@ ghost use Rattle.sh_base.specs.Names.{is_name};
 
 use sh_base::name::is_name;
 
-/// What a token is to the grammar (XCU 2.10.2). A word is of the class of a reserved word wherever it stands: whether it is
-/// one there is for the grammar to say.
+/// What a token is to the grammar (XCU 2.10.2). A word that is spelled like a reserved word has its class in
+/// every place; the grammar says in which places it is one.
 #[derive(Clone, Copy, Debug, PartialEq, Eq)]
 pub enum TokenClass {
     /// `;`
@@ -65,7 +65,7 @@ pub enum TokenClass {
     Case,
     /// `esac`
     Esac,
-    /// A name (XBD 3.216) that is neither a reserved word nor a special built-in's.
+    /// A name (XBD 3.216) that is neither a reserved word nor the name of a special built-in.
     Name,
     /// The name of a special built-in (XCU 2.15), which no function may have.
     SpecialName,
@@ -135,7 +135,7 @@ impl TokenClass {
         }
     }
 
-    /// The class of a word whose bytes all stand for themselves, none of them quoted, and that is no assignment.
+    /// The class of a word that is no assignment and whose bytes are all literal, none of them quoted.
     pub fn of_text(text: &[u8]) -> Self
         ensures { result ≡ class_of_text text.now }
     {

@@ -1,4 +1,4 @@
-//! How many compound commands (XCU 2.9.4) are open behind the tokens that a recognizer has taken.
+//! How many compound commands (XCU 2.9.4) are open after the tokens that a recognizer has taken.
 ghost use Rattle.std.specs.Prelude.{◌≡◌};
 ghost use Rattle.sh_token_grammar.specs.Levels.{open_compounds, begins_compound, OpenAreRound};
 ghost use Rattle.sh_token_grammar.specs.Shell.{complete, substitution, compound_end, number_of};
@@ -7,24 +7,24 @@ use crate::class::TokenClass;
 use crate::tables::COMPOUND_END;
 use sh_grammar::Recognizer;
 
-/// The number of the nonterminal that stands at the end of each compound command, for `Recognizer::awaits`.
+/// The number of the nonterminal at the end of each compound command, for `Recognizer::awaits`.
 pub fn end_of_compound() -> u8
     ensures { result ≡ number_of compound_end }
 {
     COMPOUND_END
 }
 
-/// Lets the recognizer keep the count of `open_compounds`, which is then told at once.
+/// Makes the recognizer keep the count for `open_compounds`, which then tells it at once. It takes no memory.
 pub fn keep_open_compounds(recognizer: &mut Recognizer<'_>)
     ensures { recognizer.new ≡ recognizer.old }
 {
     recognizer.keep_count(end_of_compound());
 }
 
-/// How many compound commands are open behind the tokens that were taken, where the recognizer reads by one of the tables
-/// of `grammar`: each is open from its first token to its last, that one too. So it is 3 behind `{ ( if` and 1 behind
-/// `{ :; }`. A refused token changes nothing. It takes no memory. Without `keep_open_compounds` the time goes by the levels
-/// of what is open.
+/// How many compound commands are open after the tokens taken so far, where the recognizer reads by one of
+/// the tables of `grammar`. Each is open after each of its tokens, the last one included: the count is 3
+/// after `{ ( if` and 1 after `{ :; }`. A refused token changes nothing. It takes no memory. Without
+/// `keep_open_compounds` the time grows with the levels that are open.
 pub fn open_compounds(recognizer: &Recognizer<'_>) -> usize
     ensures { result ≡ open_compounds recognizer.now.grammar recognizer.now.tokens }
 {
@@ -49,7 +49,8 @@ impl TokenClass {
     }
 }
 
-/// Law: behind each token of a text, as many compound commands are open as there are around that token in the text's tree.
+/// Law: after each token of a text, as many compound commands are open as there are around that token in the
+/// text's tree.
 pub fn open_compounds_are_nested()
     ensures command { OpenAreRound complete }
     ensures substitution { OpenAreRound substitution }

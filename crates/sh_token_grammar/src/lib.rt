@@ -1,4 +1,5 @@
-//! What the grammar of the shell sees of tokens: their classes, and the grammar's tables for the generic recognizer.
+//! What the grammar of the shell sees of tokens: their classes, and the tables of the grammar for the generic
+//! recognizer.
 #![tactic(auto)]
 
 pub mod class;

@@ -25,19 +25,19 @@ is_end b = is_blank b || is_operator_byte b
 abbrev pub is_redirection : ℕ → Bool
 is_redirection b = nat_eq b 60 || nat_eq b 62
 
--- the special parameters but for # (XCU 2.5.2): @ * ? - $ !
+-- the special parameters other than # (XCU 2.5.2): @ * ? - $ !
 abbrev pub is_special : ℕ → Bool
 is_special b = nat_eq b 64 || (nat_eq b 42 || (nat_eq b 63 || (nat_eq b 45 || (nat_eq b 36 || nat_eq b 33))))
 
--- what a `$` names in one byte: a special parameter, or a positional one of one digit
+-- a parameter that one byte after a `$` names: a special parameter, or a digit
 abbrev pub is_short_parameter : ℕ → Bool
 is_short_parameter b = is_special b || (nat_eq b 35 || is_ascii_digit b)
 
--- what makes a form of a `$` before it (XCU 2.6): a parameter, { or (
+-- what makes an expansion of a `$` before it (XCU 2.6): a parameter, { or (
 abbrev pub is_form : ℕ → Bool
 is_form b = begins_name b || (is_short_parameter b || (nat_eq b 123 || nat_eq b 40))
 
--- the operators of a parameter expansion that may stand behind a colon: - = ? +
+-- the operators of a parameter expansion that may come after a colon: - = ? +
 abbrev pub is_word_operator : ℕ → Bool
 is_word_operator b = nat_eq b 45 || (nat_eq b 61 || (nat_eq b 63 || nat_eq b 43))
 
@@ -47,6 +47,6 @@ is_no_quote b = not (nat_eq b 39)
 abbrev pub is_no_newline : ℕ → Bool
 is_no_newline b = not (nat_eq b 10)
 
--- what a backslash quotes wherever it doesn't quote each byte: $ ` \
+-- what a backslash quotes also where it doesn't quote every byte: $ ` \
 abbrev pub is_quoted_escape : ℕ → Bool
 is_quoted_escape b = nat_eq b 36 || (nat_eq b 96 || nat_eq b 92)

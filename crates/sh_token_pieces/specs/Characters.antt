@@ -8,8 +8,8 @@ abbrev pub joins : ℕ → List ℕ
 joins zero = []
 joins (suc n) = 92 ∷ 10 ∷ joins n
 
--- the bytes are the character and then the rest. Joined lines may stand before it, but for a raw one.
--- A backslash always belongs to the byte behind it; as the last byte of the input it stands for itself.
+-- the bytes are the character and then the rest. Joined lines may come before a character that isn't raw.
+-- A backslash always belongs to the byte after it; as the last byte of the input it stands for itself.
 abbrev pub Reads : Bool → Character → List ℕ → List ℕ → Type 0
 Reads e (Plain b) bytes rest =
     (n : ℕ) × (bytes ≡ joins n ++ (b ∷ rest)) × ((nat_eq b 92 ≡ false) ⊎ ((b ≡ 92) × (e ≡ true) × (rest ≡ [])))
@@ -27,7 +27,7 @@ pub data Ahead : Type 0 where
   InputEnd : Ahead
   Unknown : Ahead
 
--- what comes next in these bytes, behind a backslash if h; e: they are the last of the input
+-- what comes next in these bytes, after a backslash if h; e: they are the last of the input
 abbrev pub ahead_behind : Bool → Bool → List ℕ → Ahead
 ahead_behind e false [] = if e then InputEnd else Unknown
 ahead_behind e true [] = if e then Next (Plain 92) else Unknown
@@ -38,7 +38,7 @@ ahead_behind e true (b ∷ bs) = if nat_eq b 10 then ahead_behind e false bs els
 abbrev pub ahead : Bool → List ℕ → Ahead
 ahead e bytes = ahead_behind e false bytes
 
--- what comes next where these characters stand before it
+-- what comes next where these characters come first
 abbrev pub first_of : List Character → Ahead → Ahead
 first_of [] next = next
 first_of (c ∷ cs) next = Next c

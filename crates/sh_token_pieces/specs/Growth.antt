@@ -17,28 +17,28 @@ grown_great b =
     else if nat_eq b 124 then Some Clobber
     else None
 
--- the operator with one more byte, where that is one
-abbrev pub grown : Operator → ℕ → Option Operator
-grown And b = if nat_eq b 38 then Some AndIf else None
-grown Semicolon b = if nat_eq b 59 then Some DoubleSemicolon else None
-grown Pipe b = if nat_eq b 124 then Some OrIf else None
-grown Less b = grown_less b
-grown Great b = grown_great b
-grown DoubleLess b = if nat_eq b 45 then Some DoubleLessDash else None
-grown LeftParenthesis b = None
-grown RightParenthesis b = None
-grown Newline b = None
-grown AndIf b = None
-grown OrIf b = None
-grown DoubleSemicolon b = None
-grown DoubleGreat b = None
-grown LessAnd b = None
-grown GreatAnd b = None
-grown LessGreat b = None
-grown DoubleLessDash b = None
-grown Clobber b = None
+-- the operator that this one makes with one more byte, if they make one
+abbrev pub longer_operator : Operator → ℕ → Option Operator
+longer_operator And b = if nat_eq b 38 then Some AndIf else None
+longer_operator Semicolon b = if nat_eq b 59 then Some DoubleSemicolon else None
+longer_operator Pipe b = if nat_eq b 124 then Some OrIf else None
+longer_operator Less b = grown_less b
+longer_operator Great b = grown_great b
+longer_operator DoubleLess b = if nat_eq b 45 then Some DoubleLessDash else None
+longer_operator LeftParenthesis b = None
+longer_operator RightParenthesis b = None
+longer_operator Newline b = None
+longer_operator AndIf b = None
+longer_operator OrIf b = None
+longer_operator DoubleSemicolon b = None
+longer_operator DoubleGreat b = None
+longer_operator LessAnd b = None
+longer_operator GreatAnd b = None
+longer_operator LessGreat b = None
+longer_operator DoubleLessDash b = None
+longer_operator Clobber b = None
 
--- whether some byte makes a longer operator of it
+-- whether some byte after it makes a longer operator
 abbrev pub may_grow : Operator → Bool
 may_grow And = true
 may_grow Semicolon = true

@@ -1,4 +1,5 @@
--- What stands between `${` and the word of a parameter expansion (XCU 2.6.2), byte by byte: `#`, the parameter, the operator.
+-- What is between `${` and the word of a parameter expansion (XCU 2.6.2), byte by byte: `#`, the parameter,
+-- the operator.
 use Rattle.std.specs.Prelude.{ℕ, Bool, true, false, nat_eq, List, [], ◌∷◌, Option, Some, None, if◌then◌else◌}
 use Rattle.sh_token_pieces.specs.declared.head.Head.{Head}
 use Rattle.sh_token_pieces.specs.declared.head.Head.TheVariants.{Start, Hash, Name, Number, Special, LengthName, LengthNumber, Length, HashPound, Colon, Word, Percent, DoublePercent, Pound, DoublePound}
@@ -22,7 +23,8 @@ grown_start b =
     else if is_special b then Some Special
     else None
 
--- behind `${#`. A special parameter there may also be an operator of `$#` (`${#-w}`): nothing grows behind it in either case
+-- after `${#`. A special parameter there may also be an operator of `$#` (`${#-w}`): in either case the head
+-- takes no byte after it
 abbrev pub grown_hash : ℕ → Option Head
 grown_hash b =
     if begins_name b then Some LengthName
@@ -31,7 +33,7 @@ grown_hash b =
     else if is_special b then Some Length
     else behind_parameter b
 
--- the head with one more byte, where it takes that
+-- the head with one more byte, where it takes this byte
 abbrev pub grown_head : Head → ℕ → Option Head
 grown_head Start b = grown_start b
 grown_head Hash b = grown_hash b
@@ -49,7 +51,7 @@ grown_head DoublePercent b = None
 grown_head Pound b = if nat_eq b 35 then Some DoublePound else None
 grown_head DoublePound b = None
 
--- the patterns of % and # are read as outside of double quotes wherever they stand
+-- the patterns of % and # are read as outside of double quotes wherever they are
 abbrev pub reads_bare : Head → Bool
 reads_bare Start = false
 reads_bare Hash = false

@@ -9,4 +9,4 @@ pub mod Spelling
 pub mod Here
 pub mod Nested
 pub mod TokenClasses
-pub mod Marks
+pub mod Pieces

@@ -3,7 +3,7 @@ use Rattle.std.specs.Prelude.{ℕ, List, [], ◌∷◌}
 use Rattle.sh_token_pieces.specs.declared.operator.Operator.{Operator}
 use Rattle.sh_token_pieces.specs.declared.operator.Operator.TheVariants.{And, Semicolon, Pipe, Less, Great, LeftParenthesis, RightParenthesis, Newline, AndIf, OrIf, DoubleSemicolon, DoubleLess, DoubleGreat, LessAnd, GreatAnd, LessGreat, DoubleLessDash, Clobber}
 
--- what an operator is written as
+-- how an operator is written
 abbrev pub operator_text : Operator → List ℕ
 operator_text And = 38 ∷ []
 operator_text Semicolon = 59 ∷ []

@@ -6,21 +6,22 @@ use Rattle.sh_token_grammar.specs.Classes.{class_of_text}
 use Rattle.sh_base.specs.Names.{is_name}
 use Rattle.std.specs.Char.{is_ascii_digit}
 use Rattle.sh_token_pieces.specs.declared.operator.Operator.{Operator}
-use Rattle.sh_token_pieces.specs.declared.mark.Mark.{Mark}
-use Rattle.sh_token_pieces.specs.declared.mark.Mark.TheVariants.{Byte}
+use Rattle.sh_token_pieces.specs.declared.piece.Piece.{Piece}
+use Rattle.sh_token_pieces.specs.declared.piece.Piece.TheVariants.{Byte}
 use Rattle.sh_token_pieces.specs.Taken.{followed_by}
 use Rattle.sh_token_pieces.specs.declared.here.Tabs.{Tabs}
 use Rattle.sh_token_pieces.specs.declared.here.Delimiter.{Delimiter}
 use Rattle.sh_token_pieces.specs.Here.{tabs_of, delimiter_of}
 use Rattle.sh_token_pieces.specs.Nested.{Nested}
 
--- what a word's pieces are to the grammar: the bytes at its beginning that stand for themselves, and whether these are all
-abbrev pub literal_front : List Mark → List ℕ
-literal_front [] = []
-literal_front (Byte b ∷ ms) = b ∷ literal_front ms
-literal_front (m ∷ ms) = []
+-- what the pieces of a word are to the grammar: the bytes at its beginning that stand for themselves, and
+-- whether these are all of it
+abbrev pub literal_prefix : List Piece → List ℕ
+literal_prefix [] = []
+literal_prefix (Byte b ∷ ms) = b ∷ literal_prefix ms
+literal_prefix (m ∷ ms) = []
 
-abbrev pub is_byte : Mark → Bool
+abbrev pub is_byte : Piece → Bool
 is_byte (Byte b) = true
 is_byte m = false
 
@@ -31,7 +32,7 @@ is_name_before bytes (Some k) = is_name (take k bytes)
 abbrev pub equals_place : List ℕ → Option ℕ
 equals_place bytes = position (λ b. nat_eq b 61) bytes
 
--- a name and `=` stand first (2.10.2 rule 7)
+-- the bytes begin with a name and `=` (XCU 2.10.2 rule 7)
 abbrev pub assigns : List ℕ → Bool
 assigns bytes = is_name_before bytes (equals_place bytes)
 
@@ -40,10 +41,10 @@ abbrev pub class_of_literal : Bool → List ℕ → TokenClass
 class_of_literal redirection bytes =
     if redirection && list_all is_ascii_digit bytes then TokenClass.Number else if assigns bytes then TokenClass.Assignment else class_of_text bytes
 
-abbrev pub class_of_word : Bool → List Mark → TokenClass
+abbrev pub class_of_word : Bool → List Piece → TokenClass
 class_of_word redirection ms =
-    if list_all is_byte ms then class_of_literal redirection (literal_front ms)
-    else if assigns (literal_front ms) then TokenClass.Assignment else TokenClass.Other
+    if list_all is_byte ms then class_of_literal redirection (literal_prefix ms)
+    else if assigns (literal_prefix ms) then TokenClass.Assignment else TokenClass.Other
 
 abbrev pub class_of_operator : Operator → TokenClass
 class_of_operator Operator.And = TokenClass.And
@@ -65,10 +66,11 @@ class_of_operator Operator.LessGreat = TokenClass.Redirection
 class_of_operator Operator.DoubleLessDash = TokenClass.Redirection
 class_of_operator Operator.Clobber = TokenClass.Redirection
 
--- a token of a substitution: an operator; a word of these pieces, `<` or `>` following it if r; or a newline with the bodies behind it
+-- a token of a substitution: an operator; a word of these pieces, which `<` or `>` follows if r; or a newline
+-- with the bodies after it
 pub data Told : Type 0 where
   OfOperator : (o : Operator) → Told
-  OfWord : (r : Bool) → (ms : List Mark) → Told
+  OfWord : (r : Bool) → (ms : List Piece) → Told
   OfBodies : Told
 
 abbrev pub class_of : Told → TokenClass
@@ -76,13 +78,13 @@ class_of (OfOperator o) = class_of_operator o
 class_of (OfWord r ms) = class_of_word r ms
 class_of OfBodies = TokenClass.Newline
 
--- `<<` and `<<-` make a delimiter of the word behind them
+-- `<<` and `<<-` make a delimiter of the word after them
 abbrev pub expected_behind : Told → Option Tabs
 expected_behind (OfOperator o) = tabs_of o
 expected_behind (OfWord r ms) = None
 expected_behind OfBodies = None
 
-abbrev pub with_delimiter : Option Tabs → List Mark → List Delimiter → List Delimiter
+abbrev pub with_delimiter : Option Tabs → List Piece → List Delimiter → List Delimiter
 with_delimiter None ms due = due
 with_delimiter (Some tabs) ms due = due ++ delimiter_of tabs ms ∷ []
 

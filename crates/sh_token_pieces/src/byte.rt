@@ -38,21 +38,21 @@ pub fn begins_redirection(b: u8) -> bool
     b == b'<' || b == b'>'
 }
 
-/// A special parameter but for `#`.
+/// A special parameter other than `#`.
 pub(crate) fn is_special(b: u8) -> bool
     ensures { result ≡ is_special b }
 {
     b == b'@' || b == b'*' || b == b'?' || b == b'-' || b == b'$' || b == b'!'
 }
 
-/// What a `$` names in one byte.
+/// A parameter that one byte after a `$` names: a special parameter or a digit.
 pub fn is_short_parameter(b: u8) -> bool
     ensures { result ≡ is_short_parameter b }
 {
     is_special(b) || b == b'#' || b.is_ascii_digit()
 }
 
-/// An operator of a parameter expansion that may stand behind a colon.
+/// An operator of a parameter expansion that may come after a colon.
 pub(crate) fn is_word_operator(b: u8) -> bool
     ensures { result ≡ is_word_operator b }
 {

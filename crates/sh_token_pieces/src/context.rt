@@ -1,16 +1,16 @@
-//! What the pieces of a text stand in.
+//! What the pieces of a text are in.
 ghost use Rattle.std.specs.Prelude.{◌≡◌, ◌++◌, ◌∷◌, [], IfOk, OnOk, OnErr, if◌then◌else◌};
-ghost use Rattle.sh_grammar.specs.Computed.{is_whole, is_front};
+ghost use Rattle.sh_grammar.specs.Computed.{is_whole, is_prefix};
 ghost use Rattle.sh_token_grammar.specs.Shell.{substitution};
 ghost use Rattle.sh_token_pieces.specs.Taken.{followed_by, token_of};
 ghost use Rattle.sh_token_pieces.specs.Nested.{none_yet, open_in};
 ghost use Rattle.sh_token_pieces.specs.TokenClasses.{OfOperator, OfWord, OfBodies, with_told, with_delimiter, class_of};
-ghost use Rattle.sh_token_pieces.specs.Marks.{is_word, is_quotes, is_braces, is_arithmetic, quotes, has_single_quotes, has_double_quotes, is_quoted, may_close, between_tokens, is_parenthesis, is_text, with_class, compounds_in, due_in, has_due};
+ghost use Rattle.sh_token_pieces.specs.Pieces.{is_word, is_quotes, is_braces, is_arithmetic, quotes, has_single_quotes, has_double_quotes, is_quoted, may_close, between_tokens, is_parenthesis, is_text, with_class, compounds_in, due_in, has_due};
 
 use crate::byte;
 use crate::here::{Delimiter, Tabs};
-use crate::mark::{Mark, word_class};
 use crate::operator::Operator;
+use crate::piece::{Piece, word_class};
 use sh_grammar::{Recognizer, Token};
 use sh_token_grammar::class::TokenClass;
 use sh_token_grammar::grammar::substituted;
@@ -22,14 +22,14 @@ use std::marker::Model;
 #[derive(Drop)]
 pub struct Tokens {
     recognizer: Recognizer<'static>,
-    /// The first token that no compound list goes on with.
+    /// The first token that can't continue a compound list. No token after it counts.
     refused: Option<Token>,
 }
 
 impl Model for Tokens {
     ghost use Rattle.std.specs.Prelude.{List, ◌++◌, ◌≡◌, true, option_to_list};
     ghost use Rattle.sh_grammar.specs.declared.Token.{Token};
-    ghost use Rattle.sh_grammar.specs.Computed.{is_front};
+    ghost use Rattle.sh_grammar.specs.Computed.{is_prefix};
     ghost use Rattle.sh_token_grammar.specs.Shell.{substitution};
     ghost use Rattle.sh_token_pieces.specs.Taken.{Refuses};
 
@@ -37,11 +37,11 @@ impl Model for Tokens {
 
     ghost view = { λ t. t.recognizer.tokens ++ option_to_list t.refused };
 
-    ghost invariant = { λ t. (t.recognizer.grammar ≡ substitution) × (is_front substitution t.recognizer.tokens ≡ true) × Refuses t.recognizer.tokens t.refused };
+    ghost invariant = { λ t. (t.recognizer.grammar ≡ substitution) × (is_prefix substitution t.recognizer.tokens ≡ true) × Refuses t.recognizer.tokens t.refused };
 }
 
 impl Tokens {
-    /// No tokens yet.
+    /// No tokens yet. The one error is want of memory.
     pub fn new(alloc: Global) -> Result<Self, AllocError>
         ensures { IfOk result (λ t. t ≡ []) }
     {
@@ -53,7 +53,7 @@ impl Tokens {
         })
     }
 
-    /// A token more.
+    /// Takes one more token. After a refused token this changes nothing.
     pub(crate) fn take(&mut self, class: TokenClass) -> Result<(), AllocError>
         ensures { OnOk result (self.new ≡ followed_by class self.old) }
     {
@@ -70,7 +70,7 @@ impl Tokens {
         Ok(())
     }
 
-    /// How many compound commands are open behind them; none where one was refused.
+    /// How many compound commands are open after the tokens; 0 where one was refused.
     #[tactic(auto, using(crate::proofs::Tokens::none_open))]
     fn open_compounds(&self) -> usize
         ensures { result ≡ open_in self.now }
@@ -81,7 +81,7 @@ impl Tokens {
         open_behind(&self.recognizer)
     }
 
-    /// Whether they are a compound list, or newlines alone.
+    /// Whether the tokens are a compound list, or newlines alone.
     pub(crate) fn may_end(&self) -> bool
         ensures { result ≡ is_whole substitution self.now }
     {
@@ -100,7 +100,7 @@ fn is_list(recognizer: &Recognizer<'static>) -> bool
     recognizer.may_end()
 }
 
-/// How many compound commands are open behind the tokens taken.
+/// How many compound commands are open after the tokens taken.
 #[tactic(auto, unfolding(crate::specs::Nested::open_in))]
 fn open_behind(recognizer: &Recognizer<'static>) -> usize
     requires { recognizer.now.grammar ≡ substitution }
@@ -112,8 +112,11 @@ fn open_behind(recognizer: &Recognizer<'static>) -> usize
 /// Takes a token, or refuses it.
 fn accept(recognizer: &mut Recognizer<'static>, token: Token) -> Result<bool, AllocError>
     requires { recognizer.old.grammar ≡ substitution }
-    ensures told { IfOk result (λ taken. taken ≡ is_front substitution (recognizer.old.tokens ++ token ∷ [])) }
-    ensures ok { IfOk result (λ taken. recognizer.new.tokens ≡ (if taken then recognizer.old.tokens ++ token ∷ [] else recognizer.old.tokens)) }
+    ensures told { IfOk result (λ taken.
+        taken ≡ is_prefix substitution (recognizer.old.tokens ++ token ∷ [])) }
+    ensures ok { IfOk result (λ taken.
+        recognizer.new.tokens
+        ≡ (if taken then recognizer.old.tokens ++ token ∷ [] else recognizer.old.tokens)) }
     ensures err { OnErr result (recognizer.new ≡ recognizer.old) }
     ensures grammar { recognizer.new.grammar ≡ substitution }
 {
@@ -121,7 +124,7 @@ fn accept(recognizer: &mut Recognizer<'static>, token: Token) -> Result<bool, Al
     Ok(taken)
 }
 
-/// A command substitution behind some of its tokens.
+/// A command substitution after some of its tokens.
 #[derive(Drop)]
 pub struct Nested {
     alloc: Global,
@@ -139,7 +142,7 @@ impl Model for Nested {
 }
 
 impl Nested {
-    /// Before its first token. The one error is want of memory.
+    /// A command substitution before its first token. The one error is want of memory.
     pub fn new(alloc: Global) -> Result<Self, AllocError>
         ensures { IfOk result (λ n. n ≡ none_yet) }
     {
@@ -159,7 +162,7 @@ impl Nested {
         self.due.as_slice()
     }
 
-    /// An operator more.
+    /// Takes one more token, an operator.
     fn take_operator(&mut self, operator: Operator) -> Result<(), AllocError>
         ensures { OnOk result (self.new ≡ with_told (OfOperator operator) self.old) }
     {
@@ -168,8 +171,8 @@ impl Nested {
         Ok(())
     }
 
-    /// A word more.
-    fn take_word(&mut self, redirection: bool, pieces: &[Mark]) -> Result<(), AllocError>
+    /// Takes one more token, a word; `redirection`: `<` or `>` follows it.
+    fn take_word(&mut self, redirection: bool, pieces: &[Piece]) -> Result<(), AllocError>
         ensures { OnOk result (self.new ≡ with_told (OfWord redirection pieces.now) self.old) }
     {
         let class = word_class(self.alloc, redirection, pieces)?;
@@ -179,7 +182,7 @@ impl Nested {
         Ok(())
     }
 
-    /// A newline more, with the bodies of the here-documents that were due.
+    /// Takes one more token, a newline, with the bodies of the here-documents that were due.
     fn take_bodies(&mut self) -> Result<(), AllocError>
         ensures { OnOk result (self.new ≡ with_told OfBodies self.old) }
     {
@@ -190,12 +193,12 @@ impl Nested {
     }
 }
 
-/// A word is the delimiter of a here-document that is due, if one is expected.
+/// If a delimiter is expected, this word is it: then one more here-document is due.
 fn add_delimiter(
     alloc: Global,
     due: &mut Vec<Delimiter>,
     expected: Option<Tabs>,
-    pieces: &[Mark],
+    pieces: &[Piece],
 ) -> Result<(), AllocError>
     ensures { OnOk result (due.new.items ≡ with_delimiter expected pieces.now due.old.items) }
 {
@@ -207,14 +210,14 @@ fn add_delimiter(
     Ok(())
 }
 
-/// What the next piece stands in.
+/// What the next piece is in.
 #[derive(Drop)]
 pub enum Context {
     /// The text itself, between tokens.
     Top,
     /// A command substitution, between its tokens.
     Commands(Nested),
-    /// A word of commands, which began behind so many pieces.
+    /// A word of commands, which began after so many pieces.
     Word(usize),
     /// Double quotes.
     Quotes,
@@ -253,7 +256,7 @@ impl Context {
         }
     }
 
-    /// How many compound commands are open in it.
+    /// How many compound commands are open in this context.
     pub(crate) fn open_compounds(&self) -> usize
         ensures { result ≡ compounds_in self.now }
     {
@@ -263,7 +266,7 @@ impl Context {
         }
     }
 
-    /// The here-documents whose bodies come behind the next newline.
+    /// The here-documents whose bodies come after the next newline.
     pub(crate) fn due(&self) -> &[Delimiter]
         ensures { result.now ≡ due_in self.now }
     {
@@ -273,7 +276,7 @@ impl Context {
         }
     }
 
-    /// An operator more, where it has tokens.
+    /// Takes an operator, where this context has tokens.
     pub(crate) fn take_operator(&mut self, operator: Operator) -> Result<(), AllocError>
         ensures { OnOk result (self.new ≡ with_class (OfOperator operator) self.old) }
     {
@@ -283,8 +286,12 @@ impl Context {
         }
     }
 
-    /// A word more, where it has tokens.
-    pub(crate) fn take_word(&mut self, redirection: bool, pieces: &[Mark]) -> Result<(), AllocError>
+    /// Takes a word, where this context has tokens.
+    pub(crate) fn take_word(
+        &mut self,
+        redirection: bool,
+        pieces: &[Piece],
+    ) -> Result<(), AllocError>
         ensures { OnOk result (self.new ≡ with_class (OfWord redirection pieces.now) self.old) }
     {
         match self {
@@ -293,7 +300,7 @@ impl Context {
         }
     }
 
-    /// A newline with bodies more, where it has tokens.
+    /// Takes a newline with the bodies that were due, where this context has tokens.
     pub(crate) fn take_bodies(&mut self) -> Result<(), AllocError>
         ensures { OnOk result (self.new ≡ with_class OfBodies self.old) }
     {

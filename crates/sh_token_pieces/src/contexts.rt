@@ -1,16 +1,17 @@
-//! The open contexts of a text, one in the other.
+//! The open contexts of a text, one inside the other.
 ghost use Rattle.std.specs.Prelude.{◌≡◌, ◌∷◌, [], OnOk, OnErr, IfOk, MatchOption};
-ghost use Rattle.sh_token_pieces.specs.Marks.{top_of, with_token, with_class, class_behind, word_over, is_text, is_body, between_tokens, is_word, is_quotes, is_braces, is_arithmetic, is_parenthesis, quotes, has_single_quotes, has_double_quotes, is_quoted, may_close, compounds_in, around_of, word_begins, word_place, due_in};
+ghost use Rattle.sh_token_pieces.specs.Pieces.{top_of, with_token, with_class, class_behind, word_over, is_text, is_body, between_tokens, is_word, is_quotes, is_braces, is_arithmetic, is_parenthesis, quotes, has_single_quotes, has_double_quotes, is_quoted, may_close, compounds_in, around_of, word_begins, word_place, due_in};
 ghost use Rattle.sh_token_pieces.specs.TokenClasses.{OfOperator, OfWord, OfBodies};
 
 use crate::context::Context;
 use crate::here::Delimiter;
-use crate::mark::{Mark, pieces_behind, word_class};
 use crate::operator::Operator;
+use crate::piece::{Piece, pieces_behind, word_class};
 use std::alloc::{AllocError, Global};
 use std::marker::Model;
 
-/// Contexts, the last one innermost.
+/// Contexts, the last one innermost. The one error of the calls is want of memory; after it nothing is
+/// promised of the contexts.
 #[derive(Drop)]
 pub struct Contexts {
     alloc: Global,
@@ -36,7 +37,7 @@ impl Contexts {
         Ok(Contexts { alloc, items })
     }
 
-    /// Goes into a context.
+    /// Opens a context inside the innermost one.
     pub fn push(&mut self, context: Context) -> Result<(), AllocError>
         ensures { OnOk result (self.new ≡ context ∷ self.old) }
     {
@@ -44,7 +45,7 @@ impl Contexts {
         Ok(())
     }
 
-    /// Leaves the innermost context.
+    /// Leaves the innermost context and gives it; `None` where there is none.
     pub fn pop(&mut self) -> Option<Context>
         ensures { MatchOption result ((self.old ≡ []) × (self.new ≡ [])) (λ c. self.old ≡ c ∷ self.new) }
     {
@@ -74,13 +75,15 @@ impl Contexts {
         }
     }
 
-    /// Whether a compound command may begin with the word that is over in a text of these pieces.
+    /// Whether a compound command may begin with the word that ends after these pieces of a text;
+    /// `redirection`: `<` or `>` follows the word. It is false where the innermost context is no word.
     pub fn word_begins_compound(
         &self,
         redirection: bool,
-        pieces: &[Mark],
+        pieces: &[Piece],
     ) -> Result<bool, AllocError>
-        ensures { IfOk result (λ begins. begins ≡ word_begins redirection pieces.now (top_of self.now)) }
+        ensures { IfOk result (λ begins.
+            begins ≡ word_begins redirection pieces.now (top_of self.now)) }
     {
         let Some(Context::Word(begin)) = self.items.last() else {
             return Ok(false);
@@ -122,7 +125,7 @@ impl Contexts {
         matches!(self.items.last(), Some(Context::Word(_)))
     }
 
-    /// The number of pieces behind which the word began, where this is one.
+    /// The number of pieces before the word, where the innermost context is one.
     pub fn word(&self) -> Option<usize>
         ensures { result ≡ word_place (top_of self.now) }
     {
@@ -182,7 +185,7 @@ impl Contexts {
         }
     }
 
-    /// Whether what a `${` has here is read as between double quotes.
+    /// Whether the word of a `${` here is read as between double quotes.
     pub fn is_quoted(&self) -> bool
         ensures { result ≡ is_quoted (top_of self.now) }
     {
@@ -216,7 +219,7 @@ impl Contexts {
         }
     }
 
-    /// The here-documents whose bodies come behind the next newline.
+    /// The here-documents whose bodies come after the next newline.
     pub fn due(&self) -> &[Delimiter]
         ensures { result.now ≡ due_in (top_of self.now) }
     {
@@ -226,7 +229,7 @@ impl Contexts {
         }
     }
 
-    /// An operator more, where the innermost context has tokens.
+    /// Takes an operator, where the innermost context has tokens.
     pub fn take_operator(&mut self, operator: Operator) -> Result<(), AllocError>
         ensures { OnOk result (self.new ≡ with_token (OfOperator operator) self.old) }
     {
@@ -238,7 +241,8 @@ impl Contexts {
         Ok(())
     }
 
-    /// A newline more, with the bodies of the here-documents that were due.
+    /// Takes a newline, with the bodies of the here-documents that were due, where the innermost context has
+    /// tokens.
     pub fn take_bodies(&mut self) -> Result<(), AllocError>
         ensures { OnOk result (self.new ≡ with_token OfBodies self.old) }
     {
@@ -250,8 +254,8 @@ impl Contexts {
         Ok(())
     }
 
-    /// A word more.
-    fn take_word(&mut self, redirection: bool, pieces: &[Mark]) -> Result<(), AllocError>
+    /// Takes a word, where the innermost context has tokens.
+    fn take_word(&mut self, redirection: bool, pieces: &[Piece]) -> Result<(), AllocError>
         ensures { OnOk result (self.new ≡ with_token (OfWord redirection pieces.now) self.old) }
     {
         let Some(mut context) = self.items.pop() else {
@@ -262,8 +266,8 @@ impl Contexts {
         Ok(())
     }
 
-    /// A word is over, in a text of these pieces; `redirection`: `<` or `>` follows it.
-    pub fn close_word(&mut self, redirection: bool, pieces: &[Mark]) -> Result<(), AllocError>
+    /// Ends the word that is open after these pieces of a text; `redirection`: `<` or `>` follows it.
+    pub fn close_word(&mut self, redirection: bool, pieces: &[Piece]) -> Result<(), AllocError>
         ensures { OnOk result (self.new ≡ word_over redirection pieces.now self.old) }
     {
         let Some(context) = self.pop() else {
@@ -273,12 +277,12 @@ impl Contexts {
         Ok(())
     }
 
-    /// What was left is a token more of what it was in, if it was a word.
+    /// If the context that was left is a word, the context around it takes this word as a token.
     fn leave(
         &mut self,
         context: &Context,
         redirection: bool,
-        pieces: &[Mark],
+        pieces: &[Piece],
     ) -> Result<(), AllocError>
         ensures { OnOk result (self.new ≡ class_behind redirection pieces.now context.now self.old) }
     {

@@ -1,47 +1,47 @@
-//! What stands between `${` and the word of a parameter expansion (XCU 2.6.2).
+//! What is between `${` and the word of a parameter expansion (XCU 2.6.2).
 ghost use Rattle.std.specs.Prelude.{◌≡◌};
 ghost use Rattle.sh_token_pieces.specs.Heads.{grown_head, grown_start, grown_hash, behind_parameter, reads_bare};
 
 use crate::byte;
 use sh_base::name::{begins_name, continues_name};
 
-/// How far the parameter and the operator of a `${` have come.
+/// How much of the parameter and the operator of a `${` has been read.
 #[derive(Clone, Copy, Debug, PartialEq, Eq)]
 pub enum Head {
-    /// Directly behind `${`.
+    /// Directly after `${`.
     Start,
-    /// Behind `#`, which is the parameter or asks for a length.
+    /// After `#`, which is the parameter or asks for a length.
     Hash,
     /// In a name.
     Name,
     /// In a positional parameter's number.
     Number,
-    /// Behind a special parameter other than `#`.
+    /// After a special parameter other than `#`.
     Special,
-    /// In the name of which the length is asked.
+    /// In a name after `${#`, which asks for a length.
     LengthName,
-    /// In the number of which the length is asked.
+    /// In a positional parameter's number after `${#`.
     LengthNumber,
-    /// Behind a length's parameter that takes no more bytes.
+    /// After a special parameter after `${#`: no byte may follow.
     Length,
-    /// Behind `##`: the length of `$#`, or `$#` without a front.
+    /// After `##`: the length of `$#`, or `$#` without a prefix.
     HashPound,
-    /// Behind `:`.
+    /// After `:`.
     Colon,
-    /// Behind one of `- = ? +`.
+    /// After one of `- = ? +`.
     Word,
-    /// Behind `%`.
+    /// After `%`.
     Percent,
-    /// Behind `%%`.
+    /// After `%%`.
     DoublePercent,
-    /// Behind `#` as an operator.
+    /// After `#` as an operator.
     Pound,
-    /// Behind `##` as an operator.
+    /// After `##` as an operator.
     DoublePound,
 }
 
 impl Head {
-    /// The head with a byte more, where it takes that.
+    /// The head with one more byte, where it takes this byte.
     pub fn grown(self, b: u8) -> Option<Head>
         ensures { result ≡ grown_head self b }
     {
@@ -73,7 +73,7 @@ impl Head {
         }
     }
 
-    /// Whether the word behind it is read as outside of double quotes also where it stands between them.
+    /// Whether the word after it is read as outside of double quotes even where the `${` is between them.
     pub fn reads_bare(self) -> bool
         ensures { result ≡ reads_bare self }
     {

@@ -1,19 +1,19 @@
 //! Here-documents (XCU 2.7.4): their delimiters, and where their bodies end.
 ghost use Rattle.std.specs.Prelude.{◌≡◌, ◌++◌, ◌∷◌, [], IfOk, OnOk};
 ghost use Rattle.std.specs.List.{list_any};
-ghost use Rattle.sh_token_pieces.specs.Here.{source, unquoted, is_quoting, delimiter_text, tabs_of, delimiter_of, without_tabs, line_in, is_end_line, ends_escaped, joins_next};
+ghost use Rattle.sh_token_pieces.specs.Here.{source, without_quotes, is_quoting, delimiter_text, tabs_of, delimiter_of, without_tabs, line_in, is_end_line, ends_escaped, joins_next};
 
-use crate::mark::Mark;
 use crate::operator::Operator;
+use crate::piece::Piece;
 use sh_base::sequence::{Sequence, Text};
 use std::alloc::{AllocError, Global};
 
-/// What becomes of the tabs before a line of a body, and before its end line.
+/// What is done with the tabs at the beginning of a body's lines, its end line included.
 #[derive(Clone, Copy, Debug, PartialEq, Eq)]
 pub enum Tabs {
-    /// Behind `<<`.
+    /// After `<<`.
     Kept,
-    /// Behind `<<-`.
+    /// After `<<-`.
     Stripped,
 }
 
@@ -22,13 +22,13 @@ pub enum Tabs {
 pub struct Delimiter {
     /// The word, its quotes removed (XCU 2.6.7).
     pub text: Text,
-    /// Whether a part of it is quoted: then the body isn't expanded.
+    /// Whether a part of the word is quoted: then the body isn't expanded.
     pub is_quoted: bool,
     pub tabs: Tabs,
 }
 
 impl Tabs {
-    /// What the operator of a here-document says of them.
+    /// What the operator of a here-document says of the tabs; `None` for any other operator.
     pub fn of_operator(operator: Operator) -> Option<Self>
         ensures { result ≡ tabs_of operator }
     {
@@ -50,7 +50,7 @@ impl Tabs {
     }
 }
 
-/// A line without the tabs at its front.
+/// A line without the tabs at its beginning.
 fn without_tabs(line: &[u8]) -> &[u8]
     ensures { result.now ≡ without_tabs line.now }
 {
@@ -64,7 +64,7 @@ fn without_tabs(line: &[u8]) -> &[u8]
     rest
 }
 
-/// Whether a backslash that no backslash quotes stands at the line's end.
+/// Whether the line ends with a backslash that no other backslash quotes.
 fn ends_escaped(line: &[u8]) -> bool
     ensures { result ≡ ends_escaped line.now }
 {
@@ -83,8 +83,8 @@ fn ends_escaped(line: &[u8]) -> bool
 }
 
 impl Delimiter {
-    /// The delimiter that a word of these pieces is.
-    pub fn new(alloc: Global, tabs: Tabs, pieces: &[Mark]) -> Result<Self, AllocError>
+    /// The delimiter that a word of these pieces makes. The only error is want of memory.
+    pub fn new(alloc: Global, tabs: Tabs, pieces: &[Piece]) -> Result<Self, AllocError>
         ensures { IfOk result (λ delimiter. delimiter ≡ delimiter_of tabs pieces.now) }
     {
         let text = delimiter_text(alloc, pieces)?;
@@ -102,7 +102,7 @@ impl Delimiter {
         self.tabs.line(line) == self.text.as_slice()
     }
 
-    /// Whether the line, which is no end line, goes on with the next one.
+    /// Whether the line, which is no end line, is joined with the next one.
     pub fn joins_next(&self, line: &[u8]) -> bool
         ensures { result ≡ joins_next self.now line.now }
     {
@@ -111,7 +111,7 @@ impl Delimiter {
 }
 
 /// The text of a delimiter.
-fn delimiter_text(alloc: Global, pieces: &[Mark]) -> Result<Vec<u8>, AllocError>
+fn delimiter_text(alloc: Global, pieces: &[Piece]) -> Result<Vec<u8>, AllocError>
     ensures { IfOk result (λ text. text.items ≡ delimiter_text pieces.now) }
 {
     let mut text = Vec::new(alloc);
@@ -124,63 +124,63 @@ fn delimiter_text(alloc: Global, pieces: &[Mark]) -> Result<Vec<u8>, AllocError>
 }
 
 /// Whether a part of a delimiter is quoted.
-fn are_quoting(pieces: &[Mark]) -> bool
+fn are_quoting(pieces: &[Piece]) -> bool
     ensures { result ≡ list_any is_quoting pieces.now }
 {
-    pieces.iter().any(|mark| is_quoting(mark))
+    pieces.iter().any(|piece| is_quoting(piece))
 }
 
-fn is_quoting(mark: &Mark) -> bool
-    ensures { result ≡ is_quoting mark.now }
+fn is_quoting(piece: &Piece) -> bool
+    ensures { result ≡ is_quoting piece.now }
 {
-    match mark {
-        Mark::Escaped(_) => true,
-        Mark::SingleQuoted(_) => true,
-        Mark::DoubleQuotesOpen => true,
+    match piece {
+        Piece::Escaped(_) => true,
+        Piece::SingleQuoted(_) => true,
+        Piece::DoubleQuotesOpen => true,
         _ => false,
     }
 }
 
-/// Puts a piece behind a text, its quotes removed.
-fn push_unquoted(text: &mut Vec<u8>, mark: &Mark) -> Result<(), AllocError>
-    ensures { OnOk result (text.new.items ≡ text.old.items ++ unquoted mark.now) }
+/// Appends a piece to a text, its quotes removed.
+fn push_unquoted(text: &mut Vec<u8>, piece: &Piece) -> Result<(), AllocError>
+    ensures { OnOk result (text.new.items ≡ text.old.items ++ without_quotes piece.now) }
 {
-    match mark {
-        Mark::Escaped(b) => {
+    match piece {
+        Piece::Escaped(b) => {
             text.push(*b)?;
             Ok(())
         },
-        Mark::SingleQuoted(bytes) => text.extend_from_slice(bytes.as_slice()),
-        Mark::DoubleQuotesOpen => Ok(()),
-        Mark::DoubleQuotesClose => Ok(()),
-        _ => push_source(text, mark),
+        Piece::SingleQuoted(bytes) => text.extend_from_slice(bytes.as_slice()),
+        Piece::DoubleQuotesOpen => Ok(()),
+        Piece::DoubleQuotesClose => Ok(()),
+        _ => push_source(text, piece),
     }
 }
 
-/// Puts a piece behind a text as it is written.
+/// Appends a piece to a text, as it is written.
 #[tactic(auto, using(crate::proofs::Sources::plain_bytes, crate::proofs::Sources::raw_bytes, crate::proofs::Sources::raw_before))]
-fn push_source(text: &mut Vec<u8>, mark: &Mark) -> Result<(), AllocError>
-    ensures { OnOk result (text.new.items ≡ text.old.items ++ source mark.now) }
+fn push_source(text: &mut Vec<u8>, piece: &Piece) -> Result<(), AllocError>
+    ensures { OnOk result (text.new.items ≡ text.old.items ++ source piece.now) }
 {
-    match mark {
-        Mark::Byte(b) | Mark::Blank(b) => push(text, *b),
-        Mark::Escaped(b) | Mark::Backslash(b) => push_behind(text, b'\\', *b),
-        Mark::SingleQuoted(bytes) => push_between(text, b'\'', bytes.as_slice()),
-        Mark::DoubleQuotesOpen | Mark::DoubleQuotesClose => push(text, b'"'),
-        Mark::Dollar => push(text, b'$'),
-        Mark::Variable(bytes) => push_after(text, b"$", bytes.as_slice()),
-        Mark::Parameter(b) => push_behind(text, b'$', *b),
-        Mark::BraceOpen(bytes) => push_after(text, b"${", bytes.as_slice()),
-        Mark::BraceClose => push(text, b'}'),
-        Mark::ArithmeticOpen => text.extend_from_slice(b"$(("),
-        Mark::ArithmeticClose => text.extend_from_slice(b"))"),
-        Mark::CommandsOpen => text.extend_from_slice(b"$("),
-        Mark::CommandsClose => push(text, b')'),
-        Mark::Backquoted(bytes) => push_between(text, b'`', bytes.as_slice()),
-        Mark::WordOpen | Mark::WordClose(_) => Ok(()),
-        Mark::Comment(bytes) => push_after(text, b"#", bytes.as_slice()),
-        Mark::Bodies(bytes) => push_after(text, b"\n", bytes.as_slice()),
-        Mark::Operator(operator) => text.extend_from_slice(operator.text()),
+    match piece {
+        Piece::Byte(b) | Piece::Blank(b) => push(text, *b),
+        Piece::Escaped(b) | Piece::Backslash(b) => push_behind(text, b'\\', *b),
+        Piece::SingleQuoted(bytes) => push_between(text, b'\'', bytes.as_slice()),
+        Piece::DoubleQuotesOpen | Piece::DoubleQuotesClose => push(text, b'"'),
+        Piece::Dollar => push(text, b'$'),
+        Piece::Variable(bytes) => push_after(text, b"$", bytes.as_slice()),
+        Piece::Parameter(b) => push_behind(text, b'$', *b),
+        Piece::BraceOpen(bytes) => push_after(text, b"${", bytes.as_slice()),
+        Piece::BraceClose => push(text, b'}'),
+        Piece::ArithmeticOpen => text.extend_from_slice(b"$(("),
+        Piece::ArithmeticClose => text.extend_from_slice(b"))"),
+        Piece::CommandsOpen => text.extend_from_slice(b"$("),
+        Piece::CommandsClose => push(text, b')'),
+        Piece::Backquoted(bytes) => push_between(text, b'`', bytes.as_slice()),
+        Piece::WordOpen | Piece::WordClose(_) => Ok(()),
+        Piece::Comment(bytes) => push_after(text, b"#", bytes.as_slice()),
+        Piece::Bodies(bytes) => push_after(text, b"\n", bytes.as_slice()),
+        Piece::Operator(operator) => text.extend_from_slice(operator.text()),
     }
 }
 
@@ -191,17 +191,17 @@ fn push(text: &mut Vec<u8>, b: u8) -> Result<(), AllocError>
     Ok(())
 }
 
-fn push_behind(text: &mut Vec<u8>, front: u8, b: u8) -> Result<(), AllocError>
-    ensures { OnOk result (text.new.items ≡ text.old.items ++ front ∷ b ∷ []) }
+fn push_behind(text: &mut Vec<u8>, prefix: u8, b: u8) -> Result<(), AllocError>
+    ensures { OnOk result (text.new.items ≡ text.old.items ++ prefix ∷ b ∷ []) }
 {
-    text.push(front)?;
+    text.push(prefix)?;
     push(text, b)
 }
 
-fn push_after(text: &mut Vec<u8>, front: &[u8], bytes: &[u8]) -> Result<(), AllocError>
-    ensures { OnOk result (text.new.items ≡ text.old.items ++ (front.now ++ bytes.now)) }
+fn push_after(text: &mut Vec<u8>, prefix: &[u8], bytes: &[u8]) -> Result<(), AllocError>
+    ensures { OnOk result (text.new.items ≡ text.old.items ++ (prefix.now ++ bytes.now)) }
 {
-    text.extend_from_slice(front)?;
+    text.extend_from_slice(prefix)?;
     text.extend_from_slice(bytes)
 }
 

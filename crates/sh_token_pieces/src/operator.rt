@@ -1,6 +1,6 @@
 //! Operators (XCU 2.10.2).
 ghost use Rattle.std.specs.Prelude.{◌≡◌, Option, Some, None};
-ghost use Rattle.sh_token_pieces.specs.Growth.{grown, may_grow, operator_of};
+ghost use Rattle.sh_token_pieces.specs.Growth.{longer_operator, may_grow, operator_of};
 ghost use Rattle.sh_token_pieces.specs.Operators.{operator_text};
 
 /// An operator, by the standard's name where it has one.
@@ -61,7 +61,7 @@ impl Operator {
         }
     }
 
-    /// What it is written as.
+    /// How it is written.
     pub fn text(self) -> &'static [u8]
         ensures { result.now ≡ operator_text self }
     {
@@ -87,9 +87,9 @@ impl Operator {
         }
     }
 
-    /// The operator with a byte more, where that is one.
+    /// The operator that this one makes with one more byte, if they make one.
     pub fn grown(self, b: u8) -> Option<Self>
-        ensures { result ≡ grown self b }
+        ensures { result ≡ longer_operator self b }
     {
         match (self, b) {
             (Operator::And, b'&') => Some(Operator::AndIf),
@@ -106,7 +106,7 @@ impl Operator {
         }
     }
 
-    /// Whether some byte makes a longer operator of it.
+    /// Whether some byte after it makes a longer operator.
     pub fn may_grow(self) -> bool
         ensures { result ≡ may_grow self }
     {

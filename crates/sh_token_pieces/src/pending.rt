@@ -1,4 +1,4 @@
-//! What a scanner has begun and can't tell yet.
+//! Pieces that a scanner has begun to read and can't tell yet.
 ghost use Rattle.sh_token_pieces.specs.Pendings.{is_raw, is_gap_pending};
 ghost use Rattle.std.specs.Prelude.{◌≡◌};
 
@@ -9,27 +9,27 @@ use crate::operator::Operator;
 #[derive(Clone, Copy, Debug, PartialEq, Eq)]
 pub enum Pending {
     Nothing,
-    /// Behind a `$`.
+    /// After a `$`.
     Dollar,
-    /// Behind `$(`.
+    /// After `$(`.
     DollarParenthesis,
-    /// In the name behind a `$`.
+    /// In the name after a `$`.
     Name,
-    /// Behind `${`.
+    /// After `${`.
     Head(Head),
     /// Between single quotes.
     Single,
-    /// Between backquotes, and there behind a backslash.
+    /// Between backquotes; and there, after a backslash.
     Backquotes,
     BackquotesEscape,
-    /// Behind a `)` that may end arithmetic.
+    /// After a `)` that may end arithmetic.
     Parenthesis,
     /// In an operator that may grow.
     Operator(Operator),
-    /// Behind `#`.
+    /// In a comment, after its `#`.
     Comment,
-    /// In the bodies of here-documents: the line began behind so many bytes of them and so many bodies; it goes on with
-    /// the one before if `joined`.
+    /// In the bodies of here-documents. The line began after `line` bytes of them and after `bodies` whole
+    /// bodies; it is joined to the line before if `joined`.
     Body {
         line: usize,
         bodies: usize,
@@ -52,7 +52,7 @@ impl Pending {
         }
     }
 
-    /// Whether it may stand before a token.
+    /// Whether it may be before a token: no token has begun.
     pub fn is_gap(self) -> bool
         ensures { result ≡ is_gap_pending self }
     {

@@ -3,7 +3,7 @@ use Rattle.std.specs.Prelude.{ℕ, List, [], ◌∷◌, ◌++◌}
 use Rattle.sh_tty.specs.declared.entry.Entry.{Entry}
 use Rattle.sh_tty.specs.declared.key.Key.{Key}
 use Rattle.sh_tty.specs.declared.key.Key.TheVariants.{Newline, EndOfFile, Erase, Raise, Text, Dropped}
-use Rattle.sh_tty.specs.Keys.{key_of, echo, line_after, handed, taken}
+use Rattle.sh_tty.specs.Keys.{key_of, echo, line_after, new_entries, entries_after_read}
 
 pub data Happening : Type 0 where
   -- a key came
@@ -26,9 +26,9 @@ line_of (Wrote bs ∷ hs) = line_of hs
 -- what was handed over and is unread: lines and ends of file, in order
 abbrev pub entries_of : List Happening → List Entry
 entries_of [] = []
-entries_of (Typed b ∷ hs) = entries_of hs ++ handed (key_of b) (line_of hs)
+entries_of (Typed b ∷ hs) = entries_of hs ++ new_entries (key_of b) (line_of hs)
 entries_of (Discarded ∷ hs) = []
-entries_of (Took n ∷ hs) = taken n (entries_of hs)
+entries_of (Took n ∷ hs) = entries_after_read n (entries_of hs)
 entries_of (Wrote bs ∷ hs) = entries_of hs
 
 -- the terminal's bytes: what was written, and the echo of the keys

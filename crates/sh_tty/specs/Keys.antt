@@ -49,7 +49,7 @@ signal_echo Interrupt = 94 ∷ 67 ∷ 10 ∷ []
 signal_echo Quit = 94 ∷ 92 ∷ 10 ∷ []
 signal_echo Suspend = 94 ∷ 90 ∷ 10 ∷ []
 
--- what the terminal shows of a key, where this line stands
+-- what the terminal shows of a key, where this is the line so far
 abbrev pub echo : Key → List ℕ → List ℕ
 echo Newline line = 10 ∷ []
 echo EndOfFile line = []
@@ -58,7 +58,7 @@ echo (Raise signal) line = signal_echo signal
 echo (Text b) line = if has_room line then b ∷ [] else []
 echo Dropped line = []
 
--- the standing line after a key
+-- the line that is being typed, after a key
 abbrev pub line_after : Key → List ℕ → List ℕ
 line_after Newline line = []
 line_after EndOfFile line = []
@@ -67,20 +67,21 @@ line_after (Raise signal) line = line
 line_after (Text b) line = if has_room line then line ++ b ∷ [] else line
 line_after Dropped line = line
 
--- what a key hands over: a line with its newline, what stands, or an end of file where nothing stands
-abbrev pub handed : Key → List ℕ → List Entry
-handed Newline line = entry.Line (line ++ 10 ∷ []) ∷ []
-handed EndOfFile line = if length line == 0 then entry.EndOfFile ∷ [] else entry.Line line ∷ []
-handed Erase line = []
-handed (Raise signal) line = []
-handed (Text b) line = []
-handed Dropped line = []
+-- what a key hands over: a newline, the line with it; key 04, the line so far, or an end of file where that
+-- is empty
+abbrev pub new_entries : Key → List ℕ → List Entry
+new_entries Newline line = entry.Line (line ++ 10 ∷ []) ∷ []
+new_entries EndOfFile line = if length line == 0 then entry.EndOfFile ∷ [] else entry.Line line ∷ []
+new_entries Erase line = []
+new_entries (Raise signal) line = []
+new_entries (Text b) line = []
+new_entries Dropped line = []
 
 -- what is left of the entries after a read of up to n bytes: it takes from the first line, or an end of file
-abbrev pub taken : ℕ → List Entry → List Entry
-taken n [] = []
-taken n (entry.EndOfFile ∷ entries) = entries
-taken n (entry.Line bytes ∷ entries) = if nat_le (length bytes) n then entries else entry.Line (drop n bytes) ∷ entries
+abbrev pub entries_after_read : ℕ → List Entry → List Entry
+entries_after_read n [] = []
+entries_after_read n (entry.EndOfFile ∷ entries) = entries
+entries_after_read n (entry.Line bytes ∷ entries) = if nat_le (length bytes) n then entries else entry.Line (drop n bytes) ∷ entries
 
 -- the bytes that such a read gets, if it need not wait
 abbrev pub read_of : ℕ → List Entry → Option (List ℕ)

@@ -1,9 +1,9 @@
--- What a terminal keeps, and of which happenings that is.
+-- What a terminal keeps, and which happenings make that.
 use Rattle.std.specs.Prelude.{◌≡◌, ℕ, List, [], ◌++◌}
 use Rattle.sh_tty.specs.declared.entry.Entry.{Entry}
 use Rattle.sh_tty.specs.declared.key.Key.{Key}
 use Rattle.sh_tty.specs.declared.key.Key.TheVariants.{Newline, EndOfFile, Erase, Raise, Text, Dropped}
-use Rattle.sh_tty.specs.Keys.{line_after, handed}
+use Rattle.sh_tty.specs.Keys.{line_after, new_entries}
 use Rattle.sh_tty.specs.Happenings.{Happening, line_of, entries_of, bytes_of}
 
 pub record TtyKept : Type 0 where
@@ -29,12 +29,12 @@ kept_line (Text b) line = line_after (Text b) line
 kept_line Dropped line = line_after Dropped line
 
 abbrev pub kept_entries : Key → List Entry → List ℕ → List Entry
-kept_entries Newline entries line = entries ++ handed Newline line
-kept_entries EndOfFile entries line = entries ++ handed EndOfFile line
-kept_entries Erase entries line = entries ++ handed Erase line
+kept_entries Newline entries line = entries ++ new_entries Newline line
+kept_entries EndOfFile entries line = entries ++ new_entries EndOfFile line
+kept_entries Erase entries line = entries ++ new_entries Erase line
 kept_entries (Raise signal) entries line = []
-kept_entries (Text b) entries line = entries ++ handed (Text b) line
-kept_entries Dropped entries line = entries ++ handed Dropped line
+kept_entries (Text b) entries line = entries ++ new_entries (Text b) line
+kept_entries Dropped entries line = entries ++ new_entries Dropped line
 
 -- the terminal's bytes still begin with the earlier ones
 abbrev pub Extends : List ℕ → List ℕ → Type 0

@@ -1,6 +1,6 @@
 //! Input that was handed over.
 ghost use Rattle.std.specs.Prelude.{◌≡◌, ◌≤◌, MatchOption, drop, length, option_map, take};
-ghost use Rattle.sh_tty.specs.Keys.{read_of, taken};
+ghost use Rattle.sh_tty.specs.Keys.{read_of, entries_after_read};
 
 use std::collections::VecDeque;
 use std::marker::Model;
@@ -34,7 +34,7 @@ impl Line {
         self.bytes.as_slice()
     }
 
-    /// Lets its first bytes go.
+    /// Removes its first bytes.
     fn remove_front(&mut self, count: usize)
         requires { count ≤ length self.old }
         ensures { self.new ≡ drop count self.old }
@@ -57,7 +57,8 @@ pub enum Entry {
 /// Copies what a read gets from the first entry into the front of a buffer, and says how many bytes these
 /// are.
 pub(crate) fn copy_first(entries: &VecDeque<Entry>, buf: &mut [u8]) -> Option<usize>
-    ensures count { option_map (λ n. take n buf.new) result ≡ read_of (length buf.old) entries.now.items }
+    ensures count { option_map (λ n. take n buf.new) result
+        ≡ read_of (length buf.old) entries.now.items }
     ensures rest { MatchOption result (buf.new ≡ buf.old) (λ n. drop n buf.new ≡ drop n buf.old) }
 {
     match entries.front()? {
@@ -73,7 +74,7 @@ pub(crate) fn copy_first(entries: &VecDeque<Entry>, buf: &mut [u8]) -> Option<us
 
 /// Takes from the first entry what a read of up to so many bytes gets.
 pub(crate) fn take_first(entries: &mut VecDeque<Entry>, count: usize)
-    ensures { entries.new.items ≡ taken count entries.old.items }
+    ensures { entries.new.items ≡ entries_after_read count entries.old.items }
 {
     let Some(first) = entries.pop_front() else {
         return;

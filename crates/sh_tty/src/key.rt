@@ -42,9 +42,9 @@ impl Signal {
 pub(crate) enum Key {
     /// It ends the line.
     Newline,
-    /// It hands over what stands.
+    /// It hands over the line so far, or an end of file where that is empty.
     EndOfFile,
-    /// It takes back a byte.
+    /// It takes back the last byte of the line.
     Erase,
     /// It raises a signal.
     Raise(Signal),

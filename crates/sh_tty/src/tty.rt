@@ -46,8 +46,8 @@ impl<T: Drop> From<AllocFailed<T>> for TtyFault {
 }
 
 /// A terminal in canonical mode, without output processing. It stands at a list of happenings (keys,
-/// discards, reads, writes): its bytes, its unread input and its standing line are those that the list
-/// makes.
+/// discards, reads, writes): its bytes, its unread input and the line that is being typed are those that the
+/// list makes.
 #[derive(Debug, Drop)]
 pub struct Tty {
     alloc: Global,
@@ -65,17 +65,21 @@ impl Model for Tty {
     ghost view = { λ t. record { bytes = t.bytes.items; entries = t.entries.items; line = t.line.items; foreground = t.foreground } };
 }
 
-/// The line ends.
+/// Ends the line, which is handed over with its newline.
 fn end_line(
     alloc: Global,
     bytes: &mut Vec<u8>,
     entries: &mut VecDeque<Entry>,
     line: &mut Vec<u8>,
 ) -> Result<(), TtyFault>
-    ensures bytes { OnOk result (bytes.new.items ≡ bytes.old.items ++ echo Key.Newline line.old.items) }
-    ensures entries { OnOk result (entries.new.items ≡ kept_entries Key.Newline entries.old.items line.old.items) }
+    ensures bytes { OnOk result
+        (bytes.new.items ≡ bytes.old.items ++ echo Key.Newline line.old.items) }
+    ensures entries { OnOk result
+        (entries.new.items ≡ kept_entries Key.Newline entries.old.items line.old.items) }
     ensures line { OnOk result (line.new.items ≡ kept_line Key.Newline line.old.items) }
-    ensures kept { OnErr result ((bytes.new.items ≡ bytes.old.items) × (entries.new.items ≡ entries.old.items) × (line.new.items ≡ line.old.items)) }
+    ensures kept { OnErr result
+        ((bytes.new.items ≡ bytes.old.items) × (entries.new.items ≡ entries.old.items)
+        × (line.new.items ≡ line.old.items)) }
     ensures fault { IfErr result (λ fault. fault ≡ TtyFault.NoMemory no_memory) }
 {
     bytes.reserve(1)?;
@@ -87,15 +91,17 @@ fn end_line(
     Ok(())
 }
 
-/// What stands is handed over, and an end of file where nothing stands.
+/// Hands over the line so far, or an end of file where that is empty.
 fn hand_over(
     alloc: Global,
     entries: &mut VecDeque<Entry>,
     line: &mut Vec<u8>,
 ) -> Result<(), TtyFault>
-    ensures entries { OnOk result (entries.new.items ≡ kept_entries Key.EndOfFile entries.old.items line.old.items) }
+    ensures entries { OnOk result
+        (entries.new.items ≡ kept_entries Key.EndOfFile entries.old.items line.old.items) }
     ensures line { OnOk result (line.new.items ≡ kept_line Key.EndOfFile line.old.items) }
-    ensures kept { OnErr result ((entries.new.items ≡ entries.old.items) × (line.new.items ≡ line.old.items)) }
+    ensures kept { OnErr result
+        ((entries.new.items ≡ entries.old.items) × (line.new.items ≡ line.old.items)) }
     ensures fault { IfErr result (λ fault. fault ≡ TtyFault.NoMemory no_memory) }
 {
     if line.len() == 0 {
@@ -108,11 +114,12 @@ fn hand_over(
     Ok(())
 }
 
-/// A byte of the line is taken back.
+/// Takes back the last byte of the line.
 fn erase(bytes: &mut Vec<u8>, line: &mut Vec<u8>) -> Result<(), TtyFault>
     ensures bytes { OnOk result (bytes.new.items ≡ bytes.old.items ++ echo Key.Erase line.old.items) }
     ensures line { OnOk result (line.new.items ≡ kept_line Key.Erase line.old.items) }
-    ensures kept { OnErr result ((bytes.new.items ≡ bytes.old.items) × (line.new.items ≡ line.old.items)) }
+    ensures kept { OnErr result
+        ((bytes.new.items ≡ bytes.old.items) × (line.new.items ≡ line.old.items)) }
     ensures fault { IfErr result (λ fault. fault ≡ TtyFault.NoMemory no_memory) }
 {
     if line.is_empty() {
@@ -123,11 +130,13 @@ fn erase(bytes: &mut Vec<u8>, line: &mut Vec<u8>) -> Result<(), TtyFault>
     Ok(())
 }
 
-/// A byte of text.
+/// Adds a byte of text to the line, and echoes it, unless the line is full.
 fn put(byte: u8, bytes: &mut Vec<u8>, line: &mut Vec<u8>) -> Result<(), TtyFault>
-    ensures bytes { OnOk result (bytes.new.items ≡ bytes.old.items ++ echo (Key.Text byte) line.old.items) }
+    ensures bytes { OnOk result
+        (bytes.new.items ≡ bytes.old.items ++ echo (Key.Text byte) line.old.items) }
     ensures line { OnOk result (line.new.items ≡ kept_line (Key.Text byte) line.old.items) }
-    ensures kept { OnErr result ((bytes.new.items ≡ bytes.old.items) × (line.new.items ≡ line.old.items)) }
+    ensures kept { OnErr result
+        ((bytes.new.items ≡ bytes.old.items) × (line.new.items ≡ line.old.items)) }
     ensures fault { IfErr result (λ fault. fault ≡ TtyFault.NoMemory no_memory) }
 {
     if line.len() >= LINE_LIMIT {
@@ -139,17 +148,20 @@ fn put(byte: u8, bytes: &mut Vec<u8>, line: &mut Vec<u8>) -> Result<(), TtyFault
     Ok(())
 }
 
-/// A signal throws the unread input away.
+/// Raises a signal, which throws the unread input away.
 fn raise(
     signal: Signal,
     bytes: &mut Vec<u8>,
     entries: &mut VecDeque<Entry>,
     line: &mut Vec<u8>,
 ) -> Result<(), TtyFault>
-    ensures bytes { OnOk result (bytes.new.items ≡ bytes.old.items ++ echo (Key.Raise signal) line.old.items) }
+    ensures bytes { OnOk result
+        (bytes.new.items ≡ bytes.old.items ++ echo (Key.Raise signal) line.old.items) }
     ensures entries { OnOk result (entries.new.items ≡ []) }
     ensures line { OnOk result (line.new.items ≡ []) }
-    ensures kept { OnErr result ((bytes.new.items ≡ bytes.old.items) × (entries.new.items ≡ entries.old.items) × (line.new.items ≡ line.old.items)) }
+    ensures kept { OnErr result
+        ((bytes.new.items ≡ bytes.old.items) × (entries.new.items ≡ entries.old.items)
+        × (line.new.items ≡ line.old.items)) }
     ensures fault { IfErr result (λ fault. fault ≡ TtyFault.NoMemory no_memory) }
 {
     bytes.extend_from_slice(&signal.echo())?;
@@ -167,9 +179,12 @@ fn press(
     line: &mut Vec<u8>,
 ) -> Result<(), TtyFault>
     ensures bytes { OnOk result (bytes.new.items ≡ bytes.old.items ++ echo key line.old.items) }
-    ensures entries { OnOk result (entries.new.items ≡ kept_entries key entries.old.items line.old.items) }
+    ensures entries { OnOk result
+        (entries.new.items ≡ kept_entries key entries.old.items line.old.items) }
     ensures line { OnOk result (line.new.items ≡ kept_line key line.old.items) }
-    ensures kept { OnErr result ((bytes.new.items ≡ bytes.old.items) × (entries.new.items ≡ entries.old.items) × (line.new.items ≡ line.old.items)) }
+    ensures kept { OnErr result
+        ((bytes.new.items ≡ bytes.old.items) × (entries.new.items ≡ entries.old.items)
+        × (line.new.items ≡ line.old.items)) }
     ensures fault { IfErr result (λ fault. fault ≡ TtyFault.NoMemory no_memory) }
 {
     match key {
@@ -197,13 +212,14 @@ impl Tty {
         }
     }
 
-    /// A key comes. It answers the signal that the key raises for the foreground group: 03, 1c and 1a
+    /// A key is typed. The answer is the signal that the key raises for the foreground group: 03, 1c and 1a
     /// (hexadecimal) raise one, throw unread input away, and are echoed as `^C`, `^\` and `^Z`, each with a
-    /// newline. Newline ends the line; 04 hands over what stands, or an end of file; 7f takes a byte
-    /// back; tab and the bytes from 20 up are text; others are dropped. After an `Err`, which only want
-    /// of memory gives, nothing happened.
+    /// newline. Newline ends the line; 04 hands over the line so far, or an end of file where that is empty;
+    /// 7f takes back the last byte; tab and the bytes from 20 up are text; others are dropped. After an
+    /// `Err`, which only want of memory gives, nothing happened.
     pub fn key(&mut self, byte: u8) -> Result<Option<Signal>, TtyFault>
-        ensures stands { (hs : List Happening) → StandsAt self.old hs → OnOk result (StandsAt self.new (after_key byte hs)) }
+        ensures stands { (hs : List Happening) → StandsAt self.old hs
+            → OnOk result (StandsAt self.new (after_key byte hs)) }
         ensures signal { IfOk result (λ signal. signal ≡ signal_of (key_of byte)) }
         ensures foreground { self.new.foreground ≡ self.old.foreground }
         ensures unchanged { OnErr result (self.new ≡ self.old) }
@@ -225,9 +241,13 @@ impl Tty {
     /// how many bytes these are; 0 is an end of file, which one read gets. Takes no memory. The one error is
     /// `WouldWait`, where nothing was handed over.
     pub fn read(&mut self, buf: &mut [u8]) -> Result<usize, TtyFault>
-        ensures stands { (hs : List Happening) → StandsAt self.old hs → OnOk result (StandsAt self.new (Happening.Took (length buf.old) ∷ hs)) }
-        ensures bytes { MatchResult result (λ n. Some (take n buf.new) ≡ read_of (length buf.old) self.old.entries) (λ e. (e ≡ TtyFault.WouldWait) × (read_of (length buf.old) self.old.entries ≡ None)) }
-        ensures rest { MatchResult result (λ n. drop n buf.new ≡ drop n buf.old) (λ e. buf.new ≡ buf.old) }
+        ensures stands { (hs : List Happening) → StandsAt self.old hs
+            → OnOk result (StandsAt self.new (Happening.Took (length buf.old) ∷ hs)) }
+        ensures bytes { MatchResult result (λ n.
+            Some (take n buf.new) ≡ read_of (length buf.old) self.old.entries)
+            (λ e. (e ≡ TtyFault.WouldWait) × (read_of (length buf.old) self.old.entries ≡ None)) }
+        ensures rest { MatchResult result (λ n. drop n buf.new ≡ drop n buf.old) (λ e.
+            buf.new ≡ buf.old) }
         ensures terminal { self.new.bytes ≡ self.old.bytes }
         ensures foreground { self.new.foreground ≡ self.old.foreground }
         ensures unchanged { OnErr result (self.new ≡ self.old) }
@@ -240,9 +260,10 @@ impl Tty {
         Ok(count)
     }
 
-    /// Writes. After an `Err`, which only want of memory gives, nothing happened.
+    /// Shows bytes that a process writes. After an `Err`, which only want of memory gives, nothing happened.
     pub fn write(&mut self, bytes: &[u8]) -> Result<(), TtyFault>
-        ensures stands { (hs : List Happening) → StandsAt self.old hs → OnOk result (StandsAt self.new (Happening.Wrote bytes.now ∷ hs)) }
+        ensures stands { (hs : List Happening) → StandsAt self.old hs
+            → OnOk result (StandsAt self.new (Happening.Wrote bytes.now ∷ hs)) }
         ensures terminal { OnOk result (self.new.bytes ≡ self.old.bytes ++ bytes.now) }
         ensures foreground { self.new.foreground ≡ self.old.foreground }
         ensures unchanged { OnErr result (self.new ≡ self.old) }

@@ -6,7 +6,7 @@ use crate::words;
 use sh_base::sequence::{Sequence, Text};
 use sh_expand::{ArithmeticError, Context, Expansion, Fault, Step, Wanted};
 use sh_files::Files;
-use sh_pattern::Mark;
+use sh_pattern::PatternByte;
 use sh_rows::RowFault;
 use sh_vars::{Options, Vars, VarsFault};
 use std::alloc::{AllocError, Global};
@@ -325,7 +325,7 @@ fn pattern_of(
     words: Sequence<Wanted>,
     vars: &mut Vars,
     files: &Files,
-) -> Result<Vec<Mark>, AllocError> {
+) -> Result<Vec<PatternByte>, AllocError> {
     let (expansion, step) = Expansion::start(alloc, words, vars, files)?;
     drop(step);
     let pattern = expansion.pattern(alloc);
@@ -333,7 +333,7 @@ fn pattern_of(
     pattern
 }
 
-fn put_pattern(text: &mut Vec<u8>, marks: &[Mark]) -> Result<(), AllocError> {
+fn put_pattern(text: &mut Vec<u8>, marks: &[PatternByte]) -> Result<(), AllocError> {
     for mark in marks {
         if mark.literal {
             text.push(b'\\')?;

@@ -2,20 +2,20 @@
 //! unset, `_` where it is empty. A backslash quotes the byte behind it.
 use sh_base::NoMemory;
 use sh_expand_fields::split_line;
-use sh_pattern::Mark;
+use sh_pattern::PatternByte;
 use sh_rows::RowFault;
 use sh_vars::Vars;
 use std::alloc::Global;
 
 /// The bytes of a line.
-fn marks_of(alloc: Global, line: &[u8]) -> Result<Vec<Mark>, NoMemory> {
+fn marks_of(alloc: Global, line: &[u8]) -> Result<Vec<PatternByte>, NoMemory> {
     let mut marks = Vec::new(alloc);
     let mut literal = false;
     for byte in line {
         if *byte == b'\\' && !literal {
             literal = true;
         } else {
-            marks.push(Mark {
+            marks.push(PatternByte {
                 byte: *byte,
                 literal,
             })?;

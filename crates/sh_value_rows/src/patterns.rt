@@ -1,17 +1,19 @@
 //! Patterns, what they match, and the parts of texts that they match.
 use crate::steps::{decimal, number, repeated, yes_or_no};
-use sh_pattern::{Mark, longest_back, longest_front, matches, shortest_back, shortest_front};
+use sh_pattern::{
+    PatternByte, longest_back, longest_front, matches, shortest_back, shortest_front,
+};
 use sh_rows::RowFault;
 use std::alloc::Global;
 
 /// The marks of a pattern in which a backslash makes the next byte literal.
-fn marks(alloc: Global, pattern: &[u8]) -> Result<Vec<Mark>, RowFault> {
+fn marks(alloc: Global, pattern: &[u8]) -> Result<Vec<PatternByte>, RowFault> {
     let mut all = Vec::new(alloc);
     let mut literal = false;
     for byte in pattern {
         let escapes = *byte == b'\\' && !literal;
         if !escapes {
-            all.push(Mark {
+            all.push(PatternByte {
                 byte: *byte,
                 literal,
             })?;
@@ -38,7 +40,7 @@ pub fn is_repeated_matched(
     is_matched(alloc, pattern, &text)
 }
 
-/// `parts PATTERN TEXT`: the lengths of the shortest and longest front and the shortest and longest back that the pattern matches,
+/// `parts PATTERN TEXT`: the lengths of the shortest and longest prefix and the shortest and longest back that the pattern matches,
 /// `none` where it matches none.
 pub fn parts(alloc: Global, pattern: &[u8], text: &[u8]) -> Result<Vec<u8>, RowFault> {
     let marks = marks(alloc, pattern)?;

@@ -5,20 +5,20 @@ use sh_base::shared::Shared;
 use sh_expand::{Context, Wanted};
 use sh_parse::{Aliases, ParseFault, Reading, read_command};
 use sh_rows::RowFault;
-use sh_syntax::tree::{Command, Complete, Parts, SimpleItem, Target};
+use sh_syntax::tree::{Command, CompoundList, Parts, SimpleItem, Target};
 use std::alloc::Global;
 
 /// A command with these words behind its name, or with a here-document that has them as its body.
 fn command_of(alloc: Global, context: Context, words: &[u8]) -> Result<Vec<u8>, RowFault> {
-    let (front, back) = match context {
+    let (prefix, back) = match context {
         Context::QuotedSingle => (b": <<E\n".as_slice(), b"\nE\n".as_slice()),
         _ => (b": ".as_slice(), b"\n".as_slice()),
     };
-    joined(alloc, &[front, words, back])
+    joined(alloc, &[prefix, words, back])
 }
 
 /// The items of a simple command; none of any other.
-fn simple_items(tree: &Complete) -> &[SimpleItem] {
+fn simple_items(tree: &CompoundList) -> &[SimpleItem] {
     let Some(item) = tree.items.as_slice().first() else {
         return &[];
     };
@@ -44,7 +44,7 @@ fn parts_of(item: &SimpleItem) -> Option<&Shared<Parts>> {
 fn words_of(
     alloc: Global,
     context: Context,
-    tree: &Complete,
+    tree: &CompoundList,
 ) -> Result<Sequence<Wanted>, RowFault> {
     let mut words = Sequence::new(alloc);
     for item in simple_items(tree).iter().skip(1) {

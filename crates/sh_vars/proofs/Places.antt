@@ -13,7 +13,7 @@ use Rattle.std.proofs.lemmas.Cmp.{nat_list_cmp_total}
 use Rattle.std.proofs.lemmas.Map.Lookups.{exact_bytes}
 use Rattle.std.proofs.lemmas.Option.{slice_get-get_or, slice_get_within, get_or_from_slice_get}
 use Rattle.std.proofs.lemmas.List.{set-get_or}
-use Rattle.sh_vars.specs.Environment.{Variable, VariableMap, absent, named}
+use Rattle.sh_vars.specs.Environment.{Variable, VariableMap, absent, variable_or_absent}
 use Rattle.sh_vars.specs.Places.{Entries, IsHeld, IsPlace}
 
 abbrev pub order : List ℕ → List ℕ → Ordering
@@ -189,7 +189,7 @@ found_in q es i e h at is =
 pub missing_in : (q : List ℕ) (es : Entries) (i : ℕ) → Rises es → IsPlace es q (Err i) → None ≡ map.get (map.from_sorted {R = order} es) q
 missing_in q es i h gap = sym (map.get-from_sorted order es q h ∙ missing q es i gap.1)
 
-pub named_in : (q : List ℕ) (es : Entries) → Rises es → named (map.from_sorted es) q ≡ unwrap_or (map.find order q es) absent
+pub named_in : (q : List ℕ) (es : Entries) → Rises es → variable_or_absent (map.from_sorted es) q ≡ unwrap_or (map.find order q es) absent
 named_in q es h = ap (λ (o : Option Variable). unwrap_or o absent) (map.get-from_sorted order es q h)
 
 pub held_found : (q : List ℕ) (es : Entries) (i : ℕ) → Rises es → IsPlace es q (Ok i) → IsHeld es q es i
@@ -226,19 +226,19 @@ no_entries es is =
     no_entries_left (x ∷ xs) e = absurd (omega arith)
 
 -- the list after the entry of the held name was changed
-pub changed : {q : List ℕ} {old new : Entries} {i : ℕ} (f : Variable → Variable) (e after : List ℕ × Variable) → Held q old new i → e ≡ get_or new i e → after ≡ (e.0, f e.1) → set new i after ≡ set new i (q, f (named (map.from_sorted old) q))
+pub changed : {q : List ℕ} {old new : Entries} {i : ℕ} (f : Variable → Variable) (e after : List ℕ × Variable) → Held q old new i → e ≡ get_or new i e → after ≡ (e.0, f e.1) → set new i after ≡ set new i (q, f (variable_or_absent (map.from_sorted old) q))
 changed {q} {old} {new} {i} f e after h is change =
-    let was : e ≡ (q, named (map.from_sorted old) q) = is ∙ get_or_from_slice_get new i _ e h.held.1 ∙ ap (λ (v : Variable). (q, v)) (sym (named_in q old h.rises)) in
+    let was : e ≡ (q, variable_or_absent (map.from_sorted old) q) = is ∙ get_or_from_slice_get new i _ e h.held.1 ∙ ap (λ (v : Variable). (q, v)) (sym (named_in q old h.rises)) in
     ap (set new i) (change ∙ ap (λ (x : List ℕ × Variable). (x.0, f x.1)) was)
 
 pub changed_rises : {q : List ℕ} {old new : Entries} {i : ℕ} (f : Variable → Variable) (e after : List ℕ × Variable) → Held q old new i → e ≡ get_or new i e → after ≡ (e.0, f e.1) → Rises (set new i after)
 changed_rises f e after h is change = subst Rises (sym (changed f e after h is change)) (set_held_rises _ h)
 
-pub changed_map : {q : List ℕ} {old new : Entries} {i : ℕ} (f : Variable → Variable) (e after : List ℕ × Variable) → Held q old new i → e ≡ get_or new i e → after ≡ (e.0, f e.1) → (m : VariableMap) → map.from_sorted old ≡ m → map.from_sorted {R = order} (set new i after) ≡ map.insert m q (f (named m q))
+pub changed_map : {q : List ℕ} {old new : Entries} {i : ℕ} (f : Variable → Variable) (e after : List ℕ × Variable) → Held q old new i → e ≡ get_or new i e → after ≡ (e.0, f e.1) → (m : VariableMap) → map.from_sorted old ≡ m → map.from_sorted {R = order} (set new i after) ≡ map.insert m q (f (variable_or_absent m q))
 changed_map {q} {old} f e after h is change m view =
     ap (λ (es : Entries). map.from_sorted {R = order} es) (changed f e after h is change)
     ∙ set_held_map _ h
-    ∙ ap (λ (n : VariableMap). map.insert n q (f (named n q))) view
+    ∙ ap (λ (n : VariableMap). map.insert n q (f (variable_or_absent n q))) view
 
 -- a list in order is the map of its entries
 pub in_any_order : (es : Entries) → Rises es → map.from_sorted {R = order} es ≡ map.from_entries es

@@ -17,7 +17,8 @@ pub record Variable : Type 0 where
 abbrev pub VariableMap : Type 0
 VariableMap = FinMap (slice_cmp nat_cmp) Variable
 
--- the special parameters 0, $, ? and ! (2.5.2); the others are read off the rest
+-- the special parameters 0, $, ? and ! (2.5.2); the other ones follow from the positional parameters and the
+-- options
 pub record Special : Type 0 where
   pub zero : List ℕ
   pub process : ℕ
@@ -32,17 +33,17 @@ pub record Environment : Type 0 where
   pub special : Special
   pub directory : List ℕ
 
--- a name that no variable has stands for one without value and attributes
+-- a name that no variable has counts as a variable without value and attributes
 abbrev pub absent : Variable
 absent = record { value = None; exported = false; read_only = false }
 
 -- the variable after an assignment to it, which exports it if `export` says so
-abbrev pub assigned : Variable → List ℕ → Bool → Variable
-assigned variable value export = record variable { value = Some value; exported = variable.exported || export }
+abbrev pub after_assignment : Variable → List ℕ → Bool → Variable
+after_assignment variable value export = record variable { value = Some value; exported = variable.exported || export }
 
 -- the variable of this name, or an absent one
-abbrev pub named : VariableMap → List ℕ → Variable
-named variables name = unwrap_or (get variables name) absent
+abbrev pub variable_or_absent : VariableMap → List ℕ → Variable
+variable_or_absent variables name = unwrap_or (get variables name) absent
 
 -- the variable of this name, if it has a value or an attribute
 abbrev pub variable_of : Environment → List ℕ → Option Variable
@@ -57,7 +58,7 @@ abbrev pub separators_of : Environment → List ℕ
 separators_of env = separators_by (value_of env (codes "IFS"))
 
 abbrev pub is_read_only : Environment → List ℕ → Bool
-is_read_only env name = (named env.variables name).read_only
+is_read_only env name = (variable_or_absent env.variables name).read_only
 
 -- this variable under this name, all else as it was
 abbrev pub with_variable : Environment → List ℕ → Variable → Environment
@@ -65,15 +66,15 @@ with_variable env name variable = record env { variables = insert env.variables 
 
 -- an assignment (2.9.1.2): a new value, and under `set -a` the variable is exported from then on
 abbrev pub with_value : Environment → List ℕ → List ℕ → Environment
-with_value env name value = with_variable env name (assigned (named env.variables name) value env.options.all_export)
+with_value env name value = with_variable env name (after_assignment (variable_or_absent env.variables name) value env.options.all_export)
 
 -- `export NAME` (2.15)
 abbrev pub with_export : Environment → List ℕ → Environment
-with_export env name = with_variable env name (record (named env.variables name) { exported = true })
+with_export env name = with_variable env name (record (variable_or_absent env.variables name) { exported = true })
 
 -- `readonly NAME` (2.15)
 abbrev pub with_read_only : Environment → List ℕ → Environment
-with_read_only env name = with_variable env name (record (named env.variables name) { read_only = true })
+with_read_only env name = with_variable env name (record (variable_or_absent env.variables name) { read_only = true })
 
 -- `unset NAME` (2.15): value and attributes are gone
 abbrev pub without : Environment → List ℕ → Environment
@@ -86,8 +87,8 @@ abbrev pub with_positional : Environment → List (List ℕ) → Environment
 with_positional env operands = record env { positional = operands }
 
 -- `shift n` (2.15): the first n positional parameters are gone
-abbrev pub shifted : Environment → ℕ → Environment
-shifted env n = with_positional env (drop n env.positional)
+abbrev pub after_shift : Environment → ℕ → Environment
+after_shift env n = with_positional env (drop n env.positional)
 
 abbrev pub with_directory : Environment → List ℕ → Environment
 with_directory env path = record env { directory = path }

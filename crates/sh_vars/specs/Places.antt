@@ -1,4 +1,5 @@
--- What a search for a name answers in a list of entries: where the name stands, or where it belongs.
+-- What a search for a name in a list of entries answers: the index of the name, or the index where it
+-- belongs.
 use Rattle.std.specs.Prelude.{◌≡◌, ℕ, ◌<◌, ◌≤◌, List, length, MatchResult, Result, slice_get, unwrap_or, Some}
 use Rattle.std.specs.List.{HoldsAt}
 use Rattle.std.specs.List.Sorted.{IsPartitionPoint}
@@ -11,14 +12,15 @@ use Rattle.sh_vars.specs.Environment.{Variable, absent}
 abbrev pub Entries : Type 0
 Entries = List (List ℕ × Variable)
 
--- at `Ok i` the name stands at i, and at `Err i` the names before i come before it and those from i on after it
+-- `Ok i`: the entry at index i has the name; `Err i`: the names before i sort before it, and those from i on
+-- after it
 abbrev pub IsPlace : Entries → List ℕ → Result ℕ ℕ → Type 0
 IsPlace entries name place =
     MatchResult place
     (λ i. (i < length entries) × HoldsAt (λ e. e.0 ≡ name) entries i)
     (λ i. (i ≤ length entries) × IsPartitionPoint (λ e. slice_cmp nat_cmp e.0 name ≡ Less) (λ e. slice_cmp nat_cmp e.0 name ≡ Greater) entries i)
 
--- the variable of this name, made where there was none, stands at i
+-- the variable of this name is at index i; where there was none, it was added without value and attributes
 abbrev pub IsHeld : Entries → List ℕ → Entries → ℕ → Type 0
 IsHeld old name new i =
     (new ≡ put (slice_cmp nat_cmp) name (unwrap_or (find (slice_cmp nat_cmp) name old) absent) old)

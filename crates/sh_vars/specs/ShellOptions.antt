@@ -6,7 +6,7 @@ use Rattle.sh_vars.specs.declared.shell_options.Options.{Options}
 use Rattle.sh_vars.specs.declared.shell_options.ShellOption.{ShellOption}
 use Rattle.sh_vars.specs.declared.shell_options.ShellOption.TheVariants.{AllExport, NoClobber, ExitOnError, NoGlob, Interactive, Monitor, NoUnset}
 
--- the letter that switches an option on behind `-`; not every option has to have one
+-- the letter after `-` that switches an option on; an option need not have one
 abbrev pub letter_of : ShellOption → Option ℕ
 letter_of AllExport = Some 97
 letter_of NoClobber = Some 67
@@ -16,7 +16,7 @@ letter_of Interactive = Some 105
 letter_of Monitor = Some 109
 letter_of NoUnset = Some 117
 
--- the name behind `-o`
+-- the name after `-o`
 abbrev pub name_of : ShellOption → List ℕ
 name_of AllExport = codes "allexport"
 name_of NoClobber = codes "noclobber"
@@ -42,14 +42,14 @@ is_on options Interactive = options.interactive
 is_on options Monitor = options.monitor
 is_on options NoUnset = options.no_unset
 
-abbrev pub switched : Options → ShellOption → Bool → Options
-switched options AllExport on = record options { all_export = on }
-switched options NoClobber on = record options { no_clobber = on }
-switched options ExitOnError on = record options { exit_on_error = on }
-switched options NoGlob on = record options { no_glob = on }
-switched options Interactive on = record options { interactive = on }
-switched options Monitor on = record options { monitor = on }
-switched options NoUnset on = record options { no_unset = on }
+abbrev pub with_option : Options → ShellOption → Bool → Options
+with_option options AllExport on = record options { all_export = on }
+with_option options NoClobber on = record options { no_clobber = on }
+with_option options ExitOnError on = record options { exit_on_error = on }
+with_option options NoGlob on = record options { no_glob = on }
+with_option options Interactive on = record options { interactive = on }
+with_option options Monitor on = record options { monitor = on }
+with_option options NoUnset on = record options { no_unset = on }
 
 -- the value of `$-`
 abbrev pub letters_of : Options → List ℕ

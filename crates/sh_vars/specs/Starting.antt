@@ -5,11 +5,11 @@ use Rattle.sh_vars.specs.Environment.{Environment, VariableMap, Variable}
 use Rattle.sh_base.specs.Separators.{default_separators}
 use Rattle.sh_vars.specs.declared.shell_options.Options.{Options}
 
--- a variable with a value that can be changed
+-- a variable with this value that is not read-only
 unfoldable pub changeable : List ℕ → Bool → Variable
 changeable value exported = record { value = Some value; exported = exported; read_only = false }
 
--- programs inherit PATH, HOME and PWD
+-- the variables of the first shell; PATH, HOME and PWD are exported
 unfoldable pub starting_variables : VariableMap
 starting_variables = from_entries (
     (codes "HOME", changeable (codes "/") true)

@@ -24,7 +24,7 @@ impl Model for Entry {
 }
 
 impl Entry {
-    ghost use Rattle.sh_vars.specs.Environment.{absent, assigned};
+    ghost use Rattle.sh_vars.specs.Environment.{absent, after_assignment};
     ghost use Rattle.sh_vars.specs.Starting.{changeable};
 
     /// A variable without value and attributes.
@@ -75,7 +75,7 @@ impl Entry {
 
     /// Assigns to the variable, and exports it if asked.
     pub(crate) fn assign(&mut self, value: Text, export: bool)
-        ensures { self.new ≡ (self.old.0, assigned self.old.1 value export) }
+        ensures { self.new ≡ (self.old.0, after_assignment self.old.1 value export) }
     {
         self.value = Some(value);
         self.exported = self.exported || export;

@@ -13,7 +13,7 @@ pub enum VarsFault {
     /// The variable is read-only.
     #[error("read only")]
     ReadOnly,
-    /// What stands for a name is none.
+    /// What was given as a name is no name (see [`is_name`](crate::is_name)).
     #[error("bad name")]
     BadName,
     /// There was no memory.

@@ -1,8 +1,9 @@
 //! The variables, options, positional and special parameters and the working directory of a shell (IEEE Std
 //! 1003.1-2024, XCU 2.5 and 2.15).
 //!
-//! Contracts see a [`Vars`] as the record `Environment` of `specs/Environment.antt`. Values are any bytes; what is kept
-//! is bounded by memory alone. A look-up takes time logarithmic in the number of variables, and no memory.
+//! Contracts see a [`Vars`] as the record `Environment` of `specs/Environment.antt`. Values are any bytes;
+//! what is kept is bounded by memory alone. A look-up takes no memory, and time logarithmic in the number of
+//! variables; no clause says the time.
 #![tactic(auto)]
 
 ghost use Rattle.std.specs.Prelude.{◌≡◌, ◌≢◌, ◌↔◌, ◌≤◌, ℕ, List, drop, length, false, IsTrue, OnOk, OnErr, IfOk, option_map, IfSome};
@@ -58,7 +59,7 @@ impl Model for Vars {
 }
 
 impl Vars {
-    ghost use Rattle.sh_vars.specs.Environment.{variable_of, value_of, is_read_only, with_variable, with_value, with_export, with_read_only, without, with_options, with_positional, shifted, with_directory, with_zero, with_process, with_background, with_status};
+    ghost use Rattle.sh_vars.specs.Environment.{variable_of, value_of, is_read_only, with_variable, with_value, with_export, with_read_only, without, with_options, with_positional, after_shift, with_directory, with_zero, with_process, with_background, with_status};
     ghost use Rattle.sh_vars.specs.Refusals.{refusal};
     ghost use Rattle.sh_base.specs.Names.{is_name};
     ghost use Rattle.sh_vars.specs.Starting.{starting};
@@ -83,8 +84,8 @@ impl Vars {
         })
     }
 
-    /// The value of a variable, `None` where it is unset, also where it is exported or read-only without a value, and
-    /// where `name` is no name (XCU 2.5.3).
+    /// The value of a variable (XCU 2.5.3). It is `None` where the variable is unset, also where it is
+    /// exported or read-only without a value.
     pub fn get(&self, name: &[u8]) -> Option<&[u8]>
         ensures { option_map (λ value. value.now) result ≡ value_of self.now name.now }
     {
@@ -93,16 +94,19 @@ impl Vars {
 
     /// Gives a variable a value. Under `set -a` it is exported from then on (XCU 2.9.1.2, 2.15 `set`).
     ///
-    /// `BadName` where `name` is no name, else `ReadOnly` where the variable is read-only, else `NoMemory`.
+    /// `BadName` where `name` is no name; otherwise `ReadOnly` where the variable is read-only. The only
+    /// other error is `NoMemory`.
     pub fn set(&mut self, name: &[u8], value: &[u8]) -> Result<(), VarsFault>
         ensures ok { OnOk result (self.new ≡ with_value self.old name.now value.now) }
         ensures bad_name { (result ≡ Err VarsFault.BadName) ↔ (is_name name.now ≡ false) }
-        ensures read_only { (result ≡ Err VarsFault.ReadOnly) ↔ (IsTrue (is_name name.now) × IsTrue (is_read_only self.old name.now)) }
+        ensures read_only { (result ≡ Err VarsFault.ReadOnly)
+            ↔ (IsTrue (is_name name.now) × IsTrue (is_read_only self.old name.now)) }
         ensures err { OnErr result (self.new ≡ self.old) }
 
         // What is read after an assignment.
         ensures reads { OnOk result (value_of self.new name.now ≡ Some value.now) }
-        ensures reads_others { (other : List ℕ) → other ≢ name.now → value_of self.new other ≡ value_of self.old other }
+        ensures reads_others { (other : List ℕ) → other ≢ name.now → value_of self.new other
+            ≡ value_of self.old other }
     {
         self.check_change(name)?;
         self.variables
@@ -110,7 +114,7 @@ impl Vars {
         Ok(())
     }
 
-    /// Refuses to change what has no name or is read-only.
+    /// Refuses what is no name, and the name of a read-only variable.
     fn check_change(&self, name: &[u8]) -> Result<(), VarsFault>
         ensures { result ≡ refusal self.now name.now }
     {
@@ -123,9 +127,11 @@ impl Vars {
         }
     }
 
-    /// Takes a variable's value and attributes away (XCU 2.15 `unset`). One that isn't there stays so.
+    /// Takes a variable's value and attributes away (XCU 2.15 `unset`). To unset a variable that isn't there
+    /// changes nothing and is no error.
     ///
-    /// `BadName` where `name` is no name, else `ReadOnly` where the variable is read-only. Takes no memory.
+    /// `BadName` where `name` is no name; otherwise `ReadOnly` where the variable is read-only. Takes no
+    /// memory.
     pub fn unset(&mut self, name: &[u8]) -> Result<(), VarsFault>
         ensures ok { OnOk result (self.new ≡ without self.old name.now) }
         ensures refused { result ≡ refusal self.old name.now }
@@ -136,9 +142,9 @@ impl Vars {
         Ok(())
     }
 
-    /// Has programs inherit a variable, also where it has no value yet (XCU 2.15 `export`).
+    /// Exports a variable, also one without a value yet (XCU 2.15 `export`).
     ///
-    /// `BadName` where `name` is no name, else `NoMemory`.
+    /// `BadName` where `name` is no name. The only other error is `NoMemory`.
     pub fn export(&mut self, name: &[u8]) -> Result<(), VarsFault>
         ensures ok { OnOk result (self.new ≡ with_export self.old name.now) }
         ensures bad_name { (result ≡ Err VarsFault.BadName) ↔ (is_name name.now ≡ false) }
@@ -152,9 +158,10 @@ impl Vars {
         Ok(())
     }
 
-    /// Makes a variable read-only for good, also where it has no value (XCU 2.15 `readonly`).
+    /// Makes a variable read-only, also one without a value (XCU 2.15 `readonly`). From then on `set` and
+    /// `unset` refuse it.
     ///
-    /// `BadName` where `name` is no name, else `NoMemory`.
+    /// `BadName` where `name` is no name. The only other error is `NoMemory`.
     pub fn make_readonly(&mut self, name: &[u8]) -> Result<(), VarsFault>
         ensures ok { OnOk result (self.new ≡ with_read_only self.old name.now) }
         ensures bad_name { (result ≡ Err VarsFault.BadName) ↔ (is_name name.now ≡ false) }
@@ -183,8 +190,9 @@ impl Vars {
         self.variables.entries()
     }
 
-    /// Puts a variable back as it was, whether the one of its name is read-only or not: so an assignment before a
-    /// built-in or function is undone after it (XCU 2.9.1.2). The only error is want of memory.
+    /// Puts a variable back as it was, even where the variable of its name is read-only. With this call an
+    /// assignment before a built-in or a function is undone, after that has run (XCU 2.9.1.2). The only error
+    /// is want of memory.
     pub fn put(&mut self, entry: Entry) -> Result<(), AllocError>
         ensures ok { OnOk result (self.new ≡ with_variable self.old entry.0 entry.1) }
         ensures err { OnErr result (self.new ≡ self.old) }
@@ -192,7 +200,8 @@ impl Vars {
         self.variables.put(entry)
     }
 
-    /// Takes a variable away, whether it is read-only or not: the other way to undo an assignment.
+    /// Takes a variable away, even where it is read-only. With this call an assignment to a
+    /// variable that wasn't there is undone.
     pub fn forget(&mut self, name: &[u8])
         ensures { self.new ≡ without self.old name.now }
     {
@@ -216,7 +225,7 @@ impl Vars {
         })
     }
 
-    /// The positional parameters from `$1` on.
+    /// The positional parameters from `$1` on (XCU 2.5.1).
     pub fn positional(&self) -> &[Text]
         ensures { result.now ≡ self.now.positional }
     {
@@ -230,11 +239,11 @@ impl Vars {
         self.positional = operands;
     }
 
-    /// Drops the first `count` positional parameters (XCU 2.15 `shift`). There have to be as many: the caller compares
-    /// with `positional().len()`.
+    /// Drops the first `count` positional parameters (XCU 2.15 `shift`). There must be at least `count`: the
+    /// caller compares it with `positional().len()` first.
     pub fn shift(&mut self, count: usize)
         requires { count ≤ length self.old.positional }
-        ensures { self.new ≡ shifted self.old count }
+        ensures { self.new ≡ after_shift self.old count }
     {
         drop_front(&mut self.positional, count);
     }
@@ -267,7 +276,7 @@ impl Vars {
         self.directory = path;
     }
 
-    /// The name of the shell or script, `$0`.
+    /// The name of the shell or script, `$0` (XCU 2.5.2).
     pub fn zero(&self) -> &[u8]
         ensures { result.now ≡ self.now.special.zero }
     {
@@ -281,7 +290,7 @@ impl Vars {
         self.zero = zero;
     }
 
-    /// The number of the first process of this shell, `$$`.
+    /// The process ID of the invoked shell, `$$` (XCU 2.5.2).
     pub fn process(&self) -> u32
         ensures { result ≡ self.now.special.process }
     {
@@ -295,7 +304,7 @@ impl Vars {
         self.process = process;
     }
 
-    /// The process of the last asynchronous list, `$!`, `None` before the first.
+    /// The process ID of the most recent asynchronous list, `$!`; `None` before the first (XCU 2.5.2).
     pub fn background(&self) -> Option<u32>
         ensures { result ≡ self.now.special.background }
     {
@@ -309,7 +318,7 @@ impl Vars {
         self.background = Some(process);
     }
 
-    /// The exit status of the last pipeline, `$?`.
+    /// The exit status of the last pipeline, `$?` (XCU 2.5.2).
     pub fn status(&self) -> u8
         ensures { result ≡ self.now.special.status }
     {
@@ -324,7 +333,7 @@ impl Vars {
     }
 }
 
-/// Drops the first texts.
+/// Drops the first `count` texts.
 fn drop_front(texts: &mut Vec<Text>, count: usize)
     requires { count ≤ length texts.old.items }
     ensures { texts.new.items ≡ drop count texts.old.items }

@@ -58,7 +58,7 @@ impl ShellOption {
         ShellOption::NoUnset,
     ];
 
-    /// The letter behind `-`, as `b'a'`, `None` for an option without one.
+    /// The letter after `-`, such as `b'a'`; `None` for an option without a letter.
     pub fn letter(self) -> Option<u8>
         ensures { result ≡ letter_of self }
     {
@@ -73,7 +73,7 @@ impl ShellOption {
         }
     }
 
-    /// The name behind `-o`.
+    /// The name after `-o`.
     pub fn name(self) -> &'static str
         ensures { result.now ≡ name_of self }
     {
@@ -106,7 +106,7 @@ impl ShellOption {
 }
 
 impl Options {
-    ghost use Rattle.sh_vars.specs.ShellOptions.{is_on, letters_of, switched};
+    ghost use Rattle.sh_vars.specs.ShellOptions.{is_on, letters_of, with_option};
 
     /// Whether this option is on.
     pub fn is_on(self, option: ShellOption) -> bool
@@ -125,7 +125,7 @@ impl Options {
 
     /// The options with this one on or off.
     pub fn switched(self, option: ShellOption, on: bool) -> Options
-        ensures { result ≡ switched self option on }
+        ensures { result ≡ with_option self option on }
     {
         match option {
             ShellOption::AllExport => Options {
@@ -168,13 +168,14 @@ impl Options {
     }
 }
 
-/// The letters of those of these options that are on.
+/// The letters of the options in `among` that are on, in their order there.
 fn letters_among(
     alloc: Global,
     options: Options,
     among: &[ShellOption],
 ) -> Result<Vec<u8>, AllocError>
-    ensures { IfOk result (λ letters. letters.items ≡ filter_map letter_of (filter (is_on options) among.now)) }
+    ensures { IfOk result (λ letters.
+        letters.items ≡ filter_map letter_of (filter (is_on options) among.now)) }
 {
     among
         .iter()

@@ -3,7 +3,7 @@ ghost use Rattle.std.specs.Prelude.{◌≡◌, true, ◌++◌, ◌∷◌, [], If
 ghost use Rattle.std.specs.Ordering.{nat_cmp};
 ghost use Rattle.std.specs.Cmp.Lexicographic.{slice_cmp};
 ghost use Rattle.std.specs.FinMap as map;
-ghost use Rattle.sh_vars.specs.Environment.{assigned, named};
+ghost use Rattle.sh_vars.specs.Environment.{after_assignment, variable_or_absent};
 ghost use Rattle.sh_vars.specs.Places.{IsPlace, IsHeld};
 ghost use Rattle.sh_vars.specs.Starting.{changeable, starting_variables};
 
@@ -81,9 +81,10 @@ impl Table {
         })
     }
 
-    /// Puts a variable in the place of the one of its name.
+    /// Replaces the variable of the entry's name, or adds the entry where there is none.
     pub(crate) fn put(&mut self, entry: Entry) -> Result<(), AllocError>
-        ensures { self.new ≡ (if is_ok result then map.insert self.old entry.0 entry.1 else self.old) }
+        ensures { self.new
+            ≡ (if is_ok result then map.insert self.old entry.0 entry.1 else self.old) }
     {
         match place(&self.entries, entry.name()) {
             Ok(index) => {
@@ -116,7 +117,9 @@ impl Table {
 
     /// Makes the variable of this name one that programs inherit.
     pub(crate) fn export(&mut self, alloc: Global, name: &[u8]) -> Result<(), AllocError>
-        ensures { self.new ≡ (if is_ok result then map.insert self.old name.now (record (named self.old name.now) { exported = true }) else self.old) }
+        ensures { self.new
+            ≡ (if is_ok result then map.insert self.old name.now
+            (record (variable_or_absent self.old name.now) { exported = true }) else self.old) }
     {
         let index = hold(&mut self.entries, alloc, name)?;
         self.entries[index].export();
@@ -125,7 +128,9 @@ impl Table {
 
     /// Makes the variable of this name one that can't be changed.
     pub(crate) fn make_read_only(&mut self, alloc: Global, name: &[u8]) -> Result<(), AllocError>
-        ensures { self.new ≡ (if is_ok result then map.insert self.old name.now (record (named self.old name.now) { read_only = true }) else self.old) }
+        ensures { self.new
+            ≡ (if is_ok result then map.insert self.old name.now
+            (record (variable_or_absent self.old name.now) { read_only = true }) else self.old) }
     {
         let index = hold(&mut self.entries, alloc, name)?;
         self.entries[index].make_read_only();
@@ -140,7 +145,10 @@ impl Table {
         value: &[u8],
         export: bool,
     ) -> Result<(), AllocError>
-        ensures { self.new ≡ (if is_ok result then map.insert self.old name.now (assigned (named self.old name.now) value.now export) else self.old) }
+        ensures { self.new
+            ≡ (if is_ok result then map.insert self.old name.now
+            (after_assignment (variable_or_absent self.old name.now) value.now export) else
+            self.old) }
     {
         let value = Text::copy_of(alloc, value)?;
         let index = hold(&mut self.entries, alloc, name)?;
@@ -149,7 +157,7 @@ impl Table {
     }
 }
 
-/// Puts a variable that can be changed behind the others.
+/// Adds a variable that can be changed after the others.
 fn add(
     entries: &mut Vec<Entry>,
     alloc: Global,
@@ -157,14 +165,15 @@ fn add(
     value: &[u8],
     exported: bool,
 ) -> Result<(), AllocError>
-    ensures { OnOk result (entries.new.items ≡ entries.old.items ++ (name.now, changeable value.now exported) ∷ []) }
+    ensures { OnOk result
+        (entries.new.items ≡ entries.old.items ++ (name.now, changeable value.now exported) ∷ []) }
 {
     let entry = Entry::with_value(alloc, name, value, exported)?;
     entries.push(entry)?;
     Ok(())
 }
 
-/// The place of the variable of this name, which is made, without value and attributes, where there is none.
+/// The index of the variable of this name. Where there is none, adds one without value and attributes.
 fn hold(entries: &mut Vec<Entry>, alloc: Global, name: &[u8]) -> Result<usize, AllocError>
     requires { T (map.is_sorted (slice_cmp nat_cmp) entries.old.items) }
     ensures ok { IfOk result (IsHeld entries.old.items name.now entries.new.items) }
@@ -180,7 +189,7 @@ fn hold(entries: &mut Vec<Entry>, alloc: Global, name: &[u8]) -> Result<usize, A
     }
 }
 
-/// Where the variable of this name stands, or else where it belongs.
+/// `Ok` with the index of the variable of this name, or `Err` with the index where it belongs.
 fn place(entries: &[Entry], name: &[u8]) -> Result<usize, usize>
     requires { T (map.is_sorted (slice_cmp nat_cmp) entries.now) }
     ensures { IsPlace entries.now name.now result }

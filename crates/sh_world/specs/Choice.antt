@@ -18,6 +18,6 @@ abbrev pub chosen_of : Event → Option ℕ → List ℕ → Option ℕ
 chosen_of (Run k) last runnable = slice_get runnable (k % length runnable)
 chosen_of Next last runnable = next_above last runnable
 
-abbrev pub chosen : Event → Option ℕ → List ℕ → Option ℕ
-chosen event last [] = None
-chosen event last (pid ∷ pids) = chosen_of event last (pid ∷ pids)
+abbrev pub choice : Event → Option ℕ → List ℕ → Option ℕ
+choice event last [] = None
+choice event last (pid ∷ pids) = chosen_of event last (pid ∷ pids)

@@ -1,4 +1,4 @@
--- The order of processes, and that of those which are runnable.
+-- The order of processes, and the order of the runnable ones.
 use Rattle.std.specs.Prelude.{◌≡◌, ℕ, ◌<◌, List, [], ◌∷◌, map, nat_eq, ◌||◌, Bool, false, Option, Some, None, if◌then◌else◌}
 use Rattle.sh_exec.specs.Actions.{action_of}
 use Rattle.sh_kernel.specs.State.{KernelState}
@@ -10,7 +10,7 @@ abbrev pub IsBelow : ℕ → List ℕ → Type 0
 IsBelow n [] = Unit {0}
 IsBelow n (m ∷ ms) = (n < m) × IsBelow n ms
 
--- each number is less than all behind it, so none is there twice
+-- each number is less than all after it, so none is there twice
 abbrev pub Rises : List ℕ → Type 0
 Rises [] = Unit {0}
 Rises (n ∷ ns) = IsBelow n ns × Rises ns

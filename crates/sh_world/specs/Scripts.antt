@@ -4,7 +4,7 @@ use Rattle.sh_exec_parts.specs.Messages.{cannot_execute, message, not_found}
 use Rattle.sh_exec_command.specs.declared.running.Finish.TheVariants.{Leave}
 use Rattle.sh_exec_command.specs.declared.running.Place.{Place}
 use Rattle.sh_exec_command.specs.declared.running.Place.TheVariants.{Reading, Writing}
-use Rattle.sh_files.specs.Nodes.{FileMap, named}
+use Rattle.sh_files.specs.Nodes.{FileMap, node_of_path}
 use Rattle.sh_files_image.specs.declared.node.Node.{Node}
 use Rattle.sh_files_image.specs.declared.node.Node.TheVariants.{Directory, File, Null, Terminal}
 
@@ -25,4 +25,4 @@ place_by path (Some Terminal) = unreadable path
 
 -- the path goes from the root, the first shell's working directory
 unfoldable pub script_place : FileMap → List ℕ → Place
-script_place files path = place_by path (named files (codes "/") path)
+script_place files path = place_by path (node_of_path files (codes "/") path)

@@ -15,7 +15,7 @@ use Rattle.sh_stock.specs.Asking.{Meaning}
 use Rattle.sh_tty.specs.Happenings.{bytes_of}
 use Rattle.sh_vars.specs.Environment.{Environment, with_options, with_positional, with_zero}
 use Rattle.sh_vars.specs.Starting.{starting}
-use Rattle.sh_world.specs.Choice.{chosen}
+use Rattle.sh_world.specs.Choice.{choice}
 use Rattle.sh_world.specs.Scripts.{script_place}
 use Rattle.sh_world.specs.Tasks.{TasksTurned, living, runnable_pids, turn_among, with_child}
 use Rattle.sh_world.specs.declared.event.Event.{Event}
@@ -75,16 +75,16 @@ with_tasks s pid t = record s {
   last = Some pid;
 }
 
-abbrev pub turned : {S : Type 0} → Meaning S → State S → ℕ → State S
-turned m s pid = with_tasks s pid (turn_among m s.machine pid s.tasks)
+abbrev pub after_turn : {S : Type 0} → Meaning S → State S → ℕ → State S
+after_turn m s pid = with_tasks s pid (turn_among m s.machine pid s.tasks)
 
 abbrev pub turn_of : {S : Type 0} → Meaning S → State S → Option ℕ → State S
 turn_of m s None = s
-turn_of m s (Some pid) = turned m s pid
+turn_of m s (Some pid) = after_turn m s pid
 
 -- one event: a turn of the process that it chooses, and nothing where none is runnable
 abbrev pub step : {S : Type 0} → Meaning S → State S → Event → State S
-step m s event = turn_of m s (chosen event s.last (runnables s))
+step m s event = turn_of m s (choice event s.last (runnables s))
 
 -- events in order
 abbrev pub run : {S : Type 0} → Meaning S → State S → List Event → State S

@@ -31,7 +31,7 @@ turned_first task tasks t = record { machine = t.machine; tasks = record task { 
 abbrev pub behind : {S : Type 0} → Task S → TasksTurned S → TasksTurned S
 behind task t = record t { tasks = task ∷ t.tasks }
 
--- how many processes stand before the one of this pid, or all
+-- how many processes are before the one of this pid, or all
 abbrev pub place_of : {S : Type 0} → ℕ → List (Task S) → ℕ
 place_of pid [] = 0
 place_of pid (task ∷ tasks) = if nat_eq task.pid pid then 0 else suc (place_of pid tasks)
@@ -56,7 +56,7 @@ is_living s task = lives s.machine.processes task.pid
 abbrev pub living : {S : Type 0} → KernelState → List (Task S) → List (Task S)
 living s tasks = filter (is_living s) tasks
 
--- a kernel and its processes stand at what a turn leaves, and this process was made
+-- the kernel and its processes are what a turn leaves, and this process was made
 pub record HaveTurned {S : Type 0} (kernel : KernelKept) (tasks : List (Task S)) (made : Option Child) (t : TasksTurned S) : Type 0 where
   pub state : StandsAt kernel t.machine
   pub tasks_are : tasks ≡ t.tasks

@@ -1,14 +1,15 @@
 //! What drives a world, and which process it moves.
 ghost use Rattle.std.specs.Prelude.{◌≡◌, find, nat_lt};
-ghost use Rattle.sh_world.specs.Choice.{chosen, next_above};
+ghost use Rattle.sh_world.specs.Choice.{choice, next_above};
 
 /// One event: one turn of one process. After the first shell's end no event changes anything.
 #[derive(Clone, Copy, Debug, PartialEq, Eq)]
 pub enum Event {
-    /// A turn of the runnable process at this place, modulo their count, in order of pid.
+    /// A turn of one of the runnable processes in order of pid: the one at this place, modulo how many there
+    /// are.
     Run(u32),
-    /// A turn of the runnable process with the least pid above that of the last process that took a
-    /// turn, or with the least pid of all if there is none above.
+    /// A turn of the runnable process with the least pid above that of the last process that took a turn.
+    /// Where there is none above, it is the one with the least pid of all.
     Next,
 }
 
@@ -34,7 +35,7 @@ fn next_pid(last: Option<u32>, runnable: &[u32]) -> Option<u32>
 
 /// The process that an event gives a turn to, of the runnable ones in order of pid.
 pub(crate) fn choose(event: Event, last: Option<u32>, runnable: &[u32]) -> Option<u32>
-    ensures { result ≡ chosen event last runnable.now }
+    ensures { result ≡ choice event last runnable.now }
 {
     if runnable.is_empty() {
         return None;

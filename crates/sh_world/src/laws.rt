@@ -7,7 +7,9 @@ ghost use Rattle.sh_world.specs.declared.task.Task.{Task};
 
 use sh_stock::Stock;
 
-/// Law: of processes in order of pid, the list of those that are runnable rises by pid, and has every process that can take a turn and no other.
+/// Law: where the processes are in order of pid, the list of the runnable ones rises by pid, and has every
+/// process that can take a turn and no other.
 pub fn runnable_pids_rise<S: Stock>()
-    ensures { (s : KernelState) (tasks : List (Task S)) → Rises (pids_of tasks) → ListsRunnable s tasks (runnable_pids s tasks) }
+    ensures { (s : KernelState) (tasks : List (Task S)) → Rises (pids_of tasks)
+        → ListsRunnable s tasks (runnable_pids s tasks) }
 {}

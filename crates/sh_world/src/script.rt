@@ -12,7 +12,7 @@ use sh_exec_parts::message::{cannot_execute, not_found};
 use sh_files::{File, Files, Node};
 use std::alloc::Global;
 
-/// There is no such file.
+/// The first place of a shell whose script isn't there.
 fn missing(alloc: Global, path: &[u8]) -> Result<Place, NoMemory>
     ensures { IfOk result (λ place. place ≡ missing path.now) }
 {
@@ -20,7 +20,7 @@ fn missing(alloc: Global, path: &[u8]) -> Result<Place, NoMemory>
     Ok(Place::Writing(piece, Finish::Leave(127)))
 }
 
-/// It can't be read.
+/// The first place of a shell whose script can't be read.
 fn unreadable(alloc: Global, path: &[u8]) -> Result<Place, NoMemory>
     ensures { IfOk result (λ place. place ≡ unreadable path.now) }
 {
@@ -28,7 +28,7 @@ fn unreadable(alloc: Global, path: &[u8]) -> Result<Place, NoMemory>
     Ok(Place::Writing(piece, Finish::Leave(126)))
 }
 
-/// A shell is about to read these bytes.
+/// The first place of a shell that reads these bytes.
 fn reading(alloc: Global, bytes: &[u8]) -> Result<Place, NoMemory>
     ensures { IfOk result (λ place. place ≡ Place.Reading bytes.now) }
 {
@@ -37,7 +37,7 @@ fn reading(alloc: Global, bytes: &[u8]) -> Result<Place, NoMemory>
     Ok(Place::Reading(Rest::new(text)))
 }
 
-/// A regular file.
+/// The first place of a shell whose script is this regular file.
 fn file_place(alloc: Global, path: &[u8], file: &File) -> Result<Place, NoMemory>
     ensures { IfOk result (λ place. place ≡ place_by path.now (Some (node.File file.now))) }
 {
@@ -47,9 +47,10 @@ fn file_place(alloc: Global, path: &[u8], file: &File) -> Result<Place, NoMemory
     unreadable(alloc, path)
 }
 
-/// What a path names.
+/// The first place of a shell whose script's path names this.
 fn place_by(alloc: Global, path: &[u8], found: Option<&Node>) -> Result<Place, NoMemory>
-    ensures { IfOk result (λ place. place ≡ place_by path.now (option_map (λ node. node.now) found.entry)) }
+    ensures { IfOk result (λ place.
+        place ≡ place_by path.now (option_map (λ node. node.now) found.entry)) }
 {
     match found {
         None => missing(alloc, path),

@@ -7,8 +7,9 @@ use sh_vars::Options;
 pub enum Source {
     /// A text that is there whole, as of `sh -c`.
     Text(Text),
-    /// The file of this path in the image, as of `sh SCRIPT`. One that isn't there is said to be not found, and the shell
-    /// ends with 127; one that can't be read can't be executed, and it ends with 126.
+    /// The file of this path in the image, as of `sh SCRIPT`. Where there is no such file, the shell says
+    /// that it is not found, and ends with 127. Where the file can't be read, the shell says that it can't be
+    /// executed, and ends with 126.
     Script(Text),
 }
 

@@ -22,7 +22,8 @@ pub(crate) fn runnable_pids<S: Stock>(
     kernel: &Kernel,
     tasks: &[Task<S>],
 ) -> Result<Vec<u32>, NoMemory>
-    ensures { (s : KernelState) → StandsAt kernel.now s → IfOk result (λ pids. pids.items ≡ runnable_pids s tasks.now) }
+    ensures { (s : KernelState) → StandsAt kernel.now s → IfOk result (λ pids.
+        pids.items ≡ runnable_pids s tasks.now) }
 {
     let mut pids = Vec::new(alloc);
     let mut rest = tasks;
@@ -35,7 +36,7 @@ pub(crate) fn runnable_pids<S: Stock>(
     Ok(pids)
 }
 
-/// How many processes stand before the one of this pid; all where there is none.
+/// How many processes are before the one of this pid; their number where there is none.
 fn place_of<S: Stock>(pid: u32, tasks: &[Task<S>]) -> usize
     ensures { result ≡ place_of pid tasks.now }
 {
@@ -58,7 +59,8 @@ pub(crate) fn turn_among<S: Stock>(
     pid: u32,
     tasks: &mut [Task<S>],
 ) -> Result<Option<Child>, NoMemory>
-    ensures state { (s : KernelState) → StandsAt kernel.old s → IfOk result (λ child. HaveTurned kernel.new tasks.new child (turn_among S.meaning s pid tasks.old)) }
+    ensures state { (s : KernelState) → StandsAt kernel.old s → IfOk result (λ child.
+        HaveTurned kernel.new tasks.new child (turn_among S.meaning s pid tasks.old)) }
     ensures terminal { Extends kernel.old.terminal.bytes kernel.new.terminal.bytes }
 {
     let place = place_of(pid, tasks);
@@ -69,7 +71,7 @@ pub(crate) fn turn_among<S: Stock>(
     Ok(child)
 }
 
-/// A process that was made comes behind the others.
+/// Adds a process that was made after the others.
 pub(crate) fn put_child<S: Stock>(
     tasks: &mut Vec<Task<S>>,
     child: Option<Child>,
@@ -99,7 +101,7 @@ pub(crate) fn is_living(kernel: &Kernel, pid: u32) -> bool
     }
 }
 
-/// Processes that have ended go.
+/// Removes the processes that have ended.
 pub(crate) fn keep_living<S: Stock>(kernel: &Kernel, tasks: &mut Vec<Task<S>>)
     ensures { (s : KernelState) → StandsAt kernel.now s → tasks.new.items ≡ living s tasks.old.items }
 {

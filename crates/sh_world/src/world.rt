@@ -2,9 +2,9 @@
 ghost use Rattle.std.specs.Prelude.{◌≡◌, ℕ, ◌<◌, List, OnOk, OnErr, IsErr, IfOk, Some, None, length, take, option_copied};
 ghost use Rattle.sh_kernel.specs.State.{KernelState, StandsAt};
 ghost use Rattle.sh_tty.specs.Terminal.{Extends};
-ghost use Rattle.sh_world.specs.Choice.{chosen};
+ghost use Rattle.sh_world.specs.Choice.{choice};
 ghost use Rattle.sh_world.specs.World.{IsSpent, PartsStand, WorldKept, WorldStands, shown_of};
-ghost use Rattle.sh_world.specs.State.{State, end_of, ended_of, files_of, first_place, first_task, run, runnables, start, status_of, step, terminal_of, turn_of, turned};
+ghost use Rattle.sh_world.specs.State.{State, end_of, ended_of, files_of, first_place, first_task, run, runnables, start, status_of, step, terminal_of, turn_of, after_turn};
 
 use crate::event::{Event, choose};
 use crate::jobs::Jobs;
@@ -98,7 +98,8 @@ fn chosen_by<S: Stock>(
     tasks: &[Task<S>],
     last: Option<u32>,
 ) -> Result<Option<u32>, NoMemory>
-    ensures { (s : State S) → PartsStand kernel.now tasks.now last s → IfOk result (λ pid. pid ≡ chosen event s.last (runnables s)) }
+    ensures { (s : State S) → PartsStand kernel.now tasks.now last s → IfOk result (λ pid.
+        pid ≡ choice event s.last (runnables s)) }
 {
     if !is_living(kernel, FIRST_PID) {
         return Ok(choose(event, last, &[]));
@@ -115,7 +116,9 @@ fn turn<S: Stock>(
     last: &mut Option<u32>,
     pid: u32,
 ) -> Result<(), NoMemory>
-    ensures turned { (s : State S) → PartsStand kernel.old tasks.old.items last.old s → OnOk result (PartsStand kernel.new tasks.new.items last.new (turned S.meaning s pid)) }
+    ensures turned { (s : State S) → PartsStand kernel.old tasks.old.items last.old s
+        → OnOk result
+        (PartsStand kernel.new tasks.new.items last.new (after_turn S.meaning s pid)) }
     ensures extends { Extends kernel.old.terminal.bytes kernel.new.terminal.bytes }
 {
     let child = turn_among(alloc, kernel, pid, tasks.as_mut_slice())?;
@@ -133,7 +136,8 @@ fn happen<S: Stock>(
     tasks: &mut Vec<Task<S>>,
     last: &mut Option<u32>,
 ) -> Result<(), NoMemory>
-    ensures step { (s : State S) → PartsStand kernel.old tasks.old.items last.old s → OnOk result (PartsStand kernel.new tasks.new.items last.new (step S.meaning s event)) }
+    ensures step { (s : State S) → PartsStand kernel.old tasks.old.items last.old s
+        → OnOk result (PartsStand kernel.new tasks.new.items last.new (step S.meaning s event)) }
     ensures extends { Extends kernel.old.terminal.bytes kernel.new.terminal.bytes }
 {
     let Some(pid) = chosen_by(alloc, event, kernel, tasks.as_slice(), *last)? else {
@@ -144,7 +148,7 @@ fn happen<S: Stock>(
 }
 
 impl<S: Stock> World<S> {
-    /// The world before the first event.
+    /// The world before the first event. The only error is want of memory.
     pub fn new(alloc: Global, image: Files, settings: Settings) -> Result<Self, NoMemory>
         ensures { IfOk result (λ world. WorldStands world (start image settings)) }
     {
@@ -172,7 +176,8 @@ impl<S: Stock> World<S> {
 
     /// One event: what it does is one step of the shell machine. After `NoMemory` the world is spent.
     pub fn apply(&mut self, event: Event) -> Result<(), NoMemory>
-        ensures step { (s : State S) → WorldStands self.old s → OnOk result (WorldStands self.new (step S.meaning s event)) }
+        ensures step { (s : State S) → WorldStands self.old s
+            → OnOk result (WorldStands self.new (step S.meaning s event)) }
         ensures spent { OnErr result (IsSpent self.new) }
         ensures shown { OnErr result (shown_of self.new ≡ shown_of self.old) }
         ensures still { IsSpent self.old → IsErr result }
@@ -194,9 +199,11 @@ impl<S: Stock> World<S> {
         happened
     }
 
-    /// Each event in turn, up to the first for which there is no memory. A world that is spent stays as it was.
+    /// Each event in turn, up to the first for which there is no memory; after `NoMemory` the world is spent.
+    /// A world that is spent answers an `Err`, and shows what it showed.
     pub fn run(&mut self, events: &[Event]) -> Result<(), NoMemory>
-        ensures run { (s : State S) → WorldStands self.old s → OnOk result (WorldStands self.new (run S.meaning s events.now)) }
+        ensures run { (s : State S) → WorldStands self.old s
+            → OnOk result (WorldStands self.new (run S.meaning s events.now)) }
         ensures spent { OnErr result (IsSpent self.new) }
         ensures shown { (s : State S) → WorldStands self.old s → OnErr result
             ((j : ℕ) × (j < length events.now) × (shown_of self.new ≡ terminal_of (run S.meaning s (take j events.now)))) }
@@ -222,7 +229,8 @@ impl<S: Stock> World<S> {
 
     /// The files; `None` once memory was wanting.
     pub fn files(&self) -> Option<&Files>
-        ensures view { (s : State S) → WorldStands self.now s → option_copied result ≡ Some (files_of s) }
+        ensures view { (s : State S) → WorldStands self.now s → option_copied result
+            ≡ Some (files_of s) }
         ensures spent { IsSpent self.now → option_copied result ≡ None }
     {
         if self.is_spent() {
@@ -244,7 +252,8 @@ impl<S: Stock> World<S> {
         }
     }
 
-    /// Where a process stands: `Some` for every process that ever was; `None` once memory was wanting.
+    /// Whether a process runs, is stopped or has ended: `Some` for every process that ever was; `None` once
+    /// memory was wanting.
     pub fn status(&self, pid: u32) -> Option<Status>
         ensures view { (s : State S) → WorldStands self.now s → result ≡ status_of s pid }
         ensures spent { IsSpent self.now → result ≡ None }

@@ -1,6 +1,6 @@
 use Rattle.std.proofs.Common.{arith}
 use Rattle.std.proofs.lemmas.Grind.{common_steps}
-use Rattle.sh_exec_parts.proofs.Serving.{all_until, and_or_is, arithmetic_is, case_is, compound_form_is, connected_is, else_if_is, for_is, for_parameters_is, group_is, if_is, loop_is, subshell_is, assignment_is, backquoted_is, complete_is, compound_is, conditional_is, double_quoted_is, escaped_is, function_is, here_is, item_redirect_is, item_word_is, length_is, list_item_is, literal_is, named_is, parameter_is, parts_are, pipeline_is, redirect_is, removal_is, simple_is, single_quoted_is, substitution_is, word_is}
+use Rattle.sh_exec_parts.proofs.Serving.{all_until, and_or_is, arithmetic_is, case_is, compound_form_is, connected_is, else_if_is, for_is, for_parameters_is, group_is, if_is, loop_is, subshell_is, assignment_is, backquoted_is, compound_list_is, compound_is, conditional_is, double_quoted_is, escaped_is, function_is, here_is, item_redirect_is, item_word_is, length_is, list_item_is, literal_is, named_is, parameter_is, parts_are, pipeline_is, redirect_is, removal_is, simple_is, single_quoted_is, substitution_is, word_is}
 use Rattle.sh_exec_parts.proofs.served.+serving.Goals as goal
 
 pub serves_part-returns-in-Literal : goal.serves_part-returns-in-Literal
@@ -115,10 +115,10 @@ pub serves_list_item-returns-else-is_awaited : goal.serves_list_item-returns-els
 serves_list_item-returns-else-is_awaited t c = grind (arith, common_steps, list_item_is c.args.item.now)
 
 pub is_served-returns-then-not-serves_list_item : goal.is_served-returns-then-not-serves_list_item
-is_served-returns-then-not-serves_list_item t c = grind (arith, common_steps, complete_is c.args.tree.now, all_until)
+is_served-returns-then-not-serves_list_item t c = grind (arith, common_steps, compound_list_is c.args.tree.now, all_until)
 
 pub is_served-returns : goal.is_served-returns
-is_served-returns t c = grind (arith, common_steps, complete_is c.args.tree.now)
+is_served-returns t c = grind (arith, common_steps, compound_list_is c.args.tree.now)
 
 pub serves_form-returns-then-not-is_served : goal.serves_form-returns-then-not-is_served
 serves_form-returns-then-not-is_served t c = grind (arith, common_steps, if_is c.in-If.condition c.in-If.body c.in-If.else_ifs c.in-If.else_body)

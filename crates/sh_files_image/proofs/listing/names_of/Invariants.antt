@@ -6,7 +6,7 @@ use Rattle.sh_files_image.proofs.listing.names_of.Given as goal
 
 abbrev pub invariant-paths : goal.invariant-paths
 invariant-paths l =
-    IsAt l.front (map (λ (name : Bor (List ℕ)). name.now) l.names.items) (names_in l.front (paths.entries l.table)) (from l.text.items (paths.entries l.table))
+    IsAt l.prefix (map (λ (name : Bor (List ℕ)). name.now) l.names.items) (names_in l.prefix (paths.entries l.table)) (from l.text.items (paths.entries l.table))
 
 abbrev pub decreases-paths : goal.decreases-paths
 decreases-paths l = length (from l.text.items (paths.entries l.table))

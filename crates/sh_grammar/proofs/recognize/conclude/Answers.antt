@@ -1,6 +1,6 @@
 use Rattle.std.proofs.Common.{◌++◌, ◌∷◌, [], reverse, ap, ◌∙◌}
 use Rattle.std.proofs.lemmas.List.{append-nil}
-use Rattle.sh_grammar.specs.Leftmost.{shifted}
+use Rattle.sh_grammar.specs.Leftmost.{tokens_of}
 use Rattle.sh_grammar.specs.Tabulation.{tabulation_of}
 use Rattle.sh_grammar.proofs.Step.{stands_conclude, expand_last}
 use Rattle.sh_grammar.proofs.recognize.conclude.Goals as goal
@@ -25,5 +25,5 @@ loop-top-preserved c =
     record {
       stands = s.stands;
       vanishes = s.vanishes;
-      text = expand_last c.loop-top.done.items c.push.new.self.items c.predicted-rule.result c.in_ok-push-in-Nonterminal.ensures.items ∙ (append-nil (shifted c.loop-top.done.items) ∙ c.loop-top.invariant.text);
+      text = expand_last c.loop-top.done.items c.push.new.self.items c.predicted-rule.result c.in_ok-push-in-Nonterminal.ensures.items ∙ (append-nil (tokens_of c.loop-top.done.items) ∙ c.loop-top.invariant.text);
     }

@@ -1,7 +1,7 @@
 use Rattle.std.proofs.Common.{sym, ap, ◌∙◌, Some}
 use Rattle.sh_parse_commands.specs.Documents.{bodies_of}
 use Rattle.sh_parse_commands.specs.Programs.{read_text}
-use Rattle.sh_parse.specs.Reading.{completed}
+use Rattle.sh_parse.specs.Reading.{complete_answer}
 use Rattle.sh_parse.proofs.Lines.{whole_said, whole_tells}
 use Rattle.sh_parse.proofs.turn.tell.Goals as goal
 
@@ -9,7 +9,7 @@ pub returns-then-is_whole : goal.returns-then-is_whole
 returns-then-is_whole c =
     rw c.turn_of.ensures
     (whole_tells c.args.aliases.now c.args.text.now c.args.judged c.args.waiting c.args.newline c.args.nul c.complete.result
-    (completed c.in-Ok.front c.args.newline.«end» (bodies_of read_text 500 c.args.text.now c.due_at-due.result.now c.args.newline))
-    (whole_said c.args.aliases.now c.args.text.now c.args.waiting c.args.newline c.args.judged c.in-Ok.front c.in-Ok.is (sym c.is_none.ensures ∙ c.if-is_none.false) (sym c.is_whole.ensures ∙ c.if-is_whole.true)
-    ∙ ap (λ d. Some (completed c.in-Ok.front c.args.newline.«end» (bodies_of read_text 500 c.args.text.now d c.args.newline))) (sym c.due_at-due.ensures))
+    (complete_answer c.in-Ok.prefix c.args.newline.«end» (bodies_of read_text 500 c.args.text.now c.due_at-due.result.now c.args.newline))
+    (whole_said c.args.aliases.now c.args.text.now c.args.waiting c.args.newline c.args.judged c.in-Ok.prefix c.in-Ok.is (sym c.is_none.ensures ∙ c.if-is_none.false) (sym c.is_whole.ensures ∙ c.if-is_whole.true)
+    ∙ ap (λ d. Some (complete_answer c.in-Ok.prefix c.args.newline.«end» (bodies_of read_text 500 c.args.text.now d c.args.newline))) (sym c.due_at-due.ensures))
     c.complete.ensures)

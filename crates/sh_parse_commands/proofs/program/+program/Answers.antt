@@ -28,8 +28,8 @@ bodies_within-returns t c =
 pub judge_within-returns-in_ok-put-in-Ok-bodies_within : goal.judge_within-returns-in_ok-put-in-Ok-bodies_within
 judge_within-returns-in_ok-put-in-Ok-bodies_within t c =
     let yes : c.in_ok-show.field-0 ≡ true = (let f = c.if-not-branch.false in cc) in
-    item_taken (programs c.args.depth) c.args.left c.args.text.now c.args.due.now c.args.item.now c.args.front.now c.show.new.self c.put.new.self c.open-open.result c.in-Ok.leaf c.in-Ok-bodies_within.bodies.items
-    (c.in_ok-show.ensures.with yes ∙ ap (λ z. with_input c.args.front.now z) c.in_ok-input.ensures)
+    item_taken (programs c.args.depth) c.args.left c.args.text.now c.args.due.now c.args.item.now c.args.prefix.now c.show.new.self c.put.new.self c.open-open.result c.in-Ok.leaf c.in-Ok-bodies_within.bodies.items
+    (c.in_ok-show.ensures.with yes ∙ ap (λ z. with_input c.args.prefix.now z) c.in_ok-input.ensures)
     (ap takes (c.in_ok-show.ensures.with yes) ∙ sym c.in_ok-show.ensures.taken ∙ yes)
     c.open-open.ensures (grind (arith, common_steps, c.if-left-open.false)) c.in-Ok.ensures c.in-Ok-bodies_within.ensures c.in_ok-put-in-Ok-bodies_within.ensures
 
@@ -37,18 +37,18 @@ pub program-returns-in-Err : goal.program-returns-in-Err
 program-returns-in-Err t c =
     let n : suc (c.args.depth - 1) ≡ c.args.depth = (let f = c.if-depth-eq0.false in omega (f, arith)) in
     subst (λ z. GivesFault c.in-Err.fault (programs z c.args.left c.args.text.now)) n (
-    text_fault (c.args.depth - 1) c.args.left c.args.text.now (all_items c.in_ok-found.found) c.loop-item.waiting c.loop-item.rest.now c.loop-item.front c.in-Some.item.now c.in-Some.others.now c.in-Err.fault
+    text_fault (c.args.depth - 1) c.args.left c.args.text.now (all_items c.in_ok-found.found) c.loop-item.waiting c.loop-item.rest.now c.loop-item.prefix c.in-Some.item.now c.in-Some.others.now c.in-Err.fault
     c.in_ok-found.ensures
     (c.loop-item.invariant.0 ∙ ap (λ z. with_items (programs (c.args.depth - 1)) c.args.left c.args.text.now nothing z (none_of substitution)) c.as_slice-rest.ensures.value)
     (let h = c.in-Some.ensures.cases.0 in cc)
-    (subst (λ z. GivesFault c.in-Err.fault (with_item (programs (c.args.depth - 1)) c.args.left c.args.text.now z c.in-Some.item.now c.loop-item.front)) c.due_at-due.ensures c.in-Err.ensures)
+    (subst (λ z. GivesFault c.in-Err.fault (with_item (programs (c.args.depth - 1)) c.args.left c.args.text.now z c.in-Some.item.now c.loop-item.prefix)) c.due_at-due.ensures c.in-Err.ensures)
     )
 
 pub program-returns : goal.program-returns
 program-returns t c =
     let n : suc (c.args.depth - 1) ≡ c.args.depth = (let f = c.if-depth-eq0.false in omega (f, arith)) in
     subst (λ z. Gives c.ended_by.result (programs z c.args.left c.args.text.now)) n (
-    text_ended (c.args.depth - 1) c.args.left c.args.text.now (all_items c.in_ok-found.found) c.loop-item.waiting c.loop-item.rest.now c.loop-item.front c.ended_by.result
+    text_ended (c.args.depth - 1) c.args.left c.args.text.now (all_items c.in_ok-found.found) c.loop-item.waiting c.loop-item.rest.now c.loop-item.prefix c.ended_by.result
     c.in_ok-found.ensures
     (c.loop-item.invariant.0 ∙ ap (λ z. with_items (programs (c.args.depth - 1)) c.args.left c.args.text.now nothing z (none_of substitution)) c.as_slice-rest.ensures.value)
     (c.loop-item.invariant.1 ∙ ap (λ z. waiting_behind nothing z) c.as_slice-rest.ensures.value)
@@ -68,13 +68,13 @@ put_piece-returns-in_ok-put_program-in-Ok t c =
 
 pub word_leaf-returns-in_ok-leaf-in-Ok : goal.word_leaf-returns-in_ok-leaf-in-Ok
 word_leaf-returns-in_ok-leaf-in-Ok t c =
-    let n : name_size c.in_ok-front.front.items ≡ None = ap name_size (sym c.as_slice.ensures.value) ∙ sym c.name_size.ensures ∙ c.in_default.is in
-    word_plain (programs c.args.depth) c.args.left c.args.text.now c.args.pieces.now c.args.span c.in_ok-front.front.items c.text_from-bytes.result.now c.text_between-source.result.now c.in-Ok.parts c.in_ok-leaf-in-Ok.leaf
-    c.text_from-bytes.ensures c.text_between-source.ensures c.in_ok-front.ensures n c.in-Ok.ensures c.in_ok-leaf-in-Ok.ensures
+    let n : name_size c.in_ok-prefix.prefix.items ≡ None = ap name_size (sym c.as_slice.ensures.value) ∙ sym c.name_size.ensures ∙ c.in_default.is in
+    word_plain (programs c.args.depth) c.args.left c.args.text.now c.args.pieces.now c.args.span c.in_ok-prefix.prefix.items c.text_from-bytes.result.now c.text_between-source.result.now c.in-Ok.parts c.in_ok-leaf-in-Ok.leaf
+    c.text_from-bytes.ensures c.text_between-source.ensures c.in_ok-prefix.ensures n c.in-Ok.ensures c.in_ok-leaf-in-Ok.ensures
 
 pub word_leaf-returns-in-Ok-parts_in : goal.word_leaf-returns-in-Ok-parts_in
 word_leaf-returns-in-Ok-parts_in t c =
-    let n : name_size c.in_ok-front.front.items ≡ Some c.in-Some.size = ap name_size (sym c.as_slice.ensures.value) ∙ sym c.name_size.ensures ∙ c.in-Some.is in
-    word_assigned (programs c.args.depth) c.args.left c.args.text.now c.args.pieces.now c.args.span c.in_ok-front.front.items c.text_from-bytes.result.now c.text_between-source.result.now c.in-Some.size c.pieces_through.result.now c.pieces_behind-others.result.now c.behind_pieces-behind.result.now c.in-Ok-parts_in.value c.in_ok-leaf-in-Ok-parts_in.leaf
-    c.text_from-bytes.ensures c.text_between-source.ensures c.in_ok-front.ensures n c.pieces_behind-others.ensures c.pieces_through.ensures c.behind_pieces-behind.ensures c.in-Ok-parts_in.ensures
+    let n : name_size c.in_ok-prefix.prefix.items ≡ Some c.in-Some.size = ap name_size (sym c.as_slice.ensures.value) ∙ sym c.name_size.ensures ∙ c.in-Some.is in
+    word_assigned (programs c.args.depth) c.args.left c.args.text.now c.args.pieces.now c.args.span c.in_ok-prefix.prefix.items c.text_from-bytes.result.now c.text_between-source.result.now c.in-Some.size c.pieces_through.result.now c.pieces_behind-others.result.now c.behind_pieces-behind.result.now c.in-Ok-parts_in.value c.in_ok-leaf-in-Ok-parts_in.leaf
+    c.text_from-bytes.ensures c.text_between-source.ensures c.in_ok-prefix.ensures n c.pieces_behind-others.ensures c.pieces_through.ensures c.behind_pieces-behind.ensures c.in-Ok-parts_in.ensures
     (c.in_ok-leaf-in-Ok-parts_in.ensures ∙ ap (λ z. assignment_leaf z c.in-Some.size c.in-Ok-parts_in.value c.text_between-source.result.now) c.as_slice-in-Ok-parts_in.ensures.value)

@@ -2,7 +2,7 @@ use Rattle.std.proofs.Common.{◌≡◌, ◌+◌, ◌-◌, ◌*◌, length}
 use Rattle.sh_token_grammar.specs.Shell.{substitution}
 use Rattle.sh_parse_documents.specs.Waiting.{nothing}
 use Rattle.sh_parse_documents.specs.Stream.{waiting_behind}
-use Rattle.sh_parse_words.specs.Building.{begun}
+use Rattle.sh_parse_words.specs.Building.{empty_building}
 use Rattle.sh_parse_commands.specs.Words.{with_pieces}
 use Rattle.sh_parse_commands.specs.Documents.{with_documents}
 use Rattle.sh_parse_commands.specs.Judging.{none_of, with_items}
@@ -41,7 +41,7 @@ decreases-judge_within l = 16 * l.depth + 7
 
 abbrev pub invariant-parts_in-loop-piece : goal.invariant-parts_in-loop-piece
 invariant-parts_in-loop-piece l =
-    with_pieces (programs l.depth) l.text l.builder l.rest l.behind ≡ with_pieces (programs l.depth) l.text (begun l.left) l.pieces l.bytes
+    with_pieces (programs l.depth) l.text l.builder l.rest l.behind ≡ with_pieces (programs l.depth) l.text (empty_building l.left) l.pieces l.bytes
 
 abbrev pub decreases-parts_in-loop-piece : goal.decreases-parts_in-loop-piece
 decreases-parts_in-loop-piece l = length l.rest
@@ -55,7 +55,7 @@ decreases-bodies_within-loop-document l = length l.rest
 
 abbrev pub invariant-program-loop-item : goal.invariant-program-loop-item
 invariant-program-loop-item l =
-    (with_items (programs (l.depth - 1)) l.left l.text l.waiting l.rest l.front ≡ with_items (programs (l.depth - 1)) l.left l.text nothing l.initial.rest (none_of substitution))
+    (with_items (programs (l.depth - 1)) l.left l.text l.waiting l.rest l.prefix ≡ with_items (programs (l.depth - 1)) l.left l.text nothing l.initial.rest (none_of substitution))
     × (waiting_behind l.waiting l.rest ≡ waiting_behind nothing l.initial.rest)
 
 abbrev pub decreases-program-loop-item : goal.decreases-program-loop-item

@@ -1,11 +1,11 @@
 use Rattle.std.proofs.Common.{arith}
 use Rattle.std.proofs.lemmas.Grind.{common_steps}
-use Rattle.sh_syntax.proofs.Equations.{complete_is, and_or_is, list_item_is, connected_is, pipeline_is, else_if_is, case_item_is, compound_is, simple_is, command-compound_is, function_is, group_is, subshell_is, if_is, if-else_is, loop_is, for_is, for-parameters_is, case_is}
+use Rattle.sh_syntax.proofs.Equations.{compound_list_is, and_or_is, list_item_is, connected_is, pipeline_is, else_if_is, case_item_is, compound_is, simple_is, command-compound_is, function_is, group_is, subshell_is, if_is, if-else_is, loop_is, for_is, for-parameters_is, case_is}
 use Rattle.sh_syntax.proofs.Spaces.{spaced-append}
 use Rattle.sh_syntax.proofs.text.+text.Goals as goal
 
-pub put_complete-returns : goal.put_complete-returns
-put_complete-returns t c = grind (arith, common_steps, complete_is c.args.list.now, spaced-append)
+pub put_compound_list-returns : goal.put_compound_list-returns
+put_compound_list-returns t c = grind (arith, common_steps, compound_list_is c.args.list.now, spaced-append)
 
 pub put_and_or-returns : goal.put_and_or-returns
 put_and_or-returns t c = grind (arith, common_steps, and_or_is c.args.list.now, spaced-append)
@@ -56,8 +56,8 @@ pub put_form-returns-in-Some : goal.put_form-returns-in-Some
 put_form-returns-in-Some t c =
     grind (arith, common_steps, if-else_is c.in-If.condition c.in-If.body c.in-If.else_ifs c.in-Some.list, spaced-append)
 
-pub put_form-returns-in_ok-put_complete-in-Loop : goal.put_form-returns-in_ok-put_complete-in-Loop
-put_form-returns-in_ok-put_complete-in-Loop t c =
+pub put_form-returns-in_ok-put_compound_list-in-Loop : goal.put_form-returns-in_ok-put_compound_list-in-Loop
+put_form-returns-in_ok-put_compound_list-in-Loop t c =
     grind (arith, common_steps, loop_is c.in-Loop.kind c.in-Loop.condition c.in-Loop.body, spaced-append)
 
 pub put_form-returns-in_ok-put_token-in-For-4 : goal.put_form-returns-in_ok-put_token-in-For-4

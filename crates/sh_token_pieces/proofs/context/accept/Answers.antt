@@ -1,5 +1,5 @@
-use Rattle.sh_token_pieces.proofs.Tokens.{front_shown}
+use Rattle.sh_token_pieces.proofs.Tokens.{prefix_shown}
 use Rattle.sh_token_pieces.proofs.context.accept.Goals as goal
 
 pub returns-clause-told : goal.returns-clause-told
-returns-clause-told c = front_shown _ _ _ c.requires c.in_ok-taken.ensures.front
+returns-clause-told c = prefix_shown _ _ _ c.requires c.in_ok-taken.ensures.prefix

@@ -1,5 +1,0 @@
-use Rattle.sh_grammar.proofs.Computing.{length_text}
-use Rattle.sh_grammar.proofs.laws.front_length_is_longest.Goals as goal
-
-pub returns : goal.returns
-returns c = length_text
