@@ -10,7 +10,7 @@ build_bench sh_pattern <<'RT'
 
 mod arguments;
 
-use sh_pattern::{Mark, matches};
+use sh_pattern::{PatternByte, matches};
 use std::io;
 
 fn main(rt: HostRuntime) -> io::Result<()> {
@@ -19,7 +19,7 @@ fn main(rt: HostRuntime) -> io::Result<()> {
     let times = numbers.last().copied().unwrap_or(0);
     let mut pattern = Vec::new(rt.alloc());
     for byte in b"*a*a*a*a*a*b" {
-        pattern.push(Mark {
+        pattern.push(PatternByte {
             byte: *byte,
             literal: false,
         })?;

@@ -1,5 +1,8 @@
 """Proves crates side by side where rt ci keeps nothing of what it passed: what ./build and scripts/try_wrong_bodies.py share."""
 import concurrent.futures
+import contextlib
+import fcntl
+import hashlib
 import os
 import re
 import shutil
@@ -42,6 +45,18 @@ def longest_ways(repository, crates):
         for dep in below[crate]:
             ways[dep] = max(ways[dep], own[dep] + ways[crate])
     return below, ways
+
+
+@contextlib.contextmanager
+def cache_room():
+    """A folder that stays, for what is proved of this repository. One run at a time has it, of ./build or of
+    scripts/try_wrong_bodies.py; another one waits."""
+    cache = os.environ.get("XDG_CACHE_HOME") or os.path.expanduser("~/.cache")
+    room = f"{cache}/psh/{hashlib.sha256(sources.TOP.encode()).hexdigest()[:16]}"
+    os.makedirs(room, exist_ok=True)
+    with open(f"{room}.lock", "w", encoding="utf-8") as lock:
+        fcntl.flock(lock, fcntl.LOCK_EX)
+        yield room
 
 
 class Stopped(Exception):

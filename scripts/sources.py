@@ -27,6 +27,12 @@ def crates_below(name):
     return sorted(found)
 
 
+def crates_below_all():
+    """All crates of this repository, as crates.txt names them."""
+    with open(f"{TOP}/crates.txt", encoding="utf-8") as file:
+        return sorted(it.split()[0] for it, found, _ in (line.partition(":") for line in file) if found and not it.startswith("#"))
+
+
 def put_names(crates, to):
     """Puts what names the crates into a folder: these of crates.txt, and what handles are allowed."""
     shutil.copy(f"{TOP}/HANDLES", to)
