@@ -1,5 +1,7 @@
 pub mod Actions
 pub mod Programs
-pub mod Starting
-pub mod Turns
+pub mod Scripts
 pub mod Search
+pub mod Starting
+pub mod Tasks
+pub mod Turns

@@ -4,9 +4,14 @@
 mod action;
 mod process;
 mod program;
+mod script;
 mod search;
+mod settings;
 mod shell;
 mod start;
+mod task;
 
 pub use process::Process;
 pub use search::{Located, MAX_SCRIPT, locate};
+pub use settings::{Settings, Source};
+pub use task::Task;

@@ -6,6 +6,7 @@ ghost use Rattle.sh_exec.specs.Programs.{HasLeft};
 ghost use Rattle.sh_exec.specs.Starting.{start_turn};
 ghost use Rattle.sh_exec.specs.Turns as turns;
 ghost use Rattle.sh_exec.specs.Actions.{action_of};
+ghost use Rattle.sh_exec.specs.Tasks.{frames_of};
 ghost use Rattle.sh_kernel.specs.Turns as next;
 ghost use Rattle.sh_kernel.specs.Turns.{can_do};
 ghost use Rattle.sh_exec_shell.specs.Reduction.{shell_turn};
@@ -16,6 +17,7 @@ use crate::shell::starting_of;
 use crate::start::start_turn;
 use sh_base::NoMemory;
 use sh_base::sequence::{Sequence, Text};
+use sh_exec_forms::Form;
 use sh_exec_shell::{Child, Shell};
 use sh_kernel::{Kernel, Next};
 use sh_stock::{Ask, Stock};
@@ -100,6 +102,16 @@ impl<S: Stock> Process<S> {
                 *ask = next;
                 Ok(None)
             },
+        }
+    }
+
+    /// The running forms of a shell round the place where it acts, the outermost first; none of a program.
+    pub fn frames(&self) -> &[Form]
+        ensures { result.now ≡ frames_of self.now }
+    {
+        match self {
+            Process::Runs(shell) => shell.frames(),
+            Process::Asks(_, _) => &[],
         }
     }
 

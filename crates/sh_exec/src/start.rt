@@ -21,10 +21,10 @@ use sh_vars::Vars;
 use std::alloc::Global;
 
 /// The process says why there is no program, and ends with a status.
-fn failed<S: Stock>(vars: Vars, piece: Piece, status: u8) -> Process<S>
+fn failed<S: Stock>(alloc: Global, vars: Vars, piece: Piece, status: u8) -> Process<S>
     ensures { result ≡ shell_at vars (Place.Writing piece (Finish.Leave status)) }
 {
-    Process::Runs(Shell::at(vars, Place::Writing(piece, Finish::Leave(status))))
+    Process::Runs(Shell::at(alloc, vars, Place::Writing(piece, Finish::Leave(status))))
 }
 
 /// No program has this name.
@@ -34,7 +34,7 @@ fn missing<S: Stock>(alloc: Global, vars: Vars, name: &[u8]) -> Result<Process<S
         (Place.Writing (messages.message (messages.not_found name.now)) (Finish.Leave 127))) }
 {
     let piece = not_found(alloc, name)?;
-    Ok(failed(vars, piece, 127))
+    Ok(failed(alloc, vars, piece, 127))
 }
 
 /// It can't be run.
@@ -44,7 +44,7 @@ fn unfit<S: Stock>(alloc: Global, vars: Vars, name: &[u8]) -> Result<Process<S>,
         (Place.Writing (messages.message (messages.cannot_execute name.now)) (Finish.Leave 126))) }
 {
     let piece = cannot_execute(alloc, name)?;
-    Ok(failed(vars, piece, 126))
+    Ok(failed(alloc, vars, piece, 126))
 }
 
 /// What the shell had set aside is closed.
@@ -118,7 +118,7 @@ fn start_script<S: Stock>(
     let parent = parent_of(kernel, pid);
     let vars = script_environment(alloc, vars, path, operands, pid, parent)?;
     close_aside(kernel, pid);
-    Ok(Process::Runs(Shell::reading(vars, text)))
+    Ok(Process::Runs(Shell::reading(alloc, vars, text)))
 }
 
 /// What was found is started.
@@ -189,7 +189,7 @@ pub(crate) fn start_turn<S: Stock>(
     ensures terminal { kernel.new.terminal ≡ kernel.old.terminal }
 {
     let Some((name, operands)) = fields.as_slice().split_first() else {
-        return Ok(Process::Runs(Shell::at(vars, Place::Starting(fields))));
+        return Ok(Process::Runs(Shell::at(alloc, vars, Place::Starting(fields))));
     };
     let process = start_named(alloc, kernel, pid, vars, name.as_slice(), operands)?;
     Ok(process)

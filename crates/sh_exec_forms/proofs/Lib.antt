@@ -1,2 +1,4 @@
 pub mod Alone
 pub mod Entered
+pub mod Inside
+pub mod Outward

@@ -26,5 +26,8 @@ pub plugged-forms_of : (run : Run) → tree_of (forms_of run) (place_in run) ≡
 plugged-forms_of (At place) = refl
 plugged-forms_of (In f run) = ap (In f) (plugged-forms_of run)
 
+abbrev pub forms_code : Coded (List Form)
+forms_code = coded_list form.the_row.coded
+
 abbrev pub run_code : Coded Run
-run_code = code_by (List Form × Active) (coded× (coded_list form.the_row.coded) active.the_row.coded) (λ run. (forms_of run, place_in run)) (λ p. tree_of p.0 p.1) plugged-forms_of
+run_code = code_by (List Form × Active) (coded× forms_code active.the_row.coded) (λ run. (forms_of run, place_in run)) (λ p. tree_of p.0 p.1) plugged-forms_of

@@ -11,11 +11,14 @@ use Rattle.sh_exec_command.specs.declared.running.Undo.{Undo}
 use Rattle.sh_exec_machine.specs.Undoing as descriptors
 use Rattle.sh_exec_forms.specs.Builtins.{effect_at}
 use Rattle.sh_exec_forms.specs.Entering.{items_run, with_others, list_run, pipeline_run}
+use Rattle.sh_exec_forms.specs.Frames.{Goes, has_loop, is_loop, run_of}
 use Rattle.sh_exec_forms.specs.Running.{Run, At, In}
 use Rattle.sh_exec_forms.specs.declared.form.Branches.{Branches}
 use Rattle.sh_exec_forms.specs.declared.form.Form.{Form}
 use Rattle.sh_exec_forms.specs.declared.form.Form.TheVariants.{Text, Commands, Joined, Negated, Restoring, If, Condition, Body, Each}
 use Rattle.sh_exec_forms.specs.declared.form.Loop.{Loop}
+use Rattle.sh_exec_forms.specs.declared.step.Step.{Step}
+use Rattle.sh_exec_forms.specs.declared.step.Step.TheVariants.{Outward, Inward}
 use Rattle.sh_exec_forms.specs.declared.loops.Onward.{Onward}
 use Rattle.sh_exec_forms.specs.declared.loops.Onward.TheVariants.{Left, Over, On}
 use Rattle.sh_kernel.specs.State.{KernelKept, KernelState, StandsAt}
@@ -82,18 +85,7 @@ behind_condition loop last status = if runs loop.kind status then In (Body loop)
 unfoldable pub condition_run : Loop → ℕ → Run
 condition_run loop status = In (Condition loop status) (list_run loop.condition)
 
-abbrev pub is_loop : Form → Bool
-is_loop (Text rest) = false
-is_loop (Commands items) = false
-is_loop (Joined others) = false
-is_loop Negated = false
-is_loop (Restoring undo) = false
-is_loop (If branches) = false
-is_loop (Condition loop last) = true
-is_loop (Body loop) = true
-is_loop (Each series) = true
-
--- ---- break and continue (2.15): they are done with 0, and do nothing where no loop is around them
+-- ---- break and continue (2.15): they are done with 0, and do nothing where no loop stands around
 abbrev pub within_loop : (looped : Bool) → Active → Active
 within_loop looped (Acting builtin fields) = Acting builtin fields
 within_loop looped (Next place) = Next place
@@ -176,3 +168,31 @@ pub record IsActed (kernel : KernelKept) (env : Environment) (ran : Run) (a : Ac
   pub state : StandsAt kernel a.machine
   pub environment : env ≡ a.environment
   pub run : ran ≡ a.run
+
+-- ---- the same by the list of the forms, the innermost first: each is settled by those that are around it
+abbrev pub outward : ℕ → List Form → Acted → Acted
+outward pid [] a = a
+outward pid (form ∷ forms) a = outward pid forms (after pid (has_loop forms) form a)
+
+-- where a shell goes on that changed only its environment, inside the forms that there were before
+pub record Follows (s : KernelState) (env : Environment) (now before : List Form) (step : Step) (a : Acted) : Type 0 where
+  pub machine : a.machine ≡ s
+  pub environment : env ≡ a.environment
+  pub goes : Goes step now before a.run
+
+-- a kernel and a shell go on so, inside the forms that there were before
+pub record HasGone (kernel : KernelKept) (env : Environment) (now before : List Form) (step : Step) (a : Acted) : Type 0 where
+  pub state : StandsAt kernel a.machine
+  pub environment : env ≡ a.environment
+  pub goes : Goes step now before a.run
+
+-- a shell goes on at a step: outward through the forms that are there, or at the place that it gives
+abbrev pub step_run : ℕ → List Form → KernelState → Environment → Step → Acted
+step_run pid forms s env (Outward active) = outward pid forms (with_run s env (At active))
+step_run pid forms s env (Inward active) = with_run s env (run_of forms active)
+
+-- a kernel and a shell have come to a step on their way to what an action leaves
+pub record IsOnWay (pid : ℕ) (kernel : KernelKept) (env : Environment) (forms : List Form) (step : Step) (a : Acted) : Type 0 where
+  pub machine : KernelState
+  pub state : StandsAt kernel machine
+  pub left : step_run pid forms machine env step ≡ a

@@ -4,4 +4,4 @@ pub mod Codes
 pub mod Entering
 pub mod Forms
 pub mod Running
-pub mod Tree
+pub mod Frames

@@ -1,13 +1,14 @@
 //! Commands are entered.
-ghost use Rattle.std.specs.Prelude.{◌≡◌, ◌∷◌, [], IfOk, None, option_map};
+ghost use Rattle.std.specs.Prelude.{◌≡◌, ◌∷◌, [], IfOk, OnOk, None, option_map};
 ghost use Rattle.sh_exec_parts.specs.Pipelines.{commands_of};
-ghost use Rattle.sh_exec_forms.specs.Entering.{and_or_run, command_run, commands_run, compound_entry, items_run, form_entry, with_others, list_run, with_negation, pipeline_run, staging};
+ghost use Rattle.sh_exec_forms.specs.Entering.{and_or_run, command_run, commands_run, compound_entry, form_entry, items_run, list_run, pipeline_run, staging, with_others};
 ghost use Rattle.sh_exec_forms.specs.Running.{Run};
-ghost use Rattle.sh_exec_forms.specs.Tree.{run_of};
+ghost use Rattle.sh_exec_forms.specs.Frames.{Goes};
 
 use crate::form::{Branches, Form, Loop};
+use crate::frames::Frames;
 use crate::share::share_all;
-use crate::tree::Tree;
+use crate::step::Step;
 use sh_base::NoMemory;
 use sh_base::sequence::Sequence;
 use sh_base::shared::Shared;
@@ -31,12 +32,12 @@ fn staging(alloc: Global, commands: Sequence<Shared<Command>>) -> Place
 }
 
 /// A subshell, for which a process is to be made.
-fn subshell_tree(alloc: Global, command: &Shared<Command>) -> Result<Tree, NoMemory>
-    ensures { IfOk result (λ tree. run_of tree ≡ Run.At (Active.Next (staging (command.now ∷ [])))) }
+fn subshell(alloc: Global, command: &Shared<Command>) -> Result<Active, NoMemory>
+    ensures { IfOk result (λ active. active ≡ Active.Next (staging (command.now ∷ []))) }
 {
     let mut commands = Sequence::new(alloc);
     commands.push(command.share()?)?;
-    Ok(Tree::next(staging(alloc, commands)))
+    Ok(Active::Next(staging(alloc, commands)))
 }
 
 /// What an `if` runs after its condition.
@@ -68,32 +69,24 @@ fn branches_of(
     })
 }
 
-/// An `if` whose condition is entered.
-fn if_tree(
+/// The form of an `if` whose condition is to be entered.
+fn push_if(
     alloc: Global,
+    frames: &mut Frames,
     body: &Shared<CompoundList>,
     else_ifs: &[ElseIf],
     else_body: Option<&Shared<CompoundList>>,
-    inner: Tree,
-) -> Result<Tree, NoMemory>
-    ensures { IfOk result (λ tree.
-        run_of tree
-        ≡ Run.In
-        (Form.If
+) -> Result<(), NoMemory>
+    ensures { OnOk result (frames.new ≡ Form.If
         (record {
           body = body.now;
           else_ifs = else_ifs.now;
           else_body = option_map (λ list.
               list.now) else_body.entry;
-        })) (run_of inner)) }
+        }) ∷ frames.old) }
 {
-    match branches_of(alloc, body, else_ifs, else_body) {
-        Ok(branches) => inner.within(alloc, Form::If(branches)),
-        Err(refusal) => {
-            drop(inner);
-            Err(refusal)
-        },
-    }
+    let branches = branches_of(alloc, body, else_ifs, else_body)?;
+    frames.push(Form::If(branches))
 }
 
 /// A loop.
@@ -114,212 +107,225 @@ fn loop_of(
     })
 }
 
-/// A loop whose condition is entered.
-fn loop_tree(
-    alloc: Global,
+/// The form of a loop whose condition is to be entered.
+fn push_loop(
+    frames: &mut Frames,
     kind: LoopKind,
     condition: &Shared<CompoundList>,
     body: &Shared<CompoundList>,
-    inner: Tree,
-) -> Result<Tree, NoMemory>
-    ensures { IfOk result (λ tree.
-        run_of tree
-        ≡ Run.In
-        (Form.Condition (record { kind = kind; condition = condition.now; body = body.now }) 0)
-        (run_of inner)) }
+) -> Result<(), NoMemory>
+    ensures { OnOk result (frames.new ≡ Form.Condition
+        (record { kind = kind; condition = condition.now; body = body.now }) 0 ∷ frames.old) }
 {
-    match loop_of(kind, condition, body) {
-        Ok(looping) => inner.within(alloc, Form::Condition(looping, 0)),
-        Err(refusal) => {
-            drop(inner);
-            Err(refusal)
-        },
-    }
+    let looping = loop_of(kind, condition, body)?;
+    frames.push(Form::Condition(looping, 0))
 }
 
 /// A `for`, whose words are to be expanded.
-fn series_tree(command: &Shared<Command>) -> Result<Tree, NoMemory>
-    ensures { IfOk result (λ tree.
-        run_of tree ≡ Run.At (Active.Next (Place.Expanding (Wants.Series command.now) None))) }
+fn series(command: &Shared<Command>) -> Result<Active, NoMemory>
+    ensures { IfOk result (λ active.
+        active ≡ Active.Next (Place.Expanding (Wants.Series command.now) None)) }
 {
     let command = command.share()?;
-    Ok(Tree::next(Place::Expanding(Wants::Series(command), None)))
+    Ok(Active::Next(Place::Expanding(Wants::Series(command), None)))
 }
 
 /// The form of a compound command.
 #[cycle(entering)]
-fn form_tree(
+fn enter_form(
     alloc: Global,
+    frames: &mut Frames,
     form: &CompoundForm,
     command: &Shared<Command>,
-) -> Result<Tree, NoMemory>
-    ensures { IfOk result (λ tree. run_of tree ≡ form_entry form.now command.now) }
+) -> Result<Step, NoMemory>
+    ensures { IfOk result (λ step.
+        Goes step frames.new frames.old (form_entry form.now command.now)) }
 {
     match form {
-        CompoundForm::Group(list) => enter_list(alloc, list.get()),
-        CompoundForm::Subshell(_) => subshell_tree(alloc, command),
+        CompoundForm::Group(list) => enter_list(alloc, frames, list.get()),
+        CompoundForm::Subshell(_) => Ok(Step::Inward(subshell(alloc, command)?)),
         CompoundForm::If {
             condition,
             body,
             else_ifs,
             else_body,
         } => {
-            let inner = enter_list(alloc, condition.get())?;
-            if_tree(alloc, body, else_ifs.as_slice(), else_body.as_ref(), inner)
+            push_if(alloc, frames, body, else_ifs.as_slice(), else_body.as_ref())?;
+            let step = enter_list(alloc, frames, condition.get())?;
+            Ok(step.inside())
         },
         CompoundForm::Loop {
             kind,
             condition,
             body,
         } => {
-            let inner = enter_list(alloc, condition.get())?;
-            loop_tree(alloc, *kind, condition, body, inner)
+            push_loop(frames, *kind, condition, body)?;
+            let step = enter_list(alloc, frames, condition.get())?;
+            Ok(step.inside())
         },
-        CompoundForm::For { .. } => series_tree(command),
-        CompoundForm::ForParameters { .. } => series_tree(command),
-        CompoundForm::Case { .. } => Ok(Tree::At(Active::Done(0))),
+        CompoundForm::For { .. } => Ok(Step::Inward(series(command)?)),
+        CompoundForm::ForParameters { .. } => Ok(Step::Inward(series(command)?)),
+        CompoundForm::Case { .. } => Ok(Step::Outward(Active::Done(0))),
     }
 }
 
 /// A compound command.
 #[cycle(entering)]
-fn compound_tree(
+fn enter_compound(
     alloc: Global,
+    frames: &mut Frames,
     compound: &Compound,
     command: &Shared<Command>,
-) -> Result<Tree, NoMemory>
-    ensures { IfOk result (λ tree. run_of tree ≡ compound_entry compound.now command.now) }
+) -> Result<Step, NoMemory>
+    ensures { IfOk result (λ step.
+        Goes step frames.new frames.old (compound_entry compound.now command.now)) }
 {
-    form_tree(alloc, &compound.form, command)
+    enter_form(alloc, frames, &compound.form, command)
 }
 
 /// A command that is alone in its pipeline.
 #[cycle(entering)]
-pub(crate) fn enter_command(alloc: Global, command: &Shared<Command>) -> Result<Tree, NoMemory>
-    ensures { IfOk result (λ tree. run_of tree ≡ command_run command.now) }
+pub(crate) fn enter_command(
+    alloc: Global,
+    frames: &mut Frames,
+    command: &Shared<Command>,
+) -> Result<Step, NoMemory>
+    ensures { IfOk result (λ step. Goes step frames.new frames.old (command_run command.now)) }
 {
     match command.get() {
         Command::Simple(_) => {
             let place = first_place(alloc, false, command.share()?)?;
-            Ok(Tree::next(place))
+            Ok(Step::Inward(Active::Next(place)))
         },
-        Command::Compound(compound) => compound_tree(alloc, compound.get(), command),
-        Command::Function { .. } => Ok(Tree::At(Active::Done(0))),
+        Command::Compound(compound) => enter_compound(alloc, frames, compound.get(), command),
+        Command::Function { .. } => Ok(Step::Outward(Active::Done(0))),
     }
-}
-
-/// A pipeline with `!` before it, or without.
-fn negate(alloc: Global, is_negated: bool, inner: Tree) -> Result<Tree, NoMemory>
-    ensures { IfOk result (λ tree. run_of tree ≡ with_negation is_negated (run_of inner)) }
-{
-    if is_negated {
-        return inner.within(alloc, Form::Negated);
-    }
-    Ok(inner)
 }
 
 /// The commands of a pipeline of several.
-fn stages_tree(alloc: Global, pipeline: &Pipeline) -> Result<Tree, NoMemory>
-    ensures { IfOk result (λ tree.
-        run_of tree ≡ Run.At (Active.Next (staging (commands_of pipeline.now)))) }
+fn stages(alloc: Global, pipeline: &Pipeline) -> Result<Step, NoMemory>
+    ensures { IfOk result (λ step.
+        step ≡ Step.Inward (Active.Next (staging (commands_of pipeline.now)))) }
 {
     let commands = commands_of(alloc, pipeline)?;
-    Ok(Tree::next(staging(alloc, commands)))
+    Ok(Step::Inward(Active::Next(staging(alloc, commands))))
 }
 
 /// The commands of a pipeline.
 #[cycle(entering)]
-fn commands_tree(alloc: Global, pipeline: &Pipeline) -> Result<Tree, NoMemory>
-    ensures { IfOk result (λ tree. run_of tree ≡ commands_run pipeline.now) }
+fn enter_commands(alloc: Global, frames: &mut Frames, pipeline: &Pipeline) -> Result<Step, NoMemory>
+    ensures { IfOk result (λ step. Goes step frames.new frames.old (commands_run pipeline.now)) }
 {
     match pipeline.rest.as_slice() {
-        [] => enter_command(alloc, &pipeline.first),
-        [_, ..] => stages_tree(alloc, pipeline),
+        [] => enter_command(alloc, frames, &pipeline.first),
+        [_, ..] => stages(alloc, pipeline),
     }
 }
 
 /// A pipeline.
 #[cycle(entering)]
-pub(crate) fn enter_pipeline(alloc: Global, pipeline: &Pipeline) -> Result<Tree, NoMemory>
-    ensures { IfOk result (λ tree. run_of tree ≡ pipeline_run pipeline.now) }
+pub(crate) fn enter_pipeline(
+    alloc: Global,
+    frames: &mut Frames,
+    pipeline: &Pipeline,
+) -> Result<Step, NoMemory>
+    ensures { IfOk result (λ step. Goes step frames.new frames.old (pipeline_run pipeline.now)) }
 {
-    let inner = commands_tree(alloc, pipeline)?;
-    negate(alloc, is_negated(pipeline), inner)
+    if is_negated(pipeline) {
+        frames.push(Form::Negated)?;
+        let step = enter_commands(alloc, frames, pipeline)?;
+        return Ok(step.inside());
+    }
+    enter_commands(alloc, frames, pipeline)
 }
 
-/// A pipeline, and those after it that are joined to it.
-pub(crate) fn join(alloc: Global, others: Queue<Connected>, inner: Tree) -> Result<Tree, NoMemory>
-    ensures { IfOk result (λ tree. run_of tree ≡ with_others others (run_of inner)) }
+/// A pipeline, with those that are joined to it.
+#[cycle(entering)]
+pub(crate) fn enter_joined(
+    alloc: Global,
+    frames: &mut Frames,
+    first: &Pipeline,
+    others: Queue<Connected>,
+) -> Result<Step, NoMemory>
+    ensures { IfOk result (λ step.
+        Goes step frames.new frames.old (with_others others (pipeline_run first.now))) }
 {
     if others.is_empty() {
-        return Ok(inner);
+        return enter_pipeline(alloc, frames, first);
     }
-    inner.within(alloc, Form::Joined(others))
-}
-
-/// A pipeline, and copies of those after it that are joined to it.
-fn join_copies(alloc: Global, others: &[Connected], inner: Tree) -> Result<Tree, NoMemory>
-    ensures { IfOk result (λ tree. run_of tree ≡ with_others others.now (run_of inner)) }
-{
-    match share_all(alloc, others) {
-        Ok(others) => join(alloc, others, inner),
-        Err(refusal) => {
-            drop(inner);
-            Err(refusal)
-        },
-    }
+    frames.push(Form::Joined(others))?;
+    let step = enter_pipeline(alloc, frames, first)?;
+    Ok(step.inside())
 }
 
 /// An AND-OR list.
 #[cycle(entering)]
-fn and_or_tree(alloc: Global, list: &AndOr) -> Result<Tree, NoMemory>
-    ensures { IfOk result (λ tree. run_of tree ≡ and_or_run list.now) }
+fn enter_and_or(alloc: Global, frames: &mut Frames, list: &AndOr) -> Result<Step, NoMemory>
+    ensures { IfOk result (λ step. Goes step frames.new frames.old (and_or_run list.now)) }
 {
-    let inner = enter_pipeline(alloc, list.first.get())?;
-    join_copies(alloc, list.rest.as_slice(), inner)
+    let others = share_all(alloc, list.rest.as_slice())?;
+    enter_joined(alloc, frames, list.first.get(), others)
 }
 
-/// The first of some AND-OR lists, and copies of those after it.
-fn before_copies(alloc: Global, items: &[ListItem], inner: Tree) -> Result<Tree, NoMemory>
-    ensures { IfOk result (λ tree. run_of tree ≡ Run.In (Form.Commands items.now) (run_of inner)) }
+/// Copies of AND-OR lists that come after one.
+fn push_items(alloc: Global, frames: &mut Frames, items: &[ListItem]) -> Result<(), NoMemory>
+    ensures { OnOk result (frames.new ≡ Form.Commands items.now ∷ frames.old) }
 {
-    match share_all(alloc, items) {
-        Ok(items) => inner.within(alloc, Form::Commands(items)),
-        Err(refusal) => {
-            drop(inner);
-            Err(refusal)
-        },
-    }
+    let items = share_all(alloc, items)?;
+    frames.push(Form::Commands(items))
 }
 
 /// A list of commands that is inside a command. The only error is want of memory.
 #[cycle(entering)]
-pub fn enter_list(alloc: Global, list: &CompoundList) -> Result<Tree, NoMemory>
-    ensures { IfOk result (λ tree. run_of tree ≡ list_run list.now) }
+pub fn enter_list(alloc: Global, frames: &mut Frames, list: &CompoundList) -> Result<Step, NoMemory>
+    ensures { IfOk result (λ step. Goes step frames.new frames.old (list_run list.now)) }
 {
     let Some((item, others)) = list.items.as_slice().split_first() else {
-        return Ok(Tree::At(Active::Done(0)));
+        return Ok(Step::Outward(Active::Done(0)));
     };
-    let inner = and_or_tree(alloc, item.list.get())?;
-    before_copies(alloc, others, inner)
+    push_items(alloc, frames, others)?;
+    let step = enter_and_or(alloc, frames, item.list.get())?;
+    Ok(step.inside())
 }
 
-/// AND-OR lists one after another, entered after a command that had this status. The only error is want of
-/// memory.
-pub fn enter(alloc: Global, items: Queue<ListItem>, status: u8) -> Result<Tree, NoMemory>
-    ensures { IfOk result (λ tree. run_of tree ≡ items_run items status) }
+/// AND-OR lists one after another, entered after a command that had this status. The only error is want of memory.
+pub fn enter(
+    alloc: Global,
+    frames: &mut Frames,
+    items: Queue<ListItem>,
+    status: u8,
+) -> Result<Step, NoMemory>
+    ensures { IfOk result (λ step. Goes step frames.new frames.old (items_run items status)) }
 {
     let mut items = items;
     let Some(item) = items.take() else {
-        return Ok(Tree::At(Active::Done(status)));
+        return Ok(Step::Outward(Active::Done(status)));
     };
-    let entered = and_or_tree(alloc, item.list.get());
-    drop(item);
-    match entered {
-        Ok(inner) => inner.within(alloc, Form::Commands(items)),
-        Err(refusal) => {
-            drop(items);
-            Err(refusal)
+    match frames.push(Form::Commands(items)) {
+        Ok(()) => {},
+        Err(lack) => {
+            drop(item);
+            return Err(lack);
         },
     }
+    let entered = enter_and_or(alloc, frames, item.list.get());
+    drop(item);
+    match entered {
+        Ok(step) => Ok(step.inside()),
+        Err(lack) => Err(lack),
+    }
+}
+
+/// A list that is entered inside a form. The only error is want of memory.
+pub(crate) fn enter_inside(
+    alloc: Global,
+    frames: &mut Frames,
+    form: Form,
+    list: &Shared<CompoundList>,
+) -> Result<Step, NoMemory>
+    ensures { IfOk result (λ step. Goes step frames.new frames.old (Run.In form (list_run list.now))) }
+{
+    frames.push(form)?;
+    let step = enter_list(alloc, frames, list.get())?;
+    Ok(step.inside())
 }

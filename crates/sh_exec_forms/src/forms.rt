@@ -1,21 +1,22 @@
 //! What a form becomes when what runs inside it is done, or leaves it.
-ghost use Rattle.std.specs.Prelude.{◌≡◌, ◌||◌, IfOk};
+ghost use Rattle.std.specs.Prelude.{◌≡◌, IfOk, false};
 ghost use Rattle.sh_kernel.specs.State.{KernelState, StandsAt};
 ghost use Rattle.sh_syntax.specs.declared.tree.Command.TheViews as view;
-ghost use Rattle.sh_exec_forms.specs.Entering.{with_others, list_run, pipeline_run};
-ghost use Rattle.sh_exec_forms.specs.Forms.{Acted, IsActed, with_run, after, after_by, within_loop, branch, connected_run, after_status, goes_on, after_leave, negation, otherwise, at_action, undone};
-ghost use Rattle.sh_exec_forms.specs.Running.{Run};
-ghost use Rattle.sh_exec_forms.specs.Tree.{run_of};
+ghost use Rattle.sh_exec_forms.specs.Entering.{list_run, pipeline_run, with_others};
+ghost use Rattle.sh_exec_forms.specs.Forms.{Acted, Follows, HasGone, IsActed, IsOnWay, after_leave, after_status, at_action, branch, connected_run, goes_on, negation, otherwise, outward, undone, with_run};
+ghost use Rattle.sh_exec_forms.specs.Frames.{Goes, IsFewer, Leaves, has_loop, run_in, run_of};
+ghost use Rattle.sh_exec_forms.specs.Running.{Run, move_run};
 
 use crate::acting::perform;
-use crate::entering::{enter, enter_list, enter_pipeline, join};
+use crate::entering::{enter, enter_inside, enter_joined, enter_list};
 use crate::form::{Branches, Form};
-use crate::loops::{bound, leave_loop, leave_series, repeat, test};
-use crate::tree::Tree;
+use crate::frames::Frames;
+use crate::loops::{bound, leave_loop, leave_series, next_value, repeat, test};
+use crate::step::Step;
 use sh_base::NoMemory;
 use sh_base::shared::Shared;
 use sh_builtin::Leave;
-use sh_exec_command::{Active, Place, Undo, restore_variables};
+use sh_exec_command::{Active, Move, Place, Undo, restore_variables};
 use sh_exec_machine::restore_all;
 use sh_exec_parts::Queue;
 use sh_kernel::Kernel;
@@ -40,57 +41,47 @@ fn goes_on(connector: Connector, status: u8) -> bool
     }
 }
 
-/// A pipeline of an AND-OR list, with those after it.
-fn enter_joined(alloc: Global, next: Connected, others: Queue<Connected>) -> Result<Tree, NoMemory>
-    ensures { IfOk result (λ tree.
-        run_of tree ≡ with_others others (pipeline_run (view.out-Connected next).pipeline)) }
+/// A pipeline of an AND-OR list that is run, with those after it.
+fn enter_next(
+    alloc: Global,
+    frames: &mut Frames,
+    next: Connected,
+    others: Queue<Connected>,
+) -> Result<Step, NoMemory>
+    ensures { IfOk result (λ step. Goes step frames.new frames.old
+        (with_others others (pipeline_run (view.out-Connected next).pipeline))) }
 {
-    let entered = enter_pipeline(alloc, next.pipeline.get());
+    let entered = enter_joined(alloc, frames, next.pipeline.get(), others);
     drop(next);
-    match entered {
-        Ok(inner) => join(alloc, others, inner),
-        Err(refusal) => {
-            drop(others);
-            Err(refusal)
-        },
-    }
+    entered
 }
 
 /// The first of some pipelines that is run after this status, and those after it.
-fn connect(alloc: Global, others: Queue<Connected>, status: u8) -> Result<Tree, NoMemory>
-    ensures { IfOk result (λ tree. run_of tree ≡ connected_run others status) }
+fn connect(
+    alloc: Global,
+    frames: &mut Frames,
+    others: Queue<Connected>,
+    status: u8,
+) -> Result<Step, NoMemory>
+    ensures { IfOk result (λ step. Goes step frames.new frames.old (connected_run others status)) }
 {
     let mut others = others;
     'others: while let Some(next) = others.take() {
         if goes_on(next.connector, status) {
-            return enter_joined(alloc, next, others);
+            return enter_next(alloc, frames, next, others);
         }
     }
-    Ok(Tree::At(Active::Done(status)))
-}
-
-/// A list that is entered within a form.
-fn enter_within(alloc: Global, list: Shared<CompoundList>, form: Form) -> Result<Tree, NoMemory>
-    ensures { IfOk result (λ tree. run_of tree ≡ Run.In form (list_run list)) }
-{
-    let entered = enter_list(alloc, list.get());
-    drop(list);
-    match entered {
-        Ok(inner) => inner.within(alloc, form),
-        Err(refusal) => {
-            drop(form);
-            Err(refusal)
-        },
-    }
+    Ok(Step::Outward(Active::Done(status)))
 }
 
 /// What an `if` goes on with after a condition that failed.
 fn otherwise(
     alloc: Global,
+    frames: &mut Frames,
     else_ifs: Queue<ElseIf>,
     else_body: Option<Shared<CompoundList>>,
-) -> Result<Tree, NoMemory>
-    ensures { IfOk result (λ tree. run_of tree ≡ otherwise else_ifs else_body) }
+) -> Result<Step, NoMemory>
+    ensures { IfOk result (λ step. Goes step frames.new frames.old (otherwise else_ifs else_body)) }
 {
     let mut else_ifs = else_ifs;
     match else_ifs.take() {
@@ -101,19 +92,26 @@ fn otherwise(
                 else_ifs,
                 else_body,
             };
-            enter_within(alloc, condition, Form::If(branches))
+            let step = enter_inside(alloc, frames, Form::If(branches), &condition);
+            drop(condition);
+            step
         },
         None => match else_body {
-            Some(list) => enter_list(alloc, list.get()),
-            None => Ok(Tree::At(Active::Done(0))),
+            Some(list) => enter_list(alloc, frames, list.get()),
+            None => Ok(Step::Outward(Active::Done(0))),
         },
     }
 }
 
 /// What an `if` goes on with after a condition with this status.
 #[tactic(auto, unfolding(crate::specs::Forms::branch))]
-fn branch(alloc: Global, branches: Branches, status: u8) -> Result<Tree, NoMemory>
-    ensures { IfOk result (λ tree. run_of tree ≡ branch branches status) }
+fn branch(
+    alloc: Global,
+    frames: &mut Frames,
+    branches: Branches,
+    status: u8,
+) -> Result<Step, NoMemory>
+    ensures { IfOk result (λ step. Goes step frames.new frames.old (branch branches status)) }
 {
     let Branches {
         body,
@@ -123,10 +121,10 @@ fn branch(alloc: Global, branches: Branches, status: u8) -> Result<Tree, NoMemor
     if status == 0 {
         drop(else_ifs);
         drop(else_body);
-        return enter_list(alloc, body.get());
+        return enter_list(alloc, frames, body.get());
     }
     drop(body);
-    otherwise(alloc, else_ifs, else_body)
+    otherwise(alloc, frames, else_ifs, else_body)
 }
 
 /// What a command changed is undone.
@@ -136,10 +134,10 @@ fn undo(
     pid: u32,
     vars: &mut Vars,
     undo: Undo,
-    tree: Tree,
-) -> Result<Tree, NoMemory>
-    ensures state { (s : KernelState) → StandsAt kernel.old s → IfOk result (λ tree'.
-        IsActed kernel.new vars.new (run_of tree') (undone pid undo s vars.old (run_of tree))) }
+    active: Active,
+) -> Result<Active, NoMemory>
+    ensures state { (s : KernelState) → StandsAt kernel.old s → IfOk result (λ next.
+        IsActed kernel.new vars.new (Run.At next) (undone pid undo s vars.old (Run.At active))) }
     ensures terminal { kernel.new.terminal ≡ kernel.old.terminal }
 {
     let Undo {
@@ -148,171 +146,197 @@ fn undo(
     } = undo;
     restore_all(kernel, pid, descriptors);
     match restore_variables(vars, variables) {
-        Ok(()) => Ok(tree),
+        Ok(()) => Ok(active),
         Err(refusal) => {
-            drop(tree);
+            drop(active);
             Err(refusal)
         },
     }
 }
 
 /// A form in which all is done.
+#[tactic(auto, using(crate::proofs::Outward::leaves))]
 fn end_form(
     alloc: Global,
     kernel: &mut Kernel,
     pid: u32,
     vars: &mut Vars,
+    frames: &mut Frames,
     form: Form,
     status: u8,
-) -> Result<Tree, NoMemory>
-    ensures state { (s : KernelState) → StandsAt kernel.old s → IfOk result (λ tree.
-        IsActed kernel.new vars.new (run_of tree) (after_status pid form s vars.old status)) }
+) -> Result<Step, NoMemory>
+    ensures state { (s : KernelState) → StandsAt kernel.old s → IfOk result (λ step.
+        HasGone kernel.new vars.new frames.new frames.old step
+        (after_status pid form s vars.old status)) }
+    ensures kept { IfOk result (λ step. Leaves step frames.new frames.old) }
     ensures terminal { kernel.new.terminal ≡ kernel.old.terminal }
 {
     match form {
-        Form::Text(rest) => Ok(Tree::next(Place::Reading(rest))),
+        Form::Text(rest) => Ok(Step::Inward(Active::Next(Place::Reading(rest)))),
         Form::Commands(items) => {
             vars.set_status(status);
-            let tree = enter(alloc, items, status)?;
-            Ok(tree)
+            let step = enter(alloc, frames, items, status)?;
+            Ok(step)
         },
         Form::Joined(others) => {
             vars.set_status(status);
-            let tree = connect(alloc, others, status)?;
-            Ok(tree)
+            let step = connect(alloc, frames, others, status)?;
+            Ok(step)
         },
-        Form::Negated => Ok(Tree::At(Active::Done(negation(status)))),
+        Form::Negated => Ok(Step::Outward(Active::Done(negation(status)))),
         Form::Restoring(change) => {
-            let tree = undo(kernel, pid, vars, change, Tree::At(Active::Done(status)))?;
-            Ok(tree)
+            let active = undo(kernel, pid, vars, change, Active::Done(status))?;
+            Ok(Step::Outward(active))
         },
         Form::If(branches) => {
             vars.set_status(status);
-            let tree = branch(alloc, branches, status)?;
-            Ok(tree)
+            let step = branch(alloc, frames, branches, status)?;
+            Ok(step)
         },
         Form::Condition(looping, last) => {
             vars.set_status(status);
-            let tree = test(alloc, looping, last, status)?;
-            Ok(tree)
+            let step = test(alloc, frames, looping, last, status)?;
+            Ok(step)
         },
         Form::Body(looping) => {
             vars.set_status(status);
-            let tree = repeat(alloc, looping, status)?;
-            Ok(tree)
+            let step = repeat(alloc, frames, looping, status)?;
+            Ok(step)
         },
         Form::Each(series) => {
             vars.set_status(status);
-            Ok(Tree::At(series.go_on(status)))
+            Ok(next_value(series, status))
         },
     }
 }
 
-/// A form that is left before its end; `looped` tells whether a loop is around it.
+/// A form that is left before its end.
+#[tactic(auto, using(crate::proofs::Outward::leaves))]
 fn leave_form(
     alloc: Global,
     kernel: &mut Kernel,
     pid: u32,
     vars: &mut Vars,
-    looped: bool,
+    frames: &mut Frames,
     form: Form,
     leave: Leave,
-) -> Result<Tree, NoMemory>
-    ensures state { (s : KernelState) → StandsAt kernel.old s → IfOk result (λ tree.
-        IsActed kernel.new vars.new (run_of tree) (after_leave pid looped form s vars.old leave)) }
+) -> Result<Step, NoMemory>
+    ensures state { (s : KernelState) → StandsAt kernel.old s → IfOk result (λ step.
+        HasGone kernel.new vars.new frames.new frames.old step
+        (after_leave pid (has_loop frames.old) form s vars.old leave)) }
+    ensures kept { IfOk result (λ step. Leaves step frames.new frames.old) }
     ensures terminal { kernel.new.terminal ≡ kernel.old.terminal }
 {
     match form {
-        Form::Text(_) => Ok(Tree::At(Active::Leaving(leave))),
-        Form::Commands(_) => Ok(Tree::At(Active::Leaving(leave))),
-        Form::Joined(_) => Ok(Tree::At(Active::Leaving(leave))),
-        Form::Negated => Ok(Tree::At(Active::Leaving(leave))),
+        Form::Text(_) => Ok(Step::Outward(Active::Leaving(leave))),
+        Form::Commands(_) => Ok(Step::Outward(Active::Leaving(leave))),
+        Form::Joined(_) => Ok(Step::Outward(Active::Leaving(leave))),
+        Form::Negated => Ok(Step::Outward(Active::Leaving(leave))),
         Form::Restoring(change) => {
-            let tree = undo(kernel, pid, vars, change, Tree::At(Active::Leaving(leave)))?;
-            Ok(tree)
+            let active = undo(kernel, pid, vars, change, Active::Leaving(leave))?;
+            Ok(Step::Outward(active))
         },
-        Form::If(_) => Ok(Tree::At(Active::Leaving(leave))),
+        Form::If(_) => Ok(Step::Outward(Active::Leaving(leave))),
         Form::Condition(looping, last) => {
-            let tree = leave_loop(alloc, vars, looped, looping, last, leave)?;
-            Ok(tree)
+            let step = leave_loop(alloc, vars, frames, looping, last, leave)?;
+            Ok(step)
         },
         Form::Body(looping) => {
-            let tree = leave_loop(alloc, vars, looped, looping, 0, leave)?;
-            Ok(tree)
+            let step = leave_loop(alloc, vars, frames, looping, 0, leave)?;
+            Ok(step)
         },
-        Form::Each(series) => Ok(leave_series(vars, looped, series, leave)),
+        Form::Each(series) => Ok(leave_series(vars, frames, series, leave)),
     }
 }
 
-/// A form again round what an action inside it left; `looped` tells whether a loop is around it. The only
-/// error is want of memory, after which both are gone.
-#[tactic(auto, unfolding(crate::specs::Forms::after))]
-pub fn wrap(
+/// What is over goes to the innermost form.
+#[tactic(auto, using(crate::proofs::Outward::ended_on_way, crate::proofs::Outward::left_on_way, crate::proofs::Outward::fewer))]
+fn go_outward(
     alloc: Global,
     kernel: &mut Kernel,
     pid: u32,
     vars: &mut Vars,
-    looped: bool,
-    form: Form,
-    inner: Tree,
-) -> Result<Tree, NoMemory>
-    ensures state { (s : KernelState) → StandsAt kernel.old s → IfOk result (λ tree.
-        IsActed kernel.new vars.new (run_of tree)
-        (after pid looped form (with_run s vars.old (run_of inner)))) }
+    frames: &mut Frames,
+    active: Active,
+) -> Result<Step, NoMemory>
+    ensures state { (s : KernelState) → StandsAt kernel.old s → IfOk result (λ step.
+        IsOnWay pid kernel.new vars.new frames.new step
+        (outward pid frames.old (with_run s vars.old (Run.At active)))) }
+    ensures fewer { IfOk result (λ step. IsFewer step frames.new frames.old) }
     ensures terminal { kernel.new.terminal ≡ kernel.old.terminal }
 {
-    match inner {
-        Tree::At(active) => match active {
-            Active::Done(status) => {
-                let tree = end_form(alloc, kernel, pid, vars, form, status)?;
-                Ok(tree)
-            },
-            Active::Leaving(leave) => {
-                let tree = leave_form(alloc, kernel, pid, vars, looped, form, leave)?;
-                Ok(tree)
-            },
-            Active::Acting(builtin, fields) => {
-                let tree = Tree::At(Active::Acting(builtin, fields)).within(alloc, form)?;
-                Ok(tree)
-            },
-            Active::Next(place) => {
-                let tree = Tree::next(place).within(alloc, form)?;
-                Ok(tree)
-            },
+    match active {
+        Active::Next(place) => Ok(Step::Inward(Active::Next(place))),
+        Active::Acting(builtin, fields) => Ok(Step::Inward(Active::Acting(builtin, fields))),
+        Active::Done(status) => match frames.pop() {
+            Some(form) => end_form(alloc, kernel, pid, vars, frames, form, status),
+            None => Ok(Step::Inward(Active::Done(status))),
         },
-        Tree::In(inmost, tree) => {
-            let inner = Box::into_inner(tree);
-            let inner = inner.within(alloc, inmost)?;
-            let tree = inner.within(alloc, form)?;
-            Ok(tree)
+        Active::Leaving(leave) => match frames.pop() {
+            Some(form) => leave_form(alloc, kernel, pid, vars, frames, form, leave),
+            None => Ok(Step::Inward(Active::Leaving(leave))),
         },
     }
 }
 
-/// A built-in acts where one is to, and statuses go outward until the place is an action; `looped` tells
-/// whether a loop is around it. The only error is want of memory, after which the tree is gone.
+/// What is over goes outward from form to form, up to one that goes on.
+fn settle_outward(
+    alloc: Global,
+    kernel: &mut Kernel,
+    pid: u32,
+    vars: &mut Vars,
+    frames: &mut Frames,
+    active: Active,
+) -> Result<Active, NoMemory>
+    ensures state { (s : KernelState) → StandsAt kernel.old s → IfOk result (λ next.
+        IsActed kernel.new vars.new (run_of frames.new next)
+        (outward pid frames.old (with_run s vars.old (Run.At active)))) }
+    ensures terminal { kernel.new.terminal ≡ kernel.old.terminal }
+{
+    let mut active = active;
+    'outward: loop {
+        match go_outward(alloc, kernel, pid, vars, frames, active)? {
+            Step::Inward(next) => return Ok(next),
+            Step::Outward(next) => {
+                active = next;
+            },
+        }
+    }
+}
+
+/// A built-in acts where one is to, and statuses go outward until the place is an action. The only error is want of memory, after
+/// which the shell is given up.
 pub fn settle(
     alloc: Global,
     kernel: &mut Kernel,
     pid: u32,
     vars: &mut Vars,
-    looped: bool,
-    tree: Tree,
-) -> Result<Tree, NoMemory>
+    frames: &mut Frames,
+    active: Active,
+) -> Result<Active, NoMemory>
     ensures state { (s : KernelState) → StandsAt kernel.old s → IfOk result (λ next.
-        IsActed kernel.new vars.new (run_of next) (at_action pid looped s vars.old (run_of tree))) }
+        IsActed kernel.new vars.new (run_of frames.new next)
+        (at_action pid false s vars.old (run_of frames.old active))) }
     ensures terminal { kernel.new.terminal ≡ kernel.old.terminal }
 {
-    match tree {
-        Tree::At(active) => {
-            let active = perform(alloc, kernel, pid, vars, active)?;
-            Ok(Tree::At(bound(looped, active)))
-        },
-        Tree::In(form, inner) => {
-            let within = form.is_looped(looped);
-            let inner = settle(alloc, kernel, pid, vars, within, Box::into_inner(inner))?;
-            let tree = wrap(alloc, kernel, pid, vars, looped, form, inner)?;
-            Ok(tree)
+    let active = perform(alloc, kernel, pid, vars, active)?;
+    let active = bound(frames, active);
+    let active = settle_outward(alloc, kernel, pid, vars, frames, active)?;
+    Ok(active)
+}
+
+/// Where a command goes on. The only error is want of memory.
+pub fn go_to(frames: &mut Frames, to: Move) -> Result<Active, NoMemory>
+    ensures { IfOk result (λ active. run_of frames.new active ≡ run_in frames.old (move_run to)) }
+{
+    match to {
+        Move::At(active) => Ok(active),
+        Move::Held(undo, active) => match frames.push(Form::Restoring(undo)) {
+            Ok(()) => Ok(active),
+            Err(lack) => {
+                drop(active);
+                Err(lack)
+            },
         },
     }
 }

@@ -1,4 +1,4 @@
-//! What a shell's process runs, as a tree of running forms: how commands are entered, and what a form becomes when what runs inside
+//! What a shell's process runs, as a stack of running forms: how commands are entered, and what a form becomes when what runs inside
 //! it is done.
 #![tactic(auto)]
 
@@ -7,12 +7,14 @@ mod bodies;
 mod entering;
 mod form;
 mod forms;
+mod frames;
 mod loops;
 mod share;
-mod tree;
+mod step;
 
 pub use bodies::{body_of, stage};
 pub use entering::{enter, enter_list};
 pub use form::{Branches, Form, Loop};
-pub use forms::{settle, wrap};
-pub use tree::Tree;
+pub use forms::{go_to, settle};
+pub use frames::Frames;
+pub use step::Step;

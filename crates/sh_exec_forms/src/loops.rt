@@ -1,15 +1,16 @@
 //! Loops, and break and continue in them.
-ghost use Rattle.std.specs.Prelude.{◌≡◌, ◌||◌, IfOk};
+ghost use Rattle.std.specs.Prelude.{◌≡◌, IfOk, List};
+ghost use Rattle.sh_exec_forms.specs.declared.form.Form.{Form};
 ghost use Rattle.sh_exec_command.specs.Series.{rest_of_series};
-ghost use Rattle.sh_exec_forms.specs.Entering.{list_run};
-ghost use Rattle.sh_exec_forms.specs.Forms.{Acted, with_run, beyond, within_loop, is_loop, loop_left, onward, onward_by, condition_run, runs, behind_condition};
+ghost use Rattle.sh_exec_forms.specs.Forms.{Acted, Follows, behind_condition, beyond, condition_run, loop_left, onward, onward_by, runs, within_loop};
+ghost use Rattle.sh_exec_forms.specs.Frames.{Goes, Leaves, has_loop};
 ghost use Rattle.sh_exec_forms.specs.Running.{Run};
-ghost use Rattle.sh_exec_forms.specs.Tree.{run_of};
 ghost use Rattle.sh_kernel.specs.State.{KernelState};
 
-use crate::entering::enter_list;
+use crate::entering::enter_inside;
 use crate::form::{Form, Loop};
-use crate::tree::Tree;
+use crate::frames::Frames;
+use crate::step::Step;
 use sh_base::NoMemory;
 use sh_builtin::Leave;
 use sh_exec_command::{Active, Series};
@@ -27,35 +28,9 @@ pub(crate) enum Onward {
     On,
 }
 
-/// Whether a form is a loop.
-fn is_loop(form: &Form) -> bool
-    ensures { result ≡ is_loop form.now }
-{
-    match form {
-        Form::Text(_) => false,
-        Form::Commands(_) => false,
-        Form::Joined(_) => false,
-        Form::Negated => false,
-        Form::Restoring(_) => false,
-        Form::If(_) => false,
-        Form::Condition(_, _) => true,
-        Form::Body(_) => true,
-        Form::Each(_) => true,
-    }
-}
-
-impl Form {
-    /// Whether a loop is around what runs in this form, where `looped` tells whether one is around the form.
-    pub fn is_looped(&self, looped: bool) -> bool
-        ensures { result ≡ is_loop self.now || looped }
-    {
-        is_loop(self) || looped
-    }
-}
-
-/// break and continue do nothing where no loop is around them.
-pub(crate) fn bound(looped: bool, active: Active) -> Active
-    ensures { result ≡ within_loop looped active }
+/// break and continue do nothing where no loop is around.
+pub(crate) fn bound(frames: &Frames, active: Active) -> Active
+    ensures { result ≡ within_loop (has_loop frames.now) active }
 {
     match active {
         Active::Acting(builtin, fields) => Active::Acting(builtin, fields),
@@ -64,13 +39,13 @@ pub(crate) fn bound(looped: bool, active: Active) -> Active
         Active::Leaving(leave) => match leave {
             Leave::Shell(status) => Active::Leaving(Leave::Shell(status)),
             Leave::Break(inside) => {
-                if looped {
+                if frames.has_loop() {
                     return Active::Leaving(Leave::Break(inside));
                 }
                 Active::Done(0)
             },
             Leave::Continue(inside) => {
-                if looped {
+                if frames.has_loop() {
                     return Active::Leaving(Leave::Continue(inside));
                 }
                 Active::Done(0)
@@ -79,28 +54,27 @@ pub(crate) fn bound(looped: bool, active: Active) -> Active
     }
 }
 
-/// Seen from outside of a loop that is left: how many loops are inside the one that is meant; `None` where
-/// that is this one, or where this is the outermost.
-fn beyond(looped: bool, inside: u64) -> Option<u64>
-    ensures { result ≡ beyond looped inside }
+/// From outside of a loop that is left: how many loops are inside the one that is meant, if it isn't this one.
+fn beyond(frames: &Frames, inside: u64) -> Option<u64>
+    ensures { result ≡ beyond (has_loop frames.now) inside }
 {
-    if inside == 0 || !looped {
+    if inside == 0 || !frames.has_loop() {
         return None;
     }
     Some(inside - 1)
 }
 
-/// Where a loop goes on that is left; `looped` tells whether a loop is around it.
-fn where_to(looped: bool, leave: Leave) -> Onward
-    ensures { result ≡ onward looped leave }
+/// Where a loop goes on that is left, with these forms around it.
+fn where_to(frames: &Frames, leave: Leave) -> Onward
+    ensures { result ≡ onward (has_loop frames.now) leave }
 {
     match leave {
         Leave::Shell(status) => Onward::Left(Leave::Shell(status)),
-        Leave::Break(inside) => match beyond(looped, inside) {
+        Leave::Break(inside) => match beyond(frames, inside) {
             Some(inside) => Onward::Left(Leave::Break(inside)),
             None => Onward::Over,
         },
-        Leave::Continue(inside) => match beyond(looped, inside) {
+        Leave::Continue(inside) => match beyond(frames, inside) {
             Some(inside) => Onward::Left(Leave::Continue(inside)),
             None => Onward::On,
         },
@@ -111,41 +85,52 @@ fn where_to(looped: bool, leave: Leave) -> Onward
 pub(crate) fn leave_loop(
     alloc: Global,
     vars: &mut Vars,
-    looped: bool,
+    frames: &mut Frames,
     looping: Loop,
     last: u8,
     leave: Leave,
-) -> Result<Tree, NoMemory>
-    ensures { (s : KernelState) → IfOk result (λ tree.
-        with_run s vars.new (run_of tree) ≡ loop_left s vars.old (condition_run looping last)
-        (onward looped leave)) }
+) -> Result<Step, NoMemory>
+    ensures follows { (s : KernelState) → IfOk result (λ step. Follows s vars.new frames.new frames.old step
+        (loop_left s vars.old (condition_run looping last) (onward (has_loop frames.old) leave))) }
+    ensures kept { IfOk result (λ step. Leaves step frames.new frames.old) }
 {
-    match where_to(looped, leave) {
-        Onward::Left(leave) => Ok(Tree::At(Active::Leaving(leave))),
-        Onward::Over => Ok(Tree::At(Active::Done(0))),
+    match where_to(frames, leave) {
+        Onward::Left(leave) => Ok(Step::Outward(Active::Leaving(leave))),
+        Onward::Over => Ok(Step::Outward(Active::Done(0))),
         Onward::On => {
             vars.set_status(0);
-            repeat(alloc, looping, last)
+            let step = repeat(alloc, frames, looping, last)?;
+            Ok(step)
         },
     }
 }
 
 /// A `for` that is left.
-pub(crate) fn leave_series(vars: &mut Vars, looped: bool, series: Series, leave: Leave) -> Tree
-    ensures { (s : KernelState) → with_run s vars.new (run_of result) ≡ loop_left s vars.old
-        (Run.At (rest_of_series series 0)) (onward looped leave) }
+pub(crate) fn leave_series(vars: &mut Vars, frames: &Frames, series: Series, leave: Leave) -> Step
+    ensures { (s : KernelState) → Follows s vars.new frames.now frames.now result
+        (loop_left s vars.old (Run.At (rest_of_series series 0)) (onward (has_loop frames.now) leave)) }
 {
-    match where_to(looped, leave) {
-        Onward::Left(leave) => Tree::At(Active::Leaving(leave)),
-        Onward::Over => Tree::At(Active::Done(0)),
+    match where_to(frames, leave) {
+        Onward::Left(leave) => Step::Outward(Active::Leaving(leave)),
+        Onward::Over => Step::Outward(Active::Done(0)),
         Onward::On => {
             vars.set_status(0);
-            Tree::At(series.go_on(0))
+            next_value(series, 0)
         },
     }
 }
 
-/// Whether a loop runs its body after a condition with this status.
+/// A `for` goes on with its next value, or is done with this status where none is left.
+pub(crate) fn next_value(series: Series, status: u8) -> Step
+    ensures { (forms : List Form) → Goes result forms forms (Run.At (rest_of_series series status)) }
+{
+    match series.go_on(status) {
+        Active::Next(place) => Step::Inward(Active::Next(place)),
+        active => Step::Outward(active),
+    }
+}
+
+/// Whether a loop runs its body behind a condition with this status.
 fn runs(kind: LoopKind, status: u8) -> bool
     ensures { result ≡ runs kind status }
 {
@@ -157,31 +142,33 @@ fn runs(kind: LoopKind, status: u8) -> bool
 
 /// What a loop goes on with after its condition.
 #[tactic(auto, unfolding(crate::specs::Forms::behind_condition))]
-pub(crate) fn test(alloc: Global, looping: Loop, last: u8, status: u8) -> Result<Tree, NoMemory>
-    ensures { IfOk result (λ tree. run_of tree ≡ behind_condition looping last status) }
+pub(crate) fn test(
+    alloc: Global,
+    frames: &mut Frames,
+    looping: Loop,
+    last: u8,
+    status: u8,
+) -> Result<Step, NoMemory>
+    ensures { IfOk result (λ step.
+        Goes step frames.new frames.old (behind_condition looping last status)) }
 {
     if !runs(looping.kind, status) {
-        return Ok(Tree::At(Active::Done(last)));
+        return Ok(Step::Outward(Active::Done(last)));
     }
-    match enter_list(alloc, looping.body.get()) {
-        Ok(inner) => inner.within(alloc, Form::Body(looping)),
-        Err(refusal) => {
-            drop(looping);
-            Err(refusal)
-        },
-    }
+    let body = looping.body.share()?;
+    enter_inside(alloc, frames, Form::Body(looping), &body)
 }
 
 /// What a loop goes on with after its body.
 #[tactic(auto, unfolding(crate::specs::Forms::condition_run))]
-pub(crate) fn repeat(alloc: Global, looping: Loop, status: u8) -> Result<Tree, NoMemory>
-    ensures { IfOk result (λ tree. run_of tree ≡ condition_run looping status) }
+pub(crate) fn repeat(
+    alloc: Global,
+    frames: &mut Frames,
+    looping: Loop,
+    status: u8,
+) -> Result<Step, NoMemory>
+    ensures { IfOk result (λ step. Goes step frames.new frames.old (condition_run looping status)) }
 {
-    match enter_list(alloc, looping.condition.get()) {
-        Ok(inner) => inner.within(alloc, Form::Condition(looping, status)),
-        Err(refusal) => {
-            drop(looping);
-            Err(refusal)
-        },
-    }
+    let condition = looping.condition.share()?;
+    enter_inside(alloc, frames, Form::Condition(looping, status), &condition)
 }

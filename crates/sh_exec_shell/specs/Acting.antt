@@ -36,8 +36,10 @@ use Rattle.sh_exec_machine.specs.declared.transfer.ReadOutcome.TheVariants as ta
 use Rattle.sh_exec_machine.specs.declared.undone.Undone.{Undone}
 use Rattle.sh_exec_forms.specs.Forms.{Acted, with_run}
 use Rattle.sh_exec_forms.specs.Entering.{items_run, list_run}
+use Rattle.sh_exec_forms.specs.Frames.{run_in}
 use Rattle.sh_exec_forms.specs.Running.{Run, At, In, move_run}
 use Rattle.sh_exec_shell.specs.Waits.{wait_status}
+use Rattle.sh_exec_forms.specs.declared.form.Form.{Form}
 use Rattle.sh_exec_forms.specs.declared.form.Form.TheVariants.{Text, Each}
 use Rattle.sh_files.specs.Nodes.{FileMap}
 use Rattle.sh_kernel.specs.Calls.{close_call, end_call}
@@ -177,3 +179,7 @@ given_round s g = with_run s g.environment (round_run g.round)
 -- ---- the end of the process
 unfoldable pub end_turn : KernelState → ℕ → Environment → ℕ → Acted
 end_turn s pid env status = with_run (end_call s pid status).after env (next (Ending status))
+
+-- what an action leaves, inside the forms round its place
+abbrev pub in_forms : List Form → Acted → Acted
+in_forms forms a = with_run a.machine a.environment (run_in forms a.run)

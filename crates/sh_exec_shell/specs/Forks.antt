@@ -15,6 +15,8 @@ use Rattle.sh_exec_command.specs.declared.running.Wants.{Wants}
 use Rattle.sh_exec_command.specs.declared.running.Wants.TheVariants.{Words, Values, Series}
 use Rattle.sh_exec_machine.specs.Forking.{fork_of}
 use Rattle.sh_exec_forms.specs.Forms.{Acted, with_run}
+use Rattle.sh_exec_shell.specs.Acting.{in_forms}
+use Rattle.sh_exec_forms.specs.declared.form.Form.{Form}
 use Rattle.sh_exec_forms.specs.Bodies.{body_of, stage_run}
 use Rattle.sh_exec_forms.specs.Running.{Run, At, move_run}
 use Rattle.sh_exec_shell.specs.declared.shell.Child.{Child}
@@ -30,6 +32,10 @@ pub record Turned : Type 0 where
 
 abbrev pub with_child : KernelState → Environment → Run → Option Child → Turned
 with_child s env run child = record { left = with_run s env run; child = child }
+
+-- the same inside the forms round its place
+abbrev pub inside : List Form → Turned → Turned
+inside forms t = record { left = in_forms forms t.left; child = t.child }
 
 -- a process is a shell with the same environment
 abbrev pub child_of : ℕ → Environment → Run → Option Child

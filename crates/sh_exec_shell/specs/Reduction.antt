@@ -12,7 +12,8 @@ use Rattle.sh_exec_command.specs.declared.running.Place.{Place}
 use Rattle.sh_exec_command.specs.declared.running.Place.TheVariants.{Reading, Expanding, Collecting, Answering, Redirecting, Forking, Starting, Staging, Giving, Waiting, Writing, Ending}
 use Rattle.sh_exec_shell.specs.Acting.{answer_turn, collect_turn, end_turn, expand_turn, given_round, next, read_turn, redirect_turn, wait_turn, write_turn}
 use Rattle.sh_exec_shell.specs.Forks.{Turned, fork_turn, stage_turn, substitute_turn}
-use Rattle.sh_exec_forms.specs.Forms.{Acted, with_run, after, is_loop, at_action}
+use Rattle.sh_exec_forms.specs.Forms.{Acted, with_run, after, at_action}
+use Rattle.sh_exec_forms.specs.Frames.{is_loop}
 use Rattle.sh_exec_forms.specs.Running.{Run, At, In, ShellState, move_run}
 use Rattle.sh_kernel.specs.State.{KernelState}
 use Rattle.sh_vars.specs.Environment.{Environment}

@@ -5,10 +5,10 @@ ghost use Rattle.sh_exec_parts.specs.Messages as messages;
 ghost use Rattle.sh_exec_command.specs.Expanding as expanding;
 ghost use Rattle.sh_exec_command.specs.Preparing.{ahead};
 ghost use Rattle.sh_exec_machine.specs.Forking.{HasForked};
-ghost use Rattle.sh_exec_shell.specs.Forks.{IsTurned, child_of, fork_turn, is_more, program_by, stage_by, stage_from, stage_one, stage_turn, stage_place, substitute_turn, substitution_by, with_child, fork_failure};
+ghost use Rattle.sh_exec_shell.specs.Forks.{IsTurned, child_of, fork_turn, inside, is_more, program_by, stage_by, stage_from, stage_one, stage_turn, stage_place, substitute_turn, substitution_by, with_child, fork_failure};
 ghost use Rattle.sh_exec_forms.specs.Bodies.{body_of, stage_run};
 ghost use Rattle.sh_exec_forms.specs.Running.{Run, move_run};
-ghost use Rattle.sh_exec_forms.specs.Tree.{run_of};
+ghost use Rattle.sh_exec_forms.specs.Frames.{run_in, run_of};
 
 use crate::shell::{Child, child_of};
 use sh_base::NoMemory;
@@ -17,7 +17,7 @@ use sh_base::shared::Shared;
 use sh_exec_command::{
     Active, Finish, Move, Pending, Place, Prepared, Stages, Substitution, Wants, go_ahead,
 };
-use sh_exec_forms::{Tree, body_of, stage};
+use sh_exec_forms::{Frames, body_of, go_to, stage};
 use sh_exec_machine::{Forked, fork_process};
 use sh_exec_parts::Queue;
 use sh_exec_parts::message::cannot_fork;
@@ -43,6 +43,25 @@ fn one_more(children: Sequence<u32>, child: u32) -> Result<Sequence<u32>, NoMemo
     Ok(children)
 }
 
+/// A process with a copy of the variables.
+fn with_copy(child: u32, vars: &Vars, frames: Frames, active: Active) -> Result<Child, NoMemory>
+    ensures { IfOk result (λ made.
+        made ≡ record {
+          pid = child;
+          shell =
+              record { environment = vars.now; run = run_of frames active };
+        }) }
+{
+    match vars.copy() {
+        Ok(copy) => Ok(child_of(child, copy, frames, active)),
+        Err(error) => {
+            drop(frames);
+            drop(active);
+            Err(NoMemory::from(error))
+        },
+    }
+}
+
 /// A program's process is made.
 fn put_program(
     alloc: Global,
@@ -58,14 +77,9 @@ fn put_program(
         }) }
 {
     let to = go_ahead(prepared);
-    let tree = Tree::moved(alloc, to)?;
-    match vars.copy() {
-        Ok(copy) => Ok(child_of(child, copy, tree)),
-        Err(error) => {
-            drop(tree);
-            Err(NoMemory::from(error))
-        },
-    }
+    let mut frames = Frames::new(alloc);
+    let active = go_to(&mut frames, to)?;
+    with_copy(child, vars, frames, active)
 }
 
 /// The turn in which a program's process is made (XCU 2.9.1.6).
@@ -76,9 +90,9 @@ pub(crate) fn fork_turn(
     pid: u32,
     vars: &Vars,
     prepared: Prepared,
-) -> Result<(Tree, Option<Child>), NoMemory>
+) -> Result<(Active, Option<Child>), NoMemory>
     ensures state { (s : KernelState) → StandsAt kernel.old s → IfOk result (λ r.
-        IsTurned kernel.new vars.now (run_of r.0) r.1 (fork_turn s pid vars.now prepared)) }
+        IsTurned kernel.new vars.now (Run.At r.0) r.1 (fork_turn s pid vars.now prepared)) }
     ensures terminal { kernel.new.terminal ≡ kernel.old.terminal }
 {
     let forked = match fork_process(kernel, pid, None, false) {
@@ -92,7 +106,7 @@ pub(crate) fn fork_turn(
         Some(child) => {
             let made = put_program(alloc, vars, prepared, child)?;
             match one_more(Sequence::new(alloc), child) {
-                Ok(children) => Ok((Tree::next(Place::Waiting(children)), Some(made))),
+                Ok(children) => Ok((Active::Next(Place::Waiting(children)), Some(made))),
                 Err(refusal) => {
                     drop(made);
                     Err(refusal)
@@ -102,7 +116,7 @@ pub(crate) fn fork_turn(
         None => {
             drop(prepared);
             let active = refused(alloc)?;
-            Ok((Tree::At(active), None))
+            Ok((active, None))
         },
     }
 }
@@ -153,16 +167,11 @@ fn put_stage(
               record { environment = vars.now; run = stage_run command };
         }) }
 {
-    let tree = stage(alloc, &command);
+    let mut frames = Frames::new(alloc);
+    let active = stage(alloc, &mut frames, &command);
     drop(command);
-    let tree = tree?;
-    match vars.copy() {
-        Ok(copy) => Ok(child_of(child, copy, tree)),
-        Err(error) => {
-            drop(tree);
-            Err(NoMemory::from(error))
-        },
-    }
+    let active = active?;
+    with_copy(child, vars, frames, active)
 }
 
 /// The process of the next stage.
@@ -174,9 +183,9 @@ fn stage_one(
     vars: &Vars,
     command: Shared<Command>,
     stages: Stages,
-) -> Result<(Tree, Option<Child>), NoMemory>
+) -> Result<(Active, Option<Child>), NoMemory>
     ensures state { (s : KernelState) → StandsAt kernel.old s → IfOk result (λ r.
-        IsTurned kernel.new vars.now (run_of r.0) r.1
+        IsTurned kernel.new vars.now (Run.At r.0) r.1
         (stage_one s pid vars.now command stages.commands stages.aside stages.children)) }
     ensures terminal { kernel.new.terminal ≡ kernel.old.terminal }
 {
@@ -205,7 +214,7 @@ fn stage_one(
                 },
             };
             match next_stage(commands, forked.aside, children, child) {
-                Ok(place) => Ok((Tree::next(place), Some(made))),
+                Ok(place) => Ok((Active::Next(place), Some(made))),
                 Err(refusal) => {
                     drop(made);
                     Err(refusal)
@@ -217,7 +226,7 @@ fn stage_one(
             drop(commands);
             drop(children);
             let active = refused(alloc)?;
-            Ok((Tree::At(active), None))
+            Ok((active, None))
         },
     }
 }
@@ -230,17 +239,17 @@ pub(crate) fn stage_turn(
     pid: u32,
     vars: &Vars,
     stages: Stages,
-) -> Result<(Tree, Option<Child>), NoMemory>
+) -> Result<(Active, Option<Child>), NoMemory>
     ensures state { (s : KernelState) → StandsAt kernel.old s → IfOk result (λ r.
-        IsTurned kernel.new vars.now (run_of r.0) r.1 (stage_turn s pid vars.now stages)) }
+        IsTurned kernel.new vars.now (Run.At r.0) r.1 (stage_turn s pid vars.now stages)) }
     ensures terminal { kernel.new.terminal ≡ kernel.old.terminal }
 {
     let mut stages = stages;
     let Some(command) = stages.commands.take() else {
-        return Ok((Tree::next(Place::Waiting(stages.children)), None));
+        return Ok((Active::Next(Place::Waiting(stages.children)), None));
     };
-    let (tree, child) = stage_one(alloc, kernel, pid, vars, command, stages)?;
-    Ok((tree, child))
+    let (active, child) = stage_one(alloc, kernel, pid, vars, command, stages)?;
+    Ok((active, child))
 }
 
 /// Where a command goes on when no process can be made for its substitution.
@@ -275,14 +284,9 @@ fn put_substitution(
               record { environment = vars.now; run = body_of program.now };
         }) }
 {
-    let tree = body_of(alloc, program)?;
-    match vars.copy() {
-        Ok(copy) => Ok(child_of(child, copy, tree)),
-        Err(error) => {
-            drop(tree);
-            Err(NoMemory::from(error))
-        },
-    }
+    let mut frames = Frames::new(alloc);
+    let active = body_of(alloc, &mut frames, program)?;
+    with_copy(child, vars, frames, active)
 }
 
 /// A command waits for what a process writes.
@@ -328,13 +332,14 @@ pub(crate) fn substitute_turn(
     kernel: &mut Kernel,
     pid: u32,
     vars: &Vars,
+    frames: &mut Frames,
     program: Shared<CompoundList>,
     wants: Wants,
     pending: Pending,
-) -> Result<(Tree, Option<Child>), NoMemory>
+) -> Result<(Active, Option<Child>), NoMemory>
     ensures state { (s : KernelState) → StandsAt kernel.old s → IfOk result (λ r.
-        IsTurned kernel.new vars.now (run_of r.0) r.1
-        (substitute_turn s pid vars.now program wants pending)) }
+        IsTurned kernel.new vars.now (run_of frames.new r.0) r.1
+        (inside frames.old (substitute_turn s pid vars.now program wants pending))) }
     ensures terminal { kernel.new.terminal ≡ kernel.old.terminal }
 {
     let forked = match fork_process(kernel, pid, None, true) {
@@ -359,7 +364,7 @@ pub(crate) fn substitute_turn(
                 },
             };
             match collecting(alloc, wants, pending, forked.aside, child) {
-                Ok(place) => Ok((Tree::next(place), Some(made))),
+                Ok(place) => Ok((Active::Next(place), Some(made))),
                 Err(refusal) => {
                     drop(made);
                     Err(refusal)
@@ -370,8 +375,8 @@ pub(crate) fn substitute_turn(
             drop(program);
             drop(pending);
             let to = unforked(alloc, wants)?;
-            let tree = Tree::moved(alloc, to)?;
-            Ok((tree, None))
+            let active = go_to(frames, to)?;
+            Ok((active, None))
         },
     }
 }

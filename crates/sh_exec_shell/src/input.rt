@@ -4,11 +4,9 @@ ghost use Rattle.sh_kernel.specs.State.{KernelState, StandsAt};
 ghost use Rattle.sh_exec_forms.specs.Forms.{IsActed};
 ghost use Rattle.sh_exec_shell.specs.Acting.{collect_by, collect_end, collect_from, collect_turn, after_collection, with_written};
 ghost use Rattle.sh_exec_forms.specs.Running.{Run};
-ghost use Rattle.sh_exec_forms.specs.Tree.{run_of};
 
 use sh_base::NoMemory;
 use sh_exec_command::{Active, Place, Substitution};
-use sh_exec_forms::Tree;
 use sh_exec_machine::{ReadOutcome, take_bytes};
 use sh_kernel::{DescriptorRef, Kernel};
 use sh_vars::Vars;
@@ -39,24 +37,23 @@ fn collected(
     vars: &Vars,
     substitution: Substitution,
     aside: usize,
-) -> Tree
+) -> Active
     ensures state { (s : KernelState) → StandsAt kernel.old s
-        → IsActed kernel.new vars.now (run_of result)
+        → IsActed kernel.new vars.now (Run.At result)
         (after_collection s pid vars.now substitution aside) }
     ensures terminal { kernel.new.terminal.bytes ≡ kernel.old.terminal.bytes }
 {
     let _closed = kernel.close(pid, DescriptorRef::Aside(aside));
-    Tree::next(Place::Answering(substitution))
+    Active::Next(Place::Answering(substitution))
 }
 
-/// The substitution goes on with what was read.
-fn gathered(substitution: Substitution, bytes: &[u8]) -> Result<Tree, NoMemory>
-    ensures { IfOk result (λ tree.
-        run_of tree
-        ≡ Run.At (Active.Next (Place.Collecting (with_written substitution bytes.now)))) }
+/// It goes on with what was read.
+fn gathered(substitution: Substitution, bytes: &[u8]) -> Result<Active, NoMemory>
+    ensures { IfOk result (λ active.
+        active ≡ Active.Next (Place.Collecting (with_written substitution bytes.now))) }
 {
     let next = with_written(substitution, bytes)?;
-    Ok(Tree::next(Place::Collecting(next)))
+    Ok(Active::Next(Place::Collecting(next)))
 }
 
 /// A read from its pipe.
@@ -68,9 +65,9 @@ fn collect_from(
     vars: &Vars,
     substitution: Substitution,
     aside: usize,
-) -> Result<Tree, NoMemory>
-    ensures state { (s : KernelState) → StandsAt kernel.old s → IfOk result (λ tree.
-        IsActed kernel.new vars.now (run_of tree)
+) -> Result<Active, NoMemory>
+    ensures state { (s : KernelState) → StandsAt kernel.old s → IfOk result (λ active.
+        IsActed kernel.new vars.now (Run.At active)
         (collect_from s pid vars.now substitution aside)) }
     ensures terminal { kernel.new.terminal.bytes ≡ kernel.old.terminal.bytes }
 {
@@ -80,11 +77,11 @@ fn collect_from(
                 drop(bytes);
                 return Ok(collected(kernel, pid, vars, substitution, aside));
             }
-            let tree = gathered(substitution, bytes.as_slice());
+            let active = gathered(substitution, bytes.as_slice());
             drop(bytes);
-            tree
+            active
         },
-        Ok(ReadOutcome::Wait) => Ok(Tree::next(Place::Collecting(substitution))),
+        Ok(ReadOutcome::Wait) => Ok(Active::Next(Place::Collecting(substitution))),
         Ok(ReadOutcome::Failed) => Ok(collected(kernel, pid, vars, substitution, aside)),
         Err(lack) => {
             drop(substitution);
@@ -101,14 +98,14 @@ pub(crate) fn collect_turn(
     pid: u32,
     vars: &Vars,
     substitution: Substitution,
-) -> Result<Tree, NoMemory>
-    ensures state { (s : KernelState) → StandsAt kernel.old s → IfOk result (λ tree.
-        IsActed kernel.new vars.now (run_of tree) (collect_turn s pid vars.now substitution)) }
+) -> Result<Active, NoMemory>
+    ensures state { (s : KernelState) → StandsAt kernel.old s → IfOk result (λ active.
+        IsActed kernel.new vars.now (Run.At active) (collect_turn s pid vars.now substitution)) }
     ensures terminal { kernel.new.terminal.bytes ≡ kernel.old.terminal.bytes }
 {
     let Some(aside) = substitution.aside else {
-        return Ok(Tree::next(Place::Answering(substitution)));
+        return Ok(Active::Next(Place::Answering(substitution)));
     };
-    let tree = collect_from(alloc, kernel, pid, vars, substitution, aside)?;
-    Ok(tree)
+    let active = collect_from(alloc, kernel, pid, vars, substitution, aside)?;
+    Ok(active)
 }

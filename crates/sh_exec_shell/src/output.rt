@@ -4,13 +4,12 @@ ghost use Rattle.sh_kernel.specs.State.{KernelState, StandsAt};
 ghost use Rattle.sh_tty.specs.Terminal.{Extends};
 ghost use Rattle.sh_exec_forms.specs.Forms.{IsActed};
 ghost use Rattle.sh_exec_shell.specs.Acting.{end_turn, after_writing, unwritten, write_turn, written_by};
-ghost use Rattle.sh_exec_forms.specs.Tree.{run_of};
+ghost use Rattle.sh_exec_forms.specs.Running.{Run};
 
 use sh_base::NoMemory;
 use sh_base::sequence::Text;
 use sh_builtin::Leave;
 use sh_exec_command::{Active, Finish, Place};
-use sh_exec_forms::Tree;
 use sh_exec_machine::{WriteOutcome, give_bytes};
 use sh_exec_parts::message::{Piece, write_error};
 use sh_kernel::Kernel;
@@ -85,23 +84,23 @@ pub(crate) fn write_turn(
     vars: &Vars,
     piece: Piece,
     finish: Finish,
-) -> Result<Tree, NoMemory>
-    ensures state { (s : KernelState) → StandsAt kernel.old s → IfOk result (λ tree.
-        IsActed kernel.new vars.now (run_of tree) (write_turn s pid vars.now piece finish)) }
+) -> Result<Active, NoMemory>
+    ensures state { (s : KernelState) → StandsAt kernel.old s → IfOk result (λ active.
+        IsActed kernel.new vars.now (Run.At active) (write_turn s pid vars.now piece finish)) }
     ensures terminal { Extends kernel.old.terminal.bytes kernel.new.terminal.bytes }
 {
     let given = give_bytes(kernel, pid, piece.descriptor, piece.bytes.as_slice())?;
     let active = written(alloc, piece, finish, given)?;
-    Ok(Tree::At(active))
+    Ok(active)
 }
 
 /// The end of the process.
 #[tactic(auto, unfolding(crate::specs::Acting::end_turn))]
-pub(crate) fn end_turn(kernel: &mut Kernel, pid: u32, vars: &Vars, status: u8) -> Tree
+pub(crate) fn end_turn(kernel: &mut Kernel, pid: u32, vars: &Vars, status: u8) -> Active
     ensures state { (s : KernelState) → StandsAt kernel.old s
-        → IsActed kernel.new vars.now (run_of result) (end_turn s pid vars.now status) }
+        → IsActed kernel.new vars.now (Run.At result) (end_turn s pid vars.now status) }
     ensures terminal { kernel.new.terminal.bytes ≡ kernel.old.terminal.bytes }
 {
     let _ended = kernel.end(pid, status);
-    Tree::next(Place::Ending(status))
+    Active::Next(Place::Ending(status))
 }

@@ -2,13 +2,12 @@
 ghost use Rattle.std.specs.Prelude.{◌≡◌, IfOk};
 ghost use Rattle.sh_kernel.specs.State.{KernelState, StandsAt};
 ghost use Rattle.sh_exec_forms.specs.Forms.{IsActed};
-ghost use Rattle.sh_exec_shell.specs.Acting.{keeps, with_undo, redirect_by, redirect_from, redirect_one, redirect_turn, undone_by};
-ghost use Rattle.sh_exec_forms.specs.Running.{Run};
-ghost use Rattle.sh_exec_forms.specs.Tree.{run_of};
+ghost use Rattle.sh_exec_shell.specs.Acting.{in_forms, keeps, with_undo, redirect_by, redirect_from, redirect_one, redirect_turn, undone_by};
+ghost use Rattle.sh_exec_forms.specs.Frames.{run_in, run_of};
 
 use sh_base::NoMemory;
-use sh_exec_command::{Prepared, Role, go_ahead, not_done};
-use sh_exec_forms::Tree;
+use sh_exec_command::{Active, Prepared, Role, go_ahead, not_done};
+use sh_exec_forms::{Frames, go_to};
 use sh_exec_machine::{Redirected, Undone, redirect};
 use sh_exec_parts::redirection::Redirection;
 use sh_kernel::{Kernel, KernelFault};
@@ -46,22 +45,24 @@ fn note(prepared: Prepared, one: Option<Undone>) -> Result<Prepared, NoMemory>
 /// Where a command goes on after a redirection.
 fn go_on(
     alloc: Global,
+    frames: &mut Frames,
     prepared: Prepared,
     word: &[u8],
     answer: Result<(), KernelFault>,
     one: Option<Undone>,
-) -> Result<Tree, NoMemory>
-    ensures { IfOk result (λ tree. run_of tree ≡ redirect_by prepared word.now answer one) }
+) -> Result<Active, NoMemory>
+    ensures { IfOk result (λ active.
+        run_of frames.new active ≡ run_in frames.old (redirect_by prepared word.now answer one)) }
 {
     match answer {
         Ok(()) => {
             let prepared = note(prepared, one)?;
             let to = go_ahead(prepared);
-            Tree::moved(alloc, to)
+            go_to(frames, to)
         },
         Err(fault) => {
             let to = not_done(alloc, prepared, word, fault)?;
-            Tree::moved(alloc, to)
+            go_to(frames, to)
         },
     }
 }
@@ -73,21 +74,22 @@ fn redirect_one(
     kernel: &mut Kernel,
     pid: u32,
     vars: &Vars,
+    frames: &mut Frames,
     prepared: Prepared,
     redirection: Redirection,
-) -> Result<Tree, NoMemory>
-    ensures state { (s : KernelState) → StandsAt kernel.old s → IfOk result (λ tree.
-        IsActed kernel.new vars.now (run_of tree)
-        (redirect_one s pid vars.now prepared redirection)) }
+) -> Result<Active, NoMemory>
+    ensures state { (s : KernelState) → StandsAt kernel.old s → IfOk result (λ active.
+        IsActed kernel.new vars.now (run_of frames.new active)
+        (in_forms frames.old (redirect_one s pid vars.now prepared redirection))) }
     ensures terminal { kernel.new.terminal ≡ kernel.old.terminal }
 {
     let kept = keeps(prepared.role);
     match redirect(kernel, pid, vars.directory(), &redirection, kept) {
         Ok(Redirected { answer, undone }) => {
             let word = redirection.word.as_slice();
-            let tree = go_on(alloc, prepared, word, answer, undone);
+            let active = go_on(alloc, frames, prepared, word, answer, undone);
             drop(redirection);
-            tree
+            active
         },
         Err(lack) => {
             drop(redirection);
@@ -104,18 +106,20 @@ pub(crate) fn redirect_turn(
     kernel: &mut Kernel,
     pid: u32,
     vars: &Vars,
+    frames: &mut Frames,
     prepared: Prepared,
-) -> Result<Tree, NoMemory>
-    ensures state { (s : KernelState) → StandsAt kernel.old s → IfOk result (λ tree.
-        IsActed kernel.new vars.now (run_of tree) (redirect_turn s pid vars.now prepared)) }
+) -> Result<Active, NoMemory>
+    ensures state { (s : KernelState) → StandsAt kernel.old s → IfOk result (λ active.
+        IsActed kernel.new vars.now (run_of frames.new active)
+        (in_forms frames.old (redirect_turn s pid vars.now prepared))) }
     ensures terminal { kernel.new.terminal ≡ kernel.old.terminal }
 {
     let mut prepared = prepared;
     let Some(redirection) = prepared.redirections.take() else {
         let to = go_ahead(prepared);
-        let tree = Tree::moved(alloc, to)?;
-        return Ok(tree);
+        let active = go_to(frames, to)?;
+        return Ok(active);
     };
-    let tree = redirect_one(alloc, kernel, pid, vars, prepared, redirection)?;
-    Ok(tree)
+    let active = redirect_one(alloc, kernel, pid, vars, frames, prepared, redirection)?;
+    Ok(active)
 }

@@ -3,16 +3,17 @@ ghost use Rattle.std.specs.Prelude.{◌≡◌, IfOk, OnOk};
 ghost use Rattle.sh_kernel.specs.State.{KernelState, StandsAt};
 ghost use Rattle.sh_tty.specs.Terminal.{Extends};
 ghost use Rattle.sh_exec_shell.specs.Forks.{IsTurned};
-ghost use Rattle.sh_exec_shell.specs.Reduction.{reduce, at_root, shell_turn, with_root};
+ghost use Rattle.sh_exec_shell.specs.Reduction.{at_root, reduce, shell_turn, with_root};
+ghost use Rattle.sh_exec_forms.specs.Codes.{forms_of};
+ghost use Rattle.sh_exec_forms.specs.Frames.{run_of};
 ghost use Rattle.sh_exec_forms.specs.Running.{Run, active_of};
-ghost use Rattle.sh_exec_forms.specs.Tree.{run_of};
 
 use crate::turn::reduce;
 use sh_base::NoMemory;
 use sh_base::sequence::Text;
 use sh_builtin::Leave;
 use sh_exec_command::{Active, Place};
-use sh_exec_forms::Tree;
+use sh_exec_forms::{Form, Frames};
 use sh_exec_parts::Rest;
 use sh_kernel::Kernel;
 use sh_vars::Vars;
@@ -24,7 +25,8 @@ use std::mem;
 #[derive(Drop)]
 pub struct Shell {
     vars: Vars,
-    tree: Tree,
+    frames: Frames,
+    active: Active,
 }
 
 impl Model for Shell {
@@ -32,13 +34,13 @@ impl Model for Shell {
     ghost use Rattle.sh_vars.specs.Codes.{map_code};
     ghost use Rattle.sh_exec_forms.specs.Codes.{run_code};
     ghost use Rattle.sh_exec_forms.specs.Running.{ShellState};
-    ghost use Rattle.sh_exec_forms.specs.Tree.{run_of};
+    ghost use Rattle.sh_exec_forms.specs.Frames.{run_of};
 
     ghost Value = { ShellState };
 
     ghost coded = { Prim.hlevel (codes, map_code, run_code) };
 
-    ghost view = { λ t. record { environment = t.vars; run = run_of t.tree } };
+    ghost view = { λ t. record { environment = t.vars; run = run_of t.frames t.active } };
 }
 
 /// A shell in a process that another one made.
@@ -59,56 +61,57 @@ fn status_of(leave: Leave) -> u8
     }
 }
 
-/// At the root what is done, or leaves the shell, becomes the end of the process.
-fn root(tree: Tree) -> Tree
-    ensures { run_of result ≡ at_root (run_of tree) }
+/// At the root what leaves the shell becomes the end of the process.
+fn root(frames: &Frames, active: Active) -> Active
+    ensures { run_of frames.now result ≡ at_root (run_of frames.now active) }
 {
-    match tree {
-        Tree::At(active) => match active {
-            Active::Leaving(leave) => Tree::At(Active::Next(Place::Ending(status_of(leave)))),
-            Active::Done(status) => Tree::At(Active::Next(Place::Ending(status))),
-            Active::Next(place) => Tree::At(Active::Next(place)),
-            Active::Acting(builtin, fields) => Tree::At(Active::Acting(builtin, fields)),
+    match frames.as_slice() {
+        [] => match active {
+            Active::Leaving(leave) => Active::Next(Place::Ending(status_of(leave))),
+            Active::Done(status) => Active::Next(Place::Ending(status)),
+            Active::Next(place) => Active::Next(place),
+            Active::Acting(builtin, fields) => Active::Acting(builtin, fields),
         },
-        Tree::In(form, inner) => Tree::In(form, inner),
+        [_, ..] => active,
     }
 }
 
-/// A shell of these variables and this tree.
-pub(crate) fn shell_of(vars: Vars, tree: Tree) -> Shell
-    ensures { result ≡ record { environment = vars; run = run_of tree } }
+/// A shell of these variables, these running forms and this active place.
+pub(crate) fn shell_of(vars: Vars, frames: Frames, active: Active) -> Shell
+    ensures { result ≡ record { environment = vars; run = run_of frames active } }
 {
-    Shell { vars, tree }
+    Shell {
+        vars,
+        frames,
+        active,
+    }
 }
 
-/// A child that is a shell of these variables and this tree.
-pub(crate) fn child_of(pid: u32, vars: Vars, tree: Tree) -> Child
+/// A child that is such a shell.
+pub(crate) fn child_of(pid: u32, vars: Vars, frames: Frames, active: Active) -> Child
     ensures { result ≡
-        record { pid = pid; shell = record { environment = vars; run = run_of tree } } }
+        record { pid = pid; shell = record { environment = vars; run = run_of frames active } } }
 {
     Child {
         pid,
-        shell: shell_of(vars, tree),
+        shell: shell_of(vars, frames, active),
     }
 }
 
 impl Shell {
     /// A shell that is about to read its text.
-    pub fn reading(vars: Vars, text: Text) -> Self
+    pub fn reading(alloc: Global, vars: Vars, text: Text) -> Self
         ensures { result ≡
             record { environment = vars; run = Run.At (Active.Next (Place.Reading text)) } }
     {
-        shell_of(
-            vars,
-            Tree::At(Active::Next(Place::Reading(Rest::new(text)))),
-        )
+        Shell::at(alloc, vars, Place::Reading(Rest::new(text)))
     }
 
     /// A shell of these variables that is about to do this alone.
-    pub fn at(vars: Vars, place: Place) -> Self
+    pub fn at(alloc: Global, vars: Vars, place: Place) -> Self
         ensures { result ≡ record { environment = vars; run = Run.At (Active.Next place) } }
     {
-        shell_of(vars, Tree::At(Active::Next(place)))
+        shell_of(vars, Frames::new(alloc), Active::Next(place))
     }
 
     /// Its variables, options and parameters.
@@ -119,15 +122,23 @@ impl Shell {
     }
 
     /// Its active place: what it is about to do.
+    #[tactic(auto, using(crate::proofs::Frames::active_within))]
     pub fn active(&self) -> &Active
         ensures { result.now ≡ active_of self.now.run }
     {
-        self.tree.active()
+        &self.active
+    }
+
+    /// The running forms round its active place, the outermost first. Takes no memory.
+    #[tactic(auto, using(crate::proofs::Frames::forms_within))]
+    pub fn frames(&self) -> &[Form]
+        ensures { result.now ≡ forms_of self.now.run }
+    {
+        self.frames.as_slice()
     }
 
     /// One turn of a shell in the process `pid`, and the process that it made, if it made one. The only error is want of
     /// memory, after which the shell is given up.
-    #[tactic(auto, unfolding(crate::specs::Reduction::shell_turn))]
     pub fn turn(
         &mut self,
         alloc: Global,
@@ -139,9 +150,9 @@ impl Shell {
             (shell_turn s pid self.old)) }
         ensures terminal { Extends kernel.old.terminal.bytes kernel.new.terminal.bytes }
     {
-        let tree = mem::replace(&mut self.tree, Tree::At(Active::Done(0)));
-        let (next, child) = reduce(alloc, kernel, pid, &mut self.vars, false, tree)?;
-        drop(mem::replace(&mut self.tree, root(next)));
+        let active = mem::replace(&mut self.active, Active::Done(0));
+        let (next, child) = reduce(alloc, kernel, pid, &mut self.vars, &mut self.frames, active)?;
+        drop(mem::replace(&mut self.active, root(&self.frames, next)));
         Ok(child)
     }
 }

@@ -1,16 +1,16 @@
 //! One turn: inward to the active place, the action there, and outward again.
-ghost use Rattle.std.specs.Prelude.{◌≡◌, ◌||◌, IfOk};
+ghost use Rattle.std.specs.Prelude.{◌≡◌, IfOk, false};
 ghost use Rattle.sh_kernel.specs.State.{KernelState, StandsAt};
 ghost use Rattle.sh_tty.specs.Terminal.{Extends};
 ghost use Rattle.sh_exec_command.specs.Expanding as expanding;
 ghost use Rattle.sh_exec_command.specs.Reading.{next_command};
 ghost use Rattle.sh_exec_forms.specs.Forms.{IsActed};
 ghost use Rattle.sh_exec_command.specs.Series.{give_turn};
-ghost use Rattle.sh_exec_shell.specs.Acting.{expand_turn, given_round, read_turn, round_run};
-ghost use Rattle.sh_exec_shell.specs.Forks.{IsTurned};
-ghost use Rattle.sh_exec_shell.specs.Reduction.{act_at, act_place, expanded_by, expansion, plain, reduce, settled_turn};
+ghost use Rattle.sh_exec_shell.specs.Acting.{expand_turn, given_round, in_forms, read_turn, round_run};
+ghost use Rattle.sh_exec_shell.specs.Forks.{IsTurned, inside};
+ghost use Rattle.sh_exec_shell.specs.Reduction.{act_at, act_place, expanded_by, expansion, plain, reduce};
 ghost use Rattle.sh_exec_forms.specs.Running.{Run};
-ghost use Rattle.sh_exec_forms.specs.Tree.{run_of};
+ghost use Rattle.sh_exec_forms.specs.Frames.{run_in, run_of};
 
 use crate::forks::{fork_turn, stage_turn, substitute_turn};
 use crate::input::collect_turn;
@@ -24,7 +24,7 @@ use sh_exec_command::{
     Active, Expanded, Finish, Found, Pending, Place, Round, Series, Wants, assign_turn,
     find_command, give_turn, series_turn, words_turn,
 };
-use sh_exec_forms::{Form, Tree, enter, enter_list, settle, wrap};
+use sh_exec_forms::{Form, Frames, enter, enter_list, go_to, settle};
 use sh_exec_parts::message::refused;
 use sh_exec_parts::{Queue, Rest};
 use sh_files::Files;
@@ -33,19 +33,27 @@ use sh_vars::Vars;
 use std::alloc::Global;
 
 /// A reading turn.
-fn read(alloc: Global, rest: Rest, vars: &Vars) -> Result<Tree, NoMemory>
-    ensures { IfOk result (λ tree. run_of tree ≡ read_turn vars.now (next_command rest)) }
+fn read(alloc: Global, frames: &mut Frames, rest: Rest, vars: &Vars) -> Result<Active, NoMemory>
+    ensures { IfOk result (λ active.
+        run_of frames.new active ≡ run_in frames.old (read_turn vars.now (next_command rest))) }
 {
     match find_command(alloc, rest)? {
-        Found::Nothing => Ok(Tree::At(Active::Leaving(Leave::Shell(vars.status())))),
+        Found::Nothing => Ok(Active::Leaving(Leave::Shell(vars.status()))),
         Found::Command(tree, rest) => {
             let items = Queue::new(tree.into_items());
-            let inner = enter(alloc, items, vars.status())?;
-            inner.within(alloc, Form::Text(rest))
+            match frames.push(Form::Text(rest)) {
+                Ok(()) => {},
+                Err(lack) => {
+                    drop(items);
+                    return Err(lack);
+                },
+            }
+            let step = enter(alloc, frames, items, vars.status())?;
+            Ok(step.into_active())
         },
         Found::Fault(refusal) => {
             let piece = refused(alloc, refusal)?;
-            Ok(Tree::next(Place::Writing(piece, Finish::Leave(2))))
+            Ok(Active::Next(Place::Writing(piece, Finish::Leave(2))))
         },
     }
 }
@@ -79,10 +87,12 @@ fn expanded(
     kernel: &mut Kernel,
     pid: u32,
     vars: &Vars,
+    frames: &mut Frames,
     expanded: Expanded,
-) -> Result<(Tree, Option<Child>), NoMemory>
+) -> Result<(Active, Option<Child>), NoMemory>
     ensures state { (s : KernelState) → StandsAt kernel.old s → IfOk result (λ r.
-        IsTurned kernel.new vars.now (run_of r.0) r.1 (expanded_by s pid vars.now expanded)) }
+        IsTurned kernel.new vars.now (run_of frames.new r.0) r.1
+        (inside frames.old (expanded_by s pid vars.now expanded))) }
     ensures terminal { kernel.new.terminal ≡ kernel.old.terminal }
 {
     match expanded {
@@ -91,12 +101,14 @@ fn expanded(
             wants,
             pending,
         } => {
-            let (tree, child) = substitute_turn(alloc, kernel, pid, vars, program, wants, pending)?;
-            Ok((tree, child))
+            let (active, child) = substitute_turn(
+                alloc, kernel, pid, vars, frames, program, wants, pending,
+            )?;
+            Ok((active, child))
         },
         Expanded::Go(to) => {
-            let tree = Tree::moved(alloc, to)?;
-            Ok((tree, None))
+            let active = go_to(frames, to)?;
+            Ok((active, None))
         },
     }
 }
@@ -107,43 +119,56 @@ fn expand_place(
     kernel: &mut Kernel,
     pid: u32,
     vars: &mut Vars,
+    frames: &mut Frames,
     wants: Wants,
     pending: Option<Pending>,
-) -> Result<(Tree, Option<Child>), NoMemory>
+) -> Result<(Active, Option<Child>), NoMemory>
     ensures state { (s : KernelState) → StandsAt kernel.old s → IfOk result (λ r.
-        IsTurned kernel.new vars.new (run_of r.0) r.1
-        (expansion s pid (expand_turn s.machine.files vars.old wants pending))) }
+        IsTurned kernel.new vars.new (run_of frames.new r.0) r.1
+        (inside frames.old (expansion s pid (expand_turn s.machine.files vars.old wants pending)))) }
     ensures terminal { kernel.new.terminal ≡ kernel.old.terminal }
 {
     let outcome = expand(alloc, wants, pending, vars, kernel.files())?;
-    let (tree, child) = expanded(alloc, kernel, pid, vars, outcome)?;
-    Ok((tree, child))
+    let (active, child) = expanded(alloc, kernel, pid, vars, frames, outcome)?;
+    Ok((active, child))
 }
 
 /// What follows where a `for` gives its variable a value.
-fn round_tree(alloc: Global, round: Round) -> Result<Tree, NoMemory>
-    ensures { IfOk result (λ tree. run_of tree ≡ round_run round) }
+fn enter_round(alloc: Global, frames: &mut Frames, round: Round) -> Result<Active, NoMemory>
+    ensures { IfOk result (λ active. run_of frames.new active ≡ run_in frames.old (round_run round)) }
 {
     match round {
-        Round::Body(series) => match enter_list(alloc, series.body.get()) {
-            Ok(inner) => inner.within(alloc, Form::Each(series)),
-            Err(refusal) => {
-                drop(series);
-                Err(refusal)
-            },
+        Round::Body(series) => {
+            let body = match series.body.share() {
+                Ok(body) => body,
+                Err(error) => {
+                    drop(series);
+                    return Err(NoMemory::from(error));
+                },
+            };
+            frames.push(Form::Each(series))?;
+            let step = enter_list(alloc, frames, body.get())?;
+            Ok(step.into_active())
         },
-        Round::Over(active) => Ok(Tree::At(active)),
+        Round::Over(active) => Ok(active),
     }
 }
 
 /// The turn in which the variable of a `for` has its next value (XCU 2.9.4.2).
-fn give(alloc: Global, kernel: &Kernel, vars: &mut Vars, series: Series) -> Result<Tree, NoMemory>
-    ensures { (s : KernelState) → StandsAt kernel.now s → IfOk result (λ tree.
-        IsActed kernel.now vars.new (run_of tree) (given_round s (give_turn vars.old series))) }
+fn give(
+    alloc: Global,
+    kernel: &Kernel,
+    vars: &mut Vars,
+    frames: &mut Frames,
+    series: Series,
+) -> Result<Active, NoMemory>
+    ensures { (s : KernelState) → StandsAt kernel.now s → IfOk result (λ active.
+        IsActed kernel.now vars.new (run_of frames.new active)
+        (in_forms frames.old (given_round s (give_turn vars.old series)))) }
 {
     let round = give_turn(alloc, series, vars)?;
-    let tree = round_tree(alloc, round)?;
-    Ok(tree)
+    let active = enter_round(alloc, frames, round)?;
+    Ok(active)
 }
 
 /// The action at a place.
@@ -152,50 +177,52 @@ fn act_place(
     kernel: &mut Kernel,
     pid: u32,
     vars: &mut Vars,
+    frames: &mut Frames,
     place: Place,
-) -> Result<(Tree, Option<Child>), NoMemory>
+) -> Result<(Active, Option<Child>), NoMemory>
     ensures state { (s : KernelState) → StandsAt kernel.old s → IfOk result (λ r.
-        IsTurned kernel.new vars.new (run_of r.0) r.1 (act_place s pid vars.old place)) }
+        IsTurned kernel.new vars.new (run_of frames.new r.0) r.1
+        (inside frames.old (act_place s pid vars.old place))) }
     ensures terminal { Extends kernel.old.terminal.bytes kernel.new.terminal.bytes }
 {
     match place {
         Place::Reading(rest) => {
-            let tree = read(alloc, rest, vars)?;
-            Ok((tree, None))
+            let active = read(alloc, frames, rest, vars)?;
+            Ok((active, None))
         },
         Place::Expanding(wants, pending) => {
-            let (tree, child) = expand_place(alloc, kernel, pid, vars, wants, pending)?;
-            Ok((tree, child))
+            let (active, child) = expand_place(alloc, kernel, pid, vars, frames, wants, pending)?;
+            Ok((active, child))
         },
         Place::Collecting(substitution) => {
-            let tree = collect_turn(alloc, kernel, pid, vars, substitution)?;
-            Ok((tree, None))
+            let active = collect_turn(alloc, kernel, pid, vars, substitution)?;
+            Ok((active, None))
         },
         Place::Answering(substitution) => {
             let place = answer_turn(kernel, pid, substitution)?;
-            Ok((Tree::next(place), None))
+            Ok((Active::Next(place), None))
         },
         Place::Redirecting(prepared) => {
-            let tree = redirect_turn(alloc, kernel, pid, vars, prepared)?;
-            Ok((tree, None))
+            let active = redirect_turn(alloc, kernel, pid, vars, frames, prepared)?;
+            Ok((active, None))
         },
         Place::Forking(prepared) => {
-            let (tree, child) = fork_turn(alloc, kernel, pid, vars, prepared)?;
-            Ok((tree, child))
+            let (active, child) = fork_turn(alloc, kernel, pid, vars, prepared)?;
+            Ok((active, child))
         },
-        Place::Starting(fields) => Ok((Tree::next(Place::Starting(fields)), None)),
+        Place::Starting(fields) => Ok((Active::Next(Place::Starting(fields)), None)),
         Place::Staging(stages) => {
-            let (tree, child) = stage_turn(alloc, kernel, pid, vars, stages)?;
-            Ok((tree, child))
+            let (active, child) = stage_turn(alloc, kernel, pid, vars, stages)?;
+            Ok((active, child))
         },
         Place::Giving(series) => {
-            let tree = give(alloc, kernel, vars, series)?;
-            Ok((tree, None))
+            let active = give(alloc, kernel, vars, frames, series)?;
+            Ok((active, None))
         },
-        Place::Waiting(children) => Ok((Tree::At(wait_turn(kernel, pid, children)), None)),
+        Place::Waiting(children) => Ok((wait_turn(kernel, pid, children), None)),
         Place::Writing(piece, finish) => {
-            let tree = write_turn(alloc, kernel, pid, vars, piece, finish)?;
-            Ok((tree, None))
+            let active = write_turn(alloc, kernel, pid, vars, piece, finish)?;
+            Ok((active, None))
         },
         Place::Ending(status) => Ok((end_turn(kernel, pid, vars, status), None)),
     }
@@ -207,86 +234,45 @@ fn act(
     kernel: &mut Kernel,
     pid: u32,
     vars: &mut Vars,
+    frames: &mut Frames,
     active: Active,
-) -> Result<(Tree, Option<Child>), NoMemory>
+) -> Result<(Active, Option<Child>), NoMemory>
     ensures state { (s : KernelState) → StandsAt kernel.old s → IfOk result (λ r.
-        IsTurned kernel.new vars.new (run_of r.0) r.1 (act_at s pid vars.old active)) }
+        IsTurned kernel.new vars.new (run_of frames.new r.0) r.1
+        (inside frames.old (act_at s pid vars.old active))) }
     ensures terminal { Extends kernel.old.terminal.bytes kernel.new.terminal.bytes }
 {
     match active {
         Active::Next(place) => {
-            let (tree, child) = act_place(alloc, kernel, pid, vars, place)?;
-            Ok((tree, child))
+            let (active, child) = act_place(alloc, kernel, pid, vars, frames, place)?;
+            Ok((active, child))
         },
-        Active::Acting(builtin, fields) => {
-            Ok((Tree::At(Active::Acting(builtin, fields)), None))
-        },
-        Active::Done(status) => Ok((Tree::At(Active::Done(status)), None)),
-        Active::Leaving(leave) => Ok((Tree::At(Active::Leaving(leave)), None)),
+        Active::Acting(builtin, fields) => Ok((Active::Acting(builtin, fields), None)),
+        Active::Done(status) => Ok((Active::Done(status), None)),
+        Active::Leaving(leave) => Ok((Active::Leaving(leave), None)),
     }
 }
 
-/// The action, and statuses outward from what it left; `looped` tells whether a loop is around the place.
-fn act_and_settle(
-    alloc: Global,
-    kernel: &mut Kernel,
-    pid: u32,
-    vars: &mut Vars,
-    looped: bool,
-    active: Active,
-) -> Result<(Tree, Option<Child>), NoMemory>
-    ensures state { (s : KernelState) → StandsAt kernel.old s → IfOk result (λ r.
-        IsTurned kernel.new vars.new (run_of r.0) r.1
-        (settled_turn pid looped (act_at s pid vars.old active))) }
-    ensures terminal { Extends kernel.old.terminal.bytes kernel.new.terminal.bytes }
-{
-    let (tree, child) = act(alloc, kernel, pid, vars, active)?;
-    match settle(alloc, kernel, pid, vars, looped, tree) {
-        Ok(tree) => Ok((tree, child)),
-        Err(refusal) => {
-            drop(child);
-            Err(refusal)
-        },
-    }
-}
-
-/// Inward to the active place, the action there, and outward again; `looped` tells whether a loop is around
-/// the tree.
+/// The action at the active place, and statuses outward from what it left.
 pub(crate) fn reduce(
     alloc: Global,
     kernel: &mut Kernel,
     pid: u32,
     vars: &mut Vars,
-    looped: bool,
-    tree: Tree,
-) -> Result<(Tree, Option<Child>), NoMemory>
+    frames: &mut Frames,
+    active: Active,
+) -> Result<(Active, Option<Child>), NoMemory>
     ensures state { (s : KernelState) → StandsAt kernel.old s → IfOk result (λ r.
-        IsTurned kernel.new vars.new (run_of r.0) r.1
-        (reduce s pid vars.old looped (run_of tree))) }
+        IsTurned kernel.new vars.new (run_of frames.new r.0) r.1
+        (reduce s pid vars.old false (run_of frames.old active))) }
     ensures terminal { Extends kernel.old.terminal.bytes kernel.new.terminal.bytes }
 {
-    match tree {
-        Tree::At(active) => {
-            let (tree, child) = act_and_settle(alloc, kernel, pid, vars, looped, active)?;
-            Ok((tree, child))
-        },
-        Tree::In(form, inner) => {
-            let inner = Box::into_inner(inner);
-            let within = form.is_looped(looped);
-            let (inner, child) = match reduce(alloc, kernel, pid, vars, within, inner) {
-                Ok(reduced) => reduced,
-                Err(refusal) => {
-                    drop(form);
-                    return Err(refusal);
-                },
-            };
-            match wrap(alloc, kernel, pid, vars, looped, form, inner) {
-                Ok(tree) => Ok((tree, child)),
-                Err(refusal) => {
-                    drop(child);
-                    Err(refusal)
-                },
-            }
+    let (active, child) = act(alloc, kernel, pid, vars, frames, active)?;
+    match settle(alloc, kernel, pid, vars, frames, active) {
+        Ok(active) => Ok((active, child)),
+        Err(refusal) => {
+            drop(child);
+            Err(refusal)
         },
     }
 }

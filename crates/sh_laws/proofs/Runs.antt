@@ -1,15 +1,16 @@
 -- Events and runs as requests.
 use Rattle.std.proofs.Common.{ℕ, List, [], ◌∷◌, ◌++◌, true, false, Option, Some, None, refl, sym, ap, ◌∙◌}
 use Rattle.std.specs.Prelude.{nat_eq, if◌then◌else◌}
+use Rattle.sh_exec.specs.Tasks.{task_turn}
 use Rattle.sh_exec.specs.Turns.{turn}
 use Rattle.sh_exec.specs.declared.process.Process.{Process}
 use Rattle.sh_kernel.specs.State.{KernelState}
 use Rattle.sh_stock.specs.Asking.{Meaning}
-use Rattle.sh_world.specs.Choice.{choice}
-use Rattle.sh_world.specs.State.{State, run, runnables, step, turn_of}
-use Rattle.sh_world.specs.Tasks.{behind, turn_among, turned_first}
-use Rattle.sh_world.specs.declared.event.Event.{Event}
-use Rattle.sh_world.specs.declared.task.Task.{Task}
+use Rattle.sh_machine.specs.Choice.{choice}
+use Rattle.sh_machine.specs.State.{State, run, runnables, step, turn_of}
+use Rattle.sh_machine.specs.Tasks.{behind, turn_among, turned_first}
+use Rattle.sh_machine.specs.declared.event.Event.{Event}
+use Rattle.sh_exec.specs.declared.task.Task.{Task}
 use Rattle.sh_laws.specs.Requests.{ComesByRequests, after_all}
 use Rattle.sh_laws.proofs.Lists.{after_append, turns}
 
@@ -26,8 +27,8 @@ module _ {S : Type 0} (m : Meaning S) (first : KernelState) where
   among_comes : (s : KernelState) (pid : ℕ) (tasks : List (Task S)) → Comes s → Comes (turn_among m s pid tasks).machine
   among_comes s pid [] c = c
   among_comes s pid (task ∷ tasks) c =
-      elim (nat_eq task.pid pid) as (λ b. Comes (if b then turned_first task tasks (turn m s pid task.process) else behind task (turn_among m s pid tasks)).machine) [
-        | true ↦ turn_comes s pid task.process c
+      elim (nat_eq task.pid pid) as (λ b. Comes (if b then turned_first tasks (task_turn m s task) else behind task (turn_among m s pid tasks)).machine) [
+        | true ↦ turn_comes s task.pid task.process c
         | false ↦ among_comes s pid tasks c
       ]
 

@@ -25,7 +25,8 @@ use Rattle.sh_exec_machine.specs.declared.transfer.ReadOutcome.{ReadOutcome}
 use Rattle.sh_exec_machine.specs.declared.transfer.ReadOutcome.TheVariants as taken
 use Rattle.sh_exec_shell.specs.Acting.{collect_by, collect_end, collect_from, collect_turn, after_collection, end_turn, expand_turn, keeps, next, redirect_from, redirect_one, redirect_turn, with_written, write_turn}
 use Rattle.sh_exec_shell.specs.Forks.{Turned, fork_turn, is_more, program_by, stage_by, stage_from, stage_one, stage_turn, substitute_turn, substitution_by}
-use Rattle.sh_exec_forms.specs.Forms.{Acted, with_run, after, after_by, after_status, is_loop, after_leave, loop_left, onward, condition_run, at_action, undone}
+use Rattle.sh_exec_forms.specs.Forms.{Acted, with_run, after, after_by, after_status, after_leave, loop_left, onward, condition_run, at_action, undone}
+use Rattle.sh_exec_forms.specs.Frames.{is_loop}
 use Rattle.sh_exec_shell.specs.Reduction.{act_at, act_place, expanded_by, reduce, shell_turn}
 use Rattle.sh_exec_forms.specs.Running.{Run, At, In, ShellState}
 use Rattle.sh_exec_forms.specs.declared.form.Form.{Form}

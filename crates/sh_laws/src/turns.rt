@@ -7,8 +7,8 @@ ghost use Rattle.sh_kernel_descriptors.specs.Processes.{next_pid};
 ghost use Rattle.sh_kernel.specs.Laws.{OnlyGrows};
 ghost use Rattle.sh_kernel.specs.State.{KernelState};
 ghost use Rattle.sh_laws.specs.Requests.{ByRequests, ChangesByRequests, ComesByRequests, Shows, directory_of, number_of};
-ghost use Rattle.sh_world.specs.State.{State, run};
-ghost use Rattle.sh_world.specs.declared.event.Event.{Event};
+ghost use Rattle.sh_machine.specs.State.{State, run};
+ghost use Rattle.sh_machine.specs.declared.event.Event.{Event};
 
 use sh_stock::Stock;
 

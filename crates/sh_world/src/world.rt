@@ -2,25 +2,18 @@
 ghost use Rattle.std.specs.Prelude.{◌≡◌, ℕ, ◌<◌, List, OnOk, OnErr, IsErr, IfOk, Some, None, length, take, option_copied};
 ghost use Rattle.sh_kernel.specs.State.{KernelState, StandsAt};
 ghost use Rattle.sh_tty.specs.Terminal.{Extends};
-ghost use Rattle.sh_world.specs.Choice.{choice};
+ghost use Rattle.sh_machine.specs.Choice.{choice};
 ghost use Rattle.sh_world.specs.World.{IsSpent, PartsStand, WorldKept, WorldStands, shown_of};
-ghost use Rattle.sh_world.specs.State.{State, end_of, ended_of, files_of, first_place, first_task, run, runnables, start, status_of, step, terminal_of, turn_of, after_turn};
+ghost use Rattle.sh_machine.specs.State.{State, after_turn, end_of, ended_of, files_of, run, runnables, start, status_of, step, terminal_of, turn_of};
 
-use crate::event::{Event, choose};
-use crate::jobs::Jobs;
-use crate::script::script_place;
-use crate::settings::{Settings, Source};
-use crate::task::Task;
-use crate::turns::{is_living, keep_living, put_child, runnable_pids, turn_among};
+use crate::choice::choose;
+use crate::tasks::{is_living, keep_living, put_child, runnable_pids, turn_among};
 use sh_base::NoMemory;
-use sh_exec::Process;
-use sh_exec_command::Place;
-use sh_exec_parts::Rest;
-use sh_exec_shell::Shell;
+use sh_exec::{Settings, Task};
 use sh_files::Files;
 use sh_kernel::{FIRST_PID, Kernel, Status};
+use sh_machine::{Event, Jobs};
 use sh_stock::Stock;
-use sh_vars::Vars;
 use std::alloc::Global;
 use std::marker::Model;
 
@@ -53,41 +46,6 @@ impl<S: Stock> Model for World<S> {
     ghost view = { λ w. record { kernel = w.kernel; tasks = w.tasks.items; jobs = w.jobs; last = w.last; shown = w.shown; spent = is_some w.lack } };
 
     ghost invariant = { λ w. w.shown ≤ length w.kernel.terminal.bytes };
-}
-
-/// The first place of the first shell.
-fn first_place(alloc: Global, image: &Files, source: Source) -> Result<Place, NoMemory>
-    ensures { IfOk result (λ place. place ≡ first_place image.now source) }
-{
-    match source {
-        Source::Text(text) => Ok(Place::Reading(Rest::new(text))),
-        Source::Script(path) => script_place(alloc, image, path.as_slice()),
-    }
-}
-
-/// The first shell before its first action.
-fn first_task<S: Stock>(
-    alloc: Global,
-    image: &Files,
-    settings: Settings,
-) -> Result<Task<S>, NoMemory>
-    ensures { IfOk result (λ task. task ≡ first_task image.now settings) }
-{
-    let Settings {
-        source,
-        zero,
-        args,
-        options,
-    } = settings;
-    let mut vars = Vars::new(alloc)?;
-    vars.set_zero(zero);
-    vars.set_positional(args.into_vec());
-    vars.set_options(options);
-    let place = first_place(alloc, image, source)?;
-    Ok(Task {
-        pid: FIRST_PID,
-        process: Process::Runs(Shell::at(vars, place)),
-    })
 }
 
 /// The process that an event gives a turn to.
@@ -153,7 +111,7 @@ impl<S: Stock> World<S> {
         ensures { IfOk result (λ world. WorldStands world (start image settings)) }
     {
         let mut tasks = Vec::new(alloc);
-        tasks.push(first_task(alloc, &image, settings)?)?;
+        tasks.push(Task::new(alloc, &image, settings)?)?;
         let kernel = Kernel::new(alloc, image)?;
         let shown = kernel.terminal().len();
         Ok(World {

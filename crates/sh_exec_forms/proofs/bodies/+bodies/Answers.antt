@@ -15,23 +15,23 @@ body_of-returns-in-None t c = grind (arith, common_steps, of_one c.args.list.now
 pub body_of-returns-in-len2-up : goal.body_of-returns-in-len2-up
 body_of-returns-in-len2-up t c = grind (arith, common_steps, of_long c.args.list.now, of_several c.args.list.now)
 
-pub sole_item-returns : goal.sole_item-returns
-sole_item-returns t c = grind (arith, common_steps, item_is c.args.item.now)
+pub sole_item-returns-clause-run : goal.sole_item-returns-clause-run
+sole_item-returns-clause-run t c = grind (arith, common_steps, item_is c.args.item.now)
 
-pub sole_and_or-returns-in-empty : goal.sole_and_or-returns-in-empty
-sole_and_or-returns-in-empty t c = grind (arith, common_steps, and_or_is c.args.list.now, unjoined_none)
+pub sole_and_or-returns-in-empty-clause-run : goal.sole_and_or-returns-in-empty-clause-run
+sole_and_or-returns-in-empty-clause-run t c = grind (arith, common_steps, and_or_is c.args.list.now, unjoined_none)
 
-pub sole_and_or-returns-in-len1-up : goal.sole_and_or-returns-in-len1-up
-sole_and_or-returns-in-len1-up t c = grind (arith, common_steps, and_or_is c.args.list.now, unjoined_some)
+pub sole_and_or-returns-in-len1-up-clause-run : goal.sole_and_or-returns-in-len1-up-clause-run
+sole_and_or-returns-in-len1-up-clause-run t c = grind (arith, common_steps, and_or_is c.args.list.now, unjoined_some)
 
-pub sole_pipeline-returns-then-is_negated : goal.sole_pipeline-returns-then-is_negated
-sole_pipeline-returns-then-is_negated t c = grind (arith, common_steps, of_negated c.args.pipeline.now)
+pub sole_pipeline-returns-then-is_negated-clause-run : goal.sole_pipeline-returns-then-is_negated-clause-run
+sole_pipeline-returns-then-is_negated-clause-run t c = grind (arith, common_steps, of_negated c.args.pipeline.now)
 
-pub sole_pipeline-returns-in-len1-up : goal.sole_pipeline-returns-in-len1-up
-sole_pipeline-returns-in-len1-up t c = grind (arith, common_steps, of_stages c.args.pipeline.now, stages_long c.args.pipeline.now)
+pub sole_pipeline-returns-in-len1-up-clause-run : goal.sole_pipeline-returns-in-len1-up-clause-run
+sole_pipeline-returns-in-len1-up-clause-run t c = grind (arith, common_steps, of_stages c.args.pipeline.now, stages_long c.args.pipeline.now)
 
-pub sole_pipeline-returns-in_ok-tree-in-empty : goal.sole_pipeline-returns-in_ok-tree-in-empty
-sole_pipeline-returns-in_ok-tree-in-empty t c = grind (arith, common_steps, of_alone c.args.pipeline.now, stage_is)
+pub sole_pipeline-returns-in_ok-active-in-empty-clause-run : goal.sole_pipeline-returns-in_ok-active-in-empty-clause-run
+sole_pipeline-returns-in_ok-active-in-empty-clause-run t c = grind (arith, common_steps, of_alone c.args.pipeline.now, stage_is)
 
 pub stage-returns-in-Compound : goal.stage-returns-in-Compound
 stage-returns-in-Compound t c = grind (arith, common_steps, stage_is c.args.command.now, compound_command_alone c.in-Compound.compound c.args.command.now)

@@ -1,6 +1,6 @@
 use Rattle.std.proofs.Common.{rules}
-use Rattle.sh_exec_forms.proofs.Entered.{entered_with}
+use Rattle.sh_exec_forms.proofs.Inside.{items_inside}
 use Rattle.sh_exec_forms.proofs.entering.enter.Goals as goal
 
-pub returns-in-Ok : goal.returns-in-Ok
-returns-in-Ok c = search (rules, entered_with c.args.items c.in-Some.item c.take.new.self c.args.status)
+pub returns-in-Ok-entered : goal.returns-in-Ok-entered
+returns-in-Ok-entered c = search (rules, items_inside c.args.items)

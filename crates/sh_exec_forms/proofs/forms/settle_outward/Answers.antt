@@ -1,0 +1,14 @@
+use Rattle.std.proofs.Common.{rules, subst}
+use Rattle.sh_exec_forms.proofs.Outward.{onward}
+use Rattle.sh_exec_forms.specs.Forms.{IsOnWay, outward, with_run}
+use Rattle.sh_exec_forms.specs.Running.{At}
+use Rattle.sh_exec_forms.proofs.forms.settle_outward.Goals as goal
+
+pub outward-preserved : goal.outward-preserved
+outward-preserved c = (
+  (λ s k. subst (λ step. IsOnWay c.args.pid c.go_outward.new.kernel c.go_outward.new.vars c.go_outward.new.frames step (outward c.args.pid c.args.frames.now (with_run s c.args.vars.now (At c.args.active)))) c.in-Outward.is
+      (onward c.args.pid c.outward.kernel c.outward.vars c.outward.frames c.outward.active c.go_outward.new.kernel c.go_outward.new.vars c.go_outward.new.frames c.in_ok-next.field-0
+      (outward c.args.pid c.args.frames.now (with_run s c.args.vars.now (At c.args.active)))
+      (c.outward.invariant.0 s k) c.in_ok-next.ensures.state)),
+  search rules,
+)

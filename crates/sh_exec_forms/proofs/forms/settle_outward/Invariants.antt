@@ -1,0 +1,16 @@
+use Rattle.std.proofs.Common.{◌≡◌, length}
+use Rattle.sh_exec_command.specs.declared.running.Active.{Active}
+use Rattle.sh_exec_forms.specs.Forms.{IsOnWay, outward, with_run}
+use Rattle.sh_exec_forms.specs.Running.{At}
+use Rattle.sh_exec_forms.specs.declared.step.Step.TheVariants.{Outward}
+use Rattle.sh_kernel.specs.State.{KernelState, StandsAt}
+use Rattle.sh_exec_forms.proofs.forms.settle_outward.Given as goal
+
+abbrev pub invariant-outward : goal.invariant-outward
+invariant-outward l =
+    ((s : KernelState) → StandsAt l.initial.kernel s
+    → IsOnWay l.pid l.kernel l.vars l.frames (Outward l.active) (outward l.pid l.initial.frames (with_run s l.initial.vars (At l.initial.active))))
+    × (l.kernel.terminal ≡ l.initial.kernel.terminal)
+
+abbrev pub decreases-outward : goal.decreases-outward
+decreases-outward l = length l.frames

@@ -1,0 +1,106 @@
+-- A shell's tree and the list of the forms round its place.
+use Rattle.std.proofs.Common.{◌≡◌, ◌≤◌, ℕ, arith, length, List, [], ◌∷◌, ◌++◌, Option, false, reverse, refl, sym, ap, subst, ◌∙◌, append_assoc, append-nil}
+use Rattle.std.proofs.lemmas.List.{reverse-append}
+use Rattle.sh_exec_command.specs.declared.running.Active.{Active}
+use Rattle.sh_exec_forms.specs.Codes.{forms_of}
+use Rattle.sh_exec_forms.specs.Forms.{Acted, IsActed, at_action, outward}
+use Rattle.sh_exec_forms.specs.Frames.{has_loop, run_in, run_of}
+use Rattle.sh_exec_forms.specs.Running.{Run, At, In, ShellState, active_of}
+use Rattle.sh_exec_forms.specs.declared.form.Form.{Form}
+use Rattle.sh_exec_forms.proofs.Outward.{by_forms}
+use Rattle.sh_exec_shell.specs.Forks.{IsTurned, Turned}
+use Rattle.sh_exec_shell.specs.declared.shell.Child.{Child}
+use Rattle.sh_exec_shell.specs.Reduction.{act_at, at_root, reduce, shell_turn, with_root}
+use Rattle.sh_kernel.specs.State.{KernelKept, KernelState, StandsAt}
+use Rattle.sh_vars.specs.Environment.{Environment}
+
+active_in : (forms : List Form) (run : Run) → active_of (run_in forms run) ≡ active_of run
+active_in [] run = refl
+active_in (form ∷ forms) run = active_in forms (In form run)
+
+pub active_within : (forms : List Form) (active : Active) → active_of (run_of forms active) ≡ active
+active_within forms active = active_in forms (At active)
+
+-- the forms of a tree that these forms are round
+forms_in : (forms : List Form) (run : Run) → forms_of (run_in forms run) ≡ reverse forms ++ forms_of run
+forms_in [] run = refl
+forms_in (form ∷ forms) run =
+    forms_in forms (In form run)
+    ∙ sym (append_assoc (reverse forms) (form ∷ []) (forms_of run))
+    ∙ ap (λ these. these ++ forms_of run) (sym (reverse-append (form ∷ []) forms))
+
+pub forms_within : (forms : List Form) (active : Active) → reverse forms ≡ forms_of (run_of forms active)
+forms_within forms active = sym (forms_in forms (At active) ∙ append-nil (reverse forms))
+
+-- with a form round it nothing is at the root
+rooted : (form : Form) (forms : List Form) (run : Run) → at_root (run_in forms (In form run)) ≡ run_in forms (In form run)
+rooted form [] run = refl
+rooted form (outer ∷ forms) run = rooted outer forms (In form run)
+
+pub rooted_within : (forms : List Form) (active : Active) → 1 ≤ length (reverse forms) → at_root (run_of forms active) ≡ run_of forms active
+rooted_within [] active h = absurd (omega (arith, h))
+rooted_within (form ∷ forms) active h = rooted form forms (At active)
+
+-- a turn goes outward form by form
+turned_by_forms : (s : KernelState) (pid : ℕ) (env : Environment) (forms : List Form) (run : Run)
+    → reduce s pid env false (run_in forms run)
+    ≡ record { left = outward pid forms (reduce s pid env (has_loop forms) run).left; child = (reduce s pid env (has_loop forms) run).child }
+turned_by_forms s pid env [] run = refl
+turned_by_forms s pid env (form ∷ forms) run = turned_by_forms s pid env forms (In form run)
+
+-- a turn acts at the place, and settles all that then runs
+pub turn_is : (s : KernelState) (pid : ℕ) (env : Environment) (forms : List Form) (active : Active)
+    → reduce s pid env false (run_of forms active)
+    ≡ record {
+      left = at_action pid false (act_at s pid env active).left.machine (act_at s pid env active).left.environment (run_in forms (act_at s pid env active).left.run);
+      child = (act_at s pid env active).child;
+    }
+turn_is s pid env forms active =
+    turned_by_forms s pid env forms (At active)
+    ∙ ap (λ (a : Acted). record { left = a; child = (act_at s pid env active).child })
+    (sym (by_forms pid forms (act_at s pid env active).left.machine (act_at s pid env active).left.environment (act_at s pid env active).left.run))
+
+-- what is settled from what the action left is what the turn leaves
+pub turn_leaves : (s : KernelState) (pid : ℕ) (env : Environment) (forms : List Form) (active : Active) (env' : Environment) (run : Run)
+    → env' ≡ (act_at s pid env active).left.environment → run ≡ run_in forms (act_at s pid env active).left.run
+    → at_action pid false (act_at s pid env active).left.machine env' run ≡ (reduce s pid env false (run_of forms active)).left
+turn_leaves s pid env forms active env' run e r =
+    ap (λ z. at_action pid false (act_at s pid env active).left.machine z run) e
+    ∙ ap (λ z. at_action pid false (act_at s pid env active).left.machine (act_at s pid env active).left.environment z) r
+    ∙ ap (λ (t : Turned). t.left) (sym (turn_is s pid env forms active))
+
+pub turn_makes : (s : KernelState) (pid : ℕ) (env : Environment) (forms : List Form) (active : Active)
+    → (act_at s pid env active).child ≡ (reduce s pid env false (run_of forms active)).child
+turn_makes s pid env forms active = ap (λ (t : Turned). t.child) (sym (turn_is s pid env forms active))
+
+-- an action at the place, and what is settled from it, are a turn
+pub turned : (s : KernelState) (pid : ℕ) (env : Environment) (forms : List Form) (active : Active)
+    (kernel : KernelKept) (env' later : Environment) (run ran : Run) (child : Option Child)
+    → env' ≡ (act_at s pid env active).left.environment → run ≡ run_in forms (act_at s pid env active).left.run → child ≡ (act_at s pid env active).child
+    → IsActed kernel later ran (at_action pid false (act_at s pid env active).left.machine env' run)
+    → IsTurned kernel later ran child (reduce s pid env false (run_of forms active))
+turned s pid env forms active kernel env' later run ran child e r made a =
+    let left = turn_leaves s pid env forms active env' run e r in
+    record {
+      state = subst (λ (x : Acted). StandsAt kernel x.machine) left a.state;
+      environment = a.environment ∙ ap (λ (x : Acted). x.environment) left;
+      run = a.run ∙ ap (λ (x : Acted). x.run) left;
+      child = made ∙ turn_makes s pid env forms active;
+    }
+
+-- at the root what is left is the end of the process
+at_its_root : (kernel : KernelKept) (env : Environment) (ran rooted : Run) (child : Option Child) (t : Turned)
+    → IsTurned kernel env ran child t → rooted ≡ at_root ran → IsTurned kernel env rooted child (with_root t)
+at_its_root kernel env ran rooted child t i e =
+    record { state = i.state; environment = i.environment; run = e ∙ ap at_root i.run; child = i.child }
+
+-- the turn of a shell that has this environment and runs this
+pub shell_turned : (s : KernelState) (pid : ℕ) (shell : ShellState) (env : Environment) (run : Run)
+    (kernel : KernelKept) (later : Environment) (ran rooted : Run) (child : Option Child)
+    → shell ≡ record { environment = env; run = run }
+    → IsTurned kernel later ran child (reduce s pid env false run) → rooted ≡ at_root ran
+    → IsTurned kernel later rooted child (shell_turn s pid shell)
+unfolding shell_turn
+shell_turned s pid shell env run kernel later ran rooted child is i e =
+    subst (λ (this : ShellState). IsTurned kernel later rooted child (shell_turn s pid this)) (sym is)
+    (at_its_root kernel later ran rooted child (reduce s pid env false run) i e)

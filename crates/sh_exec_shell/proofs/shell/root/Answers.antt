@@ -1,0 +1,8 @@
+use Rattle.std.proofs.Common.{◌≤◌, length, sym, subst}
+use Rattle.sh_exec_shell.proofs.Frames.{rooted_within}
+use Rattle.sh_exec_shell.proofs.shell.root.Goals as goal
+
+-- with a form round the place nothing is at the root
+pub returns-in-len1-up : goal.returns-in-len1-up
+returns-in-len1-up c =
+    sym (rooted_within c.args.frames.now c.args.active (subst (λ forms. 1 ≤ length forms) c.as_slice.ensures c.in-len1-up.len_at_least))

@@ -1,0 +1,4 @@
+pub mod Choice
+pub mod Order
+pub mod State
+pub mod Tasks

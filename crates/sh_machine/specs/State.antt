@@ -1,0 +1,80 @@
+-- The shell machine: its states, one event, a list of events, and what can be seen of a state.
+use Rattle.std.specs.Prelude.{ℕ, List, [], ◌∷◌, Bool, Option, Some, None, if◌then◌else◌}
+use Rattle.sh_files.specs.Nodes.{FileMap}
+use Rattle.sh_kernel.specs.State as kernel
+use Rattle.sh_kernel.specs.State.{KernelState}
+use Rattle.sh_kernel_descriptors.specs.Processes.{lives, status_at}
+use Rattle.sh_kernel_descriptors.specs.declared.process.Status.{Status}
+use Rattle.sh_kernel_descriptors.specs.declared.process.Status.TheVariants.{Running, Stopped, Exited, Signaled}
+use Rattle.sh_stock.specs.Asking.{Meaning}
+use Rattle.sh_tty.specs.Happenings.{bytes_of}
+use Rattle.sh_machine.specs.Choice.{choice}
+use Rattle.sh_machine.specs.Tasks.{TasksTurned, living, runnable_pids, turn_among, with_child}
+use Rattle.sh_machine.specs.declared.event.Event.{Event}
+use Rattle.sh_machine.specs.declared.jobs.Jobs.{Jobs}
+use Rattle.sh_exec.specs.Tasks.{first_pid, first_task}
+use Rattle.sh_exec.specs.declared.settings.Settings.{Settings}
+use Rattle.sh_exec.specs.declared.task.Task.{Task}
+
+-- the machine with its files and its terminal, the processes that live, the first shell's jobs, and which process took a turn last
+pub record State (S : Type 0) : Type 0 where
+  pub machine : KernelState
+  pub tasks : List (Task S)
+  pub jobs : Jobs
+  pub last : Option ℕ
+
+abbrev pub start : {S : Type 0} → FileMap → Settings → State S
+start image settings = record {
+  machine = kernel.starting image;
+  tasks = first_task image settings ∷ [];
+  jobs = record {};
+  last = None;
+}
+
+abbrev pub status_of : {S : Type 0} → State S → ℕ → Option Status
+status_of s pid = status_at s.machine.machine.processes pid
+
+-- after the first shell's end no process takes a turn; while it is stopped others go on
+abbrev pub runnables : {S : Type 0} → State S → List ℕ
+runnables s = if lives s.machine.machine.processes first_pid then runnable_pids s.machine s.tasks else []
+
+-- the processes that live after a turn
+abbrev pub with_tasks : {S : Type 0} → State S → ℕ → TasksTurned S → State S
+with_tasks s pid t = record s {
+  machine = t.machine;
+  tasks = living t.machine (with_child t.tasks t.child);
+  last = Some pid;
+}
+
+abbrev pub after_turn : {S : Type 0} → Meaning S → State S → ℕ → State S
+after_turn m s pid = with_tasks s pid (turn_among m s.machine pid s.tasks)
+
+abbrev pub turn_of : {S : Type 0} → Meaning S → State S → Option ℕ → State S
+turn_of m s None = s
+turn_of m s (Some pid) = after_turn m s pid
+
+-- one event: a turn of the process that it chooses, and nothing where none is runnable
+abbrev pub step : {S : Type 0} → Meaning S → State S → Event → State S
+step m s event = turn_of m s (choice event s.last (runnables s))
+
+-- events in order
+abbrev pub run : {S : Type 0} → Meaning S → State S → List Event → State S
+run m s [] = s
+run m s (event ∷ events) = run m (step m s event) events
+
+-- what is seen of a state: the terminal's bytes, the files, the jobs, each process's status, and how the first shell ended
+abbrev pub terminal_of : {S : Type 0} → State S → List ℕ
+terminal_of s = bytes_of s.machine.terminal
+
+abbrev pub files_of : {S : Type 0} → State S → FileMap
+files_of s = s.machine.machine.files
+
+abbrev pub end_of : Option Status → Option Status
+end_of None = None
+end_of (Some Running) = None
+end_of (Some (Stopped signal)) = None
+end_of (Some (Exited status)) = Some (Exited status)
+end_of (Some (Signaled signal)) = Some (Signaled signal)
+
+abbrev pub ended_of : {S : Type 0} → State S → Option Status
+ended_of s = end_of (status_of s first_pid)

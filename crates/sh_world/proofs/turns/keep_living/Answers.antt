@@ -1,6 +1,0 @@
-use Rattle.std.proofs.Common.{rules}
-use Rattle.std.proofs.lemmas.Fn.{filter_same}
-use Rattle.sh_world.proofs.turns.keep_living.Goals as goal
-
-pub returns : goal.returns
-returns g c = λ s h. filter_same _ _ _ (λ x b f' k. search (rules, h)) _ _ c.retain.ensures.filtered

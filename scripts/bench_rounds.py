@@ -1,0 +1,85 @@
+#!/usr/bin/env python3
+"""Instructions for each round of a loop in the built program, beside dash's, and how they grow.
+
+Runs `while [ $i -lt N ]; do i=$((i+1)); done` under valgrind's callgrind, with two numbers of rounds, and prints the
+instructions for one round between the two; then the same inside 200 groups, the memory after 1,000 and 100,000 rounds, and
+what some commands add to a round. The last line is the greatest ratio of growth. Needs valgrind, dash, and psh built
+(./build), or a path to it as the only word.
+"""
+
+import os
+import subprocess
+import sys
+import tempfile
+
+TOP = os.path.dirname(os.path.dirname(os.path.abspath(__file__)))
+PROGRAM = f"{TOP}/out/psh"
+# What a round runs more, and how many turns that takes.
+COMMANDS = [("echo $a $b >/dev/null", 3), ("x=$(echo a)", 7), ("[ -f f ] && :", 2)]
+
+
+def counted(folder, words):
+    """The instructions of a run."""
+    ran = subprocess.run(["valgrind", "--tool=callgrind", f"--callgrind-out-file={folder}/out", *words], capture_output=True)
+    for line in ran.stderr.decode(errors="replace").splitlines():
+        if "Collected" in line:
+            return int(line.split(":")[1].replace(",", ""))
+    sys.exit(f"{words}: {ran.stdout[-200:]} {ran.stderr[-400:]}")
+
+
+def events_of(folder, turns):
+    """A file of events with so many turns."""
+    path = f"{folder}/events"
+    with open(path, "w", encoding="utf-8") as events:
+        events.write(f"next {turns}\n")
+    return path
+
+
+def loop(limit, more="", groups=0):
+    """The script: a loop of so many rounds, inside so many groups."""
+    return f"i=0 a=1 b=2; {'{ ' * groups}while [ $i -lt {limit} ]; do {more}{'; ' if more else ''}i=$((i+1)); done{'; }' * groups}"
+
+
+def psh_round(folder, image, turns=2, more="", groups=0):
+    """The instructions for one round, which takes so many turns."""
+    script = loop(100_000, more, groups)
+    few, many = (counted(folder, [PROGRAM, "-c", script, image, events_of(folder, rounds * turns + 10)]) for rounds in (200, 700))
+    return (many - few) / 500
+
+
+def dash_round(folder, more=""):
+    """The instructions for one round in dash."""
+    few, many = (counted(folder, ["dash", "-c", loop(rounds, more)]) for rounds in (2_000, 12_000))
+    return (many - few) / 10_000
+
+
+def memory(folder, image, rounds):
+    """The most memory that a run of so many rounds had, in KiB."""
+    words = [PROGRAM, "-c", loop(1_000_000), image, events_of(folder, rounds * 2)]
+    process = subprocess.Popen(words, stdout=subprocess.DEVNULL)
+    _, status, usage = os.wait4(process.pid, 0)
+    if status:
+        sys.exit(f"{words}: {status}")
+    return usage.ru_maxrss
+
+
+def main():
+    with tempfile.TemporaryDirectory() as folder:
+        image = f"{folder}/image"
+        with open(image, "wb") as it:
+            it.write(b"psh image 1\nfile /f rw- 0\n\nend\n")
+        base, dash = psh_round(folder, image), dash_round(folder)
+        print(f"a round: {base:.0f} instructions, in dash {dash:.0f}, {base / dash:.1f} times that")
+        inside = psh_round(folder, image, groups=200)
+        print(f"the same inside 200 groups: {inside:.0f}, ratio {inside / base:.2f}")
+        few, many = memory(folder, image, 1_000), memory(folder, image, 100_000)
+        print(f"memory after 1,000 rounds {few} KiB, after 100,000 {many} KiB, ratio {many / few:.2f}")
+        for more, turns in COMMANDS:
+            ours, theirs = psh_round(folder, image, turns + 2, more) - base, dash_round(folder, more) - dash
+            print(f"{more}: {ours:.0f} more, in dash {theirs:.0f}, {ours / theirs:.1f} times that")
+        print(f"greatest ratio {max(inside / base, many / few):.2f}")
+
+
+if len(sys.argv) == 2:
+    PROGRAM = os.path.abspath(sys.argv[1])
+main()
