@@ -1,9 +1,10 @@
-//! One pipe: a list of bytes with a capacity. Only making it takes memory.
+//! One pipe: a list of bytes with a capacity, kept in a ring. Only making it takes memory.
 #![tactic(auto)]
 
-ghost use Rattle.std.specs.Prelude.{◌≡◌, [], IfOk, length, vec_len, vec_capacity, drop, ◌++◌, ◌+◌, ◌≤◌};
+ghost use Rattle.std.specs.Prelude.{◌≡◌, [], IfOk, length};
 ghost use Rattle.sh_pipe.specs.Pipe.{write_result, after_write, read_result, after_read, read_buffer};
 
+use circular_buffer::HeapCircularBuffer;
 use std::alloc::{AllocError, Global};
 use std::marker::Model;
 use thiserror::Error;
@@ -22,22 +23,21 @@ pub enum PipeFault {
 /// The longest write that goes whole or not at all (`PIPE_BUF` of XBD `<limits.h>`).
 pub const PIPE_BUF: usize = 512;
 
-/// The bytes that were written and not yet read, in room for `capacity` of them.
+/// The bytes that were written and not yet read, the oldest first, in room for as many as the pipe may hold.
 #[derive(Debug, Drop)]
 pub struct Pipe {
-    bytes: Vec<u8>,
-    capacity: usize,
+    ring: HeapCircularBuffer<u8>,
 }
 
 impl Model for Pipe {
-    ghost use Rattle.std.specs.Prelude.{◌≤◌, length, vec_capacity};
+    ghost use Rattle.std.specs.Prelude.{◌≤◌, length};
     ghost use Rattle.sh_pipe.specs.Pipe.{PipeState};
 
     ghost Value = { PipeState };
 
-    ghost view = { λ p. record { bytes = p.bytes.items; capacity = p.capacity } };
+    ghost view = { λ p. record { bytes = p.ring.items; capacity = p.ring.capacity } };
 
-    ghost invariant = { λ p. (p.capacity ≤ vec_capacity p.bytes) × (length p.bytes.items ≤ p.capacity) };
+    ghost invariant = { λ p. length p.ring.items ≤ p.ring.capacity };
 }
 
 impl Pipe {
@@ -47,8 +47,17 @@ impl Pipe {
     pub fn new(alloc: Global, capacity: usize) -> Result<Self, AllocError>
         ensures { IfOk result (λ p. p ≡ record { bytes = []; capacity = capacity }) }
     {
-        let bytes = Vec::with_capacity(alloc, capacity)?;
-        Ok(Pipe { bytes, capacity })
+        let ring = HeapCircularBuffer::with_capacity(alloc, capacity)?;
+        Ok(Pipe { ring })
+    }
+
+    /// The ring that keeps the bytes: its items are the bytes, the oldest first, and its capacity is the pipe's.
+    /// It is lent, and takes no memory.
+    pub fn ring(&self) -> &HeapCircularBuffer<u8>
+        ensures bytes { result.now.items ≡ self.now.bytes }
+        ensures capacity { result.now.capacity ≡ self.now.capacity }
+    {
+        &self.ring
     }
 
     /// Reads what is there, up to the buffer's length, into the front of the buffer, and says how many bytes
@@ -59,13 +68,10 @@ impl Pipe {
         ensures buffer { buf.new ≡ read_buffer self.old buf.old has_writer }
         ensures pipe { self.new ≡ after_read self.old (length buf.old) has_writer }
     {
-        if self.bytes.is_empty() && has_writer {
+        if self.ring.is_empty() && has_writer {
             return Err(PipeFault::WouldWait);
         }
-        let count = buf.len().min(self.bytes.len());
-        buf[..count].copy_from_slice(&self.bytes[..count]);
-        remove_front(&mut self.bytes, count);
-        Ok(count)
+        Ok(self.ring.read_into(buf))
     }
 
     /// Writes, and says how many bytes went: at most `PIPE_BUF` bytes go whole or wait; of a longer write as
@@ -78,34 +84,10 @@ impl Pipe {
         if !has_reader {
             return Err(PipeFault::NoReader);
         }
-        let free = self.capacity - self.bytes.len();
+        let free = self.ring.capacity() - self.ring.len();
         if free == 0 && !bytes.is_empty() || bytes.len() <= PIPE_BUF && free < bytes.len() {
             return Err(PipeFault::WouldWait);
         }
-        let count = free.min(bytes.len());
-        push_all(&mut self.bytes, &bytes[..count]);
-        Ok(count)
+        Ok(self.ring.fill_from_slice(bytes))
     }
-}
-
-/// Puts bytes at the end, where there is room for them.
-fn push_all(v: &mut Vec<u8>, bytes: &[u8])
-    requires { vec_len v.old + length bytes.now ≤ vec_capacity v.old }
-    ensures items { v.new.items ≡ v.old.items ++ bytes.now }
-    ensures capacity { vec_capacity v.new ≡ vec_capacity v.old }
-{
-    for b in bytes {
-        v.push_reserved(*b);
-    }
-}
-
-/// Removes the first bytes.
-fn remove_front(v: &mut Vec<u8>, count: usize)
-    requires { count ≤ vec_len v.old }
-    ensures items { v.new.items ≡ drop count v.old.items }
-    ensures capacity { vec_capacity v.new ≡ vec_capacity v.old }
-{
-    let rest = v.len() - count;
-    v.copy_within(count.., 0);
-    v.truncate(rest);
 }

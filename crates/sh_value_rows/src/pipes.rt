@@ -1,5 +1,5 @@
 //! Reads and writes of a pipe.
-use crate::steps::{Acted, answers, decimal, number, repeated, said};
+use crate::steps::{Acted, answers, bracketed, decimal, joined, number, repeated, said};
 use sh_pipe::{Pipe, PipeFault};
 use sh_rows::RowFault;
 use std::alloc::Global;
@@ -18,6 +18,14 @@ fn moved(alloc: Global, count: Result<usize, PipeFault>) -> Result<Vec<u8>, RowF
         Err(PipeFault::WouldWait) => said(alloc, "would wait"),
         Err(PipeFault::NoReader) => said(alloc, "no reader"),
     }
+}
+
+/// The bytes that a pipe's ring holds, and how many it has room for.
+fn held(alloc: Global, pipe: &Pipe) -> Result<Vec<u8>, RowFault> {
+    let ring = pipe.ring();
+    let bytes = bracketed(alloc, &ring.to_vec(alloc)?)?;
+    let room = decimal(alloc, ring.capacity())?;
+    joined(alloc, &[&bytes, b" of ".as_slice(), &room])
 }
 
 impl Acted for Reading {
@@ -41,6 +49,9 @@ impl Acted for Reading {
         if word == b"buffer".as_slice() {
             self.buffer = repeated(alloc, b".", number(rest))?;
             return said(alloc, "done");
+        }
+        if word == b"ring".as_slice() {
+            return held(alloc, &self.pipe);
         }
         Ok(self.buffer.as_slice().to_vec(alloc)?)
     }
