@@ -195,21 +195,20 @@ fn text_of(fields: &[Text]) -> &[u8]
 fn expand_value(
     alloc: Global,
     value: &Shared<Parts>,
-    pending: &Pending,
+    answers: &[Text],
     vars: &mut Vars,
     files: &Files,
 ) -> Result<Step, NoMemory>
     ensures { IfOk result (λ step.
         result_of step vars.new ≡ expansion_with files.now (value_wanted value.now ∷ [])
-        pending.now.start pending.now.answers) }
+        vars.old answers.now) }
 {
     let mut wanted = Sequence::new(alloc);
     wanted.push(Wanted {
         parts: value.share()?,
         context: Context::Assignment,
     })?;
-    *vars = pending.start.copy()?;
-    expand(alloc, wanted, vars, files, pending.answers.as_slice())
+    expand(alloc, wanted, vars, files, answers)
 }
 
 /// A command whose next assignment is this one again.
@@ -306,7 +305,8 @@ fn assign_one(
             return Err(lack);
         },
     };
-    match expand_value(alloc, &assignment.value, &pending, vars, files) {
+    let answers = pending.answers.as_slice();
+    match expand_value(alloc, &assignment.value, answers, vars, files) {
         Ok(Step::Need(program)) => wait(prepared, assignment, program, pending),
         Ok(Step::Fields(fields)) => {
             drop(pending);

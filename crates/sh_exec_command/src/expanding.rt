@@ -21,16 +21,26 @@ use sh_syntax::tree::Command;
 use sh_vars::Vars;
 use std::alloc::Global;
 
-/// An expansion that has had no answers, or the one that waits.
+/// An expansion that has had no answers, or the one that waits; the variables are those at its start again.
 pub(crate) fn start(
     alloc: Global,
-    vars: &Vars,
+    vars: &mut Vars,
     pending: Option<Pending>,
 ) -> Result<Pending, NoMemory>
-    ensures { IfOk result (λ p. p ≡ start_of vars.now pending) }
+    ensures pending { IfOk result (λ p. p ≡ start_of vars.old pending) }
+    ensures variables { IfOk result (λ p. vars.new ≡ p.start) }
 {
     match pending {
-        Some(pending) => Ok(pending),
+        Some(pending) => match pending.start.copy() {
+            Ok(start) => {
+                *vars = start;
+                Ok(pending)
+            },
+            Err(error) => {
+                drop(pending);
+                Err(NoMemory::from(error))
+            },
+        },
         None => Ok(Pending {
             start: vars.copy()?,
             answers: Sequence::new(alloc),
@@ -49,24 +59,16 @@ pub(crate) fn fatal_message(piece: Piece) -> Active
 fn expand_words(
     alloc: Global,
     command: &Command,
-    pending: &Pending,
+    answers: &[Text],
     vars: &mut Vars,
     files: &Files,
 ) -> Result<Step, NoMemory>
     ensures { IfOk result (λ step.
         result_of step vars.new ≡ expansion_with files.now (wanted_of (items_of command.now))
-        pending.now.start pending.now.answers) }
+        vars.old answers.now) }
 {
     let wanted = wanted_of(alloc, items_of(command))?;
-    let start = match pending.start.copy() {
-        Ok(start) => start,
-        Err(error) => {
-            drop(wanted);
-            return Err(NoMemory::from(error));
-        },
-    };
-    *vars = start;
-    expand(alloc, wanted, vars, files, pending.answers.as_slice())
+    expand(alloc, wanted, vars, files, answers)
 }
 
 /// What follows the fields that the words came to.
@@ -121,7 +123,8 @@ pub fn words_turn(
             return Err(lack);
         },
     };
-    match expand_words(alloc, command.get(), &pending, vars, files) {
+    let answers = pending.answers.as_slice();
+    match expand_words(alloc, command.get(), answers, vars, files) {
         Ok(Step::Need(program)) => Ok(Expanded::Need {
             program,
             wants: Wants::Words {

@@ -126,9 +126,8 @@ fn expand_words(
 ) -> Result<Expanded, NoMemory>
     ensures { IfOk result (λ e.
         record { environment = vars.new; outcome = e } ≡ series_by command pending series.name
-        series.body (expansion_with files.now wanted pending.start pending.answers)) }
+        series.body (expansion_with files.now wanted vars.old pending.answers)) }
 {
-    *vars = pending.start.copy()?;
     match expand(alloc, wanted, vars, files, pending.answers.as_slice())? {
         Step::Need(program) => Ok(Expanded::Need {
             program,
