@@ -1,5 +1,5 @@
 -- What stands before the last word.
-use Rattle.std.proofs.Common.{◌≡◌, ◌++◌, ℕ, List, [], ◌∷◌, Bool, true, false, Option, Some, None, codes, if◌then◌else◌, refl, ap, sym, ◌∙◌}
+use Rattle.std.proofs.Common.{◌≡◌, ◌++◌, ℕ, List, [], ◌∷◌, true, false, Some, None, codes, if◌then◌else◌, ap, sym}
 use Rattle.std.specs.Str.{bytes_eq}
 use Rattle.sh_builtin.specs.Running.{prefix, prefix_behind}
 

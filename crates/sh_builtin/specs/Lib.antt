@@ -1,4 +1,6 @@
 pub mod Builtins
+pub mod Messages
+pub mod Outcomes
 pub mod Loops
 pub mod Running
 pub mod Conditional

@@ -1,12 +1,13 @@
 -- How built-ins leave commands (XCU 2.15 break, continue, exit).
 use Rattle.std.specs.Prelude.{ℕ, zero, suc, List, [], ◌∷◌, Option, Some, None, codes, nat_le, if◌then◌else◌}
 use Rattle.std.specs.Str.{bytes_eq}
-use Rattle.sh_builtin.specs.declared.act.Act.{Act}
-use Rattle.sh_builtin.specs.declared.act.Act.TheVariants.{Fault, Leave}
-use Rattle.sh_builtin.specs.declared.act.Leave.{Leave as Left}
-use Rattle.sh_builtin.specs.declared.act.Leave.TheVariants as left
 use Rattle.sh_base.specs.Decimals.{number_of}
-use Rattle.sh_builtin_vars.specs.declared.outcome.BuiltinFault.TheVariants as fault
+use Rattle.sh_builtin.specs.Outcomes.{left, misuse}
+use Rattle.sh_builtin.specs.declared.builtin.Builtin.{Builtin}
+use Rattle.sh_builtin.specs.declared.builtin.Builtin.TheVariants.{Exit}
+use Rattle.sh_builtin.specs.declared.outcome.Leave.{Leave}
+use Rattle.sh_builtin.specs.declared.outcome.Leave.TheVariants as leave
+use Rattle.sh_builtin.specs.declared.outcome.Outcome.{Outcome}
 
 -- an operand `--` ends the options (XBD 12.2, guideline 10)
 abbrev pub operands_of : List (List ℕ) → List (List ℕ)
@@ -14,23 +15,23 @@ operands_of [] = []
 operands_of (first ∷ others) = if bytes_eq first (codes "--") then others else first ∷ others
 
 -- ---- exit leaves the shell with the status of its operand, from 0 to 255, without one with the last status
-abbrev pub exit_by : Option ℕ → Act
-exit_by None = Fault fault.Usage
-exit_by (Some n) = if nat_le n 255 then Leave (left.Shell n) else Fault fault.Usage
+abbrev pub exit_by : Option ℕ → Outcome
+exit_by None = misuse Exit
+exit_by (Some n) = if nat_le n 255 then left (leave.Exit n) else misuse Exit
 
-abbrev pub exit_with : ℕ → List (List ℕ) → Act
-exit_with last [] = Leave (left.Shell last)
+abbrev pub exit_with : ℕ → List (List ℕ) → Outcome
+exit_with last [] = left (leave.Exit last)
 exit_with last (operand ∷ []) = exit_by (number_of operand)
-exit_with last (operand ∷ more ∷ others) = Fault fault.Usage
+exit_with last (operand ∷ more ∷ others) = misuse Exit
 
 -- ---- break and continue name a loop by its number, from 1 for the innermost on; what leaves commands tells
 -- how many loops are inside that one
-abbrev pub loop_by : (ℕ → Left) → Option ℕ → Act
-loop_by leave None = Fault fault.Usage
-loop_by leave (Some zero) = Fault fault.Usage
-loop_by leave (Some (suc inside)) = Leave (leave inside)
+abbrev pub loop_by : Builtin → (ℕ → Leave) → Option ℕ → Outcome
+loop_by builtin way None = misuse builtin
+loop_by builtin way (Some zero) = misuse builtin
+loop_by builtin way (Some (suc inside)) = left (way inside)
 
-abbrev pub loop_with : (ℕ → Left) → List (List ℕ) → Act
-loop_with leave [] = Leave (leave 0)
-loop_with leave (operand ∷ []) = loop_by leave (number_of operand)
-loop_with leave (operand ∷ more ∷ others) = Fault fault.Usage
+abbrev pub loop_with : Builtin → (ℕ → Leave) → List (List ℕ) → Outcome
+loop_with builtin way [] = left (way 0)
+loop_with builtin way (operand ∷ []) = loop_by builtin way (number_of operand)
+loop_with builtin way (operand ∷ more ∷ others) = misuse builtin

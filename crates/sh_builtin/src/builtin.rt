@@ -1,15 +1,15 @@
 //! Built-in utilities.
 ghost use Rattle.std.specs.Prelude.{◌≡◌, ◌++◌, IfOk};
-ghost use Rattle.sh_builtin.specs.Builtins.{builtin_of, is_special, name_of};
-ghost use Rattle.sh_builtin.specs.Running.{act_of, built_in, with_act, echo_text};
+ghost use Rattle.sh_builtin.specs.Builtins.{builtin_of, is_special, name_of, row_of, row_seen, regular, special};
+ghost use Rattle.sh_builtin.specs.Running.{built_in, echo_outcome, echo_text, with_outcome};
 ghost use Rattle.sh_kernel.specs.State.{KernelState, StandsAt};
 
-use crate::act::Act;
 use crate::leaving::{break_with, continue_with, exit_with, operands_of};
+use crate::outcome::Outcome;
 use crate::testing::{bracket, test};
 use sh_base::NoMemory;
 use sh_base::sequence::{Sequence, Text};
-use sh_builtin_vars::{Outcome, cd, pwd, set, shift, unset};
+use sh_builtin_vars::{cd, pwd, set, shift, unset};
 use sh_kernel::Kernel;
 use sh_vars::Vars;
 use std::alloc::Global;
@@ -35,102 +35,104 @@ pub enum Builtin {
     Unset,
 }
 
+/// A row of the table of built-ins.
+#[derive(Clone, Copy)]
+struct Row {
+    name: &'static [u8],
+    is_special: bool,
+}
+
+impl Row {
+    /// The row of a special built-in (XCU 2.15).
+    fn special(name: &'static [u8]) -> Row
+        ensures { row_seen result ≡ special name.now }
+    {
+        Row {
+            name,
+            is_special: true,
+        }
+    }
+
+    /// The row of another.
+    fn regular(name: &'static [u8]) -> Row
+        ensures { row_seen result ≡ regular name.now }
+    {
+        Row {
+            name,
+            is_special: false,
+        }
+    }
+}
+
+/// All of them.
+const BUILTINS: [Builtin; 14] = [
+    Builtin::Bracket,
+    Builtin::Break,
+    Builtin::Cd,
+    Builtin::Colon,
+    Builtin::Continue,
+    Builtin::Echo,
+    Builtin::Exit,
+    Builtin::False,
+    Builtin::Pwd,
+    Builtin::Set,
+    Builtin::Shift,
+    Builtin::Test,
+    Builtin::True,
+    Builtin::Unset,
+];
+
 impl Builtin {
-    /// The built-in of a name, `None` where there is none.
+    /// The table of built-ins.
+    fn row(self) -> Row
+        ensures { row_seen result ≡ row_of self }
+    {
+        match self {
+            Builtin::Bracket => Row::regular(b"["),
+            Builtin::Break => Row::special(b"break"),
+            Builtin::Cd => Row::regular(b"cd"),
+            Builtin::Colon => Row::special(b":"),
+            Builtin::Continue => Row::special(b"continue"),
+            Builtin::Echo => Row::regular(b"echo"),
+            Builtin::Exit => Row::special(b"exit"),
+            Builtin::False => Row::regular(b"false"),
+            Builtin::Pwd => Row::regular(b"pwd"),
+            Builtin::Set => Row::special(b"set"),
+            Builtin::Shift => Row::special(b"shift"),
+            Builtin::Test => Row::regular(b"test"),
+            Builtin::True => Row::regular(b"true"),
+            Builtin::Unset => Row::special(b"unset"),
+        }
+    }
+
+    /// The built-in of a name, `None` where there is none. Takes no memory.
     pub fn of(name: &[u8]) -> Option<Self>
         ensures { result ≡ builtin_of name.now }
     {
-        if name == b":".as_slice() {
-            return Some(Builtin::Colon);
-        }
-        if name == b"[".as_slice() {
-            return Some(Builtin::Bracket);
-        }
-        if name == b"break".as_slice() {
-            return Some(Builtin::Break);
-        }
-        if name == b"cd".as_slice() {
-            return Some(Builtin::Cd);
-        }
-        if name == b"continue".as_slice() {
-            return Some(Builtin::Continue);
-        }
-        if name == b"echo".as_slice() {
-            return Some(Builtin::Echo);
-        }
-        if name == b"exit".as_slice() {
-            return Some(Builtin::Exit);
-        }
-        if name == b"false".as_slice() {
-            return Some(Builtin::False);
-        }
-        if name == b"pwd".as_slice() {
-            return Some(Builtin::Pwd);
-        }
-        if name == b"set".as_slice() {
-            return Some(Builtin::Set);
-        }
-        if name == b"shift".as_slice() {
-            return Some(Builtin::Shift);
-        }
-        if name == b"test".as_slice() {
-            return Some(Builtin::Test);
-        }
-        if name == b"true".as_slice() {
-            return Some(Builtin::True);
-        }
-        if name == b"unset".as_slice() {
-            return Some(Builtin::Unset);
-        }
-        None
+        BUILTINS
+            .iter()
+            .copied()
+            .find(|builtin| builtin.name() == name)
     }
 
-    /// Its name.
+    /// Its name. No other has that name. Takes no memory.
     pub fn name(self) -> &'static [u8]
-        ensures { result.now ≡ name_of self }
+        ensures name { result.now ≡ name_of self }
+        ensures found { builtin_of result.now ≡ Some self }
     {
-        match self {
-            Builtin::Bracket => b"[",
-            Builtin::Break => b"break",
-            Builtin::Cd => b"cd",
-            Builtin::Colon => b":",
-            Builtin::Continue => b"continue",
-            Builtin::Echo => b"echo",
-            Builtin::Exit => b"exit",
-            Builtin::False => b"false",
-            Builtin::Pwd => b"pwd",
-            Builtin::Set => b"set",
-            Builtin::Shift => b"shift",
-            Builtin::Test => b"test",
-            Builtin::True => b"true",
-            Builtin::Unset => b"unset",
-        }
+        self.row().name
     }
 
-    /// Whether it is a special built-in: an error in it ends the shell, and assignments before it stay.
+    /// Whether it is a special built-in (XCU 2.15): an error in it ends a shell that isn't interactive, and
+    /// assignments before it stay. Takes no memory.
     pub fn is_special(self) -> bool
         ensures { result ≡ is_special self }
     {
-        match self {
-            Builtin::Bracket => false,
-            Builtin::Break => true,
-            Builtin::Cd => false,
-            Builtin::Colon => true,
-            Builtin::Continue => true,
-            Builtin::Echo => false,
-            Builtin::Exit => true,
-            Builtin::False => false,
-            Builtin::Pwd => false,
-            Builtin::Set => true,
-            Builtin::Shift => true,
-            Builtin::Test => false,
-            Builtin::True => false,
-            Builtin::Unset => true,
-        }
+        self.row().is_special
     }
 
-    /// What it does with its arguments, in the process `pid` of a kernel. The only error is want of memory; what the variables are then
-    /// is left open.
+    /// What it does with its arguments, in the process `pid` of a kernel, to a shell's variables, and what it comes to. The
+    /// only error is want of memory; what the variables are then is left open.
     #[tactic(auto, unfolding(crate::specs::Running::built_in))]
     pub fn run(
         self,
@@ -139,58 +141,47 @@ impl Builtin {
         pid: u32,
         vars: &mut Vars,
         arguments: &[Text],
-    ) -> Result<Act, NoMemory>
-        ensures { (s : KernelState) → StandsAt kernel.now s → IfOk result (λ act.
-            with_act vars.new act ≡ built_in s.machine pid vars.old self arguments.now) }
+    ) -> Result<Outcome, NoMemory>
+        ensures { (s : KernelState) → StandsAt kernel.now s → IfOk result (λ outcome.
+            with_outcome vars.new outcome ≡ built_in s.machine pid vars.old self arguments.now) }
     {
         match self {
-            Builtin::Bracket => bracket(kernel, pid, vars, arguments),
-            Builtin::Break => Ok(break_with(operands_of(arguments))),
+            Builtin::Bracket => bracket(alloc, kernel, pid, vars, arguments),
+            Builtin::Break => break_with(alloc, operands_of(arguments)),
             Builtin::Cd => {
-                let outcome = cd(alloc, kernel.files(), vars, arguments)?;
-                Ok(act_of(outcome))
+                let answer = cd(alloc, kernel.files(), vars, arguments)?;
+                Outcome::of(alloc, Builtin::Cd, answer)
             },
-            Builtin::Colon => Ok(Act::Finish(0)),
-            Builtin::Continue => Ok(continue_with(operands_of(arguments))),
+            Builtin::Colon => Ok(Outcome::done(alloc, 0)),
+            Builtin::Continue => continue_with(alloc, operands_of(arguments)),
             Builtin::Echo => echo(alloc, arguments),
-            Builtin::Exit => Ok(exit_with(vars.status(), operands_of(arguments))),
-            Builtin::False => Ok(Act::Finish(1)),
+            Builtin::Exit => exit_with(alloc, vars.status(), operands_of(arguments)),
+            Builtin::False => Ok(Outcome::done(alloc, 1)),
             Builtin::Pwd => {
-                let outcome = pwd(alloc, vars, arguments)?;
-                Ok(act_of(outcome))
+                let answer = pwd(alloc, vars, arguments)?;
+                Outcome::of(alloc, Builtin::Pwd, answer)
             },
             Builtin::Set => {
-                let outcome = set(alloc, vars, arguments)?;
-                Ok(act_of(outcome))
+                let answer = set(alloc, vars, arguments)?;
+                Outcome::of(alloc, Builtin::Set, answer)
             },
-            Builtin::Shift => Ok(act_of(shift(vars, arguments))),
-            Builtin::Test => test(kernel, pid, vars, arguments),
-            Builtin::True => Ok(Act::Finish(0)),
+            Builtin::Shift => Outcome::of(alloc, Builtin::Shift, shift(vars, arguments)),
+            Builtin::Test => test(alloc, kernel, pid, vars, Builtin::Test, arguments),
+            Builtin::True => Ok(Outcome::done(alloc, 0)),
             Builtin::Unset => {
-                let outcome = unset(alloc, vars, arguments)?;
-                Ok(act_of(outcome))
+                let answer = unset(alloc, vars, arguments)?;
+                Outcome::of(alloc, Builtin::Unset, answer)
             },
         }
     }
 }
 
-/// The act of an outcome.
-fn act_of(outcome: Outcome) -> Act
-    ensures { result ≡ act_of outcome }
-{
-    match outcome {
-        Outcome::Done(status) => Act::Finish(status),
-        Outcome::Output(text) => Act::Write(text),
-        Outcome::Fault(fault) => Act::Fault(fault),
-    }
-}
-
-/// What echo writes.
-fn echo(alloc: Global, arguments: &[Text]) -> Result<Act, NoMemory>
-    ensures { IfOk result (λ act. act ≡ Act.Write (echo_text arguments.now)) }
+/// echo with its arguments (XCU echo).
+fn echo(alloc: Global, arguments: &[Text]) -> Result<Outcome, NoMemory>
+    ensures { IfOk result (λ outcome. outcome ≡ echo_outcome arguments.now) }
 {
     let text = echo_text(alloc, arguments)?;
-    Ok(Act::Write(text))
+    Ok(Outcome::output(alloc, text))
 }
 
 /// The arguments of echo, with a space between them, and a newline.

@@ -1,13 +1,14 @@
 //! Built-in utilities (XCU 1.6, 2.15).
 #![tactic(auto)]
 
-mod act;
 mod builtin;
 mod conditional;
 mod leaving;
+pub mod message;
 mod number;
+mod outcome;
 mod testing;
 
-pub use act::{Act, Leave};
 pub use builtin::Builtin;
 pub use conditional::{Verdict, evaluate};
+pub use outcome::{Ask, Completion, Leave, Outcome, Rest};

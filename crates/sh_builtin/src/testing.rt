@@ -1,24 +1,25 @@
 //! The built-ins test and `[` (XCU test).
 ghost use Rattle.std.specs.Prelude.{◌≡◌, IfOk, option_map};
-ghost use Rattle.sh_builtin.specs.Running.{bracket_act, prefix, inverted_by, verdict_act, terminal_at, test_act, truth};
+ghost use Rattle.sh_builtin.specs.Running.{bracket_outcome, prefix, inverted_by, verdict_outcome, terminal_at, test_outcome, truth};
 ghost use Rattle.sh_kernel.specs.State.{KernelState, StandsAt};
 
-use crate::act::Act;
+use crate::builtin::Builtin;
+use crate::outcome::Outcome;
 use crate::{Verdict, evaluate};
 use sh_base::NoMemory;
 use sh_base::sequence::Text;
-use sh_builtin_vars::BuiltinFault;
 use sh_kernel::Kernel;
 use sh_vars::Vars;
+use std::alloc::Global;
 
 /// The status of a condition.
-fn truth(holds: bool) -> Act
+fn truth(holds: bool) -> u8
     ensures { result ≡ truth holds }
 {
     if holds {
-        return Act::Finish(0);
+        return 0;
     }
-    Act::Finish(1)
+    1
 }
 
 /// A condition, or its opposite.
@@ -42,33 +43,46 @@ fn terminal_at(kernel: &Kernel, pid: u32, descriptor: u64) -> bool
     kernel.is_terminal(pid, descriptor as u8)
 }
 
-/// The act of a verdict.
-fn judge(kernel: &Kernel, pid: u32, verdict: Verdict) -> Act
-    ensures { (s : KernelState) → StandsAt kernel.now s → result ≡ verdict_act s.machine pid verdict }
+/// The outcome of a verdict.
+fn judge(
+    alloc: Global,
+    kernel: &Kernel,
+    pid: u32,
+    builtin: Builtin,
+    verdict: Verdict,
+) -> Result<Outcome, NoMemory>
+    ensures { (s : KernelState) → StandsAt kernel.now s → IfOk result (λ outcome.
+        outcome ≡ verdict_outcome s.machine pid builtin verdict) }
 {
     match verdict {
-        Verdict::Is(holds) => truth(holds),
+        Verdict::Is(holds) => Ok(Outcome::done(alloc, truth(holds))),
         Verdict::Terminal {
             descriptor,
             inverted,
-        } => truth(inverted_by(inverted, terminal_at(kernel, pid, descriptor))),
-        Verdict::Usage => Act::Fault(BuiltinFault::Usage),
+        } => {
+            let holds = inverted_by(inverted, terminal_at(kernel, pid, descriptor));
+            Ok(Outcome::done(alloc, truth(holds)))
+        },
+        Verdict::Usage => Outcome::misuse(alloc, builtin),
     }
 }
 
-/// test with its arguments.
-#[tactic(auto, unfolding(crate::specs::Running::test_act))]
+/// test with its arguments, by one of its names.
+#[tactic(auto, unfolding(crate::specs::Running::test_outcome))]
 pub(crate) fn test(
+    alloc: Global,
     kernel: &Kernel,
     pid: u32,
     vars: &Vars,
+    builtin: Builtin,
     arguments: &[Text],
-) -> Result<Act, NoMemory>
-    ensures { (s : KernelState) → StandsAt kernel.now s → IfOk result (λ act.
-        act ≡ test_act s.machine pid vars.now arguments.now) }
+) -> Result<Outcome, NoMemory>
+    ensures { (s : KernelState) → StandsAt kernel.now s → IfOk result (λ outcome.
+        outcome ≡ test_outcome s.machine pid vars.now builtin arguments.now) }
 {
     let verdict = evaluate(kernel.files(), vars.directory(), arguments)?;
-    Ok(judge(kernel, pid, verdict))
+    let outcome = judge(alloc, kernel, pid, builtin, verdict)?;
+    Ok(outcome)
 }
 
 /// The operands of `[`, before its `]`.
@@ -88,17 +102,18 @@ fn prefix(arguments: &[Text]) -> Option<&[Text]>
 
 /// `[` with its arguments.
 pub(crate) fn bracket(
+    alloc: Global,
     kernel: &Kernel,
     pid: u32,
     vars: &Vars,
     arguments: &[Text],
-) -> Result<Act, NoMemory>
-    ensures { (s : KernelState) → StandsAt kernel.now s → IfOk result (λ act.
-        act ≡ bracket_act s.machine pid vars.now (prefix arguments.now)) }
+) -> Result<Outcome, NoMemory>
+    ensures { (s : KernelState) → StandsAt kernel.now s → IfOk result (λ outcome.
+        outcome ≡ bracket_outcome s.machine pid vars.now (prefix arguments.now)) }
 {
     let Some(operands) = prefix(arguments) else {
-        return Ok(Act::Fault(BuiltinFault::Usage));
+        return Outcome::misuse(alloc, Builtin::Bracket);
     };
-    let act = test(kernel, pid, vars, operands)?;
-    Ok(act)
+    let outcome = test(alloc, kernel, pid, vars, Builtin::Bracket, operands)?;
+    Ok(outcome)
 }

@@ -19,7 +19,7 @@ pub use found::Found;
 pub use preparing::{first_place, go_ahead, not_done};
 pub use reading::find_command;
 pub use running::{
-    Active, Expanded, Finish, Move, Pending, Place, Prepared, Role, Saved, Series, Stages,
+    Active, Expanded, Finish, Move, Pending, Place, Prepared, Report, Role, Saved, Series, Stages,
     Substitution, Undo, Wants,
 };
 pub use series::{Round, give_turn, series_turn};

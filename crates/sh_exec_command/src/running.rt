@@ -1,7 +1,7 @@
 //! The place of a shell: its next action, with all that this needs.
 use sh_base::sequence::{Sequence, Text};
 use sh_base::shared::Shared;
-use sh_builtin::{Builtin, Leave};
+use sh_builtin::{Builtin, Completion, Leave};
 use sh_exec_machine::Undone;
 use sh_exec_parts::message::Piece;
 use sh_exec_parts::redirection::Redirection;
@@ -111,15 +111,27 @@ pub struct Stages {
     pub children: Sequence<u32>,
 }
 
+/// What a built-in has still to say, and how it ends then.
+#[derive(Drop)]
+pub struct Report {
+    /// Its messages, each of which is whole, and is written to descriptor 2 in a write of its own.
+    pub messages: Queue<Text>,
+    /// How it ends after them.
+    pub status: Completion,
+}
+
 /// What follows a write that is done whole.
-#[derive(Clone, Copy, Debug, PartialEq, Eq)]
+#[derive(Drop)]
 pub enum Finish {
     /// The command is done with this status.
     Status(u8),
-    /// The shell is left with this status.
+    /// An error ends the shell with this status (2.8.1).
     Leave(u8),
-    /// This built-in is done with status 0; a write that fails gives it 1, and a message.
-    Output(Builtin),
+    /// A built-in has still to say this.
+    Messages(Report),
+    /// That was the output of this built-in, which has still to say this. A write that fails gives it the status 1, and a message before
+    /// the others.
+    Output(Builtin, Report),
 }
 
 /// The next action of a shell.

@@ -1,53 +1,44 @@
 -- A built-in acts, in the turn of the last of what comes before it (2.9.1.4).
-use Rattle.std.specs.Prelude.{ℕ, List, [], ◌∷◌, ◌++◌, Bool, true, false, codes, drop}
-use Rattle.sh_builtin.specs.Builtins.{is_special, name_of}
+use Rattle.std.specs.Prelude.{ℕ, List, [], ◌∷◌, Option, Some, None, drop}
 use Rattle.sh_builtin.specs.Running.{built_in}
-use Rattle.sh_builtin.specs.declared.act.Act.{Act}
-use Rattle.sh_builtin.specs.declared.act.Act.TheVariants as act
 use Rattle.sh_builtin.specs.declared.builtin.Builtin.{Builtin}
-use Rattle.sh_builtin_vars.specs.declared.outcome.BuiltinFault.{BuiltinFault}
-use Rattle.sh_builtin_vars.specs.declared.outcome.BuiltinFault.TheVariants as fault
-use Rattle.sh_exec_parts.specs.Messages.{message, read_only, usage}
+use Rattle.sh_builtin.specs.declared.outcome.Ask.{Ask}
+use Rattle.sh_builtin.specs.declared.outcome.Completion.{Completion}
+use Rattle.sh_builtin.specs.declared.outcome.Completion.TheVariants as completion
+use Rattle.sh_builtin.specs.declared.outcome.Outcome.{Outcome}
 use Rattle.sh_exec_command.specs.declared.running.Active.{Active}
 use Rattle.sh_exec_command.specs.declared.running.Active.TheVariants.{Acting, Next, Done, Leaving}
-use Rattle.sh_exec_command.specs.declared.running.Finish.{Finish}
-use Rattle.sh_exec_command.specs.declared.running.Finish.TheVariants.{Status, Leave, Output}
+use Rattle.sh_exec_command.specs.declared.running.Finish.TheVariants.{Messages, Output}
 use Rattle.sh_exec_command.specs.declared.running.Place.TheVariants.{Writing}
+use Rattle.sh_exec_command.specs.declared.running.Report.{Report}
 use Rattle.sh_kernel.specs.State.{KernelState}
 use Rattle.sh_vars.specs.Environment.{Environment}
 
--- ---- a message says why it is refused; but for a variable that is read-only, the message begins with the
--- built-in's name
-abbrev pub fault_text : List ℕ → BuiltinFault → List ℕ
-fault_text name fault.Usage = usage name
-fault_text name (fault.BadName word) = name ++ codes ": " ++ word ++ codes ": bad name"
-fault_text name (fault.ReadOnly variable) = read_only variable
-fault_text name (fault.CannotOpen path) = name ++ codes ": " ++ path ++ codes ": cannot open"
+abbrev pub at_completion : Completion → Active
+at_completion (completion.Done status) = Done status
+at_completion (completion.Left leave) = Leaving leave
 
-abbrev pub status_of : BuiltinFault → ℕ
-status_of fault.Usage = 2
-status_of (fault.BadName word) = 2
-status_of (fault.ReadOnly variable) = 2
-status_of (fault.CannotOpen path) = 1
+-- ---- its messages are written to descriptor 2, each in a turn of its own, and then it ends
+abbrev pub said : List (List ℕ) → Completion → Active
+said [] status = at_completion status
+said (message ∷ messages) status =
+    Next (Writing (record { descriptor = 2; bytes = message }) (Messages (record { messages = messages; status = status })))
 
--- an error in a special built-in ends the shell (2.8.1)
-abbrev pub failing : (is_special : Bool) → ℕ → Finish
-failing true status = Leave 2
-failing false status = Status status
+abbrev pub reported : Report → Active
+reported report = said report.messages report.status
 
-abbrev pub refusal : Builtin → BuiltinFault → Active
-refusal builtin why = Next (Writing (message (fault_text (name_of builtin) why)) (failing (is_special builtin) (status_of why)))
+-- ---- before them its output is written to descriptor 1; where there is none, this takes no turn
+abbrev pub output_of : Builtin → List ℕ → Report → Active
+output_of builtin [] report = reported report
+output_of builtin (byte ∷ bytes) report = Next (Writing (record { descriptor = 1; bytes = byte ∷ bytes }) (Output builtin report))
 
--- ---- what follows: its output is written to descriptor 1 from the next turn on; one that has none to write is done, with no turn more
-abbrev pub output_of : Builtin → List ℕ → Active
-output_of builtin [] = Done 0
-output_of builtin (byte ∷ bytes) = Next (Writing (record { descriptor = 1; bytes = byte ∷ bytes }) (Output builtin))
+-- ---- what follows its outcome; no built-in asks yet
+abbrev pub asked : Builtin → Outcome → Option Ask → Active
+asked builtin outcome None = output_of builtin outcome.out (record { messages = outcome.err; status = outcome.status })
+asked builtin outcome (Some ask) = elim ask [ ]
 
-abbrev pub behind : Builtin → Act → Active
-behind builtin (act.Finish status) = Done status
-behind builtin (act.Write text) = output_of builtin text
-behind builtin (act.Leave leave) = Leaving leave
-behind builtin (act.Fault why) = refusal builtin why
+abbrev pub behind : Builtin → Outcome → Active
+behind builtin outcome = asked builtin outcome outcome.ask
 
 -- the environment, and the active place then
 pub record Performed : Type 0 where
@@ -59,7 +50,7 @@ with_active env active = record { environment = env; active = active }
 
 unfoldable pub builtin_effect : KernelState → ℕ → Environment → Builtin → List (List ℕ) → Performed
 builtin_effect s pid env builtin fields =
-    let d = built_in s.machine pid env builtin (drop 1 fields) in with_active d.environment (behind builtin d.act)
+    let d = built_in s.machine pid env builtin (drop 1 fields) in with_active d.environment (behind builtin d.outcome)
 
 abbrev pub effect_at : KernelState → ℕ → Environment → Active → Performed
 effect_at s pid env (Acting builtin fields) = builtin_effect s pid env builtin fields

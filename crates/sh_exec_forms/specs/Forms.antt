@@ -1,7 +1,7 @@
 -- What a form becomes when what runs inside it is done, or leaves it.
 use Rattle.std.specs.Prelude.{◌≡◌, ℕ, zero, suc, List, [], ◌∷◌, ◌||◌, Bool, true, false, Option, Some, None, if◌then◌else◌}
-use Rattle.sh_builtin.specs.declared.act.Leave.{Leave}
-use Rattle.sh_builtin.specs.declared.act.Leave.TheVariants as leave
+use Rattle.sh_builtin.specs.declared.outcome.Leave.{Leave}
+use Rattle.sh_builtin.specs.declared.outcome.Leave.TheVariants as leave
 use Rattle.sh_exec_command.specs.Series.{rest_of_series}
 use Rattle.sh_exec_command.specs.Undoing as variables
 use Rattle.sh_exec_command.specs.declared.running.Active.{Active}
@@ -90,7 +90,8 @@ abbrev pub within_loop : (looped : Bool) → Active → Active
 within_loop looped (Acting builtin fields) = Acting builtin fields
 within_loop looped (Next place) = Next place
 within_loop looped (Done status) = Done status
-within_loop looped (Leaving (leave.Shell status)) = Leaving (leave.Shell status)
+within_loop looped (Leaving (leave.Exit status)) = Leaving (leave.Exit status)
+within_loop looped (Leaving (leave.Fault status)) = Leaving (leave.Fault status)
 within_loop true (Leaving (leave.Break inside)) = Leaving (leave.Break inside)
 within_loop false (Leaving (leave.Break inside)) = Done 0
 within_loop true (Leaving (leave.Continue inside)) = Leaving (leave.Continue inside)
@@ -108,7 +109,8 @@ onward_by leave here None = here
 onward_by leave here (Some inside) = Left (leave inside)
 
 abbrev pub onward : (looped : Bool) → Leave → Onward
-onward looped (leave.Shell status) = Left (leave.Shell status)
+onward looped (leave.Exit status) = Left (leave.Exit status)
+onward looped (leave.Fault status) = Left (leave.Fault status)
 onward looped (leave.Break inside) = onward_by leave.Break Over (beyond looped inside)
 onward looped (leave.Continue inside) = onward_by leave.Continue On (beyond looped inside)
 

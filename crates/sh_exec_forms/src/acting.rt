@@ -1,100 +1,73 @@
 //! Built-ins act.
-ghost use Rattle.std.specs.Prelude.{◌≡◌, ◌++◌, IfOk, codes, drop};
-ghost use Rattle.sh_exec_parts.specs.Messages as messages;
-ghost use Rattle.sh_exec_forms.specs.Builtins.{behind, builtin_effect, failing, fault_text, with_active, effect_at, refusal, status_of, output_of};
+ghost use Rattle.std.specs.Prelude.{◌≡◌, IfOk, drop};
+ghost use Rattle.sh_exec_forms.specs.Builtins.{at_completion, behind, builtin_effect, effect_at, output_of, reported, with_active};
 ghost use Rattle.sh_kernel.specs.State.{KernelState, StandsAt};
 
 use sh_base::NoMemory;
-use sh_base::sequence::{Sequence, Text};
-use sh_builtin::{Act, Builtin};
-use sh_builtin_vars::BuiltinFault;
-use sh_exec_command::{Active, Finish, Place};
-use sh_exec_parts::message::{Piece, message, read_only, usage};
+use sh_base::sequence::Text;
+use sh_builtin::{Builtin, Completion, Outcome};
+use sh_exec_command::{Active, Finish, Place, Report};
+use sh_exec_parts::Queue;
+use sh_exec_parts::message::Piece;
 use sh_kernel::Kernel;
 use sh_vars::Vars;
 use std::alloc::Global;
 
-/// A message about a word of a built-in.
-fn about_word(alloc: Global, name: &[u8], word: &[u8], text: &[u8]) -> Result<Piece, NoMemory>
-    ensures { IfOk result (λ piece.
-        piece ≡ messages.message (name.now ++ codes ": " ++ word.now ++ text.now)) }
+/// How a built-in ends.
+fn at_completion(status: Completion) -> Active
+    ensures { result ≡ at_completion status }
 {
-    let mut whole = Sequence::new(alloc);
-    whole.extend_from_slice(name)?;
-    whole.extend_from_slice(b": ")?;
-    whole.extend_from_slice(word)?;
-    whole.extend_from_slice(text)?;
-    message(alloc, whole.as_slice())
+    match status {
+        Completion::Done(status) => Active::Done(status),
+        Completion::Left(leave) => Active::Leaving(leave),
+    }
 }
 
-/// The message of a built-in that is refused.
-fn fault_message(alloc: Global, name: &[u8], fault: BuiltinFault) -> Result<Piece, NoMemory>
-    ensures { IfOk result (λ piece. piece ≡ messages.message (fault_text name.now fault)) }
+/// What follows where a built-in has still to say something: the next of its messages is written, or it ends. Takes no memory.
+pub fn reported(report: Report) -> Active
+    ensures { result ≡ reported report }
 {
-    match fault {
-        BuiltinFault::Usage => usage(alloc, name),
-        BuiltinFault::BadName(word) => about_word(alloc, name, word.as_slice(), b": bad name"),
-        BuiltinFault::ReadOnly(variable) => read_only(alloc, variable.as_slice()),
-        BuiltinFault::CannotOpen(path) => {
-            about_word(alloc, name, path.as_slice(), b": cannot open")
+    let Report {
+        mut messages,
+        status,
+    } = report;
+    match messages.take() {
+        Some(bytes) => {
+            let piece = Piece {
+                descriptor: 2,
+                bytes,
+            };
+            Active::Next(Place::Writing(piece, Finish::Messages(Report { messages, status })))
         },
+        None => at_completion(status),
     }
 }
 
-/// The status of a built-in that is refused.
-fn status_of(fault: &BuiltinFault) -> u8
-    ensures { result ≡ status_of fault.now }
-{
-    match fault {
-        BuiltinFault::Usage => 2,
-        BuiltinFault::BadName(_) => 2,
-        BuiltinFault::ReadOnly(_) => 2,
-        BuiltinFault::CannotOpen(_) => 1,
-    }
-}
-
-/// What follows the message.
-fn failing(is_special: bool, status: u8) -> Finish
-    ensures { result ≡ failing is_special status }
-{
-    if is_special {
-        return Finish::Leave(2);
-    }
-    Finish::Status(status)
-}
-
-/// Where a built-in goes on that is refused.
-fn refused(alloc: Global, builtin: Builtin, fault: BuiltinFault) -> Result<Active, NoMemory>
-    ensures { IfOk result (λ active. active ≡ refusal builtin fault) }
-{
-    let finish = failing(builtin.is_special(), status_of(&fault));
-    let piece = fault_message(alloc, builtin.name(), fault)?;
-    Ok(Active::Next(Place::Writing(piece, finish)))
-}
-
-/// What follows when a built-in has output to write: nothing where that is empty.
-fn written(builtin: Builtin, bytes: Text) -> Active
-    ensures { result ≡ output_of builtin bytes }
+/// What follows when a built-in has output to write: where that is empty, what it has still to say.
+fn written(builtin: Builtin, bytes: Text, report: Report) -> Active
+    ensures { result ≡ output_of builtin bytes report }
 {
     if bytes.is_empty() {
-        return Active::Done(0);
+        return reported(report);
     }
     let piece = Piece {
         descriptor: 1,
         bytes,
     };
-    Active::Next(Place::Writing(piece, Finish::Output(builtin)))
+    Active::Next(Place::Writing(piece, Finish::Output(builtin, report)))
 }
 
 /// What follows when a built-in has acted.
-fn behind(alloc: Global, builtin: Builtin, act: Act) -> Result<Active, NoMemory>
-    ensures { IfOk result (λ active. active ≡ behind builtin act) }
+fn behind(builtin: Builtin, outcome: Outcome) -> Active
+    ensures { result ≡ behind builtin outcome }
 {
-    match act {
-        Act::Finish(status) => Ok(Active::Done(status)),
-        Act::Write(bytes) => Ok(written(builtin, bytes)),
-        Act::Leave(leave) => Ok(Active::Leaving(leave)),
-        Act::Fault(fault) => refused(alloc, builtin, fault),
+    let report = Report {
+        messages: Queue::new(outcome.err),
+        status: outcome.status,
+    };
+    match outcome.ask {
+        None => written(builtin, outcome.out, report),
+        Some(ask) => match ask {},
     }
 }
 
@@ -121,9 +94,8 @@ fn build(
     ensures { (s : KernelState) → StandsAt kernel.now s → IfOk result (λ active.
         with_active vars.new active ≡ builtin_effect s pid vars.old builtin fields.now) }
 {
-    let act = builtin.run(alloc, kernel, pid, vars, arguments_of(fields))?;
-    let active = behind(alloc, builtin, act)?;
-    Ok(active)
+    let outcome = builtin.run(alloc, kernel, pid, vars, arguments_of(fields))?;
+    Ok(behind(builtin, outcome))
 }
 
 /// The active place, where a built-in has acted if one is to.

@@ -12,6 +12,7 @@ mod loops;
 mod share;
 mod step;
 
+pub use acting::reported;
 pub use bodies::{body_of, stage};
 pub use entering::{enter, enter_list};
 pub use form::{Branches, Form, Loop};

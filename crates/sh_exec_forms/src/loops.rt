@@ -37,7 +37,8 @@ pub(crate) fn bound(frames: &Frames, active: Active) -> Active
         Active::Next(place) => Active::Next(place),
         Active::Done(status) => Active::Done(status),
         Active::Leaving(leave) => match leave {
-            Leave::Shell(status) => Active::Leaving(Leave::Shell(status)),
+            Leave::Exit(status) => Active::Leaving(Leave::Exit(status)),
+            Leave::Fault(status) => Active::Leaving(Leave::Fault(status)),
             Leave::Break(inside) => {
                 if frames.has_loop() {
                     return Active::Leaving(Leave::Break(inside));
@@ -69,7 +70,8 @@ fn where_to(frames: &Frames, leave: Leave) -> Onward
     ensures { result ≡ onward (has_loop frames.now) leave }
 {
     match leave {
-        Leave::Shell(status) => Onward::Left(Leave::Shell(status)),
+        Leave::Exit(status) => Onward::Left(Leave::Exit(status)),
+        Leave::Fault(status) => Onward::Left(Leave::Fault(status)),
         Leave::Break(inside) => match beyond(frames, inside) {
             Some(inside) => Onward::Left(Leave::Break(inside)),
             None => Onward::Over,

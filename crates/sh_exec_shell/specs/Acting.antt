@@ -2,7 +2,8 @@
 use Rattle.std.specs.Prelude.{ℕ, List, [], ◌∷◌, ◌++◌, Bool, true, false, drop, length, nat_eq, Option, Some, None, Result, Ok, Err, if◌then◌else◌}
 use Rattle.sh_builtin.specs.Builtins.{name_of}
 use Rattle.sh_exec_parts.specs.Messages.{message, refusal_text, write_error}
-use Rattle.sh_builtin.specs.declared.act.Leave.TheVariants as leave
+use Rattle.sh_builtin.specs.declared.outcome.Completion.TheVariants as completion
+use Rattle.sh_builtin.specs.declared.outcome.Leave.TheVariants as leave
 use Rattle.sh_exec_parts.specs.declared.message.Piece.{Piece}
 use Rattle.sh_exec_parts.specs.declared.redirection.Redirection.{Redirection}
 use Rattle.sh_exec_command.specs.Assigning.{assign_turn}
@@ -15,7 +16,7 @@ use Rattle.sh_exec_command.specs.declared.found.Found.TheVariants as found
 use Rattle.sh_exec_command.specs.declared.running.Active.{Active}
 use Rattle.sh_exec_command.specs.declared.running.Active.TheVariants.{Next, Done, Leaving}
 use Rattle.sh_exec_command.specs.declared.running.Finish.{Finish}
-use Rattle.sh_exec_command.specs.declared.running.Finish.TheVariants.{Status, Leave, Output}
+use Rattle.sh_exec_command.specs.declared.running.Finish.TheVariants.{Status, Leave, Messages, Output}
 use Rattle.sh_exec_command.specs.declared.running.Pending.{Pending}
 use Rattle.sh_exec_command.specs.declared.running.Place.{Place}
 use Rattle.sh_exec_command.specs.declared.running.Place.TheVariants.{Answering, Collecting, Ending, Expanding, Waiting, Writing}
@@ -34,6 +35,7 @@ use Rattle.sh_exec_machine.specs.declared.transfer.WriteOutcome.TheVariants as g
 use Rattle.sh_exec_machine.specs.declared.transfer.ReadOutcome.{ReadOutcome}
 use Rattle.sh_exec_machine.specs.declared.transfer.ReadOutcome.TheVariants as taken
 use Rattle.sh_exec_machine.specs.declared.undone.Undone.{Undone}
+use Rattle.sh_exec_forms.specs.Builtins.{reported}
 use Rattle.sh_exec_forms.specs.Forms.{Acted, with_run}
 use Rattle.sh_exec_forms.specs.Entering.{items_run, list_run}
 use Rattle.sh_exec_forms.specs.Frames.{run_in}
@@ -51,7 +53,7 @@ use Rattle.sh_vars.specs.Environment.{Environment}
 
 -- ---- reading (2.1): where no command follows the shell is left with the last status
 abbrev pub read_turn : Environment → Found → Run
-read_turn env found.Nothing = At (Leaving (leave.Shell env.special.status))
+read_turn env found.Nothing = At (Leaving (leave.Exit env.special.status))
 read_turn env (found.Command tree rest) = In (Text rest) (items_run (view.out-CompoundList tree).items env.special.status)
 read_turn env (found.Fault refusal) = At (fatal (refusal_text refusal))
 
@@ -147,14 +149,17 @@ redirect_turn s pid env p = redirect_from s pid env p p.redirections
 -- ---- writing
 abbrev pub after_writing : Finish → Active
 after_writing (Status status) = Done status
-after_writing (Leave status) = Leaving (leave.Shell status)
-after_writing (Output builtin) = Done 0
+after_writing (Leave status) = Leaving (leave.Fault status)
+after_writing (Messages report) = reported report
+after_writing (Output builtin report) = reported report
 
--- a message that can't be written is dropped; a built-in has 1 then, and a message
+-- a message that can't be written is dropped; a built-in whose output can't be written has 1, and a message before its others
 abbrev pub unwritten : Finish → Active
 unwritten (Status status) = Done status
-unwritten (Leave status) = Leaving (leave.Shell status)
-unwritten (Output builtin) = Next (Writing (message (write_error (name_of builtin))) (Status 1))
+unwritten (Leave status) = Leaving (leave.Fault status)
+unwritten (Messages report) = reported report
+unwritten (Output builtin report) =
+    Next (Writing (message (write_error (name_of builtin))) (Messages (record report { status = completion.Done 1 })))
 
 -- what is left is still to be written; a process that a signal ended acts no more
 abbrev pub written_by : Piece → Finish → WriteOutcome → Active

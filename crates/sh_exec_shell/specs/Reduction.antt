@@ -1,7 +1,7 @@
 -- One turn of a shell: inward to its active place, the action there, and outward again.
 use Rattle.std.specs.Prelude.{ℕ, ◌||◌, Bool, false, None}
 use Rattle.sh_exec_command.specs.Expanding.{Turn}
-use Rattle.sh_builtin.specs.declared.act.Leave.TheVariants as leave
+use Rattle.sh_builtin.specs.declared.outcome.Leave.TheVariants as leave
 use Rattle.sh_exec_command.specs.Reading.{next_command}
 use Rattle.sh_exec_command.specs.Series.{give_turn}
 use Rattle.sh_exec_command.specs.declared.running.Active.{Active}
@@ -61,7 +61,8 @@ reduce s pid env looped (In form run) =
 
 -- at the root what leaves the shell, or is done, becomes the end of the process
 abbrev pub at_root : Run → Run
-at_root (At (Leaving (leave.Shell status))) = At (Next (Ending status))
+at_root (At (Leaving (leave.Exit status))) = At (Next (Ending status))
+at_root (At (Leaving (leave.Fault status))) = At (Next (Ending status))
 at_root (At (Leaving (leave.Break inside))) = At (Next (Ending 0))
 at_root (At (Leaving (leave.Continue inside))) = At (Next (Ending 0))
 at_root (At (Done status)) = At (Next (Ending status))

@@ -8,8 +8,9 @@ ghost use Rattle.sh_exec_forms.specs.Running.{Run};
 
 use sh_base::NoMemory;
 use sh_base::sequence::Text;
-use sh_builtin::Leave;
-use sh_exec_command::{Active, Finish, Place};
+use sh_builtin::{Completion, Leave};
+use sh_exec_command::{Active, Finish, Place, Report};
+use sh_exec_forms::reported;
 use sh_exec_machine::{WriteOutcome, give_bytes};
 use sh_exec_parts::message::{Piece, write_error};
 use sh_kernel::Kernel;
@@ -22,8 +23,9 @@ fn finished(finish: Finish) -> Active
 {
     match finish {
         Finish::Status(status) => Active::Done(status),
-        Finish::Leave(status) => Active::Leaving(Leave::Shell(status)),
-        Finish::Output(_) => Active::Done(0),
+        Finish::Leave(status) => Active::Leaving(Leave::Fault(status)),
+        Finish::Messages(report) => reported(report),
+        Finish::Output(_, report) => reported(report),
     }
 }
 
@@ -33,10 +35,15 @@ fn unwritten(alloc: Global, finish: Finish) -> Result<Active, NoMemory>
 {
     match finish {
         Finish::Status(status) => Ok(Active::Done(status)),
-        Finish::Leave(status) => Ok(Active::Leaving(Leave::Shell(status))),
-        Finish::Output(builtin) => {
+        Finish::Leave(status) => Ok(Active::Leaving(Leave::Fault(status))),
+        Finish::Messages(report) => Ok(reported(report)),
+        Finish::Output(builtin, report) => {
             let piece = write_error(alloc, builtin.name())?;
-            Ok(Active::Next(Place::Writing(piece, Finish::Status(1))))
+            let report = Report {
+                messages: report.messages,
+                status: Completion::Done(1),
+            };
+            Ok(Active::Next(Place::Writing(piece, Finish::Messages(report))))
         },
     }
 }

@@ -55,7 +55,8 @@ fn status_of(leave: Leave) -> u8
     ensures { at_root (Run.At (Active.Leaving leave)) ≡ Run.At (Active.Next (Place.Ending result)) }
 {
     match leave {
-        Leave::Shell(status) => status,
+        Leave::Exit(status) => status,
+        Leave::Fault(status) => status,
         Leave::Break(_) => 0,
         Leave::Continue(_) => 0,
     }

@@ -38,7 +38,7 @@ fn read(alloc: Global, frames: &mut Frames, rest: Rest, vars: &Vars) -> Result<A
         run_of frames.new active ≡ run_in frames.old (read_turn vars.now (next_command rest))) }
 {
     match find_command(alloc, rest)? {
-        Found::Nothing => Ok(Active::Leaving(Leave::Shell(vars.status()))),
+        Found::Nothing => Ok(Active::Leaving(Leave::Exit(vars.status()))),
         Found::Command(tree, rest) => {
             let items = Queue::new(tree.into_items());
             match frames.push(Form::Text(rest)) {

@@ -3,8 +3,8 @@ use Rattle.std.proofs.Common.{◌≡◌, ℕ, zero, suc, List, [], ◌∷◌, Bo
 use Rattle.std.specs.Prelude.{◌||◌, nat_eq, if◌then◌else◌}
 use Rattle.sh_exec_parts.specs.declared.message.Piece.{Piece}
 use Rattle.sh_exec_parts.specs.declared.redirection.Redirection.{Redirection}
-use Rattle.sh_builtin.specs.declared.act.Leave.{Leave}
-use Rattle.sh_builtin.specs.declared.act.Leave.TheVariants as leave
+use Rattle.sh_builtin.specs.declared.outcome.Leave.{Leave}
+use Rattle.sh_builtin.specs.declared.outcome.Leave.TheVariants as leave
 use Rattle.sh_exec_command.specs.Series.{rest_of_series}
 use Rattle.sh_exec_command.specs.declared.running.Active.{Active}
 use Rattle.sh_exec_command.specs.declared.running.Active.TheVariants.{Acting, Next, Done, Leaving}
@@ -58,7 +58,8 @@ module _ (directory : List ℕ) (pid : ℕ) (P : KernelState → Type 0) (kept :
   ended_keeps (Each series) s env status p = p
 
   loop_left_keeps : (looped : Bool) (leave : Leave) (s : KernelState) (env : Environment) (next : Run) → P s → P (loop_left s env next (onward looped leave)).machine
-  loop_left_keeps looped (leave.Shell status) s env next p = p
+  loop_left_keeps looped (leave.Exit status) s env next p = p
+  loop_left_keeps looped (leave.Fault status) s env next p = p
   loop_left_keeps looped (leave.Break zero) s env next p = p
   loop_left_keeps false (leave.Break (suc inside)) s env next p = p
   loop_left_keeps true (leave.Break (suc inside)) s env next p = p

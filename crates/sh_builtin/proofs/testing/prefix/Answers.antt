@@ -1,4 +1,3 @@
-use Rattle.std.proofs.Common.{◌∙◌, sym}
 use Rattle.sh_builtin.proofs.Prefixes.{prefix_closed, prefix_open}
 use Rattle.sh_builtin.proofs.testing.prefix.Goals as goal
 

@@ -1,0 +1,52 @@
+-- What a built-in comes to, beside what it changes of the shell: what it asks of the kernel, what it then writes, and how it ends.
+use Rattle.std.specs.Prelude.{ℕ, List, [], ◌∷◌, Bool, true, false, None}
+use Rattle.sh_builtin.specs.Builtins.{is_special, name_of}
+use Rattle.sh_builtin.specs.Messages.{fault_text, line_of, status_of}
+use Rattle.sh_builtin.specs.declared.builtin.Builtin.{Builtin}
+use Rattle.sh_builtin.specs.declared.outcome.Completion.{Completion}
+use Rattle.sh_builtin.specs.declared.outcome.Completion.TheVariants.{Done, Left}
+use Rattle.sh_builtin.specs.declared.outcome.Leave.{Leave}
+use Rattle.sh_builtin.specs.declared.outcome.Leave.TheVariants as leave
+use Rattle.sh_builtin.specs.declared.outcome.Outcome.{Outcome}
+use Rattle.sh_builtin.specs.declared.outcome.Rest.{Rest}
+use Rattle.sh_builtin_vars.specs.declared.outcome.BuiltinFault.{BuiltinFault}
+use Rattle.sh_builtin_vars.specs.declared.outcome.BuiltinFault.TheVariants as fault
+use Rattle.sh_builtin_vars.specs.declared.outcome.Outcome.{Outcome as Answer}
+use Rattle.sh_builtin_vars.specs.declared.outcome.Outcome.TheVariants as answer
+
+-- one that asks nothing: its output, its messages, and how it ends
+abbrev pub outcome : List ℕ → List (List ℕ) → Completion → Outcome
+outcome out err status = record { out = out; err = err; status = status; ask = None; rest = None }
+
+abbrev pub done : ℕ → Outcome
+done status = outcome [] [] (Done status)
+
+abbrev pub output : List ℕ → Outcome
+output text = outcome text [] (Done 0)
+
+abbrev pub left : Leave → Outcome
+left leave = outcome [] [] (Left leave)
+
+-- an error in a special built-in ends a shell that isn't interactive (2.8.1)
+abbrev pub failure : (is_special : Bool) → ℕ → Completion
+failure true status = Left (leave.Fault 2)
+failure false status = Done status
+
+-- one that is refused has a message, and no output
+abbrev pub refusal : Builtin → BuiltinFault → Outcome
+refusal builtin why =
+    outcome [] (line_of (fault_text (name_of builtin) why) ∷ []) (failure (is_special builtin) (status_of why))
+
+-- one with wrong options or operands
+abbrev pub misuse : Builtin → Outcome
+misuse builtin = refusal builtin fault.Usage
+
+-- of what a built-in that acts on the shell's environment answers
+abbrev pub outcome_of : Builtin → Answer → Outcome
+outcome_of builtin (answer.Done status) = done status
+outcome_of builtin (answer.Output text) = output text
+outcome_of builtin (answer.Fault why) = refusal builtin why
+
+-- no built-in asks yet, so none has anything left to do behind an answer
+abbrev pub resumption : Rest → Outcome
+resumption rest = elim rest [ ]

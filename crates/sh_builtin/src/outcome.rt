@@ -1,0 +1,159 @@
+//! What built-ins come to.
+ghost use Rattle.std.specs.Prelude.{◌≡◌, IfOk};
+ghost use Rattle.sh_builtin.specs.Outcomes.{done, failure, left, misuse, output, outcome_of, refusal, resumption};
+
+use crate::builtin::Builtin;
+use crate::message::{fault_line, status_of};
+use sh_base::NoMemory;
+use sh_base::sequence::{Sequence, Text};
+use sh_builtin_vars::BuiltinFault;
+use std::alloc::Global;
+
+/// How commands are left before their end.
+#[derive(Clone, Copy, Debug, PartialEq, Eq)]
+pub enum Leave {
+    /// The shell is left with this status, by `exit` (XCU 2.15) or at the end of its text.
+    Exit(u8),
+    /// An error ends a shell that isn't interactive, with this status (XCU 2.8.1). Its message is written before.
+    Fault(u8),
+    /// A loop is left: the one with so many other loops inside it around the place, so 0 is the innermost.
+    Break(u64),
+    /// A run of a loop's body is left, and the loop goes on: the one with so many other loops inside it.
+    Continue(u64),
+}
+
+/// How a built-in ends.
+#[derive(Clone, Copy, Debug, PartialEq, Eq)]
+pub enum Completion {
+    /// It is done with this status.
+    Done(u8),
+    /// Commands are left.
+    Left(Leave),
+}
+
+/// What a built-in asks of the kernel. None asks anything yet: `test -t` only looks.
+#[derive(Debug, Drop)]
+pub enum Ask {}
+
+/// What a built-in has left to do once what it asked is answered. None asks anything yet.
+#[derive(Debug, Drop)]
+pub enum Rest {}
+
+/// What a built-in comes to, beside what it changes of the shell. In this order it asks, writes `out`, writes each message of `err`,
+/// and ends.
+#[derive(Debug, Drop)]
+pub struct Outcome {
+    /// The bytes that are written to descriptor 1, in one write. Where there are none, nothing is written, also to a closed descriptor.
+    pub out: Text,
+    /// The messages that are then written to descriptor 2, each in a write of its own. Each is whole, with `psh: ` and a newline.
+    pub err: Sequence<Text>,
+    /// How it ends.
+    pub status: Completion,
+    /// What it asks of the kernel before it writes.
+    pub ask: Option<Ask>,
+    /// What is left to do once that is answered. What this comes to stands in the place of `out`, `err` and `status`.
+    pub rest: Option<Rest>,
+}
+
+impl Rest {
+    /// Does what is left to do, and gives what the built-in then comes to. The only error is want of memory.
+    pub fn resume(self) -> Result<Outcome, NoMemory>
+        ensures { IfOk result (λ outcome. outcome ≡ resumption self) }
+    {
+        match self {}
+    }
+}
+
+impl Outcome {
+    /// Done with a status.
+    pub(crate) fn done(alloc: Global, status: u8) -> Outcome
+        ensures { result ≡ done status }
+    {
+        Outcome {
+            out: Sequence::new(alloc),
+            err: Sequence::new(alloc),
+            status: Completion::Done(status),
+            ask: None,
+            rest: None,
+        }
+    }
+
+    /// Writes a text, and is done with 0.
+    pub(crate) fn output(alloc: Global, text: Text) -> Outcome
+        ensures { result ≡ output text }
+    {
+        Outcome {
+            out: text,
+            err: Sequence::new(alloc),
+            status: Completion::Done(0),
+            ask: None,
+            rest: None,
+        }
+    }
+
+    /// Leaves commands.
+    pub(crate) fn left(alloc: Global, leave: Leave) -> Outcome
+        ensures { result ≡ left leave }
+    {
+        Outcome {
+            out: Sequence::new(alloc),
+            err: Sequence::new(alloc),
+            status: Completion::Left(leave),
+            ask: None,
+            rest: None,
+        }
+    }
+
+    /// Is refused.
+    pub(crate) fn refusal(
+        alloc: Global,
+        builtin: Builtin,
+        fault: BuiltinFault,
+    ) -> Result<Outcome, NoMemory>
+        ensures { IfOk result (λ outcome. outcome ≡ refusal builtin fault) }
+    {
+        let status = failure(builtin.is_special(), status_of(&fault));
+        let line = fault_line(alloc, builtin.name(), fault)?;
+        let mut err = Sequence::new(alloc);
+        err.push(line)?;
+        Ok(Outcome {
+            out: Sequence::new(alloc),
+            err,
+            status,
+            ask: None,
+            rest: None,
+        })
+    }
+
+    /// Is refused for its options or operands.
+    pub(crate) fn misuse(alloc: Global, builtin: Builtin) -> Result<Outcome, NoMemory>
+        ensures { IfOk result (λ outcome. outcome ≡ misuse builtin) }
+    {
+        Outcome::refusal(alloc, builtin, BuiltinFault::Usage)
+    }
+
+    /// Comes to what a built-in of `sh_builtin_vars` answers.
+    pub(crate) fn of(
+        alloc: Global,
+        builtin: Builtin,
+        answer: sh_builtin_vars::Outcome,
+    ) -> Result<Outcome, NoMemory>
+        ensures { IfOk result (λ outcome. outcome ≡ outcome_of builtin answer) }
+    {
+        match answer {
+            sh_builtin_vars::Outcome::Done(status) => Ok(Outcome::done(alloc, status)),
+            sh_builtin_vars::Outcome::Output(text) => Ok(Outcome::output(alloc, text)),
+            sh_builtin_vars::Outcome::Fault(fault) => Outcome::refusal(alloc, builtin, fault),
+        }
+    }
+}
+
+/// How a built-in ends that is refused.
+fn failure(is_special: bool, status: u8) -> Completion
+    ensures { result ≡ failure is_special status }
+{
+    if is_special {
+        return Completion::Left(Leave::Fault(2));
+    }
+    Completion::Done(status)
+}
