@@ -4,47 +4,47 @@ use Rattle.sh_exec.specs.declared.process.Process.{Process}
 use Rattle.sh_exec.specs.declared.process.Process.TheVariants.{Runs, Asks}
 use Rattle.sh_exec_command.specs.declared.running.Active.{Active}
 use Rattle.sh_exec_command.specs.declared.running.Active.TheVariants.{Acting, Next, Done, Leaving}
-use Rattle.sh_exec_command.specs.declared.running.Place.{Place}
-use Rattle.sh_exec_command.specs.declared.running.Place.TheVariants.{Reading, Expanding, Collecting, Answering, Redirecting, Forking, Starting, Staging, Giving, Waiting, Writing, Ending}
+use Rattle.sh_exec_command.specs.declared.running.Action.{Action}
+use Rattle.sh_exec_command.specs.declared.running.Action.TheVariants.{Reading, Expanding, ReadSubstitution, WaitSubstitution, Redirecting, Forking, Starting, ForkStage, AssignLoopVariable, Waiting, Writing, Ending}
 use Rattle.sh_exec_forms.specs.Running.{active_of}
-use Rattle.sh_kernel.specs.Turns.{Action, Acts, ReadsBy, WaitsFor, WritesBy}
+use Rattle.sh_kernel.specs.Turns.{Action as Asked, Acts, ReadsBy, WaitsFor, WritesBy}
 use Rattle.sh_kernel_descriptors.specs.declared.descriptor.DescriptorRef.TheVariants.{Aside, Number}
 use Rattle.sh_stock.specs.declared.asking.Ask.{Ask}
 use Rattle.sh_stock.specs.declared.asking.Ask.TheVariants as ask
 
 -- a shell reads by the end of a pipe that was set aside, as long as there is one
-abbrev pub collecting : Option ℕ → Action
+abbrev pub collecting : Option ℕ → Asked
 collecting None = Acts
 collecting (Some aside) = ReadsBy (Aside aside)
 
-abbrev pub action_at : Place → Action
+abbrev pub action_at : Action → Asked
 action_at (Reading rest) = Acts
 action_at (Expanding wants pending) = Acts
-action_at (Collecting substitution) = collecting substitution.aside
-action_at (Answering substitution) = WaitsFor substitution.children
+action_at (ReadSubstitution substitution) = collecting substitution.aside
+action_at (WaitSubstitution substitution) = WaitsFor substitution.children
 action_at (Redirecting p) = Acts
 action_at (Forking p) = Acts
 action_at (Starting fields) = Acts
-action_at (Staging stages) = Acts
-action_at (Giving series) = Acts
+action_at (ForkStage stages) = Acts
+action_at (AssignLoopVariable series) = Acts
 action_at (Waiting children) = WaitsFor children
 action_at (Writing piece finish) = WritesBy piece.descriptor (length piece.bytes)
 action_at (Ending status) = Acts
 
-abbrev pub action_in : Active → Action
+abbrev pub action_in : Active → Asked
 action_in (Next place) = action_at place
 action_in (Acting builtin fields) = Acts
 action_in (Done status) = Acts
 action_in (Leaving status) = Acts
 
 -- a program reads by descriptor 0, and writes by descriptor 1
-abbrev pub action_for : Ask → Action
+abbrev pub action_for : Ask → Asked
 action_for (ask.Read count) = ReadsBy (Number 0)
 action_for (ask.Write bytes) = WritesBy 1 (length bytes)
 action_for ask.Stop = Acts
 action_for ask.Idle = Acts
 action_for (ask.End status) = Acts
 
-abbrev pub action_of : {S : Type 0} → Process S → Action
+abbrev pub action_of : {S : Type 0} → Process S → Asked
 action_of (Runs shell) = action_in (active_of shell.run)
 action_of (Asks ask program) = action_for ask

@@ -2,20 +2,20 @@
 use Rattle.std.specs.Prelude.{ℕ, List, [], ◌&&◌, nat_le, codes, Option, Some, None, length, if◌then◌else◌}
 use Rattle.sh_exec_parts.specs.Messages.{cannot_execute, message, not_found}
 use Rattle.sh_exec_command.specs.declared.running.Finish.TheVariants.{Leave}
-use Rattle.sh_exec_command.specs.declared.running.Place.{Place}
-use Rattle.sh_exec_command.specs.declared.running.Place.TheVariants.{Reading, Writing}
+use Rattle.sh_exec_command.specs.declared.running.Action.{Action}
+use Rattle.sh_exec_command.specs.declared.running.Action.TheVariants.{Reading, Writing}
 use Rattle.sh_files.specs.Nodes.{FileMap, node_of_path}
 use Rattle.sh_files_image.specs.declared.node.Node.{Node}
 use Rattle.sh_files_image.specs.declared.node.Node.TheVariants.{Directory, File, Null, Terminal}
 
-abbrev pub missing : List ℕ → Place
+abbrev pub missing : List ℕ → Action
 missing path = Writing (message (not_found path)) (Leave 127)
 
-abbrev pub unreadable : List ℕ → Place
+abbrev pub unreadable : List ℕ → Action
 unreadable path = Writing (message (cannot_execute path)) (Leave 126)
 
 -- a script has 2^24 bytes at most, and /dev/null none
-abbrev pub place_by : List ℕ → Option Node → Place
+abbrev pub place_by : List ℕ → Option Node → Action
 place_by path None = missing path
 place_by path (Some Directory) = unreadable path
 place_by path (Some (File file)) =
@@ -24,5 +24,5 @@ place_by path (Some Null) = Reading []
 place_by path (Some Terminal) = unreadable path
 
 -- the path goes from the root, the first shell's working directory
-unfoldable pub script_place : FileMap → List ℕ → Place
+unfoldable pub script_place : FileMap → List ℕ → Action
 script_place files path = place_by path (node_of_path files (codes "/") path)

@@ -11,8 +11,8 @@ use Rattle.sh_exec.specs.declared.search.Located.TheVariants as located
 use Rattle.sh_exec_command.specs.declared.running.Active.{Active}
 use Rattle.sh_exec_command.specs.declared.running.Active.TheVariants.{Acting, Next, Done, Leaving}
 use Rattle.sh_exec_command.specs.declared.running.Finish.TheVariants.{Leave}
-use Rattle.sh_exec_command.specs.declared.running.Place.{Place}
-use Rattle.sh_exec_command.specs.declared.running.Place.TheVariants.{Reading, Expanding, Collecting, Answering, Redirecting, Forking, Starting, Staging, Giving, Waiting, Writing, Ending}
+use Rattle.sh_exec_command.specs.declared.running.Action.{Action}
+use Rattle.sh_exec_command.specs.declared.running.Action.TheVariants.{Reading, Expanding, ReadSubstitution, WaitSubstitution, Redirecting, Forking, Starting, ForkStage, AssignLoopVariable, Waiting, Writing, Ending}
 use Rattle.sh_exec_forms.specs.Running.{At}
 use Rattle.sh_kernel.specs.Calls.{start_call}
 use Rattle.sh_kernel.specs.State.{KernelState}
@@ -22,7 +22,7 @@ use Rattle.sh_stock.specs.declared.asking.Answer.TheVariants as answer
 use Rattle.sh_vars.specs.Environment.{Environment}
 
 -- a shell that does this alone
-abbrev pub shell_at : {S : Type 0} → Environment → Place → Process S
+abbrev pub shell_at : {S : Type 0} → Environment → Action → Process S
 shell_at env place = Runs (record { environment = env; run = At (Next place) })
 
 -- the process says why there is no program, and ends with this status
@@ -58,16 +58,16 @@ start_turn m s pid env [] = with_process s (shell_at env (Starting []))
 start_turn m s pid env (name ∷ operands) = start_named m s pid env name operands
 
 -- what a shell is about to start
-abbrev pub starting_at : Place → Option (List (List ℕ))
+abbrev pub starting_at : Action → Option (List (List ℕ))
 starting_at (Reading rest) = None
 starting_at (Expanding wants pending) = None
-starting_at (Collecting substitution) = None
-starting_at (Answering substitution) = None
+starting_at (ReadSubstitution substitution) = None
+starting_at (WaitSubstitution substitution) = None
 starting_at (Redirecting p) = None
 starting_at (Forking p) = None
 starting_at (Starting fields) = Some fields
-starting_at (Staging stages) = None
-starting_at (Giving series) = None
+starting_at (ForkStage stages) = None
+starting_at (AssignLoopVariable series) = None
 starting_at (Waiting children) = None
 starting_at (Writing piece finish) = None
 starting_at (Ending status) = None

@@ -9,8 +9,8 @@ use Rattle.sh_exec.specs.declared.settings.Source.{Source}
 use Rattle.sh_exec.specs.declared.settings.Source.TheVariants.{Text, Script}
 use Rattle.sh_exec.specs.declared.task.Task.{Task}
 use Rattle.sh_exec_command.specs.declared.running.Active.TheVariants.{Next}
-use Rattle.sh_exec_command.specs.declared.running.Place.{Place}
-use Rattle.sh_exec_command.specs.declared.running.Place.TheVariants.{Reading}
+use Rattle.sh_exec_command.specs.declared.running.Action.{Action}
+use Rattle.sh_exec_command.specs.declared.running.Action.TheVariants.{Reading}
 use Rattle.sh_exec_forms.specs.Codes.{forms_of}
 use Rattle.sh_exec_forms.specs.Running.{At}
 use Rattle.sh_exec_forms.specs.declared.form.Form.{Form}
@@ -30,7 +30,7 @@ abbrev pub environment_of : Settings → Environment
 environment_of settings = with_options (with_positional (with_zero starting settings.zero) settings.args) settings.options
 
 -- it begins to read its text, or its script in the image
-abbrev pub first_place : FileMap → Source → Place
+abbrev pub first_place : FileMap → Source → Action
 first_place image (Text bytes) = Reading bytes
 first_place image (Script path) = script_place image path
 

@@ -3,7 +3,7 @@ ghost use Rattle.std.specs.Prelude.{◌≡◌};
 ghost use Rattle.sh_kernel.specs.Turns.{action_of};
 ghost use Rattle.sh_exec.specs.Actions.{action_at, action_in, action_for, collecting};
 
-use sh_exec_command::{Active, Place};
+use sh_exec_command::{Action, Active};
 use sh_kernel::{DescriptorRef, Next};
 use sh_stock::Ask;
 
@@ -18,22 +18,22 @@ fn collecting(aside: Option<usize>) -> Next<'static>
 }
 
 /// What is done at a place.
-fn action_at(place: &Place) -> Next<'_>
+fn action_at(place: &Action) -> Next<'_>
     ensures { action_of result ≡ action_at place.now }
 {
     match place {
-        Place::Reading(_) => Next::Other,
-        Place::Expanding(_, _) => Next::Other,
-        Place::Collecting(substitution) => collecting(substitution.aside),
-        Place::Answering(substitution) => Next::Wait(substitution.children.as_slice()),
-        Place::Redirecting(_) => Next::Other,
-        Place::Forking(_) => Next::Other,
-        Place::Starting(_) => Next::Other,
-        Place::Staging(_) => Next::Other,
-        Place::Giving(_) => Next::Other,
-        Place::Waiting(children) => Next::Wait(children.as_slice()),
-        Place::Writing(piece, _) => Next::Write(piece.descriptor, piece.bytes.len()),
-        Place::Ending(_) => Next::Other,
+        Action::Reading(_) => Next::Other,
+        Action::Expanding(_, _) => Next::Other,
+        Action::ReadSubstitution(substitution) => collecting(substitution.aside),
+        Action::WaitSubstitution(substitution) => Next::Wait(substitution.children.as_slice()),
+        Action::Redirecting(_) => Next::Other,
+        Action::Forking(_) => Next::Other,
+        Action::Starting(_) => Next::Other,
+        Action::ForkStage(_) => Next::Other,
+        Action::AssignLoopVariable(_) => Next::Other,
+        Action::Waiting(children) => Next::Wait(children.as_slice()),
+        Action::Writing(piece, _) => Next::Write(piece.descriptor, piece.bytes.len()),
+        Action::Ending(_) => Next::Other,
     }
 }
 

@@ -6,39 +6,39 @@ ghost use Rattle.sh_exec.specs.Scripts.{missing, place_by, script_place, unreada
 use crate::MAX_SCRIPT;
 use sh_base::NoMemory;
 use sh_base::sequence::Text;
-use sh_exec_command::{Finish, Place};
+use sh_exec_command::{Action, Finish};
 use sh_exec_parts::Rest;
 use sh_exec_parts::message::{cannot_execute, not_found};
 use sh_files::{File, Files, Node};
 use std::alloc::Global;
 
 /// The first place of a shell whose script isn't there.
-fn missing(alloc: Global, path: &[u8]) -> Result<Place, NoMemory>
+fn missing(alloc: Global, path: &[u8]) -> Result<Action, NoMemory>
     ensures { IfOk result (λ place. place ≡ missing path.now) }
 {
     let piece = not_found(alloc, path)?;
-    Ok(Place::Writing(piece, Finish::Leave(127)))
+    Ok(Action::Writing(piece, Finish::Leave(127)))
 }
 
 /// The first place of a shell whose script can't be read.
-fn unreadable(alloc: Global, path: &[u8]) -> Result<Place, NoMemory>
+fn unreadable(alloc: Global, path: &[u8]) -> Result<Action, NoMemory>
     ensures { IfOk result (λ place. place ≡ unreadable path.now) }
 {
     let piece = cannot_execute(alloc, path)?;
-    Ok(Place::Writing(piece, Finish::Leave(126)))
+    Ok(Action::Writing(piece, Finish::Leave(126)))
 }
 
 /// The first place of a shell that reads these bytes.
-fn reading(alloc: Global, bytes: &[u8]) -> Result<Place, NoMemory>
-    ensures { IfOk result (λ place. place ≡ Place.Reading bytes.now) }
+fn reading(alloc: Global, bytes: &[u8]) -> Result<Action, NoMemory>
+    ensures { IfOk result (λ place. place ≡ Action.Reading bytes.now) }
 {
     let mut text = Text::new(alloc);
     text.extend_from_slice(bytes)?;
-    Ok(Place::Reading(Rest::new(text)))
+    Ok(Action::Reading(Rest::new(text)))
 }
 
 /// The first place of a shell whose script is this regular file.
-fn file_place(alloc: Global, path: &[u8], file: &File) -> Result<Place, NoMemory>
+fn file_place(alloc: Global, path: &[u8], file: &File) -> Result<Action, NoMemory>
     ensures { IfOk result (λ place. place ≡ place_by path.now (Some (node.File file.now))) }
 {
     if file.flags().read && file.bytes().len() <= MAX_SCRIPT {
@@ -48,7 +48,7 @@ fn file_place(alloc: Global, path: &[u8], file: &File) -> Result<Place, NoMemory
 }
 
 /// The first place of a shell whose script's path names this.
-fn place_by(alloc: Global, path: &[u8], found: Option<&Node>) -> Result<Place, NoMemory>
+fn place_by(alloc: Global, path: &[u8], found: Option<&Node>) -> Result<Action, NoMemory>
     ensures { IfOk result (λ place.
         place ≡ place_by path.now (option_map (λ node. node.now) found.entry)) }
 {
@@ -63,7 +63,7 @@ fn place_by(alloc: Global, path: &[u8], found: Option<&Node>) -> Result<Place, N
 
 /// The first place of a shell that runs a script.
 #[tactic(auto, unfolding(crate::specs::Scripts::script_place))]
-pub(crate) fn script_place(alloc: Global, files: &Files, path: &[u8]) -> Result<Place, NoMemory>
+pub(crate) fn script_place(alloc: Global, files: &Files, path: &[u8]) -> Result<Action, NoMemory>
     ensures { IfOk result (λ place. place ≡ script_place files.now path.now) }
 {
     let found = files.find(b"/", path)?;

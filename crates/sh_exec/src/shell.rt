@@ -4,26 +4,26 @@ ghost use Rattle.sh_exec.specs.Starting.{starting_at, starting_in};
 
 use sh_base::NoMemory;
 use sh_base::sequence::{Sequence, Text, copies_of};
-use sh_exec_command::{Active, Place};
+use sh_exec_command::{Action, Active};
 use std::alloc::Global;
 
 /// What is started at a place.
-fn starting_at(place: &Place) -> Option<&Sequence<Text>>
+fn starting_at(place: &Action) -> Option<&Sequence<Text>>
     ensures { option_map (λ fields. fields.now) result ≡ starting_at place.now }
 {
     match place {
-        Place::Reading(_) => None,
-        Place::Expanding(_, _) => None,
-        Place::Collecting(_) => None,
-        Place::Answering(_) => None,
-        Place::Redirecting(_) => None,
-        Place::Forking(_) => None,
-        Place::Starting(fields) => Some(fields),
-        Place::Staging(_) => None,
-        Place::Giving(_) => None,
-        Place::Waiting(_) => None,
-        Place::Writing(_, _) => None,
-        Place::Ending(_) => None,
+        Action::Reading(_) => None,
+        Action::Expanding(_, _) => None,
+        Action::ReadSubstitution(_) => None,
+        Action::WaitSubstitution(_) => None,
+        Action::Redirecting(_) => None,
+        Action::Forking(_) => None,
+        Action::Starting(fields) => Some(fields),
+        Action::ForkStage(_) => None,
+        Action::AssignLoopVariable(_) => None,
+        Action::Waiting(_) => None,
+        Action::Writing(_, _) => None,
+        Action::Ending(_) => None,
     }
 }
 

@@ -11,7 +11,7 @@ use crate::program::asking;
 use crate::{Located, locate};
 use sh_base::NoMemory;
 use sh_base::sequence::{Sequence, Text};
-use sh_exec_command::{Finish, Place};
+use sh_exec_command::{Action, Finish};
 use sh_exec_parts::message::{Piece, cannot_execute, not_found};
 use sh_exec_parts::script_environment;
 use sh_exec_shell::Shell;
@@ -22,16 +22,16 @@ use std::alloc::Global;
 
 /// The process says why there is no program, and ends with a status.
 fn failed<S: Stock>(alloc: Global, vars: Vars, piece: Piece, status: u8) -> Process<S>
-    ensures { result ≡ shell_at vars (Place.Writing piece (Finish.Leave status)) }
+    ensures { result ≡ shell_at vars (Action.Writing piece (Finish.Leave status)) }
 {
-    Process::Runs(Shell::at(alloc, vars, Place::Writing(piece, Finish::Leave(status))))
+    Process::Runs(Shell::at(alloc, vars, Action::Writing(piece, Finish::Leave(status))))
 }
 
 /// No program has this name.
 fn missing<S: Stock>(alloc: Global, vars: Vars, name: &[u8]) -> Result<Process<S>, NoMemory>
     ensures { IfOk result (λ process.
         process ≡ shell_at vars
-        (Place.Writing (messages.message (messages.not_found name.now)) (Finish.Leave 127))) }
+        (Action.Writing (messages.message (messages.not_found name.now)) (Finish.Leave 127))) }
 {
     let piece = not_found(alloc, name)?;
     Ok(failed(alloc, vars, piece, 127))
@@ -41,7 +41,7 @@ fn missing<S: Stock>(alloc: Global, vars: Vars, name: &[u8]) -> Result<Process<S
 fn unfit<S: Stock>(alloc: Global, vars: Vars, name: &[u8]) -> Result<Process<S>, NoMemory>
     ensures { IfOk result (λ process.
         process ≡ shell_at vars
-        (Place.Writing (messages.message (messages.cannot_execute name.now)) (Finish.Leave 126))) }
+        (Action.Writing (messages.message (messages.cannot_execute name.now)) (Finish.Leave 126))) }
 {
     let piece = cannot_execute(alloc, name)?;
     Ok(failed(alloc, vars, piece, 126))
@@ -189,7 +189,7 @@ pub(crate) fn start_turn<S: Stock>(
     ensures terminal { kernel.new.terminal ≡ kernel.old.terminal }
 {
     let Some((name, operands)) = fields.as_slice().split_first() else {
-        return Ok(Process::Runs(Shell::at(alloc, vars, Place::Starting(fields))));
+        return Ok(Process::Runs(Shell::at(alloc, vars, Action::Starting(fields))));
     };
     let process = start_named(alloc, kernel, pid, vars, name.as_slice(), operands)?;
     Ok(process)

@@ -10,7 +10,7 @@ use crate::process::Process;
 use crate::script::script_place;
 use crate::settings::{Settings, Source};
 use sh_base::NoMemory;
-use sh_exec_command::Place;
+use sh_exec_command::Action;
 use sh_exec_forms::Form;
 use sh_exec_parts::Rest;
 use sh_exec_shell::{Child, Shell};
@@ -28,11 +28,11 @@ pub struct Task<S: Stock> {
 }
 
 /// The first place of the first shell.
-fn first_place(alloc: Global, image: &Files, source: Source) -> Result<Place, NoMemory>
+fn first_place(alloc: Global, image: &Files, source: Source) -> Result<Action, NoMemory>
     ensures { IfOk result (λ place. place ≡ first_place image.now source) }
 {
     match source {
-        Source::Text(text) => Ok(Place::Reading(Rest::new(text))),
+        Source::Text(text) => Ok(Action::Reading(Rest::new(text))),
         Source::Script(path) => script_place(alloc, image, path.as_slice()),
     }
 }

@@ -12,11 +12,11 @@ use Rattle.sh_exec_command.specs.declared.assigning.Assigned.TheVariants.{On, Ov
 use Rattle.sh_exec_command.specs.declared.running.Expanded.TheVariants as expanded_as
 use Rattle.sh_exec_command.specs.declared.running.Move.TheVariants.{Held}
 use Rattle.sh_exec_command.specs.declared.running.Pending.{Pending}
-use Rattle.sh_exec_command.specs.declared.running.Prepared.{Prepared}
+use Rattle.sh_exec_command.specs.declared.running.ExpandedCommand.{ExpandedCommand}
 use Rattle.sh_exec_command.specs.declared.running.Role.{Role}
 use Rattle.sh_exec_command.specs.declared.running.Role.TheVariants as role
 use Rattle.sh_exec_command.specs.declared.running.Undo.{Undo}
-use Rattle.sh_exec_command.specs.declared.running.Wants.TheVariants.{Values}
+use Rattle.sh_exec_command.specs.declared.running.ToExpand.TheVariants.{Values}
 use Rattle.sh_expand.specs.Expanding as expanding
 use Rattle.sh_expand_parts.specs.declared.context.Context.TheVariants as context
 use Rattle.sh_expand.specs.declared.wanted.Wanted.{Wanted}
@@ -28,7 +28,7 @@ use Rattle.sh_base.specs.Names.{is_name}
 -- before a built-in that isn't special and before a program the variable is exported while that runs; before a special built-in,
 -- and without a command name, it is set and stays (2.9.1.2, 2.15)
 abbrev pub is_passing : Role → Bool
-is_passing role.Nameless = false
+is_passing role.NoCommandName = false
 is_passing (role.Builtin builtin) = not (is_special builtin)
 is_passing role.Program = true
 
@@ -37,7 +37,7 @@ with_assigned r env name value = if is_passing r then with_export (with_value en
 
 -- how it is undone: a program's process keeps it
 abbrev pub is_undone : Role → Bool
-is_undone role.Nameless = false
+is_undone role.NoCommandName = false
 is_undone (role.Builtin builtin) = not (is_special builtin)
 is_undone role.Program = false
 
@@ -45,7 +45,7 @@ unfoldable pub undo_with : Role → Environment → Undo → List ℕ → Undo
 undo_with r env undo name = if is_undone r then record undo { variables = undo.variables ++ saved_of env name ∷ [] } else undo
 
 -- the command after an assignment
-abbrev pub with_saved_variable : Prepared → Environment → List ℕ → Prepared
+abbrev pub with_saved_variable : ExpandedCommand → Environment → List ℕ → ExpandedCommand
 with_saved_variable p env name = record p { undo = undo_with p.role env p.undo name }
 
 -- the one text that a value comes to
@@ -64,42 +64,42 @@ pub record Step : Type 0 where
   pub outcome : Assigned
 
 -- a fault ends the shell; what the command changed is undone after the message
-abbrev pub fatal_step : Prepared → Environment → List ℕ → Step
+abbrev pub fatal_step : ExpandedCommand → Environment → List ℕ → Step
 fatal_step p env text = record { environment = env; outcome = Over (expanded_as.Go (Held p.undo (fatal text))) }
 
 -- an assignment to a read-only variable is refused (2.8.1)
 abbrev pub may_set : Environment → List ℕ → Bool
 may_set env name = is_name name && not (is_read_only env name)
 
-unfoldable pub value_step : Prepared → Environment → List ℕ → List ℕ → Step
+unfoldable pub value_step : ExpandedCommand → Environment → List ℕ → List ℕ → Step
 value_step p env name value =
     if may_set env name
     then record { environment = with_assigned p.role env name value; outcome = On (with_saved_variable p env name) }
     else fatal_step p env (read_only name)
 
 -- an assignment that needs an answer is the next one again; those after it are still the command's
-abbrev pub assigned_by : Prepared → Assignment → Pending → expanding.Result → Step
+abbrev pub assigned_by : ExpandedCommand → Assignment → Pending → expanding.Result → Step
 assigned_by p assignment pending (expanding.Need program env) =
     record { environment = env; outcome = Over (expanded_as.Need program (Values (record p { assignments = assignment ∷ p.assignments })) pending) }
 assigned_by p assignment pending (expanding.Fields fields env) = value_step p env assignment.name (text_of fields)
 assigned_by p assignment pending (expanding.Stops fault env) = fatal_step p env (fault_text fault)
 
-unfoldable pub assigned_one : FileMap → Environment → Prepared → Assignment → Option Pending → Step
+unfoldable pub assigned_one : FileMap → Environment → ExpandedCommand → Assignment → Option Pending → Step
 assigned_one files env p assignment pending =
     assigned_by p assignment (start_of env pending) (value_of files (start_of env pending) assignment)
 
 -- the next assignment, where the turn isn't over
-abbrev pub behind : Environment → Assigned → (Environment → Prepared → Turn) → Turn
+abbrev pub behind : Environment → Assigned → (Environment → ExpandedCommand → Turn) → Turn
 behind env (On p) next = next env p
 behind env (Over outcome) next = record { environment = env; outcome = outcome }
 
 -- these assignments; the answers so far are for the first of them
-abbrev pub assignments_turn : FileMap → List Assignment → Environment → Prepared → Option Pending → Turn
+abbrev pub assignments_turn : FileMap → List Assignment → Environment → ExpandedCommand → Option Pending → Turn
 assignments_turn files [] env p pending = record { environment = env; outcome = expanded_as.Go (final_move p) }
 assignments_turn files (assignment ∷ others) env p pending =
     let step = assigned_one files env (record p { assignments = others }) assignment pending in
     behind step.environment step.outcome (λ after command. assignments_turn files others after command None)
 
 -- what the command then does, or what it needs first
-unfoldable pub assign_turn : FileMap → Environment → Prepared → Option Pending → Turn
+unfoldable pub assign_turn : FileMap → Environment → ExpandedCommand → Option Pending → Turn
 assign_turn files env p pending = assignments_turn files p.assignments env p pending

@@ -12,8 +12,8 @@ use Rattle.sh_exec_command.specs.declared.running.Expanded.TheVariants.{Need, Go
 use Rattle.sh_exec_command.specs.declared.running.Finish.TheVariants.{Leave}
 use Rattle.sh_exec_command.specs.declared.running.Move.TheVariants.{At}
 use Rattle.sh_exec_command.specs.declared.running.Pending.{Pending}
-use Rattle.sh_exec_command.specs.declared.running.Place.TheVariants.{Writing}
-use Rattle.sh_exec_command.specs.declared.running.Wants.TheVariants.{Words}
+use Rattle.sh_exec_command.specs.declared.running.Action.TheVariants.{Writing}
+use Rattle.sh_exec_command.specs.declared.running.ToExpand.TheVariants.{Words}
 use Rattle.sh_expand.specs.Expanding as expanding
 use Rattle.sh_files.specs.Nodes.{FileMap}
 use Rattle.sh_syntax.specs.declared.tree.Command.{Command}

@@ -14,14 +14,14 @@ use Rattle.sh_exec_command.specs.declared.running.Finish.{Finish}
 use Rattle.sh_exec_command.specs.declared.running.Finish.TheVariants.{Status, Leave}
 use Rattle.sh_exec_command.specs.declared.running.Move.{Move}
 use Rattle.sh_exec_command.specs.declared.running.Move.TheVariants.{At, Held}
-use Rattle.sh_exec_command.specs.declared.running.Place.{Place}
-use Rattle.sh_exec_command.specs.declared.running.Place.TheVariants.{Expanding, Redirecting, Forking, Starting, Writing}
-use Rattle.sh_exec_command.specs.declared.running.Prepared.{Prepared}
+use Rattle.sh_exec_command.specs.declared.running.Action.{Action}
+use Rattle.sh_exec_command.specs.declared.running.Action.TheVariants.{Expanding, Redirecting, Forking, Starting, Writing}
+use Rattle.sh_exec_command.specs.declared.running.ExpandedCommand.{ExpandedCommand}
 use Rattle.sh_exec_command.specs.declared.running.Role.{Role}
 use Rattle.sh_exec_command.specs.declared.running.Role.TheVariants as role
 use Rattle.sh_exec_command.specs.declared.running.Undo.{Undo}
-use Rattle.sh_exec_command.specs.declared.running.Wants.{Wants}
-use Rattle.sh_exec_command.specs.declared.running.Wants.TheVariants.{Words, Values}
+use Rattle.sh_exec_command.specs.declared.running.ToExpand.{ToExpand}
+use Rattle.sh_exec_command.specs.declared.running.ToExpand.TheVariants.{Words, Values}
 use Rattle.sh_kernel_descriptors.specs.declared.fault.KernelFault.{KernelFault}
 use Rattle.sh_syntax.specs.declared.tree.Command.{Command}
 use Rattle.sh_syntax.specs.declared.tree.SimpleItem.{SimpleItem}
@@ -31,9 +31,9 @@ abbrev pub no_undo : Undo
 no_undo = record { descriptors = []; variables = [] }
 
 -- ---- the first action: its words and those of its redirections are expanded; a command of assignments alone begins with these
-unfoldable pub nameless : List SimpleItem → Prepared
+unfoldable pub nameless : List SimpleItem → ExpandedCommand
 nameless items = record {
-  role = role.Nameless;
+  role = role.NoCommandName;
   fields = [];
   redirections = [];
   assignments = assignments_of items;
@@ -41,13 +41,13 @@ nameless items = record {
   status = 0;
 }
 
-abbrev pub wants_of : Bool → Command → Wants
+abbrev pub wants_of : Bool → Command → ToExpand
 wants_of in_place command =
     if list_any is_word (items_of command) || list_any is_redirect (items_of command)
     then Words command in_place 0
     else Values (nameless (items_of command))
 
-unfoldable pub first_place : Bool → Command → Place
+unfoldable pub first_place : Bool → Command → Action
 first_place in_place command = Expanding (wants_of in_place command) None
 
 -- ---- the command of these fields (2.9.1.4): a built-in is found before a program of that name
@@ -56,10 +56,10 @@ role_by (Some builtin) = role.Builtin builtin
 role_by None = role.Program
 
 abbrev pub role_of : List (List ℕ) → Role
-role_of [] = role.Nameless
+role_of [] = role.NoCommandName
 role_of (name ∷ arguments) = role_by (builtin_of name)
 
-unfoldable pub prepared_of : Environment → List SimpleItem → List (List ℕ) → ℕ → Prepared
+unfoldable pub prepared_of : Environment → List SimpleItem → List (List ℕ) → ℕ → ExpandedCommand
 prepared_of env items fields status =
     let count = length (redirects_of items) in
     record {
@@ -78,38 +78,38 @@ failing true = Leave 2
 failing false = Status 2
 
 abbrev pub failing_of : Role → Finish
-failing_of role.Nameless = Status 2
+failing_of role.NoCommandName = Status 2
 failing_of (role.Builtin builtin) = failing (is_special builtin)
 failing_of role.Program = Leave 2
 
-abbrev pub performed_by : Prepared → Role → Move
-performed_by p role.Nameless = Held p.undo (Done p.status)
+abbrev pub performed_by : ExpandedCommand → Role → Move
+performed_by p role.NoCommandName = Held p.undo (Done p.status)
 performed_by p (role.Builtin builtin) = Held p.undo (Acting builtin p.fields)
 performed_by p role.Program = At (Next (Starting p.fields))
 
 -- a command without a name has the status of its last substitution; a built-in acts in the same turn; a program is started
-unfoldable pub final_move : Prepared → Move
+unfoldable pub final_move : ExpandedCommand → Move
 final_move p = performed_by p p.role
 
 -- first the redirections, then the assignments (2.9.1.1)
-abbrev pub ahead_by : Prepared → List Redirection → List Assignment → Move
+abbrev pub ahead_by : ExpandedCommand → List Redirection → List Assignment → Move
 ahead_by p (redirection ∷ redirections) assignments = At (Next (Redirecting p))
 ahead_by p [] (assignment ∷ assignments) = At (Next (Expanding (Values p) None))
 ahead_by p [] [] = final_move p
 
-unfoldable pub ahead : Prepared → Move
+unfoldable pub ahead : ExpandedCommand → Move
 ahead p = ahead_by p p.redirections p.assignments
 
 -- a program runs in a process of its own, unless the shell's process is there for it alone
 abbrev pub forks : Role → (in_place : Bool) → Bool
-forks role.Nameless in_place = false
+forks role.NoCommandName in_place = false
 forks (role.Builtin builtin) in_place = false
 forks role.Program in_place = not in_place
 
-unfoldable pub first_move : (in_place : Bool) → Prepared → Move
+unfoldable pub first_move : (in_place : Bool) → ExpandedCommand → Move
 first_move in_place p = if forks p.role in_place then At (Next (Forking p)) else ahead p
 
 -- a redirection that can't be done (2.8.1): its message is written while the redirections before it still
 -- hold
-unfoldable pub not_done : Prepared → List ℕ → KernelFault → Move
+unfoldable pub not_done : ExpandedCommand → List ℕ → KernelFault → Move
 not_done p word fault = Held p.undo (Next (Writing (message (not_redirected word fault)) (failing_of p.role)))

@@ -10,9 +10,9 @@ use Rattle.sh_exec_command.specs.declared.running.Active.TheVariants.{Next, Done
 use Rattle.sh_exec_command.specs.declared.running.Expanded.TheVariants.{Need, Go}
 use Rattle.sh_exec_command.specs.declared.running.Move.TheVariants.{At}
 use Rattle.sh_exec_command.specs.declared.running.Pending.{Pending}
-use Rattle.sh_exec_command.specs.declared.running.Place.TheVariants.{Giving}
-use Rattle.sh_exec_command.specs.declared.running.Series.{Series}
-use Rattle.sh_exec_command.specs.declared.running.Wants.TheVariants as wants
+use Rattle.sh_exec_command.specs.declared.running.Action.TheVariants.{AssignLoopVariable}
+use Rattle.sh_exec_command.specs.declared.running.ForLoop.{ForLoop}
+use Rattle.sh_exec_command.specs.declared.running.ToExpand.TheVariants as wants
 use Rattle.sh_exec_command.specs.declared.series.Header.{Header}
 use Rattle.sh_exec_command.specs.declared.series.Round.{Round}
 use Rattle.sh_exec_command.specs.declared.series.Round.TheVariants.{Body, Over}
@@ -50,11 +50,11 @@ unfoldable pub header_of : Command → Option Header
 header_of command = header_of_command (view.out-Command command)
 
 -- ---- the next value, or the end with this status where none is left
-abbrev pub given_by : Series → List (List ℕ) → ℕ → Active
+abbrev pub given_by : ForLoop → List (List ℕ) → ℕ → Active
 given_by series [] status = Done status
-given_by series (value ∷ values) status = Next (Giving series)
+given_by series (value ∷ values) status = Next (AssignLoopVariable series)
 
-abbrev pub rest_of_series : Series → ℕ → Active
+abbrev pub rest_of_series : ForLoop → ℕ → Active
 rest_of_series series status = given_by series series.values status
 
 abbrev pub begun_with : List ℕ → List (List ℕ) → CompoundList → Active
@@ -63,7 +63,7 @@ begun_with name values body = rest_of_series (record { name = name; values = val
 -- ---- the turn of the words
 abbrev pub series_by : Command → Pending → List ℕ → CompoundList → expanding.Result → Turn
 series_by command pending name body (expanding.Need program env) =
-    record { environment = env; outcome = Need program (wants.Series command) pending }
+    record { environment = env; outcome = Need program (wants.ForWords command) pending }
 series_by command pending name body (expanding.Fields fields env) =
     record { environment = env; outcome = Go (At (begun_with name fields body)) }
 series_by command pending name body (expanding.Stops fault env) =
@@ -87,12 +87,12 @@ pub record Given : Type 0 where
   pub environment : Environment
   pub round : Round
 
-abbrev pub give_by : Environment → Series → List (List ℕ) → Given
+abbrev pub give_by : Environment → ForLoop → List (List ℕ) → Given
 give_by env series [] = record { environment = env; round = Over (Done 0) }
 give_by env series (value ∷ values) =
     if may_set env series.name
     then record { environment = with_value env series.name value; round = Body (record series { values = values }) }
     else record { environment = env; round = Over (fatal (read_only series.name)) }
 
-unfoldable pub give_turn : Environment → Series → Given
+unfoldable pub give_turn : Environment → ForLoop → Given
 give_turn env series = give_by env series series.values

@@ -9,7 +9,9 @@ ghost use Rattle.sh_vars.specs.Environment.{with_value};
 use crate::answers::expand;
 use crate::expanding::{fatal_message, start};
 use crate::preparing::perform;
-use crate::running::{Active, Expanded, Finish, Move, Pending, Place, Prepared, Role, Undo, Wants};
+use crate::running::{
+    Action, Active, Expanded, ExpandedCommand, Finish, Move, Pending, Role, ToExpand, Undo,
+};
 use crate::undo::save;
 use sh_base::NoMemory;
 use sh_base::sequence::{Sequence, Text};
@@ -26,7 +28,7 @@ use std::alloc::Global;
 #[derive(Drop)]
 pub(crate) enum Assigned {
     /// It is done, and the command goes on.
-    On(Prepared),
+    On(ExpandedCommand),
     /// The turn is over.
     Over(Expanded),
 }
@@ -36,7 +38,7 @@ fn is_passing(role: Role) -> bool
     ensures { result ≡ is_passing role }
 {
     match role {
-        Role::Nameless => false,
+        Role::NoCommandName => false,
         Role::Builtin(builtin) => !builtin.is_special(),
         Role::Program => true,
     }
@@ -47,7 +49,7 @@ fn is_undone(role: Role) -> bool
     ensures { result ≡ is_undone role }
 {
     match role {
-        Role::Nameless => false,
+        Role::NoCommandName => false,
         Role::Builtin(builtin) => !builtin.is_special(),
         Role::Program => false,
     }
@@ -115,10 +117,15 @@ fn undo_with(
 }
 
 /// A command with one assignment more to be undone.
-fn note(alloc: Global, prepared: Prepared, vars: &Vars, name: &[u8]) -> Result<Prepared, NoMemory>
+fn note(
+    alloc: Global,
+    prepared: ExpandedCommand,
+    vars: &Vars,
+    name: &[u8],
+) -> Result<ExpandedCommand, NoMemory>
     ensures { IfOk result (λ next. next ≡ with_saved_variable prepared vars.now name.now) }
 {
-    let Prepared {
+    let ExpandedCommand {
         role,
         fields,
         redirections,
@@ -127,7 +134,7 @@ fn note(alloc: Global, prepared: Prepared, vars: &Vars, name: &[u8]) -> Result<P
         status,
     } = prepared;
     let undo = undo_with(alloc, role, vars, undo, name)?;
-    Ok(Prepared {
+    Ok(ExpandedCommand {
         role,
         fields,
         redirections,
@@ -138,12 +145,12 @@ fn note(alloc: Global, prepared: Prepared, vars: &Vars, name: &[u8]) -> Result<P
 }
 
 /// The turn is over with a fault, whose message is this.
-fn stop(prepared: Prepared, piece: Piece) -> Assigned
+fn stop(prepared: ExpandedCommand, piece: Piece) -> Assigned
     ensures { result ≡ Assigned.Over
         (Expanded.Go
-        (Move.Held prepared.undo (Active.Next (Place.Writing piece (Finish.Leave 2))))) }
+        (Move.Held prepared.undo (Active.Next (Action.Writing piece (Finish.Leave 2))))) }
 {
-    let Prepared { undo, .. } = prepared;
+    let ExpandedCommand { undo, .. } = prepared;
     Assigned::Over(Expanded::Go(Move::Held(undo, fatal_message(piece))))
 }
 
@@ -151,7 +158,7 @@ fn stop(prepared: Prepared, piece: Piece) -> Assigned
 #[tactic(auto, unfolding(crate::specs::Assigning::value_step))]
 fn assign(
     alloc: Global,
-    prepared: Prepared,
+    prepared: ExpandedCommand,
     name: &[u8],
     value: &[u8],
     vars: &mut Vars,
@@ -212,7 +219,7 @@ fn expand_value(
 }
 
 /// A command whose next assignment is this one again.
-fn put_again(prepared: Prepared, assignment: Assignment) -> Result<Prepared, NoMemory>
+fn put_again(prepared: ExpandedCommand, assignment: Assignment) -> Result<ExpandedCommand, NoMemory>
     ensures { IfOk result (λ next.
         next ≡ record prepared { assignments = assignment ∷ prepared.assignments }) }
 {
@@ -223,7 +230,7 @@ fn put_again(prepared: Prepared, assignment: Assignment) -> Result<Prepared, NoM
 
 /// An assignment whose value needs a program first is the next one again.
 fn wait(
-    prepared: Prepared,
+    prepared: ExpandedCommand,
     assignment: Assignment,
     program: Shared<CompoundList>,
     pending: Pending,
@@ -231,7 +238,7 @@ fn wait(
     ensures { IfOk result (λ next.
         next ≡ Assigned.Over
         (Expanded.Need program
-        (Wants.Values (record prepared { assignments = assignment ∷ prepared.assignments }))
+        (ToExpand.Values (record prepared { assignments = assignment ∷ prepared.assignments }))
         pending)) }
 {
     let again = match put_again(prepared, assignment) {
@@ -244,7 +251,7 @@ fn wait(
     };
     Ok(Assigned::Over(Expanded::Need {
         program,
-        wants: Wants::Values(again),
+        wants: ToExpand::Values(again),
         pending,
     }))
 }
@@ -252,7 +259,7 @@ fn wait(
 /// The assignment of what its value came to.
 fn assign_fields(
     alloc: Global,
-    prepared: Prepared,
+    prepared: ExpandedCommand,
     assignment: Assignment,
     fields: Sequence<Text>,
     vars: &mut Vars,
@@ -269,7 +276,7 @@ fn assign_fields(
 }
 
 /// The turn is over with the fault of a value.
-fn fail(alloc: Global, prepared: Prepared, fault: Fault) -> Result<Assigned, NoMemory>
+fn fail(alloc: Global, prepared: ExpandedCommand, fault: Fault) -> Result<Assigned, NoMemory>
     ensures { IfOk result (λ a.
         a ≡ Assigned.Over (Expanded.Go (Move.Held prepared.undo (fatal (fault_text fault))))) }
 {
@@ -287,7 +294,7 @@ fn fail(alloc: Global, prepared: Prepared, fault: Fault) -> Result<Assigned, NoM
 #[tactic(auto, unfolding(crate::specs::Assigning::assigned_one))]
 fn assign_one(
     alloc: Global,
-    prepared: Prepared,
+    prepared: ExpandedCommand,
     assignment: Assignment,
     pending: Option<Pending>,
     vars: &mut Vars,
@@ -331,7 +338,7 @@ fn assign_one(
 #[tactic(auto, unfolding(crate::specs::Assigning::assign_turn))]
 pub fn assign_turn(
     alloc: Global,
-    prepared: Prepared,
+    prepared: ExpandedCommand,
     pending: Option<Pending>,
     vars: &mut Vars,
     files: &Files,

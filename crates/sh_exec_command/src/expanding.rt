@@ -9,7 +9,7 @@ ghost use Rattle.sh_expand.specs.Expanding as expanding;
 
 use crate::answers::expand;
 use crate::preparing::{begin_command, prepare};
-use crate::running::{Active, Expanded, Finish, Move, Pending, Place, Wants};
+use crate::running::{Action, Active, Expanded, Finish, Move, Pending, ToExpand};
 use sh_base::NoMemory;
 use sh_base::sequence::{Sequence, Text};
 use sh_base::shared::Shared;
@@ -50,9 +50,9 @@ pub(crate) fn start(
 
 /// An error that ends the shell, whose message is this.
 pub(crate) fn fatal_message(piece: Piece) -> Active
-    ensures { result ≡ Active.Next (Place.Writing piece (Finish.Leave 2)) }
+    ensures { result ≡ Active.Next (Action.Writing piece (Finish.Leave 2)) }
 {
-    Active::Next(Place::Writing(piece, Finish::Leave(2)))
+    Active::Next(Action::Writing(piece, Finish::Leave(2)))
 }
 
 /// What the words of a command and of its redirections come to, from the first one on, with the answers so far.
@@ -127,7 +127,7 @@ pub fn words_turn(
     match expand_words(alloc, command.get(), answers, vars, files) {
         Ok(Step::Need(program)) => Ok(Expanded::Need {
             program,
-            wants: Wants::Words {
+            wants: ToExpand::Words {
                 command,
                 in_place,
                 status,

@@ -19,8 +19,8 @@ pub use found::Found;
 pub use preparing::{first_place, go_ahead, not_done};
 pub use reading::find_command;
 pub use running::{
-    Active, Expanded, Finish, Move, Pending, Place, Prepared, Report, Role, Saved, Series, Stages,
-    Substitution, Undo, Wants,
+    Action, Active, Expanded, ExpandedCommand, Finish, ForLoop, Move, Pending, Report, Role, Saved,
+    Stages, Substitution, ToExpand, Undo,
 };
 pub use series::{Round, give_turn, series_turn};
 pub use undo::restore_variables;

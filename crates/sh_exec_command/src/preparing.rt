@@ -2,7 +2,7 @@
 ghost use Rattle.std.specs.Prelude.{◌≡◌, IfOk};
 ghost use Rattle.sh_exec_command.specs.Preparing.{ahead, first_move, failing, failing_of, first_place, forks, nameless, no_undo, not_done, final_move, prepared_of, role_by, role_of, wants_of};
 
-use crate::running::{Active, Finish, Move, Place, Prepared, Role, Undo, Wants};
+use crate::running::{Action, Active, ExpandedCommand, Finish, Move, Role, ToExpand, Undo};
 use sh_base::NoMemory;
 use sh_base::sequence::{Sequence, Text, copies_of};
 use sh_base::shared::Shared;
@@ -30,12 +30,12 @@ fn no_undo(alloc: Global) -> Undo
 
 /// A command of assignments alone.
 #[tactic(auto, unfolding(crate::specs::Preparing::nameless))]
-fn nameless(alloc: Global, items: &[SimpleItem]) -> Result<Prepared, NoMemory>
+fn nameless(alloc: Global, items: &[SimpleItem]) -> Result<ExpandedCommand, NoMemory>
     ensures { IfOk result (λ p. p ≡ nameless items.now) }
 {
     let assignments = assignments_of(alloc, items)?;
-    Ok(Prepared {
-        role: Role::Nameless,
+    Ok(ExpandedCommand {
+        role: Role::NoCommandName,
         fields: Sequence::new(alloc),
         redirections: Queue::new(Sequence::new(alloc)),
         assignments: Queue::new(assignments),
@@ -45,18 +45,18 @@ fn nameless(alloc: Global, items: &[SimpleItem]) -> Result<Prepared, NoMemory>
 }
 
 /// What of a command is expanded first.
-fn wants_of(alloc: Global, in_place: bool, command: Shared<Command>) -> Result<Wants, NoMemory>
+fn wants_of(alloc: Global, in_place: bool, command: Shared<Command>) -> Result<ToExpand, NoMemory>
     ensures { IfOk result (λ wants. wants ≡ wants_of in_place command) }
 {
     if has_words(items_of(command.get())) || has_redirects(items_of(command.get())) {
-        return Ok(Wants::Words {
+        return Ok(ToExpand::Words {
             command,
             in_place,
             status: 0,
         });
     }
     let prepared = nameless(alloc, items_of(command.get()))?;
-    Ok(Wants::Values(prepared))
+    Ok(ToExpand::Values(prepared))
 }
 
 /// The first place of a simple command; the process is there for it alone if `in_place`.
@@ -65,11 +65,11 @@ pub fn first_place(
     alloc: Global,
     in_place: bool,
     command: Shared<Command>,
-) -> Result<Place, NoMemory>
+) -> Result<Action, NoMemory>
     ensures { IfOk result (λ place. place ≡ first_place in_place command) }
 {
     let wants = wants_of(alloc, in_place, command)?;
-    Ok(Place::Expanding(wants, None))
+    Ok(Action::Expanding(wants, None))
 }
 
 /// What runs the command of a name.
@@ -88,7 +88,7 @@ fn role_of(fields: &[Text]) -> Role
 {
     match fields.split_first() {
         Some((name, _)) => role_by(Builtin::of(name.as_slice())),
-        None => Role::Nameless,
+        None => Role::NoCommandName,
     }
 }
 
@@ -100,13 +100,13 @@ pub(crate) fn prepare(
     items: &[SimpleItem],
     fields: &[Text],
     status: u8,
-) -> Result<Prepared, NoMemory>
+) -> Result<ExpandedCommand, NoMemory>
     ensures { IfOk result (λ p. p ≡ prepared_of vars.now items.now fields.now status) }
 {
     let (words, redirects) = split_fields(fields, redirect_count(items));
     let redirections = prepared_redirections(alloc, items, redirects, vars.options().no_clobber)?;
     let assignments = assignments_of(alloc, items)?;
-    Ok(Prepared {
+    Ok(ExpandedCommand {
         role: role_of(words),
         fields: Sequence::from_vec(copies_of(alloc, words)?),
         redirections,
@@ -131,7 +131,7 @@ fn failing_of(role: Role) -> Finish
     ensures { result ≡ failing_of role }
 {
     match role {
-        Role::Nameless => Finish::Status(2),
+        Role::NoCommandName => Finish::Status(2),
         Role::Builtin(builtin) => failing(builtin.is_special()),
         Role::Program => Finish::Leave(2),
     }
@@ -139,10 +139,10 @@ fn failing_of(role: Role) -> Finish
 
 /// What a command does, once all else is done.
 #[tactic(auto, unfolding(crate::specs::Preparing::final_move))]
-pub(crate) fn perform(prepared: Prepared) -> Move
+pub(crate) fn perform(prepared: ExpandedCommand) -> Move
     ensures { result ≡ final_move prepared }
 {
-    let Prepared {
+    let ExpandedCommand {
         role,
         fields,
         undo,
@@ -150,24 +150,24 @@ pub(crate) fn perform(prepared: Prepared) -> Move
         ..
     } = prepared;
     match role {
-        Role::Nameless => Move::Held(undo, Active::Done(status)),
+        Role::NoCommandName => Move::Held(undo, Active::Done(status)),
         Role::Builtin(builtin) => Move::Held(undo, Active::Acting(builtin, fields)),
-        Role::Program => Move::At(Active::Next(Place::Starting(fields))),
+        Role::Program => Move::At(Active::Next(Action::Starting(fields))),
     }
 }
 
 /// Where a command goes on once its words are expanded, or a redirection is done: first its redirections,
 /// then its assignments. Takes no memory.
 #[tactic(auto, unfolding(crate::specs::Preparing::ahead))]
-pub fn go_ahead(prepared: Prepared) -> Move
+pub fn go_ahead(prepared: ExpandedCommand) -> Move
     ensures { result ≡ ahead prepared }
 {
     if !prepared.redirections.is_empty() {
-        return Move::At(Active::Next(Place::Redirecting(prepared)));
+        return Move::At(Active::Next(Action::Redirecting(prepared)));
     }
     if !prepared.assignments.is_empty() {
-        let wants = Wants::Values(prepared);
-        return Move::At(Active::Next(Place::Expanding(wants, None)));
+        let wants = ToExpand::Values(prepared);
+        return Move::At(Active::Next(Action::Expanding(wants, None)));
     }
     perform(prepared)
 }
@@ -177,7 +177,7 @@ fn forks(role: Role, in_place: bool) -> bool
     ensures { result ≡ forks role in_place }
 {
     match role {
-        Role::Nameless => false,
+        Role::NoCommandName => false,
         Role::Builtin(_) => false,
         Role::Program => !in_place,
     }
@@ -185,11 +185,11 @@ fn forks(role: Role, in_place: bool) -> bool
 
 /// Where a command whose words are expanded goes on.
 #[tactic(auto, unfolding(crate::specs::Preparing::first_move))]
-pub(crate) fn begin_command(in_place: bool, prepared: Prepared) -> Move
+pub(crate) fn begin_command(in_place: bool, prepared: ExpandedCommand) -> Move
     ensures { result ≡ first_move in_place prepared }
 {
     if forks(prepared.role, in_place) {
-        return Move::At(Active::Next(Place::Forking(prepared)));
+        return Move::At(Active::Next(Action::Forking(prepared)));
     }
     go_ahead(prepared)
 }
@@ -198,14 +198,14 @@ pub(crate) fn begin_command(in_place: bool, prepared: Prepared) -> Move
 #[tactic(auto, unfolding(crate::specs::Preparing::not_done))]
 pub fn not_done(
     alloc: Global,
-    prepared: Prepared,
+    prepared: ExpandedCommand,
     word: &[u8],
     fault: KernelFault,
 ) -> Result<Move, NoMemory>
     ensures { IfOk result (λ m. m ≡ not_done prepared word.now fault) }
 {
-    let Prepared { role, undo, .. } = prepared;
+    let ExpandedCommand { role, undo, .. } = prepared;
     let piece = not_redirected(alloc, word, fault)?;
-    let active = Active::Next(Place::Writing(piece, failing_of(role)));
+    let active = Active::Next(Action::Writing(piece, failing_of(role)));
     Ok(Move::Held(undo, active))
 }

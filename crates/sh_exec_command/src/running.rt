@@ -14,7 +14,7 @@ use sh_vars::{Entry, Vars};
 #[derive(Clone, Copy, Debug, PartialEq, Eq)]
 pub enum Role {
     /// Nothing: it has no command name.
-    Nameless,
+    NoCommandName,
     /// A built-in utility.
     Builtin(Builtin),
     /// A program.
@@ -40,7 +40,7 @@ pub struct Undo {
 
 /// A simple command whose words are expanded.
 #[derive(Drop)]
-pub struct Prepared {
+pub struct ExpandedCommand {
     pub role: Role,
     /// The command name, and its arguments.
     pub fields: Sequence<Text>,
@@ -55,7 +55,7 @@ pub struct Prepared {
 
 /// A `for` loop (2.9.4.2) whose words are expanded.
 #[derive(Drop)]
-pub struct Series {
+pub struct ForLoop {
     /// Its variable.
     pub name: Text,
     /// The values that the variable is still to have.
@@ -65,7 +65,7 @@ pub struct Series {
 
 /// What is expanded.
 #[derive(Drop)]
-pub enum Wants {
+pub enum ToExpand {
     /// The words of a simple command and of its redirections. A program is run in the shell's own process if `in_place`;
     /// `status` is that of the last command substitution in them.
     Words {
@@ -74,9 +74,9 @@ pub enum Wants {
         status: u8,
     },
     /// The values of its assignments, one after another.
-    Values(Prepared),
+    Values(ExpandedCommand),
     /// The words of a `for`.
-    Series(Shared<Command>),
+    ForWords(Shared<Command>),
 }
 
 /// An expansion that needs answers: the shell's variables at its start, and the answers so far.
@@ -90,7 +90,7 @@ pub struct Pending {
 #[derive(Drop)]
 pub struct Substitution {
     /// What is expanded once its answer is there.
-    pub wants: Wants,
+    pub wants: ToExpand,
     pub pending: Pending,
     /// What the process has written so far.
     pub written: Text,
@@ -136,25 +136,25 @@ pub enum Finish {
 
 /// The next action of a shell.
 #[derive(Drop)]
-pub enum Place {
+pub enum Action {
     /// Read the next complete command of the rest of a text (2.1).
     Reading(Rest),
     /// Expand, with the answers so far if there were needs before.
-    Expanding(Wants, Option<Pending>),
+    Expanding(ToExpand, Option<Pending>),
     /// Read what a command substitution's process writes.
-    Collecting(Substitution),
+    ReadSubstitution(Substitution),
     /// Wait for the end of that process.
-    Answering(Substitution),
+    WaitSubstitution(Substitution),
     /// Do the next redirection of a command (2.7).
-    Redirecting(Prepared),
+    Redirecting(ExpandedCommand),
     /// Make the process that runs a program.
-    Forking(Prepared),
+    Forking(ExpandedCommand),
     /// Search for a program, and start it in this process (2.9.1.4).
     Starting(Sequence<Text>),
     /// Make the process of the next command of a pipeline.
-    Staging(Stages),
+    ForkStage(Stages),
     /// Give the variable of a `for` its next value.
-    Giving(Series),
+    AssignLoopVariable(ForLoop),
     /// Wait for the end of these processes, the last of which gives the status.
     Waiting(Sequence<u32>),
     /// Write.
@@ -167,7 +167,7 @@ pub enum Place {
 #[derive(Drop)]
 pub enum Active {
     /// An action comes next.
-    Next(Place),
+    Next(Action),
     /// A built-in acts, in the same turn; its name and arguments.
     Acting(Builtin, Sequence<Text>),
     /// What ran here is done, with this status.
@@ -191,7 +191,7 @@ pub enum Expanded {
     /// What this program writes is needed.
     Need {
         program: Shared<CompoundList>,
-        wants: Wants,
+        wants: ToExpand,
         pending: Pending,
     },
     /// The command goes on.

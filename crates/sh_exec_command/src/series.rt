@@ -8,7 +8,7 @@ ghost use Rattle.sh_exec_command.specs.Series.{begun_with, give_by, give_turn, r
 use crate::answers::expand;
 use crate::assigning::{may_set, set_plain};
 use crate::expanding::{fatal_message, start};
-use crate::running::{Active, Expanded, Move, Pending, Place, Series, Wants};
+use crate::running::{Action, Active, Expanded, ForLoop, Move, Pending, ToExpand};
 use sh_base::NoMemory;
 use sh_base::sequence::{Sequence, Text, copies_of};
 use sh_base::shared::Shared;
@@ -102,7 +102,7 @@ fn header_of(alloc: Global, command: &Command) -> Result<Option<Header>, NoMemor
     }
 }
 
-impl Series {
+impl ForLoop {
     /// What a `for` goes on with: its next value, or its end with this status where none is left. Takes no memory.
     pub fn go_on(self, status: u8) -> Active
         ensures { result ≡ rest_of_series self status }
@@ -110,7 +110,7 @@ impl Series {
         if self.values.is_empty() {
             return Active::Done(status);
         }
-        Active::Next(Place::Giving(self))
+        Active::Next(Action::AssignLoopVariable(self))
     }
 }
 
@@ -119,7 +119,7 @@ fn expand_words(
     alloc: Global,
     command: Shared<Command>,
     pending: Pending,
-    series: Series,
+    series: ForLoop,
     wanted: Sequence<Wanted>,
     vars: &mut Vars,
     files: &Files,
@@ -131,12 +131,12 @@ fn expand_words(
     match expand(alloc, wanted, vars, files, pending.answers.as_slice())? {
         Step::Need(program) => Ok(Expanded::Need {
             program,
-            wants: Wants::Series(command),
+            wants: ToExpand::ForWords(command),
             pending,
         }),
         Step::Fields(fields) => {
-            let Series { name, body, .. } = series;
-            let series = Series {
+            let ForLoop { name, body, .. } = series;
+            let series = ForLoop {
                 name,
                 values: Queue::new(fields),
                 body,
@@ -170,7 +170,7 @@ pub fn series_turn(
     match values {
         Values::Words(wanted) => {
             let pending = start(alloc, vars, pending)?;
-            let series = Series {
+            let series = ForLoop {
                 name,
                 values: Queue::new(Sequence::new(alloc)),
                 body,
@@ -179,7 +179,7 @@ pub fn series_turn(
         },
         Values::Parameters => {
             let values = Sequence::from_vec(copies_of(alloc, vars.positional())?);
-            let series = Series {
+            let series = ForLoop {
                 name,
                 values: Queue::new(values),
                 body,
@@ -193,7 +193,7 @@ pub fn series_turn(
 #[derive(Drop)]
 pub enum Round {
     /// Its body is run.
-    Body(Series),
+    Body(ForLoop),
     /// It goes on here.
     Over(Active),
 }
@@ -201,11 +201,11 @@ pub enum Round {
 /// The turn in which the variable of a `for` has its next value. The only error is want of memory; what the variables are then is
 /// left open.
 #[tactic(auto, unfolding(crate::specs::Series::give_turn))]
-pub fn give_turn(alloc: Global, series: Series, vars: &mut Vars) -> Result<Round, NoMemory>
+pub fn give_turn(alloc: Global, series: ForLoop, vars: &mut Vars) -> Result<Round, NoMemory>
     ensures { IfOk result (λ r.
         record { environment = vars.new; round = r } ≡ give_turn vars.old series) }
 {
-    let Series { name, values, body } = series;
+    let ForLoop { name, values, body } = series;
     let mut values = values;
     let Some(value) = values.take() else {
         return Ok(Round::Over(Active::Done(0)));
@@ -215,5 +215,5 @@ pub fn give_turn(alloc: Global, series: Series, vars: &mut Vars) -> Result<Round
         return Ok(Round::Over(fatal_message(piece)));
     }
     set_plain(vars, name.as_slice(), value.as_slice())?;
-    Ok(Round::Body(Series { name, values, body }))
+    Ok(Round::Body(ForLoop { name, values, body }))
 }

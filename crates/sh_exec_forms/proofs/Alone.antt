@@ -2,7 +2,7 @@
 use Rattle.std.proofs.Common.{◌≡◌, ◌≤◌, arith, length, List, [], ◌∷◌, map, Option, Some, None, Bool, true, false, refl, sym, ap, ◌∙◌}
 use Rattle.sh_exec_command.specs.Preparing.{first_place}
 use Rattle.sh_exec_command.specs.declared.running.Active.TheVariants.{Next}
-use Rattle.sh_exec_command.specs.declared.running.Place.TheVariants.{Ending}
+use Rattle.sh_exec_command.specs.declared.running.Action.TheVariants.{Ending}
 use Rattle.sh_exec_forms.proofs.Entered.{trees_beside}
 use Rattle.sh_exec_forms.specs.Bodies.{body_items, body_of, body_step, own_command_step, own_compound, own_entry, own_form, own_form_step, sole_and_or, sole_and_or_step, sole_command, sole_item, sole_or_entered, sole_pipeline, sole_pipeline_step, stage_run, sole_run}
 use Rattle.sh_exec_forms.specs.Entering.{Entry, command_run, compound_step, items_run, list_item_step, no_entry}

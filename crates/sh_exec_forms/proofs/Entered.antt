@@ -3,8 +3,8 @@ use Rattle.std.proofs.Common.{◌≡◌, ℕ, ◌≤◌, arith, length, List, []
 use Rattle.sh_exec_parts.specs.Pipelines.{commands_of}
 use Rattle.sh_exec_command.specs.Preparing.{first_place}
 use Rattle.sh_exec_command.specs.declared.running.Active.TheVariants.{Next, Done}
-use Rattle.sh_exec_command.specs.declared.running.Place.TheVariants.{Expanding}
-use Rattle.sh_exec_command.specs.declared.running.Wants.TheVariants.{Series}
+use Rattle.sh_exec_command.specs.declared.running.Action.TheVariants.{Expanding}
+use Rattle.sh_exec_command.specs.declared.running.ToExpand.TheVariants.{ForWords}
 use Rattle.sh_exec_forms.specs.Entering.{Entry, and_or_run, and_or_step, command_entry, command_run, command_step, commands_run, commands_step, compound_list_step, compound_entry, compound_step, items_run, form_entry, form_step, item_run, with_others, list_item_step, list_run, with_negation, pipeline_run, pipeline_step, staging, to_enter, tree, trees, no_entry}
 use Rattle.sh_exec_forms.specs.Running.{Run, At, In}
 use Rattle.sh_exec_forms.specs.declared.form.Form.TheVariants.{Commands, Condition, If}
@@ -120,12 +120,12 @@ unfolding form_entry list_run
 loop_entered kind condition body whole = ap (λ entry. form_entry entry whole) (sym (form.rolls-Loop kind condition body)) ∙ ap (λ entry. entry whole) (folds.para-roll-CompoundForm Entry Entry (Unit {0}) (Unit {0}) (Unit {0}) Run (Unit {0}) Entry Run (Unit {0}) (Unit {0}) Run (Unit {0}) Run (Unit {0}) (Unit {0})
     command_step form_step no_entry no_entry no_entry and_or_step no_entry compound_step compound_list_step no_entry no_entry list_item_step no_entry pipeline_step no_entry no_entry (layer.Loop kind condition body))
 
-pub for_entered : (name : Name) (words : List Word) (body : CompoundList) (whole : Command) → form_entry (form.For name words body) whole ≡ At (Next (Expanding (Series whole) None))
+pub for_entered : (name : Name) (words : List Word) (body : CompoundList) (whole : Command) → form_entry (form.For name words body) whole ≡ At (Next (Expanding (ForWords whole) None))
 unfolding form_entry list_run
 for_entered name words body whole = ap (λ entry. form_entry entry whole) (sym (form.rolls-For name words body)) ∙ ap (λ entry. entry whole) (folds.para-roll-CompoundForm Entry Entry (Unit {0}) (Unit {0}) (Unit {0}) Run (Unit {0}) Entry Run (Unit {0}) (Unit {0}) Run (Unit {0}) Run (Unit {0}) (Unit {0})
     command_step form_step no_entry no_entry no_entry and_or_step no_entry compound_step compound_list_step no_entry no_entry list_item_step no_entry pipeline_step no_entry no_entry (layer.For name words body))
 
-pub for_parameters_entered : (name : Name) (is_separated : Bool) (body : CompoundList) (whole : Command) → form_entry (form.ForParameters name is_separated body) whole ≡ At (Next (Expanding (Series whole) None))
+pub for_parameters_entered : (name : Name) (is_separated : Bool) (body : CompoundList) (whole : Command) → form_entry (form.ForParameters name is_separated body) whole ≡ At (Next (Expanding (ForWords whole) None))
 unfolding form_entry list_run
 for_parameters_entered name is_separated body whole = ap (λ entry. form_entry entry whole) (sym (form.rolls-ForParameters name is_separated body)) ∙ ap (λ entry. entry whole) (folds.para-roll-CompoundForm Entry Entry (Unit {0}) (Unit {0}) (Unit {0}) Run (Unit {0}) Entry Run (Unit {0}) (Unit {0}) Run (Unit {0}) Run (Unit {0}) (Unit {0})
     command_step form_step no_entry no_entry no_entry and_or_step no_entry compound_step compound_list_step no_entry no_entry list_item_step no_entry pipeline_step no_entry no_entry (layer.ForParameters name is_separated body))

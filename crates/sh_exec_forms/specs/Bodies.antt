@@ -3,7 +3,7 @@
 use Rattle.std.specs.Prelude.{List, [], ◌∷◌, Bool, true, false, Option, Some, None}
 use Rattle.sh_exec_command.specs.Preparing.{first_place}
 use Rattle.sh_exec_command.specs.declared.running.Active.TheVariants.{Next}
-use Rattle.sh_exec_command.specs.declared.running.Place.TheVariants.{Ending}
+use Rattle.sh_exec_command.specs.declared.running.Action.TheVariants.{Ending}
 use Rattle.sh_exec_forms.specs.Entering.{Entry, Layer, command_run, compound_step, items_run, list_item_step, trees, no_entry}
 use Rattle.sh_exec_forms.specs.Running.{Run, At}
 use Rattle.sh_syntax.specs.declared.tree.AndOr.{AndOr}

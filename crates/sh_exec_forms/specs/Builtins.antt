@@ -9,7 +9,7 @@ use Rattle.sh_builtin.specs.declared.outcome.Outcome.{Outcome}
 use Rattle.sh_exec_command.specs.declared.running.Active.{Active}
 use Rattle.sh_exec_command.specs.declared.running.Active.TheVariants.{Acting, Next, Done, Leaving}
 use Rattle.sh_exec_command.specs.declared.running.Finish.TheVariants.{Messages, Output}
-use Rattle.sh_exec_command.specs.declared.running.Place.TheVariants.{Writing}
+use Rattle.sh_exec_command.specs.declared.running.Action.TheVariants.{Writing}
 use Rattle.sh_exec_command.specs.declared.running.Report.{Report}
 use Rattle.sh_kernel.specs.State.{KernelState}
 use Rattle.sh_vars.specs.Environment.{Environment}

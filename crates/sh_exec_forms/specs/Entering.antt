@@ -2,9 +2,9 @@
 use Rattle.std.specs.Prelude.{ℕ, List, [], ◌∷◌, map, Bool, true, false, None, option_map}
 use Rattle.sh_exec_command.specs.Preparing.{first_place}
 use Rattle.sh_exec_command.specs.declared.running.Active.TheVariants.{Next, Done}
-use Rattle.sh_exec_command.specs.declared.running.Place.{Place}
-use Rattle.sh_exec_command.specs.declared.running.Place.TheVariants.{Expanding, Staging}
-use Rattle.sh_exec_command.specs.declared.running.Wants.TheVariants.{Series}
+use Rattle.sh_exec_command.specs.declared.running.Action.{Action}
+use Rattle.sh_exec_command.specs.declared.running.Action.TheVariants.{Expanding, ForkStage}
+use Rattle.sh_exec_command.specs.declared.running.ToExpand.TheVariants.{ForWords}
 use Rattle.sh_exec_forms.specs.Running.{Run, At, In}
 use Rattle.sh_exec_forms.specs.declared.form.Form.TheVariants.{Commands, Condition, If, Joined, Negated}
 use Rattle.sh_syntax.specs.declared.tree.AndOr.{AndOr}
@@ -50,8 +50,8 @@ abbrev pub trees : {A B : Type 0} → List (A × B) → List A
 trees parts = map tree parts
 
 -- processes are made for these commands, one after another (2.9.2)
-abbrev pub staging : List Command → Place
-staging commands = Staging (record { commands = commands; aside = None; children = [] })
+abbrev pub staging : List Command → Action
+staging commands = ForkStage (record { commands = commands; aside = None; children = [] })
 
 -- ---- compound commands (2.9.4): a subshell is a pipeline of one process; those that aren't served are never entered
 abbrev pub form_step : Layer Run layer.CompoundForm-F → Entry
@@ -61,8 +61,8 @@ form_step (layer.If condition body else_ifs else_body) command =
     In (If (record { body = body.0; else_ifs = trees else_ifs; else_body = option_map tree else_body })) condition.1
 form_step (layer.Loop kind condition body) command =
     In (Condition (record { kind = kind; condition = condition.0; body = body.0 }) 0) condition.1
-form_step (layer.For name words body) command = At (Next (Expanding (Series command) None))
-form_step (layer.ForParameters name is_separated body) command = At (Next (Expanding (Series command) None))
+form_step (layer.For name words body) command = At (Next (Expanding (ForWords command) None))
+form_step (layer.ForParameters name is_separated body) command = At (Next (Expanding (ForWords command) None))
 form_step (layer.Case word items) command = At (Done 0)
 
 abbrev pub compound_step : {Way : Type 0} → Layer Way layer.Compound-F → Entry

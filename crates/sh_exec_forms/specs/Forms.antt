@@ -6,7 +6,7 @@ use Rattle.sh_exec_command.specs.Series.{rest_of_series}
 use Rattle.sh_exec_command.specs.Undoing as variables
 use Rattle.sh_exec_command.specs.declared.running.Active.{Active}
 use Rattle.sh_exec_command.specs.declared.running.Active.TheVariants.{Acting, Next, Done, Leaving}
-use Rattle.sh_exec_command.specs.declared.running.Place.TheVariants.{Reading}
+use Rattle.sh_exec_command.specs.declared.running.Action.TheVariants.{Reading}
 use Rattle.sh_exec_command.specs.declared.running.Undo.{Undo}
 use Rattle.sh_exec_machine.specs.Undoing as descriptors
 use Rattle.sh_exec_forms.specs.Builtins.{effect_at}
@@ -15,7 +15,7 @@ use Rattle.sh_exec_forms.specs.Frames.{Goes, has_loop, is_loop, run_of}
 use Rattle.sh_exec_forms.specs.Running.{Run, At, In}
 use Rattle.sh_exec_forms.specs.declared.form.Branches.{Branches}
 use Rattle.sh_exec_forms.specs.declared.form.Form.{Form}
-use Rattle.sh_exec_forms.specs.declared.form.Form.TheVariants.{Text, Commands, Joined, Negated, Restoring, If, Condition, Body, Each}
+use Rattle.sh_exec_forms.specs.declared.form.Form.TheVariants.{Text, Commands, Joined, Negated, Restoring, If, Condition, Body, ForBody}
 use Rattle.sh_exec_forms.specs.declared.form.Loop.{Loop}
 use Rattle.sh_exec_forms.specs.declared.step.Step.{Step}
 use Rattle.sh_exec_forms.specs.declared.step.Step.TheVariants.{Outward, Inward}
@@ -134,7 +134,7 @@ after_status pid (Restoring undo) s env status = undone pid undo s env (At (Done
 after_status pid (If branches) s env status = with_run s (with_status env status) (branch branches status)
 after_status pid (Condition loop last) s env status = with_run s (with_status env status) (behind_condition loop last status)
 after_status pid (Body loop) s env status = with_run s (with_status env status) (condition_run loop status)
-after_status pid (Each series) s env status = with_run s (with_status env status) (At (rest_of_series series status))
+after_status pid (ForBody series) s env status = with_run s (with_status env status) (At (rest_of_series series status))
 
 -- looped: whether a loop is around the form
 abbrev pub after_leave : ℕ → (looped : Bool) → Form → KernelState → Environment → Leave → Acted
@@ -146,7 +146,7 @@ after_leave pid looped (Restoring undo) s env leave = undone pid undo s env (At 
 after_leave pid looped (If branches) s env leave = with_run s env (At (Leaving leave))
 after_leave pid looped (Condition loop last) s env leave = loop_left s env (condition_run loop last) (onward looped leave)
 after_leave pid looped (Body loop) s env leave = loop_left s env (condition_run loop 0) (onward looped leave)
-after_leave pid looped (Each series) s env leave = loop_left s env (At (rest_of_series series 0)) (onward looped leave)
+after_leave pid looped (ForBody series) s env leave = loop_left s env (At (rest_of_series series 0)) (onward looped leave)
 
 abbrev pub after_by : ℕ → (looped : Bool) → Form → KernelState → Environment → Run → Acted
 after_by pid looped form s env (At (Done status)) = after_status pid form s env status

@@ -4,7 +4,7 @@ use Rattle.sh_exec_command.specs.declared.running.Active.{Active}
 use Rattle.sh_exec_command.specs.declared.running.Active.TheVariants.{Acting, Next, Done, Leaving}
 use Rattle.sh_exec_forms.specs.Running.{Run, At, In}
 use Rattle.sh_exec_forms.specs.declared.form.Form.{Form}
-use Rattle.sh_exec_forms.specs.declared.form.Form.TheVariants.{Text, Commands, Joined, Negated, Restoring, If, Condition, Body, Each}
+use Rattle.sh_exec_forms.specs.declared.form.Form.TheVariants.{Text, Commands, Joined, Negated, Restoring, If, Condition, Body, ForBody}
 use Rattle.sh_exec_forms.specs.declared.step.Step.{Step}
 use Rattle.sh_exec_forms.specs.declared.step.Step.TheVariants.{Outward, Inward}
 
@@ -25,7 +25,7 @@ is_loop (Restoring undo) = false
 is_loop (If branches) = false
 is_loop (Condition loop last) = true
 is_loop (Body loop) = true
-is_loop (Each series) = true
+is_loop (ForBody series) = true
 
 -- whether a loop is among some forms
 abbrev pub has_loop : List Form → Bool

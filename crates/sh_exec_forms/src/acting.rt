@@ -6,7 +6,7 @@ ghost use Rattle.sh_kernel.specs.State.{KernelState, StandsAt};
 use sh_base::NoMemory;
 use sh_base::sequence::Text;
 use sh_builtin::{Builtin, Completion, Outcome};
-use sh_exec_command::{Active, Finish, Place, Report};
+use sh_exec_command::{Action, Active, Finish, Report};
 use sh_exec_parts::Queue;
 use sh_exec_parts::message::Piece;
 use sh_kernel::Kernel;
@@ -37,7 +37,7 @@ pub fn reported(report: Report) -> Active
                 descriptor: 2,
                 bytes,
             };
-            Active::Next(Place::Writing(piece, Finish::Messages(Report { messages, status })))
+            Active::Next(Action::Writing(piece, Finish::Messages(Report { messages, status })))
         },
         None => at_completion(status),
     }
@@ -54,7 +54,7 @@ fn written(builtin: Builtin, bytes: Text, report: Report) -> Active
         descriptor: 1,
         bytes,
     };
-    Active::Next(Place::Writing(piece, Finish::Output(builtin, report)))
+    Active::Next(Action::Writing(piece, Finish::Output(builtin, report)))
 }
 
 /// What follows when a built-in has acted.

@@ -9,7 +9,7 @@ use crate::frames::Frames;
 use crate::share::share_all;
 use sh_base::NoMemory;
 use sh_base::shared::Shared;
-use sh_exec_command::{Active, Place, first_place};
+use sh_exec_command::{Action, Active, first_place};
 use sh_exec_parts::is_negated;
 use sh_syntax::tree::{AndOr, Command, Compound, CompoundForm, CompoundList, ListItem, Pipeline};
 use std::alloc::Global;
@@ -153,7 +153,7 @@ pub fn body_of(alloc: Global, frames: &mut Frames, list: &CompoundList) -> Resul
 {
     let items = list.items.as_slice();
     match items {
-        [] => Ok(Active::Next(Place::Ending(0))),
+        [] => Ok(Active::Next(Action::Ending(0))),
         [item] => match sole_item(alloc, frames, item)? {
             Some(active) => Ok(active),
             None => enter_copies(alloc, frames, items),

@@ -12,7 +12,7 @@ use crate::step::Step;
 use sh_base::NoMemory;
 use sh_base::sequence::Sequence;
 use sh_base::shared::Shared;
-use sh_exec_command::{Active, Place, Stages, Wants, first_place};
+use sh_exec_command::{Action, Active, Stages, ToExpand, first_place};
 use sh_exec_parts::{Queue, commands_of, is_negated};
 use sh_syntax::tree::{
     AndOr, Command, Compound, CompoundForm, CompoundList, Connected, ElseIf, ListItem, LoopKind,
@@ -21,10 +21,10 @@ use sh_syntax::tree::{
 use std::alloc::Global;
 
 /// Processes are to be made for these commands.
-fn staging(alloc: Global, commands: Sequence<Shared<Command>>) -> Place
+fn staging(alloc: Global, commands: Sequence<Shared<Command>>) -> Action
     ensures { result ≡ staging commands }
 {
-    Place::Staging(Stages {
+    Action::ForkStage(Stages {
         commands: Queue::new(commands),
         aside: None,
         children: Sequence::new(alloc),
@@ -124,10 +124,10 @@ fn push_loop(
 /// A `for`, whose words are to be expanded.
 fn series(command: &Shared<Command>) -> Result<Active, NoMemory>
     ensures { IfOk result (λ active.
-        active ≡ Active.Next (Place.Expanding (Wants.Series command.now) None)) }
+        active ≡ Active.Next (Action.Expanding (ToExpand.ForWords command.now) None)) }
 {
     let command = command.share()?;
-    Ok(Active::Next(Place::Expanding(Wants::Series(command), None)))
+    Ok(Active::Next(Action::Expanding(ToExpand::ForWords(command), None)))
 }
 
 /// The form of a compound command.

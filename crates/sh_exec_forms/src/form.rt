@@ -1,6 +1,6 @@
 //! Running forms.
 use sh_base::shared::Shared;
-use sh_exec_command::{Series, Undo};
+use sh_exec_command::{ForLoop, Undo};
 use sh_exec_parts::{Queue, Rest};
 use sh_syntax::tree::{CompoundList, Connected, ElseIf, ListItem, LoopKind};
 
@@ -43,5 +43,5 @@ pub enum Form {
     /// The body of such a loop.
     Body(Loop),
     /// The body of a `for` (2.9.4.2), with the values that its variable is still to have.
-    Each(Series),
+    ForBody(ForLoop),
 }

@@ -16,7 +16,7 @@ use crate::step::Step;
 use sh_base::NoMemory;
 use sh_base::shared::Shared;
 use sh_builtin::Leave;
-use sh_exec_command::{Active, Move, Place, Undo, restore_variables};
+use sh_exec_command::{Action, Active, Move, Undo, restore_variables};
 use sh_exec_machine::restore_all;
 use sh_exec_parts::Queue;
 use sh_kernel::Kernel;
@@ -172,7 +172,7 @@ fn end_form(
     ensures terminal { kernel.new.terminal ≡ kernel.old.terminal }
 {
     match form {
-        Form::Text(rest) => Ok(Step::Inward(Active::Next(Place::Reading(rest)))),
+        Form::Text(rest) => Ok(Step::Inward(Active::Next(Action::Reading(rest)))),
         Form::Commands(items) => {
             vars.set_status(status);
             let step = enter(alloc, frames, items, status)?;
@@ -203,7 +203,7 @@ fn end_form(
             let step = repeat(alloc, frames, looping, status)?;
             Ok(step)
         },
-        Form::Each(series) => {
+        Form::ForBody(series) => {
             vars.set_status(status);
             Ok(next_value(series, status))
         },
@@ -245,7 +245,7 @@ fn leave_form(
             let step = leave_loop(alloc, vars, frames, looping, 0, leave)?;
             Ok(step)
         },
-        Form::Each(series) => Ok(leave_series(vars, frames, series, leave)),
+        Form::ForBody(series) => Ok(leave_series(vars, frames, series, leave)),
     }
 }
 

@@ -94,6 +94,6 @@ fn is_loop(form: &Form) -> bool
         Form::If(_) => false,
         Form::Condition(_, _) => true,
         Form::Body(_) => true,
-        Form::Each(_) => true,
+        Form::ForBody(_) => true,
     }
 }

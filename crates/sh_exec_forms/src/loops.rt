@@ -13,7 +13,7 @@ use crate::frames::Frames;
 use crate::step::Step;
 use sh_base::NoMemory;
 use sh_builtin::Leave;
-use sh_exec_command::{Active, Series};
+use sh_exec_command::{Active, ForLoop};
 use sh_syntax::tree::LoopKind;
 use sh_vars::Vars;
 use std::alloc::Global;
@@ -108,7 +108,7 @@ pub(crate) fn leave_loop(
 }
 
 /// A `for` that is left.
-pub(crate) fn leave_series(vars: &mut Vars, frames: &Frames, series: Series, leave: Leave) -> Step
+pub(crate) fn leave_series(vars: &mut Vars, frames: &Frames, series: ForLoop, leave: Leave) -> Step
     ensures { (s : KernelState) → Follows s vars.new frames.now frames.now result
         (loop_left s vars.old (Run.At (rest_of_series series 0)) (onward (has_loop frames.now) leave)) }
 {
@@ -123,7 +123,7 @@ pub(crate) fn leave_series(vars: &mut Vars, frames: &Frames, series: Series, lea
 }
 
 /// A `for` goes on with its next value, or is done with this status where none is left.
-pub(crate) fn next_value(series: Series, status: u8) -> Step
+pub(crate) fn next_value(series: ForLoop, status: u8) -> Step
     ensures { (forms : List Form) → Goes result forms forms (Run.At (rest_of_series series status)) }
 {
     match series.go_on(status) {

@@ -18,14 +18,14 @@ use Rattle.sh_exec_command.specs.declared.running.Active.TheVariants.{Next, Done
 use Rattle.sh_exec_command.specs.declared.running.Finish.{Finish}
 use Rattle.sh_exec_command.specs.declared.running.Finish.TheVariants.{Status, Leave, Messages, Output}
 use Rattle.sh_exec_command.specs.declared.running.Pending.{Pending}
-use Rattle.sh_exec_command.specs.declared.running.Place.{Place}
-use Rattle.sh_exec_command.specs.declared.running.Place.TheVariants.{Answering, Collecting, Ending, Expanding, Waiting, Writing}
-use Rattle.sh_exec_command.specs.declared.running.Prepared.{Prepared}
+use Rattle.sh_exec_command.specs.declared.running.Action.{Action}
+use Rattle.sh_exec_command.specs.declared.running.Action.TheVariants.{WaitSubstitution, ReadSubstitution, Ending, Expanding, Waiting, Writing}
+use Rattle.sh_exec_command.specs.declared.running.ExpandedCommand.{ExpandedCommand}
 use Rattle.sh_exec_command.specs.declared.running.Role.{Role}
 use Rattle.sh_exec_command.specs.declared.running.Role.TheVariants as role
 use Rattle.sh_exec_command.specs.declared.running.Substitution.{Substitution}
-use Rattle.sh_exec_command.specs.declared.running.Wants.{Wants}
-use Rattle.sh_exec_command.specs.declared.running.Wants.TheVariants.{Words, Values, Series}
+use Rattle.sh_exec_command.specs.declared.running.ToExpand.{ToExpand}
+use Rattle.sh_exec_command.specs.declared.running.ToExpand.TheVariants.{Words, Values, ForWords}
 use Rattle.sh_exec_command.specs.declared.series.Round.{Round}
 use Rattle.sh_exec_command.specs.declared.series.Round.TheVariants as round
 use Rattle.sh_exec_machine.specs.Redirecting.{redirection_outcome}
@@ -42,7 +42,7 @@ use Rattle.sh_exec_forms.specs.Frames.{run_in}
 use Rattle.sh_exec_forms.specs.Running.{Run, At, In, move_run}
 use Rattle.sh_exec_shell.specs.Waits.{wait_status}
 use Rattle.sh_exec_forms.specs.declared.form.Form.{Form}
-use Rattle.sh_exec_forms.specs.declared.form.Form.TheVariants.{Text, Each}
+use Rattle.sh_exec_forms.specs.declared.form.Form.TheVariants.{Text, ForBody}
 use Rattle.sh_files.specs.Nodes.{FileMap}
 use Rattle.sh_kernel.specs.Calls.{close_call, end_call}
 use Rattle.sh_kernel.specs.State.{KernelState}
@@ -58,17 +58,17 @@ read_turn env (found.Command tree rest) = In (Text rest) (items_run (view.out-Co
 read_turn env (found.Fault refusal) = At (fatal (refusal_text refusal))
 
 -- ---- expansion
-abbrev pub expand_turn : FileMap → Environment → Wants → Option Pending → Turn
+abbrev pub expand_turn : FileMap → Environment → ToExpand → Option Pending → Turn
 expand_turn files env (Words command in_place status) pending = words_turn files env command in_place status pending
 expand_turn files env (Values p) pending = assign_turn files env p pending
-expand_turn files env (Series command) pending = series_turn files env command pending
+expand_turn files env (ForWords command) pending = series_turn files env command pending
 
 -- ---- reading what a substitution's process writes, 1024 bytes at a time; a read that fails counts as end of file
-abbrev pub next : Place → Run
+abbrev pub next : Action → Run
 next place = At (Next place)
 
 unfoldable pub after_collection : KernelState → ℕ → Environment → Substitution → ℕ → Acted
-after_collection s pid env substitution aside = with_run (close_call s pid (Aside aside)).after env (next (Answering substitution))
+after_collection s pid env substitution aside = with_run (close_call s pid (Aside aside)).after env (next (WaitSubstitution substitution))
 
 abbrev pub with_written : Substitution → List ℕ → Substitution
 with_written substitution bytes = record substitution { written = substitution.written ++ bytes }
@@ -77,8 +77,8 @@ with_written substitution bytes = record substitution { written = substitution.w
 abbrev pub collect_by : KernelState → ℕ → Environment → Substitution → ℕ → ReadOutcome → Acted
 collect_by s pid env substitution aside (taken.Bytes bytes) =
     if nat_eq (length bytes) 0 then after_collection s pid env substitution aside
-    else with_run s env (next (Collecting (with_written substitution bytes)))
-collect_by s pid env substitution aside taken.Wait = with_run s env (next (Collecting substitution))
+    else with_run s env (next (ReadSubstitution (with_written substitution bytes)))
+collect_by s pid env substitution aside taken.Wait = with_run s env (next (ReadSubstitution substitution))
 collect_by s pid env substitution aside taken.Failed = after_collection s pid env substitution aside
 
 unfoldable pub collect_from : KernelState → ℕ → Environment → Substitution → ℕ → Acted
@@ -86,7 +86,7 @@ collect_from s pid env substitution aside =
     let t = take_bytes s pid (Aside aside) 1024 in collect_by t.after pid env substitution aside t.told
 
 abbrev pub collect_end : KernelState → ℕ → Environment → Substitution → Option ℕ → Acted
-collect_end s pid env substitution None = with_run s env (next (Answering substitution))
+collect_end s pid env substitution None = with_run s env (next (WaitSubstitution substitution))
 collect_end s pid env substitution (Some aside) = collect_from s pid env substitution aside
 
 unfoldable pub collect_turn : KernelState → ℕ → Environment → Substitution → Acted
@@ -94,20 +94,20 @@ collect_turn s pid env substitution = collect_end s pid env substitution substit
 
 -- ---- waiting
 -- the status of a substitution is kept for a command without a name (2.9.1)
-abbrev pub with_substitution : Wants → ℕ → Wants
+abbrev pub with_substitution : ToExpand → ℕ → ToExpand
 with_substitution (Words command in_place before) status = Words command in_place status
 with_substitution (Values p) status = Values (record p { status = status })
-with_substitution (Series command) status = Series command
+with_substitution (ForWords command) status = ForWords command
 
 abbrev pub with_next_answer : Pending → List ℕ → Pending
 with_next_answer pending answer = record pending { answers = pending.answers ++ answer ∷ [] }
 
-abbrev pub answer_by : Substitution → Option ℕ → Place
-answer_by substitution None = Answering substitution
+abbrev pub answer_by : Substitution → Option ℕ → Action
+answer_by substitution None = WaitSubstitution substitution
 answer_by substitution (Some status) =
     Expanding (with_substitution substitution.wants status) (Some (with_next_answer substitution.pending substitution.written))
 
-unfoldable pub answer_turn : KernelState → ℕ → Substitution → Place
+unfoldable pub answer_turn : KernelState → ℕ → Substitution → Action
 answer_turn s pid substitution = answer_by substitution (wait_status s pid substitution.children)
 
 abbrev pub wait_by : List ℕ → Option ℕ → Active
@@ -119,7 +119,7 @@ wait_turn s pid children = wait_by children (wait_status s pid children)
 
 -- ---- redirection (2.7); what a program's process changes is never undone
 abbrev pub keeps : Role → Bool
-keeps role.Nameless = true
+keeps role.NoCommandName = true
 keeps (role.Builtin builtin) = true
 keeps role.Program = false
 
@@ -127,23 +127,23 @@ abbrev pub undone_by : List Undone → Option Undone → List Undone
 undone_by undo None = undo
 undone_by undo (Some one) = undo ++ one ∷ []
 
-abbrev pub with_undo : Prepared → Option Undone → Prepared
+abbrev pub with_undo : ExpandedCommand → Option Undone → ExpandedCommand
 with_undo p one = record p { undo = record p.undo { descriptors = undone_by p.undo.descriptors one } }
 
-abbrev pub redirect_by : Prepared → List ℕ → Result (Unit {0}) KernelFault → Option Undone → Run
+abbrev pub redirect_by : ExpandedCommand → List ℕ → Result (Unit {0}) KernelFault → Option Undone → Run
 redirect_by p word (Ok _) one = move_run (ahead (with_undo p one))
 redirect_by p word (Err f) one = move_run (not_done p word f)
 
-unfoldable pub redirect_one : KernelState → ℕ → Environment → Prepared → Redirection → Acted
+unfoldable pub redirect_one : KernelState → ℕ → Environment → ExpandedCommand → Redirection → Acted
 redirect_one s pid env p redirection =
     let r = redirection_outcome (keeps p.role) s pid env.directory redirection in
     with_run r.after env (redirect_by p redirection.word r.answer r.undone)
 
-abbrev pub redirect_from : KernelState → ℕ → Environment → Prepared → List Redirection → Acted
+abbrev pub redirect_from : KernelState → ℕ → Environment → ExpandedCommand → List Redirection → Acted
 redirect_from s pid env p [] = with_run s env (move_run (ahead p))
 redirect_from s pid env p (redirection ∷ redirections) = redirect_one s pid env (record p { redirections = redirections }) redirection
 
-unfoldable pub redirect_turn : KernelState → ℕ → Environment → Prepared → Acted
+unfoldable pub redirect_turn : KernelState → ℕ → Environment → ExpandedCommand → Acted
 redirect_turn s pid env p = redirect_from s pid env p p.redirections
 
 -- ---- writing
@@ -175,7 +175,7 @@ write_turn s pid env piece finish =
 
 -- ---- a for: its variable has the next value, and its body is entered (2.9.4.2)
 abbrev pub round_run : Round → Run
-round_run (round.Body series) = In (Each series) (list_run series.body)
+round_run (round.Body series) = In (ForBody series) (list_run series.body)
 round_run (round.Over active) = At active
 
 abbrev pub given_round : KernelState → series.Given → Acted

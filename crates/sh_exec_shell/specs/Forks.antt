@@ -7,12 +7,12 @@ use Rattle.sh_exec_command.specs.declared.running.Active.TheVariants.{Next}
 use Rattle.sh_exec_command.specs.declared.running.Move.{Move}
 use Rattle.sh_exec_command.specs.declared.running.Move.TheVariants as move
 use Rattle.sh_exec_command.specs.declared.running.Pending.{Pending}
-use Rattle.sh_exec_command.specs.declared.running.Place.{Place}
-use Rattle.sh_exec_command.specs.declared.running.Place.TheVariants.{Collecting, Staging, Waiting}
-use Rattle.sh_exec_command.specs.declared.running.Prepared.{Prepared}
+use Rattle.sh_exec_command.specs.declared.running.Action.{Action}
+use Rattle.sh_exec_command.specs.declared.running.Action.TheVariants.{ReadSubstitution, ForkStage, Waiting}
+use Rattle.sh_exec_command.specs.declared.running.ExpandedCommand.{ExpandedCommand}
 use Rattle.sh_exec_command.specs.declared.running.Stages.{Stages}
-use Rattle.sh_exec_command.specs.declared.running.Wants.{Wants}
-use Rattle.sh_exec_command.specs.declared.running.Wants.TheVariants.{Words, Values, Series}
+use Rattle.sh_exec_command.specs.declared.running.ToExpand.{ToExpand}
+use Rattle.sh_exec_command.specs.declared.running.ToExpand.TheVariants.{Words, Values, ForWords}
 use Rattle.sh_exec_machine.specs.Forking.{fork_of}
 use Rattle.sh_exec_forms.specs.Forms.{Acted, with_run}
 use Rattle.sh_exec_shell.specs.Acting.{in_forms}
@@ -42,18 +42,18 @@ abbrev pub child_of : ℕ → Environment → Run → Option Child
 child_of pid env run = Some (record { pid = pid; shell = record { environment = env; run = run } })
 
 -- ---- a program (2.9.1.6)
-abbrev pub program_by : KernelState → Environment → Prepared → Option ℕ → Turned
+abbrev pub program_by : KernelState → Environment → ExpandedCommand → Option ℕ → Turned
 program_by s env p (Some pid) = with_child s env (At (Next (Waiting (pid ∷ [])))) (child_of pid env (move_run (ahead p)))
 program_by s env p None = with_child s env (At (fatal cannot_fork)) None
 
-unfoldable pub fork_turn : KernelState → ℕ → Environment → Prepared → Turned
+unfoldable pub fork_turn : KernelState → ℕ → Environment → ExpandedCommand → Turned
 fork_turn s pid env p = let f = fork_of s pid None false in program_by f.after env p f.child
 
 -- ---- a stage (2.9.2), or a subshell: the shell waits once all have a process
-abbrev pub stage_place : List Command → Option ℕ → List ℕ → Place
+abbrev pub stage_place : List Command → Option ℕ → List ℕ → Action
 stage_place [] aside children = Waiting children
 stage_place (command ∷ commands) aside children =
-    Staging (record { commands = command ∷ commands; aside = aside; children = children })
+    ForkStage (record { commands = command ∷ commands; aside = aside; children = children })
 
 abbrev pub is_more : List Command → Bool
 is_more commands = not (nat_eq (length commands) 0)
@@ -76,18 +76,18 @@ stage_turn s pid env stages = stage_from s pid env stages.commands stages.aside 
 
 -- ---- a command substitution (2.6.3)
 -- where it can't have a process, what the command changed is undone after the message
-abbrev pub fork_failure : Wants → Move
+abbrev pub fork_failure : ToExpand → Move
 fork_failure (Words command in_place status) = move.At (fatal cannot_fork)
 fork_failure (Values p) = move.Held p.undo (fatal cannot_fork)
-fork_failure (Series command) = move.At (fatal cannot_fork)
+fork_failure (ForWords command) = move.At (fatal cannot_fork)
 
-abbrev pub substitution_by : KernelState → Environment → CompoundList → Wants → Pending → Option ℕ → Option ℕ → Turned
+abbrev pub substitution_by : KernelState → Environment → CompoundList → ToExpand → Pending → Option ℕ → Option ℕ → Turned
 substitution_by s env program wants pending aside (Some pid) =
-    with_child s env (At (Next (Collecting (record { wants = wants; pending = pending; written = []; aside = aside; children = pid ∷ [] }))))
+    with_child s env (At (Next (ReadSubstitution (record { wants = wants; pending = pending; written = []; aside = aside; children = pid ∷ [] }))))
     (child_of pid env (body_of program))
 substitution_by s env program wants pending aside None = with_child s env (move_run (fork_failure wants)) None
 
-unfoldable pub substitute_turn : KernelState → ℕ → Environment → CompoundList → Wants → Pending → Turned
+unfoldable pub substitute_turn : KernelState → ℕ → Environment → CompoundList → ToExpand → Pending → Turned
 substitute_turn s pid env program wants pending =
     let f = fork_of s pid None true in substitution_by f.after env program wants pending f.aside f.child
 

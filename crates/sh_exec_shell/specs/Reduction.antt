@@ -8,8 +8,8 @@ use Rattle.sh_exec_command.specs.declared.running.Active.{Active}
 use Rattle.sh_exec_command.specs.declared.running.Active.TheVariants.{Acting, Next, Done, Leaving}
 use Rattle.sh_exec_command.specs.declared.running.Expanded.{Expanded}
 use Rattle.sh_exec_command.specs.declared.running.Expanded.TheVariants as expanded
-use Rattle.sh_exec_command.specs.declared.running.Place.{Place}
-use Rattle.sh_exec_command.specs.declared.running.Place.TheVariants.{Reading, Expanding, Collecting, Answering, Redirecting, Forking, Starting, Staging, Giving, Waiting, Writing, Ending}
+use Rattle.sh_exec_command.specs.declared.running.Action.{Action}
+use Rattle.sh_exec_command.specs.declared.running.Action.TheVariants.{Reading, Expanding, ReadSubstitution, WaitSubstitution, Redirecting, Forking, Starting, ForkStage, AssignLoopVariable, Waiting, Writing, Ending}
 use Rattle.sh_exec_shell.specs.Acting.{answer_turn, collect_turn, end_turn, expand_turn, given_round, next, read_turn, redirect_turn, wait_turn, write_turn}
 use Rattle.sh_exec_shell.specs.Forks.{Turned, fork_turn, stage_turn, substitute_turn}
 use Rattle.sh_exec_forms.specs.Forms.{Acted, with_run, after, at_action}
@@ -30,16 +30,16 @@ abbrev pub expansion : KernelState → ℕ → Turn → Turned
 expansion s pid t = expanded_by s pid t.environment t.outcome
 
 -- the action at a place; a program's start isn't the shell's
-abbrev pub act_place : KernelState → ℕ → Environment → Place → Turned
+abbrev pub act_place : KernelState → ℕ → Environment → Action → Turned
 act_place s pid env (Reading rest) = plain (with_run s env (read_turn env (next_command rest)))
 act_place s pid env (Expanding wants pending) = expansion s pid (expand_turn s.machine.files env wants pending)
-act_place s pid env (Collecting substitution) = plain (collect_turn s pid env substitution)
-act_place s pid env (Answering substitution) = plain (with_run s env (next (answer_turn s pid substitution)))
+act_place s pid env (ReadSubstitution substitution) = plain (collect_turn s pid env substitution)
+act_place s pid env (WaitSubstitution substitution) = plain (with_run s env (next (answer_turn s pid substitution)))
 act_place s pid env (Redirecting p) = plain (redirect_turn s pid env p)
 act_place s pid env (Forking p) = fork_turn s pid env p
 act_place s pid env (Starting fields) = plain (with_run s env (next (Starting fields)))
-act_place s pid env (Staging stages) = stage_turn s pid env stages
-act_place s pid env (Giving series) = plain (given_round s (give_turn env series))
+act_place s pid env (ForkStage stages) = stage_turn s pid env stages
+act_place s pid env (AssignLoopVariable series) = plain (given_round s (give_turn env series))
 act_place s pid env (Waiting children) = plain (with_run s env (At (wait_turn s pid children)))
 act_place s pid env (Writing piece finish) = plain (write_turn s pid env piece finish)
 act_place s pid env (Ending status) = plain (end_turn s pid env status)

@@ -15,7 +15,8 @@ use sh_base::NoMemory;
 use sh_base::sequence::{Sequence, Text};
 use sh_base::shared::Shared;
 use sh_exec_command::{
-    Active, Finish, Move, Pending, Place, Prepared, Stages, Substitution, Wants, go_ahead,
+    Action, Active, ExpandedCommand, Finish, Move, Pending, Stages, Substitution, ToExpand,
+    go_ahead,
 };
 use sh_exec_forms::{Frames, body_of, go_to, stage};
 use sh_exec_machine::{Forked, fork_process};
@@ -31,7 +32,7 @@ fn refused(alloc: Global) -> Result<Active, NoMemory>
     ensures { IfOk result (λ active. active ≡ expanding.fatal messages.cannot_fork) }
 {
     let piece = cannot_fork(alloc)?;
-    Ok(Active::Next(Place::Writing(piece, Finish::Leave(2))))
+    Ok(Active::Next(Action::Writing(piece, Finish::Leave(2))))
 }
 
 /// Some processes, and one more.
@@ -66,7 +67,7 @@ fn with_copy(child: u32, vars: &Vars, frames: Frames, active: Active) -> Result<
 fn put_program(
     alloc: Global,
     vars: &Vars,
-    prepared: Prepared,
+    prepared: ExpandedCommand,
     child: u32,
 ) -> Result<Child, NoMemory>
     ensures { IfOk result (λ made.
@@ -89,7 +90,7 @@ pub(crate) fn fork_turn(
     kernel: &mut Kernel,
     pid: u32,
     vars: &Vars,
-    prepared: Prepared,
+    prepared: ExpandedCommand,
 ) -> Result<(Active, Option<Child>), NoMemory>
     ensures state { (s : KernelState) → StandsAt kernel.old s → IfOk result (λ r.
         IsTurned kernel.new vars.now (Run.At r.0) r.1 (fork_turn s pid vars.now prepared)) }
@@ -106,7 +107,7 @@ pub(crate) fn fork_turn(
         Some(child) => {
             let made = put_program(alloc, vars, prepared, child)?;
             match one_more(Sequence::new(alloc), child) {
-                Ok(children) => Ok((Active::Next(Place::Waiting(children)), Some(made))),
+                Ok(children) => Ok((Active::Next(Action::Waiting(children)), Some(made))),
                 Err(refusal) => {
                     drop(made);
                     Err(refusal)
@@ -122,13 +123,13 @@ pub(crate) fn fork_turn(
 }
 
 /// Where a pipeline goes on after one of its processes.
-fn staged(commands: Queue<Shared<Command>>, aside: Option<usize>, children: Sequence<u32>) -> Place
+fn staged(commands: Queue<Shared<Command>>, aside: Option<usize>, children: Sequence<u32>) -> Action
     ensures { result ≡ stage_place commands aside children }
 {
     if commands.is_empty() {
-        return Place::Waiting(children);
+        return Action::Waiting(children);
     }
-    Place::Staging(Stages {
+    Action::ForkStage(Stages {
         commands,
         aside,
         children,
@@ -141,7 +142,7 @@ fn next_stage(
     aside: Option<usize>,
     children: Sequence<u32>,
     child: u32,
-) -> Result<Place, NoMemory>
+) -> Result<Action, NoMemory>
     ensures { IfOk result (λ place. place ≡ stage_place commands aside (children ++ child ∷ [])) }
 {
     match one_more(children, child) {
@@ -246,14 +247,14 @@ pub(crate) fn stage_turn(
 {
     let mut stages = stages;
     let Some(command) = stages.commands.take() else {
-        return Ok((Active::Next(Place::Waiting(stages.children)), None));
+        return Ok((Active::Next(Action::Waiting(stages.children)), None));
     };
     let (active, child) = stage_one(alloc, kernel, pid, vars, command, stages)?;
     Ok((active, child))
 }
 
 /// Where a command goes on when no process can be made for its substitution.
-fn unforked(alloc: Global, wants: Wants) -> Result<Move, NoMemory>
+fn unforked(alloc: Global, wants: ToExpand) -> Result<Move, NoMemory>
     ensures { IfOk result (λ to. to ≡ fork_failure wants) }
 {
     let active = match refused(alloc) {
@@ -264,9 +265,9 @@ fn unforked(alloc: Global, wants: Wants) -> Result<Move, NoMemory>
         },
     };
     match wants {
-        Wants::Words { .. } => Ok(Move::At(active)),
-        Wants::Values(prepared) => Ok(Move::Held(prepared.undo, active)),
-        Wants::Series(_) => Ok(Move::At(active)),
+        ToExpand::Words { .. } => Ok(Move::At(active)),
+        ToExpand::Values(prepared) => Ok(Move::Held(prepared.undo, active)),
+        ToExpand::ForWords(_) => Ok(Move::At(active)),
     }
 }
 
@@ -292,13 +293,13 @@ fn put_substitution(
 /// A command waits for what a process writes.
 fn collecting(
     alloc: Global,
-    wants: Wants,
+    wants: ToExpand,
     pending: Pending,
     aside: Option<usize>,
     child: u32,
-) -> Result<Place, NoMemory>
+) -> Result<Action, NoMemory>
     ensures { IfOk result (λ place.
-        place ≡ Place.Collecting
+        place ≡ Action.ReadSubstitution
         (record {
           wants = wants;
           pending = pending;
@@ -316,7 +317,7 @@ fn collecting(
             return Err(lack);
         },
     };
-    Ok(Place::Collecting(Substitution {
+    Ok(Action::ReadSubstitution(Substitution {
         wants,
         pending,
         written: Text::new(alloc),
@@ -334,7 +335,7 @@ pub(crate) fn substitute_turn(
     vars: &Vars,
     frames: &mut Frames,
     program: Shared<CompoundList>,
-    wants: Wants,
+    wants: ToExpand,
     pending: Pending,
 ) -> Result<(Active, Option<Child>), NoMemory>
     ensures state { (s : KernelState) → StandsAt kernel.old s → IfOk result (λ r.

@@ -6,7 +6,7 @@ ghost use Rattle.sh_exec_shell.specs.Acting.{collect_by, collect_end, collect_fr
 ghost use Rattle.sh_exec_forms.specs.Running.{Run};
 
 use sh_base::NoMemory;
-use sh_exec_command::{Active, Place, Substitution};
+use sh_exec_command::{Action, Active, Substitution};
 use sh_exec_machine::{ReadOutcome, take_bytes};
 use sh_kernel::{DescriptorRef, Kernel};
 use sh_vars::Vars;
@@ -44,16 +44,16 @@ fn collected(
     ensures terminal { kernel.new.terminal.bytes ≡ kernel.old.terminal.bytes }
 {
     let _closed = kernel.close(pid, DescriptorRef::Aside(aside));
-    Active::Next(Place::Answering(substitution))
+    Active::Next(Action::WaitSubstitution(substitution))
 }
 
 /// It goes on with what was read.
 fn gathered(substitution: Substitution, bytes: &[u8]) -> Result<Active, NoMemory>
     ensures { IfOk result (λ active.
-        active ≡ Active.Next (Place.Collecting (with_written substitution bytes.now))) }
+        active ≡ Active.Next (Action.ReadSubstitution (with_written substitution bytes.now))) }
 {
     let next = with_written(substitution, bytes)?;
-    Ok(Active::Next(Place::Collecting(next)))
+    Ok(Active::Next(Action::ReadSubstitution(next)))
 }
 
 /// A read from its pipe.
@@ -81,7 +81,7 @@ fn collect_from(
             drop(bytes);
             active
         },
-        Ok(ReadOutcome::Wait) => Ok(Active::Next(Place::Collecting(substitution))),
+        Ok(ReadOutcome::Wait) => Ok(Active::Next(Action::ReadSubstitution(substitution))),
         Ok(ReadOutcome::Failed) => Ok(collected(kernel, pid, vars, substitution, aside)),
         Err(lack) => {
             drop(substitution);
@@ -104,7 +104,7 @@ pub(crate) fn collect_turn(
     ensures terminal { kernel.new.terminal.bytes ≡ kernel.old.terminal.bytes }
 {
     let Some(aside) = substitution.aside else {
-        return Ok(Active::Next(Place::Answering(substitution)));
+        return Ok(Active::Next(Action::WaitSubstitution(substitution)));
     };
     let active = collect_from(alloc, kernel, pid, vars, substitution, aside)?;
     Ok(active)

@@ -9,7 +9,7 @@ ghost use Rattle.sh_exec_forms.specs.Running.{Run};
 use sh_base::NoMemory;
 use sh_base::sequence::Text;
 use sh_builtin::{Completion, Leave};
-use sh_exec_command::{Active, Finish, Place, Report};
+use sh_exec_command::{Action, Active, Finish, Report};
 use sh_exec_forms::reported;
 use sh_exec_machine::{WriteOutcome, give_bytes};
 use sh_exec_parts::message::{Piece, write_error};
@@ -43,7 +43,7 @@ fn unwritten(alloc: Global, finish: Finish) -> Result<Active, NoMemory>
                 messages: report.messages,
                 status: Completion::Done(1),
             };
-            Ok(Active::Next(Place::Writing(piece, Finish::Messages(report))))
+            Ok(Active::Next(Action::Writing(piece, Finish::Messages(report))))
         },
     }
 }
@@ -74,10 +74,10 @@ fn written(
         WriteOutcome::Whole => Ok(finished(finish)),
         WriteOutcome::Part(count) => {
             let rest = rest_of(alloc, piece, count)?;
-            Ok(Active::Next(Place::Writing(rest, finish)))
+            Ok(Active::Next(Action::Writing(rest, finish)))
         },
-        WriteOutcome::Wait => Ok(Active::Next(Place::Writing(piece, finish))),
-        WriteOutcome::Ended => Ok(Active::Next(Place::Writing(piece, finish))),
+        WriteOutcome::Wait => Ok(Active::Next(Action::Writing(piece, finish))),
+        WriteOutcome::Ended => Ok(Active::Next(Action::Writing(piece, finish))),
         WriteOutcome::Failed => unwritten(alloc, finish),
     }
 }
@@ -109,5 +109,5 @@ pub(crate) fn end_turn(kernel: &mut Kernel, pid: u32, vars: &Vars, status: u8) -
     ensures terminal { kernel.new.terminal.bytes ≡ kernel.old.terminal.bytes }
 {
     let _ended = kernel.end(pid, status);
-    Active::Next(Place::Ending(status))
+    Active::Next(Action::Ending(status))
 }

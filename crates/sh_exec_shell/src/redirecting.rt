@@ -6,7 +6,7 @@ ghost use Rattle.sh_exec_shell.specs.Acting.{in_forms, keeps, with_undo, redirec
 ghost use Rattle.sh_exec_forms.specs.Frames.{run_in, run_of};
 
 use sh_base::NoMemory;
-use sh_exec_command::{Active, Prepared, Role, go_ahead, not_done};
+use sh_exec_command::{Active, ExpandedCommand, Role, go_ahead, not_done};
 use sh_exec_forms::{Frames, go_to};
 use sh_exec_machine::{Redirected, Undone, redirect};
 use sh_exec_parts::redirection::Redirection;
@@ -19,14 +19,14 @@ fn keeps(role: Role) -> bool
     ensures { result ≡ keeps role }
 {
     match role {
-        Role::Nameless => true,
+        Role::NoCommandName => true,
         Role::Builtin(_) => true,
         Role::Program => false,
     }
 }
 
 /// A command with one redirection more to be undone.
-fn note(prepared: Prepared, one: Option<Undone>) -> Result<Prepared, NoMemory>
+fn note(prepared: ExpandedCommand, one: Option<Undone>) -> Result<ExpandedCommand, NoMemory>
     ensures { IfOk result (λ next. next ≡ with_undo prepared one) }
 {
     let Some(one) = one else {
@@ -46,7 +46,7 @@ fn note(prepared: Prepared, one: Option<Undone>) -> Result<Prepared, NoMemory>
 fn go_on(
     alloc: Global,
     frames: &mut Frames,
-    prepared: Prepared,
+    prepared: ExpandedCommand,
     word: &[u8],
     answer: Result<(), KernelFault>,
     one: Option<Undone>,
@@ -75,7 +75,7 @@ fn redirect_one(
     pid: u32,
     vars: &Vars,
     frames: &mut Frames,
-    prepared: Prepared,
+    prepared: ExpandedCommand,
     redirection: Redirection,
 ) -> Result<Active, NoMemory>
     ensures state { (s : KernelState) → StandsAt kernel.old s → IfOk result (λ active.
@@ -107,7 +107,7 @@ pub(crate) fn redirect_turn(
     pid: u32,
     vars: &Vars,
     frames: &mut Frames,
-    prepared: Prepared,
+    prepared: ExpandedCommand,
 ) -> Result<Active, NoMemory>
     ensures state { (s : KernelState) → StandsAt kernel.old s → IfOk result (λ active.
         IsActed kernel.new vars.now (run_of frames.new active)

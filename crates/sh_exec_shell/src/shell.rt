@@ -12,7 +12,7 @@ use crate::turn::reduce;
 use sh_base::NoMemory;
 use sh_base::sequence::Text;
 use sh_builtin::Leave;
-use sh_exec_command::{Active, Place};
+use sh_exec_command::{Action, Active};
 use sh_exec_forms::{Form, Frames};
 use sh_exec_parts::Rest;
 use sh_kernel::Kernel;
@@ -52,7 +52,7 @@ pub struct Child {
 
 /// The status of a shell that is left.
 fn status_of(leave: Leave) -> u8
-    ensures { at_root (Run.At (Active.Leaving leave)) ≡ Run.At (Active.Next (Place.Ending result)) }
+    ensures { at_root (Run.At (Active.Leaving leave)) ≡ Run.At (Active.Next (Action.Ending result)) }
 {
     match leave {
         Leave::Exit(status) => status,
@@ -68,8 +68,8 @@ fn root(frames: &Frames, active: Active) -> Active
 {
     match frames.as_slice() {
         [] => match active {
-            Active::Leaving(leave) => Active::Next(Place::Ending(status_of(leave))),
-            Active::Done(status) => Active::Next(Place::Ending(status)),
+            Active::Leaving(leave) => Active::Next(Action::Ending(status_of(leave))),
+            Active::Done(status) => Active::Next(Action::Ending(status)),
             Active::Next(place) => Active::Next(place),
             Active::Acting(builtin, fields) => Active::Acting(builtin, fields),
         },
@@ -103,13 +103,13 @@ impl Shell {
     /// A shell that is about to read its text.
     pub fn reading(alloc: Global, vars: Vars, text: Text) -> Self
         ensures { result ≡
-            record { environment = vars; run = Run.At (Active.Next (Place.Reading text)) } }
+            record { environment = vars; run = Run.At (Active.Next (Action.Reading text)) } }
     {
-        Shell::at(alloc, vars, Place::Reading(Rest::new(text)))
+        Shell::at(alloc, vars, Action::Reading(Rest::new(text)))
     }
 
     /// A shell of these variables that is about to do this alone.
-    pub fn at(alloc: Global, vars: Vars, place: Place) -> Self
+    pub fn at(alloc: Global, vars: Vars, place: Action) -> Self
         ensures { result ≡ record { environment = vars; run = Run.At (Active.Next place) } }
     {
         shell_of(vars, Frames::new(alloc), Active::Next(place))

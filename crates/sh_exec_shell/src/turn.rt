@@ -21,7 +21,7 @@ use crate::waits::{answer_turn, wait_turn};
 use sh_base::NoMemory;
 use sh_builtin::Leave;
 use sh_exec_command::{
-    Active, Expanded, Finish, Found, Pending, Place, Round, Series, Wants, assign_turn,
+    Action, Active, Expanded, Finish, ForLoop, Found, Pending, Round, ToExpand, assign_turn,
     find_command, give_turn, series_turn, words_turn,
 };
 use sh_exec_forms::{Form, Frames, enter, enter_list, go_to, settle};
@@ -53,7 +53,7 @@ fn read(alloc: Global, frames: &mut Frames, rest: Rest, vars: &Vars) -> Result<A
         },
         Found::Fault(refusal) => {
             let piece = refused(alloc, refusal)?;
-            Ok(Active::Next(Place::Writing(piece, Finish::Leave(2))))
+            Ok(Active::Next(Action::Writing(piece, Finish::Leave(2))))
         },
     }
 }
@@ -61,7 +61,7 @@ fn read(alloc: Global, frames: &mut Frames, rest: Rest, vars: &Vars) -> Result<A
 /// An expansion turn.
 fn expand(
     alloc: Global,
-    wants: Wants,
+    wants: ToExpand,
     pending: Option<Pending>,
     vars: &mut Vars,
     files: &Files,
@@ -71,13 +71,13 @@ fn expand(
         pending) }
 {
     match wants {
-        Wants::Words {
+        ToExpand::Words {
             command,
             in_place,
             status,
         } => words_turn(alloc, command, in_place, status, pending, vars, files),
-        Wants::Values(prepared) => assign_turn(alloc, prepared, pending, vars, files),
-        Wants::Series(command) => series_turn(alloc, command, pending, vars, files),
+        ToExpand::Values(prepared) => assign_turn(alloc, prepared, pending, vars, files),
+        ToExpand::ForWords(command) => series_turn(alloc, command, pending, vars, files),
     }
 }
 
@@ -120,7 +120,7 @@ fn expand_place(
     pid: u32,
     vars: &mut Vars,
     frames: &mut Frames,
-    wants: Wants,
+    wants: ToExpand,
     pending: Option<Pending>,
 ) -> Result<(Active, Option<Child>), NoMemory>
     ensures state { (s : KernelState) → StandsAt kernel.old s → IfOk result (λ r.
@@ -146,7 +146,7 @@ fn enter_round(alloc: Global, frames: &mut Frames, round: Round) -> Result<Activ
                     return Err(NoMemory::from(error));
                 },
             };
-            frames.push(Form::Each(series))?;
+            frames.push(Form::ForBody(series))?;
             let step = enter_list(alloc, frames, body.get())?;
             Ok(step.into_active())
         },
@@ -160,7 +160,7 @@ fn give(
     kernel: &Kernel,
     vars: &mut Vars,
     frames: &mut Frames,
-    series: Series,
+    series: ForLoop,
 ) -> Result<Active, NoMemory>
     ensures { (s : KernelState) → StandsAt kernel.now s → IfOk result (λ active.
         IsActed kernel.now vars.new (run_of frames.new active)
@@ -178,7 +178,7 @@ fn act_place(
     pid: u32,
     vars: &mut Vars,
     frames: &mut Frames,
-    place: Place,
+    place: Action,
 ) -> Result<(Active, Option<Child>), NoMemory>
     ensures state { (s : KernelState) → StandsAt kernel.old s → IfOk result (λ r.
         IsTurned kernel.new vars.new (run_of frames.new r.0) r.1
@@ -186,45 +186,45 @@ fn act_place(
     ensures terminal { Extends kernel.old.terminal.bytes kernel.new.terminal.bytes }
 {
     match place {
-        Place::Reading(rest) => {
+        Action::Reading(rest) => {
             let active = read(alloc, frames, rest, vars)?;
             Ok((active, None))
         },
-        Place::Expanding(wants, pending) => {
+        Action::Expanding(wants, pending) => {
             let (active, child) = expand_place(alloc, kernel, pid, vars, frames, wants, pending)?;
             Ok((active, child))
         },
-        Place::Collecting(substitution) => {
+        Action::ReadSubstitution(substitution) => {
             let active = collect_turn(alloc, kernel, pid, vars, substitution)?;
             Ok((active, None))
         },
-        Place::Answering(substitution) => {
+        Action::WaitSubstitution(substitution) => {
             let place = answer_turn(kernel, pid, substitution)?;
             Ok((Active::Next(place), None))
         },
-        Place::Redirecting(prepared) => {
+        Action::Redirecting(prepared) => {
             let active = redirect_turn(alloc, kernel, pid, vars, frames, prepared)?;
             Ok((active, None))
         },
-        Place::Forking(prepared) => {
+        Action::Forking(prepared) => {
             let (active, child) = fork_turn(alloc, kernel, pid, vars, prepared)?;
             Ok((active, child))
         },
-        Place::Starting(fields) => Ok((Active::Next(Place::Starting(fields)), None)),
-        Place::Staging(stages) => {
+        Action::Starting(fields) => Ok((Active::Next(Action::Starting(fields)), None)),
+        Action::ForkStage(stages) => {
             let (active, child) = stage_turn(alloc, kernel, pid, vars, stages)?;
             Ok((active, child))
         },
-        Place::Giving(series) => {
+        Action::AssignLoopVariable(series) => {
             let active = give(alloc, kernel, vars, frames, series)?;
             Ok((active, None))
         },
-        Place::Waiting(children) => Ok((wait_turn(kernel, pid, children), None)),
-        Place::Writing(piece, finish) => {
+        Action::Waiting(children) => Ok((wait_turn(kernel, pid, children), None)),
+        Action::Writing(piece, finish) => {
             let active = write_turn(alloc, kernel, pid, vars, piece, finish)?;
             Ok((active, None))
         },
-        Place::Ending(status) => Ok((end_turn(kernel, pid, vars, status), None)),
+        Action::Ending(status) => Ok((end_turn(kernel, pid, vars, status), None)),
     }
 }
 

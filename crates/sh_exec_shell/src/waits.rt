@@ -6,7 +6,7 @@ ghost use Rattle.sh_exec_shell.specs.Waits.{last_of, number_of, signal_status, w
 
 use sh_base::NoMemory;
 use sh_base::sequence::{Sequence, Text};
-use sh_exec_command::{Active, Pending, Place, Substitution, Wants};
+use sh_exec_command::{Action, Active, Pending, Substitution, ToExpand};
 use sh_kernel::{Kernel, Status};
 
 /// The exit status of a process that a signal ended.
@@ -57,25 +57,25 @@ fn waited(kernel: &Kernel, pid: u32, children: &[u32]) -> Option<u8>
 }
 
 /// The status of a substitution is kept.
-fn with_substitution(wants: Wants, status: u8) -> Wants
+fn with_substitution(wants: ToExpand, status: u8) -> ToExpand
     ensures { result ≡ with_substitution wants status }
 {
     match wants {
-        Wants::Words {
+        ToExpand::Words {
             command,
             in_place,
             ..
-        } => Wants::Words {
+        } => ToExpand::Words {
             command,
             in_place,
             status,
         },
-        Wants::Values(prepared) => {
+        ToExpand::Values(prepared) => {
             let mut prepared = prepared;
             prepared.status = status;
-            Wants::Values(prepared)
+            ToExpand::Values(prepared)
         },
-        Wants::Series(command) => Wants::Series(command),
+        ToExpand::ForWords(command) => ToExpand::ForWords(command),
     }
 }
 
@@ -99,12 +99,12 @@ pub(crate) fn answer_turn(
     kernel: &Kernel,
     pid: u32,
     substitution: Substitution,
-) -> Result<Place, NoMemory>
+) -> Result<Action, NoMemory>
     ensures { (s : KernelState) → StandsAt kernel.now s → IfOk result (λ place.
         place ≡ answer_turn s pid substitution) }
 {
     let Some(status) = waited(kernel, pid, substitution.children.as_slice()) else {
-        return Ok(Place::Answering(substitution));
+        return Ok(Action::WaitSubstitution(substitution));
     };
     let Substitution {
         wants,
@@ -113,7 +113,7 @@ pub(crate) fn answer_turn(
         ..
     } = substitution;
     match with_answer(pending, written) {
-        Ok(pending) => Ok(Place::Expanding(with_substitution(wants, status), Some(pending))),
+        Ok(pending) => Ok(Action::Expanding(with_substitution(wants, status), Some(pending))),
         Err(lack) => {
             drop(wants);
             Err(lack)
@@ -128,6 +128,6 @@ pub(crate) fn wait_turn(kernel: &Kernel, pid: u32, children: Sequence<u32>) -> A
 {
     match waited(kernel, pid, children.as_slice()) {
         Some(status) => Active::Done(status),
-        None => Active::Next(Place::Waiting(children)),
+        None => Active::Next(Action::Waiting(children)),
     }
 }

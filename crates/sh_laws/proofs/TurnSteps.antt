@@ -12,13 +12,13 @@ use Rattle.sh_exec_command.specs.declared.running.Expanded.{Expanded}
 use Rattle.sh_exec_command.specs.declared.running.Expanded.TheVariants as expanded
 use Rattle.sh_exec_command.specs.declared.running.Finish.{Finish}
 use Rattle.sh_exec_command.specs.declared.running.Pending.{Pending}
-use Rattle.sh_exec_command.specs.declared.running.Place.{Place}
-use Rattle.sh_exec_command.specs.declared.running.Place.TheVariants.{Reading, Expanding, Collecting, Answering, Redirecting, Forking, Starting, Staging, Giving, Waiting, Writing, Ending}
-use Rattle.sh_exec_command.specs.declared.running.Prepared.{Prepared}
+use Rattle.sh_exec_command.specs.declared.running.Action.{Action}
+use Rattle.sh_exec_command.specs.declared.running.Action.TheVariants.{Reading, Expanding, ReadSubstitution, WaitSubstitution, Redirecting, Forking, Starting, ForkStage, AssignLoopVariable, Waiting, Writing, Ending}
+use Rattle.sh_exec_command.specs.declared.running.ExpandedCommand.{ExpandedCommand}
 use Rattle.sh_exec_command.specs.declared.running.Stages.{Stages}
 use Rattle.sh_exec_command.specs.declared.running.Substitution.{Substitution}
 use Rattle.sh_exec_command.specs.declared.running.Undo.{Undo}
-use Rattle.sh_exec_command.specs.declared.running.Wants.{Wants}
+use Rattle.sh_exec_command.specs.declared.running.ToExpand.{ToExpand}
 use Rattle.sh_exec_machine.specs.Forking.{fork_of}
 use Rattle.sh_exec_machine.specs.Transfers.{take_bytes}
 use Rattle.sh_exec_machine.specs.declared.transfer.ReadOutcome.{ReadOutcome}
@@ -30,7 +30,7 @@ use Rattle.sh_exec_forms.specs.Frames.{is_loop}
 use Rattle.sh_exec_shell.specs.Reduction.{act_at, act_place, expanded_by, reduce, shell_turn}
 use Rattle.sh_exec_forms.specs.Running.{Run, At, In, ShellState}
 use Rattle.sh_exec_forms.specs.declared.form.Form.{Form}
-use Rattle.sh_exec_forms.specs.declared.form.Form.TheVariants.{Text, Commands, Joined, Negated, Restoring, If, Condition, Body, Each}
+use Rattle.sh_exec_forms.specs.declared.form.Form.TheVariants.{Text, Commands, Joined, Negated, Restoring, If, Condition, Body, ForBody}
 use Rattle.sh_kernel_descriptors.specs.declared.descriptor.DescriptorRef.TheVariants.{Aside}
 use Rattle.sh_kernel.specs.Requests.{Close, End}
 use Rattle.sh_kernel.specs.State.{KernelState}
@@ -55,7 +55,7 @@ module _ (directory : List ℕ) (pid : ℕ) (P : KernelState → Type 0) (kept :
   ended_keeps (If branches) s env status p = p
   ended_keeps (Condition loop last) s env status p = p
   ended_keeps (Body loop) s env status p = p
-  ended_keeps (Each series) s env status p = p
+  ended_keeps (ForBody series) s env status p = p
 
   loop_left_keeps : (looped : Bool) (leave : Leave) (s : KernelState) (env : Environment) (next : Run) → P s → P (loop_left s env next (onward looped leave)).machine
   loop_left_keeps looped (leave.Exit status) s env next p = p
@@ -76,7 +76,7 @@ module _ (directory : List ℕ) (pid : ℕ) (P : KernelState → Type 0) (kept :
   left_keeps looped (If branches) s env leave p = p
   left_keeps looped (Condition loop last) s env leave p = loop_left_keeps looped leave s env (condition_run loop last) p
   left_keeps looped (Body loop) s env leave p = loop_left_keeps looped leave s env (condition_run loop 0) p
-  left_keeps looped (Each series) s env leave p = loop_left_keeps looped leave s env (At (rest_of_series series 0)) p
+  left_keeps looped (ForBody series) s env leave p = loop_left_keeps looped leave s env (At (rest_of_series series 0)) p
 
   after_by_keeps : (looped : Bool) (form : Form) (s : KernelState) (env : Environment) (run : Run) → P s → P (after_by pid looped form s env run).machine
   after_by_keeps looped form s env (At (Done status)) p = ended_keeps form s env status p
@@ -102,7 +102,7 @@ module _ (directory : List ℕ) (pid : ℕ) (P : KernelState → Type 0) (kept :
   collect_by_keeps : (s : KernelState) (env : Environment) (substitution : Substitution) (aside : ℕ) (told : ReadOutcome) → P s → P (collect_by s pid env substitution aside told).machine
   collect_by_keeps s env substitution aside (taken.Bytes bytes) p = at (nat_eq (length bytes) 0)
     where
-      at : (b : Bool) → P (if b then after_collection s pid env substitution aside else with_run s env (next (Collecting (with_written substitution bytes)))).machine
+      at : (b : Bool) → P (if b then after_collection s pid env substitution aside else with_run s env (next (ReadSubstitution (with_written substitution bytes)))).machine
       at true = collected_keeps s env substitution aside p
       at false = p
   collect_by_keeps s env substitution aside taken.Wait p = p
@@ -119,13 +119,13 @@ module _ (directory : List ℕ) (pid : ℕ) (P : KernelState → Type 0) (kept :
   collect_keeps s env substitution p = collect_end_keeps s env substitution substitution.aside p
 
   -- ---- a redirection
-  redirect_from_keeps : (s : KernelState) (env : Environment) (prepared : Prepared) (redirections : List Redirection) → env.directory ≡ directory → P s → P (redirect_from s pid env prepared redirections).machine
+  redirect_from_keeps : (s : KernelState) (env : Environment) (prepared : ExpandedCommand) (redirections : List Redirection) → env.directory ≡ directory → P s → P (redirect_from s pid env prepared redirections).machine
   unfolding redirect_one
   redirect_from_keeps s env prepared [] e p = p
   redirect_from_keeps s env prepared (redirection ∷ redirections) e p =
       rw e (redirect_keeps directory pid P kept (keeps prepared.role) s redirection p)
 
-  redirect_turn_keeps : (s : KernelState) (env : Environment) (prepared : Prepared) → env.directory ≡ directory → P s → P (redirect_turn s pid env prepared).machine
+  redirect_turn_keeps : (s : KernelState) (env : Environment) (prepared : ExpandedCommand) → env.directory ≡ directory → P s → P (redirect_turn s pid env prepared).machine
   unfolding redirect_turn
   redirect_turn_keeps s env prepared e p = redirect_from_keeps s env prepared prepared.redirections e p
 
@@ -143,11 +143,11 @@ module _ (directory : List ℕ) (pid : ℕ) (P : Option ℕ → KernelState → 
   abbrev Leaves : Turned → Type 0
   Leaves t = P (number_of t.child) t.left.machine
 
-  program_keeps : (s : KernelState) (env : Environment) (prepared : Prepared) (o : Option ℕ) → P o s → Leaves (program_by s env prepared o)
+  program_keeps : (s : KernelState) (env : Environment) (prepared : ExpandedCommand) (o : Option ℕ) → P o s → Leaves (program_by s env prepared o)
   program_keeps s env prepared None p = p
   program_keeps s env prepared (Some child) p = p
 
-  fork_turn_keeps : (s : KernelState) (env : Environment) (prepared : Prepared) → P None s → Leaves (fork_turn s pid env prepared)
+  fork_turn_keeps : (s : KernelState) (env : Environment) (prepared : ExpandedCommand) → P None s → Leaves (fork_turn s pid env prepared)
   unfolding fork_turn
   fork_turn_keeps s env prepared p = let f = fork_of s pid None false in program_keeps f.after env prepared f.child (forks s None false p)
 
@@ -165,11 +165,11 @@ module _ (directory : List ℕ) (pid : ℕ) (P : Option ℕ → KernelState → 
   unfolding stage_turn
   stage_turn_keeps s env stages p = stage_from_keeps s env stages.commands stages.aside stages.children p
 
-  substitution_keeps : (s : KernelState) (env : Environment) (program : CompoundList) (wants : Wants) (pending : Pending) (aside o : Option ℕ) → P o s → Leaves (substitution_by s env program wants pending aside o)
+  substitution_keeps : (s : KernelState) (env : Environment) (program : CompoundList) (wants : ToExpand) (pending : Pending) (aside o : Option ℕ) → P o s → Leaves (substitution_by s env program wants pending aside o)
   substitution_keeps s env program wants pending aside None p = p
   substitution_keeps s env program wants pending aside (Some child) p = p
 
-  substitute_keeps : (s : KernelState) (env : Environment) (program : CompoundList) (wants : Wants) (pending : Pending) → P None s → Leaves (substitute_turn s pid env program wants pending)
+  substitute_keeps : (s : KernelState) (env : Environment) (program : CompoundList) (wants : ToExpand) (pending : Pending) → P None s → Leaves (substitute_turn s pid env program wants pending)
   unfolding substitute_turn
   substitute_keeps s env program wants pending p =
       let f = fork_of s pid None true in substitution_keeps f.after env program wants pending f.aside f.child (forks s None true p)
@@ -179,17 +179,17 @@ module _ (directory : List ℕ) (pid : ℕ) (P : Option ℕ → KernelState → 
   expanded_keeps s env (expanded.Go move) p = p
 
   -- ---- the turn
-  place_keeps : (s : KernelState) (env : Environment) (place : Place) → env.directory ≡ directory → P None s → Leaves (act_place s pid env place)
+  place_keeps : (s : KernelState) (env : Environment) (place : Action) → env.directory ≡ directory → P None s → Leaves (act_place s pid env place)
   place_keeps s env (Reading rest) e p = p
   place_keeps s env (Expanding wants pending) e p =
       let t = expand_turn s.machine.files env wants pending in expanded_keeps s t.environment t.outcome p
-  place_keeps s env (Collecting substitution) e p = collect_keeps directory pid (P None) (kept None) s env substitution p
-  place_keeps s env (Answering substitution) e p = p
+  place_keeps s env (ReadSubstitution substitution) e p = collect_keeps directory pid (P None) (kept None) s env substitution p
+  place_keeps s env (WaitSubstitution substitution) e p = p
   place_keeps s env (Redirecting prepared) e p = redirect_turn_keeps directory pid (P None) (kept None) s env prepared e p
   place_keeps s env (Forking prepared) e p = fork_turn_keeps s env prepared p
   place_keeps s env (Starting fields) e p = p
-  place_keeps s env (Staging stages) e p = stage_turn_keeps s env stages p
-  place_keeps s env (Giving series) e p = p
+  place_keeps s env (ForkStage stages) e p = stage_turn_keeps s env stages p
+  place_keeps s env (AssignLoopVariable series) e p = p
   place_keeps s env (Waiting children) e p = p
   place_keeps s env (Writing piece finish) e p = write_keeps directory pid (P None) (kept None) s env piece finish p
   place_keeps s env (Ending status) e p = end_keeps directory pid (P None) (kept None) s env status p
