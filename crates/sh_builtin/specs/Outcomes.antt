@@ -1,5 +1,5 @@
--- What a built-in comes to, beside what it changes of the shell: what it asks of the kernel, what it then writes, and how it ends.
-use Rattle.std.specs.Prelude.{ℕ, List, [], ◌∷◌, Bool, true, false, None}
+-- What a built-in comes to, beside what it changes of the shell: what it writes, and how it ends.
+use Rattle.std.specs.Prelude.{ℕ, List, [], ◌∷◌, Bool, true, false}
 use Rattle.sh_builtin.specs.Builtins.{is_special, name_of}
 use Rattle.sh_builtin.specs.Messages.{fault_text, line_of, status_of}
 use Rattle.sh_builtin.specs.declared.builtin.Builtin.{Builtin}
@@ -8,15 +8,14 @@ use Rattle.sh_builtin.specs.declared.outcome.Completion.TheVariants.{Done, Left}
 use Rattle.sh_builtin.specs.declared.outcome.Leave.{Leave}
 use Rattle.sh_builtin.specs.declared.outcome.Leave.TheVariants as leave
 use Rattle.sh_builtin.specs.declared.outcome.Outcome.{Outcome}
-use Rattle.sh_builtin.specs.declared.outcome.Rest.{Rest}
 use Rattle.sh_builtin_vars.specs.declared.outcome.BuiltinFault.{BuiltinFault}
 use Rattle.sh_builtin_vars.specs.declared.outcome.BuiltinFault.TheVariants as fault
 use Rattle.sh_builtin_vars.specs.declared.outcome.Outcome.{Outcome as Answer}
 use Rattle.sh_builtin_vars.specs.declared.outcome.Outcome.TheVariants as answer
 
--- one that asks nothing: its output, its messages, and how it ends
+-- its output, its messages, and how it ends
 abbrev pub outcome : List ℕ → List (List ℕ) → Completion → Outcome
-outcome out err status = record { out = out; err = err; status = status; ask = None; rest = None }
+outcome out err status = record { out = out; err = err; status = status }
 
 abbrev pub done : ℕ → Outcome
 done status = outcome [] [] (Done status)
@@ -46,7 +45,3 @@ abbrev pub outcome_of : Builtin → Answer → Outcome
 outcome_of builtin (answer.Done status) = done status
 outcome_of builtin (answer.Output text) = output text
 outcome_of builtin (answer.Fault why) = refusal builtin why
-
--- no built-in asks yet, so none has anything left to do behind an answer
-abbrev pub resumption : Rest → Outcome
-resumption rest = elim rest [ ]

@@ -11,4 +11,4 @@ mod testing;
 
 pub use builtin::Builtin;
 pub use conditional::{Verdict, evaluate};
-pub use outcome::{Ask, Completion, Leave, Outcome, Rest};
+pub use outcome::{Completion, Leave, Outcome};

@@ -1,6 +1,6 @@
 //! What built-ins come to.
 ghost use Rattle.std.specs.Prelude.{◌≡◌, IfOk};
-ghost use Rattle.sh_builtin.specs.Outcomes.{done, failure, left, misuse, output, outcome_of, refusal, resumption};
+ghost use Rattle.sh_builtin.specs.Outcomes.{done, failure, left, misuse, output, outcome_of, refusal};
 
 use crate::builtin::Builtin;
 use crate::message::{fault_line, status_of};
@@ -31,16 +31,8 @@ pub enum Completion {
     Left(Leave),
 }
 
-/// What a built-in asks of the kernel. None asks anything yet: `test -t` only looks.
-#[derive(Debug, Drop)]
-pub enum Ask {}
-
-/// What a built-in has left to do once what it asked is answered. None asks anything yet.
-#[derive(Debug, Drop)]
-pub enum Rest {}
-
-/// What a built-in comes to, beside what it changes of the shell. In this order it asks, writes `out`, writes each message of `err`,
-/// and ends.
+/// What a built-in comes to, beside what it changes of the shell. In this order it writes `out`, writes each message of `err`, and
+/// ends.
 #[derive(Debug, Drop)]
 pub struct Outcome {
     /// The bytes that are written to descriptor 1, in one write. Where there are none, nothing is written, also to a closed descriptor.
@@ -49,19 +41,6 @@ pub struct Outcome {
     pub err: Sequence<Text>,
     /// How it ends.
     pub status: Completion,
-    /// What it asks of the kernel before it writes.
-    pub ask: Option<Ask>,
-    /// What is left to do once that is answered. What this comes to stands in the place of `out`, `err` and `status`.
-    pub rest: Option<Rest>,
-}
-
-impl Rest {
-    /// Does what is left to do, and gives what the built-in then comes to. The only error is want of memory.
-    pub fn resume(self) -> Result<Outcome, NoMemory>
-        ensures { IfOk result (λ outcome. outcome ≡ resumption self) }
-    {
-        match self {}
-    }
 }
 
 impl Outcome {
@@ -73,8 +52,6 @@ impl Outcome {
             out: Sequence::new(alloc),
             err: Sequence::new(alloc),
             status: Completion::Done(status),
-            ask: None,
-            rest: None,
         }
     }
 
@@ -86,8 +63,6 @@ impl Outcome {
             out: text,
             err: Sequence::new(alloc),
             status: Completion::Done(0),
-            ask: None,
-            rest: None,
         }
     }
 
@@ -99,8 +74,6 @@ impl Outcome {
             out: Sequence::new(alloc),
             err: Sequence::new(alloc),
             status: Completion::Left(leave),
-            ask: None,
-            rest: None,
         }
     }
 
@@ -120,8 +93,6 @@ impl Outcome {
             out: Sequence::new(alloc),
             err,
             status,
-            ask: None,
-            rest: None,
         })
     }
 

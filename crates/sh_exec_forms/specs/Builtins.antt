@@ -1,8 +1,7 @@
 -- A built-in acts, in the turn of the last of what comes before it (2.9.1.4).
-use Rattle.std.specs.Prelude.{ℕ, List, [], ◌∷◌, Option, Some, None, drop}
+use Rattle.std.specs.Prelude.{ℕ, List, [], ◌∷◌, drop}
 use Rattle.sh_builtin.specs.Running.{built_in}
 use Rattle.sh_builtin.specs.declared.builtin.Builtin.{Builtin}
-use Rattle.sh_builtin.specs.declared.outcome.Ask.{Ask}
 use Rattle.sh_builtin.specs.declared.outcome.Completion.{Completion}
 use Rattle.sh_builtin.specs.declared.outcome.Completion.TheVariants as completion
 use Rattle.sh_builtin.specs.declared.outcome.Outcome.{Outcome}
@@ -32,13 +31,9 @@ abbrev pub output_of : Builtin → List ℕ → Report → Active
 output_of builtin [] report = reported report
 output_of builtin (byte ∷ bytes) report = Next (Writing (record { descriptor = 1; bytes = byte ∷ bytes }) (Output builtin report))
 
--- ---- what follows its outcome; no built-in asks yet
-abbrev pub asked : Builtin → Outcome → Option Ask → Active
-asked builtin outcome None = output_of builtin outcome.out (record { messages = outcome.err; status = outcome.status })
-asked builtin outcome (Some ask) = elim ask [ ]
-
+-- ---- what follows its outcome
 abbrev pub behind : Builtin → Outcome → Active
-behind builtin outcome = asked builtin outcome outcome.ask
+behind builtin outcome = output_of builtin outcome.out (record { messages = outcome.err; status = outcome.status })
 
 -- the environment, and the active place then
 pub record Performed : Type 0 where

@@ -65,10 +65,7 @@ fn behind(builtin: Builtin, outcome: Outcome) -> Active
         messages: Queue::new(outcome.err),
         status: outcome.status,
     };
-    match outcome.ask {
-        None => written(builtin, outcome.out, report),
-        Some(ask) => match ask {},
-    }
+    written(builtin, outcome.out, report)
 }
 
 /// The arguments after a built-in's name.
