@@ -23,7 +23,7 @@ use Rattle.sh_parse_commands.specs.Sources.{backquotes_text, behind_pieces, text
 use Rattle.sh_parse_commands.specs.Words.{Reader, at_its_level, answer_of, with_answer, begins_closed, parts_in, place_in, text_by, text_of, whole, with_piece, with_pieces}
 use Rattle.sh_laws.specs.Spelled.{AreSpelled, Balanced, Nested, Spelled, bytes_of, has_value, here, is_alone, next, part_of}
 use Rattle.sh_laws.specs.Spelled as spells
-use Rattle.sh_laws.proofs.Spelled.{arithmetic_opened, at, begun_at, behind_both, braces_opened, closes_same, commands_opened, frame_of, given, go, is_ok, levelled, one_less, passed, passing, quiet, quotes_behind, quotes_opened, same_parts, step, text_in_backquotes}
+use Rattle.sh_laws.proofs.Spelled.{arithmetic_opened, at, begun_at, behind_both, braces_opened, closes_same, commands_opened, frame_of, given, go, is_ok, one_less, passed, passing, quiet, quotes_behind, quotes_opened, same_parts, step, text_in_backquotes}
 
 -- what pieces spell, for some parts and bytes
 record Spells (read : Reader) (text : List ℕ) (quoted : Bool) (left : ℕ) (ms : List Piece) (bytes : List ℕ) : Type 0 where

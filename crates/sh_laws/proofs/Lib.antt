@@ -31,3 +31,16 @@ pub mod Words
 pub mod Bodies
 pub mod Faults
 pub mod Decided
+pub mod BegunCommands
+pub mod BegunProcesses
+pub mod ServedSyntax
+pub mod ServedValues
+pub mod ServedParts
+pub mod ServedTexts
+pub mod ServedReadings
+pub mod NeededPrograms
+pub mod CommandTurns
+pub mod SettledForms
+pub mod ShellTurns
+pub mod ProcessTurns
+pub mod StandingRuns

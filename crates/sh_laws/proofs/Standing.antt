@@ -22,7 +22,7 @@ use Rattle.sh_parse_words.specs.declared.build.Substitution.{Substitution}
 use Rattle.sh_parse_words.specs.declared.build.Substitution.TheVariants as substitution
 use Rattle.sh_parse_words.specs.declared.fault.PartFault.{PartFault}
 use Rattle.sh_parse_words.specs.declared.fault.PartFault.TheVariants as fault
-use Rattle.sh_parse_words.specs.Building.{Building, Outcome, empty_building, with_part, with_bytes, opened, last_frame, closed_by, with_form_part, on, skip_close, skipping, open_braces, backquotes_request, backquotes_by, in_quotes, plainly, taking, take_by, take_piece, with_program}
+use Rattle.sh_parse_words.specs.Building.{Building, Outcome, empty_building, with_part, with_bytes, opened, last_frame, closed_by, with_form_part, on, skip_close, skipping, open_braces, backquotes_by, in_quotes, plainly, taking, take_by, take_piece, with_program}
 use Rattle.sh_parse_words.specs.Parameters.{braces_of, machine_number}
 use Rattle.sh_parse_words.specs.Places.{behind_joins, behind_character, behind_characters, behind_piece, place_of}
 use Rattle.sh_parse_commands.specs.Results.{and_then, fault_moved}

@@ -6,3 +6,5 @@ pub mod Rooted
 pub mod Answers
 pub mod Spelled
 pub mod Standing
+pub mod Beginnings
+pub mod BeforeAction

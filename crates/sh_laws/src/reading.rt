@@ -19,6 +19,8 @@ ghost use Rattle.sh_parse_commands.specs.Documents.{bodies_of};
 ghost use Rattle.sh_parse_commands.specs.Leaves.{leaf_of};
 ghost use Rattle.sh_parse_commands.specs.Programs.{read_text};
 ghost use Rattle.sh_parse_commands.specs.Words.{Reader, parts_in};
+ghost use Rattle.sh_exec_command.specs.Reading.{next_command};
+ghost use Rattle.sh_laws.specs.BeforeAction.{FoundBegins};
 ghost use Rattle.sh_laws.specs.Spelled.{AreSpelled, Nested};
 ghost use Rattle.sh_parse.specs.Aliases.{AliasTable};
 ghost use Rattle.sh_parse.specs.Reading.{reading};
@@ -82,4 +84,11 @@ pub fn faults_stand_in_their_words()
 /// the next reading begins. The text has less than 2^64 bytes.
 pub fn faults_stand_before_their_decision()
     ensures { (table : AliasTable) (at_end : Bool) (text : List ℕ) → length text < 2 ^ 64 → StandsBefore (reading table at_end text) }
+{}
+
+/// Law: the command that a shell finds in a text begins with an action wherever it is entered. So each list of
+/// commands in it has a command, unless it is the list of a command substitution. No command in it is a function
+/// definition or a `case`, which are refused so far.
+pub fn found_commands_begin_with_actions()
+    ensures { (text : List ℕ) → FoundBegins (next_command text) }
 {}

@@ -2,13 +2,18 @@
 ghost use Rattle.std.specs.Prelude.{ℕ, ◌<◌, List};
 ghost use Rattle.sh_exec.specs.Turns.{turn};
 ghost use Rattle.sh_exec.specs.declared.process.Process.{Process};
+ghost use Rattle.sh_exec_forms.specs.Running.{ShellState};
+ghost use Rattle.sh_exec_shell.specs.Reduction.{shell_turn};
+ghost use Rattle.sh_files.specs.Nodes.{FileMap};
+ghost use Rattle.sh_laws.specs.BeforeAction.{AreBeforeActions, ChildStands, IsBeforeAction, ProcessStands, RunStands, TasksStand};
 ghost use Rattle.sh_laws.specs.Forking.{UnmadeReachNothing};
 ghost use Rattle.sh_kernel_descriptors.specs.Processes.{next_pid};
 ghost use Rattle.sh_kernel.specs.Laws.{OnlyGrows};
 ghost use Rattle.sh_kernel.specs.State.{KernelState};
 ghost use Rattle.sh_laws.specs.Requests.{ByRequests, ChangesByRequests, ComesByRequests, Shows, directory_of, number_of};
-ghost use Rattle.sh_machine.specs.State.{State, run};
+ghost use Rattle.sh_machine.specs.State.{State, run, start};
 ghost use Rattle.sh_machine.specs.declared.event.Event.{Event};
+ghost use Rattle.sh_exec.specs.declared.settings.Settings.{Settings};
 
 use sh_stock::Stock;
 
@@ -43,4 +48,27 @@ pub fn runs_only_grow<S: Stock>()
         → OnlyGrows s.machine.machine (run S.meaning s events).machine.machine }
     ensures terminal { (s : State S) (events : List Event)
         → Shows s.machine (run S.meaning s events).machine }
+{}
+
+/// Law: a turn of a shell goes on up to its next action. So a shell that stands before an action stands before
+/// one again after its turn: nothing at its place is done or left or acts in the same turn, and no later turn is
+/// spent on that. The same holds of each process, and of the process that a turn makes. To stand before an
+/// action is also to hold only commands that begin with one wherever they are entered; otherwise an empty
+/// list, which no text has, would be done at once.
+pub fn turns_end_before_actions<S: Stock>()
+    ensures shell { (s : KernelState) (pid : ℕ) (shell : ShellState) → RunStands shell.run
+        → let t = shell_turn s pid shell in RunStands t.left.run × ChildStands t.child }
+    ensures process { (s : KernelState) (pid : ℕ) (process : Process S) → ProcessStands process
+        → let t = turn S.meaning s pid process in ProcessStands t.process × ChildStands t.child }
+    ensures next { (process : Process S) → ProcessStands process → IsBeforeAction process }
+{}
+
+/// Law: after any list of events, and so under every schedule, each process of a world that has just been
+/// made is a program that asks for something, or a shell that stands before its next action. From any other
+/// state in which the processes stand before actions the same holds.
+pub fn runs_stand_before_actions<S: Stock>()
+    ensures start { (image : FileMap) (settings : Settings) (events : List Event)
+        → AreBeforeActions (run S.meaning (start image settings) events).tasks }
+    ensures later { (s : State S) (events : List Event) → TasksStand s.tasks
+        → TasksStand (run S.meaning s events).tasks }
 {}

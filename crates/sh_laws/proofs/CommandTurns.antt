@@ -1,0 +1,293 @@
+-- What a command's turns leave holds only what begins with an action.
+use Rattle.std.proofs.Common.{◌≡◌, ℕ, zero, suc, List, [], ◌∷◌, ◌++◌, map, Option, None, Bool, true, false, ◌||◌, refl, sym, subst, option_map}
+use Rattle.std.specs.Prelude.{Result, Ok, Err, if◌then◌else◌}
+use Rattle.std.specs.List.{list_any}
+use Rattle.std.specs.Option.{unwrap_or}
+use Rattle.sh_exec_command.specs.Answers.{expansion_after, expansion_with, resumption}
+use Rattle.sh_exec_command.specs.Assigning.{Step, assign_turn, assigned_by, assigned_one, assignments_turn, behind, may_set, text_of, value_of, value_step, value_wanted}
+use Rattle.sh_exec_command.specs.Expanding.{Turn, fatal, start_of, words_by, words_turn}
+use Rattle.sh_exec_command.specs.Preparing.{ahead, ahead_by, final_move, first_move, first_place, forks, nameless, not_done, performed_by, prepared_of}
+use Rattle.sh_exec_command.specs.Reading.{answer_of, found_behind, found_by, next_command}
+use Rattle.sh_exec_command.specs.Series.{Given, give_by, give_turn, given_by, header_in, header_of, header_of_command, header_turn, rest_of_series, series_by, series_turn, word_of_series}
+use Rattle.sh_exec_command.specs.declared.found.Found.{Found}
+use Rattle.sh_exec_command.specs.declared.running.Active.{Active}
+use Rattle.sh_exec_command.specs.declared.running.Active.TheVariants.{Acting, Next, Done, Leaving}
+use Rattle.sh_exec_command.specs.declared.running.Expanded.{Expanded}
+use Rattle.sh_exec_command.specs.declared.running.Expanded.TheVariants as expanded
+use Rattle.sh_exec_command.specs.declared.running.Move.{Move}
+use Rattle.sh_exec_command.specs.declared.running.Move.TheVariants as move
+use Rattle.sh_exec_command.specs.declared.running.Pending.{Pending}
+use Rattle.sh_exec_command.specs.declared.running.Action.TheVariants.{Forking}
+use Rattle.sh_exec_command.specs.declared.running.ExpandedCommand.{ExpandedCommand}
+use Rattle.sh_exec_command.specs.declared.running.Role.{Role}
+use Rattle.sh_exec_command.specs.declared.running.Role.TheVariants as role
+use Rattle.sh_exec_command.specs.declared.running.ForLoop.{ForLoop}
+use Rattle.sh_exec_command.specs.declared.running.ToExpand.TheVariants as wants
+use Rattle.sh_exec_command.specs.declared.series.Round.{Round}
+use Rattle.sh_exec_command.specs.declared.series.Round.TheVariants as round
+use Rattle.sh_exec_parts.specs.Messages.{read_only}
+use Rattle.sh_exec_parts.specs.Served.{serves}
+use Rattle.sh_exec_parts.specs.Simple.{Opened, assignment_in, assignments_of, before, is_redirect, is_word, items_in, items_of, to_assign, wanted_of}
+use Rattle.sh_exec_parts.specs.declared.redirection.Redirection.{Redirection}
+use Rattle.sh_exec_parts.specs.declared.simple.Assignment.{Assignment}
+use Rattle.sh_expand.specs.Expanding as expanding
+use Rattle.sh_expand.specs.declared.wanted.Wanted.{Wanted}
+use Rattle.sh_files.specs.Nodes.{FileMap}
+use Rattle.sh_kernel_descriptors.specs.declared.fault.KernelFault.{KernelFault}
+use Rattle.sh_parse.specs.Aliases.{no_aliases}
+use Rattle.sh_parse.specs.Reading.{reading}
+use Rattle.sh_parse.specs.declared.ParseFault.{ParseFault}
+use Rattle.sh_parse.specs.declared.ParseFault.TheVariants as parse_fault
+use Rattle.sh_parse.specs.declared.Reading.{Reading}
+use Rattle.sh_parse.specs.declared.Reading.TheVariants.{Complete, Blank, More}
+use Rattle.sh_syntax.specs.declared.tree.Command.{Command}
+use Rattle.sh_syntax.specs.declared.tree.Command.TheOpen as layer
+use Rattle.sh_syntax.specs.declared.tree.Command.TheViews as view
+use Rattle.sh_syntax.specs.declared.tree.CompoundForm.{CompoundForm}
+use Rattle.sh_syntax.specs.declared.tree.CompoundList.{CompoundList}
+use Rattle.sh_syntax.specs.declared.tree.SimpleItem.{SimpleItem}
+use Rattle.sh_syntax.specs.declared.tree.Word.{Word}
+use Rattle.sh_vars.specs.Environment.{Environment, with_value}
+use Rattle.sh_laws.proofs.NeededPrograms.{ItsItems, ResultBegins, WantedBegin, expansion_begins, wanted_begin}
+use Rattle.sh_laws.specs.Beginnings.{CommandBegins, FormBegins, ListBegins, PartsBegin, SeriesBegin, WordsBegin, by_form, by_words, in_for, in_for_parameters, in_group, in_if, in_loop, in_subshell, item_parts, more_series, more_words, no_series, no_words}
+use Rattle.sh_laws.specs.BeforeAction.{AssignmentsHold, FoundBegins, PlaceHolds, WantsHold}
+use Rattle.sh_laws.proofs.ServedReadings.{AnswerFits, reading_fits}
+
+-- ---- what is held at a place, by a move, by what an expansion comes to
+abbrev pub ActiveHolds : Active → Type 0
+ActiveHolds (Next place) = PlaceHolds place
+ActiveHolds (Acting builtin fields) = Unit {0}
+ActiveHolds (Done status) = Unit {0}
+ActiveHolds (Leaving leave) = Unit {0}
+
+abbrev pub MoveHolds : Move → Type 0
+MoveHolds (move.At active) = ActiveHolds active
+MoveHolds (move.Held undo active) = ActiveHolds active
+
+abbrev pub ExpandedHolds : Expanded → Type 0
+ExpandedHolds (expanded.Need program wants pending) = ItsItems program × WantsHold wants
+ExpandedHolds (expanded.Go move) = MoveHolds move
+
+abbrev pub TurnHolds : Turn → Type 0
+TurnHolds t = ExpandedHolds t.outcome
+
+-- ---- the items of a simple command
+pub items_begin : (command : Command) → CommandBegins command → WordsBegin (items_of command)
+items_begin command (by_words _ items e b) = subst (λ (z : Opened layer.Command-F). WordsBegin (unwrap_or (items_in z) [])) (sym e) b
+items_begin command (by_form _ inner e b) = subst (λ (z : Opened layer.Command-F). WordsBegin (unwrap_or (items_in z) [])) (sym e) no_words
+
+assigned_begins : (z : Opened layer.SimpleItem-F) (others : List Assignment) → PartsBegin (item_parts z) → AssignmentsHold others → AssignmentsHold (before (option_map to_assign (assignment_in z)) others)
+assigned_begins (layer.Assignment name value source) others b h = (b, h)
+assigned_begins (layer.Word word) others b h = h
+assigned_begins (layer.Redirect redirect) others b h = h
+
+assignments_hold : (items : List SimpleItem) → WordsBegin items → AssignmentsHold (assignments_of items)
+assignments_hold _ no_words = tt
+assignments_hold _ (more_words item others b r) = assigned_begins (view.out-SimpleItem item) (assignments_of others) b (assignments_hold others r)
+
+-- ---- its first action
+wants_hold : (b in_place : Bool) (command : Command) → CommandBegins command
+    → WantsHold (if b then wants.Words command in_place 0 else wants.Values (nameless (items_of command)))
+unfolding nameless
+wants_hold true in_place command c = c
+wants_hold false in_place command c = assignments_hold (items_of command) (items_begin command c)
+
+pub first_holds : (in_place : Bool) (command : Command) → CommandBegins command → PlaceHolds (first_place in_place command)
+unfolding first_place
+first_holds in_place command c = wants_hold (list_any is_word (items_of command) || list_any is_redirect (items_of command)) in_place command c
+
+-- ---- what it does after its expansion
+performed_holds : (p : ExpandedCommand) (r : Role) → MoveHolds (performed_by p r)
+performed_holds p role.NoCommandName = tt
+performed_holds p (role.Builtin builtin) = tt
+performed_holds p role.Program = tt
+
+final_holds : (p : ExpandedCommand) → MoveHolds (final_move p)
+unfolding final_move
+final_holds p = performed_holds p p.role
+
+ahead_by_holds : (p : ExpandedCommand) (redirections : List Redirection) (assignments : List Assignment) → AssignmentsHold p.assignments → MoveHolds (ahead_by p redirections assignments)
+ahead_by_holds p (redirection ∷ redirections) assignments h = h
+ahead_by_holds p [] (assignment ∷ assignments) h = h
+ahead_by_holds p [] [] h = final_holds p
+
+pub ahead_holds : (p : ExpandedCommand) → AssignmentsHold p.assignments → MoveHolds (ahead p)
+unfolding ahead
+ahead_holds p h = ahead_by_holds p p.redirections p.assignments h
+
+first_by_holds : (in_place : Bool) (p : ExpandedCommand) (r : Role) → p.role ≡ r → AssignmentsHold p.assignments → MoveHolds (if forks r in_place then move.At (Next (Forking p)) else ahead p)
+first_by_holds in_place p role.NoCommandName e h = ahead_holds p h
+first_by_holds in_place p (role.Builtin builtin) e h = ahead_holds p h
+first_by_holds true p role.Program e h = ahead_holds p h
+first_by_holds false p role.Program e h = (e, h)
+
+first_move_holds : (in_place : Bool) (p : ExpandedCommand) → AssignmentsHold p.assignments → MoveHolds (first_move in_place p)
+unfolding first_move
+first_move_holds in_place p h = first_by_holds in_place p p.role refl h
+
+pub not_done_holds : (p : ExpandedCommand) (word : List ℕ) (f : KernelFault) → MoveHolds (not_done p word f)
+unfolding not_done
+not_done_holds p word f = tt
+
+-- ---- expansions with answers
+resumed_begins : (r s : expanding.Result) → ResultBegins r → ResultBegins s → ResultBegins (resumption r s)
+resumed_begins (expanding.Need program env) s f g = g
+resumed_begins (expanding.Fields fields env) s f g = tt
+resumed_begins (expanding.Stops fault env) s f g = tt
+
+after_begins : (files : FileMap) (ws : List Wanted) (env : Environment) (given answers : List (List ℕ)) → WantedBegin ws → ResultBegins (expansion_after files ws env given answers)
+after_begins files ws env given [] b = expansion_begins files ws env given b
+after_begins files ws env given (answer ∷ answers) b =
+    resumed_begins (expanding.expand files ws env given) (expansion_after files ws env (given ++ answer ∷ []) answers) (expansion_begins files ws env given b)
+    (after_begins files ws env (given ++ answer ∷ []) answers b)
+
+answers_begin : (files : FileMap) (ws : List Wanted) (env : Environment) (answers : List (List ℕ)) → WantedBegin ws → ResultBegins (expansion_with files ws env answers)
+unfolding expansion_with
+answers_begin files ws env answers b = after_begins files ws env [] answers b
+
+-- ---- the turn of its words
+prepared_holds : (env : Environment) (items : List SimpleItem) (fields : List (List ℕ)) (status : ℕ) → WordsBegin items → AssignmentsHold (prepared_of env items fields status).assignments
+unfolding prepared_of
+prepared_holds env items fields status b = assignments_hold items b
+
+words_by_hold : (command : Command) (in_place : Bool) (status : ℕ) (pending : Pending) (r : expanding.Result) → CommandBegins command → ResultBegins r → TurnHolds (words_by command in_place status pending r)
+words_by_hold command in_place status pending (expanding.Need program env) c b = (b, c)
+words_by_hold command in_place status pending (expanding.Fields fields env) c b =
+    first_move_holds in_place (prepared_of env (items_of command) fields status) (prepared_holds env (items_of command) fields status (items_begin command c))
+words_by_hold command in_place status pending (expanding.Stops fault env) c b = tt
+
+pub words_hold : (files : FileMap) (env : Environment) (command : Command) (in_place : Bool) (status : ℕ) (pending : Option Pending) → CommandBegins command
+    → TurnHolds (words_turn files env command in_place status pending)
+unfolding words_turn
+words_hold files env command in_place status pending c =
+    let p = start_of env pending in
+    words_by_hold command in_place status p (expansion_with files (wanted_of (items_of command)) p.start p.answers) c
+    (answers_begin files (wanted_of (items_of command)) p.start p.answers (wanted_begin (items_of command) (items_begin command c)))
+
+-- ---- one of two
+pub choose : {A : Type 0} (P : A → Type 0) (b : Bool) (x y : A) → (b ≡ true → P x) → (b ≡ false → P y) → P (if b then x else y)
+choose P true x y f g = f refl
+choose P false x y f g = g refl
+
+-- ---- the turn of its assignments: after a step the turn goes on or is over
+record StepHolds (next : Environment → ExpandedCommand → Turn) (step : Step) : Type 0 where
+  holds : TurnHolds (behind step.environment step.outcome next)
+
+abbrev Goes : (Environment → ExpandedCommand → Turn) → Type 0
+Goes next = (env : Environment) (p : ExpandedCommand) → TurnHolds (next env p)
+
+value_holds : (next : Environment → ExpandedCommand → Turn) (p : ExpandedCommand) (env : Environment) (name value : List ℕ) → Goes next → StepHolds next (value_step p env name value)
+unfolding value_step
+value_holds next p env name value n = choose (StepHolds next) (may_set env name) _ _ (λ e. record { holds = n _ _ }) (λ e. record { holds = tt })
+
+assigned_by_holds : (next : Environment → ExpandedCommand → Turn) (p : ExpandedCommand) (assignment : Assignment) (pending : Pending) (r : expanding.Result) → Goes next → AssignmentsHold (assignment ∷ p.assignments) → ResultBegins r
+    → StepHolds next (assigned_by p assignment pending r)
+assigned_by_holds next p assignment pending (expanding.Need program env) n h b = record { holds = (b, h) }
+assigned_by_holds next p assignment pending (expanding.Fields fields env) n h b = value_holds next p env assignment.name (text_of fields) n
+assigned_by_holds next p assignment pending (expanding.Stops fault env) n h b = record { holds = tt }
+
+assigned_holds : (next : Environment → ExpandedCommand → Turn) (files : FileMap) (env : Environment) (p : ExpandedCommand) (assignment : Assignment) (pending : Option Pending) → Goes next
+    → AssignmentsHold (assignment ∷ p.assignments) → StepHolds next (assigned_one files env p assignment pending)
+unfolding assigned_one
+assigned_holds next files env p assignment pending n h =
+    let s = start_of env pending in
+    assigned_by_holds next p assignment s (value_of files s assignment) n h (answers_begin files (value_wanted assignment.value ∷ []) s.start s.answers (h.0, tt))
+
+assignments_turn_holds : (files : FileMap) (these : List Assignment) (env : Environment) (p : ExpandedCommand) (pending : Option Pending) → AssignmentsHold these
+    → TurnHolds (assignments_turn files these env p pending)
+assignments_turn_holds files [] env p pending h = final_holds p
+assignments_turn_holds files (assignment ∷ others) env p pending h =
+    (assigned_holds (λ after command. assignments_turn files others after command None) files env (record p { assignments = others }) assignment pending
+    (λ after command. assignments_turn_holds files others after command None h.1) h).holds
+
+pub assign_holds : (files : FileMap) (env : Environment) (p : ExpandedCommand) (pending : Option Pending) → AssignmentsHold p.assignments → TurnHolds (assign_turn files env p pending)
+unfolding assign_turn
+assign_holds files env p pending h = assignments_turn_holds files p.assignments env p pending h
+
+-- ---- a `for`
+series_begin : (words : List Word) → SeriesBegin words → WantedBegin (map word_of_series words)
+series_begin _ no_series = tt
+series_begin _ (more_series word others b r) = (b, series_begin others r)
+
+given_by_holds : (series : ForLoop) (left : List (List ℕ)) (status : ℕ) → ListBegins series.body → ActiveHolds (given_by series left status)
+given_by_holds series [] status b = tt
+given_by_holds series (value ∷ left) status b = b
+
+pub rest_holds : (series : ForLoop) (status : ℕ) → ListBegins series.body → ActiveHolds (rest_of_series series status)
+rest_holds series status b = given_by_holds series series.values status b
+
+series_by_holds : (command : Command) (pending : Pending) (name : List ℕ) (body : CompoundList) (r : expanding.Result) → CommandBegins command → ListBegins body → ResultBegins r
+    → TurnHolds (series_by command pending name body r)
+series_by_holds command pending name body (expanding.Need program env) c l b = (b, c)
+series_by_holds command pending name body (expanding.Fields fields env) c l b = rest_holds (record { name = name; values = fields; body = body }) 0 l
+series_by_holds command pending name body (expanding.Stops fault env) c l b = tt
+
+module _ (files : FileMap) (env : Environment) (command : Command) (pending : Option Pending) (c : CommandBegins command) where
+  words_of_hold : (name : List ℕ) (body : CompoundList) (wanted : List Wanted) → ListBegins body → WantedBegin wanted
+      → let p = start_of env pending in TurnHolds (series_by command p name body (expansion_with files wanted p.start p.answers))
+  words_of_hold name body wanted l b =
+      let p = start_of env pending in
+      series_by_holds command p name body (expansion_with files wanted p.start p.answers) c l (answers_begin files wanted p.start p.answers b)
+
+  abbrev FormTurn : Opened layer.CompoundForm-F → Type 0
+  FormTurn z = TurnHolds (header_turn files env command pending (header_in z))
+
+  form_holds : (x : CompoundForm) → FormBegins x → FormTurn (view.out-CompoundForm x)
+  form_holds x (in_group _ body e b) = subst FormTurn (sym e) tt
+  form_holds x (in_subshell _ body e b) = subst FormTurn (sym e) tt
+  form_holds x (in_if _ condition body else_ifs else_body e t b i o) = subst FormTurn (sym e) tt
+  form_holds x (in_loop _ kind condition body e t b) = subst FormTurn (sym e) tt
+  form_holds x (in_for _ name words body e s b) = subst FormTurn (sym e) (words_of_hold name.name body (map word_of_series words) b (series_begin words s))
+  form_holds x (in_for_parameters _ name is_separated body e b) =
+      subst FormTurn (sym e) (rest_holds (record { name = name.name; values = env.positional; body = body }) 0 b)
+
+  abbrev HeaderTurn : Opened layer.Command-F → Type 0
+  HeaderTurn z = TurnHolds (header_turn files env command pending (header_of_command z))
+
+  header_holds : CommandBegins command → HeaderTurn (view.out-Command command)
+  header_holds (by_words _ items e b) = subst HeaderTurn (sym e) tt
+  header_holds (by_form _ inner e b) = subst HeaderTurn (sym e) (form_holds (view.out-Compound inner).form b)
+
+  pub series_hold : TurnHolds (series_turn files env command pending)
+  unfolding series_turn header_of
+  series_hold = header_holds c
+
+abbrev pub RoundHolds : Round → Type 0
+RoundHolds (round.Body series) = ListBegins series.body
+RoundHolds (round.Over active) = ActiveHolds active
+
+give_by_holds : (env : Environment) (series : ForLoop) (left : List (List ℕ)) → ListBegins series.body → RoundHolds (give_by env series left).round
+give_by_holds env series [] b = tt
+give_by_holds env series (value ∷ left) b = choose (λ (g : Given). RoundHolds g.round) (may_set env series.name)
+    (record { environment = with_value env series.name value; round = round.Body (record series { values = left }) })
+    (record { environment = env; round = round.Over (fatal (read_only series.name)) }) (λ e. b) (λ e. tt)
+
+pub give_holds : (env : Environment) (series : ForLoop) → ListBegins series.body → RoundHolds (give_turn env series).round
+unfolding give_turn
+give_holds env series b = give_by_holds env series series.values b
+
+-- ---- reading
+-- where an answer leads
+record Leads {A : Type 0} (f : A → Found) (a : A) : Type 0 where
+  holds : FoundBegins (f a)
+
+answer_holds : (r : Result Reading ParseFault) (text : List ℕ) (on : ℕ → Found) → AnswerFits r → ((count : ℕ) → FoundBegins (on count)) → FoundBegins (found_by (answer_of r) text on)
+answer_holds (Ok (Complete tree used)) text on f g =
+    (choose (Leads (λ a. found_by a text on)) (serves tree) _ _ (λ e. record { holds = f e }) (λ e. record { holds = tt })).holds
+answer_holds (Ok (Blank zero)) text on f g = tt
+answer_holds (Ok (Blank (suc count))) text on f g = g count
+answer_holds (Ok More) text on f g = tt
+answer_holds (Err (parse_fault.Refused at used)) text on f g = tt
+answer_holds (Err (parse_fault.Unclosed at)) text on f g = tt
+answer_holds (Err (parse_fault.BadSubstitution at used)) text on f g = tt
+answer_holds (Err (parse_fault.TooDeep at used)) text on f g = tt
+answer_holds (Err (parse_fault.NoMemory lack)) text on f g = tt
+
+found_holds : (text : List ℕ) (count : ℕ) → FoundBegins (found_behind text count)
+found_holds [] count = tt
+found_holds (byte ∷ bytes) (suc count) = found_holds bytes count
+found_holds (byte ∷ bytes) zero =
+    answer_holds (reading no_aliases true (byte ∷ bytes)) (byte ∷ bytes) (found_behind bytes) (reading_fits no_aliases true (byte ∷ bytes)) (λ count. found_holds bytes count)
+
+pub next_holds : (text : List ℕ) → FoundBegins (next_command text)
+next_holds text = found_holds text 0

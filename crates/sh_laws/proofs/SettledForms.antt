@@ -1,0 +1,212 @@
+-- Forms are settled to an action, where all that they hold begins with one.
+use Rattle.std.proofs.Common.{ℕ, zero, suc, List, [], ◌∷◌, Option, Bool, true, false, refl, sym, subst}
+use Rattle.std.specs.Prelude.{drop}
+use Rattle.sh_builtin.specs.Running.{built_in}
+use Rattle.sh_builtin.specs.declared.outcome.Completion.{Completion}
+use Rattle.sh_builtin.specs.declared.outcome.Completion.TheVariants as completion
+use Rattle.sh_builtin.specs.declared.outcome.Outcome.{Outcome}
+use Rattle.sh_builtin.specs.declared.outcome.Leave.{Leave}
+use Rattle.sh_builtin.specs.declared.outcome.Leave.TheVariants as leave
+use Rattle.sh_builtin.specs.declared.builtin.Builtin.{Builtin}
+use Rattle.sh_exec_command.specs.Series.{given_by, rest_of_series}
+use Rattle.sh_exec_command.specs.declared.running.Active.{Active}
+use Rattle.sh_exec_command.specs.declared.running.Active.TheVariants.{Acting, Next, Done, Leaving}
+use Rattle.sh_exec_command.specs.declared.running.ForLoop.{ForLoop}
+use Rattle.sh_exec_command.specs.declared.running.Report.{Report}
+use Rattle.sh_exec_command.specs.declared.running.Undo.{Undo}
+use Rattle.sh_exec_forms.proofs.Entered.{entered_with}
+use Rattle.sh_exec_forms.specs.Builtins.{at_completion, behind, builtin_effect, effect_at, output_of, reported, said}
+use Rattle.sh_exec_forms.specs.Entering.{items_run, list_run, pipeline_run, with_others}
+use Rattle.sh_exec_forms.specs.Forms.{Acted, after, after_by, after_leave, after_status, at_action, behind_condition, branch, condition_run, connected_run, goes_on, loop_left, onward, otherwise, runs, undone, within_loop}
+use Rattle.sh_exec_forms.specs.Running.{Run, At, In}
+use Rattle.sh_exec_forms.specs.declared.form.Branches.{Branches}
+use Rattle.sh_exec_forms.specs.declared.form.Form.{Form}
+use Rattle.sh_exec_forms.specs.declared.form.Form.TheVariants.{Text, Commands, Joined, Negated, Restoring, If, Condition, Body, ForBody}
+use Rattle.sh_exec_forms.specs.declared.form.Loop.{Loop}
+use Rattle.sh_kernel.specs.State.{KernelState}
+use Rattle.sh_syntax.specs.declared.tree.Command.TheViews as view
+use Rattle.sh_syntax.specs.declared.tree.CompoundList.{CompoundList}
+use Rattle.sh_syntax.specs.declared.tree.Connected.{Connected}
+use Rattle.sh_syntax.specs.declared.tree.ElseIf.{ElseIf}
+use Rattle.sh_syntax.specs.declared.tree.ListItem.{ListItem}
+use Rattle.sh_vars.specs.Environment.{Environment}
+use Rattle.sh_laws.specs.BeforeAction.{ActiveStands, FormHolds, LoopHolds, PlaceHolds, RunStands}
+use Rattle.sh_laws.specs.Beginnings.{ConnectedBegin, ElseBegins, ElseIfsBegin, ItemsBegin, ListBegins, more_connected, more_else_ifs, more_items, no_else, no_else_ifs, no_items, no_more, with_else}
+use Rattle.sh_laws.proofs.BegunCommands.{and_or_stands, list_stands, others_stand, pipeline_stands}
+use Rattle.sh_laws.proofs.CommandTurns.{ActiveHolds, choose}
+
+-- ---- what runs holds only what begins with an action
+abbrev pub Holds : Run → Type 0
+Holds (At active) = ActiveHolds active
+Holds (In form run) = FormHolds form × Holds run
+
+-- it is settled too: an action is next, or all of it is done or left
+abbrev pub ActiveSettled : Active → Type 0
+ActiveSettled (Next place) = PlaceHolds place
+ActiveSettled (Acting builtin fields) = ⊥
+ActiveSettled (Done status) = Unit {0}
+ActiveSettled (Leaving leave) = Unit {0}
+
+abbrev pub Settled : Run → Type 0
+Settled (At active) = ActiveSettled active
+Settled (In form run) = FormHolds form × RunStands run
+
+stands_active : (active : Active) → ActiveStands active → ActiveSettled active
+stands_active (Next place) s = s
+stands_active (Acting builtin fields) s = s
+stands_active (Done status) s = tt
+stands_active (Leaving leave) s = tt
+
+pub stands_settled : (run : Run) → RunStands run → Settled run
+stands_settled (At active) s = stands_active active s
+stands_settled (In form run) s = s
+
+active_holds : (active : Active) → ActiveStands active → ActiveHolds active
+active_holds (Next place) s = s
+active_holds (Acting builtin fields) s = tt
+active_holds (Done status) s = tt
+active_holds (Leaving leave) s = tt
+
+pub stands_holds : (run : Run) → RunStands run → Holds run
+stands_holds (At active) s = active_holds active s
+stands_holds (In form run) s = (s.0, stands_holds run s.1)
+
+pub settled_active : (active : Active) → ActiveSettled active → ActiveHolds active
+settled_active (Next place) s = s
+settled_active (Acting builtin fields) s = tt
+settled_active (Done status) s = tt
+settled_active (Leaving leave) s = tt
+
+pub settled_holds : (run : Run) → Settled run → Holds run
+settled_holds (At active) s = settled_active active s
+settled_holds (In form run) s = (s.0, stands_holds run s.1)
+
+-- ---- lists
+pub items_settled : (items : List ListItem) (status : ℕ) → ItemsBegin items → Settled (items_run items status)
+items_settled _ status no_items = tt
+items_settled _ status (more_items item others a r) = subst Settled (sym (entered_with (item ∷ others) item others status refl)) (r, and_or_stands (view.out-ListItem item).list a)
+
+connected_settled : (others : List Connected) (status : ℕ) → ConnectedBegin others → Settled (connected_run others status)
+connected_settled _ status no_more = tt
+connected_settled _ status (more_connected next others p r) =
+    choose Settled (goes_on (view.out-Connected next).connector status) (with_others others (pipeline_run (view.out-Connected next).pipeline)) (connected_run others status)
+    (λ e. stands_settled (with_others others (pipeline_run (view.out-Connected next).pipeline)) (others_stand others (pipeline_run (view.out-Connected next).pipeline) r (pipeline_stands (view.out-Connected next).pipeline p)))
+    (λ e. connected_settled others status r)
+
+-- ---- `if`
+otherwise_settled : (else_ifs : List ElseIf) (else_body : Option CompoundList) → ElseIfsBegin else_ifs → ElseBegins else_body → Settled (otherwise else_ifs else_body)
+otherwise_settled _ _ no_else_ifs no_else = tt
+otherwise_settled _ _ no_else_ifs (with_else body b) = stands_settled (list_run body) (list_stands body b)
+otherwise_settled _ else_body (more_else_ifs next others c b r) o = ((b, r, o), list_stands (view.out-ElseIf next).condition c)
+
+branch_settled : (branches : Branches) (status : ℕ) → FormHolds (If branches) → Settled (branch branches status)
+unfolding branch
+branch_settled branches zero h = stands_settled (list_run branches.body) (list_stands branches.body h.0)
+branch_settled branches (suc n) h = otherwise_settled branches.else_ifs branches.else_body h.1 h.2
+
+-- ---- loops
+condition_settled : (loop : Loop) (status : ℕ) → LoopHolds loop → Settled (condition_run loop status)
+unfolding condition_run
+condition_settled loop status h = (h, list_stands loop.condition h.0)
+
+body_settled : (loop : Loop) (last status : ℕ) → LoopHolds loop → Settled (behind_condition loop last status)
+unfolding behind_condition
+body_settled loop last status h = choose Settled (runs loop.kind status) (In (Body loop) (list_run loop.body)) (At (Done last)) (λ e. (h, list_stands loop.body h.1)) (λ e. tt)
+
+abbrev ActedSettled : Acted → Type 0
+ActedSettled a = Settled a.run
+
+given_by_settled : (series : ForLoop) (left : List (List ℕ)) (status : ℕ) → ListBegins series.body → ActiveSettled (given_by series left status)
+given_by_settled series [] status b = tt
+given_by_settled series (value ∷ left) status b = b
+
+left_settled : (looped : Bool) (l : Leave) (s : KernelState) (env : Environment) (next : Run) → Settled next → ActedSettled (loop_left s env next (onward looped l))
+left_settled looped (leave.Exit status) s env next p = tt
+left_settled looped (leave.Fault status) s env next p = tt
+left_settled looped (leave.Break zero) s env next p = tt
+left_settled false (leave.Break (suc inside)) s env next p = tt
+left_settled true (leave.Break (suc inside)) s env next p = tt
+left_settled looped (leave.Continue zero) s env next p = p
+left_settled false (leave.Continue (suc inside)) s env next p = p
+left_settled true (leave.Continue (suc inside)) s env next p = tt
+
+-- ---- what follows a built-in
+completion_settled : (status : Completion) → ActiveSettled (at_completion status)
+completion_settled (completion.Done status) = tt
+completion_settled (completion.Left l) = tt
+
+said_settled : (messages : List (List ℕ)) (status : Completion) → ActiveSettled (said messages status)
+said_settled [] status = completion_settled status
+said_settled (message ∷ messages) status = tt
+
+pub reported_settled : (report : Report) → ActiveSettled (reported report)
+reported_settled report = said_settled report.messages report.status
+
+output_settled : (builtin : Builtin) (bytes : List ℕ) (report : Report) → ActiveSettled (output_of builtin bytes report)
+output_settled builtin [] report = reported_settled report
+output_settled builtin (byte ∷ bytes) report = tt
+
+behind_settled : (builtin : Builtin) (outcome : Outcome) → ActiveSettled (behind builtin outcome)
+behind_settled builtin outcome = output_settled builtin outcome.out _
+
+-- ---- a form after what is in it
+module _ (pid : ℕ) where
+  undone_settled : (undo : Undo) (s : KernelState) (env : Environment) (run : Run) → Settled run → ActedSettled (undone pid undo s env run)
+  unfolding undone
+  undone_settled undo s env run p = p
+
+  status_settled : (form : Form) (s : KernelState) (env : Environment) (status : ℕ) → FormHolds form → ActedSettled (after_status pid form s env status)
+  status_settled (Text rest) s env status h = tt
+  status_settled (Commands items) s env status h = items_settled items status h
+  status_settled (Joined others) s env status h = connected_settled others status h
+  status_settled Negated s env status h = tt
+  status_settled (Restoring undo) s env status h = undone_settled undo s env (At (Done status)) tt
+  status_settled (If branches) s env status h = branch_settled branches status h
+  status_settled (Condition loop last) s env status h = body_settled loop last status h
+  status_settled (Body loop) s env status h = condition_settled loop status h
+  status_settled (ForBody series) s env status h = given_by_settled series series.values status h
+
+  leave_settled : (looped : Bool) (form : Form) (s : KernelState) (env : Environment) (l : Leave) → FormHolds form → ActedSettled (after_leave pid looped form s env l)
+  leave_settled looped (Text rest) s env l h = tt
+  leave_settled looped (Commands items) s env l h = tt
+  leave_settled looped (Joined others) s env l h = tt
+  leave_settled looped Negated s env l h = tt
+  leave_settled looped (Restoring undo) s env l h = undone_settled undo s env (At (Leaving l)) tt
+  leave_settled looped (If branches) s env l h = tt
+  leave_settled looped (Condition loop last) s env l h = left_settled looped l s env (condition_run loop last) (condition_settled loop last h)
+  leave_settled looped (Body loop) s env l h = left_settled looped l s env (condition_run loop 0) (condition_settled loop 0 h)
+  leave_settled looped (ForBody series) s env l h = left_settled looped l s env (At (rest_of_series series 0)) (given_by_settled series series.values 0 h)
+
+  after_by_settled : (looped : Bool) (form : Form) (s : KernelState) (env : Environment) (run : Run) → FormHolds form → Settled run → ActedSettled (after_by pid looped form s env run)
+  after_by_settled looped form s env (At (Done status)) h p = status_settled form s env status h
+  after_by_settled looped form s env (At (Leaving l)) h p = leave_settled looped form s env l h
+  after_by_settled looped form s env (At (Acting builtin fields)) h p = absurd p
+  after_by_settled looped form s env (At (Next place)) h p = (h, p)
+  after_by_settled looped form s env (In inner run) h p = (h, p)
+
+  pub after_settled : (looped : Bool) (form : Form) (a : Acted) → FormHolds form → ActedSettled a → ActedSettled (after pid looped form a)
+  unfolding after
+  after_settled looped form a h p = after_by_settled looped form a.machine a.environment a.run h p
+
+  -- ---- a built-in acts
+  effect_settled : (s : KernelState) (env : Environment) (active : Active) → ActiveHolds active → ActiveSettled (effect_at s pid env active).active
+  unfolding builtin_effect
+  effect_settled s env (Acting builtin fields) h = behind_settled builtin (built_in s.machine pid env builtin (drop 1 fields)).outcome
+  effect_settled s env (Next place) h = h
+  effect_settled s env (Done status) h = tt
+  effect_settled s env (Leaving l) h = tt
+
+  within_settled : (looped : Bool) (active : Active) → ActiveSettled active → ActiveSettled (within_loop looped active)
+  within_settled looped (Acting builtin fields) p = p
+  within_settled looped (Next place) p = p
+  within_settled looped (Done status) p = tt
+  within_settled looped (Leaving (leave.Exit status)) p = tt
+  within_settled looped (Leaving (leave.Fault status)) p = tt
+  within_settled true (Leaving (leave.Break inside)) p = tt
+  within_settled false (Leaving (leave.Break inside)) p = tt
+  within_settled true (Leaving (leave.Continue inside)) p = tt
+  within_settled false (Leaving (leave.Continue inside)) p = tt
+
+  pub at_action_settled : (looped : Bool) (s : KernelState) (env : Environment) (run : Run) → Holds run → ActedSettled (at_action pid looped s env run)
+  at_action_settled looped s env (At active) h = within_settled looped (effect_at s pid env active).active (effect_settled s env active h)
+  at_action_settled looped s env (In form run) h = after_settled looped form (at_action pid _ s env run) h.0 (at_action_settled _ s env run h.1)

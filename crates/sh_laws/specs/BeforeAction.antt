@@ -1,0 +1,109 @@
+-- A process that stands before its next action: a program that asks for something, or a shell at whose place an action is next. The laws
+-- keep more of a shell than that: all of the syntax that it holds begins with an action wherever it is entered (`Beginnings.antt`), so that
+-- it stands before an action after its next turn too.
+use Rattle.std.specs.Prelude.{◌≡◌, List, [], ◌∷◌, Option, Some, None}
+use Rattle.sh_exec.specs.declared.process.Process.{Process}
+use Rattle.sh_exec.specs.declared.process.Process.TheVariants.{Runs, Asks}
+use Rattle.sh_exec_command.specs.declared.found.Found.{Found}
+use Rattle.sh_exec_command.specs.declared.found.Found.TheVariants as found
+use Rattle.sh_exec_command.specs.declared.running.Active.{Active}
+use Rattle.sh_exec_command.specs.declared.running.Active.TheVariants.{Acting, Next, Done, Leaving}
+use Rattle.sh_exec_command.specs.declared.running.Action.{Action}
+use Rattle.sh_exec_command.specs.declared.running.Action.TheVariants.{Reading, Expanding, ReadSubstitution, WaitSubstitution, Redirecting, Forking, Starting, ForkStage, AssignLoopVariable, Waiting, Writing, Ending}
+use Rattle.sh_exec_command.specs.declared.running.Role.TheVariants.{Program}
+use Rattle.sh_exec_command.specs.declared.running.ToExpand.{ToExpand}
+use Rattle.sh_exec_command.specs.declared.running.ToExpand.TheVariants.{Words, Values, ForWords}
+use Rattle.sh_exec_forms.specs.Running.{Run, At, In, active_of}
+use Rattle.sh_exec_forms.specs.declared.form.Form.{Form}
+use Rattle.sh_exec_forms.specs.declared.form.Form.TheVariants.{Text, Commands, Joined, Negated, Restoring, If, Condition, Body, ForBody}
+use Rattle.sh_exec_forms.specs.declared.form.Loop.{Loop}
+use Rattle.sh_exec_parts.specs.declared.simple.Assignment.{Assignment}
+use Rattle.sh_exec_shell.specs.declared.shell.Child.{Child}
+use Rattle.sh_expand.specs.Parts.{parts_of}
+use Rattle.sh_laws.specs.Beginnings.{CommandBegins, CommandsBegin, ConnectedBegin, ElseBegins, ElseIfsBegin, ItemsBegin, ListBegins, PartsBegin}
+use Rattle.sh_syntax.specs.declared.tree.Command.TheViews as view
+use Rattle.sh_exec.specs.declared.task.Task.{Task}
+
+-- ---- an action is next
+abbrev pub IsNext : Active → Type 0
+IsNext (Next place) = Unit {0}
+IsNext (Acting builtin fields) = ⊥
+IsNext (Done status) = ⊥
+IsNext (Leaving leave) = ⊥
+
+abbrev pub IsBeforeAction : {S : Type 0} → Process S → Type 0
+IsBeforeAction (Runs shell) = IsNext (active_of shell.run)
+IsBeforeAction (Asks ask program) = Unit {0}
+
+abbrev pub AreBeforeActions : {S : Type 0} → List (Task S) → Type 0
+AreBeforeActions [] = Unit {0}
+AreBeforeActions (task ∷ tasks) = IsBeforeAction task.process × AreBeforeActions tasks
+
+-- ---- what a place holds begins with an action
+abbrev pub AssignmentsHold : List Assignment → Type 0
+AssignmentsHold [] = Unit {0}
+AssignmentsHold (assignment ∷ others) = PartsBegin (parts_of assignment.value) × AssignmentsHold others
+
+abbrev pub WantsHold : ToExpand → Type 0
+WantsHold (Words command in_place status) = CommandBegins command
+WantsHold (Values p) = AssignmentsHold p.assignments
+WantsHold (ForWords command) = CommandBegins command
+
+-- a process is made for a program alone
+abbrev pub PlaceHolds : Action → Type 0
+PlaceHolds (Reading rest) = Unit {0}
+PlaceHolds (Expanding wants pending) = WantsHold wants
+PlaceHolds (ReadSubstitution substitution) = WantsHold substitution.wants
+PlaceHolds (WaitSubstitution substitution) = WantsHold substitution.wants
+PlaceHolds (Redirecting p) = AssignmentsHold p.assignments
+PlaceHolds (Forking p) = (p.role ≡ Program) × AssignmentsHold p.assignments
+PlaceHolds (Starting fields) = Unit {0}
+PlaceHolds (ForkStage stages) = CommandsBegin stages.commands
+PlaceHolds (AssignLoopVariable series) = ListBegins series.body
+PlaceHolds (Waiting children) = Unit {0}
+PlaceHolds (Writing piece finish) = Unit {0}
+PlaceHolds (Ending status) = Unit {0}
+
+-- ---- and so does what a form holds
+abbrev pub LoopHolds : Loop → Type 0
+LoopHolds loop = ListBegins loop.condition × ListBegins loop.body
+
+abbrev pub FormHolds : Form → Type 0
+FormHolds (Text rest) = Unit {0}
+FormHolds (Commands items) = ItemsBegin items
+FormHolds (Joined others) = ConnectedBegin others
+FormHolds Negated = Unit {0}
+FormHolds (Restoring undo) = Unit {0}
+FormHolds (If branches) = ListBegins branches.body × ElseIfsBegin branches.else_ifs × ElseBegins branches.else_body
+FormHolds (Condition loop last) = LoopHolds loop
+FormHolds (Body loop) = LoopHolds loop
+FormHolds (ForBody series) = ListBegins series.body
+
+-- ---- what runs has an action next, and holds only such syntax
+abbrev pub ActiveStands : Active → Type 0
+ActiveStands (Next place) = PlaceHolds place
+ActiveStands (Acting builtin fields) = ⊥
+ActiveStands (Done status) = ⊥
+ActiveStands (Leaving leave) = ⊥
+
+abbrev pub RunStands : Run → Type 0
+RunStands (At active) = ActiveStands active
+RunStands (In form run) = FormHolds form × RunStands run
+
+abbrev pub ChildStands : Option Child → Type 0
+ChildStands None = Unit {0}
+ChildStands (Some child) = RunStands child.shell.run
+
+abbrev pub ProcessStands : {S : Type 0} → Process S → Type 0
+ProcessStands (Runs shell) = RunStands shell.run
+ProcessStands (Asks ask program) = Unit {0}
+
+abbrev pub TasksStand : {S : Type 0} → List (Task S) → Type 0
+TasksStand [] = Unit {0}
+TasksStand (task ∷ tasks) = ProcessStands task.process × TasksStand tasks
+
+-- ---- the command that is found in a text begins with an action
+abbrev pub FoundBegins : Found → Type 0
+FoundBegins found.Nothing = Unit {0}
+FoundBegins (found.Command tree rest) = ItemsBegin (view.out-CompoundList tree).items
+FoundBegins (found.Fault refusal) = Unit {0}
