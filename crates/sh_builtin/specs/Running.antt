@@ -11,6 +11,7 @@ use Rattle.sh_builtin.specs.declared.conditional.Verdict.{Verdict}
 use Rattle.sh_builtin.specs.declared.conditional.Verdict.TheVariants as verdict
 use Rattle.sh_builtin.specs.declared.outcome.Leave.TheVariants as leave
 use Rattle.sh_builtin.specs.declared.outcome.Outcome.{Outcome}
+use Rattle.sh_builtin.specs.declared.shell.Shell.{Shell}
 use Rattle.sh_builtin_vars.specs.Directories.{cd_ran, pwd_outcome}
 use Rattle.sh_builtin_vars.specs.Outcomes.{Ran}
 use Rattle.sh_builtin_vars.specs.Setting.{set_ran}
@@ -21,17 +22,21 @@ use Rattle.sh_kernel_descriptors.specs.Terminals.{is_terminal}
 use Rattle.sh_kernel_descriptors.specs.declared.descriptor.DescriptorRef.TheVariants.{Number}
 use Rattle.sh_vars.specs.Environment.{Environment}
 
--- the shell's environment after a built-in, and what that comes to
+-- the shell after a built-in, and what that comes to
 pub record BuiltIn : Type 0 where
-  pub environment : Environment
+  pub shell : Shell
   pub outcome : Outcome
 
-abbrev pub with_outcome : Environment → Outcome → BuiltIn
-with_outcome env outcome = record { environment = env; outcome = outcome }
+abbrev pub with_outcome : Shell → Outcome → BuiltIn
+with_outcome shell outcome = record { shell = shell; outcome = outcome }
 
--- of what a built-in leaves that acts on the environment
-abbrev pub ran : Builtin → Ran → BuiltIn
-ran builtin r = with_outcome r.environment (outcome_of builtin r.outcome)
+-- a shell with these variables
+abbrev pub with_vars : Shell → Environment → Shell
+with_vars shell env = record shell { vars = env }
+
+-- of what a built-in leaves that acts on the variables
+abbrev pub ran : Builtin → Shell → Ran → BuiltIn
+ran builtin shell r = with_outcome (with_vars shell r.environment) (outcome_of builtin r.outcome)
 
 -- ---- echo writes its arguments with a space between them, and a newline
 abbrev pub echo_text : List (List ℕ) → List ℕ
@@ -59,9 +64,9 @@ verdict_outcome machine pid builtin (verdict.Terminal descriptor inverted) =
 verdict_outcome machine pid builtin verdict.Usage = misuse builtin
 
 -- by one of its two names
-unfoldable pub test_outcome : MachineState → ℕ → Environment → Builtin → List (List ℕ) → Outcome
-test_outcome machine pid env builtin arguments =
-    verdict_outcome machine pid builtin (verdict_of machine.files env.directory arguments)
+unfoldable pub test_outcome : MachineState → Shell → Builtin → List (List ℕ) → Outcome
+test_outcome machine shell builtin arguments =
+    verdict_outcome machine shell.pid builtin (verdict_of machine.files shell.vars.directory arguments)
 
 -- `[` needs `]` after its operands
 abbrev pub prefix_behind : List ℕ → Option (List (List ℕ)) → Option (List (List ℕ))
@@ -73,23 +78,23 @@ prefix [] = None
 prefix (word ∷ []) = if bytes_eq word (codes "]") then Some [] else None
 prefix (word ∷ next ∷ words) = prefix_behind word (prefix (next ∷ words))
 
-abbrev pub bracket_outcome : MachineState → ℕ → Environment → Option (List (List ℕ)) → Outcome
-bracket_outcome machine pid env None = misuse Bracket
-bracket_outcome machine pid env (Some operands) = test_outcome machine pid env Bracket operands
+abbrev pub bracket_outcome : MachineState → Shell → Option (List (List ℕ)) → Outcome
+bracket_outcome machine shell None = misuse Bracket
+bracket_outcome machine shell (Some operands) = test_outcome machine shell Bracket operands
 
--- ---- a built-in with its arguments, in the process `pid` of this machine
-unfoldable pub built_in : MachineState → ℕ → Environment → Builtin → List (List ℕ) → BuiltIn
-built_in machine pid env Bracket arguments = with_outcome env (bracket_outcome machine pid env (prefix arguments))
-built_in machine pid env Break arguments = with_outcome env (loop_with Break leave.Break (operands_of arguments))
-built_in machine pid env Cd arguments = ran Cd (cd_ran machine.files env arguments)
-built_in machine pid env Colon arguments = with_outcome env (done 0)
-built_in machine pid env Continue arguments = with_outcome env (loop_with Continue leave.Continue (operands_of arguments))
-built_in machine pid env Echo arguments = with_outcome env (echo_outcome arguments)
-built_in machine pid env Exit arguments = with_outcome env (exit_with env.special.status (operands_of arguments))
-built_in machine pid env False arguments = with_outcome env (done 1)
-built_in machine pid env Pwd arguments = with_outcome env (outcome_of Pwd (pwd_outcome env arguments))
-built_in machine pid env Set arguments = ran Set (set_ran env arguments)
-built_in machine pid env Shift arguments = ran Shift (shift_ran env arguments)
-built_in machine pid env Test arguments = with_outcome env (test_outcome machine pid env Test arguments)
-built_in machine pid env True arguments = with_outcome env (done 0)
-built_in machine pid env Unset arguments = ran Unset (unset_ran env arguments)
+-- ---- a built-in with its arguments, in a shell's process on this machine
+unfoldable pub built_in : MachineState → Shell → Builtin → List (List ℕ) → BuiltIn
+built_in machine shell Bracket arguments = with_outcome shell (bracket_outcome machine shell (prefix arguments))
+built_in machine shell Break arguments = with_outcome shell (loop_with Break leave.Break (operands_of arguments))
+built_in machine shell Cd arguments = ran Cd shell (cd_ran machine.files shell.vars arguments)
+built_in machine shell Colon arguments = with_outcome shell (done 0)
+built_in machine shell Continue arguments = with_outcome shell (loop_with Continue leave.Continue (operands_of arguments))
+built_in machine shell Echo arguments = with_outcome shell (echo_outcome arguments)
+built_in machine shell Exit arguments = with_outcome shell (exit_with shell.vars.special.status (operands_of arguments))
+built_in machine shell False arguments = with_outcome shell (done 1)
+built_in machine shell Pwd arguments = with_outcome shell (outcome_of Pwd (pwd_outcome shell.vars arguments))
+built_in machine shell Set arguments = ran Set shell (set_ran shell.vars arguments)
+built_in machine shell Shift arguments = ran Shift shell (shift_ran shell.vars arguments)
+built_in machine shell Test arguments = with_outcome shell (test_outcome machine shell Test arguments)
+built_in machine shell True arguments = with_outcome shell (done 0)
+built_in machine shell Unset arguments = ran Unset shell (unset_ran shell.vars arguments)

@@ -6,12 +6,12 @@ ghost use Rattle.sh_kernel.specs.State.{KernelState, StandsAt};
 
 use crate::leaving::{break_with, continue_with, exit_with, operands_of};
 use crate::outcome::Outcome;
+use crate::shell::Shell;
 use crate::testing::{bracket, test};
 use sh_base::NoMemory;
 use sh_base::sequence::{Sequence, Text};
 use sh_builtin_vars::{cd, pwd, set, shift, unset};
 use sh_kernel::Kernel;
-use sh_vars::Vars;
 use std::alloc::Global;
 
 /// A built-in utility.
@@ -131,45 +131,44 @@ impl Builtin {
         self.row().is_special
     }
 
-    /// What it does with its arguments, in the process `pid` of a kernel, to a shell's variables, and what it comes to. The
-    /// only error is want of memory; what the variables are then is left open.
+    /// What it does with its arguments to a shell, in the shell's process of a kernel, and what it comes to. The only error is
+    /// want of memory; what the shell is then is left open.
     #[tactic(auto, unfolding(crate::specs::Running::built_in))]
     pub fn run(
         self,
         alloc: Global,
         kernel: &Kernel,
-        pid: u32,
-        vars: &mut Vars,
+        shell: &mut Shell,
         arguments: &[Text],
     ) -> Result<Outcome, NoMemory>
         ensures { (s : KernelState) → StandsAt kernel.now s → IfOk result (λ outcome.
-            with_outcome vars.new outcome ≡ built_in s.machine pid vars.old self arguments.now) }
+            with_outcome shell.new outcome ≡ built_in s.machine shell.old self arguments.now) }
     {
         match self {
-            Builtin::Bracket => bracket(alloc, kernel, pid, vars, arguments),
+            Builtin::Bracket => bracket(alloc, kernel, shell, arguments),
             Builtin::Break => break_with(alloc, operands_of(arguments)),
             Builtin::Cd => {
-                let answer = cd(alloc, kernel.files(), vars, arguments)?;
+                let answer = cd(alloc, kernel.files(), &mut shell.vars, arguments)?;
                 Outcome::of(alloc, Builtin::Cd, answer)
             },
             Builtin::Colon => Ok(Outcome::done(alloc, 0)),
             Builtin::Continue => continue_with(alloc, operands_of(arguments)),
             Builtin::Echo => echo(alloc, arguments),
-            Builtin::Exit => exit_with(alloc, vars.status(), operands_of(arguments)),
+            Builtin::Exit => exit_with(alloc, shell.vars.status(), operands_of(arguments)),
             Builtin::False => Ok(Outcome::done(alloc, 1)),
             Builtin::Pwd => {
-                let answer = pwd(alloc, vars, arguments)?;
+                let answer = pwd(alloc, &shell.vars, arguments)?;
                 Outcome::of(alloc, Builtin::Pwd, answer)
             },
             Builtin::Set => {
-                let answer = set(alloc, vars, arguments)?;
+                let answer = set(alloc, &mut shell.vars, arguments)?;
                 Outcome::of(alloc, Builtin::Set, answer)
             },
-            Builtin::Shift => Outcome::of(alloc, Builtin::Shift, shift(vars, arguments)),
-            Builtin::Test => test(alloc, kernel, pid, vars, Builtin::Test, arguments),
+            Builtin::Shift => Outcome::of(alloc, Builtin::Shift, shift(&mut shell.vars, arguments)),
+            Builtin::Test => test(alloc, kernel, shell, Builtin::Test, arguments),
             Builtin::True => Ok(Outcome::done(alloc, 0)),
             Builtin::Unset => {
-                let answer = unset(alloc, vars, arguments)?;
+                let answer = unset(alloc, &mut shell.vars, arguments)?;
                 Outcome::of(alloc, Builtin::Unset, answer)
             },
         }

@@ -7,8 +7,10 @@ mod leaving;
 pub mod message;
 mod number;
 mod outcome;
+mod shell;
 mod testing;
 
 pub use builtin::Builtin;
 pub use conditional::{Verdict, evaluate};
 pub use outcome::{Completion, Leave, Outcome};
+pub use shell::Shell;

@@ -5,11 +5,11 @@ ghost use Rattle.sh_kernel.specs.State.{KernelState, StandsAt};
 
 use crate::builtin::Builtin;
 use crate::outcome::Outcome;
+use crate::shell::Shell;
 use crate::{Verdict, evaluate};
 use sh_base::NoMemory;
 use sh_base::sequence::Text;
 use sh_kernel::Kernel;
-use sh_vars::Vars;
 use std::alloc::Global;
 
 /// The status of a condition.
@@ -72,16 +72,15 @@ fn judge(
 pub(crate) fn test(
     alloc: Global,
     kernel: &Kernel,
-    pid: u32,
-    vars: &Vars,
+    shell: &Shell,
     builtin: Builtin,
     arguments: &[Text],
 ) -> Result<Outcome, NoMemory>
     ensures { (s : KernelState) → StandsAt kernel.now s → IfOk result (λ outcome.
-        outcome ≡ test_outcome s.machine pid vars.now builtin arguments.now) }
+        outcome ≡ test_outcome s.machine shell.now builtin arguments.now) }
 {
-    let verdict = evaluate(kernel.files(), vars.directory(), arguments)?;
-    let outcome = judge(alloc, kernel, pid, builtin, verdict)?;
+    let verdict = evaluate(kernel.files(), shell.vars.directory(), arguments)?;
+    let outcome = judge(alloc, kernel, shell.pid, builtin, verdict)?;
     Ok(outcome)
 }
 
@@ -104,16 +103,15 @@ fn prefix(arguments: &[Text]) -> Option<&[Text]>
 pub(crate) fn bracket(
     alloc: Global,
     kernel: &Kernel,
-    pid: u32,
-    vars: &Vars,
+    shell: &Shell,
     arguments: &[Text],
 ) -> Result<Outcome, NoMemory>
     ensures { (s : KernelState) → StandsAt kernel.now s → IfOk result (λ outcome.
-        outcome ≡ bracket_outcome s.machine pid vars.now (prefix arguments.now)) }
+        outcome ≡ bracket_outcome s.machine shell.now (prefix arguments.now)) }
 {
     let Some(operands) = prefix(arguments) else {
         return Outcome::misuse(alloc, Builtin::Bracket);
     };
-    let outcome = test(alloc, kernel, pid, vars, Builtin::Bracket, operands)?;
+    let outcome = test(alloc, kernel, shell, Builtin::Bracket, operands)?;
     Ok(outcome)
 }

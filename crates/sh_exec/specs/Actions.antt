@@ -1,7 +1,7 @@
 -- What a process does in its next turn, as far as it may have to wait.
 use Rattle.std.specs.Prelude.{ℕ, length, Option, Some, None}
-use Rattle.sh_exec.specs.declared.process.Process.{Process}
-use Rattle.sh_exec.specs.declared.process.Process.TheVariants.{Runs, Asks}
+use Rattle.sh_exec.specs.declared.task.Task.{Task}
+use Rattle.sh_exec.specs.declared.task.Task.TheVariants.{Runs, Asks}
 use Rattle.sh_exec_command.specs.declared.running.Active.{Active}
 use Rattle.sh_exec_command.specs.declared.running.Active.TheVariants.{Acting, Next, Done, Leaving}
 use Rattle.sh_exec_command.specs.declared.running.Action.{Action}
@@ -18,7 +18,7 @@ collecting None = Acts
 collecting (Some aside) = ReadsBy (Aside aside)
 
 abbrev pub action_at : Action → Asked
-action_at (Reading rest) = Acts
+action_at (Reading rest status) = Acts
 action_at (Expanding wants pending) = Acts
 action_at (ReadSubstitution substitution) = collecting substitution.aside
 action_at (WaitSubstitution substitution) = WaitsFor substitution.children
@@ -45,6 +45,6 @@ action_for ask.Stop = Acts
 action_for ask.Idle = Acts
 action_for (ask.End status) = Acts
 
-abbrev pub action_of : {S : Type 0} → Process S → Asked
-action_of (Runs shell) = action_in (active_of shell.run)
-action_of (Asks ask program) = action_for ask
+abbrev pub action_of : {S : Type 0} → Task S → Asked
+action_of (Runs interpreter) = action_in (active_of interpreter.run)
+action_of (Asks pid ask program) = action_for ask

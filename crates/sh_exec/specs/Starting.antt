@@ -1,8 +1,10 @@
 -- A program's start in the process of a shell (XCU 2.9.1.4, 2.9.1.6): the search, and what the process then is.
 use Rattle.std.specs.Prelude.{ℕ, List, [], ◌∷◌, Option, Some, None, unwrap_or}
-use Rattle.sh_exec.specs.Programs.{Left, asking, with_process}
-use Rattle.sh_exec.specs.declared.process.Process.{Process}
-use Rattle.sh_exec.specs.declared.process.Process.TheVariants.{Runs}
+use Rattle.sh_exec_command.specs.Statuses as statuses
+use Rattle.sh_builtin.specs.declared.shell.Shell.{Shell}
+use Rattle.sh_exec.specs.Programs.{Left, ProgramState, asking, with_next}
+use Rattle.sh_exec.specs.declared.task.Task.{Task}
+use Rattle.sh_exec.specs.declared.task.Task.TheVariants.{Asks, Runs}
 use Rattle.sh_exec_parts.specs.Messages.{cannot_execute, message, not_found}
 use Rattle.sh_exec_parts.specs.Scripts.{script_environment}
 use Rattle.sh_exec.specs.Search.{located_of}
@@ -10,7 +12,7 @@ use Rattle.sh_exec.specs.declared.search.Located.{Located}
 use Rattle.sh_exec.specs.declared.search.Located.TheVariants as located
 use Rattle.sh_exec_command.specs.declared.running.Active.{Active}
 use Rattle.sh_exec_command.specs.declared.running.Active.TheVariants.{Acting, Next, Done, Leaving}
-use Rattle.sh_exec_command.specs.declared.running.Finish.TheVariants.{Leave}
+use Rattle.sh_exec_command.specs.declared.running.Finish.TheVariants.{Fault}
 use Rattle.sh_exec_command.specs.declared.running.Action.{Action}
 use Rattle.sh_exec_command.specs.declared.running.Action.TheVariants.{Reading, Expanding, ReadSubstitution, WaitSubstitution, Redirecting, Forking, Starting, ForkStage, AssignLoopVariable, Waiting, Writing, Ending}
 use Rattle.sh_exec_forms.specs.Running.{At}
@@ -19,47 +21,61 @@ use Rattle.sh_kernel.specs.State.{KernelState}
 use Rattle.sh_kernel_descriptors.specs.Processes.{parent_at}
 use Rattle.sh_stock.specs.Asking.{Meaning}
 use Rattle.sh_stock.specs.declared.asking.Answer.TheVariants as answer
-use Rattle.sh_vars.specs.Environment.{Environment}
 
 -- a shell that does this alone
-abbrev pub shell_at : {S : Type 0} → Environment → Action → Process S
-shell_at env place = Runs (record { environment = env; run = At (Next place) })
+abbrev pub shell_at : {S : Type 0} → Shell → Action → Task S
+shell_at shell place = Runs (record { shell = shell; run = At (Next place) })
+
+-- a program in this process
+abbrev pub program_in : {S : Type 0} → ℕ → ProgramState S → Task S
+program_in pid p = Asks pid p.ask p.program
+
+-- the name of a command and its arguments
+pub record Invocation : Type 0 where
+  pub name : List ℕ
+  pub operands : List (List ℕ)
 
 -- the process says why there is no program, and ends with this status
-abbrev pub failure : {S : Type 0} → KernelState → Environment → List ℕ → ℕ → Left S
-failure s env text status = with_process s (shell_at env (Writing (message text) (Leave status)))
+abbrev pub failure : {S : Type 0} → KernelState → Shell → List ℕ → ℕ → Left (Task S)
+failure s shell text code = with_next s (shell_at shell (Writing (message text) (Fault code)))
 
 -- a program of the stock takes its first turn; what the shell had set aside is closed
-abbrev pub stock_start : {S : Type 0} → Meaning S → KernelState → ℕ → Environment → List ℕ → Option S → Left S
-stock_start m s pid env name (Some program) = with_process (start_call s pid).after (asking m program answer.Started)
-stock_start m s pid env name None = failure s env (cannot_execute name) 126
+abbrev pub stock_start : {S : Type 0} → Meaning S → KernelState → Shell → List ℕ → Option S → Left (Task S)
+stock_start m s shell name (Some program) =
+    with_next (start_call s shell.pid).after (program_in shell.pid (asking m program answer.Started))
+stock_start m s shell name None = failure s shell (cannot_execute name) statuses.cannot_execute
 
 abbrev pub parent_of : KernelState → ℕ → ℕ
 parent_of s pid = unwrap_or (parent_at s.machine.processes pid) 1
 
 -- a script is run by a new shell in this process
-abbrev pub script_start : {S : Type 0} → KernelState → ℕ → Environment → List ℕ → List ℕ → List (List ℕ) → Left S
-script_start s pid env path text operands =
-    with_process (start_call s pid).after (shell_at (script_environment env path operands pid (parent_of s pid)) (Reading text))
+abbrev pub script_shell : KernelState → Shell → List ℕ → List (List ℕ) → Shell
+script_shell s shell path operands =
+    record shell { vars = script_environment shell.vars path operands shell.pid (parent_of s shell.pid) }
 
-abbrev pub started_by : {S : Type 0} → Meaning S → KernelState → ℕ → Environment → List ℕ → List (List ℕ) → Located → Left S
-started_by m s pid env name operands located.Missing = failure s env (not_found name) 127
-started_by m s pid env name operands located.Unfit = failure s env (cannot_execute name) 126
-started_by m s pid env name operands (located.Stock program) = stock_start m s pid env name (m.start program operands)
-started_by m s pid env name operands (located.Script path text) = script_start s pid env path text operands
+abbrev pub script_start : {S : Type 0} → KernelState → Shell → List ℕ → List ℕ → List (List ℕ) → Left (Task S)
+script_start s shell path text operands =
+    with_next (start_call s shell.pid).after (shell_at (script_shell s shell path operands) (Reading text 0))
+
+abbrev pub started_by : {S : Type 0} → Meaning S → KernelState → Shell → Invocation → Located → Left (Task S)
+started_by m s shell invocation located.Missing = failure s shell (not_found invocation.name) statuses.not_found
+started_by m s shell invocation located.Unfit = failure s shell (cannot_execute invocation.name) statuses.cannot_execute
+started_by m s shell invocation (located.Stock program) =
+    stock_start m s shell invocation.name (m.start program invocation.operands)
+started_by m s shell invocation (located.Script path text) = script_start s shell path text invocation.operands
 
 -- the program of a command name
-unfoldable pub start_named : {S : Type 0} → Meaning S → KernelState → ℕ → Environment → List ℕ → List (List ℕ) → Left S
-start_named m s pid env name operands =
-    started_by m s pid env name operands (located_of s.machine.files env name)
+unfoldable pub start_named : {S : Type 0} → Meaning S → KernelState → Shell → Invocation → Left (Task S)
+start_named m s shell invocation =
+    started_by m s shell invocation (located_of s.machine.files shell.vars invocation.name)
 
-abbrev pub start_turn : {S : Type 0} → Meaning S → KernelState → ℕ → Environment → List (List ℕ) → Left S
-start_turn m s pid env [] = with_process s (shell_at env (Starting []))
-start_turn m s pid env (name ∷ operands) = start_named m s pid env name operands
+abbrev pub start_turn : {S : Type 0} → Meaning S → KernelState → Shell → List (List ℕ) → Left (Task S)
+start_turn m s shell [] = with_next s (shell_at shell (Starting []))
+start_turn m s shell (name ∷ operands) = start_named m s shell (record { name = name; operands = operands })
 
 -- what a shell is about to start
 abbrev pub starting_at : Action → Option (List (List ℕ))
-starting_at (Reading rest) = None
+starting_at (Reading rest status) = None
 starting_at (Expanding wants pending) = None
 starting_at (ReadSubstitution substitution) = None
 starting_at (WaitSubstitution substitution) = None

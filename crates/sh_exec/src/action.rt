@@ -22,7 +22,7 @@ fn action_at(place: &Action) -> Next<'_>
     ensures { action_of result ≡ action_at place.now }
 {
     match place {
-        Action::Reading(_) => Next::Other,
+        Action::Reading(_, _) => Next::Other,
         Action::Expanding(_, _) => Next::Other,
         Action::ReadSubstitution(substitution) => collecting(substitution.aside),
         Action::WaitSubstitution(substitution) => Next::Wait(substitution.children.as_slice()),

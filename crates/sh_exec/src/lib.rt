@@ -2,7 +2,6 @@
 #![tactic(auto)]
 
 mod action;
-mod process;
 mod program;
 mod script;
 mod search;
@@ -11,7 +10,6 @@ mod shell;
 mod start;
 mod task;
 
-pub use process::Process;
 pub use search::{Located, MAX_SCRIPT, locate};
 pub use settings::{Settings, Source};
 pub use task::Task;

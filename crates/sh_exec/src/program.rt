@@ -2,9 +2,8 @@
 ghost use Rattle.std.specs.Prelude.{◌≡◌, IfOk, drop};
 ghost use Rattle.sh_kernel.specs.State.{KernelState, StandsAt};
 ghost use Rattle.sh_tty.specs.Terminal.{Extends};
-ghost use Rattle.sh_exec.specs.Programs.{HasLeft, ask_turn, asking, end_turn, read_by, read_turn, write_by, write_turn};
+ghost use Rattle.sh_exec.specs.Programs.{HasLeft, ask_turn, asking, asks, end_turn, read_by, read_turn, write_by, write_turn};
 
-use crate::process::Process;
 use sh_base::NoMemory;
 use sh_base::sequence::Text;
 use sh_exec_machine::{ReadOutcome, WriteOutcome, give_bytes, take_bytes};
@@ -19,7 +18,7 @@ pub(crate) fn asking<S: Stock>(
     answer: Answer,
 ) -> Result<Ask, NoMemory>
     ensures { IfOk result (λ ask.
-        Process.Asks ask program.new ≡ asking S.meaning program.old answer) }
+        asks ask program.new ≡ asking S.meaning program.old answer) }
 {
     program.turn(alloc, answer)
 }
@@ -32,7 +31,7 @@ fn read_by<S: Stock>(
     taken: ReadOutcome,
 ) -> Result<Ask, NoMemory>
     ensures { IfOk result (λ ask.
-        Process.Asks ask program.new ≡ read_by S.meaning count program.old taken) }
+        asks ask program.new ≡ read_by S.meaning count program.old taken) }
 {
     match taken {
         ReadOutcome::Bytes(bytes) => asking(alloc, program, Answer::Bytes(bytes)),
@@ -51,7 +50,7 @@ fn read_turn<S: Stock>(
     program: &mut S,
 ) -> Result<Ask, NoMemory>
     ensures state { (s : KernelState) → StandsAt kernel.old s → IfOk result (λ ask.
-        HasLeft kernel.new (Process.Asks ask program.new)
+        HasLeft kernel.new (asks ask program.new)
         (read_turn S.meaning s pid count program.old)) }
     ensures terminal { kernel.new.terminal.bytes ≡ kernel.old.terminal.bytes }
 {
@@ -77,7 +76,7 @@ fn write_by<S: Stock>(
     given: WriteOutcome,
 ) -> Result<Ask, NoMemory>
     ensures { IfOk result (λ ask.
-        Process.Asks ask program.new ≡ write_by S.meaning bytes program.old given) }
+        asks ask program.new ≡ write_by S.meaning bytes program.old given) }
 {
     match given {
         WriteOutcome::Whole => asking(alloc, program, Answer::Done),
@@ -101,7 +100,7 @@ fn write_turn<S: Stock>(
     program: &mut S,
 ) -> Result<Ask, NoMemory>
     ensures state { (s : KernelState) → StandsAt kernel.old s → IfOk result (λ ask.
-        HasLeft kernel.new (Process.Asks ask program.new)
+        HasLeft kernel.new (asks ask program.new)
         (write_turn S.meaning s pid bytes program.old)) }
     ensures terminal { Extends kernel.old.terminal.bytes kernel.new.terminal.bytes }
 {
@@ -114,7 +113,7 @@ fn write_turn<S: Stock>(
 #[tactic(auto, unfolding(crate::specs::Programs::end_turn))]
 fn end_turn<S: Stock>(kernel: &mut Kernel, pid: u32, status: u8, _program: &mut S) -> Ask
     ensures state { (s : KernelState) → StandsAt kernel.old s
-        → HasLeft kernel.new (Process.Asks result _program.new)
+        → HasLeft kernel.new (asks result _program.new)
         (end_turn s pid status _program.old) }
     ensures terminal { kernel.new.terminal.bytes ≡ kernel.old.terminal.bytes }
 {
@@ -132,7 +131,7 @@ pub(crate) fn ask_turn<S: Stock>(
     program: &mut S,
 ) -> Result<Ask, NoMemory>
     ensures state { (s : KernelState) → StandsAt kernel.old s → IfOk result (λ next.
-        HasLeft kernel.new (Process.Asks next program.new)
+        HasLeft kernel.new (asks next program.new)
         (ask_turn S.meaning s pid ask program.old)) }
     ensures terminal { Extends kernel.old.terminal.bytes kernel.new.terminal.bytes }
 {

@@ -6,6 +6,7 @@ ghost use Rattle.sh_exec.specs.Scripts.{missing, place_by, script_place, unreada
 use crate::MAX_SCRIPT;
 use sh_base::NoMemory;
 use sh_base::sequence::Text;
+use sh_exec_command::status::{CANNOT_EXECUTE, NOT_FOUND};
 use sh_exec_command::{Action, Finish};
 use sh_exec_parts::Rest;
 use sh_exec_parts::message::{cannot_execute, not_found};
@@ -17,7 +18,7 @@ fn missing(alloc: Global, path: &[u8]) -> Result<Action, NoMemory>
     ensures { IfOk result (λ place. place ≡ missing path.now) }
 {
     let piece = not_found(alloc, path)?;
-    Ok(Action::Writing(piece, Finish::Leave(127)))
+    Ok(Action::Writing(piece, Finish::Fault(NOT_FOUND)))
 }
 
 /// The first place of a shell whose script can't be read.
@@ -25,16 +26,16 @@ fn unreadable(alloc: Global, path: &[u8]) -> Result<Action, NoMemory>
     ensures { IfOk result (λ place. place ≡ unreadable path.now) }
 {
     let piece = cannot_execute(alloc, path)?;
-    Ok(Action::Writing(piece, Finish::Leave(126)))
+    Ok(Action::Writing(piece, Finish::Fault(CANNOT_EXECUTE)))
 }
 
 /// The first place of a shell that reads these bytes.
 fn reading(alloc: Global, bytes: &[u8]) -> Result<Action, NoMemory>
-    ensures { IfOk result (λ place. place ≡ Action.Reading bytes.now) }
+    ensures { IfOk result (λ place. place ≡ Action.Reading bytes.now 0) }
 {
     let mut text = Text::new(alloc);
     text.extend_from_slice(bytes)?;
-    Ok(Action::Reading(Rest::new(text)))
+    Ok(Action::Reading(Rest::new(text), 0))
 }
 
 /// The first place of a shell whose script is this regular file.

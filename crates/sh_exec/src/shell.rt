@@ -12,7 +12,7 @@ fn starting_at(place: &Action) -> Option<&Sequence<Text>>
     ensures { option_map (λ fields. fields.now) result ≡ starting_at place.now }
 {
     match place {
-        Action::Reading(_) => None,
+        Action::Reading(_, _) => None,
         Action::Expanding(_, _) => None,
         Action::ReadSubstitution(_) => None,
         Action::WaitSubstitution(_) => None,

@@ -1,30 +1,48 @@
-//! Processes with their numbers.
+//! Processes.
 ghost use Rattle.std.specs.Prelude.{◌≡◌, IfOk, option_map};
-ghost use Rattle.sh_exec.specs.Actions.{action_of};
-ghost use Rattle.sh_exec.specs.Tasks.{HasTurned, first_place, first_task, frames_of, made_task, task_turn};
 ghost use Rattle.sh_kernel.specs.State.{KernelState, StandsAt};
+ghost use Rattle.sh_kernel.specs.Turns as next;
 ghost use Rattle.sh_kernel.specs.Turns.{can_do};
 ghost use Rattle.sh_tty.specs.Terminal.{Extends};
+ghost use Rattle.sh_exec_shell.specs.Reduction.{shell_turn};
+ghost use Rattle.sh_exec.specs.Actions.{action_of};
+ghost use Rattle.sh_exec.specs.Programs.{HasLeft};
+ghost use Rattle.sh_exec.specs.Starting.{start_turn};
+ghost use Rattle.sh_exec.specs.Tasks.{first_place, first_task, frames_of, pid_of};
+ghost use Rattle.sh_exec.specs.Turns.{IsTurned, by_shell, made_task, turn};
 
-use crate::process::Process;
+use crate::action::{action_in, asked};
+use crate::program::ask_turn;
 use crate::script::script_place;
 use crate::settings::{Settings, Source};
+use crate::shell::starting_of;
+use crate::start::start_turn;
 use sh_base::NoMemory;
+use sh_base::sequence::{Sequence, Text};
+use sh_builtin::Shell;
 use sh_exec_command::Action;
 use sh_exec_forms::Form;
 use sh_exec_parts::Rest;
-use sh_exec_shell::{Child, Shell};
+use sh_exec_shell::Interpreter;
 use sh_files::Files;
-use sh_kernel::{FIRST_PID, Kernel};
-use sh_stock::Stock;
+use sh_kernel::{FIRST_PID, Kernel, Next};
+use sh_stock::{Ask, Stock};
 use sh_vars::Vars;
 use std::alloc::Global;
+use std::mem;
 
-/// A process that lives: its number, and what it runs.
+/// A process that lives, and what it runs.
 #[derive(Drop)]
-pub struct Task<S: Stock> {
-    pub pid: u32,
-    pub process: Process<S>,
+pub enum Task<S: Stock> {
+    /// A shell.
+    Runs(Interpreter),
+    /// A program of the stock, and what it asks.
+    Asks {
+        /// The number of the process.
+        pid: u32,
+        ask: Ask,
+        program: S,
+    },
 }
 
 /// The first place of the first shell.
@@ -32,21 +50,53 @@ fn first_place(alloc: Global, image: &Files, source: Source) -> Result<Action, N
     ensures { IfOk result (λ place. place ≡ first_place image.now source) }
 {
     match source {
-        Source::Text(text) => Ok(Action::Reading(Rest::new(text))),
+        Source::Text(text) => Ok(Action::Reading(Rest::new(text), 0)),
         Source::Script(path) => script_place(alloc, image, path.as_slice()),
     }
 }
 
 /// The process that a shell made.
-fn made<S: Stock>(child: Option<Child>) -> Option<Task<S>>
+fn made<S: Stock>(child: Option<Interpreter>) -> Option<Task<S>>
     ensures { result ≡ option_map made_task child }
 {
     match child {
         None => None,
-        Some(Child { pid, shell }) => Some(Task {
-            pid,
-            process: Process::Runs(shell),
-        }),
+        Some(interpreter) => Some(Task::Runs(interpreter)),
+    }
+}
+
+/// A turn of a shell that is about to start nothing.
+fn shell_turn<S: Stock>(
+    alloc: Global,
+    kernel: &mut Kernel,
+    interpreter: &mut Interpreter,
+) -> Result<Option<Task<S>>, NoMemory>
+    ensures state { (s : KernelState) → StandsAt kernel.old s → IfOk result (λ child.
+        IsTurned kernel.new (Task.Runs interpreter.new) child
+        (by_shell (shell_turn s interpreter.old))) }
+    ensures terminal { Extends kernel.old.terminal.bytes kernel.new.terminal.bytes }
+{
+    let child = interpreter.turn(alloc, kernel)?;
+    Ok(made(child))
+}
+
+/// The turn in which a shell's process starts what these fields name, with a copy of its environment.
+fn start_from<S: Stock>(
+    alloc: Global,
+    kernel: &mut Kernel,
+    interpreter: &Interpreter,
+    fields: Sequence<Text>,
+) -> Result<Task<S>, NoMemory>
+    ensures state { (s : KernelState) → StandsAt kernel.old s → IfOk result (λ task.
+        HasLeft kernel.new task (start_turn S.meaning s interpreter.now.shell fields)) }
+    ensures terminal { kernel.new.terminal ≡ kernel.old.terminal }
+{
+    match interpreter.shell().copy() {
+        Ok(shell) => start_turn(alloc, kernel, shell, fields),
+        Err(error) => {
+            drop(fields);
+            Err(NoMemory::from(error))
+        },
     }
 }
 
@@ -67,35 +117,77 @@ impl<S: Stock> Task<S> {
         vars.set_positional(args.into_vec());
         vars.set_options(options);
         let place = first_place(alloc, image, source)?;
-        Ok(Task {
+        let shell = Shell {
             pid: FIRST_PID,
-            process: Process::Runs(Shell::at(alloc, vars, place)),
-        })
+            vars,
+        };
+        Ok(Task::Runs(Interpreter::at(alloc, shell, place)))
+    }
+
+    /// The number of the process. Takes no memory.
+    pub fn pid(&self) -> u32
+        ensures { result ≡ pid_of self.now }
+    {
+        match self {
+            Task::Runs(interpreter) => interpreter.shell().pid,
+            Task::Asks { pid, .. } => *pid,
+        }
     }
 
     /// One turn of the process, and the process that it made, if it made one. The only error is want of memory, after which
     /// the process is given up.
+    #[tactic(auto, using(crate::proofs::Extending::unchanged))]
     pub fn turn(&mut self, alloc: Global, kernel: &mut Kernel) -> Result<Option<Task<S>>, NoMemory>
         ensures state { (s : KernelState) → StandsAt kernel.old s → IfOk result (λ child.
-            HasTurned kernel.new self.new child (task_turn S.meaning s self.old)) }
+            IsTurned kernel.new self.new child (turn S.meaning s self.old)) }
         ensures terminal { Extends kernel.old.terminal.bytes kernel.new.terminal.bytes }
     {
-        let child = self.process.turn(alloc, kernel, self.pid)?;
-        Ok(made(child))
+        match self {
+            Task::Runs(interpreter) => match starting_of(alloc, interpreter.active())? {
+                Some(fields) => {
+                    let next = start_from(alloc, kernel, interpreter, fields)?;
+                    drop(mem::replace(self, next));
+                    Ok(None)
+                },
+                None => {
+                    let child = shell_turn(alloc, kernel, interpreter)?;
+                    Ok(child)
+                },
+            },
+            Task::Asks { pid, ask, program } => {
+                let last = mem::replace(ask, Ask::Idle);
+                let next = ask_turn(alloc, kernel, *pid, last, program)?;
+                *ask = next;
+                Ok(None)
+            },
+        }
+    }
+
+    /// The running forms of a shell round the place where it acts, the outermost first; none of a program. Takes no memory.
+    pub fn frames(&self) -> &[Form]
+        ensures { result.now ≡ frames_of self.now }
+    {
+        match self {
+            Task::Runs(interpreter) => interpreter.frames(),
+            Task::Asks { .. } => &[],
+        }
+    }
+
+    /// What the process does in its next turn.
+    fn next(&self) -> Next<'_>
+        ensures { next.action_of result ≡ action_of self.now }
+    {
+        match self {
+            Task::Runs(interpreter) => action_in(interpreter.active()),
+            Task::Asks { ask, .. } => asked(ask),
+        }
     }
 
     /// Whether it can take a turn: it is neither stopped nor ended, and its next action need not wait. Takes no memory.
     pub fn is_runnable(&self, kernel: &Kernel) -> bool
         ensures { (s : KernelState) → StandsAt kernel.now s
-            → result ≡ can_do s self.now.pid (action_of self.now.process) }
+            → result ≡ can_do s (pid_of self.now) (action_of self.now) }
     {
-        self.process.is_runnable(kernel, self.pid)
-    }
-
-    /// The running forms of a shell round the place where it acts, the outermost first; none of a program. Takes no memory.
-    pub fn frames(&self) -> &[Form]
-        ensures { result.now ≡ frames_of self.now.process }
-    {
-        self.process.frames()
+        kernel.runnable(self.pid(), self.next())
     }
 }

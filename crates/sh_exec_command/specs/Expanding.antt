@@ -1,6 +1,7 @@
 -- The expansion turn of a simple command's words (XCU 2.9.1.1, steps 1 and 2): always from the first word, in the variables at
 -- its start, with the answers so far.
 use Rattle.std.specs.Prelude.{ℕ, List, [], Bool, Option, Some, None}
+use Rattle.sh_exec_command.specs.Statuses as statuses
 use Rattle.sh_exec_parts.specs.Messages.{fault_text, message}
 use Rattle.sh_exec_parts.specs.Simple.{items_of, wanted_of}
 use Rattle.sh_exec_command.specs.Answers.{expansion_with}
@@ -9,7 +10,7 @@ use Rattle.sh_exec_command.specs.declared.running.Active.{Active}
 use Rattle.sh_exec_command.specs.declared.running.Active.TheVariants.{Next}
 use Rattle.sh_exec_command.specs.declared.running.Expanded.{Expanded}
 use Rattle.sh_exec_command.specs.declared.running.Expanded.TheVariants.{Need, Go}
-use Rattle.sh_exec_command.specs.declared.running.Finish.TheVariants.{Leave}
+use Rattle.sh_exec_command.specs.declared.running.Finish.TheVariants.{Fault}
 use Rattle.sh_exec_command.specs.declared.running.Move.TheVariants.{At}
 use Rattle.sh_exec_command.specs.declared.running.Pending.{Pending}
 use Rattle.sh_exec_command.specs.declared.running.Action.TheVariants.{Writing}
@@ -29,9 +30,9 @@ abbrev pub start_of : Environment → Option Pending → Pending
 start_of env None = record { start = env; answers = [] }
 start_of env (Some pending) = pending
 
--- an error that ends the shell with status 2 (2.8.1), once its message is written
+-- an error that ends the shell (2.8.1), once its message is written
 abbrev pub fatal : List ℕ → Active
-fatal text = Next (Writing (message text) (Leave 2))
+fatal text = Next (Writing (message text) (Fault statuses.error))
 
 -- what the words come to; what was assigned before a fault stays
 abbrev pub words_by : Command → (in_place : Bool) → (status : ℕ) → Pending → expanding.Result → Turn

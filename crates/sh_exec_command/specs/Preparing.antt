@@ -1,5 +1,6 @@
 -- A simple command (XCU 2.9.1) from its tree to the place of its first action, and from its expanded words to what it does.
 use Rattle.std.specs.Prelude.{ℕ, List, [], ◌∷◌, ◌||◌, not, Bool, true, false, Option, Some, None, length, if◌then◌else◌}
+use Rattle.sh_exec_command.specs.Statuses as statuses
 use Rattle.std.specs.List.{list_any}
 use Rattle.sh_builtin.specs.Builtins.{builtin_of, is_special}
 use Rattle.sh_builtin.specs.declared.builtin.Builtin.{Builtin}
@@ -11,7 +12,7 @@ use Rattle.sh_exec_parts.specs.declared.simple.Assignment.{Assignment}
 use Rattle.sh_exec_command.specs.declared.running.Active.{Active}
 use Rattle.sh_exec_command.specs.declared.running.Active.TheVariants.{Acting, Next, Done}
 use Rattle.sh_exec_command.specs.declared.running.Finish.{Finish}
-use Rattle.sh_exec_command.specs.declared.running.Finish.TheVariants.{Status, Leave}
+use Rattle.sh_exec_command.specs.declared.running.Finish.TheVariants.{Status, Fault}
 use Rattle.sh_exec_command.specs.declared.running.Move.{Move}
 use Rattle.sh_exec_command.specs.declared.running.Move.TheVariants.{At, Held}
 use Rattle.sh_exec_command.specs.declared.running.Action.{Action}
@@ -74,13 +75,13 @@ prepared_of env items fields status =
 -- ---- what it does, once all else is done
 -- an error ends the shell in a special built-in (2.8.1), and in the process that was to become a program
 abbrev pub failing : Bool → Finish
-failing true = Leave 2
-failing false = Status 2
+failing true = Fault statuses.error
+failing false = Status statuses.error
 
 abbrev pub failing_of : Role → Finish
-failing_of role.NoCommandName = Status 2
+failing_of role.NoCommandName = Status statuses.error
 failing_of (role.Builtin builtin) = failing (is_special builtin)
-failing_of role.Program = Leave 2
+failing_of role.Program = Fault statuses.error
 
 abbrev pub performed_by : ExpandedCommand → Role → Move
 performed_by p role.NoCommandName = Held p.undo (Done p.status)

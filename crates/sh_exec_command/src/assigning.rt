@@ -1,5 +1,6 @@
 //! The assignment turn of a simple command.
 ghost use Rattle.std.specs.Prelude.{◌≡◌, ◌∷◌, [], IfOk, IsTrue, OnOk};
+ghost use Rattle.sh_exec_command.specs.Statuses as statuses;
 ghost use Rattle.sh_exec_command.specs.Answers.{expansion_with, result_of};
 ghost use Rattle.sh_exec_command.specs.Assigning.{assign_turn, assignments_turn, assigned_by, assigned_one, is_passing, is_undone, may_set, with_saved_variable, fatal_step, text_of, undo_with, value_of, value_wanted, value_step, with_assigned};
 ghost use Rattle.sh_exec_parts.specs.Messages.{fault_text};
@@ -148,7 +149,7 @@ fn note(
 fn stop(prepared: ExpandedCommand, piece: Piece) -> Assigned
     ensures { result ≡ Assigned.Over
         (Expanded.Go
-        (Move.Held prepared.undo (Active.Next (Action.Writing piece (Finish.Leave 2))))) }
+        (Move.Held prepared.undo (Active.Next (Action.Writing piece (Finish.Fault statuses.error))))) }
 {
     let ExpandedCommand { undo, .. } = prepared;
     Assigned::Over(Expanded::Go(Move::Held(undo, fatal_message(piece))))

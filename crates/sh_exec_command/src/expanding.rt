@@ -1,5 +1,6 @@
 //! The expansion turn of a simple command's words.
 ghost use Rattle.std.specs.Prelude.{◌≡◌, IfOk};
+ghost use Rattle.sh_exec_command.specs.Statuses as statuses;
 ghost use Rattle.sh_exec_command.specs.Answers.{expansion_with, result_of};
 ghost use Rattle.sh_exec_parts.specs.Messages.{fault_text};
 ghost use Rattle.sh_exec_parts.specs.Simple.{items_of, wanted_of};
@@ -10,6 +11,7 @@ ghost use Rattle.sh_expand.specs.Expanding as expanding;
 use crate::answers::expand;
 use crate::preparing::{begin_command, prepare};
 use crate::running::{Action, Active, Expanded, Finish, Move, Pending, ToExpand};
+use crate::status::ERROR;
 use sh_base::NoMemory;
 use sh_base::sequence::{Sequence, Text};
 use sh_base::shared::Shared;
@@ -50,9 +52,9 @@ pub(crate) fn start(
 
 /// An error that ends the shell, whose message is this.
 pub(crate) fn fatal_message(piece: Piece) -> Active
-    ensures { result ≡ Active.Next (Action.Writing piece (Finish.Leave 2)) }
+    ensures { result ≡ Active.Next (Action.Writing piece (Finish.Fault statuses.error)) }
 {
-    Active::Next(Action::Writing(piece, Finish::Leave(2)))
+    Active::Next(Action::Writing(piece, Finish::Fault(ERROR)))
 }
 
 /// What the words of a command and of its redirections come to, from the first one on, with the answers so far.

@@ -11,6 +11,7 @@ mod preparing;
 mod reading;
 mod running;
 mod series;
+pub mod status;
 mod undo;
 
 pub use assigning::assign_turn;

@@ -3,6 +3,7 @@ ghost use Rattle.std.specs.Prelude.{◌≡◌, IfOk};
 ghost use Rattle.sh_exec_command.specs.Preparing.{ahead, first_move, failing, failing_of, first_place, forks, nameless, no_undo, not_done, final_move, prepared_of, role_by, role_of, wants_of};
 
 use crate::running::{Action, Active, ExpandedCommand, Finish, Move, Role, ToExpand, Undo};
+use crate::status::ERROR;
 use sh_base::NoMemory;
 use sh_base::sequence::{Sequence, Text, copies_of};
 use sh_base::shared::Shared;
@@ -121,9 +122,9 @@ fn failing(is_special: bool) -> Finish
     ensures { result ≡ failing is_special }
 {
     if is_special {
-        return Finish::Leave(2);
+        return Finish::Fault(ERROR);
     }
-    Finish::Status(2)
+    Finish::Status(ERROR)
 }
 
 /// What follows the message of a redirection that can't be done.
@@ -131,9 +132,9 @@ fn failing_of(role: Role) -> Finish
     ensures { result ≡ failing_of role }
 {
     match role {
-        Role::NoCommandName => Finish::Status(2),
+        Role::NoCommandName => Finish::Status(ERROR),
         Role::Builtin(builtin) => failing(builtin.is_special()),
-        Role::Program => Finish::Leave(2),
+        Role::Program => Finish::Fault(ERROR),
     }
 }
 

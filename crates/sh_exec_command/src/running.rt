@@ -126,7 +126,7 @@ pub enum Finish {
     /// The command is done with this status.
     Status(u8),
     /// An error ends the shell with this status (2.8.1).
-    Leave(u8),
+    Fault(u8),
     /// A built-in has still to say this.
     Messages(Report),
     /// That was the output of this built-in, which has still to say this. A write that fails gives it the status 1, and a message before
@@ -137,8 +137,9 @@ pub enum Finish {
 /// The next action of a shell.
 #[derive(Drop)]
 pub enum Action {
-    /// Read the next complete command of the rest of a text (2.1).
-    Reading(Rest),
+    /// Read the next complete command of the rest of a text (2.1). The status is that of the text's last command, and 0 before the
+    /// first one.
+    Reading(Rest, u8),
     /// Expand, with the answers so far if there were needs before.
     Expanding(ToExpand, Option<Pending>),
     /// Read what a command substitution's process writes.

@@ -2,6 +2,7 @@
 use Rattle.std.proofs.Common.{◌≡◌, ◌<◌, ℕ, arith, length, List, [], ◌∷◌, ◌||◌, Bool, true, false, refl, sym, ap, subst, ◌∙◌}
 use Rattle.sh_exec_command.specs.declared.running.Active.TheVariants.{Acting, Next, Done, Leaving}
 use Rattle.sh_builtin.specs.declared.outcome.Leave.{Leave}
+use Rattle.sh_builtin.specs.declared.shell.Shell.{Shell}
 use Rattle.sh_exec_command.specs.declared.running.Active.{Active}
 use Rattle.sh_exec_forms.specs.Forms.{Acted, HasGone, IsOnWay, after, after_by, after_leave, after_status, at_action, outward, step_run, with_run}
 use Rattle.sh_exec_forms.specs.Frames.{Goes, IsFewer, Leaves, active_in, has_loop, is_loop, is_over, run_in, run_of}
@@ -10,29 +11,28 @@ use Rattle.sh_exec_forms.specs.declared.form.Form.{Form}
 use Rattle.sh_exec_forms.specs.declared.step.Step.{Step}
 use Rattle.sh_exec_forms.specs.declared.step.Step.TheVariants.{Outward, Inward}
 use Rattle.sh_kernel.specs.State.{KernelKept, KernelState, StandsAt}
-use Rattle.sh_vars.specs.Environment.{Environment}
 
 -- a tree is settled from the innermost form outward
-pub by_forms : (pid : ℕ) (forms : List Form) (s : KernelState) (env : Environment) (run : Run)
-    → at_action pid false s env (run_in forms run) ≡ outward pid forms (at_action pid (has_loop forms) s env run)
-by_forms pid [] s env run = refl
-by_forms pid (form ∷ forms) s env run = by_forms pid forms s env (In form run)
+pub by_forms : (forms : List Form) (s : KernelState) (shell : Shell) (run : Run)
+    → at_action false s shell (run_in forms run) ≡ outward forms (at_action (has_loop forms) s shell run)
+by_forms [] s shell run = refl
+by_forms (form ∷ forms) s shell run = by_forms forms s shell (In form run)
 
 -- where nothing is over no form around it changes
-over_stays : (pid : ℕ) (looped : Bool) (form : Form) (s : KernelState) (env : Environment) (run : Run) → is_over run ≡ false
-    → after pid looped form (with_run s env run) ≡ with_run s env (In form run)
+over_stays : (looped : Bool) (form : Form) (s : KernelState) (shell : Shell) (run : Run) → is_over run ≡ false
+    → after looped form (with_run s shell run) ≡ with_run s shell (In form run)
 unfolding after
-over_stays pid looped form s env (At (Acting builtin fields)) h = refl
-over_stays pid looped form s env (At (Next place)) h = refl
-over_stays pid looped form s env (At (Done status)) h = absurd (cc h)
-over_stays pid looped form s env (At (Leaving leave)) h = absurd (cc h)
-over_stays pid looped form s env (In inner run) h = refl
+over_stays looped form s shell (At (Acting builtin fields)) h = refl
+over_stays looped form s shell (At (Next place)) h = refl
+over_stays looped form s shell (At (Done status)) h = absurd (cc h)
+over_stays looped form s shell (At (Leaving leave)) h = absurd (cc h)
+over_stays looped form s shell (In inner run) h = refl
 
-pub stays : (pid : ℕ) (forms : List Form) (s : KernelState) (env : Environment) (run : Run) → is_over run ≡ false
-    → outward pid forms (with_run s env run) ≡ with_run s env (run_in forms run)
-stays pid [] s env run h = refl
-stays pid (form ∷ forms) s env run h =
-    ap (outward pid forms) (over_stays pid (has_loop forms) form s env run h) ∙ stays pid forms s env (In form run) refl
+pub stays : (forms : List Form) (s : KernelState) (shell : Shell) (run : Run) → is_over run ≡ false
+    → outward forms (with_run s shell run) ≡ with_run s shell (run_in forms run)
+stays [] s shell run h = refl
+stays (form ∷ forms) s shell run h =
+    ap (outward forms) (over_stays (has_loop forms) form s shell run h) ∙ stays forms s shell (In form run) refl
 
 -- what was entered, or is over, runs at its place
 pub goes_runs : (step : Step) (now before : List Form) (run : Run) → Goes step now before run → run_of now (active_in step) ≡ run_in before run
@@ -48,63 +48,63 @@ fewer (Outward active) now rest before form e h = omega (arith, ap length e, ap 
 fewer (Inward active) now rest before form e h = tt
 
 -- a form goes on, and what is around it with it
-form_on_way : (pid : ℕ) (kernel : KernelKept) (env : Environment) (now rest : List Form) (step : Step) (a : Acted)
-    → HasGone kernel env now rest step a → step_run pid now a.machine env step ≡ outward pid rest a
-form_on_way pid kernel env now rest (Outward active) a g =
-    ap (λ forms. outward pid forms (with_run a.machine env (At active))) (g.goes.0)
-    ∙ ap (λ these. outward pid rest (with_run a.machine these (At active))) g.environment
-    ∙ ap (λ run. outward pid rest (with_run a.machine a.environment run)) (sym g.goes.1)
-form_on_way pid kernel env now rest (Inward active) a g =
-    ap (with_run a.machine env) g.goes.0
-    ∙ ap (λ these. with_run a.machine these (run_in rest a.run)) g.environment
-    ∙ sym (stays pid rest a.machine a.environment a.run g.goes.1)
+form_on_way : (kernel : KernelKept) (shell : Shell) (now rest : List Form) (step : Step) (a : Acted)
+    → HasGone kernel shell now rest step a → step_run now a.machine shell step ≡ outward rest a
+form_on_way kernel shell now rest (Outward active) a g =
+    ap (λ forms. outward forms (with_run a.machine shell (At active))) (g.goes.0)
+    ∙ ap (λ these. outward rest (with_run a.machine these (At active))) g.shell_is
+    ∙ ap (λ run. outward rest (with_run a.machine a.shell run)) (sym g.goes.1)
+form_on_way kernel shell now rest (Inward active) a g =
+    ap (with_run a.machine shell) g.goes.0
+    ∙ ap (λ these. with_run a.machine these (run_in rest a.run)) g.shell_is
+    ∙ sym (stays rest a.machine a.shell a.run g.goes.1)
 
-pub on_way : (pid : ℕ) (kernel : KernelKept) (env : Environment) (now rest : List Form) (step : Step) (a : Acted)
-    → HasGone kernel env now rest step a → IsOnWay pid kernel env now step (outward pid rest a)
-on_way pid kernel env now rest step a g = record { machine = a.machine; state = g.state; left = form_on_way pid kernel env now rest step a g }
+pub on_way : (kernel : KernelKept) (shell : Shell) (now rest : List Form) (step : Step) (a : Acted)
+    → HasGone kernel shell now rest step a → IsOnWay kernel shell now step (outward rest a)
+on_way kernel shell now rest step a g = record { machine = a.machine; state = g.state; left = form_on_way kernel shell now rest step a g }
 
-pub ended_on_way : (pid : ℕ) (kernel : KernelKept) (env : Environment) (now rest before : List Form) (form : Form) (step : Step) (s : KernelState) (old : Environment) (status : ℕ)
-    → before ≡ form ∷ rest → HasGone kernel env now rest step (after_status pid form s old status)
-    → IsOnWay pid kernel env now step (outward pid before (with_run s old (At (Done status))))
+pub ended_on_way : (kernel : KernelKept) (shell : Shell) (now rest before : List Form) (form : Form) (step : Step) (s : KernelState) (old : Shell) (status : ℕ)
+    → before ≡ form ∷ rest → HasGone kernel shell now rest step (after_status form s old status)
+    → IsOnWay kernel shell now step (outward before (with_run s old (At (Done status))))
 unfolding after
-ended_on_way pid kernel env now rest before form step s old status e g =
-    subst (λ forms. IsOnWay pid kernel env now step (outward pid forms (with_run s old (At (Done status))))) (sym e)
-    (on_way pid kernel env now rest step (after_status pid form s old status) g)
+ended_on_way kernel shell now rest before form step s old status e g =
+    subst (λ forms. IsOnWay kernel shell now step (outward forms (with_run s old (At (Done status))))) (sym e)
+    (on_way kernel shell now rest step (after_status form s old status) g)
 
-pub left_on_way : (pid : ℕ) (kernel : KernelKept) (env : Environment) (now rest before : List Form) (form : Form) (step : Step) (s : KernelState) (old : Environment) (leave : Leave)
-    → before ≡ form ∷ rest → HasGone kernel env now rest step (after_leave pid (has_loop rest) form s old leave)
-    → IsOnWay pid kernel env now step (outward pid before (with_run s old (At (Leaving leave))))
+pub left_on_way : (kernel : KernelKept) (shell : Shell) (now rest before : List Form) (form : Form) (step : Step) (s : KernelState) (old : Shell) (leave : Leave)
+    → before ≡ form ∷ rest → HasGone kernel shell now rest step (after_leave (has_loop rest) form s old leave)
+    → IsOnWay kernel shell now step (outward before (with_run s old (At (Leaving leave))))
 unfolding after
-left_on_way pid kernel env now rest before form step s old leave e g =
-    subst (λ forms. IsOnWay pid kernel env now step (outward pid forms (with_run s old (At (Leaving leave))))) (sym e)
-    (on_way pid kernel env now rest step (after_leave pid (has_loop rest) form s old leave) g)
+left_on_way kernel shell now rest before form step s old leave e g =
+    subst (λ forms. IsOnWay kernel shell now step (outward forms (with_run s old (At (Leaving leave))))) (sym e)
+    (on_way kernel shell now rest step (after_leave (has_loop rest) form s old leave) g)
 
 -- what isn't over goes on at its place
-pub stays_on_way : (pid : ℕ) (kernel : KernelKept) (env : Environment) (forms : List Form) (s : KernelState) (active same : Active)
+pub stays_on_way : (kernel : KernelKept) (shell : Shell) (forms : List Form) (s : KernelState) (active same : Active)
     → active ≡ same → StandsAt kernel s → is_over (At same) ≡ false
-    → IsOnWay pid kernel env forms (Inward same) (outward pid forms (with_run s env (At active)))
-stays_on_way pid kernel env forms s active same e k h = record {
+    → IsOnWay kernel shell forms (Inward same) (outward forms (with_run s shell (At active)))
+stays_on_way kernel shell forms s active same e k h = record {
   machine = s;
   state = k;
   left =
-      sym (stays pid forms s env (At same) h) ∙ ap (λ this. outward pid forms (with_run s env (At this))) (sym e);
+      sym (stays forms s shell (At same) h) ∙ ap (λ this. outward forms (with_run s shell (At this))) (sym e);
 }
 
 -- what is over with no form around it stays
-pub alone_on_way : (pid : ℕ) (kernel : KernelKept) (env : Environment) (now before : List Form) (s : KernelState) (active same : Active)
+pub alone_on_way : (kernel : KernelKept) (shell : Shell) (now before : List Form) (s : KernelState) (active same : Active)
     → active ≡ same → StandsAt kernel s → before ≡ [] → now ≡ []
-    → IsOnWay pid kernel env now (Inward same) (outward pid before (with_run s env (At active)))
-alone_on_way pid kernel env now before s active same e k b n = record {
+    → IsOnWay kernel shell now (Inward same) (outward before (with_run s shell (At active)))
+alone_on_way kernel shell now before s active same e k b n = record {
   machine = s;
   state = k;
   left =
-      ap (λ forms. with_run s env (run_of forms same)) n ∙ ap (λ this. with_run s env (At this)) (sym e)
-      ∙ ap (λ forms. outward pid forms (with_run s env (At active))) (sym b);
+      ap (λ forms. with_run s shell (run_of forms same)) n ∙ ap (λ this. with_run s shell (At this)) (sym e)
+      ∙ ap (λ forms. outward forms (with_run s shell (At active))) (sym b);
 }
 
 -- one step outward, and the rest of the way
-pub onward : (pid : ℕ) (kernel : KernelKept) (env : Environment) (forms : List Form) (active : Active) (later : KernelKept) (env' : Environment) (forms' : List Form) (step : Step) (a : Acted)
-    → IsOnWay pid kernel env forms (Outward active) a
-    → ((s : KernelState) → StandsAt kernel s → IsOnWay pid later env' forms' step (outward pid forms (with_run s env (At active))))
-    → IsOnWay pid later env' forms' step a
-onward pid kernel env forms active later env' forms' step a g h = subst (IsOnWay pid later env' forms' step) g.left (h g.machine g.state)
+pub onward : (kernel : KernelKept) (shell : Shell) (forms : List Form) (active : Active) (later : KernelKept) (shell' : Shell) (forms' : List Form) (step : Step) (a : Acted)
+    → IsOnWay kernel shell forms (Outward active) a
+    → ((s : KernelState) → StandsAt kernel s → IsOnWay later shell' forms' step (outward forms (with_run s shell (At active))))
+    → IsOnWay later shell' forms' step a
+onward kernel shell forms active later shell' forms' step a g h = subst (IsOnWay later shell' forms' step) g.left (h g.machine g.state)

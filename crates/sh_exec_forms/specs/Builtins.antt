@@ -5,13 +5,13 @@ use Rattle.sh_builtin.specs.declared.builtin.Builtin.{Builtin}
 use Rattle.sh_builtin.specs.declared.outcome.Completion.{Completion}
 use Rattle.sh_builtin.specs.declared.outcome.Completion.TheVariants as completion
 use Rattle.sh_builtin.specs.declared.outcome.Outcome.{Outcome}
+use Rattle.sh_builtin.specs.declared.shell.Shell.{Shell}
 use Rattle.sh_exec_command.specs.declared.running.Active.{Active}
 use Rattle.sh_exec_command.specs.declared.running.Active.TheVariants.{Acting, Next, Done, Leaving}
 use Rattle.sh_exec_command.specs.declared.running.Finish.TheVariants.{Messages, Output}
 use Rattle.sh_exec_command.specs.declared.running.Action.TheVariants.{Writing}
 use Rattle.sh_exec_command.specs.declared.running.Report.{Report}
 use Rattle.sh_kernel.specs.State.{KernelState}
-use Rattle.sh_vars.specs.Environment.{Environment}
 
 abbrev pub at_completion : Completion → Active
 at_completion (completion.Done status) = Done status
@@ -35,20 +35,20 @@ output_of builtin (byte ∷ bytes) report = Next (Writing (record { descriptor =
 abbrev pub behind : Builtin → Outcome → Active
 behind builtin outcome = output_of builtin outcome.out (record { messages = outcome.err; status = outcome.status })
 
--- the environment, and the active place then
+-- the shell, and the active place then
 pub record Performed : Type 0 where
-  pub environment : Environment
+  pub shell : Shell
   pub active : Active
 
-abbrev pub with_active : Environment → Active → Performed
-with_active env active = record { environment = env; active = active }
+abbrev pub with_active : Shell → Active → Performed
+with_active shell active = record { shell = shell; active = active }
 
-unfoldable pub builtin_effect : KernelState → ℕ → Environment → Builtin → List (List ℕ) → Performed
-builtin_effect s pid env builtin fields =
-    let d = built_in s.machine pid env builtin (drop 1 fields) in with_active d.environment (behind builtin d.outcome)
+unfoldable pub builtin_effect : KernelState → Shell → Builtin → List (List ℕ) → Performed
+builtin_effect s shell builtin fields =
+    let d = built_in s.machine shell builtin (drop 1 fields) in with_active d.shell (behind builtin d.outcome)
 
-abbrev pub effect_at : KernelState → ℕ → Environment → Active → Performed
-effect_at s pid env (Acting builtin fields) = builtin_effect s pid env builtin fields
-effect_at s pid env (Next place) = with_active env (Next place)
-effect_at s pid env (Done status) = with_active env (Done status)
-effect_at s pid env (Leaving leave) = with_active env (Leaving leave)
+abbrev pub effect_at : KernelState → Shell → Active → Performed
+effect_at s shell (Acting builtin fields) = builtin_effect s shell builtin fields
+effect_at s shell (Next place) = with_active shell (Next place)
+effect_at s shell (Done status) = with_active shell (Done status)
+effect_at s shell (Leaving leave) = with_active shell (Leaving leave)

@@ -1,6 +1,7 @@
 -- What a form becomes when what runs inside it is done, or leaves it.
 use Rattle.std.specs.Prelude.{◌≡◌, ℕ, zero, suc, List, [], ◌∷◌, ◌||◌, Bool, true, false, Option, Some, None, if◌then◌else◌}
 use Rattle.sh_builtin.specs.declared.outcome.Leave.{Leave}
+use Rattle.sh_builtin.specs.declared.shell.Shell.{Shell}
 use Rattle.sh_builtin.specs.declared.outcome.Leave.TheVariants as leave
 use Rattle.sh_exec_command.specs.Series.{rest_of_series}
 use Rattle.sh_exec_command.specs.Undoing as variables
@@ -30,16 +31,20 @@ use Rattle.sh_syntax.specs.declared.tree.Connector.TheVariants.{And, Or}
 use Rattle.sh_syntax.specs.declared.tree.ElseIf.{ElseIf}
 use Rattle.sh_syntax.specs.declared.tree.LoopKind.{LoopKind}
 use Rattle.sh_syntax.specs.declared.tree.LoopKind.TheVariants.{While, Until}
-use Rattle.sh_vars.specs.Environment.{Environment, with_status}
+use Rattle.sh_vars.specs.Environment.{with_status}
 
--- what an action leaves: the machine, the shell's environment, and what it runs
+-- what an action leaves: the machine, the shell, and what it runs
 pub record Acted : Type 0 where
   pub machine : KernelState
-  pub environment : Environment
+  pub shell : Shell
   pub run : Run
 
-abbrev pub with_run : KernelState → Environment → Run → Acted
-with_run s env run = record { machine = s; environment = env; run = run }
+abbrev pub with_run : KernelState → Shell → Run → Acted
+with_run s shell run = record { machine = s; shell = shell; run = run }
+
+-- the shell behind a command with this status (2.5.2)
+abbrev pub behind_status : Shell → ℕ → Shell
+behind_status shell status = record shell { vars = with_status shell.vars status }
 
 -- `!` (2.9.2)
 abbrev pub negation : ℕ → ℕ
@@ -114,87 +119,88 @@ onward looped (leave.Fault status) = Left (leave.Fault status)
 onward looped (leave.Break inside) = onward_by leave.Break Over (beyond looped inside)
 onward looped (leave.Continue inside) = onward_by leave.Continue On (beyond looped inside)
 
-abbrev pub loop_left : KernelState → Environment → (next : Run) → Onward → Acted
-loop_left s env next (Left leave) = with_run s env (At (Leaving leave))
-loop_left s env next Over = with_run s env (At (Done 0))
-loop_left s env next On = with_run s (with_status env 0) next
+abbrev pub loop_left : KernelState → Shell → (next : Run) → Onward → Acted
+loop_left s shell next (Left leave) = with_run s shell (At (Leaving leave))
+loop_left s shell next Over = with_run s shell (At (Done 0))
+loop_left s shell next On = with_run s (behind_status shell 0) next
 
 -- what a command changed is undone (2.9.1): its redirections, and then its assignments
-unfoldable pub undone : ℕ → Undo → KernelState → Environment → Run → Acted
-undone pid undo s env run =
-    with_run (descriptors.all_restored pid undo.descriptors s) (variables.all_restored undo.variables env) run
+unfoldable pub undone : Undo → KernelState → Shell → Run → Acted
+undone undo s shell run =
+    with_run (descriptors.all_restored shell.pid undo.descriptors s)
+    (record shell { vars = variables.all_restored undo.variables shell.vars }) run
 
--- the next command of a text is read; `$?` is the status of the command before (2.5.2)
-abbrev pub after_status : ℕ → Form → KernelState → Environment → ℕ → Acted
-after_status pid (Text rest) s env status = with_run s env (At (Next (Reading rest)))
-after_status pid (Commands items) s env status = with_run s (with_status env status) (items_run items status)
-after_status pid (Joined others) s env status = with_run s (with_status env status) (connected_run others status)
-after_status pid Negated s env status = with_run s env (At (Done (negation status)))
-after_status pid (Restoring undo) s env status = undone pid undo s env (At (Done status))
-after_status pid (If branches) s env status = with_run s (with_status env status) (branch branches status)
-after_status pid (Condition loop last) s env status = with_run s (with_status env status) (behind_condition loop last status)
-after_status pid (Body loop) s env status = with_run s (with_status env status) (condition_run loop status)
-after_status pid (ForBody series) s env status = with_run s (with_status env status) (At (rest_of_series series status))
+-- the next command of a text is read, behind this status; `$?` is the status of the command before (2.5.2)
+abbrev pub after_status : Form → KernelState → Shell → ℕ → Acted
+after_status (Text rest) s shell status = with_run s shell (At (Next (Reading rest status)))
+after_status (Commands items) s shell status = with_run s (behind_status shell status) (items_run items status)
+after_status (Joined others) s shell status = with_run s (behind_status shell status) (connected_run others status)
+after_status Negated s shell status = with_run s shell (At (Done (negation status)))
+after_status (Restoring undo) s shell status = undone undo s shell (At (Done status))
+after_status (If branches) s shell status = with_run s (behind_status shell status) (branch branches status)
+after_status (Condition loop last) s shell status = with_run s (behind_status shell status) (behind_condition loop last status)
+after_status (Body loop) s shell status = with_run s (behind_status shell status) (condition_run loop status)
+after_status (ForBody series) s shell status = with_run s (behind_status shell status) (At (rest_of_series series status))
 
 -- looped: whether a loop is around the form
-abbrev pub after_leave : ℕ → (looped : Bool) → Form → KernelState → Environment → Leave → Acted
-after_leave pid looped (Text rest) s env leave = with_run s env (At (Leaving leave))
-after_leave pid looped (Commands items) s env leave = with_run s env (At (Leaving leave))
-after_leave pid looped (Joined others) s env leave = with_run s env (At (Leaving leave))
-after_leave pid looped Negated s env leave = with_run s env (At (Leaving leave))
-after_leave pid looped (Restoring undo) s env leave = undone pid undo s env (At (Leaving leave))
-after_leave pid looped (If branches) s env leave = with_run s env (At (Leaving leave))
-after_leave pid looped (Condition loop last) s env leave = loop_left s env (condition_run loop last) (onward looped leave)
-after_leave pid looped (Body loop) s env leave = loop_left s env (condition_run loop 0) (onward looped leave)
-after_leave pid looped (ForBody series) s env leave = loop_left s env (At (rest_of_series series 0)) (onward looped leave)
+abbrev pub after_leave : (looped : Bool) → Form → KernelState → Shell → Leave → Acted
+after_leave looped (Text rest) s shell leave = with_run s shell (At (Leaving leave))
+after_leave looped (Commands items) s shell leave = with_run s shell (At (Leaving leave))
+after_leave looped (Joined others) s shell leave = with_run s shell (At (Leaving leave))
+after_leave looped Negated s shell leave = with_run s shell (At (Leaving leave))
+after_leave looped (Restoring undo) s shell leave = undone undo s shell (At (Leaving leave))
+after_leave looped (If branches) s shell leave = with_run s shell (At (Leaving leave))
+after_leave looped (Condition loop last) s shell leave = loop_left s shell (condition_run loop last) (onward looped leave)
+after_leave looped (Body loop) s shell leave = loop_left s shell (condition_run loop 0) (onward looped leave)
+after_leave looped (ForBody series) s shell leave = loop_left s shell (At (rest_of_series series 0)) (onward looped leave)
 
-abbrev pub after_by : ℕ → (looped : Bool) → Form → KernelState → Environment → Run → Acted
-after_by pid looped form s env (At (Done status)) = after_status pid form s env status
-after_by pid looped form s env (At (Leaving leave)) = after_leave pid looped form s env leave
-after_by pid looped form s env (At (Acting builtin fields)) = with_run s env (In form (At (Acting builtin fields)))
-after_by pid looped form s env (At (Next place)) = with_run s env (In form (At (Next place)))
-after_by pid looped form s env (In inner run) = with_run s env (In form (In inner run))
+abbrev pub after_by : (looped : Bool) → Form → KernelState → Shell → Run → Acted
+after_by looped form s shell (At (Done status)) = after_status form s shell status
+after_by looped form s shell (At (Leaving leave)) = after_leave looped form s shell leave
+after_by looped form s shell (At (Acting builtin fields)) = with_run s shell (In form (At (Acting builtin fields)))
+after_by looped form s shell (At (Next place)) = with_run s shell (In form (At (Next place)))
+after_by looped form s shell (In inner run) = with_run s shell (In form (In inner run))
 
 -- a form again round what an action inside it left
-unfoldable pub after : ℕ → (looped : Bool) → Form → Acted → Acted
-after pid looped form a = after_by pid looped form a.machine a.environment a.run
+unfoldable pub after : (looped : Bool) → Form → Acted → Acted
+after looped form a = after_by looped form a.machine a.shell a.run
 
 -- a built-in acts, and statuses go outward until the place is an action
-abbrev pub at_action : ℕ → (looped : Bool) → KernelState → Environment → Run → Acted
-at_action pid looped s env (At active) =
-    let p = effect_at s pid env active in with_run s p.environment (At (within_loop looped p.active))
-at_action pid looped s env (In form run) = after pid looped form (at_action pid (is_loop form || looped) s env run)
+abbrev pub at_action : (looped : Bool) → KernelState → Shell → Run → Acted
+at_action looped s shell (At active) =
+    let p = effect_at s shell active in with_run s p.shell (At (within_loop looped p.active))
+at_action looped s shell (In form run) = after looped form (at_action (is_loop form || looped) s shell run)
 
 -- the kernel and the shell are what an action leaves
-pub record IsActed (kernel : KernelKept) (env : Environment) (ran : Run) (a : Acted) : Type 0 where
+pub record IsActed (kernel : KernelKept) (shell : Shell) (ran : Run) (a : Acted) : Type 0 where
   pub state : StandsAt kernel a.machine
-  pub environment : env ≡ a.environment
+  pub shell_is : shell ≡ a.shell
   pub run : ran ≡ a.run
 
 -- ---- the same by the list of the forms, the innermost first: each is settled by those that are around it
-abbrev pub outward : ℕ → List Form → Acted → Acted
-outward pid [] a = a
-outward pid (form ∷ forms) a = outward pid forms (after pid (has_loop forms) form a)
+abbrev pub outward : List Form → Acted → Acted
+outward [] a = a
+outward (form ∷ forms) a = outward forms (after (has_loop forms) form a)
 
--- where a shell goes on that changed only its environment, inside the forms that there were before
-pub record Follows (s : KernelState) (env : Environment) (now before : List Form) (step : Step) (a : Acted) : Type 0 where
+-- where a shell goes on that changed only itself, inside the forms that there were before
+pub record Follows (s : KernelState) (shell : Shell) (now before : List Form) (step : Step) (a : Acted) : Type 0 where
   pub machine : a.machine ≡ s
-  pub environment : env ≡ a.environment
+  pub shell_is : shell ≡ a.shell
   pub goes : Goes step now before a.run
 
 -- a kernel and a shell go on so, inside the forms that there were before
-pub record HasGone (kernel : KernelKept) (env : Environment) (now before : List Form) (step : Step) (a : Acted) : Type 0 where
+pub record HasGone (kernel : KernelKept) (shell : Shell) (now before : List Form) (step : Step) (a : Acted) : Type 0 where
   pub state : StandsAt kernel a.machine
-  pub environment : env ≡ a.environment
+  pub shell_is : shell ≡ a.shell
   pub goes : Goes step now before a.run
 
 -- a shell goes on at a step: outward through the forms that are there, or at the place that it gives
-abbrev pub step_run : ℕ → List Form → KernelState → Environment → Step → Acted
-step_run pid forms s env (Outward active) = outward pid forms (with_run s env (At active))
-step_run pid forms s env (Inward active) = with_run s env (run_of forms active)
+abbrev pub step_run : List Form → KernelState → Shell → Step → Acted
+step_run forms s shell (Outward active) = outward forms (with_run s shell (At active))
+step_run forms s shell (Inward active) = with_run s shell (run_of forms active)
 
 -- a kernel and a shell have come to a step on their way to what an action leaves
-pub record IsOnWay (pid : ℕ) (kernel : KernelKept) (env : Environment) (forms : List Form) (step : Step) (a : Acted) : Type 0 where
+pub record IsOnWay (kernel : KernelKept) (shell : Shell) (forms : List Form) (step : Step) (a : Acted) : Type 0 where
   pub machine : KernelState
   pub state : StandsAt kernel machine
-  pub left : step_run pid forms machine env step ≡ a
+  pub left : step_run forms machine shell step ≡ a

@@ -1,19 +1,19 @@
 -- What a shell's process runs: a tree of running forms, with the one place at which it acts.
+use Rattle.sh_builtin.specs.declared.shell.Shell.{Shell}
 use Rattle.sh_exec_command.specs.declared.running.Active.{Active}
 use Rattle.sh_exec_command.specs.declared.running.Move.{Move}
 use Rattle.sh_exec_command.specs.declared.running.Move.TheVariants as move
 use Rattle.sh_exec_forms.specs.declared.form.Form.{Form}
 use Rattle.sh_exec_forms.specs.declared.form.Form.TheVariants.{Restoring}
-use Rattle.sh_vars.specs.Environment.{Environment}
 
 -- an active place, or a form round another tree
 pub data Run : Type 0 where
   At : Active → Run
   In : Form → Run → Run
 
--- a shell: its environment (2.13) and what it runs
-pub record ShellState : Type 0 where
-  pub environment : Environment
+-- a shell (2.13), and what it runs
+pub record InterpreterState : Type 0 where
+  pub shell : Shell
   pub run : Run
 
 -- where a command goes on

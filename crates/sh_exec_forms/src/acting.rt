@@ -5,12 +5,11 @@ ghost use Rattle.sh_kernel.specs.State.{KernelState, StandsAt};
 
 use sh_base::NoMemory;
 use sh_base::sequence::Text;
-use sh_builtin::{Builtin, Completion, Outcome};
+use sh_builtin::{Builtin, Completion, Outcome, Shell};
 use sh_exec_command::{Action, Active, Finish, Report};
 use sh_exec_parts::Queue;
 use sh_exec_parts::message::Piece;
 use sh_kernel::Kernel;
-use sh_vars::Vars;
 use std::alloc::Global;
 
 /// How a built-in ends.
@@ -83,15 +82,14 @@ fn arguments_of(fields: &[Text]) -> &[Text]
 fn build(
     alloc: Global,
     kernel: &Kernel,
-    pid: u32,
-    vars: &mut Vars,
+    shell: &mut Shell,
     builtin: Builtin,
     fields: &[Text],
 ) -> Result<Active, NoMemory>
     ensures { (s : KernelState) → StandsAt kernel.now s → IfOk result (λ active.
-        with_active vars.new active ≡ builtin_effect s pid vars.old builtin fields.now) }
+        with_active shell.new active ≡ builtin_effect s shell.old builtin fields.now) }
 {
-    let outcome = builtin.run(alloc, kernel, pid, vars, arguments_of(fields))?;
+    let outcome = builtin.run(alloc, kernel, shell, arguments_of(fields))?;
     Ok(behind(builtin, outcome))
 }
 
@@ -99,16 +97,15 @@ fn build(
 pub(crate) fn perform(
     alloc: Global,
     kernel: &Kernel,
-    pid: u32,
-    vars: &mut Vars,
+    shell: &mut Shell,
     active: Active,
 ) -> Result<Active, NoMemory>
     ensures { (s : KernelState) → StandsAt kernel.now s → IfOk result (λ next.
-        with_active vars.new next ≡ effect_at s pid vars.old active) }
+        with_active shell.new next ≡ effect_at s shell.old active) }
 {
     match active {
         Active::Acting(builtin, fields) => {
-            let next = build(alloc, kernel, pid, vars, builtin, fields.as_slice())?;
+            let next = build(alloc, kernel, shell, builtin, fields.as_slice())?;
             Ok(next)
         },
         Active::Next(place) => Ok(Active::Next(place)),

@@ -15,13 +15,12 @@ use crate::loops::{bound, leave_loop, leave_series, next_value, repeat, test};
 use crate::step::Step;
 use sh_base::NoMemory;
 use sh_base::shared::Shared;
-use sh_builtin::Leave;
+use sh_builtin::{Leave, Shell};
 use sh_exec_command::{Action, Active, Move, Undo, restore_variables};
 use sh_exec_machine::restore_all;
 use sh_exec_parts::Queue;
 use sh_kernel::Kernel;
 use sh_syntax::tree::{CompoundList, Connected, Connector, ElseIf};
-use sh_vars::Vars;
 use std::alloc::Global;
 
 /// The status of a pipeline after `!`.
@@ -131,21 +130,20 @@ fn branch(
 #[tactic(auto, unfolding(crate::specs::Forms::undone))]
 fn undo(
     kernel: &mut Kernel,
-    pid: u32,
-    vars: &mut Vars,
+    shell: &mut Shell,
     undo: Undo,
     active: Active,
 ) -> Result<Active, NoMemory>
     ensures state { (s : KernelState) → StandsAt kernel.old s → IfOk result (λ next.
-        IsActed kernel.new vars.new (Run.At next) (undone pid undo s vars.old (Run.At active))) }
+        IsActed kernel.new shell.new (Run.At next) (undone undo s shell.old (Run.At active))) }
     ensures terminal { kernel.new.terminal ≡ kernel.old.terminal }
 {
     let Undo {
         descriptors,
         variables,
     } = undo;
-    restore_all(kernel, pid, descriptors);
-    match restore_variables(vars, variables) {
+    restore_all(kernel, shell.pid, descriptors);
+    match restore_variables(&mut shell.vars, variables) {
         Ok(()) => Ok(active),
         Err(refusal) => {
             drop(active);
@@ -159,52 +157,51 @@ fn undo(
 fn end_form(
     alloc: Global,
     kernel: &mut Kernel,
-    pid: u32,
-    vars: &mut Vars,
+    shell: &mut Shell,
     frames: &mut Frames,
     form: Form,
     status: u8,
 ) -> Result<Step, NoMemory>
     ensures state { (s : KernelState) → StandsAt kernel.old s → IfOk result (λ step.
-        HasGone kernel.new vars.new frames.new frames.old step
-        (after_status pid form s vars.old status)) }
+        HasGone kernel.new shell.new frames.new frames.old step
+        (after_status form s shell.old status)) }
     ensures kept { IfOk result (λ step. Leaves step frames.new frames.old) }
     ensures terminal { kernel.new.terminal ≡ kernel.old.terminal }
 {
     match form {
-        Form::Text(rest) => Ok(Step::Inward(Active::Next(Action::Reading(rest)))),
+        Form::Text(rest) => Ok(Step::Inward(Active::Next(Action::Reading(rest, status)))),
         Form::Commands(items) => {
-            vars.set_status(status);
+            shell.vars.set_status(status);
             let step = enter(alloc, frames, items, status)?;
             Ok(step)
         },
         Form::Joined(others) => {
-            vars.set_status(status);
+            shell.vars.set_status(status);
             let step = connect(alloc, frames, others, status)?;
             Ok(step)
         },
         Form::Negated => Ok(Step::Outward(Active::Done(negation(status)))),
         Form::Restoring(change) => {
-            let active = undo(kernel, pid, vars, change, Active::Done(status))?;
+            let active = undo(kernel, shell, change, Active::Done(status))?;
             Ok(Step::Outward(active))
         },
         Form::If(branches) => {
-            vars.set_status(status);
+            shell.vars.set_status(status);
             let step = branch(alloc, frames, branches, status)?;
             Ok(step)
         },
         Form::Condition(looping, last) => {
-            vars.set_status(status);
+            shell.vars.set_status(status);
             let step = test(alloc, frames, looping, last, status)?;
             Ok(step)
         },
         Form::Body(looping) => {
-            vars.set_status(status);
+            shell.vars.set_status(status);
             let step = repeat(alloc, frames, looping, status)?;
             Ok(step)
         },
         Form::ForBody(series) => {
-            vars.set_status(status);
+            shell.vars.set_status(status);
             Ok(next_value(series, status))
         },
     }
@@ -215,15 +212,14 @@ fn end_form(
 fn leave_form(
     alloc: Global,
     kernel: &mut Kernel,
-    pid: u32,
-    vars: &mut Vars,
+    shell: &mut Shell,
     frames: &mut Frames,
     form: Form,
     leave: Leave,
 ) -> Result<Step, NoMemory>
     ensures state { (s : KernelState) → StandsAt kernel.old s → IfOk result (λ step.
-        HasGone kernel.new vars.new frames.new frames.old step
-        (after_leave pid (has_loop frames.old) form s vars.old leave)) }
+        HasGone kernel.new shell.new frames.new frames.old step
+        (after_leave (has_loop frames.old) form s shell.old leave)) }
     ensures kept { IfOk result (λ step. Leaves step frames.new frames.old) }
     ensures terminal { kernel.new.terminal ≡ kernel.old.terminal }
 {
@@ -233,19 +229,19 @@ fn leave_form(
         Form::Joined(_) => Ok(Step::Outward(Active::Leaving(leave))),
         Form::Negated => Ok(Step::Outward(Active::Leaving(leave))),
         Form::Restoring(change) => {
-            let active = undo(kernel, pid, vars, change, Active::Leaving(leave))?;
+            let active = undo(kernel, shell, change, Active::Leaving(leave))?;
             Ok(Step::Outward(active))
         },
         Form::If(_) => Ok(Step::Outward(Active::Leaving(leave))),
         Form::Condition(looping, last) => {
-            let step = leave_loop(alloc, vars, frames, looping, last, leave)?;
+            let step = leave_loop(alloc, shell, frames, looping, last, leave)?;
             Ok(step)
         },
         Form::Body(looping) => {
-            let step = leave_loop(alloc, vars, frames, looping, 0, leave)?;
+            let step = leave_loop(alloc, shell, frames, looping, 0, leave)?;
             Ok(step)
         },
-        Form::ForBody(series) => Ok(leave_series(vars, frames, series, leave)),
+        Form::ForBody(series) => Ok(leave_series(shell, frames, series, leave)),
     }
 }
 
@@ -254,14 +250,13 @@ fn leave_form(
 fn go_outward(
     alloc: Global,
     kernel: &mut Kernel,
-    pid: u32,
-    vars: &mut Vars,
+    shell: &mut Shell,
     frames: &mut Frames,
     active: Active,
 ) -> Result<Step, NoMemory>
     ensures state { (s : KernelState) → StandsAt kernel.old s → IfOk result (λ step.
-        IsOnWay pid kernel.new vars.new frames.new step
-        (outward pid frames.old (with_run s vars.old (Run.At active)))) }
+        IsOnWay kernel.new shell.new frames.new step
+        (outward frames.old (with_run s shell.old (Run.At active)))) }
     ensures fewer { IfOk result (λ step. IsFewer step frames.new frames.old) }
     ensures terminal { kernel.new.terminal ≡ kernel.old.terminal }
 {
@@ -269,11 +264,11 @@ fn go_outward(
         Active::Next(place) => Ok(Step::Inward(Active::Next(place))),
         Active::Acting(builtin, fields) => Ok(Step::Inward(Active::Acting(builtin, fields))),
         Active::Done(status) => match frames.pop() {
-            Some(form) => end_form(alloc, kernel, pid, vars, frames, form, status),
+            Some(form) => end_form(alloc, kernel, shell, frames, form, status),
             None => Ok(Step::Inward(Active::Done(status))),
         },
         Active::Leaving(leave) => match frames.pop() {
-            Some(form) => leave_form(alloc, kernel, pid, vars, frames, form, leave),
+            Some(form) => leave_form(alloc, kernel, shell, frames, form, leave),
             None => Ok(Step::Inward(Active::Leaving(leave))),
         },
     }
@@ -283,19 +278,18 @@ fn go_outward(
 fn settle_outward(
     alloc: Global,
     kernel: &mut Kernel,
-    pid: u32,
-    vars: &mut Vars,
+    shell: &mut Shell,
     frames: &mut Frames,
     active: Active,
 ) -> Result<Active, NoMemory>
     ensures state { (s : KernelState) → StandsAt kernel.old s → IfOk result (λ next.
-        IsActed kernel.new vars.new (run_of frames.new next)
-        (outward pid frames.old (with_run s vars.old (Run.At active)))) }
+        IsActed kernel.new shell.new (run_of frames.new next)
+        (outward frames.old (with_run s shell.old (Run.At active)))) }
     ensures terminal { kernel.new.terminal ≡ kernel.old.terminal }
 {
     let mut active = active;
     'outward: loop {
-        match go_outward(alloc, kernel, pid, vars, frames, active)? {
+        match go_outward(alloc, kernel, shell, frames, active)? {
             Step::Inward(next) => return Ok(next),
             Step::Outward(next) => {
                 active = next;
@@ -309,19 +303,18 @@ fn settle_outward(
 pub fn settle(
     alloc: Global,
     kernel: &mut Kernel,
-    pid: u32,
-    vars: &mut Vars,
+    shell: &mut Shell,
     frames: &mut Frames,
     active: Active,
 ) -> Result<Active, NoMemory>
     ensures state { (s : KernelState) → StandsAt kernel.old s → IfOk result (λ next.
-        IsActed kernel.new vars.new (run_of frames.new next)
-        (at_action pid false s vars.old (run_of frames.old active))) }
+        IsActed kernel.new shell.new (run_of frames.new next)
+        (at_action false s shell.old (run_of frames.old active))) }
     ensures terminal { kernel.new.terminal ≡ kernel.old.terminal }
 {
-    let active = perform(alloc, kernel, pid, vars, active)?;
+    let active = perform(alloc, kernel, shell, active)?;
     let active = bound(frames, active);
-    let active = settle_outward(alloc, kernel, pid, vars, frames, active)?;
+    let active = settle_outward(alloc, kernel, shell, frames, active)?;
     Ok(active)
 }
 

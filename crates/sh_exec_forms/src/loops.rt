@@ -12,10 +12,9 @@ use crate::form::{Form, Loop};
 use crate::frames::Frames;
 use crate::step::Step;
 use sh_base::NoMemory;
-use sh_builtin::Leave;
+use sh_builtin::{Leave, Shell};
 use sh_exec_command::{Active, ForLoop};
 use sh_syntax::tree::LoopKind;
-use sh_vars::Vars;
 use std::alloc::Global;
 
 /// Where a loop goes on that is left.
@@ -86,21 +85,21 @@ fn where_to(frames: &Frames, leave: Leave) -> Onward
 /// A `while` or `until` loop that is left, whose body had this status.
 pub(crate) fn leave_loop(
     alloc: Global,
-    vars: &mut Vars,
+    shell: &mut Shell,
     frames: &mut Frames,
     looping: Loop,
     last: u8,
     leave: Leave,
 ) -> Result<Step, NoMemory>
-    ensures follows { (s : KernelState) → IfOk result (λ step. Follows s vars.new frames.new frames.old step
-        (loop_left s vars.old (condition_run looping last) (onward (has_loop frames.old) leave))) }
+    ensures follows { (s : KernelState) → IfOk result (λ step. Follows s shell.new frames.new frames.old step
+        (loop_left s shell.old (condition_run looping last) (onward (has_loop frames.old) leave))) }
     ensures kept { IfOk result (λ step. Leaves step frames.new frames.old) }
 {
     match where_to(frames, leave) {
         Onward::Left(leave) => Ok(Step::Outward(Active::Leaving(leave))),
         Onward::Over => Ok(Step::Outward(Active::Done(0))),
         Onward::On => {
-            vars.set_status(0);
+            shell.vars.set_status(0);
             let step = repeat(alloc, frames, looping, last)?;
             Ok(step)
         },
@@ -108,15 +107,20 @@ pub(crate) fn leave_loop(
 }
 
 /// A `for` that is left.
-pub(crate) fn leave_series(vars: &mut Vars, frames: &Frames, series: ForLoop, leave: Leave) -> Step
-    ensures { (s : KernelState) → Follows s vars.new frames.now frames.now result
-        (loop_left s vars.old (Run.At (rest_of_series series 0)) (onward (has_loop frames.now) leave)) }
+pub(crate) fn leave_series(
+    shell: &mut Shell,
+    frames: &Frames,
+    series: ForLoop,
+    leave: Leave,
+) -> Step
+    ensures { (s : KernelState) → Follows s shell.new frames.now frames.now result
+        (loop_left s shell.old (Run.At (rest_of_series series 0)) (onward (has_loop frames.now) leave)) }
 {
     match where_to(frames, leave) {
         Onward::Left(leave) => Step::Outward(Active::Leaving(leave)),
         Onward::Over => Step::Outward(Active::Done(0)),
         Onward::On => {
-            vars.set_status(0);
+            shell.vars.set_status(0);
             next_value(series, 0)
         },
     }

@@ -1,18 +1,17 @@
 -- A shell's tree and the list of the forms round its place.
 use Rattle.std.proofs.Common.{◌≡◌, ◌≤◌, ℕ, arith, length, List, [], ◌∷◌, ◌++◌, Option, false, reverse, refl, sym, ap, subst, ◌∙◌, append_assoc, append-nil}
 use Rattle.std.proofs.lemmas.List.{reverse-append}
+use Rattle.sh_builtin.specs.declared.shell.Shell.{Shell}
 use Rattle.sh_exec_command.specs.declared.running.Active.{Active}
 use Rattle.sh_exec_forms.specs.Codes.{forms_of}
 use Rattle.sh_exec_forms.specs.Forms.{Acted, IsActed, at_action, outward}
 use Rattle.sh_exec_forms.specs.Frames.{has_loop, run_in, run_of}
-use Rattle.sh_exec_forms.specs.Running.{Run, At, In, ShellState, active_of}
+use Rattle.sh_exec_forms.specs.Running.{InterpreterState, Run, At, In, active_of}
 use Rattle.sh_exec_forms.specs.declared.form.Form.{Form}
 use Rattle.sh_exec_forms.proofs.Outward.{by_forms}
 use Rattle.sh_exec_shell.specs.Forks.{IsTurned, Turned}
-use Rattle.sh_exec_shell.specs.declared.shell.Child.{Child}
 use Rattle.sh_exec_shell.specs.Reduction.{act_at, at_root, reduce, shell_turn, with_root}
 use Rattle.sh_kernel.specs.State.{KernelKept, KernelState, StandsAt}
-use Rattle.sh_vars.specs.Environment.{Environment}
 
 active_in : (forms : List Form) (run : Run) → active_of (run_in forms run) ≡ active_of run
 active_in [] run = refl
@@ -42,65 +41,65 @@ rooted_within [] active h = absurd (omega (arith, h))
 rooted_within (form ∷ forms) active h = rooted form forms (At active)
 
 -- a turn goes outward form by form
-turned_by_forms : (s : KernelState) (pid : ℕ) (env : Environment) (forms : List Form) (run : Run)
-    → reduce s pid env false (run_in forms run)
-    ≡ record { left = outward pid forms (reduce s pid env (has_loop forms) run).left; child = (reduce s pid env (has_loop forms) run).child }
-turned_by_forms s pid env [] run = refl
-turned_by_forms s pid env (form ∷ forms) run = turned_by_forms s pid env forms (In form run)
+turned_by_forms : (s : KernelState) (shell : Shell) (forms : List Form) (run : Run)
+    → reduce s shell false (run_in forms run)
+    ≡ record { left = outward forms (reduce s shell (has_loop forms) run).left; child = (reduce s shell (has_loop forms) run).child }
+turned_by_forms s shell [] run = refl
+turned_by_forms s shell (form ∷ forms) run = turned_by_forms s shell forms (In form run)
 
 -- a turn acts at the place, and settles all that then runs
-pub turn_is : (s : KernelState) (pid : ℕ) (env : Environment) (forms : List Form) (active : Active)
-    → reduce s pid env false (run_of forms active)
+pub turn_is : (s : KernelState) (shell : Shell) (forms : List Form) (active : Active)
+    → reduce s shell false (run_of forms active)
     ≡ record {
-      left = at_action pid false (act_at s pid env active).left.machine (act_at s pid env active).left.environment (run_in forms (act_at s pid env active).left.run);
-      child = (act_at s pid env active).child;
+      left = at_action false (act_at s shell active).left.machine (act_at s shell active).left.shell (run_in forms (act_at s shell active).left.run);
+      child = (act_at s shell active).child;
     }
-turn_is s pid env forms active =
-    turned_by_forms s pid env forms (At active)
-    ∙ ap (λ (a : Acted). record { left = a; child = (act_at s pid env active).child })
-    (sym (by_forms pid forms (act_at s pid env active).left.machine (act_at s pid env active).left.environment (act_at s pid env active).left.run))
+turn_is s shell forms active =
+    turned_by_forms s shell forms (At active)
+    ∙ ap (λ (a : Acted). record { left = a; child = (act_at s shell active).child })
+    (sym (by_forms forms (act_at s shell active).left.machine (act_at s shell active).left.shell (act_at s shell active).left.run))
 
 -- what is settled from what the action left is what the turn leaves
-pub turn_leaves : (s : KernelState) (pid : ℕ) (env : Environment) (forms : List Form) (active : Active) (env' : Environment) (run : Run)
-    → env' ≡ (act_at s pid env active).left.environment → run ≡ run_in forms (act_at s pid env active).left.run
-    → at_action pid false (act_at s pid env active).left.machine env' run ≡ (reduce s pid env false (run_of forms active)).left
-turn_leaves s pid env forms active env' run e r =
-    ap (λ z. at_action pid false (act_at s pid env active).left.machine z run) e
-    ∙ ap (λ z. at_action pid false (act_at s pid env active).left.machine (act_at s pid env active).left.environment z) r
-    ∙ ap (λ (t : Turned). t.left) (sym (turn_is s pid env forms active))
+pub turn_leaves : (s : KernelState) (shell : Shell) (forms : List Form) (active : Active) (shell' : Shell) (run : Run)
+    → shell' ≡ (act_at s shell active).left.shell → run ≡ run_in forms (act_at s shell active).left.run
+    → at_action false (act_at s shell active).left.machine shell' run ≡ (reduce s shell false (run_of forms active)).left
+turn_leaves s shell forms active shell' run e r =
+    ap (λ z. at_action false (act_at s shell active).left.machine z run) e
+    ∙ ap (λ z. at_action false (act_at s shell active).left.machine (act_at s shell active).left.shell z) r
+    ∙ ap (λ (t : Turned). t.left) (sym (turn_is s shell forms active))
 
-pub turn_makes : (s : KernelState) (pid : ℕ) (env : Environment) (forms : List Form) (active : Active)
-    → (act_at s pid env active).child ≡ (reduce s pid env false (run_of forms active)).child
-turn_makes s pid env forms active = ap (λ (t : Turned). t.child) (sym (turn_is s pid env forms active))
+pub turn_makes : (s : KernelState) (shell : Shell) (forms : List Form) (active : Active)
+    → (act_at s shell active).child ≡ (reduce s shell false (run_of forms active)).child
+turn_makes s shell forms active = ap (λ (t : Turned). t.child) (sym (turn_is s shell forms active))
 
 -- an action at the place, and what is settled from it, are a turn
-pub turned : (s : KernelState) (pid : ℕ) (env : Environment) (forms : List Form) (active : Active)
-    (kernel : KernelKept) (env' later : Environment) (run ran : Run) (child : Option Child)
-    → env' ≡ (act_at s pid env active).left.environment → run ≡ run_in forms (act_at s pid env active).left.run → child ≡ (act_at s pid env active).child
-    → IsActed kernel later ran (at_action pid false (act_at s pid env active).left.machine env' run)
-    → IsTurned kernel later ran child (reduce s pid env false (run_of forms active))
-turned s pid env forms active kernel env' later run ran child e r made a =
-    let left = turn_leaves s pid env forms active env' run e r in
+pub turned : (s : KernelState) (shell : Shell) (forms : List Form) (active : Active)
+    (kernel : KernelKept) (shell' later : Shell) (run ran : Run) (child : Option InterpreterState)
+    → shell' ≡ (act_at s shell active).left.shell → run ≡ run_in forms (act_at s shell active).left.run → child ≡ (act_at s shell active).child
+    → IsActed kernel later ran (at_action false (act_at s shell active).left.machine shell' run)
+    → IsTurned kernel later ran child (reduce s shell false (run_of forms active))
+turned s shell forms active kernel shell' later run ran child e r made a =
+    let left = turn_leaves s shell forms active shell' run e r in
     record {
       state = subst (λ (x : Acted). StandsAt kernel x.machine) left a.state;
-      environment = a.environment ∙ ap (λ (x : Acted). x.environment) left;
+      shell_is = a.shell_is ∙ ap (λ (x : Acted). x.shell) left;
       run = a.run ∙ ap (λ (x : Acted). x.run) left;
-      child = made ∙ turn_makes s pid env forms active;
+      child = made ∙ turn_makes s shell forms active;
     }
 
 -- at the root what is left is the end of the process
-at_its_root : (kernel : KernelKept) (env : Environment) (ran rooted : Run) (child : Option Child) (t : Turned)
-    → IsTurned kernel env ran child t → rooted ≡ at_root ran → IsTurned kernel env rooted child (with_root t)
-at_its_root kernel env ran rooted child t i e =
-    record { state = i.state; environment = i.environment; run = e ∙ ap at_root i.run; child = i.child }
+at_its_root : (kernel : KernelKept) (shell : Shell) (ran rooted : Run) (child : Option InterpreterState) (t : Turned)
+    → IsTurned kernel shell ran child t → rooted ≡ at_root ran → IsTurned kernel shell rooted child (with_root t)
+at_its_root kernel shell ran rooted child t i e =
+    record { state = i.state; shell_is = i.shell_is; run = e ∙ ap at_root i.run; child = i.child }
 
--- the turn of a shell that has this environment and runs this
-pub shell_turned : (s : KernelState) (pid : ℕ) (shell : ShellState) (env : Environment) (run : Run)
-    (kernel : KernelKept) (later : Environment) (ran rooted : Run) (child : Option Child)
-    → shell ≡ record { environment = env; run = run }
-    → IsTurned kernel later ran child (reduce s pid env false run) → rooted ≡ at_root ran
-    → IsTurned kernel later rooted child (shell_turn s pid shell)
+-- the turn of a shell that runs this
+pub shell_turned : (s : KernelState) (interpreter : InterpreterState) (shell : Shell) (run : Run)
+    (kernel : KernelKept) (later : Shell) (ran rooted : Run) (child : Option InterpreterState)
+    → interpreter ≡ record { shell = shell; run = run }
+    → IsTurned kernel later ran child (reduce s shell false run) → rooted ≡ at_root ran
+    → IsTurned kernel later rooted child (shell_turn s interpreter)
 unfolding shell_turn
-shell_turned s pid shell env run kernel later ran rooted child is i e =
-    subst (λ (this : ShellState). IsTurned kernel later rooted child (shell_turn s pid this)) (sym is)
-    (at_its_root kernel later ran rooted child (reduce s pid env false run) i e)
+shell_turned s interpreter shell run kernel later ran rooted child is i e =
+    subst (λ (this : InterpreterState). IsTurned kernel later rooted child (shell_turn s this)) (sym is)
+    (at_its_root kernel later ran rooted child (reduce s shell false run) i e)

@@ -4,6 +4,7 @@ use Rattle.sh_builtin.specs.Builtins.{name_of}
 use Rattle.sh_exec_parts.specs.Messages.{message, refusal_text, write_error}
 use Rattle.sh_builtin.specs.declared.outcome.Completion.TheVariants as completion
 use Rattle.sh_builtin.specs.declared.outcome.Leave.TheVariants as leave
+use Rattle.sh_builtin.specs.declared.shell.Shell.{Shell}
 use Rattle.sh_exec_parts.specs.declared.message.Piece.{Piece}
 use Rattle.sh_exec_parts.specs.declared.redirection.Redirection.{Redirection}
 use Rattle.sh_exec_command.specs.Assigning.{assign_turn}
@@ -16,7 +17,7 @@ use Rattle.sh_exec_command.specs.declared.found.Found.TheVariants as found
 use Rattle.sh_exec_command.specs.declared.running.Active.{Active}
 use Rattle.sh_exec_command.specs.declared.running.Active.TheVariants.{Next, Done, Leaving}
 use Rattle.sh_exec_command.specs.declared.running.Finish.{Finish}
-use Rattle.sh_exec_command.specs.declared.running.Finish.TheVariants.{Status, Leave, Messages, Output}
+use Rattle.sh_exec_command.specs.declared.running.Finish.TheVariants.{Status, Fault, Messages, Output}
 use Rattle.sh_exec_command.specs.declared.running.Pending.{Pending}
 use Rattle.sh_exec_command.specs.declared.running.Action.{Action}
 use Rattle.sh_exec_command.specs.declared.running.Action.TheVariants.{WaitSubstitution, ReadSubstitution, Ending, Expanding, Waiting, Writing}
@@ -51,11 +52,12 @@ use Rattle.sh_kernel_descriptors.specs.declared.fault.KernelFault.{KernelFault}
 use Rattle.sh_syntax.specs.declared.tree.Command.TheViews as view
 use Rattle.sh_vars.specs.Environment.{Environment}
 
--- ---- reading (2.1): where no command follows the shell is left with the last status
-abbrev pub read_turn : Environment → Found → Run
-read_turn env found.Nothing = At (Leaving (leave.Exit env.special.status))
-read_turn env (found.Command tree rest) = In (Text rest) (items_run (view.out-CompoundList tree).items env.special.status)
-read_turn env (found.Fault refusal) = At (fatal (refusal_text refusal))
+-- ---- reading (2.1): where no command follows the shell is left with the status of the text's last command, which is 0 before
+-- the first one
+abbrev pub read_turn : Environment → (status : ℕ) → Found → Run
+read_turn env status found.Nothing = At (Leaving (leave.Exit status))
+read_turn env status (found.Command tree rest) = In (Text rest) (items_run (view.out-CompoundList tree).items env.special.status)
+read_turn env status (found.Fault refusal) = At (fatal (refusal_text refusal))
 
 -- ---- expansion
 abbrev pub expand_turn : FileMap → Environment → ToExpand → Option Pending → Turn
@@ -67,30 +69,30 @@ expand_turn files env (ForWords command) pending = series_turn files env command
 abbrev pub next : Action → Run
 next place = At (Next place)
 
-unfoldable pub after_collection : KernelState → ℕ → Environment → Substitution → ℕ → Acted
-after_collection s pid env substitution aside = with_run (close_call s pid (Aside aside)).after env (next (WaitSubstitution substitution))
+unfoldable pub after_collection : KernelState → Shell → Substitution → ℕ → Acted
+after_collection s shell substitution aside = with_run (close_call s shell.pid (Aside aside)).after shell (next (WaitSubstitution substitution))
 
 abbrev pub with_written : Substitution → List ℕ → Substitution
 with_written substitution bytes = record substitution { written = substitution.written ++ bytes }
 
 -- the end of the pipe is closed at its end of file
-abbrev pub collect_by : KernelState → ℕ → Environment → Substitution → ℕ → ReadOutcome → Acted
-collect_by s pid env substitution aside (taken.Bytes bytes) =
-    if nat_eq (length bytes) 0 then after_collection s pid env substitution aside
-    else with_run s env (next (ReadSubstitution (with_written substitution bytes)))
-collect_by s pid env substitution aside taken.Wait = with_run s env (next (ReadSubstitution substitution))
-collect_by s pid env substitution aside taken.Failed = after_collection s pid env substitution aside
+abbrev pub collect_by : KernelState → Shell → Substitution → ℕ → ReadOutcome → Acted
+collect_by s shell substitution aside (taken.Bytes bytes) =
+    if nat_eq (length bytes) 0 then after_collection s shell substitution aside
+    else with_run s shell (next (ReadSubstitution (with_written substitution bytes)))
+collect_by s shell substitution aside taken.Wait = with_run s shell (next (ReadSubstitution substitution))
+collect_by s shell substitution aside taken.Failed = after_collection s shell substitution aside
 
-unfoldable pub collect_from : KernelState → ℕ → Environment → Substitution → ℕ → Acted
-collect_from s pid env substitution aside =
-    let t = take_bytes s pid (Aside aside) 1024 in collect_by t.after pid env substitution aside t.told
+unfoldable pub collect_from : KernelState → Shell → Substitution → ℕ → Acted
+collect_from s shell substitution aside =
+    let t = take_bytes s shell.pid (Aside aside) 1024 in collect_by t.after shell substitution aside t.told
 
-abbrev pub collect_end : KernelState → ℕ → Environment → Substitution → Option ℕ → Acted
-collect_end s pid env substitution None = with_run s env (next (WaitSubstitution substitution))
-collect_end s pid env substitution (Some aside) = collect_from s pid env substitution aside
+abbrev pub collect_end : KernelState → Shell → Substitution → Option ℕ → Acted
+collect_end s shell substitution None = with_run s shell (next (WaitSubstitution substitution))
+collect_end s shell substitution (Some aside) = collect_from s shell substitution aside
 
-unfoldable pub collect_turn : KernelState → ℕ → Environment → Substitution → Acted
-collect_turn s pid env substitution = collect_end s pid env substitution substitution.aside
+unfoldable pub collect_turn : KernelState → Shell → Substitution → Acted
+collect_turn s shell substitution = collect_end s shell substitution substitution.aside
 
 -- ---- waiting
 -- the status of a substitution is kept for a command without a name (2.9.1)
@@ -134,29 +136,29 @@ abbrev pub redirect_by : ExpandedCommand → List ℕ → Result (Unit {0}) Kern
 redirect_by p word (Ok _) one = move_run (ahead (with_undo p one))
 redirect_by p word (Err f) one = move_run (not_done p word f)
 
-unfoldable pub redirect_one : KernelState → ℕ → Environment → ExpandedCommand → Redirection → Acted
-redirect_one s pid env p redirection =
-    let r = redirection_outcome (keeps p.role) s pid env.directory redirection in
-    with_run r.after env (redirect_by p redirection.word r.answer r.undone)
+unfoldable pub redirect_one : KernelState → Shell → ExpandedCommand → Redirection → Acted
+redirect_one s shell p redirection =
+    let r = redirection_outcome (keeps p.role) s shell.pid shell.vars.directory redirection in
+    with_run r.after shell (redirect_by p redirection.word r.answer r.undone)
 
-abbrev pub redirect_from : KernelState → ℕ → Environment → ExpandedCommand → List Redirection → Acted
-redirect_from s pid env p [] = with_run s env (move_run (ahead p))
-redirect_from s pid env p (redirection ∷ redirections) = redirect_one s pid env (record p { redirections = redirections }) redirection
+abbrev pub redirect_from : KernelState → Shell → ExpandedCommand → List Redirection → Acted
+redirect_from s shell p [] = with_run s shell (move_run (ahead p))
+redirect_from s shell p (redirection ∷ redirections) = redirect_one s shell (record p { redirections = redirections }) redirection
 
-unfoldable pub redirect_turn : KernelState → ℕ → Environment → ExpandedCommand → Acted
-redirect_turn s pid env p = redirect_from s pid env p p.redirections
+unfoldable pub redirect_turn : KernelState → Shell → ExpandedCommand → Acted
+redirect_turn s shell p = redirect_from s shell p p.redirections
 
 -- ---- writing
 abbrev pub after_writing : Finish → Active
 after_writing (Status status) = Done status
-after_writing (Leave status) = Leaving (leave.Fault status)
+after_writing (Fault status) = Leaving (leave.Fault status)
 after_writing (Messages report) = reported report
 after_writing (Output builtin report) = reported report
 
 -- a message that can't be written is dropped; a built-in whose output can't be written has 1, and a message before its others
 abbrev pub unwritten : Finish → Active
 unwritten (Status status) = Done status
-unwritten (Leave status) = Leaving (leave.Fault status)
+unwritten (Fault status) = Leaving (leave.Fault status)
 unwritten (Messages report) = reported report
 unwritten (Output builtin report) =
     Next (Writing (message (write_error (name_of builtin))) (Messages (record report { status = completion.Done 1 })))
@@ -169,22 +171,22 @@ written_by piece finish given.Wait = Next (Writing piece finish)
 written_by piece finish given.Ended = Next (Writing piece finish)
 written_by piece finish given.Failed = unwritten finish
 
-unfoldable pub write_turn : KernelState → ℕ → Environment → Piece → Finish → Acted
-write_turn s pid env piece finish =
-    let g = give_bytes s pid piece.descriptor piece.bytes in with_run g.after env (At (written_by piece finish g.told))
+unfoldable pub write_turn : KernelState → Shell → Piece → Finish → Acted
+write_turn s shell piece finish =
+    let g = give_bytes s shell.pid piece.descriptor piece.bytes in with_run g.after shell (At (written_by piece finish g.told))
 
 -- ---- a for: its variable has the next value, and its body is entered (2.9.4.2)
 abbrev pub round_run : Round → Run
 round_run (round.Body series) = In (ForBody series) (list_run series.body)
 round_run (round.Over active) = At active
 
-abbrev pub given_round : KernelState → series.Given → Acted
-given_round s g = with_run s g.environment (round_run g.round)
+abbrev pub given_round : KernelState → Shell → series.Given → Acted
+given_round s shell g = with_run s (record shell { vars = g.environment }) (round_run g.round)
 
 -- ---- the end of the process
-unfoldable pub end_turn : KernelState → ℕ → Environment → ℕ → Acted
-end_turn s pid env status = with_run (end_call s pid status).after env (next (Ending status))
+unfoldable pub end_turn : KernelState → Shell → ℕ → Acted
+end_turn s shell status = with_run (end_call s shell.pid status).after shell (next (Ending status))
 
 -- what an action leaves, inside the forms round its place
 abbrev pub in_forms : List Form → Acted → Acted
-in_forms forms a = with_run a.machine a.environment (run_in forms a.run)
+in_forms forms a = with_run a.machine a.shell (run_in forms a.run)

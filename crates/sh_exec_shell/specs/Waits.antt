@@ -1,5 +1,6 @@
 -- Waiting for processes (2.9.2, 2.8.2).
 use Rattle.std.specs.Prelude.{ℕ, ◌+◌, ◌-◌, List, length, nat_lt, Option, Some, None, Result, Ok, Err, slice_get, unwrap_or, if◌then◌else◌}
+use Rattle.sh_exec_command.specs.Statuses as statuses
 use Rattle.sh_kernel.specs.State.{KernelState}
 use Rattle.sh_kernel_descriptors.specs.Machine.{wait_answer}
 use Rattle.sh_kernel_descriptors.specs.Processes.{status_at}
@@ -9,12 +10,12 @@ use Rattle.sh_kernel_descriptors.specs.declared.process.Status.{Status}
 use Rattle.sh_kernel_descriptors.specs.declared.process.Status.TheVariants.{Running, Stopped, Exited, Signaled}
 
 -- the exit status by which a shell tells whether a process runs, is stopped or has ended (2.8.2); a process
--- that a signal ended has 128 and its number signals' numbers are below 128
+-- that a signal ended has 128 and its number; signals' numbers are below 128
 abbrev pub signal_status : ℕ → ℕ
-signal_status signal = if nat_lt signal 128 then 128 + signal else 255
+signal_status signal = if nat_lt signal statuses.signaled then statuses.signaled + signal else 255
 
 abbrev pub number_of : Option Status → ℕ
-number_of None = 127
+number_of None = statuses.not_found
 number_of (Some Running) = 0
 number_of (Some (Stopped signal)) = signal_status signal
 number_of (Some (Exited status)) = status

@@ -5,15 +5,17 @@ ghost use Rattle.sh_exec_parts.specs.Messages as messages;
 ghost use Rattle.sh_exec_command.specs.Expanding as expanding;
 ghost use Rattle.sh_exec_command.specs.Preparing.{ahead};
 ghost use Rattle.sh_exec_machine.specs.Forking.{HasForked};
-ghost use Rattle.sh_exec_shell.specs.Forks.{IsTurned, child_of, fork_turn, inside, is_more, program_by, stage_by, stage_from, stage_one, stage_turn, stage_place, substitute_turn, substitution_by, with_child, fork_failure};
+ghost use Rattle.sh_exec_shell.specs.Forks.{IsTurned, begun_substitution, child_of, fork_turn, forked_shell, inside, is_more, program_by, stage_by, stage_from, stage_one, stage_turn, stage_place, substitute_turn, substitution_by, with_child, fork_failure};
 ghost use Rattle.sh_exec_forms.specs.Bodies.{body_of, stage_run};
 ghost use Rattle.sh_exec_forms.specs.Running.{Run, move_run};
 ghost use Rattle.sh_exec_forms.specs.Frames.{run_in, run_of};
 
-use crate::shell::{Child, child_of};
+use crate::interpreter::{Interpreter, interpreter_of};
 use sh_base::NoMemory;
 use sh_base::sequence::{Sequence, Text};
 use sh_base::shared::Shared;
+use sh_builtin::Shell;
+use sh_exec_command::status::ERROR;
 use sh_exec_command::{
     Action, Active, ExpandedCommand, Finish, Move, Pending, Stages, Substitution, ToExpand,
     go_ahead,
@@ -24,7 +26,6 @@ use sh_exec_parts::Queue;
 use sh_exec_parts::message::cannot_fork;
 use sh_kernel::Kernel;
 use sh_syntax::tree::{Command, CompoundList};
-use sh_vars::Vars;
 use std::alloc::Global;
 
 /// No process can be made.
@@ -32,7 +33,7 @@ fn refused(alloc: Global) -> Result<Active, NoMemory>
     ensures { IfOk result (λ active. active ≡ expanding.fatal messages.cannot_fork) }
 {
     let piece = cannot_fork(alloc)?;
-    Ok(Active::Next(Action::Writing(piece, Finish::Leave(2))))
+    Ok(Active::Next(Action::Writing(piece, Finish::Fault(ERROR))))
 }
 
 /// Some processes, and one more.
@@ -44,17 +45,21 @@ fn one_more(children: Sequence<u32>, child: u32) -> Result<Sequence<u32>, NoMemo
     Ok(children)
 }
 
-/// A process with a copy of the variables.
-fn with_copy(child: u32, vars: &Vars, frames: Frames, active: Active) -> Result<Child, NoMemory>
+/// What runs in a process that a shell made, with a copy of its environment.
+fn with_copy(
+    child: u32,
+    shell: &Shell,
+    frames: Frames,
+    active: Active,
+) -> Result<Interpreter, NoMemory>
     ensures { IfOk result (λ made.
         made ≡ record {
-          pid = child;
-          shell =
-              record { environment = vars.now; run = run_of frames active };
+          shell = forked_shell child shell.now;
+          run = run_of frames active;
         }) }
 {
-    match vars.copy() {
-        Ok(copy) => Ok(child_of(child, copy, frames, active)),
+    match shell.fork(child) {
+        Ok(forked) => Ok(interpreter_of(forked, frames, active)),
         Err(error) => {
             drop(frames);
             drop(active);
@@ -66,21 +71,20 @@ fn with_copy(child: u32, vars: &Vars, frames: Frames, active: Active) -> Result<
 /// A program's process is made.
 fn put_program(
     alloc: Global,
-    vars: &Vars,
+    shell: &Shell,
     prepared: ExpandedCommand,
     child: u32,
-) -> Result<Child, NoMemory>
+) -> Result<Interpreter, NoMemory>
     ensures { IfOk result (λ made.
         made ≡ record {
-          pid = child;
-          shell =
-              record { environment = vars.now; run = move_run (ahead prepared) };
+          shell = forked_shell child shell.now;
+          run = move_run (ahead prepared);
         }) }
 {
     let to = go_ahead(prepared);
     let mut frames = Frames::new(alloc);
     let active = go_to(&mut frames, to)?;
-    with_copy(child, vars, frames, active)
+    with_copy(child, shell, frames, active)
 }
 
 /// The turn in which a program's process is made (XCU 2.9.1.6).
@@ -88,15 +92,14 @@ fn put_program(
 pub(crate) fn fork_turn(
     alloc: Global,
     kernel: &mut Kernel,
-    pid: u32,
-    vars: &Vars,
+    shell: &Shell,
     prepared: ExpandedCommand,
-) -> Result<(Active, Option<Child>), NoMemory>
+) -> Result<(Active, Option<Interpreter>), NoMemory>
     ensures state { (s : KernelState) → StandsAt kernel.old s → IfOk result (λ r.
-        IsTurned kernel.new vars.now (Run.At r.0) r.1 (fork_turn s pid vars.now prepared)) }
+        IsTurned kernel.new shell.now (Run.At r.0) r.1 (fork_turn s shell.now prepared)) }
     ensures terminal { kernel.new.terminal ≡ kernel.old.terminal }
 {
-    let forked = match fork_process(kernel, pid, None, false) {
+    let forked = match fork_process(kernel, shell.pid, None, false) {
         Ok(forked) => forked,
         Err(lack) => {
             drop(prepared);
@@ -105,7 +108,7 @@ pub(crate) fn fork_turn(
     };
     match forked.child {
         Some(child) => {
-            let made = put_program(alloc, vars, prepared, child)?;
+            let made = put_program(alloc, shell, prepared, child)?;
             match one_more(Sequence::new(alloc), child) {
                 Ok(children) => Ok((Active::Next(Action::Waiting(children)), Some(made))),
                 Err(refusal) => {
@@ -157,22 +160,21 @@ fn next_stage(
 /// The process of a stage is made.
 fn put_stage(
     alloc: Global,
-    vars: &Vars,
+    shell: &Shell,
     command: Shared<Command>,
     child: u32,
-) -> Result<Child, NoMemory>
+) -> Result<Interpreter, NoMemory>
     ensures { IfOk result (λ made.
         made ≡ record {
-          pid = child;
-          shell =
-              record { environment = vars.now; run = stage_run command };
+          shell = forked_shell child shell.now;
+          run = stage_run command;
         }) }
 {
     let mut frames = Frames::new(alloc);
     let active = stage(alloc, &mut frames, &command);
     drop(command);
     let active = active?;
-    with_copy(child, vars, frames, active)
+    with_copy(child, shell, frames, active)
 }
 
 /// The process of the next stage.
@@ -180,14 +182,13 @@ fn put_stage(
 fn stage_one(
     alloc: Global,
     kernel: &mut Kernel,
-    pid: u32,
-    vars: &Vars,
+    shell: &Shell,
     command: Shared<Command>,
     stages: Stages,
-) -> Result<(Active, Option<Child>), NoMemory>
+) -> Result<(Active, Option<Interpreter>), NoMemory>
     ensures state { (s : KernelState) → StandsAt kernel.old s → IfOk result (λ r.
-        IsTurned kernel.new vars.now (Run.At r.0) r.1
-        (stage_one s pid vars.now command stages.commands stages.aside stages.children)) }
+        IsTurned kernel.new shell.now (Run.At r.0) r.1
+        (stage_one s shell.now command stages)) }
     ensures terminal { kernel.new.terminal ≡ kernel.old.terminal }
 {
     let Stages {
@@ -195,7 +196,7 @@ fn stage_one(
         aside,
         children,
     } = stages;
-    let forked = match fork_process(kernel, pid, aside, !commands.is_empty()) {
+    let forked = match fork_process(kernel, shell.pid, aside, !commands.is_empty()) {
         Ok(forked) => forked,
         Err(lack) => {
             drop(command);
@@ -206,7 +207,7 @@ fn stage_one(
     };
     match forked.child {
         Some(child) => {
-            let made = match put_stage(alloc, vars, command, child) {
+            let made = match put_stage(alloc, shell, command, child) {
                 Ok(made) => made,
                 Err(refusal) => {
                     drop(commands);
@@ -237,19 +238,18 @@ fn stage_one(
 pub(crate) fn stage_turn(
     alloc: Global,
     kernel: &mut Kernel,
-    pid: u32,
-    vars: &Vars,
+    shell: &Shell,
     stages: Stages,
-) -> Result<(Active, Option<Child>), NoMemory>
+) -> Result<(Active, Option<Interpreter>), NoMemory>
     ensures state { (s : KernelState) → StandsAt kernel.old s → IfOk result (λ r.
-        IsTurned kernel.new vars.now (Run.At r.0) r.1 (stage_turn s pid vars.now stages)) }
+        IsTurned kernel.new shell.now (Run.At r.0) r.1 (stage_turn s shell.now stages)) }
     ensures terminal { kernel.new.terminal ≡ kernel.old.terminal }
 {
     let mut stages = stages;
     let Some(command) = stages.commands.take() else {
         return Ok((Active::Next(Action::Waiting(stages.children)), None));
     };
-    let (active, child) = stage_one(alloc, kernel, pid, vars, command, stages)?;
+    let (active, child) = stage_one(alloc, kernel, shell, command, stages)?;
     Ok((active, child))
 }
 
@@ -274,20 +274,19 @@ fn unforked(alloc: Global, wants: ToExpand) -> Result<Move, NoMemory>
 /// The process of a substitution is made.
 fn put_substitution(
     alloc: Global,
-    vars: &Vars,
+    shell: &Shell,
     program: &CompoundList,
     child: u32,
-) -> Result<Child, NoMemory>
+) -> Result<Interpreter, NoMemory>
     ensures { IfOk result (λ made.
         made ≡ record {
-          pid = child;
-          shell =
-              record { environment = vars.now; run = body_of program.now };
+          shell = forked_shell child shell.now;
+          run = body_of program.now;
         }) }
 {
     let mut frames = Frames::new(alloc);
     let active = body_of(alloc, &mut frames, program)?;
-    with_copy(child, vars, frames, active)
+    with_copy(child, shell, frames, active)
 }
 
 /// A command waits for what a process writes.
@@ -331,19 +330,18 @@ fn collecting(
 pub(crate) fn substitute_turn(
     alloc: Global,
     kernel: &mut Kernel,
-    pid: u32,
-    vars: &Vars,
+    shell: &Shell,
     frames: &mut Frames,
     program: Shared<CompoundList>,
     wants: ToExpand,
     pending: Pending,
-) -> Result<(Active, Option<Child>), NoMemory>
+) -> Result<(Active, Option<Interpreter>), NoMemory>
     ensures state { (s : KernelState) → StandsAt kernel.old s → IfOk result (λ r.
-        IsTurned kernel.new vars.now (run_of frames.new r.0) r.1
-        (inside frames.old (substitute_turn s pid vars.now program wants pending))) }
+        IsTurned kernel.new shell.now (run_of frames.new r.0) r.1
+        (inside frames.old (substitute_turn s shell.now program wants pending))) }
     ensures terminal { kernel.new.terminal ≡ kernel.old.terminal }
 {
-    let forked = match fork_process(kernel, pid, None, true) {
+    let forked = match fork_process(kernel, shell.pid, None, true) {
         Ok(forked) => forked,
         Err(lack) => {
             drop(program);
@@ -354,7 +352,7 @@ pub(crate) fn substitute_turn(
     };
     match forked.child {
         Some(child) => {
-            let made = put_substitution(alloc, vars, program.get(), child);
+            let made = put_substitution(alloc, shell, program.get(), child);
             drop(program);
             let made = match made {
                 Ok(made) => made,

@@ -6,10 +6,10 @@ ghost use Rattle.sh_exec_shell.specs.Acting.{collect_by, collect_end, collect_fr
 ghost use Rattle.sh_exec_forms.specs.Running.{Run};
 
 use sh_base::NoMemory;
+use sh_builtin::Shell;
 use sh_exec_command::{Action, Active, Substitution};
 use sh_exec_machine::{ReadOutcome, take_bytes};
 use sh_kernel::{DescriptorRef, Kernel};
-use sh_vars::Vars;
 use std::alloc::Global;
 
 /// The most bytes that are read at once.
@@ -31,19 +31,13 @@ fn with_written(substitution: Substitution, bytes: &[u8]) -> Result<Substitution
 
 /// All that the process writes is there.
 #[tactic(auto, unfolding(crate::specs::Acting::after_collection))]
-fn collected(
-    kernel: &mut Kernel,
-    pid: u32,
-    vars: &Vars,
-    substitution: Substitution,
-    aside: usize,
-) -> Active
+fn collected(kernel: &mut Kernel, shell: &Shell, substitution: Substitution, aside: usize) -> Active
     ensures state { (s : KernelState) → StandsAt kernel.old s
-        → IsActed kernel.new vars.now (Run.At result)
-        (after_collection s pid vars.now substitution aside) }
+        → IsActed kernel.new shell.now (Run.At result)
+        (after_collection s shell.now substitution aside) }
     ensures terminal { kernel.new.terminal.bytes ≡ kernel.old.terminal.bytes }
 {
-    let _closed = kernel.close(pid, DescriptorRef::Aside(aside));
+    let _closed = kernel.close(shell.pid, DescriptorRef::Aside(aside));
     Active::Next(Action::WaitSubstitution(substitution))
 }
 
@@ -61,28 +55,27 @@ fn gathered(substitution: Substitution, bytes: &[u8]) -> Result<Active, NoMemory
 fn collect_from(
     alloc: Global,
     kernel: &mut Kernel,
-    pid: u32,
-    vars: &Vars,
+    shell: &Shell,
     substitution: Substitution,
     aside: usize,
 ) -> Result<Active, NoMemory>
     ensures state { (s : KernelState) → StandsAt kernel.old s → IfOk result (λ active.
-        IsActed kernel.new vars.now (Run.At active)
-        (collect_from s pid vars.now substitution aside)) }
+        IsActed kernel.new shell.now (Run.At active)
+        (collect_from s shell.now substitution aside)) }
     ensures terminal { kernel.new.terminal.bytes ≡ kernel.old.terminal.bytes }
 {
-    match take_bytes(alloc, kernel, pid, DescriptorRef::Aside(aside), READ) {
+    match take_bytes(alloc, kernel, shell.pid, DescriptorRef::Aside(aside), READ) {
         Ok(ReadOutcome::Bytes(bytes)) => {
             if bytes.len() == 0 {
                 drop(bytes);
-                return Ok(collected(kernel, pid, vars, substitution, aside));
+                return Ok(collected(kernel, shell, substitution, aside));
             }
             let active = gathered(substitution, bytes.as_slice());
             drop(bytes);
             active
         },
         Ok(ReadOutcome::Wait) => Ok(Active::Next(Action::ReadSubstitution(substitution))),
-        Ok(ReadOutcome::Failed) => Ok(collected(kernel, pid, vars, substitution, aside)),
+        Ok(ReadOutcome::Failed) => Ok(collected(kernel, shell, substitution, aside)),
         Err(lack) => {
             drop(substitution);
             Err(lack)
@@ -95,17 +88,16 @@ fn collect_from(
 pub(crate) fn collect_turn(
     alloc: Global,
     kernel: &mut Kernel,
-    pid: u32,
-    vars: &Vars,
+    shell: &Shell,
     substitution: Substitution,
 ) -> Result<Active, NoMemory>
     ensures state { (s : KernelState) → StandsAt kernel.old s → IfOk result (λ active.
-        IsActed kernel.new vars.now (Run.At active) (collect_turn s pid vars.now substitution)) }
+        IsActed kernel.new shell.now (Run.At active) (collect_turn s shell.now substitution)) }
     ensures terminal { kernel.new.terminal.bytes ≡ kernel.old.terminal.bytes }
 {
     let Some(aside) = substitution.aside else {
         return Ok(Active::Next(Action::WaitSubstitution(substitution)));
     };
-    let active = collect_from(alloc, kernel, pid, vars, substitution, aside)?;
+    let active = collect_from(alloc, kernel, shell, substitution, aside)?;
     Ok(active)
 }

@@ -3,10 +3,10 @@
 
 mod forks;
 mod input;
+mod interpreter;
 mod output;
 mod redirecting;
-mod shell;
 mod turn;
 mod waits;
 
-pub use shell::{Child, Shell};
+pub use interpreter::Interpreter;

@@ -8,13 +8,12 @@ ghost use Rattle.sh_exec_forms.specs.Running.{Run};
 
 use sh_base::NoMemory;
 use sh_base::sequence::Text;
-use sh_builtin::{Completion, Leave};
+use sh_builtin::{Completion, Leave, Shell};
 use sh_exec_command::{Action, Active, Finish, Report};
 use sh_exec_forms::reported;
 use sh_exec_machine::{WriteOutcome, give_bytes};
 use sh_exec_parts::message::{Piece, write_error};
 use sh_kernel::Kernel;
-use sh_vars::Vars;
 use std::alloc::Global;
 
 /// What follows a write that is done whole.
@@ -23,7 +22,7 @@ fn finished(finish: Finish) -> Active
 {
     match finish {
         Finish::Status(status) => Active::Done(status),
-        Finish::Leave(status) => Active::Leaving(Leave::Fault(status)),
+        Finish::Fault(status) => Active::Leaving(Leave::Fault(status)),
         Finish::Messages(report) => reported(report),
         Finish::Output(_, report) => reported(report),
     }
@@ -35,7 +34,7 @@ fn unwritten(alloc: Global, finish: Finish) -> Result<Active, NoMemory>
 {
     match finish {
         Finish::Status(status) => Ok(Active::Done(status)),
-        Finish::Leave(status) => Ok(Active::Leaving(Leave::Fault(status))),
+        Finish::Fault(status) => Ok(Active::Leaving(Leave::Fault(status))),
         Finish::Messages(report) => Ok(reported(report)),
         Finish::Output(builtin, report) => {
             let piece = write_error(alloc, builtin.name())?;
@@ -87,27 +86,26 @@ fn written(
 pub(crate) fn write_turn(
     alloc: Global,
     kernel: &mut Kernel,
-    pid: u32,
-    vars: &Vars,
+    shell: &Shell,
     piece: Piece,
     finish: Finish,
 ) -> Result<Active, NoMemory>
     ensures state { (s : KernelState) → StandsAt kernel.old s → IfOk result (λ active.
-        IsActed kernel.new vars.now (Run.At active) (write_turn s pid vars.now piece finish)) }
+        IsActed kernel.new shell.now (Run.At active) (write_turn s shell.now piece finish)) }
     ensures terminal { Extends kernel.old.terminal.bytes kernel.new.terminal.bytes }
 {
-    let given = give_bytes(kernel, pid, piece.descriptor, piece.bytes.as_slice())?;
+    let given = give_bytes(kernel, shell.pid, piece.descriptor, piece.bytes.as_slice())?;
     let active = written(alloc, piece, finish, given)?;
     Ok(active)
 }
 
 /// The end of the process.
 #[tactic(auto, unfolding(crate::specs::Acting::end_turn))]
-pub(crate) fn end_turn(kernel: &mut Kernel, pid: u32, vars: &Vars, status: u8) -> Active
+pub(crate) fn end_turn(kernel: &mut Kernel, shell: &Shell, status: u8) -> Active
     ensures state { (s : KernelState) → StandsAt kernel.old s
-        → IsActed kernel.new vars.now (Run.At result) (end_turn s pid vars.now status) }
+        → IsActed kernel.new shell.now (Run.At result) (end_turn s shell.now status) }
     ensures terminal { kernel.new.terminal.bytes ≡ kernel.old.terminal.bytes }
 {
-    let _ended = kernel.end(pid, status);
+    let _ended = kernel.end(shell.pid, status);
     Active::Next(Action::Ending(status))
 }

@@ -6,12 +6,12 @@ ghost use Rattle.sh_exec_shell.specs.Acting.{in_forms, keeps, with_undo, redirec
 ghost use Rattle.sh_exec_forms.specs.Frames.{run_in, run_of};
 
 use sh_base::NoMemory;
+use sh_builtin::Shell;
 use sh_exec_command::{Active, ExpandedCommand, Role, go_ahead, not_done};
 use sh_exec_forms::{Frames, go_to};
 use sh_exec_machine::{Redirected, Undone, redirect};
 use sh_exec_parts::redirection::Redirection;
 use sh_kernel::{Kernel, KernelFault};
-use sh_vars::Vars;
 use std::alloc::Global;
 
 /// Whether the redirections of a command are undone after it.
@@ -72,19 +72,24 @@ fn go_on(
 fn redirect_one(
     alloc: Global,
     kernel: &mut Kernel,
-    pid: u32,
-    vars: &Vars,
+    shell: &Shell,
     frames: &mut Frames,
     prepared: ExpandedCommand,
     redirection: Redirection,
 ) -> Result<Active, NoMemory>
     ensures state { (s : KernelState) → StandsAt kernel.old s → IfOk result (λ active.
-        IsActed kernel.new vars.now (run_of frames.new active)
-        (in_forms frames.old (redirect_one s pid vars.now prepared redirection))) }
+        IsActed kernel.new shell.now (run_of frames.new active)
+        (in_forms frames.old (redirect_one s shell.now prepared redirection))) }
     ensures terminal { kernel.new.terminal ≡ kernel.old.terminal }
 {
     let kept = keeps(prepared.role);
-    match redirect(kernel, pid, vars.directory(), &redirection, kept) {
+    match redirect(
+        kernel,
+        shell.pid,
+        shell.vars.directory(),
+        &redirection,
+        kept,
+    ) {
         Ok(Redirected { answer, undone }) => {
             let word = redirection.word.as_slice();
             let active = go_on(alloc, frames, prepared, word, answer, undone);
@@ -104,14 +109,13 @@ fn redirect_one(
 pub(crate) fn redirect_turn(
     alloc: Global,
     kernel: &mut Kernel,
-    pid: u32,
-    vars: &Vars,
+    shell: &Shell,
     frames: &mut Frames,
     prepared: ExpandedCommand,
 ) -> Result<Active, NoMemory>
     ensures state { (s : KernelState) → StandsAt kernel.old s → IfOk result (λ active.
-        IsActed kernel.new vars.now (run_of frames.new active)
-        (in_forms frames.old (redirect_turn s pid vars.now prepared))) }
+        IsActed kernel.new shell.now (run_of frames.new active)
+        (in_forms frames.old (redirect_turn s shell.now prepared))) }
     ensures terminal { kernel.new.terminal ≡ kernel.old.terminal }
 {
     let mut prepared = prepared;
@@ -120,6 +124,6 @@ pub(crate) fn redirect_turn(
         let active = go_to(frames, to)?;
         return Ok(active);
     };
-    let active = redirect_one(alloc, kernel, pid, vars, frames, prepared, redirection)?;
+    let active = redirect_one(alloc, kernel, shell, frames, prepared, redirection)?;
     Ok(active)
 }

@@ -14,12 +14,13 @@ ghost use Rattle.sh_exec_forms.specs.Frames.{run_in, run_of};
 
 use crate::forks::{fork_turn, stage_turn, substitute_turn};
 use crate::input::collect_turn;
+use crate::interpreter::Interpreter;
 use crate::output::{end_turn, write_turn};
 use crate::redirecting::redirect_turn;
-use crate::shell::Child;
 use crate::waits::{answer_turn, wait_turn};
 use sh_base::NoMemory;
-use sh_builtin::Leave;
+use sh_builtin::{Leave, Shell};
+use sh_exec_command::status::ERROR;
 use sh_exec_command::{
     Action, Active, Expanded, Finish, ForLoop, Found, Pending, Round, ToExpand, assign_turn,
     find_command, give_turn, series_turn, words_turn,
@@ -33,12 +34,18 @@ use sh_vars::Vars;
 use std::alloc::Global;
 
 /// A reading turn.
-fn read(alloc: Global, frames: &mut Frames, rest: Rest, vars: &Vars) -> Result<Active, NoMemory>
-    ensures { IfOk result (λ active.
-        run_of frames.new active ≡ run_in frames.old (read_turn vars.now (next_command rest))) }
+fn read(
+    alloc: Global,
+    frames: &mut Frames,
+    rest: Rest,
+    status: u8,
+    vars: &Vars,
+) -> Result<Active, NoMemory>
+    ensures { IfOk result (λ active. run_of frames.new active
+        ≡ run_in frames.old (read_turn vars.now status (next_command rest))) }
 {
     match find_command(alloc, rest)? {
-        Found::Nothing => Ok(Active::Leaving(Leave::Exit(vars.status()))),
+        Found::Nothing => Ok(Active::Leaving(Leave::Exit(status))),
         Found::Command(tree, rest) => {
             let items = Queue::new(tree.into_items());
             match frames.push(Form::Text(rest)) {
@@ -53,7 +60,7 @@ fn read(alloc: Global, frames: &mut Frames, rest: Rest, vars: &Vars) -> Result<A
         },
         Found::Fault(refusal) => {
             let piece = refused(alloc, refusal)?;
-            Ok(Active::Next(Action::Writing(piece, Finish::Leave(2))))
+            Ok(Active::Next(Action::Writing(piece, Finish::Fault(ERROR))))
         },
     }
 }
@@ -85,14 +92,13 @@ fn expand(
 fn expanded(
     alloc: Global,
     kernel: &mut Kernel,
-    pid: u32,
-    vars: &Vars,
+    shell: &Shell,
     frames: &mut Frames,
     expanded: Expanded,
-) -> Result<(Active, Option<Child>), NoMemory>
+) -> Result<(Active, Option<Interpreter>), NoMemory>
     ensures state { (s : KernelState) → StandsAt kernel.old s → IfOk result (λ r.
-        IsTurned kernel.new vars.now (run_of frames.new r.0) r.1
-        (inside frames.old (expanded_by s pid vars.now expanded))) }
+        IsTurned kernel.new shell.now (run_of frames.new r.0) r.1
+        (inside frames.old (expanded_by s shell.now expanded))) }
     ensures terminal { kernel.new.terminal ≡ kernel.old.terminal }
 {
     match expanded {
@@ -102,7 +108,7 @@ fn expanded(
             pending,
         } => {
             let (active, child) = substitute_turn(
-                alloc, kernel, pid, vars, frames, program, wants, pending,
+                alloc, kernel, shell, frames, program, wants, pending,
             )?;
             Ok((active, child))
         },
@@ -117,19 +123,19 @@ fn expanded(
 fn expand_place(
     alloc: Global,
     kernel: &mut Kernel,
-    pid: u32,
-    vars: &mut Vars,
+    shell: &mut Shell,
     frames: &mut Frames,
     wants: ToExpand,
     pending: Option<Pending>,
-) -> Result<(Active, Option<Child>), NoMemory>
+) -> Result<(Active, Option<Interpreter>), NoMemory>
     ensures state { (s : KernelState) → StandsAt kernel.old s → IfOk result (λ r.
-        IsTurned kernel.new vars.new (run_of frames.new r.0) r.1
-        (inside frames.old (expansion s pid (expand_turn s.machine.files vars.old wants pending)))) }
+        IsTurned kernel.new shell.new (run_of frames.new r.0) r.1
+        (inside frames.old (expansion s shell.old
+        (expand_turn s.machine.files shell.old.vars wants pending)))) }
     ensures terminal { kernel.new.terminal ≡ kernel.old.terminal }
 {
-    let outcome = expand(alloc, wants, pending, vars, kernel.files())?;
-    let (active, child) = expanded(alloc, kernel, pid, vars, frames, outcome)?;
+    let outcome = expand(alloc, wants, pending, &mut shell.vars, kernel.files())?;
+    let (active, child) = expanded(alloc, kernel, shell, frames, outcome)?;
     Ok((active, child))
 }
 
@@ -158,15 +164,15 @@ fn enter_round(alloc: Global, frames: &mut Frames, round: Round) -> Result<Activ
 fn give(
     alloc: Global,
     kernel: &Kernel,
-    vars: &mut Vars,
+    shell: &mut Shell,
     frames: &mut Frames,
     series: ForLoop,
 ) -> Result<Active, NoMemory>
     ensures { (s : KernelState) → StandsAt kernel.now s → IfOk result (λ active.
-        IsActed kernel.now vars.new (run_of frames.new active)
-        (in_forms frames.old (given_round s (give_turn vars.old series)))) }
+        IsActed kernel.now shell.new (run_of frames.new active)
+        (in_forms frames.old (given_round s shell.old (give_turn shell.old.vars series)))) }
 {
-    let round = give_turn(alloc, series, vars)?;
+    let round = give_turn(alloc, series, &mut shell.vars)?;
     let active = enter_round(alloc, frames, round)?;
     Ok(active)
 }
@@ -175,56 +181,55 @@ fn give(
 fn act_place(
     alloc: Global,
     kernel: &mut Kernel,
-    pid: u32,
-    vars: &mut Vars,
+    shell: &mut Shell,
     frames: &mut Frames,
     place: Action,
-) -> Result<(Active, Option<Child>), NoMemory>
+) -> Result<(Active, Option<Interpreter>), NoMemory>
     ensures state { (s : KernelState) → StandsAt kernel.old s → IfOk result (λ r.
-        IsTurned kernel.new vars.new (run_of frames.new r.0) r.1
-        (inside frames.old (act_place s pid vars.old place))) }
+        IsTurned kernel.new shell.new (run_of frames.new r.0) r.1
+        (inside frames.old (act_place s shell.old place))) }
     ensures terminal { Extends kernel.old.terminal.bytes kernel.new.terminal.bytes }
 {
     match place {
-        Action::Reading(rest) => {
-            let active = read(alloc, frames, rest, vars)?;
+        Action::Reading(rest, status) => {
+            let active = read(alloc, frames, rest, status, &shell.vars)?;
             Ok((active, None))
         },
         Action::Expanding(wants, pending) => {
-            let (active, child) = expand_place(alloc, kernel, pid, vars, frames, wants, pending)?;
+            let (active, child) = expand_place(alloc, kernel, shell, frames, wants, pending)?;
             Ok((active, child))
         },
         Action::ReadSubstitution(substitution) => {
-            let active = collect_turn(alloc, kernel, pid, vars, substitution)?;
+            let active = collect_turn(alloc, kernel, shell, substitution)?;
             Ok((active, None))
         },
         Action::WaitSubstitution(substitution) => {
-            let place = answer_turn(kernel, pid, substitution)?;
+            let place = answer_turn(kernel, shell.pid, substitution)?;
             Ok((Active::Next(place), None))
         },
         Action::Redirecting(prepared) => {
-            let active = redirect_turn(alloc, kernel, pid, vars, frames, prepared)?;
+            let active = redirect_turn(alloc, kernel, shell, frames, prepared)?;
             Ok((active, None))
         },
         Action::Forking(prepared) => {
-            let (active, child) = fork_turn(alloc, kernel, pid, vars, prepared)?;
+            let (active, child) = fork_turn(alloc, kernel, shell, prepared)?;
             Ok((active, child))
         },
         Action::Starting(fields) => Ok((Active::Next(Action::Starting(fields)), None)),
         Action::ForkStage(stages) => {
-            let (active, child) = stage_turn(alloc, kernel, pid, vars, stages)?;
+            let (active, child) = stage_turn(alloc, kernel, shell, stages)?;
             Ok((active, child))
         },
         Action::AssignLoopVariable(series) => {
-            let active = give(alloc, kernel, vars, frames, series)?;
+            let active = give(alloc, kernel, shell, frames, series)?;
             Ok((active, None))
         },
-        Action::Waiting(children) => Ok((wait_turn(kernel, pid, children), None)),
+        Action::Waiting(children) => Ok((wait_turn(kernel, shell.pid, children), None)),
         Action::Writing(piece, finish) => {
-            let active = write_turn(alloc, kernel, pid, vars, piece, finish)?;
+            let active = write_turn(alloc, kernel, shell, piece, finish)?;
             Ok((active, None))
         },
-        Action::Ending(status) => Ok((end_turn(kernel, pid, vars, status), None)),
+        Action::Ending(status) => Ok((end_turn(kernel, shell, status), None)),
     }
 }
 
@@ -232,19 +237,18 @@ fn act_place(
 fn act(
     alloc: Global,
     kernel: &mut Kernel,
-    pid: u32,
-    vars: &mut Vars,
+    shell: &mut Shell,
     frames: &mut Frames,
     active: Active,
-) -> Result<(Active, Option<Child>), NoMemory>
+) -> Result<(Active, Option<Interpreter>), NoMemory>
     ensures state { (s : KernelState) → StandsAt kernel.old s → IfOk result (λ r.
-        IsTurned kernel.new vars.new (run_of frames.new r.0) r.1
-        (inside frames.old (act_at s pid vars.old active))) }
+        IsTurned kernel.new shell.new (run_of frames.new r.0) r.1
+        (inside frames.old (act_at s shell.old active))) }
     ensures terminal { Extends kernel.old.terminal.bytes kernel.new.terminal.bytes }
 {
     match active {
         Active::Next(place) => {
-            let (active, child) = act_place(alloc, kernel, pid, vars, frames, place)?;
+            let (active, child) = act_place(alloc, kernel, shell, frames, place)?;
             Ok((active, child))
         },
         Active::Acting(builtin, fields) => Ok((Active::Acting(builtin, fields), None)),
@@ -257,18 +261,17 @@ fn act(
 pub(crate) fn reduce(
     alloc: Global,
     kernel: &mut Kernel,
-    pid: u32,
-    vars: &mut Vars,
+    shell: &mut Shell,
     frames: &mut Frames,
     active: Active,
-) -> Result<(Active, Option<Child>), NoMemory>
+) -> Result<(Active, Option<Interpreter>), NoMemory>
     ensures state { (s : KernelState) → StandsAt kernel.old s → IfOk result (λ r.
-        IsTurned kernel.new vars.new (run_of frames.new r.0) r.1
-        (reduce s pid vars.old false (run_of frames.old active))) }
+        IsTurned kernel.new shell.new (run_of frames.new r.0) r.1
+        (reduce s shell.old false (run_of frames.old active))) }
     ensures terminal { Extends kernel.old.terminal.bytes kernel.new.terminal.bytes }
 {
-    let (active, child) = act(alloc, kernel, pid, vars, frames, active)?;
-    match settle(alloc, kernel, pid, vars, frames, active) {
+    let (active, child) = act(alloc, kernel, shell, frames, active)?;
+    match settle(alloc, kernel, shell, frames, active) {
         Ok(active) => Ok((active, child)),
         Err(refusal) => {
             drop(child);

@@ -6,6 +6,7 @@ ghost use Rattle.sh_exec_shell.specs.Waits.{last_of, number_of, signal_status, w
 
 use sh_base::NoMemory;
 use sh_base::sequence::{Sequence, Text};
+use sh_exec_command::status::{NOT_FOUND, SIGNALED};
 use sh_exec_command::{Action, Active, Pending, Substitution, ToExpand};
 use sh_kernel::{Kernel, Status};
 
@@ -13,7 +14,11 @@ use sh_kernel::{Kernel, Status};
 fn signal_status(signal: u8) -> u8
     ensures { result ≡ signal_status signal }
 {
-    if signal < 128 { 128 + signal } else { 255 }
+    if signal < SIGNALED {
+        SIGNALED + signal
+    } else {
+        255
+    }
 }
 
 /// The exit status by which a shell tells whether a process runs, is stopped or has ended.
@@ -21,7 +26,7 @@ fn number_of(status: Option<Status>) -> u8
     ensures { result ≡ number_of status }
 {
     match status {
-        None => 127,
+        None => NOT_FOUND,
         Some(Status::Running) => 0,
         Some(Status::Stopped(signal)) => signal_status(signal),
         Some(Status::Exited(status)) => status,

@@ -1,7 +1,8 @@
 -- What a turn changes.
 use Rattle.std.proofs.Common.{◌≡◌, ℕ, ◌<◌, List, [], ◌∷◌, ◌++◌, Bool, false, ◌||◌, Option, None, refl, sym, ap, ◌∙◌, subst, arith}
 use Rattle.sh_exec.specs.Turns.{turn}
-use Rattle.sh_exec.specs.declared.process.Process.{Process}
+use Rattle.sh_exec.specs.Tasks.{pid_of}
+use Rattle.sh_exec.specs.declared.task.Task.{Task}
 use Rattle.sh_laws.specs.Forking.{UnmadeReachNothing}
 use Rattle.sh_laws.proofs.RequestChanges.{forking_changes, forking_grows}
 use Rattle.sh_laws.proofs.RequestLists.{changes_reached, reaches_as_before}
@@ -106,10 +107,11 @@ module _ (s : KernelState) (pid : ℕ) (directory : List ℕ) (born : pid < next
         };
       }
 
-pub turns_change : {S : Type 0} (m : Meaning S) (s : KernelState) (pid : ℕ) (process : Process S) → pid < next_pid s.machine.processes → UnmadeReachNothing s.machine
-    → let t = turn m s pid process in ChangesByRequests pid (number_of t.child) (directory_of process) s t.machine
-turns_change m s pid process born none =
-    let directory = directory_of process in
-    let t = turn m s pid process in
+pub turns_change : {S : Type 0} (m : Meaning S) (s : KernelState) (task : Task S) → pid_of task < next_pid s.machine.processes → UnmadeReachNothing s.machine
+    → let t = turn m s task in ChangesByRequests (pid_of task) (number_of t.child) (directory_of task) s t.machine
+turns_change m s task born none =
+    let pid = pid_of task in
+    let directory = directory_of task in
+    let t = turn m s task in
     of_along s pid directory born (number_of t.child) t.machine
-    (turn_keeps m directory pid (Along s pid directory) (one_along s pid directory born) (forks_along s pid directory born) s process refl (start_along s pid directory born none))
+    (turn_keeps m directory pid (Along s pid directory) (one_along s pid directory born) (forks_along s pid directory born) s task refl refl (start_along s pid directory born none))

@@ -1,7 +1,8 @@
 -- Lists of requests of a process and of the one that it makes.
 use Rattle.std.proofs.Common.{◌≡◌, ℕ, List, [], ◌∷◌, ◌++◌, Bool, true, false, ◌||◌, Option, Some, None, ◌⊎◌, inl, inr, refl, sym, ap, ◌∙◌}
 use Rattle.sh_exec.specs.Turns.{turn}
-use Rattle.sh_exec.specs.declared.process.Process.{Process}
+use Rattle.sh_exec.specs.Tasks.{pid_of}
+use Rattle.sh_exec.specs.declared.task.Task.{Task}
 use Rattle.sh_exec_machine.specs.Forking.{fork_of}
 use Rattle.sh_kernel.specs.Laws.{opens}
 use Rattle.sh_kernel.specs.Requests.{Request, after_request}
@@ -58,9 +59,10 @@ module _ (pid : ℕ) (directory : List ℕ) where
       (λ t child b. (b.0, (more_by (Some child) b.0 b.1.0, b.1.1))) (λ child. one_by (Some child) s child (inr refl))
       s before writes ([], (tt, refl))
 
-pub turns : {S : Type 0} (m : Meaning S) (s : KernelState) (pid : ℕ) (process : Process S) → let t = turn m s pid process in ByRequests pid (number_of t.child) (directory_of process) s t.machine
-turns m s pid process =
-    let directory = directory_of process in
+pub turns : {S : Type 0} (m : Meaning S) (s : KernelState) (task : Task S) → let t = turn m s task in ByRequests (pid_of task) (number_of t.child) (directory_of task) s t.machine
+turns m s task =
+    let pid = pid_of task in
+    let directory = directory_of task in
     turn_keeps m directory pid (λ made. ByRequests pid made directory s) (λ made. own_more pid directory made s)
     (λ t before writes b. by_then pid directory (fork_of t pid before writes).child s t (fork_of t pid before writes).after b (fork_by pid directory t before writes))
-    s process refl ([], (tt, refl))
+    s task refl refl ([], (tt, refl))

@@ -1,56 +1,98 @@
 -- Turns of processes, shells and programs.
-use Rattle.std.proofs.Common.{◌≡◌, ℕ, List, [], ◌∷◌, Option, Some, None}
+use Rattle.std.proofs.Common.{◌≡◌, ℕ, List, [], ◌∷◌, Option, Some, None, option_map, refl, sym, subst}
 use Rattle.sh_exec.specs.Programs.{ask_turn, end_turn, read_turn, write_turn}
-use Rattle.sh_exec.specs.Starting.{start_named, start_turn, started_by, starting_in, stock_start}
-use Rattle.sh_exec.specs.Turns.{Turned, runs_by, turn}
-use Rattle.sh_exec.specs.declared.process.Process.{Process}
-use Rattle.sh_exec.specs.declared.process.Process.TheVariants.{Runs, Asks}
+use Rattle.sh_exec.specs.Starting.{Invocation, start_named, start_turn, started_by, starting_in, stock_start}
+use Rattle.sh_exec.specs.Turns.{Turned, by_shell, made_task, runs_by, turn}
+use Rattle.sh_exec.specs.Tasks.{pid_of}
+use Rattle.sh_exec.specs.declared.task.Task.{Task}
+use Rattle.sh_exec.specs.declared.task.Task.TheVariants.{Runs, Asks}
+use Rattle.sh_builtin.specs.declared.shell.Shell.{Shell}
 use Rattle.sh_exec.specs.Search.{located_of}
 use Rattle.sh_exec.specs.declared.search.Located.{Located}
 use Rattle.sh_exec.specs.declared.search.Located.TheVariants as located
-use Rattle.sh_exec_forms.specs.Running.{ShellState, active_of}
+use Rattle.sh_exec_forms.specs.Running.{InterpreterState, active_of}
 use Rattle.sh_kernel_descriptors.specs.declared.descriptor.DescriptorRef.TheVariants.{Number}
 use Rattle.sh_kernel.specs.Requests.{End, StartProgram}
 use Rattle.sh_kernel.specs.State.{KernelState}
 use Rattle.sh_stock.specs.Asking.{Meaning}
 use Rattle.sh_stock.specs.declared.asking.Ask.{Ask}
 use Rattle.sh_stock.specs.declared.asking.Ask.TheVariants as ask
-use Rattle.sh_vars.specs.Environment.{Environment}
-use Rattle.sh_laws.specs.Requests.{directory_of, number_of}
+use Rattle.sh_laws.specs.Requests.{directory_of, made_number, number_of}
 use Rattle.sh_laws.proofs.TurnRequests.{IsForked, IsKept, give_keeps, take_keeps}
 use Rattle.sh_laws.proofs.TurnSteps.{shell_keeps}
+use Rattle.sh_exec_shell.specs.Forks as shell
+use Rattle.sh_exec_shell.specs.Reduction.{shell_turn}
+
+-- a process that was made is called by the number that its shell has
+numbers_same : (S : Type 0) (child : Option InterpreterState) → made_number child ≡ number_of (option_map (made_task {S = S}) child)
+numbers_same S None = refl
+numbers_same S (Some interpreter) = refl
 
 module _ {S : Type 0} (m : Meaning S) (directory : List ℕ) (pid : ℕ) (P : Option ℕ → KernelState → Type 0) (kept : (made : Option ℕ) → IsKept directory pid (P made)) (forks : IsForked pid P) where
-  stocked_keeps : (s : KernelState) (env : Environment) (name : List ℕ) (o : Option S) → P None s → P None (stock_start m s pid env name o).machine
-  stocked_keeps s env name None p = p
-  stocked_keeps s env name (Some program) p = kept None s StartProgram tt p
+  own_kept : (n : ℕ) → n ≡ pid → IsKept directory n (P None)
+  own_kept n e = subst (λ q. IsKept directory q (P None)) (sym e) (kept None)
 
-  started_keeps : (s : KernelState) (env : Environment) (name : List ℕ) (operands : List (List ℕ)) (l : Located) → P None s → P None (started_by m s pid env name operands l).machine
-  started_keeps s env name operands located.Missing p = p
-  started_keeps s env name operands located.Unfit p = p
-  started_keeps s env name operands (located.Stock program) p = stocked_keeps s env name (m.start program operands) p
-  started_keeps s env name operands (located.Script path text) p = kept None s StartProgram tt p
+  stocked_keeps : (s : KernelState) (shell : Shell) (name : List ℕ) (o : Option S) → shell.pid ≡ pid → P None s → P None (stock_start m s shell name o).machine
+  stocked_keeps s shell name None e p = p
+  stocked_keeps s shell name (Some program) e p = own_kept shell.pid e s StartProgram tt p
 
-  start_keeps : (s : KernelState) (env : Environment) (fields : List (List ℕ)) → P None s → P None (start_turn m s pid env fields).machine
+  started_keeps : (s : KernelState) (shell : Shell) (invocation : Invocation) (l : Located) → shell.pid ≡ pid → P None s → P None (started_by m s shell invocation l).machine
+  started_keeps s shell invocation located.Missing e p = p
+  started_keeps s shell invocation located.Unfit e p = p
+  started_keeps s shell invocation (located.Stock program) e p = stocked_keeps s shell invocation.name (m.start program invocation.operands) e p
+  started_keeps s shell invocation (located.Script path text) e p = own_kept shell.pid e s StartProgram tt p
+
+  start_keeps : (s : KernelState) (shell : Shell) (fields : List (List ℕ)) → shell.pid ≡ pid → P None s → P None (start_turn m s shell fields).machine
   unfolding start_named
-  start_keeps s env [] p = p
-  start_keeps s env (name ∷ operands) p = started_keeps s env name operands (located_of s.machine.files env name) p
+  start_keeps s shell [] e p = p
+  start_keeps s shell (name ∷ operands) e p =
+      started_keeps s shell (record { name = name; operands = operands }) (located_of s.machine.files shell.vars name) e p
 
-  ask_keeps : (s : KernelState) (a : Ask) (program : S) → P None s → P None (ask_turn m s pid a program).machine
+  ask_keeps : (s : KernelState) (n : ℕ) (a : Ask) (program : S) → n ≡ pid → P None s → P None (ask_turn m s n a program).machine
   unfolding read_turn write_turn end_turn
-  ask_keeps s (ask.Read count) program p = take_keeps directory pid (P None) (kept None) s (Number 0) count p
-  ask_keeps s (ask.Write bytes) program p = give_keeps directory pid (P None) (kept None) s 1 bytes p
-  ask_keeps s ask.Stop program p = p
-  ask_keeps s ask.Idle program p = p
-  ask_keeps s (ask.End status) program p = kept None s (End status) tt p
+  ask_keeps s n (ask.Read count) program e p = take_keeps directory n (P None) (own_kept n e) s (Number 0) count p
+  ask_keeps s n (ask.Write bytes) program e p = give_keeps directory n (P None) (own_kept n e) s 1 bytes p
+  ask_keeps s n ask.Stop program e p = p
+  ask_keeps s n ask.Idle program e p = p
+  ask_keeps s n (ask.End status) program e p = own_kept n e s (End status) tt p
 
   abbrev Leaves : Turned S → Type 0
   Leaves t = P (number_of t.child) t.machine
 
-  runs_keeps : (s : KernelState) (shell : ShellState) (o : Option (List (List ℕ))) → shell.environment.directory ≡ directory → P None s → Leaves (runs_by m s pid shell o)
-  runs_keeps s shell None e p = shell_keeps directory pid P kept forks s shell e p
-  runs_keeps s shell (Some fields) e p = start_keeps s shell.environment fields p
+  by_shell_keeps : (t : shell.Turned) → P (made_number t.child) t.left.machine → Leaves (by_shell t)
+  by_shell_keeps t p = subst (λ made. P made t.left.machine) (numbers_same S t.child) p
 
-  pub turn_keeps : (s : KernelState) (process : Process S) → directory_of process ≡ directory → P None s → Leaves (turn m s pid process)
-  turn_keeps s (Runs shell) e p = runs_keeps s shell (starting_in (active_of shell.run)) e p
-  turn_keeps s (Asks a program) e p = ask_keeps s a program p
+  runs_keeps : (s : KernelState) (interpreter : InterpreterState) (o : Option (List (List ℕ))) → interpreter.shell.pid ≡ pid → interpreter.shell.vars.directory ≡ directory → P None s → Leaves (runs_by m s interpreter o)
+  runs_keeps s interpreter None e d p = by_shell_keeps (shell_turn s interpreter) (shell_keeps directory pid P kept forks s interpreter e d p).1
+  runs_keeps s interpreter (Some fields) e d p = start_keeps s interpreter.shell fields e p
+
+  pub turn_keeps : (s : KernelState) (task : Task S) → pid_of task ≡ pid → directory_of task ≡ directory → P None s → Leaves (turn m s task)
+  turn_keeps s (Runs interpreter) e d p = runs_keeps s interpreter (starting_in (active_of interpreter.run)) e d p
+  turn_keeps s (Asks n a program) e d p = ask_keeps s n a program e p
+
+-- ---- a process keeps its number
+module _ {S : Type 0} (m : Meaning S) where
+  stocked_number : (s : KernelState) (shell : Shell) (name : List ℕ) (o : Option S) → pid_of (stock_start m s shell name o).next ≡ shell.pid
+  stocked_number s shell name None = refl
+  stocked_number s shell name (Some program) = refl
+
+  started_number : (s : KernelState) (shell : Shell) (invocation : Invocation) (l : Located) → pid_of (started_by m s shell invocation l).next ≡ shell.pid
+  started_number s shell invocation located.Missing = refl
+  started_number s shell invocation located.Unfit = refl
+  started_number s shell invocation (located.Stock program) = stocked_number s shell invocation.name (m.start program invocation.operands)
+  started_number s shell invocation (located.Script path text) = refl
+
+  start_number : (s : KernelState) (shell : Shell) (fields : List (List ℕ)) → pid_of (start_turn m s shell fields).next ≡ shell.pid
+  unfolding start_named
+  start_number s shell [] = refl
+  start_number s shell (name ∷ operands) =
+      started_number s shell (record { name = name; operands = operands }) (located_of s.machine.files shell.vars name)
+
+  runs_number : (s : KernelState) (interpreter : InterpreterState) (o : Option (List (List ℕ))) → pid_of (runs_by m s interpreter o).task ≡ interpreter.shell.pid
+  runs_number s interpreter None =
+      (shell_keeps interpreter.shell.vars.directory interpreter.shell.pid (λ made t. Unit {0}) (λ made t r from p. tt) (λ t before writes p. tt) s interpreter refl refl tt).0
+  runs_number s interpreter (Some fields) = start_number s interpreter.shell fields
+
+  pub turn_number : (s : KernelState) (task : Task S) → pid_of (turn m s task).task ≡ pid_of task
+  turn_number s (Runs interpreter) = runs_number s interpreter (starting_in (active_of interpreter.run))
+  turn_number s (Asks n a program) = refl

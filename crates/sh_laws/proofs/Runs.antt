@@ -1,9 +1,8 @@
 -- Events and runs as requests.
 use Rattle.std.proofs.Common.{ℕ, List, [], ◌∷◌, ◌++◌, true, false, Option, Some, None, refl, sym, ap, ◌∙◌}
 use Rattle.std.specs.Prelude.{nat_eq, if◌then◌else◌}
-use Rattle.sh_exec.specs.Tasks.{task_turn}
+use Rattle.sh_exec.specs.Tasks.{pid_of}
 use Rattle.sh_exec.specs.Turns.{turn}
-use Rattle.sh_exec.specs.declared.process.Process.{Process}
 use Rattle.sh_kernel.specs.State.{KernelState}
 use Rattle.sh_stock.specs.Asking.{Meaning}
 use Rattle.sh_machine.specs.Choice.{choice}
@@ -19,16 +18,16 @@ module _ {S : Type 0} (m : Meaning S) (first : KernelState) where
   Comes = ComesByRequests first
 
   -- the requests of a turn come behind those before it
-  turn_comes : (s : KernelState) (pid : ℕ) (process : Process S) → Comes s → Comes (turn m s pid process).machine
-  turn_comes s pid process c =
-      let more = turns m s pid process in
+  turn_comes : (s : KernelState) (task : Task S) → Comes s → Comes (turn m s task).machine
+  turn_comes s task c =
+      let more = turns m s task in
       (c.0 ++ more.0, more.1.1 ∙ ap (λ (u : KernelState). after_all u more.0) c.1 ∙ sym (after_append first c.0 more.0))
 
   among_comes : (s : KernelState) (pid : ℕ) (tasks : List (Task S)) → Comes s → Comes (turn_among m s pid tasks).machine
   among_comes s pid [] c = c
   among_comes s pid (task ∷ tasks) c =
-      elim (nat_eq task.pid pid) as (λ b. Comes (if b then turned_first tasks (task_turn m s task) else behind task (turn_among m s pid tasks)).machine) [
-        | true ↦ turn_comes s task.pid task.process c
+      elim (nat_eq (pid_of task) pid) as (λ b. Comes (if b then turned_first tasks (turn m s task) else behind task (turn_among m s pid tasks)).machine) [
+        | true ↦ turn_comes s task c
         | false ↦ among_comes s pid tasks c
       ]
 

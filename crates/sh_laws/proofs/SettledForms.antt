@@ -2,6 +2,7 @@
 use Rattle.std.proofs.Common.{ℕ, zero, suc, List, [], ◌∷◌, Option, Bool, true, false, refl, sym, subst}
 use Rattle.std.specs.Prelude.{drop}
 use Rattle.sh_builtin.specs.Running.{built_in}
+use Rattle.sh_builtin.specs.declared.shell.Shell.{Shell}
 use Rattle.sh_builtin.specs.declared.outcome.Completion.{Completion}
 use Rattle.sh_builtin.specs.declared.outcome.Completion.TheVariants as completion
 use Rattle.sh_builtin.specs.declared.outcome.Outcome.{Outcome}
@@ -29,7 +30,6 @@ use Rattle.sh_syntax.specs.declared.tree.CompoundList.{CompoundList}
 use Rattle.sh_syntax.specs.declared.tree.Connected.{Connected}
 use Rattle.sh_syntax.specs.declared.tree.ElseIf.{ElseIf}
 use Rattle.sh_syntax.specs.declared.tree.ListItem.{ListItem}
-use Rattle.sh_vars.specs.Environment.{Environment}
 use Rattle.sh_laws.specs.BeforeAction.{ActiveStands, FormHolds, LoopHolds, PlaceHolds, RunStands}
 use Rattle.sh_laws.specs.Beginnings.{ConnectedBegin, ElseBegins, ElseIfsBegin, ItemsBegin, ListBegins, more_connected, more_else_ifs, more_items, no_else, no_else_ifs, no_items, no_more, with_else}
 use Rattle.sh_laws.proofs.BegunCommands.{and_or_stands, list_stands, others_stand, pipeline_stands}
@@ -120,15 +120,15 @@ given_by_settled : (series : ForLoop) (left : List (List ℕ)) (status : ℕ) �
 given_by_settled series [] status b = tt
 given_by_settled series (value ∷ left) status b = b
 
-left_settled : (looped : Bool) (l : Leave) (s : KernelState) (env : Environment) (next : Run) → Settled next → ActedSettled (loop_left s env next (onward looped l))
-left_settled looped (leave.Exit status) s env next p = tt
-left_settled looped (leave.Fault status) s env next p = tt
-left_settled looped (leave.Break zero) s env next p = tt
-left_settled false (leave.Break (suc inside)) s env next p = tt
-left_settled true (leave.Break (suc inside)) s env next p = tt
-left_settled looped (leave.Continue zero) s env next p = p
-left_settled false (leave.Continue (suc inside)) s env next p = p
-left_settled true (leave.Continue (suc inside)) s env next p = tt
+left_settled : (looped : Bool) (l : Leave) (s : KernelState) (shell : Shell) (next : Run) → Settled next → ActedSettled (loop_left s shell next (onward looped l))
+left_settled looped (leave.Exit status) s shell next p = tt
+left_settled looped (leave.Fault status) s shell next p = tt
+left_settled looped (leave.Break zero) s shell next p = tt
+left_settled false (leave.Break (suc inside)) s shell next p = tt
+left_settled true (leave.Break (suc inside)) s shell next p = tt
+left_settled looped (leave.Continue zero) s shell next p = p
+left_settled false (leave.Continue (suc inside)) s shell next p = p
+left_settled true (leave.Continue (suc inside)) s shell next p = tt
 
 -- ---- what follows a built-in
 completion_settled : (status : Completion) → ActiveSettled (at_completion status)
@@ -150,63 +150,62 @@ behind_settled : (builtin : Builtin) (outcome : Outcome) → ActiveSettled (behi
 behind_settled builtin outcome = output_settled builtin outcome.out _
 
 -- ---- a form after what is in it
-module _ (pid : ℕ) where
-  undone_settled : (undo : Undo) (s : KernelState) (env : Environment) (run : Run) → Settled run → ActedSettled (undone pid undo s env run)
-  unfolding undone
-  undone_settled undo s env run p = p
+undone_settled : (undo : Undo) (s : KernelState) (shell : Shell) (run : Run) → Settled run → ActedSettled (undone undo s shell run)
+unfolding undone
+undone_settled undo s shell run p = p
 
-  status_settled : (form : Form) (s : KernelState) (env : Environment) (status : ℕ) → FormHolds form → ActedSettled (after_status pid form s env status)
-  status_settled (Text rest) s env status h = tt
-  status_settled (Commands items) s env status h = items_settled items status h
-  status_settled (Joined others) s env status h = connected_settled others status h
-  status_settled Negated s env status h = tt
-  status_settled (Restoring undo) s env status h = undone_settled undo s env (At (Done status)) tt
-  status_settled (If branches) s env status h = branch_settled branches status h
-  status_settled (Condition loop last) s env status h = body_settled loop last status h
-  status_settled (Body loop) s env status h = condition_settled loop status h
-  status_settled (ForBody series) s env status h = given_by_settled series series.values status h
+status_settled : (form : Form) (s : KernelState) (shell : Shell) (status : ℕ) → FormHolds form → ActedSettled (after_status form s shell status)
+status_settled (Text rest) s shell status h = tt
+status_settled (Commands items) s shell status h = items_settled items status h
+status_settled (Joined others) s shell status h = connected_settled others status h
+status_settled Negated s shell status h = tt
+status_settled (Restoring undo) s shell status h = undone_settled undo s shell (At (Done status)) tt
+status_settled (If branches) s shell status h = branch_settled branches status h
+status_settled (Condition loop last) s shell status h = body_settled loop last status h
+status_settled (Body loop) s shell status h = condition_settled loop status h
+status_settled (ForBody series) s shell status h = given_by_settled series series.values status h
 
-  leave_settled : (looped : Bool) (form : Form) (s : KernelState) (env : Environment) (l : Leave) → FormHolds form → ActedSettled (after_leave pid looped form s env l)
-  leave_settled looped (Text rest) s env l h = tt
-  leave_settled looped (Commands items) s env l h = tt
-  leave_settled looped (Joined others) s env l h = tt
-  leave_settled looped Negated s env l h = tt
-  leave_settled looped (Restoring undo) s env l h = undone_settled undo s env (At (Leaving l)) tt
-  leave_settled looped (If branches) s env l h = tt
-  leave_settled looped (Condition loop last) s env l h = left_settled looped l s env (condition_run loop last) (condition_settled loop last h)
-  leave_settled looped (Body loop) s env l h = left_settled looped l s env (condition_run loop 0) (condition_settled loop 0 h)
-  leave_settled looped (ForBody series) s env l h = left_settled looped l s env (At (rest_of_series series 0)) (given_by_settled series series.values 0 h)
+leave_settled : (looped : Bool) (form : Form) (s : KernelState) (shell : Shell) (l : Leave) → FormHolds form → ActedSettled (after_leave looped form s shell l)
+leave_settled looped (Text rest) s shell l h = tt
+leave_settled looped (Commands items) s shell l h = tt
+leave_settled looped (Joined others) s shell l h = tt
+leave_settled looped Negated s shell l h = tt
+leave_settled looped (Restoring undo) s shell l h = undone_settled undo s shell (At (Leaving l)) tt
+leave_settled looped (If branches) s shell l h = tt
+leave_settled looped (Condition loop last) s shell l h = left_settled looped l s shell (condition_run loop last) (condition_settled loop last h)
+leave_settled looped (Body loop) s shell l h = left_settled looped l s shell (condition_run loop 0) (condition_settled loop 0 h)
+leave_settled looped (ForBody series) s shell l h = left_settled looped l s shell (At (rest_of_series series 0)) (given_by_settled series series.values 0 h)
 
-  after_by_settled : (looped : Bool) (form : Form) (s : KernelState) (env : Environment) (run : Run) → FormHolds form → Settled run → ActedSettled (after_by pid looped form s env run)
-  after_by_settled looped form s env (At (Done status)) h p = status_settled form s env status h
-  after_by_settled looped form s env (At (Leaving l)) h p = leave_settled looped form s env l h
-  after_by_settled looped form s env (At (Acting builtin fields)) h p = absurd p
-  after_by_settled looped form s env (At (Next place)) h p = (h, p)
-  after_by_settled looped form s env (In inner run) h p = (h, p)
+after_by_settled : (looped : Bool) (form : Form) (s : KernelState) (shell : Shell) (run : Run) → FormHolds form → Settled run → ActedSettled (after_by looped form s shell run)
+after_by_settled looped form s shell (At (Done status)) h p = status_settled form s shell status h
+after_by_settled looped form s shell (At (Leaving l)) h p = leave_settled looped form s shell l h
+after_by_settled looped form s shell (At (Acting builtin fields)) h p = absurd p
+after_by_settled looped form s shell (At (Next place)) h p = (h, p)
+after_by_settled looped form s shell (In inner run) h p = (h, p)
 
-  pub after_settled : (looped : Bool) (form : Form) (a : Acted) → FormHolds form → ActedSettled a → ActedSettled (after pid looped form a)
-  unfolding after
-  after_settled looped form a h p = after_by_settled looped form a.machine a.environment a.run h p
+pub after_settled : (looped : Bool) (form : Form) (a : Acted) → FormHolds form → ActedSettled a → ActedSettled (after looped form a)
+unfolding after
+after_settled looped form a h p = after_by_settled looped form a.machine a.shell a.run h p
 
-  -- ---- a built-in acts
-  effect_settled : (s : KernelState) (env : Environment) (active : Active) → ActiveHolds active → ActiveSettled (effect_at s pid env active).active
-  unfolding builtin_effect
-  effect_settled s env (Acting builtin fields) h = behind_settled builtin (built_in s.machine pid env builtin (drop 1 fields)).outcome
-  effect_settled s env (Next place) h = h
-  effect_settled s env (Done status) h = tt
-  effect_settled s env (Leaving l) h = tt
+-- ---- a built-in acts
+effect_settled : (s : KernelState) (shell : Shell) (active : Active) → ActiveHolds active → ActiveSettled (effect_at s shell active).active
+unfolding builtin_effect
+effect_settled s shell (Acting builtin fields) h = behind_settled builtin (built_in s.machine shell builtin (drop 1 fields)).outcome
+effect_settled s shell (Next place) h = h
+effect_settled s shell (Done status) h = tt
+effect_settled s shell (Leaving l) h = tt
 
-  within_settled : (looped : Bool) (active : Active) → ActiveSettled active → ActiveSettled (within_loop looped active)
-  within_settled looped (Acting builtin fields) p = p
-  within_settled looped (Next place) p = p
-  within_settled looped (Done status) p = tt
-  within_settled looped (Leaving (leave.Exit status)) p = tt
-  within_settled looped (Leaving (leave.Fault status)) p = tt
-  within_settled true (Leaving (leave.Break inside)) p = tt
-  within_settled false (Leaving (leave.Break inside)) p = tt
-  within_settled true (Leaving (leave.Continue inside)) p = tt
-  within_settled false (Leaving (leave.Continue inside)) p = tt
+within_settled : (looped : Bool) (active : Active) → ActiveSettled active → ActiveSettled (within_loop looped active)
+within_settled looped (Acting builtin fields) p = p
+within_settled looped (Next place) p = p
+within_settled looped (Done status) p = tt
+within_settled looped (Leaving (leave.Exit status)) p = tt
+within_settled looped (Leaving (leave.Fault status)) p = tt
+within_settled true (Leaving (leave.Break inside)) p = tt
+within_settled false (Leaving (leave.Break inside)) p = tt
+within_settled true (Leaving (leave.Continue inside)) p = tt
+within_settled false (Leaving (leave.Continue inside)) p = tt
 
-  pub at_action_settled : (looped : Bool) (s : KernelState) (env : Environment) (run : Run) → Holds run → ActedSettled (at_action pid looped s env run)
-  at_action_settled looped s env (At active) h = within_settled looped (effect_at s pid env active).active (effect_settled s env active h)
-  at_action_settled looped s env (In form run) h = after_settled looped form (at_action pid _ s env run) h.0 (at_action_settled _ s env run h.1)
+pub at_action_settled : (looped : Bool) (s : KernelState) (shell : Shell) (run : Run) → Holds run → ActedSettled (at_action looped s shell run)
+at_action_settled looped s shell (At active) h = within_settled looped (effect_at s shell active).active (effect_settled s shell active h)
+at_action_settled looped s shell (In form run) h = after_settled looped form (at_action _ s shell run) h.0 (at_action_settled _ s shell run h.1)

@@ -2,6 +2,7 @@
 use Rattle.std.proofs.Common.{◌≡◌, ℕ, List, [], ◌∷◌, ◌++◌, length, Option, Some, None, Bool, true, false, sym, subst}
 use Rattle.std.specs.Prelude.{Result, Ok, Err, nat_eq}
 use Rattle.sh_builtin.specs.declared.outcome.Leave.TheVariants as leave
+use Rattle.sh_builtin.specs.declared.shell.Shell.{Shell}
 use Rattle.sh_exec_command.specs.Preparing.{ahead, ahead_by, final_move, performed_by}
 use Rattle.sh_exec_command.specs.Reading.{next_command}
 use Rattle.sh_exec_command.specs.Series.{give_turn}
@@ -14,7 +15,7 @@ use Rattle.sh_exec_command.specs.declared.running.Expanded.TheVariants as expand
 use Rattle.sh_exec_command.specs.declared.running.Finish.{Finish}
 use Rattle.sh_exec_command.specs.declared.running.Report.{Report}
 use Rattle.sh_exec_forms.specs.Builtins.{reported}
-use Rattle.sh_exec_command.specs.declared.running.Finish.TheVariants.{Status, Leave as Leaves, Messages, Output}
+use Rattle.sh_exec_command.specs.declared.running.Finish.TheVariants.{Status, Fault, Messages, Output}
 use Rattle.sh_exec_command.specs.declared.running.Move.{Move}
 use Rattle.sh_exec_command.specs.declared.running.Move.TheVariants as move
 use Rattle.sh_exec_command.specs.declared.running.Pending.{Pending}
@@ -30,7 +31,7 @@ use Rattle.sh_exec_command.specs.declared.series.Round.{Round}
 use Rattle.sh_exec_command.specs.declared.series.Round.TheVariants as round
 use Rattle.sh_exec_forms.specs.Entering.{items_run, list_run}
 use Rattle.sh_exec_forms.specs.Forms.{Acted, with_run}
-use Rattle.sh_exec_forms.specs.Running.{Run, At, In, ShellState, move_run}
+use Rattle.sh_exec_forms.specs.Running.{Run, At, In, InterpreterState, move_run}
 use Rattle.sh_exec_machine.specs.Forking.{fork_of}
 use Rattle.sh_exec_machine.specs.Redirecting.{redirection_outcome}
 use Rattle.sh_exec_machine.specs.Transfers.{give_bytes, take_bytes}
@@ -43,7 +44,7 @@ use Rattle.sh_exec_parts.specs.declared.message.Piece.{Piece}
 use Rattle.sh_exec_parts.specs.declared.redirection.Redirection.{Redirection}
 use Rattle.sh_exec_parts.specs.declared.simple.Assignment.{Assignment}
 use Rattle.sh_exec_shell.specs.Acting.{after_collection, after_writing, answer_by, answer_turn, collect_by, collect_end, collect_from, collect_turn, end_turn, expand_turn, keeps, next, read_turn, redirect_by, redirect_from, redirect_one, redirect_turn, round_run, unwritten, wait_by, wait_turn, with_substitution, with_undo, with_written, write_turn, written_by}
-use Rattle.sh_exec_shell.specs.Forks.{Turned, fork_failure, fork_turn, is_more, program_by, stage_by, stage_from, stage_one, stage_place, stage_turn, substitute_turn, substitution_by}
+use Rattle.sh_exec_shell.specs.Forks.{begun_substitution, Turned, fork_failure, fork_turn, is_more, program_by, stage_by, stage_from, stage_one, stage_place, stage_turn, substitute_turn, substitution_by}
 use Rattle.sh_exec_shell.specs.Reduction.{act_at, act_place, at_root, expanded_by, reduce, shell_turn}
 use Rattle.sh_exec_shell.specs.Waits.{wait_status}
 use Rattle.sh_files.specs.Nodes.{FileMap}
@@ -74,12 +75,12 @@ move_holds (move.At active) h = h
 move_holds (move.Held undo active) h = (tt, h)
 
 -- ---- reading and expansion
-read_holds : (env : Environment) (f : Found) → FoundBegins f → Holds (read_turn env f)
-read_holds env found.Nothing h = tt
-read_holds env (found.Command tree rest) h =
+read_holds : (env : Environment) (status : ℕ) (f : Found) → FoundBegins f → Holds (read_turn env status f)
+read_holds env status found.Nothing h = tt
+read_holds env status (found.Command tree rest) h =
     let items = (view.out-CompoundList tree).items in
     (tt, settled_holds (items_run items env.special.status) (items_settled items env.special.status h))
-read_holds env (found.Fault refusal) h = tt
+read_holds env status (found.Fault refusal) h = tt
 
 expand_holds : (files : FileMap) (env : Environment) (wants : ToExpand) (pending : Option Pending) → WantsHold wants → TurnHolds (expand_turn files env wants pending)
 expand_holds files env (Words command in_place status) pending h = words_hold files env command in_place status pending h
@@ -96,194 +97,195 @@ ahead_stands p (redirection ∷ redirections) assignments e h = h
 ahead_stands p [] (assignment ∷ assignments) e h = h
 ahead_stands p [] [] e h = program_stands p e
 
-module _ (pid : ℕ) where
-  -- ---- what a substitution's process writes
-  collected_holds : (s : KernelState) (env : Environment) (substitution : Substitution) (aside : ℕ) → WantsHold substitution.wants → ActedHolds (after_collection s pid env substitution aside)
-  unfolding after_collection
-  collected_holds s env substitution aside h = h
+-- ---- what a substitution's process writes
+collected_holds : (s : KernelState) (shell : Shell) (substitution : Substitution) (aside : ℕ) → WantsHold substitution.wants → ActedHolds (after_collection s shell substitution aside)
+unfolding after_collection
+collected_holds s shell substitution aside h = h
 
-  collect_by_holds : (s : KernelState) (env : Environment) (substitution : Substitution) (aside : ℕ) (told : ReadOutcome) → WantsHold substitution.wants
-      → ActedHolds (collect_by s pid env substitution aside told)
-  collect_by_holds s env substitution aside (taken.Bytes bytes) h =
-      choose ActedHolds (nat_eq (length bytes) 0) (after_collection s pid env substitution aside) (with_run s env (next (ReadSubstitution (with_written substitution bytes))))
-      (λ e. collected_holds s env substitution aside h) (λ e. h)
-  collect_by_holds s env substitution aside taken.Wait h = h
-  collect_by_holds s env substitution aside taken.Failed h = collected_holds s env substitution aside h
+collect_by_holds : (s : KernelState) (shell : Shell) (substitution : Substitution) (aside : ℕ) (told : ReadOutcome) → WantsHold substitution.wants
+    → ActedHolds (collect_by s shell substitution aside told)
+collect_by_holds s shell substitution aside (taken.Bytes bytes) h =
+    choose ActedHolds (nat_eq (length bytes) 0) (after_collection s shell substitution aside) (with_run s shell (next (ReadSubstitution (with_written substitution bytes))))
+    (λ e. collected_holds s shell substitution aside h) (λ e. h)
+collect_by_holds s shell substitution aside taken.Wait h = h
+collect_by_holds s shell substitution aside taken.Failed h = collected_holds s shell substitution aside h
 
-  collect_end_holds : (s : KernelState) (env : Environment) (substitution : Substitution) (o : Option ℕ) → WantsHold substitution.wants → ActedHolds (collect_end s pid env substitution o)
-  unfolding collect_from
-  collect_end_holds s env substitution None h = h
-  collect_end_holds s env substitution (Some aside) h = let t = take_bytes s pid (Aside aside) 1024 in collect_by_holds t.after env substitution aside t.told h
+collect_end_holds : (s : KernelState) (shell : Shell) (substitution : Substitution) (o : Option ℕ) → WantsHold substitution.wants → ActedHolds (collect_end s shell substitution o)
+unfolding collect_from
+collect_end_holds s shell substitution None h = h
+collect_end_holds s shell substitution (Some aside) h = let t = take_bytes s shell.pid (Aside aside) 1024 in collect_by_holds t.after shell substitution aside t.told h
 
-  collect_holds : (s : KernelState) (env : Environment) (substitution : Substitution) → WantsHold substitution.wants → ActedHolds (collect_turn s pid env substitution)
-  unfolding collect_turn
-  collect_holds s env substitution h = collect_end_holds s env substitution substitution.aside h
+collect_holds : (s : KernelState) (shell : Shell) (substitution : Substitution) → WantsHold substitution.wants → ActedHolds (collect_turn s shell substitution)
+unfolding collect_turn
+collect_holds s shell substitution h = collect_end_holds s shell substitution substitution.aside h
 
-  -- ---- waits
-  with_status_holds : (wants : ToExpand) (status : ℕ) → WantsHold wants → WantsHold (with_substitution wants status)
-  with_status_holds (Words command in_place before) status h = h
-  with_status_holds (Values p) status h = h
-  with_status_holds (ForWords command) status h = h
+-- ---- waits
+with_status_holds : (wants : ToExpand) (status : ℕ) → WantsHold wants → WantsHold (with_substitution wants status)
+with_status_holds (Words command in_place before) status h = h
+with_status_holds (Values p) status h = h
+with_status_holds (ForWords command) status h = h
 
-  answer_by_holds : (substitution : Substitution) (o : Option ℕ) → WantsHold substitution.wants → PlaceHolds (answer_by substitution o)
-  answer_by_holds substitution None h = h
-  answer_by_holds substitution (Some status) h = with_status_holds substitution.wants status h
+answer_by_holds : (substitution : Substitution) (o : Option ℕ) → WantsHold substitution.wants → PlaceHolds (answer_by substitution o)
+answer_by_holds substitution None h = h
+answer_by_holds substitution (Some status) h = with_status_holds substitution.wants status h
 
-  answer_holds : (s : KernelState) (substitution : Substitution) → WantsHold substitution.wants → PlaceHolds (answer_turn s pid substitution)
-  unfolding answer_turn
-  answer_holds s substitution h = answer_by_holds substitution (wait_status s pid substitution.children) h
+answer_holds : (s : KernelState) (pid : ℕ) (substitution : Substitution) → WantsHold substitution.wants → PlaceHolds (answer_turn s pid substitution)
+unfolding answer_turn
+answer_holds s pid substitution h = answer_by_holds substitution (wait_status s pid substitution.children) h
 
-  wait_by_holds : (children : List ℕ) (o : Option ℕ) → ActiveHolds (wait_by children o)
-  wait_by_holds children None = tt
-  wait_by_holds children (Some status) = tt
+wait_by_holds : (children : List ℕ) (o : Option ℕ) → ActiveHolds (wait_by children o)
+wait_by_holds children None = tt
+wait_by_holds children (Some status) = tt
 
-  wait_holds : (s : KernelState) (children : List ℕ) → ActiveHolds (wait_turn s pid children)
-  unfolding wait_turn
-  wait_holds s children = wait_by_holds children (wait_status s pid children)
+wait_holds : (s : KernelState) (pid : ℕ) (children : List ℕ) → ActiveHolds (wait_turn s pid children)
+unfolding wait_turn
+wait_holds s pid children = wait_by_holds children (wait_status s pid children)
 
-  -- ---- a redirection
-  redirect_by_holds : (p : ExpandedCommand) (word : List ℕ) (r : Result (Unit {0}) KernelFault) (one : Option Undone) → AssignmentsHold p.assignments → Holds (redirect_by p word r one)
-  redirect_by_holds p word (Ok u) one h = move_holds _ (ahead_holds (with_undo p one) h)
-  redirect_by_holds p word (Err f) one h = move_holds _ (not_done_holds p word f)
+-- ---- a redirection
+redirect_by_holds : (p : ExpandedCommand) (word : List ℕ) (r : Result (Unit {0}) KernelFault) (one : Option Undone) → AssignmentsHold p.assignments → Holds (redirect_by p word r one)
+redirect_by_holds p word (Ok u) one h = move_holds _ (ahead_holds (with_undo p one) h)
+redirect_by_holds p word (Err f) one h = move_holds _ (not_done_holds p word f)
 
-  redirect_from_holds : (s : KernelState) (env : Environment) (p : ExpandedCommand) (redirections : List Redirection) → AssignmentsHold p.assignments → ActedHolds (redirect_from s pid env p redirections)
-  unfolding redirect_one
-  redirect_from_holds s env p [] h = move_holds (ahead p) (ahead_holds p h)
-  redirect_from_holds s env p (redirection ∷ redirections) h =
-      let r = redirection_outcome (keeps p.role) s pid env.directory redirection in
-      redirect_by_holds (record p { redirections = redirections }) redirection.word r.answer r.undone h
+redirect_from_holds : (s : KernelState) (shell : Shell) (p : ExpandedCommand) (redirections : List Redirection) → AssignmentsHold p.assignments → ActedHolds (redirect_from s shell p redirections)
+unfolding redirect_one
+redirect_from_holds s shell p [] h = move_holds (ahead p) (ahead_holds p h)
+redirect_from_holds s shell p (redirection ∷ redirections) h =
+    let r = redirection_outcome (keeps p.role) s shell.pid shell.vars.directory redirection in
+    redirect_by_holds (record p { redirections = redirections }) redirection.word r.answer r.undone h
 
-  redirect_holds : (s : KernelState) (env : Environment) (p : ExpandedCommand) → AssignmentsHold p.assignments → ActedHolds (redirect_turn s pid env p)
-  unfolding redirect_turn
-  redirect_holds s env p h = redirect_from_holds s env p p.redirections h
+redirect_holds : (s : KernelState) (shell : Shell) (p : ExpandedCommand) → AssignmentsHold p.assignments → ActedHolds (redirect_turn s shell p)
+unfolding redirect_turn
+redirect_holds s shell p h = redirect_from_holds s shell p p.redirections h
 
-  -- ---- a write, a round, and the end
-  reported_holds : (report : Report) → ActiveHolds (reported report)
-  reported_holds report = settled_active (reported report) (reported_settled report)
+-- ---- a write, a round, and the end
+reported_holds : (report : Report) → ActiveHolds (reported report)
+reported_holds report = settled_active (reported report) (reported_settled report)
 
-  after_writing_holds : (finish : Finish) → ActiveHolds (after_writing finish)
-  after_writing_holds (Status status) = tt
-  after_writing_holds (Leaves status) = tt
-  after_writing_holds (Messages report) = reported_holds report
-  after_writing_holds (Output builtin report) = reported_holds report
+after_writing_holds : (finish : Finish) → ActiveHolds (after_writing finish)
+after_writing_holds (Status status) = tt
+after_writing_holds (Fault status) = tt
+after_writing_holds (Messages report) = reported_holds report
+after_writing_holds (Output builtin report) = reported_holds report
 
-  unwritten_holds : (finish : Finish) → ActiveHolds (unwritten finish)
-  unwritten_holds (Status status) = tt
-  unwritten_holds (Leaves status) = tt
-  unwritten_holds (Messages report) = reported_holds report
-  unwritten_holds (Output builtin report) = tt
+unwritten_holds : (finish : Finish) → ActiveHolds (unwritten finish)
+unwritten_holds (Status status) = tt
+unwritten_holds (Fault status) = tt
+unwritten_holds (Messages report) = reported_holds report
+unwritten_holds (Output builtin report) = tt
 
-  written_by_holds : (piece : Piece) (finish : Finish) (told : WriteOutcome) → ActiveHolds (written_by piece finish told)
-  written_by_holds piece finish given.Whole = after_writing_holds finish
-  written_by_holds piece finish (given.Part count) = tt
-  written_by_holds piece finish given.Wait = tt
-  written_by_holds piece finish given.Ended = tt
-  written_by_holds piece finish given.Failed = unwritten_holds finish
+written_by_holds : (piece : Piece) (finish : Finish) (told : WriteOutcome) → ActiveHolds (written_by piece finish told)
+written_by_holds piece finish given.Whole = after_writing_holds finish
+written_by_holds piece finish (given.Part count) = tt
+written_by_holds piece finish given.Wait = tt
+written_by_holds piece finish given.Ended = tt
+written_by_holds piece finish given.Failed = unwritten_holds finish
 
-  write_holds : (s : KernelState) (env : Environment) (piece : Piece) (finish : Finish) → ActedHolds (write_turn s pid env piece finish)
-  unfolding write_turn
-  write_holds s env piece finish = written_by_holds piece finish (give_bytes s pid piece.descriptor piece.bytes).told
+write_holds : (s : KernelState) (shell : Shell) (piece : Piece) (finish : Finish) → ActedHolds (write_turn s shell piece finish)
+unfolding write_turn
+write_holds s shell piece finish = written_by_holds piece finish (give_bytes s shell.pid piece.descriptor piece.bytes).told
 
-  round_holds : (r : Round) → RoundHolds r → Holds (round_run r)
-  round_holds (round.Body series) h = (h, stands_holds (list_run series.body) (list_stands series.body h))
-  round_holds (round.Over active) h = h
+round_holds : (r : Round) → RoundHolds r → Holds (round_run r)
+round_holds (round.Body series) h = (h, stands_holds (list_run series.body) (list_stands series.body h))
+round_holds (round.Over active) h = h
 
-  end_holds : (s : KernelState) (env : Environment) (status : ℕ) → ActedHolds (end_turn s pid env status)
-  unfolding end_turn
-  end_holds s env status = tt
+end_holds : (s : KernelState) (shell : Shell) (status : ℕ) → ActedHolds (end_turn s shell status)
+unfolding end_turn
+end_holds s shell status = tt
 
-  -- ---- processes that are made
-  program_holds : (s : KernelState) (env : Environment) (p : ExpandedCommand) (o : Option ℕ) → PlaceHolds (Forking p) → TurnedHolds (program_by s env p o)
-  unfolding ahead
-  program_holds s env p None h = (tt, tt)
-  program_holds s env p (Some child) h = (tt, ahead_stands p p.redirections p.assignments h.0 h.1)
+-- ---- processes that are made
+program_holds : (s : KernelState) (shell : Shell) (p : ExpandedCommand) (o : Option ℕ) → PlaceHolds (Forking p) → TurnedHolds (program_by s shell p o)
+unfolding ahead
+program_holds s shell p None h = (tt, tt)
+program_holds s shell p (Some child) h = (tt, ahead_stands p p.redirections p.assignments h.0 h.1)
 
-  fork_holds : (s : KernelState) (env : Environment) (p : ExpandedCommand) → PlaceHolds (Forking p) → TurnedHolds (fork_turn s pid env p)
-  unfolding fork_turn
-  fork_holds s env p h = let f = fork_of s pid None false in program_holds f.after env p f.child h
+fork_holds : (s : KernelState) (shell : Shell) (p : ExpandedCommand) → PlaceHolds (Forking p) → TurnedHolds (fork_turn s shell p)
+unfolding fork_turn
+fork_holds s shell p h = let f = fork_of s shell.pid None false in program_holds f.after shell p f.child h
 
-  stage_place_holds : (commands : List Command) (aside : Option ℕ) (children : List ℕ) → CommandsBegin commands → PlaceHolds (stage_place commands aside children)
-  stage_place_holds [] aside children b = tt
-  stage_place_holds (command ∷ commands) aside children b = b
+stage_place_holds : (commands : List Command) (aside : Option ℕ) (children : List ℕ) → CommandsBegin commands → PlaceHolds (stage_place commands aside children)
+stage_place_holds [] aside children b = tt
+stage_place_holds (command ∷ commands) aside children b = b
 
-  stage_by_holds : (s : KernelState) (env : Environment) (command : Command) (commands : List Command) (aside : Option ℕ) (children : List ℕ) (o : Option ℕ) → CommandBegins command → CommandsBegin commands
-      → TurnedHolds (stage_by s env command commands aside children o)
-  stage_by_holds s env command commands aside children None c b = (tt, tt)
-  stage_by_holds s env command commands aside children (Some child) c b = (stage_place_holds commands aside (children ++ child ∷ []) b, stage_stands command c)
+stage_by_holds : (s : KernelState) (shell : Shell) (command : Command) (stages : Stages) (o : Option ℕ) → CommandBegins command → CommandsBegin stages.commands
+    → TurnedHolds (stage_by s shell command stages o)
+stage_by_holds s shell command stages None c b = (tt, tt)
+stage_by_holds s shell command stages (Some child) c b =
+    (stage_place_holds stages.commands stages.aside (stages.children ++ child ∷ []) b, stage_stands command c)
 
-  stage_from_holds : (s : KernelState) (env : Environment) (commands : List Command) (aside : Option ℕ) (children : List ℕ) → CommandsBegin commands → TurnedHolds (stage_from s pid env commands aside children)
-  unfolding stage_one
-  stage_from_holds s env _ aside children no_commands = (tt, tt)
-  stage_from_holds s env _ aside children (more_commands command commands c b) =
-      let f = fork_of s pid aside (is_more commands) in stage_by_holds f.after env command commands f.aside children f.child c b
+stage_from_holds : (s : KernelState) (shell : Shell) (stages : Stages) (commands : List Command) → CommandsBegin commands → TurnedHolds (stage_from s shell stages commands)
+unfolding stage_one
+stage_from_holds s shell stages _ no_commands = (tt, tt)
+stage_from_holds s shell stages _ (more_commands command commands c b) =
+    let f = fork_of s shell.pid stages.aside (is_more commands) in
+    stage_by_holds f.after shell command (record stages { commands = commands; aside = f.aside }) f.child c b
 
-  stage_holds : (s : KernelState) (env : Environment) (stages : Stages) → CommandsBegin stages.commands → TurnedHolds (stage_turn s pid env stages)
-  unfolding stage_turn
-  stage_holds s env stages b = stage_from_holds s env stages.commands stages.aside stages.children b
+stage_holds : (s : KernelState) (shell : Shell) (stages : Stages) → CommandsBegin stages.commands → TurnedHolds (stage_turn s shell stages)
+unfolding stage_turn
+stage_holds s shell stages b = stage_from_holds s shell stages stages.commands b
 
-  failure_holds : (wants : ToExpand) → MoveHolds (fork_failure wants)
-  failure_holds (Words command in_place status) = tt
-  failure_holds (Values p) = tt
-  failure_holds (ForWords command) = tt
+failure_holds : (wants : ToExpand) → MoveHolds (fork_failure wants)
+failure_holds (Words command in_place status) = tt
+failure_holds (Values p) = tt
+failure_holds (ForWords command) = tt
 
-  substitution_holds : (s : KernelState) (env : Environment) (program : CompoundList) (wants : ToExpand) (pending : Pending) (aside o : Option ℕ) → ItsItems program → WantsHold wants
-      → TurnedHolds (substitution_by s env program wants pending aside o)
-  substitution_holds s env program wants pending aside None b h = (move_holds (fork_failure wants) (failure_holds wants), tt)
-  substitution_holds s env program wants pending aside (Some child) b h = (h, body_stands program b)
+substitution_holds : (s : KernelState) (shell : Shell) (program : CompoundList) (substitution : Substitution) (o : Option ℕ) → ItsItems program → WantsHold substitution.wants
+    → TurnedHolds (substitution_by s shell program substitution o)
+substitution_holds s shell program substitution None b h = (move_holds (fork_failure substitution.wants) (failure_holds substitution.wants), tt)
+substitution_holds s shell program substitution (Some child) b h = (h, body_stands program b)
 
-  substitute_holds : (s : KernelState) (env : Environment) (program : CompoundList) (wants : ToExpand) (pending : Pending) → ItsItems program → WantsHold wants
-      → TurnedHolds (substitute_turn s pid env program wants pending)
-  unfolding substitute_turn
-  substitute_holds s env program wants pending b h =
-      let f = fork_of s pid None true in substitution_holds f.after env program wants pending f.aside f.child b h
+substitute_holds : (s : KernelState) (shell : Shell) (program : CompoundList) (wants : ToExpand) (pending : Pending) → ItsItems program → WantsHold wants
+    → TurnedHolds (substitute_turn s shell program wants pending)
+unfolding substitute_turn
+substitute_holds s shell program wants pending b h =
+    let f = fork_of s shell.pid None true in substitution_holds f.after shell program (begun_substitution wants pending f.aside) f.child b h
 
-  expanded_holds : (s : KernelState) (env : Environment) (e : Expanded) → ExpandedHolds e → TurnedHolds (expanded_by s pid env e)
-  expanded_holds s env (expanded.Need program wants pending) h = substitute_holds s env program wants pending h.0 h.1
-  expanded_holds s env (expanded.Go m) h = (move_holds m h, tt)
+expanded_holds : (s : KernelState) (shell : Shell) (e : Expanded) → ExpandedHolds e → TurnedHolds (expanded_by s shell e)
+expanded_holds s shell (expanded.Need program wants pending) h = substitute_holds s shell program wants pending h.0 h.1
+expanded_holds s shell (expanded.Go m) h = (move_holds m h, tt)
 
-  -- ---- the turn
-  place_holds : (s : KernelState) (env : Environment) (place : Action) → PlaceHolds place → TurnedHolds (act_place s pid env place)
-  place_holds s env (Reading rest) h = (read_holds env (next_command rest) (next_holds rest), tt)
-  place_holds s env (Expanding wants pending) h =
-      let t = expand_turn s.machine.files env wants pending in expanded_holds s t.environment t.outcome (expand_holds s.machine.files env wants pending h)
-  place_holds s env (ReadSubstitution substitution) h = (collect_holds s env substitution h, tt)
-  place_holds s env (WaitSubstitution substitution) h = (answer_holds s substitution h, tt)
-  place_holds s env (Redirecting p) h = (redirect_holds s env p h, tt)
-  place_holds s env (Forking p) h = fork_holds s env p h
-  place_holds s env (Starting fields) h = (tt, tt)
-  place_holds s env (ForkStage stages) h = stage_holds s env stages h
-  place_holds s env (AssignLoopVariable series) h = (round_holds (give_turn env series).round (give_holds env series h), tt)
-  place_holds s env (Waiting children) h = (wait_holds s children, tt)
-  place_holds s env (Writing piece finish) h = (write_holds s env piece finish, tt)
-  place_holds s env (Ending status) h = (end_holds s env status, tt)
+-- ---- the turn
+place_holds : (s : KernelState) (shell : Shell) (place : Action) → PlaceHolds place → TurnedHolds (act_place s shell place)
+place_holds s shell (Reading rest status) h = (read_holds shell.vars status (next_command rest) (next_holds rest), tt)
+place_holds s shell (Expanding wants pending) h =
+    let t = expand_turn s.machine.files shell.vars wants pending in expanded_holds s (record shell { vars = t.environment }) t.outcome (expand_holds s.machine.files shell.vars wants pending h)
+place_holds s shell (ReadSubstitution substitution) h = (collect_holds s shell substitution h, tt)
+place_holds s shell (WaitSubstitution substitution) h = (answer_holds s shell.pid substitution h, tt)
+place_holds s shell (Redirecting p) h = (redirect_holds s shell p h, tt)
+place_holds s shell (Forking p) h = fork_holds s shell p h
+place_holds s shell (Starting fields) h = (tt, tt)
+place_holds s shell (ForkStage stages) h = stage_holds s shell stages h
+place_holds s shell (AssignLoopVariable series) h = (round_holds (give_turn shell.vars series).round (give_holds shell.vars series h), tt)
+place_holds s shell (Waiting children) h = (wait_holds s shell.pid children, tt)
+place_holds s shell (Writing piece finish) h = (write_holds s shell piece finish, tt)
+place_holds s shell (Ending status) h = (end_holds s shell status, tt)
 
-  active_holds : (s : KernelState) (env : Environment) (active : Active) → ActiveStands active → TurnedHolds (act_at s pid env active)
-  active_holds s env (Acting builtin fields) h = absurd h
-  active_holds s env (Next place) h = place_holds s env place h
-  active_holds s env (Done status) h = absurd h
-  active_holds s env (Leaving l) h = absurd h
+active_holds : (s : KernelState) (shell : Shell) (active : Active) → ActiveStands active → TurnedHolds (act_at s shell active)
+active_holds s shell (Acting builtin fields) h = absurd h
+active_holds s shell (Next place) h = place_holds s shell place h
+active_holds s shell (Done status) h = absurd h
+active_holds s shell (Leaving l) h = absurd h
 
-  reduce_settled : (s : KernelState) (env : Environment) (looped : Bool) (run : Run) → RunStands run → let t = reduce s pid env looped run in Settled t.left.run × ChildStands t.child
-  reduce_settled s env looped (At active) h =
-      let t = act_at s pid env active in
-      let holds = active_holds s env active h in
-      (at_action_settled pid looped t.left.machine t.left.environment t.left.run holds.0, holds.1)
-  reduce_settled s env looped (In form run) h =
-      let settled = reduce_settled s env _ run h.1 in
-      (after_settled pid looped form (reduce s pid env _ run).left h.0 settled.0, settled.1)
+reduce_settled : (s : KernelState) (shell : Shell) (looped : Bool) (run : Run) → RunStands run → let t = reduce s shell looped run in Settled t.left.run × ChildStands t.child
+reduce_settled s shell looped (At active) h =
+    let t = act_at s shell active in
+    let holds = active_holds s shell active h in
+    (at_action_settled looped t.left.machine t.left.shell t.left.run holds.0, holds.1)
+reduce_settled s shell looped (In form run) h =
+    let settled = reduce_settled s shell _ run h.1 in
+    (after_settled looped form (reduce s shell _ run).left h.0 settled.0, settled.1)
 
-  root_stands : (run : Run) → Settled run → RunStands (at_root run)
-  root_stands (At (Leaving (leave.Exit status))) p = tt
-  root_stands (At (Leaving (leave.Fault status))) p = tt
-  root_stands (At (Leaving (leave.Break inside))) p = tt
-  root_stands (At (Leaving (leave.Continue inside))) p = tt
-  root_stands (At (Done status)) p = tt
-  root_stands (At (Acting builtin fields)) p = p
-  root_stands (At (Next place)) p = p
-  root_stands (In form run) p = p
+root_stands : (run : Run) → Settled run → RunStands (at_root run)
+root_stands (At (Leaving (leave.Exit status))) p = tt
+root_stands (At (Leaving (leave.Fault status))) p = tt
+root_stands (At (Leaving (leave.Break inside))) p = tt
+root_stands (At (Leaving (leave.Continue inside))) p = tt
+root_stands (At (Done status)) p = tt
+root_stands (At (Acting builtin fields)) p = p
+root_stands (At (Next place)) p = p
+root_stands (In form run) p = p
 
-  pub shell_stands : (s : KernelState) (shell : ShellState) → RunStands shell.run → let t = shell_turn s pid shell in RunStands t.left.run × ChildStands t.child
-  unfolding shell_turn
-  shell_stands s shell h =
-      let settled = reduce_settled s shell.environment false shell.run h in
-      (root_stands (reduce s pid shell.environment false shell.run).left.run settled.0, settled.1)
+pub shell_stands : (s : KernelState) (interpreter : InterpreterState) → RunStands interpreter.run → let t = shell_turn s interpreter in RunStands t.left.run × ChildStands t.child
+unfolding shell_turn
+shell_stands s interpreter h =
+    let settled = reduce_settled s interpreter.shell false interpreter.run h in
+    (root_stands (reduce s interpreter.shell false interpreter.run).left.run settled.0, settled.1)

@@ -1,18 +1,17 @@
 -- After each list of events every process stands before an action.
 use Rattle.std.proofs.Common.{ℕ, List, [], ◌∷◌, true, false, Option, Some, None}
 use Rattle.std.specs.List.{filter}
-use Rattle.std.specs.Prelude.{codes, cond, length, option_map, nat_eq, nat_le, ◌&&◌}
-use Rattle.sh_exec.specs.Tasks.{first_place, made_task, task_turn}
+use Rattle.std.specs.Prelude.{codes, cond, length, nat_eq, nat_le, ◌&&◌}
+use Rattle.sh_exec.specs.Tasks.{first_place, pid_of}
 use Rattle.sh_exec.specs.Turns.{turn}
 use Rattle.sh_exec_command.specs.declared.running.Action.TheVariants.{Reading}
-use Rattle.sh_exec_shell.specs.declared.shell.Child.{Child}
 use Rattle.sh_files.specs.Nodes.{FileMap, node_of_path}
 use Rattle.sh_files_image.specs.declared.node.Node.{Node}
 use Rattle.sh_files_image.specs.declared.node.Node.TheVariants.{Directory, File, Null, Terminal}
 use Rattle.sh_kernel.specs.State.{KernelState}
 use Rattle.sh_laws.proofs.CommandTurns.{choose}
-use Rattle.sh_laws.proofs.ProcessTurns.{process_next, turn_stands}
-use Rattle.sh_laws.specs.BeforeAction.{AreBeforeActions, ChildStands, PlaceHolds, ProcessStands, TasksStand}
+use Rattle.sh_laws.proofs.ProcessTurns.{task_next, turn_stands}
+use Rattle.sh_laws.specs.BeforeAction.{AreBeforeActions, MadeStands, PlaceHolds, TasksStand}
 use Rattle.sh_stock.specs.Asking.{Meaning}
 use Rattle.sh_machine.specs.Choice.{choice}
 use Rattle.sh_exec.specs.Scripts.{place_by, script_place, unreadable}
@@ -29,7 +28,7 @@ place_holds : (path : List ℕ) (o : Option Node) → PlaceHolds (place_by path 
 place_holds path None = tt
 place_holds path (Some Directory) = tt
 place_holds path (Some (File file)) =
-    choose PlaceHolds (file.flags.read && nat_le (length file.bytes) 16777216) (Reading file.bytes) (unreadable path) (λ e. tt) (λ e. tt)
+    choose PlaceHolds (file.flags.read && nat_le (length file.bytes) 16777216) (Reading file.bytes 0) (unreadable path) (λ e. tt) (λ e. tt)
 place_holds path (Some Null) = tt
 place_holds path (Some Terminal) = tt
 
@@ -42,14 +41,6 @@ pub start_stands : (S : Type 0) (image : FileMap) (settings : Settings) → Task
 start_stands S image settings = (first_holds image settings.source, tt)
 
 -- ---- an event
-abbrev MadeStands : {S : Type 0} → Option (Task S) → Type 0
-MadeStands None = Unit {0}
-MadeStands (Some task) = ProcessStands task.process
-
-made_stands : (S : Type 0) (child : Option Child) → ChildStands child → MadeStands (option_map (made_task {S = S}) child)
-made_stands S None c = c
-made_stands S (Some child) c = c
-
 module _ {S : Type 0} (m : Meaning S) where
   abbrev TurnedStand : TasksTurned S → Type 0
   TurnedStand t = TasksStand t.tasks × MadeStands t.child
@@ -57,10 +48,10 @@ module _ {S : Type 0} (m : Meaning S) where
   among_stand : (s : KernelState) (pid : ℕ) (tasks : List (Task S)) → TasksStand tasks → TurnedStand (turn_among m s pid tasks)
   among_stand s pid [] h = (tt, tt)
   among_stand s pid (task ∷ tasks) h =
-      let first = turn_stands m task.pid s task.process h.0 in
+      let first = turn_stands m s task h.0 in
       let others = among_stand s pid tasks h.1 in
-      choose TurnedStand (nat_eq task.pid pid) (turned_first tasks (task_turn m s task)) (behind task (turn_among m s pid tasks))
-      (λ e. ((first.0, h.1), made_stands S (turn m s task.pid task.process).child first.1)) (λ e. ((h.0, others.0), others.1))
+      choose TurnedStand (nat_eq (pid_of task) pid) (turned_first tasks (turn m s task)) (behind task (turn_among m s pid tasks))
+      (λ e. ((first.0, h.1), first.1)) (λ e. ((h.0, others.0), others.1))
 
   with_child_stand : (tasks : List (Task S)) (child : Option (Task S)) → TasksStand tasks → MadeStands child → TasksStand (with_child tasks child)
   with_child_stand tasks None h c = h
@@ -86,7 +77,7 @@ module _ {S : Type 0} (m : Meaning S) where
 
   tasks_next : (tasks : List (Task S)) → TasksStand tasks → AreBeforeActions tasks
   tasks_next [] h = tt
-  tasks_next (task ∷ tasks) h = (process_next task.process h.0, tasks_next tasks h.1)
+  tasks_next (task ∷ tasks) h = (task_next task h.0, tasks_next tasks h.1)
 
   pub runs_next : (image : FileMap) (settings : Settings) (events : List Event) → AreBeforeActions (run m (start image settings) events).tasks
   runs_next image settings events = tasks_next (run m (start image settings) events).tasks (run_stands (start image settings) events (start_stands S image settings))

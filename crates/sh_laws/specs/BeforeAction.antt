@@ -2,8 +2,8 @@
 -- keep more of a shell than that: all of the syntax that it holds begins with an action wherever it is entered (`Beginnings.antt`), so that
 -- it stands before an action after its next turn too.
 use Rattle.std.specs.Prelude.{◌≡◌, List, [], ◌∷◌, Option, Some, None}
-use Rattle.sh_exec.specs.declared.process.Process.{Process}
-use Rattle.sh_exec.specs.declared.process.Process.TheVariants.{Runs, Asks}
+use Rattle.sh_exec.specs.declared.task.Task.{Task}
+use Rattle.sh_exec.specs.declared.task.Task.TheVariants.{Runs, Asks}
 use Rattle.sh_exec_command.specs.declared.found.Found.{Found}
 use Rattle.sh_exec_command.specs.declared.found.Found.TheVariants as found
 use Rattle.sh_exec_command.specs.declared.running.Active.{Active}
@@ -13,16 +13,14 @@ use Rattle.sh_exec_command.specs.declared.running.Action.TheVariants.{Reading, E
 use Rattle.sh_exec_command.specs.declared.running.Role.TheVariants.{Program}
 use Rattle.sh_exec_command.specs.declared.running.ToExpand.{ToExpand}
 use Rattle.sh_exec_command.specs.declared.running.ToExpand.TheVariants.{Words, Values, ForWords}
-use Rattle.sh_exec_forms.specs.Running.{Run, At, In, active_of}
+use Rattle.sh_exec_forms.specs.Running.{InterpreterState, Run, At, In, active_of}
 use Rattle.sh_exec_forms.specs.declared.form.Form.{Form}
 use Rattle.sh_exec_forms.specs.declared.form.Form.TheVariants.{Text, Commands, Joined, Negated, Restoring, If, Condition, Body, ForBody}
 use Rattle.sh_exec_forms.specs.declared.form.Loop.{Loop}
 use Rattle.sh_exec_parts.specs.declared.simple.Assignment.{Assignment}
-use Rattle.sh_exec_shell.specs.declared.shell.Child.{Child}
 use Rattle.sh_expand.specs.Parts.{parts_of}
 use Rattle.sh_laws.specs.Beginnings.{CommandBegins, CommandsBegin, ConnectedBegin, ElseBegins, ElseIfsBegin, ItemsBegin, ListBegins, PartsBegin}
 use Rattle.sh_syntax.specs.declared.tree.Command.TheViews as view
-use Rattle.sh_exec.specs.declared.task.Task.{Task}
 
 -- ---- an action is next
 abbrev pub IsNext : Active → Type 0
@@ -31,13 +29,13 @@ IsNext (Acting builtin fields) = ⊥
 IsNext (Done status) = ⊥
 IsNext (Leaving leave) = ⊥
 
-abbrev pub IsBeforeAction : {S : Type 0} → Process S → Type 0
-IsBeforeAction (Runs shell) = IsNext (active_of shell.run)
-IsBeforeAction (Asks ask program) = Unit {0}
+abbrev pub IsBeforeAction : {S : Type 0} → Task S → Type 0
+IsBeforeAction (Runs interpreter) = IsNext (active_of interpreter.run)
+IsBeforeAction (Asks pid ask program) = Unit {0}
 
 abbrev pub AreBeforeActions : {S : Type 0} → List (Task S) → Type 0
 AreBeforeActions [] = Unit {0}
-AreBeforeActions (task ∷ tasks) = IsBeforeAction task.process × AreBeforeActions tasks
+AreBeforeActions (task ∷ tasks) = IsBeforeAction task × AreBeforeActions tasks
 
 -- ---- what a place holds begins with an action
 abbrev pub AssignmentsHold : List Assignment → Type 0
@@ -51,7 +49,7 @@ WantsHold (ForWords command) = CommandBegins command
 
 -- a process is made for a program alone
 abbrev pub PlaceHolds : Action → Type 0
-PlaceHolds (Reading rest) = Unit {0}
+PlaceHolds (Reading rest status) = Unit {0}
 PlaceHolds (Expanding wants pending) = WantsHold wants
 PlaceHolds (ReadSubstitution substitution) = WantsHold substitution.wants
 PlaceHolds (WaitSubstitution substitution) = WantsHold substitution.wants
@@ -90,17 +88,21 @@ abbrev pub RunStands : Run → Type 0
 RunStands (At active) = ActiveStands active
 RunStands (In form run) = FormHolds form × RunStands run
 
-abbrev pub ChildStands : Option Child → Type 0
+abbrev pub ChildStands : Option InterpreterState → Type 0
 ChildStands None = Unit {0}
-ChildStands (Some child) = RunStands child.shell.run
+ChildStands (Some child) = RunStands child.run
 
-abbrev pub ProcessStands : {S : Type 0} → Process S → Type 0
-ProcessStands (Runs shell) = RunStands shell.run
-ProcessStands (Asks ask program) = Unit {0}
+abbrev pub TaskStands : {S : Type 0} → Task S → Type 0
+TaskStands (Runs interpreter) = RunStands interpreter.run
+TaskStands (Asks pid ask program) = Unit {0}
+
+abbrev pub MadeStands : {S : Type 0} → Option (Task S) → Type 0
+MadeStands None = Unit {0}
+MadeStands (Some task) = TaskStands task
 
 abbrev pub TasksStand : {S : Type 0} → List (Task S) → Type 0
 TasksStand [] = Unit {0}
-TasksStand (task ∷ tasks) = ProcessStands task.process × TasksStand tasks
+TasksStand (task ∷ tasks) = TaskStands task × TasksStand tasks
 
 -- ---- the command that is found in a text begins with an action
 abbrev pub FoundBegins : Found → Type 0

@@ -1,8 +1,9 @@
 -- What processes do to a kernel by requests.
 use Rattle.std.specs.Prelude.{◌≡◌, ℕ, List, [], ◌∷◌, ◌++◌, Bool, false, ◌||◌, Option, Some, option_map, ◌⊎◌}
-use Rattle.sh_exec.specs.declared.process.Process.{Process}
-use Rattle.sh_exec.specs.declared.process.Process.TheVariants.{Runs, Asks}
-use Rattle.sh_exec_shell.specs.declared.shell.Child.{Child}
+use Rattle.sh_exec.specs.Tasks.{pid_of}
+use Rattle.sh_exec.specs.declared.task.Task.{Task}
+use Rattle.sh_exec.specs.declared.task.Task.TheVariants.{Runs, Asks}
+use Rattle.sh_exec_forms.specs.Running.{InterpreterState}
 use Rattle.sh_laws.specs.Rooted.{OpensFrom}
 use Rattle.sh_kernel.specs.Laws.{ChangesOnlyReached, opens}
 use Rattle.sh_kernel.specs.Requests.{Request, after_request}
@@ -14,13 +15,16 @@ abbrev pub IsFrom : List ℕ → Request → Type 0
 IsFrom directory = OpensFrom (λ other. other ≡ directory)
 
 -- the process that a turn made, if it made one
-abbrev pub number_of : Option Child → Option ℕ
-number_of child = option_map (λ made. made.pid) child
+abbrev pub number_of : {S : Type 0} → Option (Task S) → Option ℕ
+number_of child = option_map pid_of child
+
+abbrev pub made_number : Option InterpreterState → Option ℕ
+made_number child = option_map (λ made. made.shell.pid) child
 
 -- a program opens no files
-abbrev pub directory_of : {S : Type 0} → Process S → List ℕ
-directory_of (Runs shell) = shell.environment.directory
-directory_of (Asks ask program) = []
+abbrev pub directory_of : {S : Type 0} → Task S → List ℕ
+directory_of (Runs interpreter) = interpreter.shell.vars.directory
+directory_of (Asks pid ask program) = []
 
 -- each request is of this process, or of the one that it makes, and paths go from the directory
 abbrev pub AllBy : (pid : ℕ) → (made : Option ℕ) → List ℕ → List (ℕ × Request) → Type 0

@@ -1,11 +1,12 @@
 //! Laws of turns and runs.
-ghost use Rattle.std.specs.Prelude.{ℕ, ◌<◌, List};
+ghost use Rattle.std.specs.Prelude.{◌≡◌, ℕ, ◌<◌, List};
 ghost use Rattle.sh_exec.specs.Turns.{turn};
-ghost use Rattle.sh_exec.specs.declared.process.Process.{Process};
-ghost use Rattle.sh_exec_forms.specs.Running.{ShellState};
+ghost use Rattle.sh_exec.specs.Tasks.{pid_of};
+ghost use Rattle.sh_exec.specs.declared.task.Task.{Task};
+ghost use Rattle.sh_exec_forms.specs.Running.{InterpreterState};
 ghost use Rattle.sh_exec_shell.specs.Reduction.{shell_turn};
 ghost use Rattle.sh_files.specs.Nodes.{FileMap};
-ghost use Rattle.sh_laws.specs.BeforeAction.{AreBeforeActions, ChildStands, IsBeforeAction, ProcessStands, RunStands, TasksStand};
+ghost use Rattle.sh_laws.specs.BeforeAction.{AreBeforeActions, ChildStands, IsBeforeAction, MadeStands, RunStands, TaskStands, TasksStand};
 ghost use Rattle.sh_laws.specs.Forking.{UnmadeReachNothing};
 ghost use Rattle.sh_kernel_descriptors.specs.Processes.{next_pid};
 ghost use Rattle.sh_kernel.specs.Laws.{OnlyGrows};
@@ -20,9 +21,14 @@ use sh_stock::Stock;
 /// Law: all that a turn does to the kernel is done by requests of the process that takes it, and of the one that it makes; a shell opens files
 /// from its working directory.
 pub fn turns_are_requests<S: Stock>()
-    ensures { (s : KernelState) (pid : ℕ) (process : Process S)
-        → let t = turn S.meaning s pid process in ByRequests pid (number_of t.child)
-        (directory_of process) s t.machine }
+    ensures { (s : KernelState) (task : Task S)
+        → let t = turn S.meaning s task in ByRequests (pid_of task) (number_of t.child)
+        (directory_of task) s t.machine }
+{}
+
+/// Law: a process has the same number after its turn.
+pub fn turns_keep_numbers<S: Stock>()
+    ensures { (s : KernelState) (task : Task S) → pid_of (turn S.meaning s task).task ≡ pid_of task }
 {}
 
 /// Law: by its turn a process changes only pipes and files that its descriptors refer to or that it opens. It
@@ -30,8 +36,10 @@ pub fn turns_are_requests<S: Stock>()
 /// status of another process that was there. Premises: the process is there, and no descriptor is of a
 /// process that is still to come.
 pub fn turns_change_what_is_reached<S: Stock>()
-    ensures { (s : KernelState) (pid : ℕ) (process : Process S) → pid < next_pid s.machine.processes → UnmadeReachNothing s.machine →
-        let t = turn S.meaning s pid process in ChangesByRequests pid (number_of t.child) (directory_of process) s t.machine }
+    ensures { (s : KernelState) (task : Task S) → pid_of task < next_pid s.machine.processes
+        → UnmadeReachNothing s.machine
+        → let t = turn S.meaning s task in ChangesByRequests (pid_of task) (number_of t.child)
+        (directory_of task) s t.machine }
 {}
 
 /// Law: whatever the events, and so under every schedule, the kernel's state after them comes from the state
@@ -56,11 +64,11 @@ pub fn runs_only_grow<S: Stock>()
 /// action is also to hold only commands that begin with one wherever they are entered; otherwise an empty
 /// list, which no text has, would be done at once.
 pub fn turns_end_before_actions<S: Stock>()
-    ensures shell { (s : KernelState) (pid : ℕ) (shell : ShellState) → RunStands shell.run
-        → let t = shell_turn s pid shell in RunStands t.left.run × ChildStands t.child }
-    ensures process { (s : KernelState) (pid : ℕ) (process : Process S) → ProcessStands process
-        → let t = turn S.meaning s pid process in ProcessStands t.process × ChildStands t.child }
-    ensures next { (process : Process S) → ProcessStands process → IsBeforeAction process }
+    ensures shell { (s : KernelState) (interpreter : InterpreterState) → RunStands interpreter.run
+        → let t = shell_turn s interpreter in RunStands t.left.run × ChildStands t.child }
+    ensures process { (s : KernelState) (task : Task S) → TaskStands task
+        → let t = turn S.meaning s task in TaskStands t.task × MadeStands t.child }
+    ensures next { (task : Task S) → TaskStands task → IsBeforeAction task }
 {}
 
 /// Law: after any list of events, and so under every schedule, each process of a world that has just been

@@ -1,6 +1,7 @@
 -- The order of processes, and the order of the runnable ones.
 use Rattle.std.specs.Prelude.{◌≡◌, ℕ, ◌<◌, List, [], ◌∷◌, map, nat_eq, ◌||◌, Bool, false, Option, Some, None, if◌then◌else◌}
 use Rattle.sh_exec.specs.Actions.{action_of}
+use Rattle.sh_exec.specs.Tasks.{pid_of}
 use Rattle.sh_kernel.specs.State.{KernelState}
 use Rattle.sh_kernel.specs.Turns.{Action, is_runnable}
 use Rattle.sh_exec.specs.declared.task.Task.{Task}
@@ -20,12 +21,12 @@ has [] n = false
 has (m ∷ ms) n = nat_eq m n || has ms n
 
 abbrev pub pids_of : {S : Type 0} → List (Task S) → List ℕ
-pids_of tasks = map (λ task. task.pid) tasks
+pids_of tasks = map pid_of tasks
 
 -- what the process of each pid is about to do
 abbrev pub actions_of : {S : Type 0} → List (Task S) → ℕ → Option Action
 actions_of [] pid = None
-actions_of (task ∷ tasks) pid = if nat_eq task.pid pid then Some (action_of task.process) else actions_of tasks pid
+actions_of (task ∷ tasks) pid = if nat_eq (pid_of task) pid then Some (action_of task) else actions_of tasks pid
 
 -- the list of runnable pids rises, and has every process that can take a turn and no other
 pub record ListsRunnable {S : Type 0} (s : KernelState) (tasks : List (Task S)) (pids : List ℕ) : Type 0 where

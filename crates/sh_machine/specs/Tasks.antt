@@ -2,7 +2,8 @@
 use Rattle.std.specs.Prelude.{◌≡◌, ℕ, suc, List, [], ◌∷◌, ◌++◌, nat_eq, Bool, Option, Some, None, if◌then◌else◌}
 use Rattle.std.specs.List.{filter}
 use Rattle.sh_exec.specs.Actions.{action_of}
-use Rattle.sh_exec.specs.Tasks.{TaskTurned, task_turn}
+use Rattle.sh_exec.specs.Tasks.{pid_of}
+use Rattle.sh_exec.specs.Turns.{Turned, turn}
 use Rattle.sh_kernel.specs.State.{KernelKept, KernelState, StandsAt}
 use Rattle.sh_kernel.specs.Turns.{can_do}
 use Rattle.sh_kernel_descriptors.specs.Processes.{lives}
@@ -11,7 +12,7 @@ use Rattle.sh_exec.specs.declared.task.Task.{Task}
 
 -- those that can take a turn
 abbrev pub pid_before : {S : Type 0} → KernelState → Task S → List ℕ → List ℕ
-pid_before s task pids = if can_do s task.pid (action_of task.process) then task.pid ∷ pids else pids
+pid_before s task pids = if can_do s (pid_of task) (action_of task) then pid_of task ∷ pids else pids
 
 abbrev pub runnable_pids : {S : Type 0} → KernelState → List (Task S) → List ℕ
 runnable_pids s [] = []
@@ -23,8 +24,8 @@ pub record TasksTurned (S : Type 0) : Type 0 where
   pub tasks : List (Task S)
   pub child : Option (Task S)
 
-abbrev pub turned_first : {S : Type 0} → List (Task S) → TaskTurned S → TasksTurned S
-turned_first tasks t = record { machine = t.machine; tasks = t.after ∷ tasks; child = t.child }
+abbrev pub turned_first : {S : Type 0} → List (Task S) → Turned S → TasksTurned S
+turned_first tasks t = record { machine = t.machine; tasks = t.task ∷ tasks; child = t.child }
 
 abbrev pub behind : {S : Type 0} → Task S → TasksTurned S → TasksTurned S
 behind task t = record t { tasks = task ∷ t.tasks }
@@ -32,14 +33,14 @@ behind task t = record t { tasks = task ∷ t.tasks }
 -- how many processes are before the one of this pid, or all
 abbrev pub place_of : {S : Type 0} → ℕ → List (Task S) → ℕ
 place_of pid [] = 0
-place_of pid (task ∷ tasks) = if nat_eq task.pid pid then 0 else suc (place_of pid tasks)
+place_of pid (task ∷ tasks) = if nat_eq (pid_of task) pid then 0 else suc (place_of pid tasks)
 
 -- a turn of the process of this pid
 abbrev pub turn_among : {S : Type 0} → Meaning S → KernelState → ℕ → List (Task S) → TasksTurned S
 turn_among m s pid [] = record { machine = s; tasks = []; child = None }
 turn_among m s pid (task ∷ tasks) =
-    if nat_eq task.pid pid
-    then turned_first tasks (task_turn m s task)
+    if nat_eq (pid_of task) pid
+    then turned_first tasks (turn m s task)
     else behind task (turn_among m s pid tasks)
 
 -- a process that was made has the greatest pid
@@ -49,7 +50,7 @@ with_child tasks (Some child) = tasks ++ child ∷ []
 
 -- a process that has ended is gone
 abbrev pub is_living : {S : Type 0} → KernelState → Task S → Bool
-is_living s task = lives s.machine.processes task.pid
+is_living s task = lives s.machine.processes (pid_of task)
 
 abbrev pub living : {S : Type 0} → KernelState → List (Task S) → List (Task S)
 living s tasks = filter (is_living s) tasks

@@ -26,7 +26,7 @@ pub(crate) fn runnable_pids<S: Stock>(
     let mut rest = tasks;
     'tasks: while let Some((task, others)) = rest.split_first() {
         if task.is_runnable(kernel) {
-            pids.push(task.pid)?;
+            pids.push(task.pid())?;
         }
         rest = others;
     }
@@ -40,7 +40,7 @@ fn place_of<S: Stock>(pid: u32, tasks: &[Task<S>]) -> usize
     let mut place = 0usize;
     let mut rest = tasks;
     'tasks: while let Some((task, others)) = rest.split_first() {
-        if task.pid == pid {
+        if task.pid() == pid {
             return place;
         }
         place += 1;
@@ -99,5 +99,5 @@ pub(crate) fn is_living(kernel: &Kernel, pid: u32) -> bool
 pub(crate) fn keep_living<S: Stock>(kernel: &Kernel, tasks: &mut Vec<Task<S>>)
     ensures { (s : KernelState) → StandsAt kernel.now s → tasks.new.items ≡ living s tasks.old.items }
 {
-    tasks.retain(|task| is_living(kernel, task.pid));
+    tasks.retain(|task| is_living(kernel, task.pid()));
 }

@@ -5,16 +5,16 @@ use Rattle.sh_exec_forms.proofs.forms.go_outward.Goals as goal
 
 pub returns-in-Next-clause-state : goal.returns-in-Next-clause-state
 returns-in-Next-clause-state c = λ s k.
-    stays_on_way c.args.pid c.args.kernel.now c.args.vars.now c.args.frames.now s c.args.active (Next c.in-Next.place) c.in-Next.is k refl
+    stays_on_way c.args.kernel.now c.args.shell.now c.args.frames.now s c.args.active (Next c.in-Next.place) c.in-Next.is k refl
 
 pub returns-in-Acting-clause-state : goal.returns-in-Acting-clause-state
 returns-in-Acting-clause-state c = λ s k.
-    stays_on_way c.args.pid c.args.kernel.now c.args.vars.now c.args.frames.now s c.args.active (Acting c.in-Acting.builtin c.in-Acting.fields) c.in-Acting.is k refl
+    stays_on_way c.args.kernel.now c.args.shell.now c.args.frames.now s c.args.active (Acting c.in-Acting.builtin c.in-Acting.fields) c.in-Acting.is k refl
 
 pub returns-in-None-clause-state : goal.returns-in-None-clause-state
 returns-in-None-clause-state c = λ s k.
-    alone_on_way c.args.pid c.args.kernel.now c.args.vars.now c.pop.new.self c.args.frames.now s c.args.active (Done c.in-Done.status) c.in-Done.is k (search rules) (search rules)
+    alone_on_way c.args.kernel.now c.args.shell.now c.pop.new.self c.args.frames.now s c.args.active (Done c.in-Done.status) c.in-Done.is k (search rules) (search rules)
 
 pub returns-in-None-pop-clause-state : goal.returns-in-None-pop-clause-state
 returns-in-None-pop-clause-state c = λ s k.
-    alone_on_way c.args.pid c.args.kernel.now c.args.vars.now c.pop-in-Leaving.new.self c.args.frames.now s c.args.active (Leaving c.in-Leaving.leave) c.in-Leaving.is k (search rules) (search rules)
+    alone_on_way c.args.kernel.now c.args.shell.now c.pop-in-Leaving.new.self c.args.frames.now s c.args.active (Leaving c.in-Leaving.leave) c.in-Leaving.is k (search rules) (search rules)

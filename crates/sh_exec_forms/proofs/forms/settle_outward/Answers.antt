@@ -6,9 +6,9 @@ use Rattle.sh_exec_forms.proofs.forms.settle_outward.Goals as goal
 
 pub outward-preserved : goal.outward-preserved
 outward-preserved c = (
-  (λ s k. subst (λ step. IsOnWay c.args.pid c.go_outward.new.kernel c.go_outward.new.vars c.go_outward.new.frames step (outward c.args.pid c.args.frames.now (with_run s c.args.vars.now (At c.args.active)))) c.in-Outward.is
-      (onward c.args.pid c.outward.kernel c.outward.vars c.outward.frames c.outward.active c.go_outward.new.kernel c.go_outward.new.vars c.go_outward.new.frames c.in_ok-next.field-0
-      (outward c.args.pid c.args.frames.now (with_run s c.args.vars.now (At c.args.active)))
+  (λ s k. subst (λ step. IsOnWay c.go_outward.new.kernel c.go_outward.new.shell c.go_outward.new.frames step (outward c.args.frames.now (with_run s c.args.shell.now (At c.args.active)))) c.in-Outward.is
+      (onward c.outward.kernel c.outward.shell c.outward.frames c.outward.active c.go_outward.new.kernel c.go_outward.new.shell c.go_outward.new.frames c.in_ok-next.field-0
+      (outward c.args.frames.now (with_run s c.args.shell.now (At c.args.active)))
       (c.outward.invariant.0 s k) c.in_ok-next.ensures.state)),
   search rules,
 )

@@ -9,7 +9,7 @@ use Rattle.sh_exec_forms.proofs.forms.settle_outward.Given as goal
 abbrev pub invariant-outward : goal.invariant-outward
 invariant-outward l =
     ((s : KernelState) → StandsAt l.initial.kernel s
-    → IsOnWay l.pid l.kernel l.vars l.frames (Outward l.active) (outward l.pid l.initial.frames (with_run s l.initial.vars (At l.initial.active))))
+    → IsOnWay l.kernel l.shell l.frames (Outward l.active) (outward l.initial.frames (with_run s l.initial.shell (At l.initial.active))))
     × (l.kernel.terminal ≡ l.initial.kernel.terminal)
 
 abbrev pub decreases-outward : goal.decreases-outward

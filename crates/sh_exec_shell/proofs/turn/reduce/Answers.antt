@@ -6,6 +6,6 @@ use Rattle.sh_exec_shell.proofs.turn.reduce.Goals as goal
 pub returns-in-Ok-clause-state : goal.returns-in-Ok-clause-state
 returns-in-Ok-clause-state c = λ s h.
     let acted = c.in_ok-active.ensures.state s h in
-    turned s c.args.pid c.args.vars.now c.args.frames.now c.args.active c.settle.new.kernel c.act.new.vars c.settle.new.vars
+    turned s c.args.shell.now c.args.frames.now c.args.active c.settle.new.kernel c.act.new.shell c.settle.new.shell
     (run_of c.act.new.frames c.in_ok-active.active) (run_of c.settle.new.frames c.in-Ok.active) c.in_ok-active.child
-    acted.environment acted.run acted.child (c.in-Ok.ensures.state _ acted.state)
+    acted.shell_is acted.run acted.child (c.in-Ok.ensures.state _ acted.state)

@@ -1,6 +1,6 @@
 use Rattle.std.proofs.Common.{◌≤◌, length, sym, subst}
 use Rattle.sh_exec_shell.proofs.Frames.{rooted_within}
-use Rattle.sh_exec_shell.proofs.shell.root.Goals as goal
+use Rattle.sh_exec_shell.proofs.interpreter.root.Goals as goal
 
 -- with a form round the place nothing is at the root
 pub returns-in-len1-up : goal.returns-in-len1-up

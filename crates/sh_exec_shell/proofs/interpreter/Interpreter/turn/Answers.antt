@@ -1,12 +1,12 @@
 use Rattle.std.proofs.Common.{ap, ◌∙◌}
 use Rattle.sh_exec_forms.specs.Frames.{run_of}
 use Rattle.sh_exec_shell.proofs.Frames.{shell_turned}
-use Rattle.sh_exec_shell.proofs.shell.Shell.turn.Goals as goal
+use Rattle.sh_exec_shell.proofs.interpreter.Interpreter.turn.Goals as goal
 
 -- what the reduction leaves, with the end of the process at the root
 pub returns-clause-state : goal.returns-clause-state
 returns-clause-state c = λ s h.
     let forms = c.reduce.new.frames in
-    shell_turned s c.args.pid c.args.self.now c.self.inside.vars (run_of c.self.inside.frames c.replace-active.result)
-    c.reduce.new.kernel c.reduce.new.vars (run_of forms c.in_ok-next.next) (run_of forms c.replace.new.dest) c.in_ok-next.child
+    shell_turned s c.args.self.now c.self.inside.shell (run_of c.self.inside.frames c.replace-active.result)
+    c.reduce.new.kernel c.reduce.new.shell (run_of forms c.in_ok-next.next) (run_of forms c.replace.new.dest) c.in_ok-next.child
     (cc) (c.in_ok-next.ensures.state s h) (ap (run_of forms) c.replace.ensures.after ∙ c.root.ensures)

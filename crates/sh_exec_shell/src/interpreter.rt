@@ -1,4 +1,4 @@
-//! A shell's process.
+//! What interprets commands in a process.
 ghost use Rattle.std.specs.Prelude.{◌≡◌, IfOk, OnOk};
 ghost use Rattle.sh_kernel.specs.State.{KernelState, StandsAt};
 ghost use Rattle.sh_tty.specs.Terminal.{Extends};
@@ -11,43 +11,35 @@ ghost use Rattle.sh_exec_forms.specs.Running.{Run, active_of};
 use crate::turn::reduce;
 use sh_base::NoMemory;
 use sh_base::sequence::Text;
-use sh_builtin::Leave;
+use sh_builtin::{Leave, Shell};
 use sh_exec_command::{Action, Active};
 use sh_exec_forms::{Form, Frames};
 use sh_exec_parts::Rest;
 use sh_kernel::Kernel;
-use sh_vars::Vars;
 use std::alloc::Global;
 use std::marker::Model;
 use std::mem;
 
-/// A shell: its variables, options and parameters (XCU 2.13), and what it runs.
+/// A shell (XCU 2.13) in its process, and what it runs there.
 #[derive(Drop)]
-pub struct Shell {
-    vars: Vars,
+pub struct Interpreter {
+    shell: Shell,
     frames: Frames,
     active: Active,
 }
 
-impl Model for Shell {
+impl Model for Interpreter {
     ghost use Rattle.std.specs.Coded.{codes};
     ghost use Rattle.sh_vars.specs.Codes.{map_code};
     ghost use Rattle.sh_exec_forms.specs.Codes.{run_code};
-    ghost use Rattle.sh_exec_forms.specs.Running.{ShellState};
+    ghost use Rattle.sh_exec_forms.specs.Running.{InterpreterState};
     ghost use Rattle.sh_exec_forms.specs.Frames.{run_of};
 
-    ghost Value = { ShellState };
+    ghost Value = { InterpreterState };
 
     ghost coded = { Prim.hlevel (codes, map_code, run_code) };
 
-    ghost view = { λ t. record { environment = t.vars; run = run_of t.frames t.active } };
-}
-
-/// A shell in a process that another one made.
-#[derive(Drop)]
-pub struct Child {
-    pub pid: u32,
-    pub shell: Shell,
+    ghost view = { λ t. record { shell = t.shell; run = run_of t.frames t.active } };
 }
 
 /// The status of a shell that is left.
@@ -77,49 +69,37 @@ fn root(frames: &Frames, active: Active) -> Active
     }
 }
 
-/// A shell of these variables, these running forms and this active place.
-pub(crate) fn shell_of(vars: Vars, frames: Frames, active: Active) -> Shell
-    ensures { result ≡ record { environment = vars; run = run_of frames active } }
+/// A shell with these running forms and this active place.
+pub(crate) fn interpreter_of(shell: Shell, frames: Frames, active: Active) -> Interpreter
+    ensures { result ≡ record { shell = shell; run = run_of frames active } }
 {
-    Shell {
-        vars,
+    Interpreter {
+        shell,
         frames,
         active,
     }
 }
 
-/// A child that is such a shell.
-pub(crate) fn child_of(pid: u32, vars: Vars, frames: Frames, active: Active) -> Child
-    ensures { result ≡
-        record { pid = pid; shell = record { environment = vars; run = run_of frames active } } }
-{
-    Child {
-        pid,
-        shell: shell_of(vars, frames, active),
-    }
-}
-
-impl Shell {
+impl Interpreter {
     /// A shell that is about to read its text.
-    pub fn reading(alloc: Global, vars: Vars, text: Text) -> Self
-        ensures { result ≡
-            record { environment = vars; run = Run.At (Active.Next (Action.Reading text)) } }
+    pub fn reading(alloc: Global, shell: Shell, text: Text) -> Self
+        ensures { result ≡ record { shell = shell; run = Run.At (Active.Next (Action.Reading text 0)) } }
     {
-        Shell::at(alloc, vars, Action::Reading(Rest::new(text)))
+        Interpreter::at(alloc, shell, Action::Reading(Rest::new(text), 0))
     }
 
-    /// A shell of these variables that is about to do this alone.
-    pub fn at(alloc: Global, vars: Vars, place: Action) -> Self
-        ensures { result ≡ record { environment = vars; run = Run.At (Active.Next place) } }
+    /// A shell that is about to do this alone.
+    pub fn at(alloc: Global, shell: Shell, place: Action) -> Self
+        ensures { result ≡ record { shell = shell; run = Run.At (Active.Next place) } }
     {
-        shell_of(vars, Frames::new(alloc), Active::Next(place))
+        interpreter_of(shell, Frames::new(alloc), Active::Next(place))
     }
 
-    /// Its variables, options and parameters.
-    pub fn vars(&self) -> &Vars
-        ensures { result.now ≡ self.now.environment }
+    /// The shell: its environment, and the number of its process.
+    pub fn shell(&self) -> &Shell
+        ensures { result.now ≡ self.now.shell }
     {
-        &self.vars
+        &self.shell
     }
 
     /// Its active place: what it is about to do.
@@ -138,21 +118,19 @@ impl Shell {
         self.frames.as_slice()
     }
 
-    /// One turn of a shell in the process `pid`, and the process that it made, if it made one. The only error is want of
-    /// memory, after which the shell is given up.
+    /// One turn, and what runs in the process that it made, if it made one. The only error is want of memory, after which
+    /// the shell is given up.
     pub fn turn(
         &mut self,
         alloc: Global,
         kernel: &mut Kernel,
-        pid: u32,
-    ) -> Result<Option<Child>, NoMemory>
+    ) -> Result<Option<Interpreter>, NoMemory>
         ensures state { (s : KernelState) → StandsAt kernel.old s → IfOk result (λ child.
-            IsTurned kernel.new self.new.environment self.new.run child
-            (shell_turn s pid self.old)) }
+            IsTurned kernel.new self.new.shell self.new.run child (shell_turn s self.old)) }
         ensures terminal { Extends kernel.old.terminal.bytes kernel.new.terminal.bytes }
     {
         let active = mem::replace(&mut self.active, Active::Done(0));
-        let (next, child) = reduce(alloc, kernel, pid, &mut self.vars, &mut self.frames, active)?;
+        let (next, child) = reduce(alloc, kernel, &mut self.shell, &mut self.frames, active)?;
         drop(mem::replace(&mut self.active, root(&self.frames, next)));
         Ok(child)
     }
