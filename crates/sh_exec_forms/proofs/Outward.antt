@@ -4,7 +4,8 @@ use Rattle.sh_exec_command.specs.declared.running.Active.TheVariants.{Acting, Ne
 use Rattle.sh_builtin.specs.declared.outcome.Leave.{Leave}
 use Rattle.sh_builtin.specs.declared.shell.Shell.{Shell}
 use Rattle.sh_exec_command.specs.declared.running.Active.{Active}
-use Rattle.sh_exec_forms.specs.Forms.{Acted, HasGone, IsOnWay, after, after_by, after_leave, after_status, at_action, outward, step_run, with_run}
+use Rattle.sh_exec_forms.specs.Builtins.{Performed, effect_at}
+use Rattle.sh_exec_forms.specs.Forms.{Acted, HasGone, HasPerformed, IsActed, IsOnWay, after, after_by, after_leave, after_status, at_action, outward, step_run, with_run, within_loop, within_run}
 use Rattle.sh_exec_forms.specs.Frames.{Goes, IsFewer, Leaves, active_in, has_loop, is_loop, is_over, run_in, run_of}
 use Rattle.sh_exec_forms.specs.Running.{Run, At, In}
 use Rattle.sh_exec_forms.specs.declared.form.Form.{Form}
@@ -108,3 +109,41 @@ pub onward : (kernel : KernelKept) (shell : Shell) (forms : List Form) (active :
     → ((s : KernelState) → StandsAt kernel s → IsOnWay later shell' forms' step (outward forms (with_run s shell (At active))))
     → IsOnWay later shell' forms' step a
 onward kernel shell forms active later shell' forms' step a g h = subst (IsOnWay later shell' forms' step) g.left (h g.machine g.state)
+
+-- ---- what a built-in did is settled
+within_stays : (looped : Bool) (run : Run) → is_over run ≡ false → within_run looped run ≡ run
+within_stays looped (At (Acting builtin fields)) h = refl
+within_stays looped (At (Next place)) h = refl
+within_stays looped (At (Done status)) h = absurd (cc h)
+within_stays looped (At (Leaving leave)) h = absurd (cc h)
+within_stays looped (In form run) h = refl
+
+-- what isn't over runs at its place
+pub performed_inward : (kernel : KernelKept) (s : KernelState) (old shell : Shell) (forms : List Form) (active next : Active)
+    → StandsAt kernel s → HasPerformed shell (Inward next) (effect_at s old active)
+    → IsActed kernel shell (run_of forms next) (at_action false s old (run_of forms active))
+performed_inward kernel s old shell forms active next k h =
+    let p = effect_at s old active in
+    let goes = h.goes forms in
+    let whole = by_forms forms s old (At active)
+        ∙ ap (λ run. outward forms (with_run s p.shell run)) (within_stays (has_loop forms) p.run goes.1)
+        ∙ stays forms s p.shell p.run goes.1 in
+    record {
+      state = subst (λ (a : Acted). StandsAt kernel a.machine) (sym whole) k;
+      shell_is = h.shell_is ∙ ap (λ (a : Acted). a.shell) (sym whole);
+      run = goes.0 ∙ ap (λ (a : Acted). a.run) (sym whole);
+    }
+
+-- what is over goes outward
+pub performed_outward : (later : KernelKept) (s : KernelState) (old shell after_shell : Shell) (forms : List Form) (active next bounded : Active) (ran : Run)
+    → HasPerformed shell (Outward next) (effect_at s old active) → bounded ≡ within_loop (has_loop forms) next
+    → IsActed later after_shell ran (outward forms (with_run s shell (At bounded)))
+    → IsActed later after_shell ran (at_action false s old (run_of forms active))
+performed_outward later s old shell after_shell forms active next bounded ran h b a =
+    let p = effect_at s old active in
+    let goes = h.goes [] in
+    let whole = by_forms forms s old (At active)
+        ∙ ap (λ run. outward forms (with_run s p.shell (within_run (has_loop forms) run))) goes.1
+        ∙ ap (λ this. outward forms (with_run s p.shell (At this))) (sym b)
+        ∙ ap (λ this. outward forms (with_run s this (At bounded))) (sym h.shell_is) in
+    subst (IsActed later after_shell ran) (sym whole) a

@@ -11,6 +11,7 @@ use Rattle.sh_exec_command.specs.declared.running.Active.TheVariants.{Acting, Ne
 use Rattle.sh_exec_command.specs.declared.running.Finish.TheVariants.{Messages, Output}
 use Rattle.sh_exec_command.specs.declared.running.Action.TheVariants.{Writing}
 use Rattle.sh_exec_command.specs.declared.running.Report.{Report}
+use Rattle.sh_exec_forms.specs.Running.{Run, At}
 use Rattle.sh_kernel.specs.State.{KernelState}
 
 abbrev pub at_completion : Completion → Active
@@ -35,13 +36,13 @@ output_of builtin (byte ∷ bytes) report = Next (Writing (record { descriptor =
 abbrev pub behind : Builtin → Outcome → Active
 behind builtin outcome = output_of builtin outcome.out (record { messages = outcome.err; status = outcome.status })
 
--- the shell, and the active place then
+-- the shell then, and what runs at the place: another place, or forms that were entered
 pub record Performed : Type 0 where
   pub shell : Shell
-  pub active : Active
+  pub run : Run
 
 abbrev pub with_active : Shell → Active → Performed
-with_active shell active = record { shell = shell; active = active }
+with_active shell active = record { shell = shell; run = At active }
 
 unfoldable pub builtin_effect : KernelState → Shell → Builtin → List (List ℕ) → Performed
 builtin_effect s shell builtin fields =

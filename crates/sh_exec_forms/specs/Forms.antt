@@ -10,7 +10,7 @@ use Rattle.sh_exec_command.specs.declared.running.Active.TheVariants.{Acting, Ne
 use Rattle.sh_exec_command.specs.declared.running.Action.TheVariants.{Reading}
 use Rattle.sh_exec_command.specs.declared.running.Undo.{Undo}
 use Rattle.sh_exec_machine.specs.Undoing as descriptors
-use Rattle.sh_exec_forms.specs.Builtins.{effect_at}
+use Rattle.sh_exec_forms.specs.Builtins.{Performed, effect_at}
 use Rattle.sh_exec_forms.specs.Entering.{items_run, with_others, list_run, pipeline_run}
 use Rattle.sh_exec_forms.specs.Frames.{Goes, has_loop, is_loop, run_of}
 use Rattle.sh_exec_forms.specs.Running.{Run, At, In}
@@ -102,6 +102,11 @@ within_loop false (Leaving (leave.Break inside)) = Done 0
 within_loop true (Leaving (leave.Continue inside)) = Leaving (leave.Continue inside)
 within_loop false (Leaving (leave.Continue inside)) = Done 0
 
+-- the same of what a built-in leaves; forms that it entered have their own
+abbrev pub within_run : (looped : Bool) → Run → Run
+within_run looped (At active) = At (within_loop looped active)
+within_run looped (In form run) = In form run
+
 -- seen from outside of a loop that is left: how many loops are inside the one that is meant. None where that
 -- is this loop, and where this loop is the outermost one
 abbrev pub beyond : (looped : Bool) → ℕ → Option ℕ
@@ -168,8 +173,13 @@ after looped form a = after_by looped form a.machine a.shell a.run
 -- a built-in acts, and statuses go outward until the place is an action
 abbrev pub at_action : (looped : Bool) → KernelState → Shell → Run → Acted
 at_action looped s shell (At active) =
-    let p = effect_at s shell active in with_run s p.shell (At (within_loop looped p.active))
+    let p = effect_at s shell active in with_run s p.shell (within_run looped p.run)
 at_action looped s shell (In form run) = after looped form (at_action (is_loop form || looped) s shell run)
+
+-- a shell goes on at a step behind what a built-in did, inside whatever forms there are
+pub record HasPerformed (shell : Shell) (step : Step) (p : Performed) : Type 0 where
+  pub shell_is : shell ≡ p.shell
+  pub goes : (forms : List Form) → Goes step forms forms p.run
 
 -- the kernel and the shell are what an action leaves
 pub record IsActed (kernel : KernelKept) (shell : Shell) (ran : Run) (a : Acted) : Type 0 where

@@ -1,8 +1,13 @@
 //! Built-ins act.
-ghost use Rattle.std.specs.Prelude.{◌≡◌, IfOk, drop};
+ghost use Rattle.std.specs.Prelude.{◌≡◌, IfOk, List, drop};
 ghost use Rattle.sh_exec_forms.specs.Builtins.{at_completion, behind, builtin_effect, effect_at, output_of, reported, with_active};
+ghost use Rattle.sh_exec_forms.specs.Forms.{HasPerformed};
+ghost use Rattle.sh_exec_forms.specs.Frames.{Goes};
+ghost use Rattle.sh_exec_forms.specs.Running.{Run};
+ghost use Rattle.sh_exec_forms.specs.declared.form.Form.{Form};
 ghost use Rattle.sh_kernel.specs.State.{KernelState, StandsAt};
 
+use crate::step::Step;
 use sh_base::NoMemory;
 use sh_base::sequence::Text;
 use sh_builtin::{Builtin, Completion, Outcome, Shell};
@@ -93,23 +98,35 @@ fn build(
     Ok(behind(builtin, outcome))
 }
 
-/// The active place, where a built-in has acted if one is to.
+/// Where a shell goes on from a place whose action is next, or is over.
+fn step_at(active: Active) -> Step
+    ensures { (forms : List Form) → Goes result forms forms (Run.At active) }
+{
+    match active {
+        Active::Acting(builtin, fields) => Step::Inward(Active::Acting(builtin, fields)),
+        Active::Next(place) => Step::Inward(Active::Next(place)),
+        Active::Done(status) => Step::Outward(Active::Done(status)),
+        Active::Leaving(leave) => Step::Outward(Active::Leaving(leave)),
+    }
+}
+
+/// Where a shell goes on from its active place, where a built-in has acted if one is to.
 pub(crate) fn perform(
     alloc: Global,
     kernel: &Kernel,
     shell: &mut Shell,
     active: Active,
-) -> Result<Active, NoMemory>
-    ensures { (s : KernelState) → StandsAt kernel.now s → IfOk result (λ next.
-        with_active shell.new next ≡ effect_at s shell.old active) }
+) -> Result<Step, NoMemory>
+    ensures { (s : KernelState) → StandsAt kernel.now s → IfOk result (λ step.
+        HasPerformed shell.new step (effect_at s shell.old active)) }
 {
     match active {
         Active::Acting(builtin, fields) => {
             let next = build(alloc, kernel, shell, builtin, fields.as_slice())?;
-            Ok(next)
+            Ok(step_at(next))
         },
-        Active::Next(place) => Ok(Active::Next(place)),
-        Active::Done(status) => Ok(Active::Done(status)),
-        Active::Leaving(leave) => Ok(Active::Leaving(leave)),
+        Active::Next(place) => Ok(Step::Inward(Active::Next(place))),
+        Active::Done(status) => Ok(Step::Outward(Active::Done(status))),
+        Active::Leaving(leave) => Ok(Step::Outward(Active::Leaving(leave))),
     }
 }

@@ -312,10 +312,14 @@ pub fn settle(
         (at_action false s shell.old (run_of frames.old active))) }
     ensures terminal { kernel.new.terminal ≡ kernel.old.terminal }
 {
-    let active = perform(alloc, kernel, shell, active)?;
-    let active = bound(frames, active);
-    let active = settle_outward(alloc, kernel, shell, frames, active)?;
-    Ok(active)
+    match perform(alloc, kernel, shell, active)? {
+        Step::Inward(active) => Ok(active),
+        Step::Outward(active) => {
+            let active = bound(frames, active);
+            let active = settle_outward(alloc, kernel, shell, frames, active)?;
+            Ok(active)
+        },
+    }
 }
 
 /// Where a command goes on. The only error is want of memory.

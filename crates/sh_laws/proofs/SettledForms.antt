@@ -18,7 +18,7 @@ use Rattle.sh_exec_command.specs.declared.running.Undo.{Undo}
 use Rattle.sh_exec_forms.proofs.Entered.{entered_with}
 use Rattle.sh_exec_forms.specs.Builtins.{at_completion, behind, builtin_effect, effect_at, output_of, reported, said}
 use Rattle.sh_exec_forms.specs.Entering.{items_run, list_run, pipeline_run, with_others}
-use Rattle.sh_exec_forms.specs.Forms.{Acted, after, after_by, after_leave, after_status, at_action, behind_condition, branch, condition_run, connected_run, goes_on, loop_left, onward, otherwise, runs, undone, within_loop}
+use Rattle.sh_exec_forms.specs.Forms.{Acted, after, after_by, after_leave, after_status, at_action, behind_condition, branch, condition_run, connected_run, goes_on, loop_left, onward, otherwise, runs, undone, within_loop, within_run}
 use Rattle.sh_exec_forms.specs.Running.{Run, At, In}
 use Rattle.sh_exec_forms.specs.declared.form.Branches.{Branches}
 use Rattle.sh_exec_forms.specs.declared.form.Form.{Form}
@@ -188,7 +188,7 @@ unfolding after
 after_settled looped form a h p = after_by_settled looped form a.machine a.shell a.run h p
 
 -- ---- a built-in acts
-effect_settled : (s : KernelState) (shell : Shell) (active : Active) → ActiveHolds active → ActiveSettled (effect_at s shell active).active
+effect_settled : (s : KernelState) (shell : Shell) (active : Active) → ActiveHolds active → Settled (effect_at s shell active).run
 unfolding builtin_effect
 effect_settled s shell (Acting builtin fields) h = behind_settled builtin (built_in s.machine shell builtin (drop 1 fields)).outcome
 effect_settled s shell (Next place) h = h
@@ -206,6 +206,10 @@ within_settled false (Leaving (leave.Break inside)) p = tt
 within_settled true (Leaving (leave.Continue inside)) p = tt
 within_settled false (Leaving (leave.Continue inside)) p = tt
 
+within_run_settled : (looped : Bool) (run : Run) → Settled run → Settled (within_run looped run)
+within_run_settled looped (At active) p = within_settled looped active p
+within_run_settled looped (In form run) p = p
+
 pub at_action_settled : (looped : Bool) (s : KernelState) (shell : Shell) (run : Run) → Holds run → ActedSettled (at_action looped s shell run)
-at_action_settled looped s shell (At active) h = within_settled looped (effect_at s shell active).active (effect_settled s shell active h)
+at_action_settled looped s shell (At active) h = within_run_settled looped (effect_at s shell active).run (effect_settled s shell active h)
 at_action_settled looped s shell (In form run) h = after_settled looped form (at_action _ s shell run) h.0 (at_action_settled _ s shell run h.1)

@@ -1,5 +1,5 @@
 -- The shell machine: its states, one event, a list of events, and what can be seen of a state.
-use Rattle.std.specs.Prelude.{ℕ, List, [], ◌∷◌, Bool, Option, Some, None, if◌then◌else◌}
+use Rattle.std.specs.Prelude.{ℕ, List, [], ◌∷◌, Option, Some, None, if◌then◌else◌}
 use Rattle.sh_files.specs.Nodes.{FileMap}
 use Rattle.sh_kernel.specs.State as kernel
 use Rattle.sh_kernel.specs.State.{KernelState}

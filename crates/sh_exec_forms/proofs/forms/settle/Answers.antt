@@ -1,6 +1,20 @@
-use Rattle.std.proofs.Common.{rules}
-use Rattle.sh_exec_forms.proofs.Outward.{by_forms}
+use Rattle.std.proofs.Common.{subst}
+use Rattle.sh_exec_forms.specs.Builtins.{effect_at}
+use Rattle.sh_exec_forms.specs.Forms.{HasPerformed}
+use Rattle.sh_exec_forms.specs.Frames.{run_of}
+use Rattle.sh_exec_forms.proofs.Outward.{performed_inward, performed_outward}
 use Rattle.sh_exec_forms.proofs.forms.settle.Goals as goal
 
-pub returns-clause-state : goal.returns-clause-state
-returns-clause-state c = search (rules, by_forms c.args.frames.now)
+-- an action comes next, at the place or inside what a built-in entered
+pub returns-in-Inward-clause-state : goal.returns-in-Inward-clause-state
+returns-in-Inward-clause-state c = λ s k.
+    performed_inward c.args.kernel.now s c.args.shell.now c.perform.new.shell c.args.frames.now c.args.active c.in-Inward.active k
+    (subst (λ step. HasPerformed c.perform.new.shell step (effect_at s c.args.shell.now c.args.active)) c.in-Inward.is (c.in_ok-active.ensures s k))
+
+-- what is over goes outward
+pub returns-in_ok-active-in-Outward-clause-state : goal.returns-in_ok-active-in-Outward-clause-state
+returns-in_ok-active-in-Outward-clause-state c = λ s k.
+    performed_outward c.settle_outward.new.kernel s c.args.shell.now c.perform.new.shell c.settle_outward.new.shell c.args.frames.now c.args.active
+    c.in-Outward.active c.bound-active.result (run_of c.settle_outward.new.frames c.in_ok-active-in-Outward.active)
+    (subst (λ step. HasPerformed c.perform.new.shell step (effect_at s c.args.shell.now c.args.active)) c.in-Outward.is (c.in_ok-active.ensures s k))
+    c.bound-active.ensures (c.in_ok-active-in-Outward.ensures.state s k)
