@@ -20,7 +20,7 @@ use Rattle.sh_parse_words.specs.Parameters.{braces_of, short}
 use Rattle.sh_parse_words.specs.Places.{behind_piece}
 use Rattle.sh_parse_commands.specs.Results.{and_then, fault_moved}
 use Rattle.sh_parse_commands.specs.Sources.{backquotes_text, behind_pieces, text_between}
-use Rattle.sh_parse_commands.specs.Words.{Reader, at_its_level, answer_of, with_answer, begins_closed, parts_in, place_in, text_by, text_of, whole, with_piece, with_pieces}
+use Rattle.sh_parse_commands.specs.Words.{Reader, at_its_level, answer_of, with_answer, begins_closed, parts_in, place_in, text_by, text_of, whole, with_piece, with_pieces, unread}
 use Rattle.sh_laws.specs.Spelled.{AreSpelled, Balanced, Nested, Spelled, bytes_of, has_value, here, is_alone, next, part_of}
 use Rattle.sh_laws.specs.Spelled as spells
 use Rattle.sh_laws.proofs.Spelled.{arithmetic_opened, at, begun_at, behind_both, braces_opened, closes_same, commands_opened, frame_of, given, go, is_ok, one_less, passed, passing, quiet, quotes_behind, quotes_opened, same_parts, step, text_in_backquotes}
@@ -75,7 +75,7 @@ answered_ok read text b c r h =
     let p = first_ok (at_its_level r (fault_moved (λ place. place_in r place) (read r.left (text_by r.form (text_between text r.start r.«end»))))) _ c h in
     (p.0, read_ok _ _ _ (level_ok r _ p.0 p.1))
 
-backquotes_asked : (read : Reader) (text : List ℕ) (fs : List Frame) (n : ℕ) (ps : List Part) (literal between : List ℕ) (empty : Bool) (bytes : List ℕ) → with_piece read text (at fs (suc n) ps literal) (piece.Backquoted between) empty bytes ≡ with_answer read text (at fs (suc n) ps literal) (Some (backquotes_request (at fs (suc n) ps literal) (next text bytes) (here text (behind_piece (piece.Backquoted between) bytes))))
+backquotes_asked : (read : Reader) (text : List ℕ) (fs : List Frame) (n : ℕ) (ps : List Part) (literal between : List ℕ) (empty : Bool) (bytes : List ℕ) → with_piece read (unread text bytes) (at fs (suc n) ps literal) (piece.Backquoted between) empty ≡ with_answer read text (at fs (suc n) ps literal) (Some (backquotes_request (at fs (suc n) ps literal) (next text bytes) (here text (behind_piece (piece.Backquoted between) bytes))))
 unfolding with_piece take_piece
 backquotes_asked read text fs n ps literal between empty bytes = refl
 
@@ -102,7 +102,7 @@ none_deep b r (Ok p) c e h = deep (r.is_too_deep) e h
     deep false e h = cc
 none_deep b r (Err f) c e h = cc
 
-no_backquotes : (read : Reader) (text : List ℕ) (fs : List Frame) (ps : List Part) (literal between : List ℕ) (empty : Bool) (bytes : List ℕ) (c : Building) → with_piece read text (at fs zero ps literal) (piece.Backquoted between) empty bytes ≡ Ok c → ⊥
+no_backquotes : (read : Reader) (text : List ℕ) (fs : List Frame) (ps : List Part) (literal between : List ℕ) (empty : Bool) (bytes : List ℕ) (c : Building) → with_piece read (unread text bytes) (at fs zero ps literal) (piece.Backquoted between) empty ≡ Ok c → ⊥
 unfolding with_piece take_piece answer_of
 no_backquotes read text fs ps literal between empty bytes c h =
     let b = at fs zero ps literal in
@@ -113,16 +113,16 @@ no_form : (fs : List Frame) (ps : List Part) (literal : List ℕ) (c : Building)
 no_form fs ps literal c place None k h = cc
 no_form fs ps literal c place (Some f) k h = cc
 
-no_braces : (read : Reader) (text : List ℕ) (fs : List Frame) (ps : List Part) (literal head : List ℕ) (empty : Bool) (bytes : List ℕ) (c : Building) → with_piece read text (at fs zero ps literal) (piece.BraceOpen head) empty bytes ≡ Ok c → ⊥
+no_braces : (read : Reader) (text : List ℕ) (fs : List Frame) (ps : List Part) (literal head : List ℕ) (empty : Bool) (bytes : List ℕ) (c : Building) → with_piece read (unread text bytes) (at fs zero ps literal) (piece.BraceOpen head) empty ≡ Ok c → ⊥
 unfolding with_piece take_piece
 no_braces read text fs ps literal head empty bytes c h =
     no_form fs ps literal c (next text bytes) (braces_of head empty) (λ (t : Taken). with_answer read text t.building t.request) h
 
-no_arithmetic : (read : Reader) (text : List ℕ) (fs : List Frame) (ps : List Part) (literal : List ℕ) (empty : Bool) (bytes : List ℕ) (c : Building) → with_piece read text (at fs zero ps literal) piece.ArithmeticOpen empty bytes ≡ Ok c → ⊥
+no_arithmetic : (read : Reader) (text : List ℕ) (fs : List Frame) (ps : List Part) (literal : List ℕ) (empty : Bool) (bytes : List ℕ) (c : Building) → with_piece read (unread text bytes) (at fs zero ps literal) piece.ArithmeticOpen empty ≡ Ok c → ⊥
 unfolding with_piece take_piece
 no_arithmetic read text fs ps literal empty bytes c h = cc
 
-no_commands : (read : Reader) (text : List ℕ) (fs : List Frame) (ps : List Part) (literal : List ℕ) (empty : Bool) (bytes : List ℕ) (c : Building) → with_piece read text (at fs zero ps literal) piece.CommandsOpen empty bytes ≡ Ok c → ⊥
+no_commands : (read : Reader) (text : List ℕ) (fs : List Frame) (ps : List Part) (literal : List ℕ) (empty : Bool) (bytes : List ℕ) (c : Building) → with_piece read (unread text bytes) (at fs zero ps literal) piece.CommandsOpen empty ≡ Ok c → ⊥
 unfolding with_piece take_piece
 no_commands read text fs ps literal empty bytes c h = cc
 
@@ -135,10 +135,10 @@ alone_by read text q n ms bytes w piece.Dollar fs rest e h g = by_bytes read tex
 alone_by read text q n ms bytes w (piece.Variable name) fs rest e h g = by_part read text q n ms bytes w (piece.Variable name) _ refl
 alone_by read text q n ms bytes w (piece.Parameter c) fs rest e h g = by_parameter read text q n ms bytes w c (short c) refl h
 alone_by read text q zero ms bytes w (piece.Backquoted between) fs rest e h g =
-    let p = first_ok (with_piece read text (at fs zero w.parts w.literal) (piece.Backquoted between) (begins_closed rest) (behind_pieces ms bytes)) _ g.0 g.1 in
+    let p = first_ok (with_piece read (unread text (behind_pieces ms bytes)) (at fs zero w.parts w.literal) (piece.Backquoted between) (begins_closed rest)) _ g.0 g.1 in
     absurd (no_backquotes read text fs w.parts w.literal between (begins_closed rest) (behind_pieces ms bytes) p.0 p.1)
 alone_by read text q (suc n) ms bytes w (piece.Backquoted between) fs rest e h g =
-    let p = first_ok (with_piece read text (at fs (suc n) w.parts w.literal) (piece.Backquoted between) (begins_closed rest) (behind_pieces ms bytes)) _ g.0 g.1 in
+    let p = first_ok (with_piece read (unread text (behind_pieces ms bytes)) (at fs (suc n) w.parts w.literal) (piece.Backquoted between) (begins_closed rest)) _ g.0 g.1 in
     let a = answered_ok read text _ p.0 _ (sym (backquotes_asked read text fs n w.parts w.literal between (begins_closed rest) (behind_pieces ms bytes)) ∙ p.1) in
     by_backquotes read text q n ms bytes w between a.0 fs e a.1
 alone_by read text q n ms bytes w m fs rest e h g = cc
@@ -161,14 +161,14 @@ found : (b c : Building) (place : ℕ) (o p : Option Braces) (k : Taken → Resu
 found b c place o None k e h = absurd (none_found (nat_eq b.left 0) place k c h)
 found b c place o (Some f) k e h = (f, e)
 
-braces_found : (read : Reader) (text : List ℕ) (fs : List Frame) (n : ℕ) (ps : List Part) (literal head : List ℕ) (empty : Bool) (bytes : List ℕ) (c : Building) → with_piece read text (at fs (suc n) ps literal) (piece.BraceOpen head) empty bytes ≡ Ok c → (f : Braces) × (braces_of head empty ≡ Some f)
+braces_found : (read : Reader) (text : List ℕ) (fs : List Frame) (n : ℕ) (ps : List Part) (literal head : List ℕ) (empty : Bool) (bytes : List ℕ) (c : Building) → with_piece read (unread text bytes) (at fs (suc n) ps literal) (piece.BraceOpen head) empty ≡ Ok c → (f : Braces) × (braces_of head empty ≡ Some f)
 unfolding with_piece take_piece
 braces_found read text fs n ps literal head empty bytes c h =
     let k = λ (t : Taken). with_answer read text t.building t.request in
     let b = at fs (suc n) ps literal in
     found b c (next text bytes) (braces_of head empty) (braces_of head empty) k refl h
 
-commands_asked : (read : Reader) (text : List ℕ) (fs : List Frame) (n : ℕ) (ps : List Part) (literal : List ℕ) (place start : ℕ) (empty : Bool) (bytes : List ℕ) → with_piece read text (passing fs (suc n) ps literal (begun_at place start)) piece.CommandsClose empty bytes ≡ with_answer read text (at fs (suc n) ps literal) (Some (record { form = substitution.Commands; place = place; start = start; «end» = next text bytes; left = suc n - 1; is_too_deep = false }))
+commands_asked : (read : Reader) (text : List ℕ) (fs : List Frame) (n : ℕ) (ps : List Part) (literal : List ℕ) (place start : ℕ) (empty : Bool) (bytes : List ℕ) → with_piece read (unread text bytes) (passing fs (suc n) ps literal (begun_at place start)) piece.CommandsClose empty ≡ with_answer read text (at fs (suc n) ps literal) (Some (record { form = substitution.Commands; place = place; start = start; «end» = next text bytes; left = suc n - 1; is_too_deep = false }))
 unfolding with_piece take_piece
 commands_asked read text fs n ps literal place start empty bytes = refl
 
@@ -176,14 +176,14 @@ after_pieces : (read : Reader) (text : List ℕ) (q : Bool) (n : ℕ) (ms : List
 after_pieces read text q n ms bytes s fs e rest g =
     moved read text (at fs n [] []) (at fs n s.parts s.literal) (ms ++ rest) rest bytes (behind_pieces ms bytes) (go read text q n ms bytes s.parts s.literal s.spelled fs e rest) g
 
-after_opening : (read : Reader) (text : List ℕ) (b c : Building) (before : List Piece) (m : Piece) (rest : List Piece) (bytes : List ℕ) → with_piece read text b m (begins_closed rest) (behind_pieces before bytes) ≡ Ok c → Going read text b (m ∷ rest) (behind_pieces before bytes) → Going read text c rest (behind_pieces (before ++ m ∷ []) bytes)
+after_opening : (read : Reader) (text : List ℕ) (b c : Building) (before : List Piece) (m : Piece) (rest : List Piece) (bytes : List ℕ) → with_piece read (unread text (behind_pieces before bytes)) b m (begins_closed rest) ≡ Ok c → Going read text b (m ∷ rest) (behind_pieces before bytes) → Going read text c rest (behind_pieces (before ++ m ∷ []) bytes)
 after_opening read text b c before m rest bytes h g =
     placed read text c rest (behind_piece m (behind_pieces before bytes)) (behind_pieces (before ++ m ∷ []) bytes) (sym (behind_both before (m ∷ []) bytes))
     (moved read text b c (m ∷ rest) rest (behind_pieces before bytes) (behind_piece m (behind_pieces before bytes)) (step read text b c m rest (behind_pieces before bytes) h) g)
 
 -- what comes of the first of the pieces
-first_of : (read : Reader) (text : List ℕ) (b : Building) (m : Piece) (rest : List Piece) (bytes : List ℕ) → Going read text b (m ∷ rest) bytes → (c : Building) × (with_piece read text b m (begins_closed rest) bytes ≡ Ok c)
-first_of read text b m rest bytes g = first_ok (with_piece read text b m (begins_closed rest) bytes) (λ c. with_pieces read text c rest (behind_piece m bytes)) g.0 g.1
+first_of : (read : Reader) (text : List ℕ) (b : Building) (m : Piece) (rest : List Piece) (bytes : List ℕ) → Going read text b (m ∷ rest) bytes → (c : Building) × (with_piece read (unread text bytes) b m (begins_closed rest) ≡ Ok c)
+first_of read text b m rest bytes g = first_ok (with_piece read (unread text bytes) b m (begins_closed rest)) (λ c. with_pieces read text c rest (behind_piece m bytes)) g.0 g.1
 
 -- ---- all pieces
 all : (read : Reader) (text : List ℕ) (ms : List Piece) → Nested ms → (q : Bool) (n : ℕ) (bytes : List ℕ) (fs : List Frame) → in_quotes false fs ≡ q → (rest : List Piece) → Going read text (at fs n [] []) (ms ++ rest) bytes → Spells read text q n ms bytes

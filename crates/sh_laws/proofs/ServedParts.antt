@@ -8,7 +8,7 @@ use Rattle.sh_exec_parts.specs.Served.{serves_part}
 use Rattle.sh_exec_parts.specs.Simple.{Opened}
 use Rattle.sh_expand.specs.Parts.{inside, program_of}
 use Rattle.sh_parse_commands.specs.Results.{and_then, fault_moved}
-use Rattle.sh_parse_commands.specs.Words.{Reader, answer_of, at_its_level, begins_closed, parts_in, place_in, text_of, whole, with_answer, with_piece, with_pieces}
+use Rattle.sh_parse_commands.specs.Words.{Reader, answer_of, at_its_level, begins_closed, parts_in, place_in, text_of, whole, with_answer, with_piece, with_pieces, unread}
 use Rattle.sh_parse_words.specs.Building.{Building, Outcome, Taken, at_level, braces_part, closed_by, empty_building, finished_by, form_part, last_frame, on, open_braces, opened, other_frames, parameter_part, parts_of, plainly, program_part, skip_close, skip_outcome, skipping, take_by, take_piece, taking, whole_parts, with_bytes, with_form_part, with_literal, with_part, with_program}
 use Rattle.sh_parse_words.specs.Parameters.{braces_of, short}
 use Rattle.sh_parse_words.specs.Places.{behind_piece}
@@ -269,7 +269,7 @@ module _ (read : Reader) (reads : ReaderFits read) (text : List ℕ) where
   with_answer_fits b (Some r) f =
       and_then_fits ProgramFits BuildingFits (answer_of read text r) (λ c. Ok (with_program b r.form c)) (answer_fits r) (λ c g. with_program_fits b r.form c f g)
 
-  with_piece_fits : (b : Building) (m : Piece) (empty : Bool) (bytes : List ℕ) → BuildingFits b → Unless BuildingFits (with_piece read text b m empty bytes)
+  with_piece_fits : (b : Building) (m : Piece) (empty : Bool) (bytes : List ℕ) → BuildingFits b → Unless BuildingFits (with_piece read (unread text bytes) b m empty)
   unfolding with_piece
   with_piece_fits b m empty bytes f =
       and_then_fits TakenFits BuildingFits _ (λ t. with_answer read text t.building t.request) (take_fits b m empty _ _ f) (λ t g. with_answer_fits t.building t.request g)
@@ -277,7 +277,7 @@ module _ (read : Reader) (reads : ReaderFits read) (text : List ℕ) where
   with_pieces_fits : (b : Building) (ms : List Piece) (bytes : List ℕ) → BuildingFits b → Unless BuildingFits (with_pieces read text b ms bytes)
   with_pieces_fits b [] bytes f = f
   with_pieces_fits b (m ∷ ms) bytes f =
-      and_then_fits BuildingFits BuildingFits (with_piece read text b m (begins_closed ms) bytes) (λ c. with_pieces read text c ms (behind_piece m bytes))
+      and_then_fits BuildingFits BuildingFits (with_piece read (unread text bytes) b m (begins_closed ms)) (λ c. with_pieces read text c ms (behind_piece m bytes))
       (with_piece_fits b m (begins_closed ms) bytes f) (λ c g. with_pieces_fits c ms (behind_piece m bytes) g)
 
   pub parts_in_fit : (left : ℕ) (ms : List Piece) (bytes : List ℕ) → Unless PartsFit (parts_in read left text ms bytes)

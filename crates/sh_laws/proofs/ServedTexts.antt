@@ -31,7 +31,7 @@ use Rattle.sh_parse_commands.specs.Leaves.{assignment_leaf, items_of as parts_it
 use Rattle.sh_parse_commands.specs.Programs.{ended_by, program_in, program_of, programs, read_text}
 use Rattle.sh_parse_commands.specs.Results.{fault_moved}
 use Rattle.sh_parse_commands.specs.Sources.{behind_pieces, text_between}
-use Rattle.sh_parse_commands.specs.Words.{Reader, parts_in}
+use Rattle.sh_parse_commands.specs.Words.{Reader, parts_in, within}
 use Rattle.sh_syntax.specs.declared.tree.CompoundList.{CompoundList}
 use Rattle.sh_syntax.specs.declared.tree.Parts.{Parts}
 use Rattle.sh_exec_parts.proofs.Serving.{literal_is, parts_are}
@@ -108,7 +108,7 @@ module _ (read : Reader) (reads : ReaderFits read) (text : List ℕ) where
   unfolding assignment_leaf
   assigned_fits prefix size value source f = (word_fits (parts_of (with_prefix (take (suc size) prefix) (parts_items value))) source (prefixed_fits (take (suc size) prefix) value f), f)
 
-  leaf_by_fits : (left : ℕ) (ms : List Piece) (span : Span) (prefix : List ℕ) (o : Option ℕ) → Unless LeafFits (leaf_by read left text ms span prefix o)
+  leaf_by_fits : (left : ℕ) (ms : List Piece) (span : Span) (prefix : List ℕ) (o : Option ℕ) → Unless LeafFits (leaf_by (within read left text) ms span prefix o)
   leaf_by_fits left ms span prefix None =
       and_then_fits PartsFit LeafFits (parts_in read left text ms (drop span.start text)) (λ parts. Ok (plain_leaf ms prefix parts (text_between text span.start span.«end»)))
       (parts_in_fit read reads text left ms (drop span.start text)) (λ parts f. plain_fits ms prefix parts (text_between text span.start span.«end») f)
@@ -169,25 +169,25 @@ module _ (read : Reader) (reads : ReaderFits read) where
   abbrev pub JudgedFits : Judged → Type 0
   JudgedFits j = LeavesFit j.leaves × BodiesFit j.bodies
 
-  with_leaf_fits : (left : ℕ) (text : List ℕ) (due : List Delimiter) (item : Item) (j : Judged) → JudgedFits j → Unless JudgedFits (with_leaf read left text due item j)
+  with_leaf_fits : (left : ℕ) (text : List ℕ) (due : List Delimiter) (item : Item) (j : Judged) → JudgedFits j → Unless JudgedFits (with_leaf (within read left text) due item j)
   with_leaf_fits left text due item j f =
       and_then_fits LeafFits JudgedFits (leaf_of read left text item.token.kind item.token.span) _ (leaf_of_fits read reads text left item.token.kind item.token.span)
       (λ l g. and_then_fits BodiesFit JudgedFits (bodies_of read left text due item) (λ others. Ok (record j { leaves = j.leaves ++ l ∷ []; bodies = j.bodies ++ others })) (bodies_of_fit left text due item)
       (λ others h. (leaves_then j.leaves (l ∷ []) f.0 (g, tt), bodies_then j.bodies others f.1 h)))
 
-  taken_item_fits : (left : ℕ) (text : List ℕ) (due : List Delimiter) (item : Item) (j : Judged) → JudgedFits j → Unless JudgedFits (taken_item read left text due item j)
+  taken_item_fits : (left : ℕ) (text : List ℕ) (due : List Delimiter) (item : Item) (j : Judged) → JudgedFits j → Unless JudgedFits (taken_item (within read left text) due item j)
   taken_item_fits left text due item j f =
-      either (Unless JudgedFits) (takes j) (if nat_lt left (open_in j) then Err (fault.TooDeep item.token.span.start) else with_leaf read (left - open_in j) text due item j) (Err (fault.Refused item.token.span.start))
-      (either (Unless JudgedFits) (nat_lt left (open_in j)) (Err (fault.TooDeep item.token.span.start)) (with_leaf read (left - open_in j) text due item j) tt (with_leaf_fits (left - open_in j) text due item j f)) tt
+      either (Unless JudgedFits) (takes j) (if nat_lt left (open_in j) then Err (fault.TooDeep item.token.span.start) else with_leaf (within read (left - open_in j) text) due item j) (Err (fault.Refused item.token.span.start))
+      (either (Unless JudgedFits) (nat_lt left (open_in j)) (Err (fault.TooDeep item.token.span.start)) (with_leaf (within read (left - open_in j) text) due item j) tt (with_leaf_fits (left - open_in j) text due item j f)) tt
 
-  pub with_item_fits : (left : ℕ) (text : List ℕ) (due : List Delimiter) (item : Item) (j : Judged) → JudgedFits j → Unless JudgedFits (with_item read left text due item j)
+  pub with_item_fits : (left : ℕ) (text : List ℕ) (due : List Delimiter) (item : Item) (j : Judged) → JudgedFits j → Unless JudgedFits (with_item (within read left text) due item j)
   unfolding with_item
   with_item_fits left text due item j f = taken_item_fits left text due item (with_input j (input_of item)) f
 
-  with_items_fit : (left : ℕ) (text : List ℕ) (w : Waiting) (is : List Item) (j : Judged) → JudgedFits j → Unless JudgedFits (with_items read left text w is j)
+  with_items_fit : (left : ℕ) (text : List ℕ) (w : Waiting) (is : List Item) (j : Judged) → JudgedFits j → Unless JudgedFits (with_items (within read left text) w is j)
   with_items_fit left text w [] j f = f
   with_items_fit left text w (i ∷ is) j f =
-      and_then_fits JudgedFits JudgedFits (with_item read left text (due_at i.token.kind w) i j) (λ k. with_items read left text (behind_token i.token.kind w) is k)
+      and_then_fits JudgedFits JudgedFits (with_item (within read left text) (due_at i.token.kind w) i j) (λ k. with_items (within read left text) (behind_token i.token.kind w) is k)
       (with_item_fits left text (due_at i.token.kind w) i j f) (λ k g. with_items_fit left text (behind_token i.token.kind w) is k g)
 
 -- ---- the tree of tokens
@@ -223,7 +223,7 @@ module _ (read : Reader) (reads : ReaderFits read) where
 
   program_of_fits : (left : ℕ) (text : List ℕ) (found : Items) → Unless ProgramFits (program_of read left text found)
   program_of_fits left text found =
-      and_then_fits (JudgedFits read reads) ProgramFits (with_items read left text nothing found.items (none_of substitution))
+      and_then_fits (JudgedFits read reads) ProgramFits (with_items (within read left text) nothing found.items (none_of substitution))
       (λ j. ended_by left text (waiting_behind nothing found.items) j found.ending)
       (with_items_fit read reads left text nothing found.items (none_of substitution) (tt, tt)) (λ j g. ended_fits left text (waiting_behind nothing found.items) j found.ending g)
 

@@ -25,7 +25,7 @@ use Rattle.sh_parse_words.specs.Parameters.{braces_of, short}
 use Rattle.sh_parse_words.specs.Places.{behind_joins, behind_piece, place_of}
 use Rattle.sh_parse_commands.specs.Results.{and_then, fault_moved}
 use Rattle.sh_parse_commands.specs.Sources.{backquotes_text, behind_pieces, text_between}
-use Rattle.sh_parse_commands.specs.Words.{Reader, at_its_level, answer_of, with_answer, begins_closed, parts_in, place_in, text_by, text_of, whole, with_piece, with_pieces}
+use Rattle.sh_parse_commands.specs.Words.{Reader, at_its_level, answer_of, with_answer, begins_closed, parts_in, place_in, text_by, text_of, whole, with_piece, with_pieces, unread}
 use Rattle.sh_laws.specs.Spelled.{AreSpelled, Balanced, Spelled, Unclosed, bytes_of, here, is_plain, next, part_of}
 use Rattle.sh_laws.specs.Spelled as spells
 
@@ -42,11 +42,11 @@ behind_both [] ys bytes = refl
 behind_both (x ∷ xs) ys bytes = behind_both xs ys (behind_piece x bytes)
 
 -- ---- a piece
-pub step : (read : Reader) (text : List ℕ) (b c : Building) (m : Piece) (rest : List Piece) (bytes : List ℕ) → with_piece read text b m (begins_closed rest) bytes ≡ Ok c → with_pieces read text b (m ∷ rest) bytes ≡ with_pieces read text c rest (behind_piece m bytes)
+pub step : (read : Reader) (text : List ℕ) (b c : Building) (m : Piece) (rest : List Piece) (bytes : List ℕ) → with_piece read (unread text bytes) b m (begins_closed rest) ≡ Ok c → with_pieces read text b (m ∷ rest) bytes ≡ with_pieces read text c rest (behind_piece m bytes)
 step read text b c m rest bytes h = ap (λ o. and_then o (λ d. with_pieces read text d rest (behind_piece m bytes))) h
 
 -- a piece that asks for nothing
-pub quiet : (read : Reader) (text : List ℕ) (b c : Building) (m : Piece) (empty : Bool) (bytes : List ℕ) → ((place behind : ℕ) → take_piece b m empty place behind ≡ on c) → with_piece read text b m empty bytes ≡ Ok c
+pub quiet : (read : Reader) (text : List ℕ) (b c : Building) (m : Piece) (empty : Bool) (bytes : List ℕ) → ((place behind : ℕ) → take_piece b m empty place behind ≡ on c) → with_piece read (unread text bytes) b m empty ≡ Ok c
 unfolding with_piece
 quiet read text b c m empty bytes h =
     ap (λ o. and_then o (λ t. with_answer read text t.building t.request)) (h (place_of (length text) (behind_joins bytes)) (place_of (length text) (behind_piece m bytes)))
@@ -197,13 +197,13 @@ answered_by read text b r program e h =
     ap (λ o. and_then (at_its_level r (fault_moved (λ place. place_in r place) o)) (λ c. Ok (with_program b r.form c))) h
     ∙ ap (λ z. and_then (if z then Err (fault.TooDeep r.place) else Ok program) (λ c. Ok (with_program b r.form c))) e
 
-pub commands_opened : (read : Reader) (text : List ℕ) (fs : List Frame) (left : ℕ) (ps : List Part) (literal : List ℕ) (empty : Bool) (bytes start : List ℕ) → start ≡ behind_piece piece.CommandsOpen bytes → with_piece read text (at fs (suc left) ps literal) piece.CommandsOpen empty bytes ≡ Ok (passing fs (suc left) ps literal (begun_at (next text bytes) (here text start)))
+pub commands_opened : (read : Reader) (text : List ℕ) (fs : List Frame) (left : ℕ) (ps : List Part) (literal : List ℕ) (empty : Bool) (bytes start : List ℕ) → start ≡ behind_piece piece.CommandsOpen bytes → with_piece read (unread text bytes) (at fs (suc left) ps literal) piece.CommandsOpen empty ≡ Ok (passing fs (suc left) ps literal (begun_at (next text bytes) (here text start)))
 unfolding with_piece take_piece
 commands_opened read text fs left ps literal empty bytes start same =
     ap (λ o. and_then o (λ t. with_answer read text t.building t.request)) (levelled left (next text bytes) _)
     ∙ ap (λ bs. Ok (passing fs (suc left) ps literal (begun_at (next text bytes) (here text bs)))) (sym same)
 
-pub commands_closed : (read : Reader) (text : List ℕ) (fs : List Frame) (left : ℕ) (ps : List Part) (literal : List ℕ) (place start : ℕ) (empty : Bool) (bytes : List ℕ) (program : CompoundList) → read left (text_between text start (next text bytes)) ≡ Ok program → with_piece read text (passing fs (suc left) ps literal (begun_at place start)) piece.CommandsClose empty bytes ≡ Ok (at fs (suc left) (with_literal ps literal ++ part.Substitution program ∷ []) [])
+pub commands_closed : (read : Reader) (text : List ℕ) (fs : List Frame) (left : ℕ) (ps : List Part) (literal : List ℕ) (place start : ℕ) (empty : Bool) (bytes : List ℕ) (program : CompoundList) → read left (text_between text start (next text bytes)) ≡ Ok program → with_piece read (unread text bytes) (passing fs (suc left) ps literal (begun_at place start)) piece.CommandsClose empty ≡ Ok (at fs (suc left) (with_literal ps literal ++ part.Substitution program ∷ []) [])
 unfolding with_piece take_piece with_program with_part
 commands_closed read text fs left ps literal place start empty bytes program h =
     answered_by read text (at fs (suc left) ps literal)
@@ -219,7 +219,7 @@ part_in_backquotes : (quoted : Bool) (program : CompoundList) → program_part (
 part_in_backquotes true program = refl
 part_in_backquotes false program = refl
 
-pub backquotes_taken : (read : Reader) (text : List ℕ) (fs : List Frame) (quoted : Bool) (left : ℕ) (ps : List Part) (literal between : List ℕ) (empty : Bool) (bytes after : List ℕ) (program : CompoundList) → in_quotes false fs ≡ quoted → after ≡ behind_piece (piece.Backquoted between) bytes → read left (backquotes_text quoted (text_between text (next text bytes) (here text after))) ≡ Ok program → with_piece read text (at fs (suc left) ps literal) (piece.Backquoted between) empty bytes ≡ Ok (at fs (suc left) (with_literal ps literal ++ part.Backquoted program ∷ []) [])
+pub backquotes_taken : (read : Reader) (text : List ℕ) (fs : List Frame) (quoted : Bool) (left : ℕ) (ps : List Part) (literal between : List ℕ) (empty : Bool) (bytes after : List ℕ) (program : CompoundList) → in_quotes false fs ≡ quoted → after ≡ behind_piece (piece.Backquoted between) bytes → read left (backquotes_text quoted (text_between text (next text bytes) (here text after))) ≡ Ok program → with_piece read (unread text bytes) (at fs (suc left) ps literal) (piece.Backquoted between) empty ≡ Ok (at fs (suc left) (with_literal ps literal ++ part.Backquoted program ∷ []) [])
 unfolding with_piece take_piece with_program with_part
 backquotes_taken read text fs quoted left ps literal between empty bytes after program e same h =
     let b = at fs (suc left) ps literal in
@@ -238,9 +238,9 @@ backquotes_taken read text fs quoted left ps literal between empty bytes after p
 -- ---- a form with what stands in it
 pub formed : (read : Reader) (text : List ℕ) (a b c d e : Building) (ms inside rest : List Piece) (m n : Piece) (bytes : List ℕ)
     → with_pieces read text a (ms ++ m ∷ (inside ++ n ∷ rest)) bytes ≡ with_pieces read text b (m ∷ (inside ++ n ∷ rest)) (behind_pieces ms bytes)
-    → with_piece read text b m (begins_closed (inside ++ n ∷ rest)) (behind_pieces ms bytes) ≡ Ok c
+    → with_piece read (unread text (behind_pieces ms bytes)) b m (begins_closed (inside ++ n ∷ rest)) ≡ Ok c
     → with_pieces read text c (inside ++ n ∷ rest) (behind_pieces (ms ++ m ∷ []) bytes) ≡ with_pieces read text d (n ∷ rest) (behind_pieces inside (behind_pieces (ms ++ m ∷ []) bytes))
-    → with_piece read text d n (begins_closed rest) (behind_pieces inside (behind_pieces (ms ++ m ∷ []) bytes)) ≡ Ok e
+    → with_piece read (unread text (behind_pieces inside (behind_pieces (ms ++ m ∷ []) bytes))) d n (begins_closed rest) ≡ Ok e
     → with_pieces read text a ((ms ++ m ∷ (inside ++ n ∷ [])) ++ rest) bytes ≡ with_pieces read text e rest (behind_pieces (ms ++ m ∷ (inside ++ n ∷ [])) bytes)
 formed read text a b c d e ms inside rest m n bytes before opens within closes =
     let start = behind_both ms (m ∷ []) bytes in

@@ -27,7 +27,7 @@ use Rattle.sh_parse_words.specs.Parameters.{braces_of, machine_number}
 use Rattle.sh_parse_words.specs.Places.{behind_joins, behind_character, behind_characters, behind_piece, place_of}
 use Rattle.sh_parse_commands.specs.Results.{and_then, fault_moved}
 use Rattle.sh_parse_commands.specs.Sources.{text_between, behind_pieces}
-use Rattle.sh_parse_commands.specs.Words.{Reader, refused_or_deep, at_its_level, text_by, text_of, place_by, place_in, answer_of, with_answer, with_piece, begins_closed, with_pieces, whole, parts_in}
+use Rattle.sh_parse_commands.specs.Words.{Reader, refused_or_deep, at_its_level, text_by, text_of, place_by, place_in, answer_of, with_answer, with_piece, begins_closed, with_pieces, whole, parts_in, within, unread}
 use Rattle.sh_parse_commands.specs.Leaves.{name_size, assignment_leaf, plain_leaf, leaf_by, word_leaf}
 use Rattle.sh_parse_commands.proofs.Within.{FaultsIn}
 use Rattle.sh_laws.specs.Standing.{Stands}
@@ -288,7 +288,7 @@ module _ (read : Reader) (reads : ReadsIn read) (text : List ℕ) (lo hi : ℕ) 
   step_at there (Err f) h = h
 
   piece_at : (b : Building) (m : Piece) (empty : Bool) (bytes : List ℕ) → lo + length bytes ≤ length text → OpensAt (length text) lo hi m (place_of (length text) (behind_joins bytes))
-      → SkipFrom (length text) lo hi (place_of (length text) bytes) b.skip → AfterAt (place_of (length text) (behind_piece m bytes)) (with_piece read text b m empty bytes)
+      → SkipFrom (length text) lo hi (place_of (length text) bytes) b.skip → AfterAt (place_of (length text) (behind_piece m bytes)) (with_piece read (unread text bytes) b m empty)
   unfolding with_piece
   piece_at b m empty bytes l p h =
       let f = piece_length m bytes in
@@ -308,7 +308,7 @@ module _ (read : Reader) (reads : ReadsIn read) (text : List ℕ) (lo hi : ℕ) 
   pieces_at [] b bytes p l h = h
   pieces_at (m ∷ ms) b bytes p l h =
       let shorter = piece_length m bytes in
-      next_at (place_of (length text) (behind_piece m bytes)) (with_piece read text b m (begins_closed ms) bytes) (λ c. with_pieces read text c ms (behind_piece m bytes))
+      next_at (place_of (length text) (behind_piece m bytes)) (with_piece read (unread text bytes) b m (begins_closed ms)) (λ c. with_pieces read text c ms (behind_piece m bytes))
       (place_of (length text) (behind_pieces ms (behind_piece m bytes))) (piece_at b m (begins_closed ms) bytes l p.0 h)
       (λ c k. pieces_at ms c (behind_piece m bytes) p.1 (omega (shorter, l, arith)) k)
 
@@ -325,7 +325,7 @@ module _ (read : Reader) (reads : ReadsIn read) (text : List ℕ) (lo hi : ℕ) 
   then_at (Err x) f h k = h
 
   leaf_by_at : (e : Bool) (left : ℕ) (ms : List Piece) (span : Span) (prefix : List ℕ) (size : Option ℕ) (rest : List ℕ) → Pieces e ms (drop span.start text) rest
-      → lo + length (drop span.start text) ≤ length text → hi + length rest ≡ length text → ResultAt (leaf_by read left text ms span prefix size)
+      → lo + length (drop span.start text) ≤ length text → hi + length rest ≡ length text → ResultAt (leaf_by (within read left text) ms span prefix size)
   leaf_by_at e left ms span prefix None rest p l r =
       then_at (parts_in read left text ms (drop span.start text)) (λ parts. Ok (plain_leaf ms prefix parts (text_between text span.start span.«end»)))
       (parts_at left ms (drop span.start text) (placed_of (length text) lo hi e ms (drop span.start text) rest p l r) l) (λ parts. tt)

@@ -13,6 +13,7 @@ use Rattle.sh_parse_documents.specs.Stream.{Ending, AtEnd, Cut, items_of, waitin
 use Rattle.sh_parse_words.specs.declared.fault.PartFault.{PartFault}
 use Rattle.sh_parse_commands.specs.Inputs.{inputs_of}
 use Rattle.sh_parse_commands.specs.Results.{and_then}
+use Rattle.sh_parse_commands.specs.Words.{within}
 use Rattle.sh_parse_commands.specs.Judging.{IsShell, Judged, with_item, are_no, tree_by}
 use Rattle.sh_parse_commands.specs.Programs.{read_text}
 use Rattle.sh_parse_commands.specs.Defined.{Judge, Derive, AreFaultless, AreTree, AreTokens}
@@ -76,7 +77,7 @@ module _ (table : AliasTable) (text : List ℕ) (before : List Item) (newline : 
     going k e =
         let is : judged (outer text) (before ++ newline ∷ []) ≡ Ok k =
         judged_push (outer text) before newline
-        ∙ (ap (λ o. and_then o (λ j. with_item read_text 500 text (due_at newline.token.kind (waiting_behind nothing before)) newline j)) (faultless_judged (outer text) commands before x) ∙ e) in
+        ∙ (ap (λ o. and_then o (λ j. with_item (within read_text 500 text) (due_at newline.token.kind (waiting_behind nothing before)) newline j)) (faultless_judged (outer text) commands before x) ∙ e) in
         let so : JudgedSo (outer text) (before ++ newline ∷ []) (Ok k) = subst (λ r. JudgedSo (outer text) (before ++ newline ∷ []) r) is (judged_told (outer text) commands (before ++ newline ∷ [])) in
         so.0
 
@@ -145,7 +146,7 @@ module _ (table : AliasTable) (text : List ℕ) (before : List Item) (newline : 
       ∙ ap Some (sym h))
 
   silent_by : (r : Result Judged PartFault) → JudgedSo (outer text) before r → (k : Judged) → (before ≡ [] → ⊥) → (Derive (outer text) before → ⊥)
-      → and_then r (λ j. with_item read_text 500 text (due_at newline.token.kind (waiting_behind nothing before)) newline j) ≡ Ok k → by r ≡ None
+      → and_then r (λ j. with_item (within read_text 500 text) (due_at newline.token.kind (waiting_behind nothing before)) newline j) ≡ Ok k → by r ≡ None
   silent_by (Ok j) (x, e) k n d h =
       says_refused newline.«end» j (are_no j.leaves) (is_whole j.grammar j.tokens) (last_bodies text before newline) (with_token table text (waiting_behind nothing before) newline j) (Ok k)
       (ap (λ (i : Judged). are_no i.leaves) e ∙ some_leaves (outer text) before x n)

@@ -12,6 +12,7 @@ use Rattle.sh_parse_words.specs.declared.fault.PartFault.{PartFault}
 use Rattle.sh_parse_words.specs.declared.fault.PartFault.TheVariants as fault
 use Rattle.sh_parse_commands.specs.Results.{and_then}
 use Rattle.sh_parse_commands.specs.Documents.{bodies_of}
+use Rattle.sh_parse_commands.specs.Words.{within}
 use Rattle.sh_parse_commands.specs.Judging.{Judged, none_of, open_in, with_item, is_none, are_whole, tree_by}
 use Rattle.sh_parse_commands.specs.Cuts.{cut_fault}
 use Rattle.sh_parse_commands.specs.Programs.{read_text}
@@ -67,7 +68,7 @@ is_newline kind = false
 
 -- one more token, after tokens without a fault; w: what is awaited before it
 abbrev pub with_token : AliasTable → List ℕ → Waiting → Item → Judged → Result Judged PartFault
-with_token table text w item j = with_item read_text 500 text (due_at item.token.kind w) (replacement table j item) j
+with_token table text w item j = with_item (within read_text 500 text) (due_at item.token.kind w) (replacement table j item) j
 
 -- the answer where the tokens are a complete command, the last of whose here-documents have these bodies
 abbrev pub complete_answer : Judged → ℕ → Result (List Parts) PartFault → Answer

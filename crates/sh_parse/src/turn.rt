@@ -4,6 +4,7 @@ ghost use Rattle.sh_parse_documents.specs.Stream.{AtEnd, Cut};
 ghost use Rattle.sh_parse_documents.specs.Waiting.{Waiting};
 ghost use Rattle.sh_parse_commands.specs.Results.{and_then};
 ghost use Rattle.sh_parse_commands.specs.Documents.{bodies_of};
+ghost use Rattle.sh_parse_commands.specs.Words.{within};
 ghost use Rattle.sh_parse_commands.specs.Judging.{with_item, are_whole};
 ghost use Rattle.sh_parse_commands.specs.Programs.{read_text};
 ghost use Rattle.sh_base.specs.Memory.{no_memory};
@@ -94,7 +95,7 @@ fn judge_next(
 ) -> Result<Result<Prefix, PartFault>, ParseFault>
     ensures judged { IfOk result (λ next.
         next ≡ and_then judged (λ j.
-        with_item read_text 500 text.now due.now (replacement aliases.now j item.now) j)) }
+        with_item (within read_text 500 text.now) due.now (replacement aliases.now j item.now) j)) }
     ensures memory { IfErr result (λ fault. fault ≡ NoMemory no_memory) }
 {
     let mut prefix = match judged {

@@ -26,15 +26,14 @@ use Rattle.sh_parse_words.specs.declared.build.Frame.{Frame}
 use Rattle.sh_parse_words.specs.declared.build.Skip.{Skip}
 use Rattle.sh_parse_words.specs.declared.build.Request.{Request}
 use Rattle.sh_parse_words.specs.declared.build.Substitution.{Substitution}
-use Rattle.sh_parse_words.specs.declared.build.Substitution.TheVariants as substitution
 use Rattle.sh_parse_words.specs.declared.fault.PartFault.{PartFault}
 use Rattle.sh_parse_words.specs.declared.fault.PartFault.TheVariants as fault
-use Rattle.sh_parse_words.specs.Building.{Building, Outcome, empty_building, with_literal, parts_of, with_part, with_bytes, opened, last_frame, other_frames, closed_by, with_form_part, on, skip_close, skipping, open_braces, backquotes_by, in_quotes, backquotes_request, plainly, taking, take_by, take_piece, with_program}
+use Rattle.sh_parse_words.specs.Building.{Building, Outcome, empty_building, with_literal, parts_of, with_part, with_bytes, opened, last_frame, other_frames, closed_by, with_form_part, on, skip_close, skipping, open_braces, in_quotes, backquotes_request, plainly, taking, take_by, take_piece, with_program}
 use Rattle.sh_parse_words.specs.Parameters.{braces_of}
 use Rattle.sh_parse_words.specs.Places.{behind_piece}
 use Rattle.sh_parse_commands.specs.Results.{and_then, fault_moved}
 use Rattle.sh_parse_commands.specs.Sources.{text_between, behind_pieces}
-use Rattle.sh_parse_commands.specs.Words.{Reader, text_of, place_in, at_its_level, answer_of, with_answer, with_piece, begins_closed, with_pieces, whole, parts_in}
+use Rattle.sh_parse_commands.specs.Words.{Reader, text_of, place_in, at_its_level, answer_of, with_answer, with_piece, begins_closed, with_pieces, whole, parts_in, within, unread}
 use Rattle.sh_parse_commands.specs.Leaves.{name_size, assignment_leaf, plain_leaf, leaf_by, word_leaf, leaf_of}
 use Rattle.sh_parse_commands.specs.Documents.{prefix_of, unless, expanded_body, document_parts, with_documents, bodies_of}
 use Rattle.sh_parse_commands.specs.Judging.{Judged, none_of, with_input, takes, open_in, with_leaf, with_item, with_items}
@@ -225,11 +224,11 @@ module _ (n size : ℕ) (read other : Reader) (agree : Agree (n + size) read oth
   step_within text (Ok t) h = answered_within text t.building t.request h.0
   step_within text (Err f) h = tt
 
-  piece_same : (text : List ℕ) (b : Building) (m : Piece) (empty : Bool) (bytes : List ℕ) → length text ≤ size → IsWithin n b → with_piece read text b m empty bytes ≡ with_piece other text b m empty bytes
+  piece_same : (text : List ℕ) (b : Building) (m : Piece) (empty : Bool) (bytes : List ℕ) → length text ≤ size → IsWithin n b → with_piece read (unread text bytes) b m empty ≡ with_piece other (unread text bytes) b m empty
   unfolding with_piece
   piece_same text b m empty bytes s h = step_same text _ s (take_gives n b m empty _ _ h)
 
-  piece_within : (text : List ℕ) (b : Building) (m : Piece) (empty : Bool) (bytes : List ℕ) → IsWithin n b → After (with_piece read text b m empty bytes)
+  piece_within : (text : List ℕ) (b : Building) (m : Piece) (empty : Bool) (bytes : List ℕ) → IsWithin n b → After (with_piece read (unread text bytes) b m empty)
   unfolding with_piece
   piece_within text b m empty bytes h = step_within text _ (take_gives n b m empty _ _ h)
 
@@ -240,7 +239,7 @@ module _ (n size : ℕ) (read other : Reader) (agree : Agree (n + size) read oth
   pieces_same : (text : List ℕ) → length text ≤ size → (ms : List Piece) (b : Building) (bytes : List ℕ) → IsWithin n b → with_pieces read text b ms bytes ≡ with_pieces other text b ms bytes
   pieces_same text s [] b bytes h = refl
   pieces_same text s (m ∷ ms) b bytes h =
-      then_within (with_piece read text b m (begins_closed ms) bytes) (λ c. with_pieces read text c ms (behind_piece m bytes)) (λ c. with_pieces other text c ms (behind_piece m bytes))
+      then_within (with_piece read (unread text bytes) b m (begins_closed ms)) (λ c. with_pieces read text c ms (behind_piece m bytes)) (λ c. with_pieces other text c ms (behind_piece m bytes))
       (piece_within text b m (begins_closed ms) bytes h) (λ c k. pieces_same text s ms c (behind_piece m bytes) k)
       ∙ ap (λ o. and_then o (λ c. with_pieces other text c ms (behind_piece m bytes))) (piece_same text b m (begins_closed ms) bytes s h)
 
@@ -249,7 +248,7 @@ module _ (n size : ℕ) (read other : Reader) (agree : Agree (n + size) read oth
   parts_same text ms bytes s =
       ap (λ o. and_then o (λ b. Ok (whole b))) (pieces_same text s ms (empty_building n) bytes (record { left = omega arith; frames = tt; skip = tt }))
 
-  word_by : (text : List ℕ) (ms : List Piece) (span : Span) (prefix : List ℕ) (o : Option ℕ) → length text ≤ size → leaf_by read n text ms span prefix o ≡ leaf_by other n text ms span prefix o
+  word_by : (text : List ℕ) (ms : List Piece) (span : Span) (prefix : List ℕ) (o : Option ℕ) → length text ≤ size → leaf_by (within read n text) ms span prefix o ≡ leaf_by (within other n text) ms span prefix o
   word_by text ms span prefix None s =
       ap (λ o. and_then o (λ parts. Ok (plain_leaf ms prefix parts (text_between text span.start span.«end»)))) (parts_same text ms (drop span.start text) s)
   word_by text ms span prefix (Some k) s =
@@ -287,7 +286,7 @@ module _ (n size : ℕ) (read other : Reader) (agree : Agree (n + size) read oth
   bodies_same text due item s =
       documents_same (documents due item.token.span.«end» (between item.token.span.«end» item.«end» text)) [] (documents_size size text due item.token.span.«end» item.«end» s)
 
-  leaves_same : (text : List ℕ) (due : List Delimiter) (item : Item) (j : Judged) → length text ≤ size → with_leaf read n text due item j ≡ with_leaf other n text due item j
+  leaves_same : (text : List ℕ) (due : List Delimiter) (item : Item) (j : Judged) → length text ≤ size → with_leaf (within read n text) due item j ≡ with_leaf (within other n text) due item j
   leaves_same text due item j s =
       then_all (leaf_of read n text item.token.kind item.token.span)
       (λ l. and_then (bodies_of read n text due item) (λ others. Ok (record j { leaves = j.leaves ++ l ∷ []; bodies = j.bodies ++ others })))
@@ -296,19 +295,19 @@ module _ (n size : ℕ) (read other : Reader) (agree : Agree (n + size) read oth
       ∙ ap (λ o. and_then o (λ l. and_then (bodies_of other n text due item) (λ others. Ok (record j { leaves = j.leaves ++ l ∷ []; bodies = j.bodies ++ others }))))
       (leaf_same text item.token.kind item.token.span s)
 
-item_same : (n : ℕ) (read other : Reader) (text : List ℕ) → Agree (n + length text) read other → (due : List Delimiter) (item : Item) (j : Judged) → with_item read n text due item j ≡ with_item other n text due item j
+item_same : (n : ℕ) (read other : Reader) (text : List ℕ) → Agree (n + length text) read other → (due : List Delimiter) (item : Item) (j : Judged) → with_item (within read n text) due item j ≡ with_item (within other n text) due item j
 unfolding with_item
 item_same n read other text agree due item j =
     let k = with_input j (input_of item) in
     ap (λ o. if takes k then if nat_lt n (open_in k) then Err (fault.TooDeep item.token.span.start) else o else Err (fault.Refused item.token.span.start))
     (leaves_same (n - open_in k) (length text) read other (below n (open_in k) (length text) read other agree) text due item k (omega arith))
 
-items_same : (n : ℕ) (read other : Reader) (text : List ℕ) → Agree (n + length text) read other → (items : List Item) (w : Waiting) (j : Judged) → with_items read n text w items j ≡ with_items other n text w items j
+items_same : (n : ℕ) (read other : Reader) (text : List ℕ) → Agree (n + length text) read other → (items : List Item) (w : Waiting) (j : Judged) → with_items (within read n text) w items j ≡ with_items (within other n text) w items j
 items_same n read other text agree [] w j = refl
 items_same n read other text agree (i ∷ items) w j =
-    then_all (with_item read n text (due_at i.token.kind w) i j) (λ k. with_items read n text (behind_token i.token.kind w) items k)
-    (λ k. with_items other n text (behind_token i.token.kind w) items k) (λ k. items_same n read other text agree items (behind_token i.token.kind w) k)
-    ∙ ap (λ o. and_then o (λ k. with_items other n text (behind_token i.token.kind w) items k)) (item_same n read other text agree (due_at i.token.kind w) i j)
+    then_all (with_item (within read n text) (due_at i.token.kind w) i j) (λ k. with_items (within read n text) (behind_token i.token.kind w) items k)
+    (λ k. with_items (within other n text) (behind_token i.token.kind w) items k) (λ k. items_same n read other text agree items (behind_token i.token.kind w) k)
+    ∙ ap (λ o. and_then o (λ k. with_items (within other n text) (behind_token i.token.kind w) items k)) (item_same n read other text agree (due_at i.token.kind w) i j)
 
 program_same : (n : ℕ) (read other : Reader) (text : List ℕ) → Agree (n + length text) read other → program_in read n text ≡ program_in other n text
 unfolding program_in
@@ -348,7 +347,7 @@ less : (m n : ℕ) (read other : Reader) → m ≤ n → Agree n read other → 
 less m n read other l agree = ((λ left inner k. agree.0 left inner (omega (k, l, arith))), agree.1)
 
 pub item_by_text : (d n : ℕ) (text : List ℕ) → n + length text ≤ d → (due : List Delimiter) (item : Item) (j : Judged)
-    → with_item (programs (suc d)) n text due item j ≡ with_item read_text n text due item j
+    → with_item (within (programs (suc d)) n text) due item j ≡ with_item (within read_text n text) due item j
 item_by_text d n text l due item j =
     item_same n (programs (suc d)) read_text text (less (n + length text) (suc d) (programs (suc d)) read_text (omega (l, arith)) (agrees d)) due item j
 

@@ -7,6 +7,7 @@ use Rattle.sh_parse_documents.specs.declared.item.Item.{Item}
 use Rattle.sh_parse_documents.specs.Waiting.{Waiting, nothing, behind_token, due_at}
 use Rattle.sh_parse_words.specs.declared.fault.PartFault.{PartFault}
 use Rattle.sh_parse_commands.specs.Results.{and_then}
+use Rattle.sh_parse_commands.specs.Words.{within}
 use Rattle.sh_parse_commands.specs.Judging.{IsShell, Judged, none_of, with_item, with_items}
 use Rattle.sh_parse_documents.specs.Stream.{waiting_behind}
 use Rattle.sh_parse_commands.specs.Defined.{Judge, IsTaken, HasFault, AreTaken, AreFaultless, FirstFault}
@@ -19,14 +20,14 @@ waiting_push w (b ∷ before) t = waiting_push (behind_token b.token.kind w) bef
 
 -- tokens behind others that are taken
 abbrev further : Judge → List Item → List Item → Judged → Result Judged PartFault
-further g before items j = with_items g.read g.left g.text (waiting_behind nothing before) items j
+further g before items j = with_items (within g.read g.left g.text) (waiting_behind nothing before) items j
 
 abbrev pub judged : Judge → List Item → Result Judged PartFault
-judged g items = with_items g.read g.left g.text nothing items (none_of g.grammar)
+judged g items = with_items (within g.read g.left g.text) nothing items (none_of g.grammar)
 
 further_push : (g : Judge) (before : List Item) (t : Item) (items : List Item) (j : Judged)
-    → with_items g.read g.left g.text (behind_token t.token.kind (waiting_behind nothing before)) items j ≡ further g (before ++ t ∷ []) items j
-further_push g before t items j = ap (λ w. with_items g.read g.left g.text w items j) (sym (waiting_push nothing before t))
+    → with_items (within g.read g.left g.text) (behind_token t.token.kind (waiting_behind nothing before)) items j ≡ further g (before ++ t ∷ []) items j
+further_push g before t items j = ap (λ w. with_items (within g.read g.left g.text) w items j) (sym (waiting_push nothing before t))
 
 pub record AllTaken (g : Judge) (before items : List Item) (ls : List Leaf) (bs : List Parts) (k : Judged) : Type 0 where
   pub leaves : List Leaf
@@ -76,10 +77,10 @@ all_push g before t items ls bs l here h (Err f) a =
 
 all_next : (g : Judge) (before : List Item) (t : Item) (items : List Item) (ls : List Leaf) (bs : List Parts) (o : Result Judged PartFault) → Told g before t ls bs o
     → ((l : Leaf) (here : List Parts) → AllTold g (before ++ t ∷ []) items (ls ++ l ∷ []) (bs ++ here) (further g (before ++ t ∷ []) items (behind g (before ++ t ∷ []) (ls ++ l ∷ []) (bs ++ here))))
-    → AllTold g before (t ∷ items) ls bs (and_then o (λ k. with_items g.read g.left g.text (behind_token t.token.kind (waiting_behind nothing before)) items k))
+    → AllTold g before (t ∷ items) ls bs (and_then o (λ k. with_items (within g.read g.left g.text) (behind_token t.token.kind (waiting_behind nothing before)) items k))
 all_next g before t items ls bs (Ok k) h more =
     let next : behind g (before ++ t ∷ []) (ls ++ h.leaf ∷ []) (bs ++ h.here) ≡ k = sym h.is in
-    subst (λ j. AllTold g before (t ∷ items) ls bs (with_items g.read g.left g.text (behind_token t.token.kind (waiting_behind nothing before)) items j)) next
+    subst (λ j. AllTold g before (t ∷ items) ls bs (with_items (within g.read g.left g.text) (behind_token t.token.kind (waiting_behind nothing before)) items j)) next
     (subst (λ r. AllTold g before (t ∷ items) ls bs r) (sym (further_push g before t items (behind g (before ++ t ∷ []) (ls ++ h.leaf ∷ []) (bs ++ h.here))))
     (all_push g before t items ls bs h.leaf h.here h.taken _ (more h.leaf h.here)))
 all_next g before t items ls bs (Err f) h more =
@@ -115,7 +116,7 @@ all_taken g s [] before ls [] bs bodies h =
 all_taken g s [] before ls (l ∷ leaves) bs bodies h = absurd h
 all_taken g s (t ∷ items) before ls [] bs bodies h = absurd h
 all_taken g s (t ∷ items) before ls (l ∷ leaves) bs bodies (here, others, one, rest, is) =
-    ap (λ o. and_then o (λ k. with_items g.read g.left g.text (behind_token t.token.kind (waiting_behind nothing before)) items k)) (next_taken g before t ls bs s l here one)
+    ap (λ o. and_then o (λ k. with_items (within g.read g.left g.text) (behind_token t.token.kind (waiting_behind nothing before)) items k)) (next_taken g before t ls bs s l here one)
     ∙ (further_push g before t items (behind g (before ++ t ∷ []) (ls ++ l ∷ []) (bs ++ here))
     ∙ (all_taken g s items (before ++ t ∷ []) (ls ++ l ∷ []) leaves (bs ++ here) others rest
     ∙ ap Ok (same_behind g ((before ++ t ∷ []) ++ items) (before ++ t ∷ items) ((ls ++ l ∷ []) ++ leaves) (ls ++ l ∷ leaves) ((bs ++ here) ++ others) (bs ++ bodies)
@@ -154,31 +155,31 @@ then_then (Ok k) f h = refl
 then_then (Err x) f h = refl
 
 with_more : (g : Judge) (w : Waiting) (xs ys : List Item) (j : Judged)
-    → with_items g.read g.left g.text w (xs ++ ys) j ≡ and_then (with_items g.read g.left g.text w xs j) (λ k. with_items g.read g.left g.text (waiting_behind w xs) ys k)
+    → with_items (within g.read g.left g.text) w (xs ++ ys) j ≡ and_then (with_items (within g.read g.left g.text) w xs j) (λ k. with_items (within g.read g.left g.text) (waiting_behind w xs) ys k)
 with_more g w [] ys j = refl
 with_more g w (x ∷ xs) ys j =
-    then_same (with_item g.read g.left g.text (due_at x.token.kind w) x j) (λ k. with_items g.read g.left g.text (behind_token x.token.kind w) (xs ++ ys) k)
-    (λ k. and_then (with_items g.read g.left g.text (behind_token x.token.kind w) xs k) (λ i. with_items g.read g.left g.text (waiting_behind (behind_token x.token.kind w) xs) ys i))
+    then_same (with_item (within g.read g.left g.text) (due_at x.token.kind w) x j) (λ k. with_items (within g.read g.left g.text) (behind_token x.token.kind w) (xs ++ ys) k)
+    (λ k. and_then (with_items (within g.read g.left g.text) (behind_token x.token.kind w) xs k) (λ i. with_items (within g.read g.left g.text) (waiting_behind (behind_token x.token.kind w) xs) ys i))
     (λ k. with_more g (behind_token x.token.kind w) xs ys k)
-    ∙ sym (then_then (with_item g.read g.left g.text (due_at x.token.kind w) x j) (λ k. with_items g.read g.left g.text (behind_token x.token.kind w) xs k)
-    (λ i. with_items g.read g.left g.text (waiting_behind (behind_token x.token.kind w) xs) ys i))
+    ∙ sym (then_then (with_item (within g.read g.left g.text) (due_at x.token.kind w) x j) (λ k. with_items (within g.read g.left g.text) (behind_token x.token.kind w) xs k)
+    (λ i. with_items (within g.read g.left g.text) (waiting_behind (behind_token x.token.kind w) xs) ys i))
 
 then_ok : (o : Result Judged PartFault) → and_then o (λ k. Ok k) ≡ o
 then_ok (Ok k) = refl
 then_ok (Err x) = refl
 
 pub judged_push : (g : Judge) (items : List Item) (t : Item)
-    → judged g (items ++ t ∷ []) ≡ and_then (judged g items) (λ k. with_item g.read g.left g.text (due_at t.token.kind (waiting_behind nothing items)) t k)
+    → judged g (items ++ t ∷ []) ≡ and_then (judged g items) (λ k. with_item (within g.read g.left g.text) (due_at t.token.kind (waiting_behind nothing items)) t k)
 judged_push g items t =
     with_more g nothing items (t ∷ []) (none_of g.grammar)
-    ∙ then_same (judged g items) (λ k. with_items g.read g.left g.text (waiting_behind nothing items) (t ∷ []) k)
-    (λ k. with_item g.read g.left g.text (due_at t.token.kind (waiting_behind nothing items)) t k)
-    (λ k. then_ok (with_item g.read g.left g.text (due_at t.token.kind (waiting_behind nothing items)) t k))
+    ∙ then_same (judged g items) (λ k. with_items (within g.read g.left g.text) (waiting_behind nothing items) (t ∷ []) k)
+    (λ k. with_item (within g.read g.left g.text) (due_at t.token.kind (waiting_behind nothing items)) t k)
+    (λ k. then_ok (with_item (within g.read g.left g.text) (due_at t.token.kind (waiting_behind nothing items)) t k))
 
 pub fault_judged : (g : Judge) → IsShell g.grammar → (items : List Item) (f : PartFault) → FirstFault g items f → judged g items ≡ Err f
 fault_judged g s items f x =
     ap (λ xs. judged g xs) x.joined
     ∙ (with_more g nothing x.before (x.token ∷ x.after) (none_of g.grammar)
-    ∙ (ap (λ o. and_then o (λ k. with_items g.read g.left g.text (waiting_behind nothing x.before) (x.token ∷ x.after) k)) (faultless_judged g s x.before x.faultless)
-    ∙ ap (λ o. and_then o (λ k. with_items g.read g.left g.text (behind_token x.token.token.kind (waiting_behind nothing x.before)) x.after k))
+    ∙ (ap (λ o. and_then o (λ k. with_items (within g.read g.left g.text) (waiting_behind nothing x.before) (x.token ∷ x.after) k)) (faultless_judged g s x.before x.faultless)
+    ∙ ap (λ o. and_then o (λ k. with_items (within g.read g.left g.text) (behind_token x.token.token.kind (waiting_behind nothing x.before)) x.after k))
     (next_fault g x.before x.token x.faultless.leaves x.faultless.bodies s f x.fault)))

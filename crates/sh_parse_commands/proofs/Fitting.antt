@@ -21,7 +21,7 @@ use Rattle.sh_parse_trees.specs.Fitting.{fits, other_words, is_one_of}
 use Rattle.sh_parse_words.specs.declared.fault.PartFault.{PartFault}
 use Rattle.sh_parse_commands.specs.Inputs.{class_of_kind}
 use Rattle.sh_parse_commands.specs.Results.{and_then}
-use Rattle.sh_parse_commands.specs.Words.{Reader, parts_in}
+use Rattle.sh_parse_commands.specs.Words.{Reader, parts_in, within}
 use Rattle.sh_parse_commands.specs.Sources.{text_between, behind_pieces}
 use Rattle.sh_parse_commands.specs.Leaves.{operator_leaf, name_size, assignment_leaf, plain_leaf, leaf_by, word_leaf, leaf_of}
 
@@ -174,7 +174,7 @@ made_fits number (Ok p) make l f h = subst (λ x. fits number x ≡ true) (ok_sa
 made_fits number (Err e) make l f h = absurd (cc)
 
 word_fits : (read : Reader) (left : ℕ) (text : List ℕ) (ms : List Piece) (span : Span) (size : Option ℕ) (l : Leaf) → name_size (literal_prefix ms) ≡ size
-    → leaf_by read left text ms span (literal_prefix ms) size ≡ Ok l → fits (class_number (class_of_word false ms)) l ≡ true
+    → leaf_by (within read left text) ms span (literal_prefix ms) size ≡ Ok l → fits (class_number (class_of_word false ms)) l ≡ true
 word_fits read left text ms span None l e h =
     made_fits (class_number (class_of_word false ms)) (parts_in read left text ms (drop span.start text))
     (λ p. plain_leaf ms (literal_prefix ms) p (text_between text span.start span.«end»)) l

@@ -1,5 +1,5 @@
 -- The texts of substitutions and the bodies of here-documents are no longer than the text that they stand in; a text in backquotes is shorter.
-use Rattle.std.proofs.Common.{◌≡◌, ℕ, zero, suc, ◌+◌, ◌-◌, ◌≤◌, ◌&&◌, nat_eq, not, Bool, true, false, List, [], ◌∷◌, ◌++◌, length, take, drop, min, refl, ap, subst, sym, ◌∙◌, arith, length-append, if◌then◌else◌}
+use Rattle.std.proofs.Common.{◌≡◌, ℕ, suc, ◌+◌, ◌-◌, ◌≤◌, ◌&&◌, nat_eq, not, Bool, true, false, List, [], ◌∷◌, ◌++◌, length, drop, min, refl, subst, arith, length-append, if◌then◌else◌}
 use Rattle.std.proofs.Math.Nat.{min-le_left, min-le_right}
 use Rattle.std.proofs.lemmas.List.{length-take, length-drop}
 use Rattle.sh_token_pieces.specs.declared.here.Delimiter.{Delimiter}

@@ -22,7 +22,7 @@ use Rattle.sh_parse_words.specs.Places.{behind_joins, behind_piece, place_of}
 use Rattle.sh_parse_commands.specs.Results.{and_then, at_other_place, fault_moved, GivesFault, Gives}
 use Rattle.sh_parse_commands.specs.Sources.{text_between, behind_pieces}
 use Rattle.sh_parse_commands.specs.Inputs.{input_of}
-use Rattle.sh_parse_commands.specs.Words.{Reader, text_of, place_in, refused_or_deep, level_fault, at_its_level, answer_of, with_answer, with_piece, begins_closed, with_pieces, whole, parts_in}
+use Rattle.sh_parse_commands.specs.Words.{Reader, text_of, place_in, refused_or_deep, level_fault, at_its_level, answer_of, with_answer, with_piece, begins_closed, with_pieces, whole, parts_in, within, unread}
 use Rattle.sh_parse_commands.specs.Leaves.{name_size, assignment_leaf, plain_leaf, leaf_by, word_leaf, leaf_of}
 use Rattle.sh_parse_commands.specs.declared.body_prefix.BodyPrefix.{BodyPrefix}
 use Rattle.sh_parse_commands.specs.Documents.{prefix_of, unless, expanded_body, document_parts, with_documents, bodies_of}
@@ -88,13 +88,13 @@ abbrev piece_at : List ℕ → Building → Piece → Bool → List ℕ → Outc
 piece_at text b m empty bytes = take_piece b m empty (place_of (length text) (behind_joins bytes)) (place_of (length text) (behind_piece m bytes))
 
 pub piece_alone : (read : Reader) (text : List ℕ) (b : Building) (m : Piece) (empty : Bool) (bytes : List ℕ) (new : Building)
-    → piece_at text b m empty bytes ≡ Ok (record { building = new; request = None }) → with_piece read text b m empty bytes ≡ Ok new
+    → piece_at text b m empty bytes ≡ Ok (record { building = new; request = None }) → with_piece read (unread text bytes) b m empty ≡ Ok new
 unfolding with_piece
 piece_alone read text b m empty bytes new h = ap (λ z. and_then z (λ (t : Taken). with_answer read text t.building t.request)) h
 
 pub piece_answered : (read : Reader) (text : List ℕ) (b : Building) (m : Piece) (empty : Bool) (bytes : List ℕ) (middle new : Building) (r : Request) (program shared : CompoundList)
     → piece_at text b m empty bytes ≡ Ok (record { building = middle; request = Some r }) → answer_of read text r ≡ Ok program → shared ≡ program → new ≡ with_program middle r.form shared
-    → with_piece read text b m empty bytes ≡ Ok new
+    → with_piece read (unread text bytes) b m empty ≡ Ok new
 unfolding with_piece
 piece_answered read text b m empty bytes middle new r program shared h a p n =
     ap (λ z. and_then z (λ (t : Taken). with_answer read text t.building t.request)) h
@@ -103,7 +103,7 @@ piece_answered read text b m empty bytes middle new r program shared h a p n =
     ∙ ap (λ (z : Building). Ok z) (sym n)
 
 pub piece_fault : (read : Reader) (text : List ℕ) (b : Building) (m : Piece) (empty : Bool) (bytes : List ℕ) (new : Building) (e : PartFault)
-    → Takes (Err e) new (piece_at text b m empty bytes) → GivesFault e (with_piece read text b m empty bytes)
+    → Takes (Err e) new (piece_at text b m empty bytes) → GivesFault e (with_piece read (unread text bytes) b m empty)
 unfolding with_piece
 piece_fault read text b m empty bytes new (fault.NoMemory _) h = tt
 piece_fault read text b m empty bytes new (fault.BadSubstitution at) h = ap (λ z. and_then z (λ (t : Taken). with_answer read text t.building t.request)) h
@@ -111,7 +111,7 @@ piece_fault read text b m empty bytes new (fault.TooDeep at) h = ap (λ z. and_t
 piece_fault read text b m empty bytes new (fault.Refused at) h = ap (λ z. and_then z (λ (t : Taken). with_answer read text t.building t.request)) h
 
 pub piece_answer_fault : (read : Reader) (text : List ℕ) (b : Building) (m : Piece) (empty : Bool) (bytes : List ℕ) (middle : Building) (r : Request) (e : PartFault)
-    → piece_at text b m empty bytes ≡ Ok (record { building = middle; request = Some r }) → GivesFault e (answer_of read text r) → GivesFault e (with_piece read text b m empty bytes)
+    → piece_at text b m empty bytes ≡ Ok (record { building = middle; request = Some r }) → GivesFault e (answer_of read text r) → GivesFault e (with_piece read (unread text bytes) b m empty)
 unfolding with_piece
 piece_answer_fault read text b m empty bytes middle r e h a =
     subst (λ z. GivesFault e (and_then z (λ (t : Taken). with_answer read text t.building t.request))) (sym h)
@@ -126,14 +126,14 @@ parts_done read left text ms bytes b rest behind parts h e p =
     ∙ ap (λ (z : Parts). Ok z) (sym p)
 
 pub parts_fault : (read : Reader) (left : ℕ) (text : List ℕ) (ms : List Piece) (bytes : List ℕ) (b : Building) (rest : List Piece) (behind : List ℕ) (m : Piece) (others : List Piece) (e : PartFault)
-    → with_pieces read text b rest behind ≡ with_pieces read text (empty_building left) ms bytes → rest ≡ m ∷ others → GivesFault e (with_piece read text b m (begins_closed others) behind)
+    → with_pieces read text b rest behind ≡ with_pieces read text (empty_building left) ms bytes → rest ≡ m ∷ others → GivesFault e (with_piece read (unread text behind) b m (begins_closed others))
     → GivesFault e (parts_in read left text ms bytes)
 unfolding parts_in
 parts_fault read left text ms bytes b rest behind m others e h r g =
     subst (λ z. GivesFault e (and_then z (λ (c : Building). Ok (whole c)))) h
     (then_fault e (with_pieces read text b rest behind) (λ (c : Building). Ok (whole c))
     (subst (λ z. GivesFault e (with_pieces read text b z behind)) (sym r)
-    (then_fault e (with_piece read text b m (begins_closed others) behind) (λ c. with_pieces read text c others (behind_piece m behind)) g)))
+    (then_fault e (with_piece read (unread text behind) b m (begins_closed others)) (λ c. with_pieces read text c others (behind_piece m behind)) g)))
 
 -- a word
 pub word_plain : (read : Reader) (left : ℕ) (text : List ℕ) (ms : List Piece) (span : Span) (prefix bytes source : List ℕ) (parts : Parts) (l : Leaf)
@@ -141,8 +141,8 @@ pub word_plain : (read : Reader) (left : ℕ) (text : List ℕ) (ms : List Piece
     → l ≡ plain_leaf ms prefix parts source → word_leaf read left text ms span ≡ Ok l
 unfolding word_leaf
 word_plain read left text ms span prefix bytes source parts l b s f n h is =
-    ap (λ z. leaf_by read left text ms span z (name_size z)) (sym f)
-    ∙ ap (λ z. leaf_by read left text ms span prefix z) n
+    ap (λ z. leaf_by (within read left text) ms span z (name_size z)) (sym f)
+    ∙ ap (λ z. leaf_by (within read left text) ms span prefix z) n
     ∙ ap (λ z. and_then (parts_in read left text ms z) (λ p. Ok (plain_leaf ms prefix p (text_between text span.start span.«end»)))) (sym b)
     ∙ ap (λ z. and_then z (λ p. Ok (plain_leaf ms prefix p (text_between text span.start span.«end»)))) h
     ∙ ap (λ z. Ok (plain_leaf ms prefix parts z)) (sym s)
@@ -153,8 +153,8 @@ pub word_plain_fault : (read : Reader) (left : ℕ) (text : List ℕ) (ms : List
 unfolding word_leaf
 word_plain_fault read left text ms span prefix bytes e b f n h =
     subst (λ z. GivesFault e z)
-    (sym (ap (λ z. leaf_by read left text ms span z (name_size z)) (sym f)
-    ∙ ap (λ z. leaf_by read left text ms span prefix z) n
+    (sym (ap (λ z. leaf_by (within read left text) ms span z (name_size z)) (sym f)
+    ∙ ap (λ z. leaf_by (within read left text) ms span prefix z) n
     ∙ ap (λ z. and_then (parts_in read left text ms z) (λ p. Ok (plain_leaf ms prefix p (text_between text span.start span.«end»)))) (sym b)))
     (then_fault e (parts_in read left text ms bytes) (λ p. Ok (plain_leaf ms prefix p (text_between text span.start span.«end»))) h)
 
@@ -163,8 +163,8 @@ assigned_is : (read : Reader) (left : ℕ) (text : List ℕ) (ms : List Piece) (
     → word_leaf read left text ms span ≡ and_then (parts_in read left text others behind) (λ p. Ok (assignment_leaf prefix size p (text_between text span.start span.«end»)))
 unfolding word_leaf
 assigned_is read left text ms span prefix bytes size first others behind b f n o t h =
-    ap (λ z. leaf_by read left text ms span z (name_size z)) (sym f)
-    ∙ ap (λ z. leaf_by read left text ms span prefix z) n
+    ap (λ z. leaf_by (within read left text) ms span z (name_size z)) (sym f)
+    ∙ ap (λ z. leaf_by (within read left text) ms span prefix z) n
     ∙ ap (λ z. and_then (parts_in read left text z (behind_pieces (take (suc size) ms) (drop span.start text))) (λ p. Ok (assignment_leaf prefix size p (text_between text span.start span.«end»)))) (sym o)
     ∙ ap (λ z. and_then (parts_in read left text others (behind_pieces z (drop span.start text))) (λ p. Ok (assignment_leaf prefix size p (text_between text span.start span.«end»)))) (sym t)
     ∙ ap (λ z. and_then (parts_in read left text others (behind_pieces first z)) (λ p. Ok (assignment_leaf prefix size p (text_between text span.start span.«end»)))) (sym b)
@@ -249,46 +249,46 @@ bodies_fault read left text due item found rest none bodies d others e f n h r g
 
 -- an item
 pub item_refused : (read : Reader) (left : ℕ) (text : List ℕ) (due : List Delimiter) (item : Item) (j k : Judged) → k ≡ with_input j (input_of item) → takes k ≡ false
-    → with_item read left text due item j ≡ Err (fault.Refused item.token.span.start)
+    → with_item (within read left text) due item j ≡ Err (fault.Refused item.token.span.start)
 unfolding with_item
 item_refused read left text due item j k e t =
-    ap (λ z. taken_item read left text due item z) (sym e)
-    ∙ ap (λ b. if b then (if nat_lt left (open_in k) then Err (fault.TooDeep item.token.span.start) else with_leaf read (left - open_in k) text due item k) else Err (fault.Refused item.token.span.start)) t
+    ap (λ z. taken_item (within read left text) due item z) (sym e)
+    ∙ ap (λ b. if b then (if nat_lt left (open_in k) then Err (fault.TooDeep item.token.span.start) else with_leaf (within read (left - open_in k) text) due item k) else Err (fault.Refused item.token.span.start)) t
 
 item_by : (read : Reader) (left : ℕ) (text : List ℕ) (due : List Delimiter) (item : Item) (j k : Judged) (opens : ℕ) (b : Bool) → k ≡ with_input j (input_of item) → takes k ≡ true → opens ≡ open_in k → nat_lt left opens ≡ b
-    → with_item read left text due item j ≡ (if b then Err (fault.TooDeep item.token.span.start) else with_leaf read (left - opens) text due item k)
+    → with_item (within read left text) due item j ≡ (if b then Err (fault.TooDeep item.token.span.start) else with_leaf (within read (left - opens) text) due item k)
 unfolding with_item
 item_by read left text due item j k opens b e t o d =
-    ap (λ z. taken_item read left text due item z) (sym e)
-    ∙ ap (λ b. if b then (if nat_lt left (open_in k) then Err (fault.TooDeep item.token.span.start) else with_leaf read (left - open_in k) text due item k) else Err (fault.Refused item.token.span.start)) t
-    ∙ ap (λ n. if nat_lt left n then Err (fault.TooDeep item.token.span.start) else with_leaf read (left - n) text due item k) (sym o)
-    ∙ ap (λ b. if b then Err (fault.TooDeep item.token.span.start) else with_leaf read (left - opens) text due item k) d
+    ap (λ z. taken_item (within read left text) due item z) (sym e)
+    ∙ ap (λ b. if b then (if nat_lt left (open_in k) then Err (fault.TooDeep item.token.span.start) else with_leaf (within read (left - open_in k) text) due item k) else Err (fault.Refused item.token.span.start)) t
+    ∙ ap (λ n. if nat_lt left n then Err (fault.TooDeep item.token.span.start) else with_leaf (within read (left - n) text) due item k) (sym o)
+    ∙ ap (λ b. if b then Err (fault.TooDeep item.token.span.start) else with_leaf (within read (left - opens) text) due item k) d
 
 pub item_deep : (read : Reader) (left : ℕ) (text : List ℕ) (due : List Delimiter) (item : Item) (j k : Judged) (opens : ℕ) → k ≡ with_input j (input_of item) → takes k ≡ true → opens ≡ open_in k → nat_lt left opens ≡ true
-    → with_item read left text due item j ≡ Err (fault.TooDeep item.token.span.start)
+    → with_item (within read left text) due item j ≡ Err (fault.TooDeep item.token.span.start)
 item_deep read left text due item j k opens e t o d = item_by read left text due item j k opens true e t o d
 
 pub leaf_fault : (read : Reader) (left : ℕ) (text : List ℕ) (due : List Delimiter) (item : Item) (j k : Judged) (opens : ℕ) (x : PartFault) → k ≡ with_input j (input_of item) → takes k ≡ true → opens ≡ open_in k → nat_lt left opens ≡ false
-    → GivesFault x (leaf_of read (left - opens) text item.token.kind item.token.span) → GivesFault x (with_item read left text due item j)
+    → GivesFault x (leaf_of read (left - opens) text item.token.kind item.token.span) → GivesFault x (with_item (within read left text) due item j)
 leaf_fault read left text due item j k opens x e t o d g =
     subst (λ z. GivesFault x z) (sym (item_by read left text due item j k opens false e t o d))
     (then_fault x (leaf_of read (left - opens) text item.token.kind item.token.span)
     (λ l. and_then (bodies_of read (left - opens) text due item) (λ others. Ok (record k { leaves = k.leaves ++ l ∷ []; bodies = k.bodies ++ others }))) g)
 
 with_leaf_is : (read : Reader) (left : ℕ) (text : List ℕ) (due : List Delimiter) (item : Item) (k : Judged) (l : Leaf) → leaf_of read left text item.token.kind item.token.span ≡ Ok l
-    → with_leaf read left text due item k ≡ and_then (bodies_of read left text due item) (λ others. Ok (record k { leaves = k.leaves ++ l ∷ []; bodies = k.bodies ++ others }))
+    → with_leaf (within read left text) due item k ≡ and_then (bodies_of read left text due item) (λ others. Ok (record k { leaves = k.leaves ++ l ∷ []; bodies = k.bodies ++ others }))
 with_leaf_is read left text due item k l h =
     ap (λ z. and_then z (λ (l : Leaf). and_then (bodies_of read left text due item) (λ others. Ok (record k { leaves = k.leaves ++ l ∷ []; bodies = k.bodies ++ others })))) h
 
 pub item_bodies_fault : (read : Reader) (left : ℕ) (text : List ℕ) (due : List Delimiter) (item : Item) (j k : Judged) (opens : ℕ) (l : Leaf) (x : PartFault) → k ≡ with_input j (input_of item) → takes k ≡ true → opens ≡ open_in k → nat_lt left opens ≡ false
-    → leaf_of read (left - opens) text item.token.kind item.token.span ≡ Ok l → GivesFault x (bodies_of read (left - opens) text due item) → GivesFault x (with_item read left text due item j)
+    → leaf_of read (left - opens) text item.token.kind item.token.span ≡ Ok l → GivesFault x (bodies_of read (left - opens) text due item) → GivesFault x (with_item (within read left text) due item j)
 item_bodies_fault read left text due item j k opens l x e t o d h g =
     subst (λ z. GivesFault x z) (sym (item_by read left text due item j k opens false e t o d ∙ with_leaf_is read (left - opens) text due item k l h))
     (then_fault x (bodies_of read (left - opens) text due item) (λ others. Ok (record k { leaves = k.leaves ++ l ∷ []; bodies = k.bodies ++ others })) g)
 
 pub item_taken : (read : Reader) (left : ℕ) (text : List ℕ) (due : List Delimiter) (item : Item) (j k new : Judged) (opens : ℕ) (l : Leaf) (bodies : List Parts) → k ≡ with_input j (input_of item) → takes k ≡ true → opens ≡ open_in k → nat_lt left opens ≡ false
     → leaf_of read (left - opens) text item.token.kind item.token.span ≡ Ok l → bodies_of read (left - opens) text due item ≡ Ok bodies
-    → new ≡ record k { leaves = k.leaves ++ l ∷ []; bodies = k.bodies ++ bodies } → with_item read left text due item j ≡ Ok new
+    → new ≡ record k { leaves = k.leaves ++ l ∷ []; bodies = k.bodies ++ bodies } → with_item (within read left text) due item j ≡ Ok new
 item_taken read left text due item j k new opens l bodies e t o d h b n =
     item_by read left text due item j k opens false e t o d
     ∙ with_leaf_is read (left - opens) text due item k l h
@@ -297,22 +297,22 @@ item_taken read left text due item j k new opens l bodies e t o d h b n =
 
 -- a text
 pub text_fault : (depth left : ℕ) (text : List ℕ) (found : Items) (w : Waiting) (rest : List Item) (j : Judged) (item : Item) (others : List Item) (x : PartFault)
-    → items_of true text ≡ found → with_items (programs depth) left text w rest j ≡ with_items (programs depth) left text nothing found.items (none_of substitution)
-    → rest ≡ item ∷ others → GivesFault x (with_item (programs depth) left text (due_at item.token.kind w) item j) → GivesFault x (programs (suc depth) left text)
+    → items_of true text ≡ found → with_items (within (programs depth) left text) w rest j ≡ with_items (within (programs depth) left text) nothing found.items (none_of substitution)
+    → rest ≡ item ∷ others → GivesFault x (with_item (within (programs depth) left text) (due_at item.token.kind w) item j) → GivesFault x (programs (suc depth) left text)
 unfolding program_in
 text_fault depth left text found w rest j item others x f h r g =
     subst (λ z. GivesFault x (program_of (programs depth) left text z)) (sym f)
-    (then_fault x (with_items (programs depth) left text nothing found.items (none_of substitution)) (λ k. ended_by left text (waiting_behind nothing found.items) k found.ending)
-    (subst (λ z. GivesFault x z) (sym (ap (λ z. with_items (programs depth) left text w z j) r) ∙ h)
-    (then_fault x (with_item (programs depth) left text (due_at item.token.kind w) item j) (λ k. with_items (programs depth) left text (behind_token item.token.kind w) others k) g)))
+    (then_fault x (with_items (within (programs depth) left text) nothing found.items (none_of substitution)) (λ k. ended_by left text (waiting_behind nothing found.items) k found.ending)
+    (subst (λ z. GivesFault x z) (sym (ap (λ z. with_items (within (programs depth) left text) w z j) r) ∙ h)
+    (then_fault x (with_item (within (programs depth) left text) (due_at item.token.kind w) item j) (λ k. with_items (within (programs depth) left text) (behind_token item.token.kind w) others k) g)))
 
 pub text_ended : (depth left : ℕ) (text : List ℕ) (found : Items) (w : Waiting) (rest : List Item) (j : Judged) (result : Result CompoundList PartFault)
-    → items_of true text ≡ found → with_items (programs depth) left text w rest j ≡ with_items (programs depth) left text nothing found.items (none_of substitution)
+    → items_of true text ≡ found → with_items (within (programs depth) left text) w rest j ≡ with_items (within (programs depth) left text) nothing found.items (none_of substitution)
     → waiting_behind w rest ≡ waiting_behind nothing found.items → rest ≡ [] → Gives result (ended_by left text w j found.ending) → Gives result (programs (suc depth) left text)
 unfolding program_in
 text_ended depth left text found w rest j result f h v r g =
     subst (λ z. Gives result (program_of (programs depth) left text z)) (sym f)
-    (subst (λ z. Gives result (and_then z (λ k. ended_by left text (waiting_behind nothing found.items) k found.ending))) (sym (ap (λ z. with_items (programs depth) left text w z j) r) ∙ h)
+    (subst (λ z. Gives result (and_then z (λ k. ended_by left text (waiting_behind nothing found.items) k found.ending))) (sym (ap (λ z. with_items (within (programs depth) left text) w z j) r) ∙ h)
     (subst (λ z. Gives result (ended_by left text z j found.ending)) (sym (ap (λ z. waiting_behind w z) r) ∙ v) g))
 
 pub none_left : {A : Type 0} → (xs : List A) → length xs ≡ 0 → xs ≡ []

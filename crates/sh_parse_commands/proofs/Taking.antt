@@ -12,6 +12,7 @@ use Rattle.sh_parse_words.specs.declared.fault.PartFault.{PartFault}
 use Rattle.sh_parse_words.specs.declared.fault.PartFault.TheVariants as fault
 use Rattle.sh_parse_commands.specs.Inputs.{input_of, inputs_of}
 use Rattle.sh_parse_commands.specs.Results.{and_then}
+use Rattle.sh_parse_commands.specs.Words.{within}
 use Rattle.sh_parse_commands.specs.Judging.{IsShell, Judged, taken_item, with_item}
 use Rattle.sh_parse_documents.specs.Stream.{waiting_behind}
 use Rattle.sh_parse_commands.specs.Defined.{Judge, ArePrefix, opened, leaf_at, bodies_at, IsTaken, HasFault, refused, too_deep, in_word, in_body}
@@ -66,7 +67,7 @@ module _ (g : Judge) (before : List Item) (t : Item) (ls : List Leaf) (bs : List
   make l here = behind g (before ++ t ∷ []) (ls ++ l ∷ []) (bs ++ here)
 
   abbrev pub judged_next : Result Judged PartFault
-  judged_next = with_item g.read g.left g.text (due_at t.token.kind (waiting_behind nothing before)) t (behind g before ls bs)
+  judged_next = with_item (within g.read g.left g.text) (due_at t.token.kind (waiting_behind nothing before)) t (behind g before ls bs)
 
   abbrev answered : Bool → Bool → Result Leaf PartFault → Result (List Parts) PartFault → Result Judged PartFault
   answered b c o p = answer make (fault.TooDeep t.token.span.start) (fault.Refused t.token.span.start) b c o p
@@ -83,7 +84,7 @@ module _ (g : Judge) (before : List Item) (t : Item) (ls : List Leaf) (bs : List
   next_is : judged_next ≡ by_parts
   unfolding with_item
   next_is =
-      ap (λ us. taken_item g.read g.left g.text (due_at t.token.kind (waiting_behind nothing before)) t (record { grammar = g.grammar; tokens = us; leaves = ls; bodies = bs }))
+      ap (λ us. taken_item (within g.read g.left g.text) (due_at t.token.kind (waiting_behind nothing before)) t (record { grammar = g.grammar; tokens = us; leaves = ls; bodies = bs }))
       (sym (map-append input_of before (t ∷ [])))
 
   pub record Taken (k : Judged) : Type 0 where

@@ -28,7 +28,7 @@ use Rattle.sh_parse_words.specs.declared.fault.PartFault.{PartFault}
 use Rattle.sh_parse_words.specs.declared.fault.PartFault.TheVariants as fault
 use Rattle.sh_parse_commands.specs.Inputs.{input_of, inputs_of}
 use Rattle.sh_parse_commands.specs.Results.{and_then}
-use Rattle.sh_parse_commands.specs.Words.{Reader}
+use Rattle.sh_parse_commands.specs.Words.{Reader, within}
 use Rattle.sh_parse_commands.specs.Judging.{IsShell, Judged, none_of, with_items, with_body, bodies_behind, with_bodies, are_no, tree_by}
 use Rattle.sh_parse_commands.specs.Programs.{ended_by, program_in}
 use Rattle.sh_parse_commands.specs.Defined.{Judge, Derive, AreTaken, AreFaultless, FirstFault, AreTree, AreTokens, EndIs, inner, IsProgram}
@@ -226,7 +226,7 @@ so_tree g s tokens n j (x, e) tree d bodies =
     (tree_given g s tokens x.leaves x.bodies x.taken n tree d bodies)
 
 pub judged_tree : (grammar : Tabulation) → IsShell grammar → (read : Reader) (left : ℕ) (text : List ℕ) (tokens : List Item) (j : Judged) → AreTokens tokens
-    → with_items read left text nothing tokens (none_of grammar) ≡ Ok j → (tree : Tree) → IsTreeOf grammar (inputs_of tokens) tree
+    → with_items (within read left text) nothing tokens (none_of grammar) ≡ Ok j → (tree : Tree) → IsTreeOf grammar (inputs_of tokens) tree
     → (bodies : List Parts) → syntax_of tree (with_bodies j.leaves bodies) ≡ Some (tree_by (record j { bodies = bodies }))
 judged_tree grammar s read left text tokens j n h tree d bodies =
     let g : Judge = record { grammar = grammar; read = read; left = left; text = text } in

@@ -26,12 +26,12 @@ use Rattle.sh_parse_words.specs.declared.build.Substitution.{Substitution}
 use Rattle.sh_parse_words.specs.declared.build.Substitution.TheVariants as substitution
 use Rattle.sh_parse_words.specs.declared.fault.PartFault.{PartFault}
 use Rattle.sh_parse_words.specs.declared.fault.PartFault.TheVariants as fault
-use Rattle.sh_parse_words.specs.Building.{Building, Outcome, empty_building, with_literal, parts_of, with_part, with_bytes, opened, last_frame, closed_by, with_form_part, on, skip_close, skipping, open_braces, backquotes_request, plainly, taking, take_by, take_piece, with_program}
+use Rattle.sh_parse_words.specs.Building.{Building, Outcome, empty_building, with_literal, parts_of, with_part, with_bytes, opened, last_frame, closed_by, with_form_part, on, skip_close, skipping, open_braces, plainly, taking, take_by, take_piece, with_program}
 use Rattle.sh_parse_words.specs.Parameters.{braces_of, machine_number}
 use Rattle.sh_parse_words.specs.Places.{behind_joins, behind_piece, place_of}
 use Rattle.sh_parse_commands.specs.Results.{and_then, fault_moved}
 use Rattle.sh_parse_commands.specs.Sources.{text_between, behind_pieces}
-use Rattle.sh_parse_commands.specs.Words.{Reader, text_by, text_of, place_by, place_in, refused_or_deep, at_its_level, answer_of, with_answer, with_piece, begins_closed, with_pieces, whole, parts_in}
+use Rattle.sh_parse_commands.specs.Words.{Reader, text_by, text_of, place_by, place_in, refused_or_deep, at_its_level, answer_of, with_answer, with_piece, begins_closed, with_pieces, whole, parts_in, within, unread}
 use Rattle.sh_parse_commands.specs.Leaves.{name_size, assignment_leaf, plain_leaf, leaf_by, word_leaf, leaf_of}
 use Rattle.sh_parse_commands.specs.Documents.{expanded_body, document_parts, with_documents, bodies_of}
 
@@ -350,7 +350,7 @@ module _ (read : Reader) (reads : (left : ℕ) (text : List ℕ) → FaultsIn (l
   step_in text (Ok t) h = answered_in text t.building t.request h.0 h.1
   step_in text (Err f) h = h
 
-  piece_in : (text : List ℕ) (b : Building) (m : Piece) (empty : Bool) (bytes : List ℕ) → SkipIn (length text) b.skip → AfterIn (length text) (with_piece read text b m empty bytes)
+  piece_in : (text : List ℕ) (b : Building) (m : Piece) (empty : Bool) (bytes : List ℕ) → SkipIn (length text) b.skip → AfterIn (length text) (with_piece read (unread text bytes) b m empty)
   unfolding with_piece
   piece_in text b m empty bytes h =
       step_in text (take_piece b m empty (place_of (length text) (behind_joins bytes)) (place_of (length text) (behind_piece m bytes)))
@@ -363,7 +363,7 @@ module _ (read : Reader) (reads : (left : ℕ) (text : List ℕ) → FaultsIn (l
   pieces_in : (text : List ℕ) (ms : List Piece) (b : Building) (bytes : List ℕ) → SkipIn (length text) b.skip → AfterIn (length text) (with_pieces read text b ms bytes)
   pieces_in text [] b bytes h = h
   pieces_in text (m ∷ ms) b bytes h =
-      next_piece_in (length text) (with_piece read text b m (begins_closed ms) bytes) (λ c. with_pieces read text c ms (behind_piece m bytes))
+      next_piece_in (length text) (with_piece read (unread text bytes) b m (begins_closed ms)) (λ c. with_pieces read text c ms (behind_piece m bytes))
       (piece_in text b m (begins_closed ms) bytes h) (λ c k. pieces_in text ms c (behind_piece m bytes) k)
 
   whole_in : (size : ℕ) (o : Result Building PartFault) → AfterIn size o → FaultsIn size (and_then o (λ b. Ok (whole b)))
@@ -374,7 +374,7 @@ module _ (read : Reader) (reads : (left : ℕ) (text : List ℕ) → FaultsIn (l
   unfolding parts_in
   word_parts_in left text ms bytes = whole_in (length text) (with_pieces read text (empty_building left) ms bytes) (pieces_in text ms (empty_building left) bytes tt)
 
-  word_by_in : (left : ℕ) (text : List ℕ) (ms : List Piece) (span : Span) (prefix : List ℕ) (size : Option ℕ) → FaultsIn (length text) (leaf_by read left text ms span prefix size)
+  word_by_in : (left : ℕ) (text : List ℕ) (ms : List Piece) (span : Span) (prefix : List ℕ) (size : Option ℕ) → FaultsIn (length text) (leaf_by (within read left text) ms span prefix size)
   word_by_in left text ms span prefix None =
       then_in (length text) (parts_in read left text ms (drop span.start text)) (λ parts. Ok (plain_leaf ms prefix parts (text_between text span.start span.«end»)))
       (word_parts_in left text ms (drop span.start text)) (λ parts. tt)

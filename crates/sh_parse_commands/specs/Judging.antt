@@ -21,7 +21,7 @@ use Rattle.sh_parse_words.specs.declared.fault.PartFault.{PartFault}
 use Rattle.sh_parse_words.specs.declared.fault.PartFault.TheVariants as fault
 use Rattle.sh_parse_commands.specs.Inputs.{input_of}
 use Rattle.sh_parse_commands.specs.Results.{and_then}
-use Rattle.sh_parse_commands.specs.Words.{Reader}
+use Rattle.sh_parse_commands.specs.Words.{Within, within}
 use Rattle.sh_parse_commands.specs.Leaves.{leaf_of}
 use Rattle.sh_parse_commands.specs.Documents.{bodies_of}
 
@@ -48,28 +48,33 @@ takes j = is_prefix j.grammar j.tokens
 abbrev pub open_in : Judged → ℕ
 open_in j = open_compounds j.grammar j.tokens
 
--- a token that was taken, with the bodies after it; so many levels may open in it
-abbrev pub with_leaf : Reader → ℕ → List ℕ → List Delimiter → Item → Judged → Result Judged PartFault
-with_leaf read left text due item j =
-    and_then (leaf_of read left text item.token.kind item.token.span)
-    (λ l. and_then (bodies_of read left text due item)
+-- the same so many levels deeper: those are no longer left
+abbrev pub deeper : Within → ℕ → Within
+deeper around levels = within around.read (around.left - levels) around.text
+
+-- a token that was taken, with the bodies after it; the levels that are left may open in it
+abbrev pub with_leaf : Within → List Delimiter → Item → Judged → Result Judged PartFault
+with_leaf around due item j =
+    and_then (leaf_of around.read around.left around.text item.token.kind item.token.span)
+    (λ l. and_then (bodies_of around.read around.left around.text due item)
     (λ others. Ok (record j { leaves = j.leaves ++ l ∷ []; bodies = j.bodies ++ others })))
 
-abbrev pub taken_item : Reader → ℕ → List ℕ → List Delimiter → Item → Judged → Result Judged PartFault
-taken_item read left text due item j =
+-- a token is judged with those before it
+abbrev pub taken_item : Within → List Delimiter → Item → Judged → Result Judged PartFault
+taken_item around due item j =
     if takes j
-    then if nat_lt left (open_in j) then Err (fault.TooDeep item.token.span.start) else with_leaf read (left - open_in j) text due item j
+    then if nat_lt around.left (open_in j) then Err (fault.TooDeep item.token.span.start) else with_leaf (deeper around (open_in j)) due item j
     else Err (fault.Refused item.token.span.start)
 
 -- one more token, at which these here-documents are due
-unfoldable pub with_item : Reader → ℕ → List ℕ → List Delimiter → Item → Judged → Result Judged PartFault
-with_item read left text due item j = taken_item read left text due item (with_input j (input_of item))
+unfoldable pub with_item : Within → List Delimiter → Item → Judged → Result Judged PartFault
+with_item around due item j = taken_item around due item (with_input j (input_of item))
 
 -- more tokens; w: what is awaited before them
-abbrev pub with_items : Reader → ℕ → List ℕ → Waiting → List Item → Judged → Result Judged PartFault
-with_items read left text w [] j = Ok j
-with_items read left text w (i ∷ is) j =
-    and_then (with_item read left text (due_at i.token.kind w) i j) (λ k. with_items read left text (behind_token i.token.kind w) is k)
+abbrev pub with_items : Within → Waiting → List Item → Judged → Result Judged PartFault
+with_items around w [] j = Ok j
+with_items around w (i ∷ is) j =
+    and_then (with_item around (due_at i.token.kind w) i j) (λ k. with_items around (behind_token i.token.kind w) is k)
 
 -- a here-document takes the next body; where no body is left, it keeps the empty one
 abbrev pub with_body : Leaf → List Parts → Leaf

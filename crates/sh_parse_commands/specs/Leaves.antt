@@ -20,7 +20,7 @@ use Rattle.sh_parse_words.specs.declared.fault.PartFault.{PartFault}
 use Rattle.sh_parse_words.specs.Building.{parts_of}
 use Rattle.sh_parse_commands.specs.Results.{and_then}
 use Rattle.sh_parse_commands.specs.Sources.{text_between, digits_in, behind_pieces}
-use Rattle.sh_parse_commands.specs.Words.{Reader, parts_in}
+use Rattle.sh_parse_commands.specs.Words.{Reader, Within, within, parts_in}
 
 -- the leaf of an operator; the body of a here-document is put in later
 abbrev pub operator_leaf : Operator → Leaf
@@ -69,16 +69,19 @@ unfoldable pub plain_leaf : List Piece → List ℕ → Parts → List ℕ → L
 plain_leaf ms prefix parts source =
     if list_all is_byte ms && is_name prefix then leaf.Name (word_of parts source) prefix else leaf.Word (word_of parts source)
 
-abbrev pub leaf_by : Reader → ℕ → List ℕ → List Piece → Span → List ℕ → Option ℕ → Result Leaf PartFault
-leaf_by read left text ms span prefix None =
-    and_then (parts_in read left text ms (drop span.start text)) (λ parts. Ok (plain_leaf ms prefix parts (text_between text span.start span.«end»)))
-leaf_by read left text ms span prefix (Some size) =
-    and_then (parts_in read left text (drop (suc size) ms) (behind_pieces (take (suc size) ms) (drop span.start text)))
-    (λ value. Ok (assignment_leaf prefix size value (text_between text span.start span.«end»)))
+-- the leaf of a word that begins with the literal bytes `prefix`; with a size, those begin with a name of that
+-- size and `=`
+abbrev pub leaf_by : Within → List Piece → Span → List ℕ → Option ℕ → Result Leaf PartFault
+leaf_by around ms span prefix None =
+    and_then (parts_in around.read around.left around.text ms (drop span.start around.text))
+    (λ parts. Ok (plain_leaf ms prefix parts (text_between around.text span.start span.«end»)))
+leaf_by around ms span prefix (Some size) =
+    and_then (parts_in around.read around.left around.text (drop (suc size) ms) (behind_pieces (take (suc size) ms) (drop span.start around.text)))
+    (λ value. Ok (assignment_leaf prefix size value (text_between around.text span.start span.«end»)))
 
 -- the leaf of a word of these pieces, which is at this place of the text; so many levels may open in it
 unfoldable pub word_leaf : Reader → ℕ → List ℕ → List Piece → Span → Result Leaf PartFault
-word_leaf read left text ms span = leaf_by read left text ms span (literal_prefix ms) (name_size (literal_prefix ms))
+word_leaf read left text ms span = leaf_by (within read left text) ms span (literal_prefix ms) (name_size (literal_prefix ms))
 
 abbrev pub leaf_of : Reader → ℕ → List ℕ → TokenKind → Span → Result Leaf PartFault
 leaf_of read left text (TokenKind.Operator o) span = Ok (operator_leaf o)

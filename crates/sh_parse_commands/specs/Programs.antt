@@ -9,7 +9,7 @@ use Rattle.sh_parse_documents.specs.Stream.{Ending, AtEnd, Cut, Items, items_of,
 use Rattle.sh_parse_words.specs.declared.fault.PartFault.{PartFault}
 use Rattle.sh_parse_words.specs.declared.fault.PartFault.TheVariants as fault
 use Rattle.sh_parse_commands.specs.Results.{and_then}
-use Rattle.sh_parse_commands.specs.Words.{Reader}
+use Rattle.sh_parse_commands.specs.Words.{Reader, within}
 use Rattle.sh_parse_commands.specs.Judging.{Judged, none_of, open_in, with_items, are_whole, tree_by}
 use Rattle.sh_parse_commands.specs.Cuts.{cut_fault}
 
@@ -21,7 +21,7 @@ ended_by left text w j (Cut at) = Err (unwrap_or (cut_fault (left - open_in j) t
 
 abbrev pub program_of : Reader → ℕ → List ℕ → Items → Result CompoundList PartFault
 program_of read left text found =
-    and_then (with_items read left text nothing found.items (none_of substitution))
+    and_then (with_items (within read left text) nothing found.items (none_of substitution))
     (λ j. ended_by left text (waiting_behind nothing found.items) j found.ending)
 
 -- the list of commands of a text whose substitutions are read by this reader

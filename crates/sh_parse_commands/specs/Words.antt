@@ -21,6 +21,24 @@ use Rattle.sh_parse_commands.specs.Sources.{text_between, backquotes_text}
 abbrev pub Reader : Type 0
 Reader = ℕ → List ℕ → Result CompoundList PartFault
 
+-- what tokens and words are read within: the text, how many levels may open in it, and how the texts of its
+-- substitutions are read
+pub record Within : Type 0 where
+  pub read : Reader
+  pub left : ℕ
+  pub text : List ℕ
+
+abbrev pub within : Reader → ℕ → List ℕ → Within
+within read left text = record { read = read; left = left; text = text }
+
+-- a text, and what is left of it
+pub record Unread : Type 0 where
+  pub text : List ℕ
+  pub bytes : List ℕ
+
+abbrev pub unread : List ℕ → List ℕ → Unread
+unread text bytes = record { text = text; bytes = bytes }
+
 -- the text of a substitution, and the place in the text around it of a fault at a place of this text: a fault
 -- in backquotes has the place of the opening backquote
 abbrev pub text_by : Substitution → List ℕ → List ℕ
@@ -63,11 +81,11 @@ abbrev pub with_answer : Reader → List ℕ → Building → Option Request →
 with_answer read text b None = Ok b
 with_answer read text b (Some r) = and_then (answer_of read text r) (λ c. Ok (with_program b r.form c))
 
--- one more piece; `empty`: a `}` comes after it
-unfoldable pub with_piece : Reader → List ℕ → Building → Piece → Bool → List ℕ → Result Building PartFault
-with_piece read text b m empty bytes =
-    and_then (take_piece b m empty (place_of (length text) (behind_joins bytes)) (place_of (length text) (behind_piece m bytes)))
-    (λ t. with_answer read text t.building t.request)
+-- one more piece, with which the bytes that are left begin; `empty`: a `}` comes after it
+unfoldable pub with_piece : Reader → Unread → Building → Piece → Bool → Result Building PartFault
+with_piece read rest b m empty =
+    and_then (take_piece b m empty (place_of (length rest.text) (behind_joins rest.bytes)) (place_of (length rest.text) (behind_piece m rest.bytes)))
+    (λ t. with_answer read rest.text t.building t.request)
 
 abbrev pub closes_braces : Piece → Bool
 closes_braces piece.BraceClose = true
@@ -81,7 +99,7 @@ begins_closed (m ∷ ms) = closes_braces m
 abbrev pub with_pieces : Reader → List ℕ → Building → List Piece → List ℕ → Result Building PartFault
 with_pieces read text b [] bytes = Ok b
 with_pieces read text b (m ∷ ms) bytes =
-    and_then (with_piece read text b m (begins_closed ms) bytes) (λ c. with_pieces read text c ms (behind_piece m bytes))
+    and_then (with_piece read (unread text bytes) b m (begins_closed ms)) (λ c. with_pieces read text c ms (behind_piece m bytes))
 
 -- the parts of pieces that close what they open
 abbrev pub whole : Building → Parts

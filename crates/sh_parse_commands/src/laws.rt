@@ -16,7 +16,7 @@ ghost use Rattle.sh_parse_documents.specs.Stream.{items_of};
 ghost use Rattle.sh_parse_documents.specs.Waiting.{nothing};
 ghost use Rattle.sh_parse_words.specs.declared.fault.PartFault.{PartFault};
 ghost use Rattle.sh_parse_commands.specs.Inputs.{class_of_kind, inputs_of};
-ghost use Rattle.sh_parse_commands.specs.Words.{Reader};
+ghost use Rattle.sh_parse_commands.specs.Words.{Reader, within};
 ghost use Rattle.sh_parse_commands.specs.Leaves.{leaf_of};
 ghost use Rattle.sh_parse_commands.specs.Judging.{IsShell, Judged, none_of, with_items, with_bodies, tree_by};
 ghost use Rattle.sh_parse_commands.specs.Programs.{program_in, read_text};
@@ -32,7 +32,7 @@ pub fn leaves_fit()
 /// Law: where tokens are judged without fault, the syntax of their derivation is their tree, whatever bodies
 /// their here-documents have.
 pub fn judged_tokens_have_their_tree()
-    ensures { (grammar : Tabulation) → IsShell grammar → (read : Reader) (left : ℕ) (text : List ℕ) (tokens : List Item) (j : Judged) → AreTokens tokens → with_items read left text nothing tokens (none_of grammar) ≡ Ok j → (tree : Tree) → IsTreeOf grammar (inputs_of tokens) tree → (bodies : List Parts) → syntax_of tree (with_bodies j.leaves bodies) ≡ Some (tree_by (record j { bodies = bodies })) }
+    ensures { (grammar : Tabulation) → IsShell grammar → (read : Reader) (left : ℕ) (text : List ℕ) (tokens : List Item) (j : Judged) → AreTokens tokens → with_items (within read left text) nothing tokens (none_of grammar) ≡ Ok j → (tree : Tree) → IsTreeOf grammar (inputs_of tokens) tree → (bodies : List Parts) → syntax_of tree (with_bodies j.leaves bodies) ≡ Some (tree_by (record j { bodies = bodies })) }
 {}
 
 /// Law: no tokens have two derivations by the grammar of commands, nor by the grammar of substitutions.

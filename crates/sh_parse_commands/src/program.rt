@@ -5,7 +5,7 @@ ghost use Rattle.sh_parse_documents.specs.Scanned.{ending_of};
 ghost use Rattle.sh_parse_words.specs.Building.{Takes, take_piece};
 ghost use Rattle.sh_parse_words.specs.Places.{behind_joins, behind_piece, place_of};
 ghost use Rattle.sh_parse_commands.specs.Results.{Gives, GivesBodies, Changes};
-ghost use Rattle.sh_parse_commands.specs.Words.{answer_of, with_piece, whole, parts_in};
+ghost use Rattle.sh_parse_commands.specs.Words.{answer_of, with_piece, whole, parts_in, within, unread};
 ghost use Rattle.sh_parse_commands.specs.Leaves.{word_leaf, leaf_of};
 ghost use Rattle.sh_parse_commands.specs.Documents.{expanded_body, document_parts, bodies_of};
 ghost use Rattle.sh_parse_commands.specs.Judging.{with_item};
@@ -86,7 +86,7 @@ fn put_piece(
     bytes: &[u8],
 ) -> Result<(), PartFault>
     ensures { Changes result builder.new
-        (with_piece (programs depth) text.now builder.old piece.now is_empty bytes.now) }
+        (with_piece (programs depth) (unread text.now bytes.now) builder.old piece.now is_empty) }
 {
     let request = match take_piece(text, builder, piece, is_empty, bytes) {
         Ok(Some(request)) => request,
@@ -282,7 +282,7 @@ pub(crate) fn judge_within(
     prefix: &mut Prefix,
 ) -> Result<(), PartFault>
     ensures { Changes result prefix.new
-        (with_item (programs depth) left text.now due.now item.now prefix.old) }
+        (with_item (within (programs depth) left text.now) due.now item.now prefix.old) }
 {
     let input = input(alloc, item)?;
     let start = item.token.span.start;

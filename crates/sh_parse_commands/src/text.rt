@@ -2,6 +2,7 @@
 ghost use Rattle.std.specs.Prelude.{◌≡◌, ◌≤◌, ◌+◌, suc, length};
 ghost use Rattle.sh_parse_commands.specs.Results.{GivesBodies, Changes};
 ghost use Rattle.sh_parse_commands.specs.Documents.{bodies_of};
+ghost use Rattle.sh_parse_commands.specs.Words.{within};
 ghost use Rattle.sh_parse_commands.specs.Judging.{with_item};
 ghost use Rattle.sh_parse_commands.specs.Programs.{read_text};
 
@@ -36,7 +37,7 @@ pub fn judge(
 ) -> Result<(), PartFault>
     requires { left ≤ 500 }
     ensures { Changes result prefix.new
-        (with_item read_text left text.now due.now item.now prefix.old) }
+        (with_item (within read_text left text.now) due.now item.now prefix.old) }
 {
     judge_within(alloc, depth_in(left, text), left, text, due, item, prefix)
 }

@@ -6,6 +6,7 @@ use Rattle.sh_parse_documents.specs.Stream.{waiting_behind}
 use Rattle.sh_parse_documents.specs.Scanned.{all_items}
 use Rattle.sh_parse_commands.specs.Results.{Gives, GivesFault}
 use Rattle.sh_parse_commands.specs.Leaves.{name_size, assignment_leaf}
+use Rattle.sh_parse_commands.specs.Words.{within}
 use Rattle.sh_parse_commands.specs.Judging.{none_of, with_input, takes, with_item, with_items}
 use Rattle.sh_parse_commands.specs.Programs.{programs}
 use Rattle.sh_parse_commands.proofs.Steps.{answer_fault, none_left, parts_done, piece_answered, word_plain, word_assigned, bodies_fault, bodies_done, item_taken, text_fault, text_ended}
@@ -39,9 +40,9 @@ program-returns-in-Err t c =
     subst (λ z. GivesFault c.in-Err.fault (programs z c.args.left c.args.text.now)) n (
     text_fault (c.args.depth - 1) c.args.left c.args.text.now (all_items c.in_ok-found.found) c.loop-item.waiting c.loop-item.rest.now c.loop-item.prefix c.in-Some.item.now c.in-Some.others.now c.in-Err.fault
     c.in_ok-found.ensures
-    (c.loop-item.invariant.0 ∙ ap (λ z. with_items (programs (c.args.depth - 1)) c.args.left c.args.text.now nothing z (none_of substitution)) c.as_slice-rest.ensures.value)
+    (c.loop-item.invariant.0 ∙ ap (λ z. with_items (within (programs (c.args.depth - 1)) c.args.left c.args.text.now) nothing z (none_of substitution)) c.as_slice-rest.ensures.value)
     (let h = c.in-Some.ensures.cases.0 in cc)
-    (subst (λ z. GivesFault c.in-Err.fault (with_item (programs (c.args.depth - 1)) c.args.left c.args.text.now z c.in-Some.item.now c.loop-item.prefix)) c.due_at-due.ensures c.in-Err.ensures)
+    (subst (λ z. GivesFault c.in-Err.fault (with_item (within (programs (c.args.depth - 1)) c.args.left c.args.text.now) z c.in-Some.item.now c.loop-item.prefix)) c.due_at-due.ensures c.in-Err.ensures)
     )
 
 pub program-returns : goal.program-returns
@@ -50,7 +51,7 @@ program-returns t c =
     subst (λ z. Gives c.ended_by.result (programs z c.args.left c.args.text.now)) n (
     text_ended (c.args.depth - 1) c.args.left c.args.text.now (all_items c.in_ok-found.found) c.loop-item.waiting c.loop-item.rest.now c.loop-item.prefix c.ended_by.result
     c.in_ok-found.ensures
-    (c.loop-item.invariant.0 ∙ ap (λ z. with_items (programs (c.args.depth - 1)) c.args.left c.args.text.now nothing z (none_of substitution)) c.as_slice-rest.ensures.value)
+    (c.loop-item.invariant.0 ∙ ap (λ z. with_items (within (programs (c.args.depth - 1)) c.args.left c.args.text.now) nothing z (none_of substitution)) c.as_slice-rest.ensures.value)
     (c.loop-item.invariant.1 ∙ ap (λ z. waiting_behind nothing z) c.as_slice-rest.ensures.value)
     (none_left c.loop-item.rest.now c.in_default.ensures.cases)
     c.ended_by.ensures

@@ -3,7 +3,7 @@ use Rattle.sh_token_grammar.specs.Shell.{substitution}
 use Rattle.sh_parse_documents.specs.Waiting.{nothing}
 use Rattle.sh_parse_documents.specs.Stream.{waiting_behind}
 use Rattle.sh_parse_words.specs.Building.{empty_building}
-use Rattle.sh_parse_commands.specs.Words.{with_pieces}
+use Rattle.sh_parse_commands.specs.Words.{with_pieces, within}
 use Rattle.sh_parse_commands.specs.Documents.{with_documents}
 use Rattle.sh_parse_commands.specs.Judging.{none_of, with_items}
 use Rattle.sh_parse_commands.specs.Programs.{programs}
@@ -55,7 +55,7 @@ decreases-bodies_within-loop-document l = length l.rest
 
 abbrev pub invariant-program-loop-item : goal.invariant-program-loop-item
 invariant-program-loop-item l =
-    (with_items (programs (l.depth - 1)) l.left l.text l.waiting l.rest l.prefix ≡ with_items (programs (l.depth - 1)) l.left l.text nothing l.initial.rest (none_of substitution))
+    (with_items (within (programs (l.depth - 1)) l.left l.text) l.waiting l.rest l.prefix ≡ with_items (within (programs (l.depth - 1)) l.left l.text) nothing l.initial.rest (none_of substitution))
     × (waiting_behind l.waiting l.rest ≡ waiting_behind nothing l.initial.rest)
 
 abbrev pub decreases-program-loop-item : goal.decreases-program-loop-item
