@@ -12,7 +12,7 @@ use Rattle.sh_parse_commands.specs.Programs.{read_text}
 use Rattle.sh_parse_commands.specs.Results.{and_then}
 use Rattle.sh_parse_words.specs.declared.fault.PartFault.{PartFault}
 use Rattle.sh_parse.specs.Aliases.{AliasTable, replacement}
-use Rattle.sh_parse.specs.Reading.{Answer, answer_at_newline, at_cut, at_end, at_last, before_nul, complete_answer, first_answer, is_newline, newline_says, nul_in, reading, refusal, stands_before, unless_nul, with_nul, with_token}
+use Rattle.sh_parse.specs.Reading.{Answer, answer_at_newline, at_cut, at_end, at_last, before_nul, complete_answer, first_answer, is_newline, newline_says, nul_in, reading, refusal, stands_before, unless_nul, with_nul, with_token, source, standing}
 use Rattle.sh_parse.specs.declared.ParseFault.TheVariants.{Refused, Unclosed}
 use Rattle.sh_parse.specs.declared.Reading.TheVariants.{Complete, Blank, More}
 use Rattle.sh_syntax.specs.declared.tree.Parts.{Parts}
@@ -89,11 +89,11 @@ else_fits None answer f g = g
 else_fits (Some x) answer f g = f
 
 first_fits : (table : AliasTable) (e : Bool) (text : List ℕ) (w : Waiting) (r : Result Judged PartFault) (tokens : List Item) (ending : Ending) → Unless Fits r
-    → AnswerFits (first_answer table e text w r tokens ending)
+    → AnswerFits (first_answer (source table e text) (standing r w) tokens ending)
 first_fits table e text w r [] ending f = at_last_fits e text w r ending f
 first_fits table e text w r (t ∷ tokens) ending f =
     else_fits (if is_newline t.token.kind then newline_says table text w t r else None)
-    (first_answer table e text (behind_token t.token.kind w) (and_then r (with_token table text w t)) tokens ending)
+    (first_answer (source table e text) (standing (and_then r (with_token table text w t)) (behind_token t.token.kind w)) tokens ending)
     (either SaidFits (is_newline t.token.kind) (newline_says table text w t r) None (newline_fits table text w t r f) tt)
     (first_fits table e text (behind_token t.token.kind w) (and_then r (with_token table text w t)) tokens ending
     (and_then_fits Fits Fits r (with_token table text w t) f

@@ -21,7 +21,7 @@ use Rattle.sh_parse_commands.proofs.Taking.{behind, judged_next, Told, next_told
 use Rattle.sh_parse_commands.proofs.Faultless.{waiting_push, judged, JudgedSo, judged_told, judged_push, faultless_judged, fault_judged}
 use Rattle.sh_parse_commands.proofs.Texts.{derive_whole, whole_not_derive, derive_not_whole, whole_derive, tree_found, tree_gives, tree_whole, tree_alone, alone_gives, none_told, some_told, some_leaves, tokens_of}
 use Rattle.sh_parse.specs.Aliases.{AliasTable}
-use Rattle.sh_parse.specs.Reading.{Answer, is_newline, nul_in, unless_nul, with_nul, with_token, complete_answer, refusal, answer_at_newline, at_end, at_cut, at_last, first_answer, reading}
+use Rattle.sh_parse.specs.Reading.{Answer, is_newline, nul_in, unless_nul, with_nul, with_token, complete_answer, refusal, answer_at_newline, at_end, at_cut, at_last, first_answer, reading, source, standing}
 use Rattle.sh_parse.specs.declared.Reading.TheVariants.{Complete, Blank}
 use Rattle.sh_parse.specs.declared.ParseFault.TheVariants.{Unclosed}
 use Rattle.sh_parse.specs.Defined.{outer, last_bodies, TokensSay, blank_line, faulty_line, whole_line, faulty_bodies, faulty_newline, AreOpen, nul_before, Says, of_tokens, of_nul, IsSilent, AreSilent, Ends, blank_text, faulty_text, whole_text, open_text, FaultOr, cut_answer, EndSays, NewlineDecides, EndDecides, IsReading}
@@ -271,7 +271,7 @@ module _ (table : AliasTable) (e : Bool) (text : List ℕ) (ending : Ending) whe
 
   -- what is decided behind tokens
   abbrev from : List Item → List Item → Answer
-  from before tokens = first_answer table e text (waiting_behind nothing before) (judged (outer text) before) tokens ending
+  from before tokens = first_answer (source table e text) (standing (judged (outer text) before) (waiting_behind nothing before)) tokens ending
 
   abbrev goes : Bool → Option Answer → Answer → Answer
   goes b d later = unwrap_or (if b then d else None) later
@@ -280,8 +280,8 @@ module _ (table : AliasTable) (e : Bool) (text : List ℕ) (ending : Ending) whe
       → from before (t ∷ tokens) ≡ goes (is_newline t.token.kind) (line_says table text before t) (from (before ++ t ∷ []) tokens)
   from_next before t tokens =
       ap (λ later. goes (is_newline t.token.kind) (line_says table text before t) later)
-      (ap (λ w. first_answer table e text w (and_then (judged (outer text) before) (with_token table text (waiting_behind nothing before) t)) tokens ending) (sym (waiting_push nothing before t))
-      ∙ ap (λ r. first_answer table e text (waiting_behind nothing (before ++ t ∷ [])) r tokens ending) (sym (judged_push (outer text) before t)))
+      (ap (λ w. first_answer (source table e text) (standing (and_then (judged (outer text) before) (with_token table text (waiting_behind nothing before) t)) w) tokens ending) (sym (waiting_push nothing before t))
+      ∙ ap (λ r. first_answer (source table e text) (standing r (waiting_behind nothing (before ++ t ∷ []))) tokens ending) (sym (judged_push (outer text) before t)))
 
   sound_step : (before : List Item) (t : Item) (tokens : List Item) (later : Answer) (b : Bool) (d : Option Answer) → AreTokens before → AreSilent text [] before
       → is_newline t.token.kind ≡ b → line_says table text before t ≡ d → (AreSilent text [] (before ++ t ∷ []) → Decides (before ++ t ∷ tokens) later)

@@ -7,7 +7,7 @@ use Rattle.sh_parse_commands.specs.Documents.{bodies_of}
 use Rattle.sh_parse_commands.specs.Judging.{Judged, is_none, are_whole}
 use Rattle.sh_parse_commands.specs.Programs.{read_text}
 use Rattle.sh_parse.specs.Aliases.{AliasTable}
-use Rattle.sh_parse.specs.Reading.{Answer, Answers, complete_answer, refusal, answer_at_newline, with_token}
+use Rattle.sh_parse.specs.Reading.{Answer, Answers, complete_answer, refusal, answer_at_newline, with_token, standing, stands_behind}
 use Rattle.sh_parse.specs.Turns.{SaysFault, Tells, turn_of}
 use Rattle.sh_parse.specs.declared.Reading.{Reading}
 use Rattle.sh_parse.specs.declared.ParseFault.{ParseFault}
@@ -32,6 +32,6 @@ fault_told (TooDeep at used) known said h s = s ∙ ap Some h
 
 -- an answer that is said is told
 pub whole_tells : (table : AliasTable) (text : List ℕ) (j : Result Judged PartFault) (w : Waiting) (t : Item) (nul : Option ℕ) (answer : Result Reading ParseFault) (known : Answer)
-    → answer_at_newline table text w t j ≡ Some known → Answers answer known → Tells table text j w t nul (turn_of answer)
+    → answer_at_newline table text w t j ≡ Some known → Answers answer known → Tells (answer_at_newline table text w t j) (stands_behind table text (standing j w) t) t.«end» nul (turn_of answer)
 whole_tells table text j w t nul (Ok r) known s h = s ∙ ap Some h
 whole_tells table text j w t nul (Err f) known s h = fault_told f known (answer_at_newline table text w t j) h s

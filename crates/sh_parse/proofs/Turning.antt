@@ -14,7 +14,7 @@ use Rattle.sh_token_grammar.specs.Shell.{complete}
 use Rattle.sh_parse_words.specs.declared.fault.PartFault.{PartFault}
 use Rattle.sh_parse_commands.specs.Judging.{Judged, none_of}
 use Rattle.sh_parse.specs.Aliases.{AliasTable}
-use Rattle.sh_parse.specs.Reading.{at_last, first_answer, nul_in, reading, Answers}
+use Rattle.sh_parse.specs.Reading.{at_last, first_answer, nul_in, reading, Answers, source, standing}
 use Rattle.sh_parse.specs.Turns.{read_from, Turns, Takes, turn_of}
 
 abbrev before_others : Item → Items → Items
@@ -46,12 +46,12 @@ abbrev behind : ℕ → Bool → List ℕ → Waiting → Item → Items
 behind n e text w t = items_from n e text (behind_token t.token.kind w) t.«end»
 
 next_found : (n : ℕ) (table : AliasTable) (e : Bool) (text : List ℕ) (before : Result Judged PartFault) (w : Waiting) (at : ℕ) (t : Item) → Ok t ≡ item_at at (first_item e (length text) w (drop at text)) → (t.token.kind ≡ TokenKind.End → ⊥)
-    → read_from (suc n) table e text before w at ≡ first_answer table e text w before (t ∷ (behind n e text w t).items) (behind n e text w t).ending
+    → read_from (suc n) (source table e text) (standing before w) at ≡ first_answer (source table e text) (standing before w) (t ∷ (behind n e text w t).items) (behind n e text w t).ending
 next_found n table e text before w at t a h =
-    ap (λ (x : Items). first_answer table e text w before x.items x.ending) (first_found (λ v place. items_from n e text v place) w at (first_item e (length text) w (drop at text)) t a h)
+    ap (λ (x : Items). first_answer (source table e text) (standing before w) x.items x.ending) (first_found (λ v place. items_from n e text v place) w at (first_item e (length text) w (drop at text)) t a h)
 
 pub taken_turns : (table : AliasTable) (e : Bool) (text : List ℕ) (before : Result Judged PartFault) (w : Waiting) (at : ℕ) (t : Item) (nul : Option ℕ) (answer : Result Turn ParseFault) → nul ≡ nul_in (take t.«end» text) → Ok t ≡ item_at at (first_item e (length text) w (drop at text)) → (t.token.kind ≡ TokenKind.End → ⊥)
-    → IsItemPlaced at (length text) t → at ≤ length text → Takes table e text before w t nul t.«end» answer → Turns table e text before w at answer
+    → IsItemPlaced at (length text) t → at ≤ length text → Takes (source table e text) (standing before w) t nul answer → Turns (source table e text) (standing before w) at answer
 taken_turns table e text before w at t nul (Ok (Turn.On prefix v place next)) z a h p l takes =
     let further : t.token.span.start < t.token.span.«end» = p.token.advances h in
     let from : at ≤ t.token.span.start = p.token.starts in
@@ -61,9 +61,9 @@ taken_turns table e text before w at t nul (Ok (Turn.On prefix v place next)) z 
       omega (further, from, on, same, arith),
       omega (inside, same, arith),
       λ n. next_found n table e text before w at t a h ∙ takes.3 (behind n e text w t).items (behind n e text w t).ending
-          ∙ ap (λ x. first_answer table e text x prefix (behind n e text w t).items (behind n e text w t).ending) takes.1
-          ∙ ap (λ x. read_from n table e text prefix x t.«end») (sym takes.1)
-          ∙ ap (λ x. read_from n table e text prefix v x) (sym same),
+          ∙ ap (λ x. first_answer (source table e text) (standing prefix x) (behind n e text w t).items (behind n e text w t).ending) takes.1
+          ∙ ap (λ x. read_from n (source table e text) (standing prefix x) t.«end») (sym takes.1)
+          ∙ ap (λ x. read_from n (source table e text) (standing prefix v) x) (sym same),
       takes.2 ∙ (z ∙ ap (λ x. nul_in (take x text)) (sym same)),
     )
 taken_turns table e text before w at t nul (Ok (Turn.Read r)) z a h p l takes = λ n. next_found n table e text before w at t a h ∙ takes (behind n e text w t).items (behind n e text w t).ending
@@ -85,15 +85,15 @@ first_end others w at (FoundItem (TokenKind.Word parts) start stop after) t e h 
     let z : TokenKind.Word parts ≡ TokenKind.End = sym (ap (λ (u : Item). u.token.kind) r) ∙ h in absurd (cc)
 
 answers_turn : (table : AliasTable) (e : Bool) (text : List ℕ) (before : Result Judged PartFault) (w : Waiting) (at : ℕ) (answer : Result Reading ParseFault)
-    → ((n : ℕ) → Answers answer (read_from (suc n) table e text before w at)) → Turns table e text before w at (turn_of answer)
+    → ((n : ℕ) → Answers answer (read_from (suc n) (source table e text) (standing before w) at)) → Turns (source table e text) (standing before w) at (turn_of answer)
 answers_turn table e text before w at (Ok r) h = h
 answers_turn table e text before w at (Err fault) h = h
 
 pub end_turns : (table : AliasTable) (e : Bool) (text : List ℕ) (before : Result Judged PartFault) (w : Waiting) (at : ℕ) (t : Item) (answer : Result Reading ParseFault)
     → Ok t ≡ item_at at (first_item e (length text) w (drop at text)) → t.token.kind ≡ TokenKind.End → Answers answer (at_last e text w before AtEnd)
-    → Turns table e text before w at (turn_of answer)
+    → Turns (source table e text) (standing before w) at (turn_of answer)
 end_turns table e text before w at t answer a k h = answers_turn table e text before w at answer (λ n.
-    subst (λ (x : Items). Answers answer (first_answer table e text w before x.items x.ending))
+    subst (λ (x : Items). Answers answer (first_answer (source table e text) (standing before w) x.items x.ending))
     (sym (first_end (λ v place. items_from n e text v place) w at (first_item e (length text) w (drop at text)) t a k)) h)
 
 -- where a reading stands: what is to be read is what the whole text reads as
@@ -101,32 +101,32 @@ pub record Stands (table : AliasTable) (e : Bool) (text : List ℕ) (before : Re
   pub left : ℕ
   pub enough : length text < left + at
   pub inside : at ≤ length text
-  pub same : reading table e text ≡ read_from left table e text before w at
+  pub same : reading table e text ≡ read_from left (source table e text) (standing before w) at
   pub clean : nul ≡ nul_in (take at text)
 
 pub begins : (table : AliasTable) (e : Bool) (text : List ℕ) → Stands table e text (Ok (none_of complete)) nothing 0 None
 unfolding reading
 begins table e text = record { left = suc (length text); enough = omega arith; inside = omega arith; same = refl; clean = refl }
 
-go_on : (table : AliasTable) (e : Bool) (text : List ℕ) (before prefix : Result Judged PartFault) (w v : Waiting) (at place left : ℕ) (next : Option ℕ) → length text < left + at → at ≤ length text → reading table e text ≡ read_from left table e text before w at → Turns table e text before w at (Ok (Turn.On prefix v place next)) → Stands table e text prefix v place next
+go_on : (table : AliasTable) (e : Bool) (text : List ℕ) (before prefix : Result Judged PartFault) (w v : Waiting) (at place left : ℕ) (next : Option ℕ) → length text < left + at → at ≤ length text → reading table e text ≡ read_from left (source table e text) (standing before w) at → Turns (source table e text) (standing before w) at (Ok (Turn.On prefix v place next)) → Stands table e text prefix v place next
 go_on table e text before prefix w v at place zero next enough inside same turns = absurd (omega arith)
 go_on table e text before prefix w v at place (suc n) next enough inside same turns =
     let further : at < place = turns.0 in
     record { left = n; enough = omega arith; inside = turns.1; same = same ∙ turns.2 n; clean = turns.3 }
 
-pub goes_on : (table : AliasTable) (e : Bool) (text : List ℕ) (before prefix : Result Judged PartFault) (w v : Waiting) (at place : ℕ) (nul next : Option ℕ) → Stands table e text before w at nul → Turns table e text before w at (Ok (Turn.On prefix v place next)) → Stands table e text prefix v place next
+pub goes_on : (table : AliasTable) (e : Bool) (text : List ℕ) (before prefix : Result Judged PartFault) (w v : Waiting) (at place : ℕ) (nul next : Option ℕ) → Stands table e text before w at nul → Turns (source table e text) (standing before w) at (Ok (Turn.On prefix v place next)) → Stands table e text prefix v place next
 goes_on table e text before prefix w v at place nul next s turns = go_on table e text before prefix w v at place s.left next s.enough s.inside s.same turns
 
-decide : (table : AliasTable) (e : Bool) (text : List ℕ) (before : Result Judged PartFault) (w : Waiting) (at left : ℕ) (r : Reading) → length text < left + at → at ≤ length text → reading table e text ≡ read_from left table e text before w at → Turns table e text before w at (Ok (Turn.Read r)) → reading table e text ≡ Ok r
+decide : (table : AliasTable) (e : Bool) (text : List ℕ) (before : Result Judged PartFault) (w : Waiting) (at left : ℕ) (r : Reading) → length text < left + at → at ≤ length text → reading table e text ≡ read_from left (source table e text) (standing before w) at → Turns (source table e text) (standing before w) at (Ok (Turn.Read r)) → reading table e text ≡ Ok r
 decide table e text before w at zero r enough inside same turns = absurd (omega arith)
 decide table e text before w at (suc n) r enough inside same turns = same ∙ turns n
 
-pub decides : (table : AliasTable) (e : Bool) (text : List ℕ) (before : Result Judged PartFault) (w : Waiting) (at : ℕ) (nul : Option ℕ) (r : Reading) → Stands table e text before w at nul → Turns table e text before w at (Ok (Turn.Read r)) → reading table e text ≡ Ok r
+pub decides : (table : AliasTable) (e : Bool) (text : List ℕ) (before : Result Judged PartFault) (w : Waiting) (at : ℕ) (nul : Option ℕ) (r : Reading) → Stands table e text before w at nul → Turns (source table e text) (standing before w) at (Ok (Turn.Read r)) → reading table e text ≡ Ok r
 decides table e text before w at nul r s turns = decide table e text before w at s.left r s.enough s.inside s.same turns
 
-fail : (table : AliasTable) (e : Bool) (text : List ℕ) (before : Result Judged PartFault) (w : Waiting) (at left : ℕ) (fault : ParseFault) → length text < left + at → at ≤ length text → reading table e text ≡ read_from left table e text before w at → Turns table e text before w at (Err fault) → Answers (Err fault) (reading table e text)
+fail : (table : AliasTable) (e : Bool) (text : List ℕ) (before : Result Judged PartFault) (w : Waiting) (at left : ℕ) (fault : ParseFault) → length text < left + at → at ≤ length text → reading table e text ≡ read_from left (source table e text) (standing before w) at → Turns (source table e text) (standing before w) at (Err fault) → Answers (Err fault) (reading table e text)
 fail table e text before w at zero fault enough inside same turns = absurd (omega arith)
 fail table e text before w at (suc n) fault enough inside same turns = subst (λ x. Answers (Err fault) x) (sym same) (turns n)
 
-pub fails : (table : AliasTable) (e : Bool) (text : List ℕ) (before : Result Judged PartFault) (w : Waiting) (at : ℕ) (nul : Option ℕ) (fault : ParseFault) → Stands table e text before w at nul → Turns table e text before w at (Err fault) → Answers (Err fault) (reading table e text)
+pub fails : (table : AliasTable) (e : Bool) (text : List ℕ) (before : Result Judged PartFault) (w : Waiting) (at : ℕ) (nul : Option ℕ) (fault : ParseFault) → Stands table e text before w at nul → Turns (source table e text) (standing before w) at (Err fault) → Answers (Err fault) (reading table e text)
 fails table e text before w at nul fault s turns = fail table e text before w at s.left fault s.enough s.inside s.same turns

@@ -114,16 +114,38 @@ at_last e text w j (Cut at) = if e then unless_nul (nul_in text) (length text) (
 abbrev pub newline_says : AliasTable → List ℕ → Waiting → Item → Result Judged PartFault → Option Answer
 newline_says table text w newline j = with_nul (nul_in (take newline.«end» text)) newline.«end» (answer_at_newline table text w newline j)
 
--- what the first decision place that says anything says; j: the tokens before, or their first fault; w: what
--- is awaited there
-abbrev pub first_answer : AliasTable → Bool → List ℕ → Waiting → Result Judged PartFault → List Item → Ending → Answer
-first_answer table e text w j [] ending = at_last e text w j ending
-first_answer table e text w j (t ∷ tokens) ending =
-    unwrap_or (if is_newline t.token.kind then newline_says table text w t j else None)
-    (first_answer table e text (behind_token t.token.kind w) (and_then j (with_token table text w t)) tokens ending)
+-- what is read: a text, whether its end is the end of the input, and the aliases that are defined
+pub record Source : Type 0 where
+  pub aliases : AliasTable
+  pub at_end : Bool
+  pub text : List ℕ
+
+abbrev pub source : AliasTable → Bool → List ℕ → Source
+source table e text = record { aliases = table; at_end = e; text = text }
+
+-- where a reading stands: the tokens before, or their first fault, and what is awaited there
+pub record Standing : Type 0 where
+  pub judged : Result Judged PartFault
+  pub waiting : Waiting
+
+abbrev pub standing : Result Judged PartFault → Waiting → Standing
+standing j w = record { judged = j; waiting = w }
+
+-- where it stands after one more token
+abbrev pub stands_behind : AliasTable → List ℕ → Standing → Item → Standing
+stands_behind table text here item =
+    standing (and_then here.judged (with_token table text here.waiting item)) (behind_token item.token.kind here.waiting)
+
+-- what the first decision place that says anything says, where the reading stands here and these tokens are
+-- to come
+abbrev pub first_answer : Source → Standing → List Item → Ending → Answer
+first_answer from here [] ending = at_last from.at_end from.text here.waiting here.judged ending
+first_answer from here (t ∷ tokens) ending =
+    unwrap_or (if is_newline t.token.kind then newline_says from.aliases from.text here.waiting t here.judged else None)
+    (first_answer from (stands_behind from.aliases from.text here t) tokens ending)
 
 unfoldable pub reading : AliasTable → Bool → List ℕ → Answer
-reading table e text = first_answer table e text nothing (Ok (none_of complete)) (items_of e text).items (items_of e text).ending
+reading table e text = first_answer (source table e text) (standing (Ok (none_of complete)) nothing) (items_of e text).items (items_of e text).ending
 
 -- the answer is this one, unless memory was wanting
 abbrev pub Answers : Answer → Answer → Type 0

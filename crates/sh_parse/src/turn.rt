@@ -10,7 +10,7 @@ ghost use Rattle.sh_parse_commands.specs.Programs.{read_text};
 ghost use Rattle.sh_base.specs.Memory.{no_memory};
 ghost use Rattle.sh_parse.specs.declared.ParseFault.TheVariants.{NoMemory};
 ghost use Rattle.sh_parse.specs.Aliases.{replacement};
-ghost use Rattle.sh_parse.specs.Reading.{Answer, Answers, at_cut, at_end, at_last, complete_answer, is_newline, nul_in, unless_nul};
+ghost use Rattle.sh_parse.specs.Reading.{Answer, Answers, answer_at_newline, at_cut, at_end, at_last, complete_answer, is_newline, nul_in, source, standing, stands_behind, unless_nul};
 ghost use Rattle.sh_parse.specs.Turns.{GoesOn, Takes, Tells, Turns, fault_in, turn_of};
 
 use crate::aliases::{Aliases, aliased};
@@ -55,7 +55,7 @@ pub(crate) fn next_turn(
 ) -> Result<Turn, ParseFault>
     requires inside { at ≤ length text.now }
     requires nul { nul ≡ nul_in (take at text.now) }
-    ensures { Turns aliases.now at_end text.now judged waiting at result }
+    ensures { Turns (source aliases.now at_end text.now) (standing judged waiting) at result }
 {
     match next_item(alloc, text, at, at_end, text.len(), &waiting) {
         Ok(item) => {
@@ -122,7 +122,7 @@ fn take(
     nul: Option<usize>,
 ) -> Result<Turn, ParseFault>
     requires { nul ≡ nul_in (take item.«end» text.now) }
-    ensures { (e : Bool) → Takes aliases.now e text.now judged waiting item nul item.«end» result }
+    ensures { (e : Bool) → Takes (source aliases.now e text.now) (standing judged waiting) item nul result }
 {
     if ends_line(&item.token.kind) {
         return end_line(alloc, text, aliases, judged, waiting, item, nul);
@@ -140,7 +140,8 @@ fn go_on(
     item: Item,
     nul: Option<usize>,
 ) -> Result<Turn, ParseFault>
-    ensures { GoesOn aliases.now text.now judged waiting item nul result }
+    ensures { GoesOn (stands_behind aliases.now text.now (standing judged waiting) item) item.«end» nul
+        result }
 {
     let after = item.end;
     let mut left = waiting;
@@ -162,7 +163,7 @@ fn end_line(
 ) -> Result<Turn, ParseFault>
     requires line { is_newline newline.token.kind ≡ true }
     requires nul { nul ≡ nul_in (take newline.«end» text.now) }
-    ensures { (e : Bool) → Takes aliases.now e text.now judged waiting newline nul newline.«end»
+    ensures { (e : Bool) → Takes (source aliases.now e text.now) (standing judged waiting) newline nul
         result }
 {
     let used = newline.end;
@@ -183,7 +184,9 @@ fn tell(
     newline: Item,
     nul: Option<usize>,
 ) -> Result<Turn, ParseFault>
-    ensures { Tells aliases.now text.now judged waiting newline nul result }
+    ensures { Tells (answer_at_newline aliases.now text.now waiting newline judged)
+        (stands_behind aliases.now text.now (standing judged waiting) newline) newline.«end» nul
+        result }
 {
     let used = newline.end;
     let prefix = match judged {
