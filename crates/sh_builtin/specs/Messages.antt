@@ -1,7 +1,7 @@
 -- The lines of messages, and what is said of a built-in that is refused.
 use Rattle.std.specs.Prelude.{ℕ, List, [], ◌∷◌, ◌++◌, codes}
-use Rattle.sh_builtin_vars.specs.declared.outcome.BuiltinFault.{BuiltinFault}
-use Rattle.sh_builtin_vars.specs.declared.outcome.BuiltinFault.TheVariants as fault
+use Rattle.sh_builtin_environment.specs.declared.outcome.BuiltinFault.{BuiltinFault}
+use Rattle.sh_builtin_environment.specs.declared.outcome.BuiltinFault.TheVariants as fault
 
 -- a message is `psh: `, a text and a newline
 abbrev pub line_of : List ℕ → List ℕ

@@ -8,10 +8,10 @@ use Rattle.sh_builtin.specs.declared.outcome.Completion.TheVariants.{Done, Left}
 use Rattle.sh_builtin.specs.declared.outcome.Leave.{Leave}
 use Rattle.sh_builtin.specs.declared.outcome.Leave.TheVariants as leave
 use Rattle.sh_builtin.specs.declared.outcome.Outcome.{Outcome}
-use Rattle.sh_builtin_vars.specs.declared.outcome.BuiltinFault.{BuiltinFault}
-use Rattle.sh_builtin_vars.specs.declared.outcome.BuiltinFault.TheVariants as fault
-use Rattle.sh_builtin_vars.specs.declared.outcome.Outcome.{Outcome as Answer}
-use Rattle.sh_builtin_vars.specs.declared.outcome.Outcome.TheVariants as answer
+use Rattle.sh_builtin_environment.specs.declared.outcome.BuiltinFault.{BuiltinFault}
+use Rattle.sh_builtin_environment.specs.declared.outcome.BuiltinFault.TheVariants as fault
+use Rattle.sh_builtin_environment.specs.declared.outcome.Outcome.{Outcome as Answer}
+use Rattle.sh_builtin_environment.specs.declared.outcome.Outcome.TheVariants as answer
 
 -- its output, its messages, and how it ends
 abbrev pub outcome : List ℕ → List (List ℕ) → Completion → Outcome

@@ -12,11 +12,11 @@ use Rattle.sh_builtin.specs.declared.conditional.Verdict.TheVariants as verdict
 use Rattle.sh_builtin.specs.declared.outcome.Leave.TheVariants as leave
 use Rattle.sh_builtin.specs.declared.outcome.Outcome.{Outcome}
 use Rattle.sh_builtin.specs.declared.shell.Shell.{Shell}
-use Rattle.sh_builtin_vars.specs.Directories.{cd_ran, pwd_outcome}
-use Rattle.sh_builtin_vars.specs.Outcomes.{Ran}
-use Rattle.sh_builtin_vars.specs.Setting.{set_ran}
-use Rattle.sh_builtin_vars.specs.Shifting.{shift_ran}
-use Rattle.sh_builtin_vars.specs.Unsetting.{unset_ran}
+use Rattle.sh_builtin_environment.specs.Directories.{cd_ran, pwd_outcome}
+use Rattle.sh_builtin_environment.specs.Outcomes.{Ran}
+use Rattle.sh_builtin_environment.specs.Setting.{set_ran}
+use Rattle.sh_builtin_environment.specs.Shifting.{shift_ran}
+use Rattle.sh_builtin_environment.specs.Unsetting.{unset_ran}
 use Rattle.sh_kernel_descriptors.specs.Machine.{MachineState}
 use Rattle.sh_kernel_descriptors.specs.Terminals.{is_terminal}
 use Rattle.sh_kernel_descriptors.specs.declared.descriptor.DescriptorRef.TheVariants.{Number}

@@ -10,7 +10,7 @@ use crate::shell::Shell;
 use crate::testing::{bracket, test};
 use sh_base::NoMemory;
 use sh_base::sequence::{Sequence, Text};
-use sh_builtin_vars::{cd, pwd, set, shift, unset};
+use sh_builtin_environment::{cd, pwd, set, shift, unset};
 use sh_kernel::Kernel;
 use std::alloc::Global;
 

@@ -4,7 +4,7 @@ ghost use Rattle.sh_builtin.specs.Messages.{fault_text, line_of, status_of};
 
 use sh_base::NoMemory;
 use sh_base::sequence::{Sequence, Text};
-use sh_builtin_vars::BuiltinFault;
+use sh_builtin_environment::BuiltinFault;
 use std::alloc::Global;
 
 /// The line of a message (XCU 2.8.1): `psh: `, a name, what is said of it, and a newline. The only error is want of memory.

@@ -6,7 +6,7 @@ use crate::builtin::Builtin;
 use crate::message::{fault_line, status_of};
 use sh_base::NoMemory;
 use sh_base::sequence::{Sequence, Text};
-use sh_builtin_vars::BuiltinFault;
+use sh_builtin_environment::BuiltinFault;
 use std::alloc::Global;
 
 /// How commands are left before their end.
@@ -103,18 +103,20 @@ impl Outcome {
         Outcome::refusal(alloc, builtin, BuiltinFault::Usage)
     }
 
-    /// Comes to what a built-in of `sh_builtin_vars` answers.
+    /// Comes to what a built-in of `sh_builtin_environment` answers.
     pub(crate) fn of(
         alloc: Global,
         builtin: Builtin,
-        answer: sh_builtin_vars::Outcome,
+        answer: sh_builtin_environment::Outcome,
     ) -> Result<Outcome, NoMemory>
         ensures { IfOk result (λ outcome. outcome ≡ outcome_of builtin answer) }
     {
         match answer {
-            sh_builtin_vars::Outcome::Done(status) => Ok(Outcome::done(alloc, status)),
-            sh_builtin_vars::Outcome::Output(text) => Ok(Outcome::output(alloc, text)),
-            sh_builtin_vars::Outcome::Fault(fault) => Outcome::refusal(alloc, builtin, fault),
+            sh_builtin_environment::Outcome::Done(status) => Ok(Outcome::done(alloc, status)),
+            sh_builtin_environment::Outcome::Output(text) => Ok(Outcome::output(alloc, text)),
+            sh_builtin_environment::Outcome::Fault(fault) => Outcome::refusal(
+                alloc, builtin, fault,
+            ),
         }
     }
 }

@@ -126,8 +126,8 @@ performed_inward kernel s old shell forms active next k h =
     let p = effect_at s old active in
     let goes = h.goes forms in
     let whole = by_forms forms s old (At active)
-        ∙ ap (λ run. outward forms (with_run s p.shell run)) (within_stays (has_loop forms) p.run goes.1)
-        ∙ stays forms s p.shell p.run goes.1 in
+    ∙ ap (λ run. outward forms (with_run s p.shell run)) (within_stays (has_loop forms) p.run goes.1)
+    ∙ stays forms s p.shell p.run goes.1 in
     record {
       state = subst (λ (a : Acted). StandsAt kernel a.machine) (sym whole) k;
       shell_is = h.shell_is ∙ ap (λ (a : Acted). a.shell) (sym whole);
@@ -143,7 +143,7 @@ performed_outward later s old shell after_shell forms active next bounded ran h 
     let p = effect_at s old active in
     let goes = h.goes [] in
     let whole = by_forms forms s old (At active)
-        ∙ ap (λ run. outward forms (with_run s p.shell (within_run (has_loop forms) run))) goes.1
-        ∙ ap (λ this. outward forms (with_run s p.shell (At this))) (sym b)
-        ∙ ap (λ this. outward forms (with_run s this (At bounded))) (sym h.shell_is) in
+    ∙ ap (λ run. outward forms (with_run s p.shell (within_run (has_loop forms) run))) goes.1
+    ∙ ap (λ this. outward forms (with_run s p.shell (At this))) (sym b)
+    ∙ ap (λ this. outward forms (with_run s this (At bounded))) (sym h.shell_is) in
     subst (IsActed later after_shell ran) (sym whole) a

@@ -3,7 +3,7 @@
 use crate::outcomes::{put_next, words_of};
 use sh_base::NoMemory;
 use sh_base::sequence::{Sequence, Text};
-use sh_builtin_vars::{Attribute, Outcome, cd, mark, pwd, set, shift, unset};
+use sh_builtin_environment::{Attribute, Outcome, cd, mark, pwd, set, shift, unset};
 use sh_files::Files;
 use sh_rows::RowFault;
 use sh_vars::{Options, Vars};

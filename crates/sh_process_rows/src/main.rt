@@ -1,6 +1,6 @@
 //! Calls with what they answer: files, a terminal and a kernel, the stock programs, what shells do by calls of a kernel, and built-ins by
-//! themselves. Tests of `sh_files`, `sh_tty`, `sh_kernel`, `sh_stock`, `sh_exec_machine`, `sh_builtin`, `sh_builtin_vars`,
-//! `sh_signal` and `sh_builtin_traps`.
+//! themselves. Tests of `sh_files`, `sh_tty`, `sh_kernel`, `sh_stock`, `sh_exec_machine`, `sh_builtin`, `sh_builtin_environment`,
+//! `sh_signal` and `sh_builtin_environment`.
 //!
 //! `sh_process_rows ROWS ..` makes the calls of each row of the files, and says which come to something else.
 #![tactic(auto)]

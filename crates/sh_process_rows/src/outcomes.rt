@@ -1,7 +1,7 @@
 //! Commands of rows as words, and what built-ins come to as a text: a status, what is written, with `;` for a newline, or why it is refused.
 use sh_base::NoMemory;
 use sh_base::sequence::{Sequence, Text};
-use sh_builtin_vars::{BuiltinFault, Outcome};
+use sh_builtin_environment::{BuiltinFault, Outcome};
 use std::alloc::Global;
 
 /// The words of a command. `_` is an empty one.

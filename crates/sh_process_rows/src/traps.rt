@@ -3,8 +3,7 @@
 use crate::outcomes::{put_next, words_of};
 use sh_base::NoMemory;
 use sh_base::sequence::{Sequence, Text};
-use sh_builtin_traps::{Condition, Traps, trap};
-use sh_builtin_vars::Outcome;
+use sh_builtin_environment::{Condition, Outcome, Traps, trap};
 use sh_rows::RowFault;
 use sh_signal::{DefaultAction, Signal};
 use std::alloc::Global;

@@ -1,0 +1,12 @@
+pub mod Directories
+pub mod Listing
+pub mod Marking
+pub mod Options
+pub mod Outcomes
+pub mod Setting
+pub mod Shifting
+pub mod Unsetting
+pub mod Walks
+pub mod Conditions
+pub mod TrapMaps
+pub mod Trapping

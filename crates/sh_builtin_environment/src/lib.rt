@@ -1,0 +1,30 @@
+//! Built-in utilities that act on a shell's execution environment (XCU 2.13): variables, options, positional parameters, working
+//! directory and traps.
+#![tactic(auto)]
+
+mod attribute;
+mod condition;
+mod directory;
+mod listing;
+mod marking;
+mod options;
+mod outcome;
+mod setting;
+mod shifting;
+mod trapping;
+mod traps;
+mod unsetting;
+mod variables;
+
+pub use attribute::Attribute;
+pub use condition::Condition;
+pub use directory::{cd, pwd};
+pub use listing::put_quoted;
+pub use marking::mark;
+pub use options::parse_options;
+pub use outcome::{BuiltinFault, Outcome};
+pub use setting::set;
+pub use shifting::shift;
+pub use trapping::trap;
+pub use traps::Traps;
+pub use unsetting::unset;

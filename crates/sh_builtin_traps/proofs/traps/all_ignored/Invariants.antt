@@ -1,9 +1,0 @@
-use Rattle.std.proofs.Common.{◌≡◌, ◌++◌, length}
-use Rattle.sh_builtin_traps.specs.TrapMaps.{in_subshell}
-use Rattle.sh_builtin_traps.proofs.traps.all_ignored.Given as goal
-
-abbrev pub invariant-actions : goal.invariant-actions
-invariant-actions l = l.left.items ++ in_subshell l.rest ≡ in_subshell l.actions
-
-abbrev pub decreases-actions : goal.decreases-actions
-decreases-actions l = length l.rest

@@ -1,3 +1,0 @@
-pub mod Conditions
-pub mod TrapMaps
-pub mod Trapping

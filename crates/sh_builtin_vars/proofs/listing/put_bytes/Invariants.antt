@@ -1,9 +1,0 @@
-use Rattle.std.proofs.Common.{◌≡◌, ◌++◌, length}
-use Rattle.sh_builtin_vars.specs.Listing.{quoted_bytes}
-use Rattle.sh_builtin_vars.proofs.listing.put_bytes.Given as goal
-
-abbrev pub invariant-bytes : goal.invariant-bytes
-invariant-bytes l = l.text ++ quoted_bytes l.rest ≡ l.fn.text ++ quoted_bytes l.value
-
-abbrev pub decreases-bytes : goal.decreases-bytes
-decreases-bytes l = length l.rest

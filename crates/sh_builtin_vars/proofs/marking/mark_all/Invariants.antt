@@ -1,9 +1,0 @@
-use Rattle.std.proofs.Common.{◌≡◌, length}
-use Rattle.sh_builtin_vars.specs.Marking.{marked_all}
-use Rattle.sh_builtin_vars.proofs.marking.mark_all.Given as goal
-
-abbrev pub invariant-operands : goal.invariant-operands
-invariant-operands l = marked_all l.attribute l.vars l.rest ≡ marked_all l.attribute l.fn.vars l.operands
-
-abbrev pub decreases-operands : goal.decreases-operands
-decreases-operands l = length l.rest

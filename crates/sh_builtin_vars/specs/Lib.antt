@@ -1,9 +1,0 @@
-pub mod Directories
-pub mod Listing
-pub mod Marking
-pub mod Options
-pub mod Outcomes
-pub mod Setting
-pub mod Shifting
-pub mod Unsetting
-pub mod Walks
