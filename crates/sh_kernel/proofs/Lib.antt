@@ -10,3 +10,4 @@ pub mod Screens
 pub mod Reached
 pub mod Terminals
 pub mod Extending
+pub mod Standing

@@ -1,3 +1,4 @@
+pub mod Machine
 pub mod State
 pub mod Calls
 pub mod Outcomes

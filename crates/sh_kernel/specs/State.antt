@@ -3,6 +3,7 @@ use Rattle.std.specs.Prelude.{◌≡◌, ℕ, List, []}
 use Rattle.sh_files.specs.Nodes.{FileMap}
 use Rattle.sh_kernel_descriptors.specs.Machine.{MachineState}
 use Rattle.sh_kernel_descriptors.specs.Starting as machine
+use Rattle.sh_kernel.specs.Machine as kept
 use Rattle.sh_tty.specs.Happenings.{Happening}
 use Rattle.sh_tty.specs.Terminal as tty
 
@@ -14,14 +15,14 @@ pub record KernelState : Type 0 where
 
 -- what a kernel keeps of its state
 pub record KernelKept : Type 0 where
-  pub machine : MachineState
+  pub machine : kept.MachineKept
   pub terminal : tty.TtyKept
 
 -- what is kept is that of this state
-pub record StandsAt (kept : KernelKept) (s : KernelState) : Type 0 where
-  pub machine : kept.machine ≡ s.machine
-  pub terminal : tty.StandsAt kept.terminal s.terminal
-  pub foreground : kept.terminal.foreground ≡ s.foreground
+pub record StandsAt (k : KernelKept) (s : KernelState) : Type 0 where
+  pub machine : kept.StandsAt k.machine s.machine
+  pub terminal : tty.StandsAt k.terminal s.terminal
+  pub foreground : k.terminal.foreground ≡ s.foreground
 
 -- the first process alone, whose group is the foreground group
 abbrev pub starting : FileMap → KernelState

@@ -8,15 +8,18 @@ ghost use Rattle.sh_tty.specs.Terminal.{Extends};
 use crate::machine::Machine;
 use crate::next::Next;
 use sh_files::{Files, Opening};
-use sh_kernel_descriptors::{DescriptorRef, FIRST_PID, KernelFault, Status};
+use sh_kernel_descriptors::{DescriptorRef, Entry, FIRST_PID, KernelFault, Status};
+use sh_pipe::Pipe;
 use sh_tty::{Tty, TtyFault};
+use slab::Slab;
 use std::alloc::{AllocError, Global};
 use std::marker::Model;
 
 /// Processes, what they have open, files and one terminal.
 ///
 /// Processes, open file descriptions and pipes have numbers that go up by creation, processes from
-/// [`FIRST_PID`](crate::FIRST_PID); none is used again. A process names a descriptor by its number or, where
+/// [`FIRST_PID`](crate::FIRST_PID); none is used again. A description is kept under a key while a descriptor refers to
+/// it; the key may be used again then. A process names a descriptor by its number or, where
 /// it has set it aside, by the number of its description ([`DescriptorRef`]).
 ///
 /// A kernel stands at a state, and each call is one change of that state by the process that makes the call.
@@ -59,6 +62,8 @@ fn show(terminal: &mut Tty, bytes: &[u8]) -> Result<usize, KernelFault>
 }
 
 impl Kernel {
+    ghost use Rattle.std.specs.Prelude.{option_copied};
+    ghost use Rattle.sh_kernel_descriptors.specs.Kept.{IsCounted, pipe_at};
     ghost use Rattle.sh_kernel_descriptors.specs.Machine.{wait_answer};
     ghost use Rattle.sh_kernel_descriptors.specs.Processes.{parent_at, status_at};
     ghost use Rattle.sh_kernel_descriptors.specs.Terminals.{is_terminal};
@@ -319,6 +324,24 @@ impl Kernel {
         ensures { (s : KernelState) → StandsAt self.now s → result.now ≡ s.machine.files }
     {
         self.machine.files()
+    }
+
+    /// The open file descriptions that are kept, each with the count of the descriptors that refer to it: numbered ones,
+    /// and those that are set aside. A description goes with the last of them, and its key may be used again. It is
+    /// lent, and takes no memory.
+    pub fn descriptions(&self) -> &Slab<Entry>
+        ensures kept { result.now ≡ self.now.machine.entries }
+        ensures counted { IsCounted result.now self.now.machine.held }
+    {
+        self.machine.descriptions()
+    }
+
+    /// The pipe of which the description at a key is an end; `None` where there is no such description, or it is no end
+    /// of a pipe. It is lent, and takes no memory.
+    pub fn pipe_of(&self, key: usize) -> Option<&Pipe>
+        ensures { option_copied result ≡ pipe_at self.now.machine.entries self.now.machine.pipes key }
+    {
+        self.machine.pipe_of(key)
     }
 
     /// Whether a read would wait.

@@ -13,5 +13,9 @@ pub use laws::{
 };
 pub use next::Next;
 pub use sh_kernel_descriptors::{
-    CAPACITY, DescriptorRef, FIRST_PID, KernelFault, MAX_DESCRIPTORS, MAX_LIVE, MAX_PID, Status,
+    CAPACITY, DescriptorRef, Entry, FIRST_PID, KernelFault, MAX_DESCRIPTORS, MAX_LIVE, MAX_PID,
+    Status,
 };
+
+#[cfg(test)]
+mod tests;

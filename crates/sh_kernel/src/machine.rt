@@ -1,18 +1,21 @@
 //! The machine under the processes.
+mod asking;
+
 ghost use Rattle.sh_base.specs.Memory.{no_memory};
-ghost use Rattle.std.specs.Prelude.{◌≡◌, ◌++◌, ◌+◌, ◌∷◌, []};
-ghost use Rattle.std.specs.Prelude.{length, ◌<◌, ◌≢◌, IfErr, IfOk, ℕ, List};
+ghost use Rattle.std.specs.Prelude.{◌≡◌};
+ghost use Rattle.std.specs.Prelude.{length, ◌+◌, ◌<◌, ◌≢◌, IfErr, IfNone, IfOk, IfSome, None, false, OnErr, OnOk, Some, ℕ, List, option_copied, slice_get};
 
 use sh_files::{FileFault, Files, MAX_LENGTH, Opening};
 use sh_kernel_descriptors::{
-    Channel, Closing, Description, Descriptor, DescriptorRef, FIRST_PID, KernelFault, Process,
-    Status, Target, all_children, all_ended, close, copy_all, description_of, end_of,
-    fault_of_file, find, give_number, has_reader, has_writer, is_allowed, is_description,
-    is_of_terminal, is_running, lives, may_fork, move_to, parent_at, read_file, read_pipe,
-    read_pipe_waits, rename, set_status, status_at, target_of, the_terminal, to_terminal,
-    write_node, write_pipe, write_pipe_waits, write_start,
+    Channel, Closing, Description, DescriptorRef, Entry, FIRST_PID, Held, KernelFault, Process,
+    Status, Target, add, add_pipe, close, copy_all, described, description_of, fault_of_file, find,
+    has_reader, has_writer, is_allowed, is_description, lives, may_fork, move_to, read_file,
+    read_pipe, refer, rename, set_status, target_of, the_terminal, to_terminal, write_node,
+    write_pipe, write_start,
 };
+use slab::Slab;
 use std::alloc::{AllocError, Global};
+use std::collections::BTreeMap;
 use std::marker::Model;
 
 /// How a here-document is open.
@@ -26,73 +29,98 @@ const FOR_READING: Opening = Opening {
 
 /// The processes and what they have open: descriptors, open file descriptions, pipes and files.
 ///
-/// Each list but the list of descriptors only grows: what was made keeps its number. Descriptions of the
-/// terminal are kept here, but not its bytes: a read or a write of it is refused with `BadDescriptor`, so ask
-/// first ([`Machine::reads_terminal`], [`Machine::writes_terminal`]). After `NoMemory` a machine is as it
-/// was.
+/// A description goes with the last descriptor that refers to it, and its key may be used again; a pipe goes with the
+/// last descriptor that refers to one of its ends. Descriptions of the terminal are kept here, but not its bytes: a read
+/// or a write of it is refused with `BadDescriptor`, so ask first ([`Machine::reads_terminal`],
+/// [`Machine::writes_terminal`]). After `NoMemory` a machine is as it was.
 #[derive(Drop)]
 pub struct Machine {
     alloc: Global,
     processes: Vec<Process>,
-    descriptors: Vec<Descriptor>,
-    descriptions: Vec<Description>,
-    pipes: Vec<Option<Channel>>,
+    held: Vec<Held>,
+    entries: Slab<Entry>,
+    /// How many descriptions were ever made: the number of the next.
+    described: usize,
+    pipes: BTreeMap<usize, Channel>,
+    /// How many pipes were ever made: the number of the next.
+    piped: usize,
     files: Files,
 }
 
 impl Model for Machine {
-    ghost use Rattle.sh_kernel_descriptors.specs.Machine.{MachineState};
+    ghost use Rattle.sh_kernel.specs.Machine.{MachineKept};
+    ghost use Rattle.sh_kernel_descriptors.specs.Kept.{IsCounted};
     ghost use Rattle.sh_files_image.specs.Codes.{map_code};
     ghost use Rattle.std.specs.Coded.{codes};
 
-    ghost Value = { MachineState };
+    ghost Value = { MachineKept };
 
     ghost coded = { Prim.hlevel (codes, map_code) };
 
     ghost view = { λ m. record {
       processes = m.processes.items;
-      descriptors = m.descriptors.items;
-      descriptions = m.descriptions.items;
-      pipes = m.pipes.items;
+      held = m.held.items;
+      entries = m.entries;
+      described = m.described;
+      pipes = m.pipes.entries;
+      piped = m.piped;
       files = m.files;
     } };
+
+    ghost invariant = { λ m. IsCounted m.entries m.held.items };
 }
 
 impl Machine {
-    ghost use Rattle.sh_kernel_descriptors.specs.Machine.{end_call, fork_call, start_call, wait_answer};
-    ghost use Rattle.sh_kernel_descriptors.specs.Naming.{close_call, dup_call, pipe_call, put_back_call, set_aside_call};
-    ghost use Rattle.sh_kernel_descriptors.specs.Opening.{here_call, open_call};
-    ghost use Rattle.sh_kernel_descriptors.specs.Processes.{parent_at, status_at};
+    ghost use Rattle.sh_kernel_descriptors.specs.Machine.{end_call, fork_call, start_call};
+    ghost use Rattle.sh_kernel_descriptors.specs.Naming.{after_renaming, with_number, with_pipe, close_call, dup_call, pipe_call, put_back, put_back_call, set_aside_call};
+    ghost use Rattle.sh_kernel_descriptors.specs.Opening.{for_reading, here_call, open_call, open_result};
+    ghost use Rattle.sh_files.specs.Nodes.{nameless, opened};
     ghost use Rattle.sh_kernel_descriptors.specs.Starting.{starting};
-    ghost use Rattle.sh_kernel_descriptors.specs.Terminals.{open_description, is_terminal, reads_terminal, writes_terminal};
-    ghost use Rattle.sh_kernel_descriptors.specs.Outcomes.{Gives, GivesOrLacks, GivesRead, LacksWhereGiven};
-    ghost use Rattle.sh_kernel_descriptors.specs.Reading.{read_call, read_target};
-    ghost use Rattle.sh_kernel_descriptors.specs.Waiting.{is_running, waits};
-    ghost use Rattle.sh_kernel_descriptors.specs.Writing.{broken_pipe, write_call, write_end, write_file, write_target};
+    ghost use Rattle.sh_kernel_descriptors.specs.Kept.{Among};
+    ghost use Rattle.sh_kernel_descriptors.specs.Machine.{MachineState, after_close, after_end};
+    ghost use Rattle.sh_kernel_descriptors.specs.Outcomes.{GivesReadTo, GivesTo, LacksWhereGiven};
+    ghost use Rattle.sh_kernel.specs.Machine.{GivesOrLacks, StandsAt};
+    ghost use Rattle.sh_kernel_descriptors.specs.Reading.{on_pipes, read_call, read_target};
+    ghost use Rattle.sh_kernel_descriptors.specs.Descriptors as names;
+    ghost use Rattle.sh_kernel_descriptors.specs.Writing.{broken_pipe, write_call, write_end, write_file, write_pipe, write_target};
     ghost use Rattle.sh_kernel_descriptors.specs.Writing.{write_node as node_written};
 
     /// The first process, whose descriptors 0, 1 and 2 refer to one description of the terminal, over these files. The
     /// only error is want of memory.
     pub(crate) fn new(alloc: Global, files: Files) -> Result<Self, AllocError>
-        ensures { IfOk result (λ machine. machine ≡ starting files) }
+        ensures { IfOk result (λ machine. StandsAt machine (starting files)) }
     {
         let mut processes = Vec::with_capacity(alloc, 1)?;
         processes.push(Process {
             maker: 1,
             status: Status::Running,
         })?;
-        let mut descriptions = Vec::with_capacity(alloc, 1)?;
-        descriptions.push(the_terminal())?;
-        let mut descriptors = Vec::with_capacity(alloc, 3)?;
-        descriptors.push(to_terminal(0))?;
-        descriptors.push(to_terminal(1))?;
-        descriptors.push(to_terminal(2))?;
+        let mut entries = Slab::with_capacity(alloc, 1)?;
+        let mut held = Vec::with_capacity(alloc, 3)?;
+        let key = entries.insert_reserved(Entry {
+            description: the_terminal(),
+            count: 3,
+        });
+        held.push(Held {
+            descriptor: to_terminal(0),
+            key,
+        })?;
+        held.push(Held {
+            descriptor: to_terminal(1),
+            key,
+        })?;
+        held.push(Held {
+            descriptor: to_terminal(2),
+            key,
+        })?;
         Ok(Machine {
             alloc,
             processes,
-            descriptors,
-            descriptions,
-            pipes: Vec::new(alloc),
+            held,
+            entries,
+            described: 1,
+            pipes: BTreeMap::new(alloc),
+            piped: 0,
             files,
         })
     }
@@ -107,23 +135,39 @@ impl Machine {
         name: DescriptorRef,
         buf: &mut [u8],
     ) -> Result<usize, KernelFault>
-        ensures { GivesRead result buf.old buf.new self.new
-            (read_call self.old pid name (length buf.old)) }
+        ensures { (s : MachineState) → StandsAt self.old s
+            → GivesReadTo (StandsAt self.new) result buf.old buf.new
+            (read_call s pid name (length buf.old)) }
     {
-        let Some(k) = find(&self.descriptors, pid, name) else {
+        let Some(h) = self.look(pid, name) else {
             return Err(KernelFault::BadDescriptor);
         };
-        let Some(description) = self.descriptions.get(k).copied() else {
+        let Some(description) = self.description_by(h) else {
             return Err(KernelFault::BadDescriptor);
         };
         if !description.readable {
             return Err(KernelFault::BadDescriptor);
         }
+        self.read_target(h, description, buf)
+    }
+
+    /// Reads by a descriptor that is open for reading.
+    fn read_target(
+        &mut self,
+        h: Held,
+        description: Description,
+        buf: &mut [u8],
+    ) -> Result<usize, KernelFault>
+        ensures { (s : MachineState) → StandsAt self.old s → Among h self.old.held
+            → GivesReadTo (StandsAt self.new) result buf.old buf.new
+            (read_target s (length buf.old) h.descriptor.description description.offset
+            description.target) }
+    {
         match description.target {
             Target::File(node) => read_file(
                 &self.files,
-                &mut self.descriptions,
-                k,
+                &mut self.entries,
+                h,
                 node,
                 description.offset,
                 buf,
@@ -131,62 +175,133 @@ impl Machine {
             Target::Terminal => Err(KernelFault::BadDescriptor),
             Target::Null => Ok(0),
             Target::ReadEnd(pipe) => {
-                let writer = has_writer(&self.descriptors, &self.descriptions, pipe);
+                let writer = has_writer(&self.held, &self.entries, pipe);
                 read_pipe(&mut self.pipes, pipe, writer, buf)
             },
             Target::WriteEnd(_) => Err(KernelFault::BadDescriptor),
         }
     }
 
-    /// Ends the process that writes to a pipe without a reader (SIGPIPE).
-    fn break_pipe(&mut self, pid: u32) -> Result<usize, KernelFault>
-        ensures memory { IfErr result (λ fault. fault ≢ KernelFault.NoMemory no_memory) }
-        ensures gives { Gives result self.new (broken_pipe self.old pid) }
+    /// Closes descriptors of a process.
+    fn close_each(&mut self, pid: u32, closing: Closing)
+        ensures { (s : MachineState) → StandsAt self.old s
+            → StandsAt self.new (after_close s pid closing) }
     {
         close(
             pid,
-            Closing::All,
-            &mut self.descriptors,
-            &self.descriptions,
+            closing,
+            &mut self.held,
+            &mut self.entries,
             &mut self.pipes,
         );
-        set_status(&mut self.processes, pid, Status::Signaled(13));
+    }
+
+    /// Gives a process that has ended a status; its descriptors are closed.
+    fn finish(&mut self, pid: u32, status: Status)
+        ensures { (s : MachineState) → StandsAt self.old s
+            → StandsAt self.new (after_end s pid status) }
+    {
+        self.close_each(pid, Closing::All);
+        set_status(&mut self.processes, pid, status);
+    }
+
+    /// Ends the process that writes to a pipe without a reader (SIGPIPE).
+    fn break_pipe(&mut self, pid: u32) -> Result<usize, KernelFault>
+        ensures memory { IfErr result (λ fault. fault ≢ KernelFault.NoMemory no_memory) }
+        ensures gives { (s : MachineState) → StandsAt self.old s
+            → GivesTo (StandsAt self.new) result (broken_pipe s pid) }
+    {
+        self.finish(pid, Status::Signaled(13));
         Err(KernelFault::BrokenPipe)
+    }
+
+    /// Writes to a pipe that has a reader.
+    fn fill(&mut self, pipe: usize, bytes: &[u8]) -> Result<usize, KernelFault>
+        ensures memory { IfErr result (λ fault. fault ≢ KernelFault.NoMemory no_memory) }
+        ensures gives { (s : MachineState) → StandsAt self.old s
+            → GivesTo (StandsAt self.new) result (on_pipes s (write_pipe s.pipes pipe bytes.now)) }
+    {
+        write_pipe(&mut self.pipes, pipe, bytes)
+    }
+
+    /// Whether the pipe has a reader.
+    fn is_read(&self, pipe: usize) -> bool
+        ensures { (s : MachineState) → StandsAt self.now s
+            → result ≡ names.has_reader s.descriptors s.descriptions pipe }
+    {
+        has_reader(&self.held, &self.entries, pipe)
+    }
+
+    /// Whether the pipe has a writer.
+    fn is_written(&self, pipe: usize) -> bool
+        ensures { (s : MachineState) → StandsAt self.now s
+            → result ≡ names.has_writer s.descriptors s.descriptions pipe }
+    {
+        has_writer(&self.held, &self.entries, pipe)
     }
 
     /// Writes to a pipe.
     fn write_end(&mut self, pid: u32, pipe: usize, bytes: &[u8]) -> Result<usize, KernelFault>
         ensures memory { IfErr result (λ fault. fault ≢ KernelFault.NoMemory no_memory) }
-        ensures gives { Gives result self.new (write_end self.old pid pipe bytes.now) }
+        ensures gives { (s : MachineState) → StandsAt self.old s
+            → GivesTo (StandsAt self.new) result (write_end s pid pipe bytes.now) }
     {
-        if has_reader(&self.descriptors, &self.descriptions, pipe) {
-            return write_pipe(&mut self.pipes, pipe, bytes);
+        if self.is_read(pipe) {
+            return self.fill(pipe, bytes);
         }
         self.break_pipe(pid)
     }
 
-    /// Writes into a file by a description, whose offset moves to the end of what was written.
+    /// Writes into a file by a descriptor, whose description's offset moves to the end of what was written.
     fn write_file(
         &mut self,
-        k: usize,
+        h: Held,
         node: usize,
         start: usize,
         bytes: &[u8],
     ) -> Result<usize, KernelFault>
         requires { 0 < length bytes.now }
-        ensures call { GivesOrLacks result self.old self.new
-            (write_file self.old k node bytes.now
-            (node_written self.old.files node start bytes.now)) }
-        ensures room { LacksWhereGiven result
-            (write_file self.old k node bytes.now
-            (node_written self.old.files node start bytes.now)) }
+        ensures call { (s : MachineState) → StandsAt self.old s → Among h self.old.held
+            → GivesOrLacks result self.new s
+            (write_file s h.descriptor.description node bytes.now
+            (node_written s.files node start bytes.now)) }
+        ensures room { (s : MachineState) → StandsAt self.old s → LacksWhereGiven result
+            (write_file s h.descriptor.description node bytes.now
+            (node_written s.files node start bytes.now)) }
     {
         match write_node(&mut self.files, node, start, bytes) {
             Ok(end) => {
-                move_to(&mut self.descriptions, k, end);
+                move_to(&mut self.entries, h, end);
                 Ok(bytes.len())
             },
             Err(fault) => Err(fault),
+        }
+    }
+
+    /// Writes some bytes by a descriptor that is open for writing.
+    fn write_target(
+        &mut self,
+        pid: u32,
+        h: Held,
+        description: Description,
+        bytes: &[u8],
+    ) -> Result<usize, KernelFault>
+        requires { 0 < length bytes.now }
+        ensures call { (s : MachineState) → StandsAt self.old s → Among h self.old.held
+            → GivesOrLacks result self.new s
+            (write_target s pid bytes.now h.descriptor.description description description.target) }
+        ensures room { (s : MachineState) → StandsAt self.old s → LacksWhereGiven result
+            (write_target s pid bytes.now h.descriptor.description description description.target) }
+    {
+        match description.target {
+            Target::File(node) => {
+                let start = write_start(&self.files, node, description.append, description.offset);
+                self.write_file(h, node, start, bytes)
+            },
+            Target::Terminal => Err(KernelFault::BadDescriptor),
+            Target::Null => Ok(bytes.len()),
+            Target::ReadEnd(_) => Err(KernelFault::BadDescriptor),
+            Target::WriteEnd(pipe) => self.write_end(pid, pipe, bytes),
         }
     }
 
@@ -198,14 +313,15 @@ impl Machine {
     /// was sent SIGPIPE, which ended it; `File` with `TooLarge` where a file would be too long; else
     /// `NoMemory`.
     pub(crate) fn write(&mut self, pid: u32, number: u8, bytes: &[u8]) -> Result<usize, KernelFault>
-        ensures call { GivesOrLacks result self.old self.new
-            (write_call self.old pid number bytes.now) }
-        ensures room { LacksWhereGiven result (write_call self.old pid number bytes.now) }
+        ensures call { (s : MachineState) → StandsAt self.old s
+            → GivesOrLacks result self.new s (write_call s pid number bytes.now) }
+        ensures room { (s : MachineState) → StandsAt self.old s
+            → LacksWhereGiven result (write_call s pid number bytes.now) }
     {
-        let Some(k) = find(&self.descriptors, pid, DescriptorRef::Number(number)) else {
+        let Some(h) = self.look(pid, DescriptorRef::Number(number)) else {
             return Err(KernelFault::BadDescriptor);
         };
-        let Some(description) = self.descriptions.get(k).copied() else {
+        let Some(description) = self.description_by(h) else {
             return Err(KernelFault::BadDescriptor);
         };
         if !description.writable {
@@ -214,34 +330,50 @@ impl Machine {
         if bytes.is_empty() {
             return Ok(0);
         }
-        match description.target {
-            Target::File(node) => {
-                let start = write_start(&self.files, node, description.append, description.offset);
-                self.write_file(k, node, start, bytes)
-            },
-            Target::Terminal => Err(KernelFault::BadDescriptor),
-            Target::Null => Ok(bytes.len()),
-            Target::ReadEnd(_) => Err(KernelFault::BadDescriptor),
-            Target::WriteEnd(pipe) => self.write_end(pid, pipe, bytes),
-        }
+        self.write_target(pid, h, description, bytes)
     }
 
     /// Closes a descriptor (XSH close); a pipe goes with the last descriptor that refers to one of its ends.
     /// `BadDescriptor` where the process has none of this name. Takes no memory.
     pub(crate) fn close(&mut self, pid: u32, name: DescriptorRef) -> Result<(), KernelFault>
-        ensures { Gives result self.new (close_call self.old pid name) }
+        ensures { (s : MachineState) → StandsAt self.old s
+            → GivesTo (StandsAt self.new) result (close_call s pid name) }
     {
-        let Some(_) = find(&self.descriptors, pid, name) else {
+        let Some(_) = self.number_of(pid, name) else {
             return Err(KernelFault::BadDescriptor);
         };
-        close(
-            pid,
-            Closing::Named(name),
-            &mut self.descriptors,
-            &self.descriptions,
-            &mut self.pipes,
-        );
+        self.close_each(pid, Closing::Named(name));
         Ok(())
+    }
+
+    /// The process's descriptor of this name.
+    fn look(&self, pid: u32, name: DescriptorRef) -> Option<Held>
+        ensures none { (s : MachineState) → StandsAt self.now s → IfNone result
+            (names.description_number s.descriptors pid name ≡ None) }
+        ensures some { (s : MachineState) → StandsAt self.now s → IfSome result (λ h.
+            names.description_number s.descriptors pid name ≡ Some h.descriptor.description) }
+        ensures among { IfSome result (λ h. Among h self.now.held) }
+    {
+        find(&self.held, pid, name)
+    }
+
+    /// The description to which a descriptor refers, which is kept.
+    fn description_by(&self, h: Held) -> Option<Description>
+        ensures { (s : MachineState) → StandsAt self.now s → Among h self.now.held
+            → result ≡ slice_get s.descriptions h.descriptor.description }
+    {
+        described(&self.entries, h.key)
+    }
+
+    /// The number of the description to which a descriptor refers.
+    fn number_of(&self, pid: u32, name: DescriptorRef) -> Option<usize>
+        ensures { (s : MachineState) → StandsAt self.now s
+            → result ≡ names.description_number s.descriptors pid name }
+    {
+        match self.look(pid, name) {
+            Some(h) => Some(h.descriptor.description),
+            None => None,
+        }
     }
 
     /// Makes a number refer to the description to which a descriptor refers (XSH dup2); what the number
@@ -249,25 +381,41 @@ impl Machine {
     /// `BadDescriptor` where the process has no descriptor of this name; `TooManyDescriptors` where the
     /// number is not below [`MAX_DESCRIPTORS`](crate::MAX_DESCRIPTORS); else `NoMemory`.
     pub(crate) fn dup(&mut self, pid: u32, name: DescriptorRef, to: u8) -> Result<(), KernelFault>
-        ensures call { GivesOrLacks result self.old self.new (dup_call self.old pid name to) }
-        ensures room { LacksWhereGiven result (dup_call self.old pid name to) }
+        ensures call { (s : MachineState) → StandsAt self.old s
+            → GivesOrLacks result self.new s (dup_call s pid name to) }
+        ensures room { (s : MachineState) → StandsAt self.old s
+            → LacksWhereGiven result (dup_call s pid name to) }
     {
-        let Some(k) = find(&self.descriptors, pid, name) else {
+        let Some(h) = self.look(pid, name) else {
             return Err(KernelFault::BadDescriptor);
         };
         if !is_allowed(to) {
             return Err(KernelFault::TooManyDescriptors);
         }
-        if is_description(k, find(&self.descriptors, pid, DescriptorRef::Number(to))) {
+        let number = self.number_of(pid, DescriptorRef::Number(to));
+        if is_description(h.descriptor.description, number) {
             return Ok(());
         }
-        self.descriptors.reserve(1)?;
-        give_number(
+        self.refer_to(pid, to, h)?;
+        Ok(())
+    }
+
+    /// Makes a number refer to the description to which a descriptor refers. The only error is want of memory, after
+    /// which the machine is as it was.
+    fn refer_to(&mut self, pid: u32, to: u8, h: Held) -> Result<(), AllocError>
+        requires { Among h self.old.held }
+        ensures ok { (s : MachineState) → StandsAt self.old s
+            → OnOk result (StandsAt self.new (with_number s pid to h.descriptor.description)) }
+        ensures err { (s : MachineState) → StandsAt self.old s
+            → OnErr result (StandsAt self.new s) }
+    {
+        self.held.reserve(1)?;
+        refer(
             pid,
             to,
-            k,
-            &mut self.descriptors,
-            &self.descriptions,
+            h,
+            &mut self.held,
+            &mut self.entries,
             &mut self.pipes,
         );
         Ok(())
@@ -278,8 +426,10 @@ impl Machine {
     /// `NoProcess` where no such process lives; `TooManyDescriptors` where a number is too high; else
     /// `NoMemory`.
     pub(crate) fn pipe(&mut self, pid: u32, from: u8, to: u8) -> Result<(), KernelFault>
-        ensures call { GivesOrLacks result self.old self.new (pipe_call self.old pid from to) }
-        ensures room { LacksWhereGiven result (pipe_call self.old pid from to) }
+        ensures call { (s : MachineState) → StandsAt self.old s
+            → GivesOrLacks result self.new s (pipe_call s pid from to) }
+        ensures room { (s : MachineState) → StandsAt self.old s
+            → LacksWhereGiven result (pipe_call s pid from to) }
     {
         if !lives(&self.processes, pid) {
             return Err(KernelFault::NoProcess);
@@ -287,33 +437,37 @@ impl Machine {
         if !(is_allowed(from) && is_allowed(to)) {
             return Err(KernelFault::TooManyDescriptors);
         }
-        self.descriptors.reserve(2)?;
-        self.descriptions.reserve(2)?;
-        self.pipes.reserve(1)?;
-        let made = Channel::new(self.alloc)?;
-        let pipe = self.pipes.len();
-        let first = self.descriptions.len();
-        self.pipes.push_reserved(Some(made));
-        self.descriptions
-            .push_reserved(end_of(Target::ReadEnd(pipe), true));
-        self.descriptions
-            .push_reserved(end_of(Target::WriteEnd(pipe), false));
-        give_number(
+        self.make_pipe(pid, from, to)?;
+        Ok(())
+    }
+
+    /// Makes two numbers refer to the ends of a new pipe. The only error is want of memory, after which the machine is
+    /// as it was.
+    fn make_pipe(&mut self, pid: u32, from: u8, to: u8) -> Result<(), AllocError>
+        ensures ok { (s : MachineState) → StandsAt self.old s → OnOk result (StandsAt self.new
+            (with_number (with_number (with_pipe s) pid from (length s.descriptions)) pid to
+            (length s.descriptions + 1))) }
+        ensures err { (s : MachineState) → StandsAt self.old s
+            → OnErr result (StandsAt self.new s) }
+    {
+        if self.described > usize::MAX - 2 || self.piped == usize::MAX {
+            return Err(AllocError);
+        }
+        self.held.reserve(2)?;
+        self.entries.reserve(2)?;
+        add_pipe(
+            self.alloc,
             pid,
             from,
-            first,
-            &mut self.descriptors,
-            &self.descriptions,
-            &mut self.pipes,
-        );
-        give_number(
-            pid,
             to,
-            first + 1,
-            &mut self.descriptors,
-            &self.descriptions,
+            self.described,
+            self.piped,
+            &mut self.held,
+            &mut self.entries,
             &mut self.pipes,
-        );
+        )?;
+        self.described += 2;
+        self.piped += 1;
         Ok(())
     }
 
@@ -331,8 +485,8 @@ impl Machine {
         append: bool,
         number: u8,
     ) -> Result<(), KernelFault>
-        ensures { GivesOrLacks result self.old self.new
-            (open_call self.old pid directory.now path.now how append number) }
+        ensures { (s : MachineState) → StandsAt self.old s → GivesOrLacks result self.new s
+            (open_call s pid directory.now path.now how append number) }
     {
         if !lives(&self.processes, pid) {
             return Err(KernelFault::NoProcess);
@@ -340,24 +494,42 @@ impl Machine {
         if !is_allowed(number) {
             return Err(KernelFault::TooManyDescriptors);
         }
-        self.descriptors.reserve(1)?;
-        self.descriptions.reserve(1)?;
+        self.open_at(pid, directory, path, how, append, number)
+    }
+
+    /// Opens what a path names for a process that lives, at a number that is allowed.
+    fn open_at(
+        &mut self,
+        pid: u32,
+        directory: &[u8],
+        path: &[u8],
+        how: Opening,
+        append: bool,
+        number: u8,
+    ) -> Result<(), KernelFault>
+        ensures { (s : MachineState) → StandsAt self.old s → GivesOrLacks result self.new s
+            (open_result s pid how append number (opened s.files directory.now path.now how)) }
+    {
+        if self.described == usize::MAX {
+            return Err(KernelFault::from(AllocError));
+        }
+        self.held.reserve(1)?;
+        self.entries.reserve(1)?;
         let node = match self.files.open(directory, path, how) {
             Ok(node) => node,
             Err(fault) => return Err(fault_of_file(fault)),
         };
-        let k = self.descriptions.len();
         let target = target_of(&self.files, node);
-        self.descriptions
-            .push_reserved(description_of(target, how, append));
-        give_number(
+        add(
             pid,
             number,
-            k,
-            &mut self.descriptors,
-            &self.descriptions,
+            self.described,
+            description_of(target, how, append),
+            &mut self.held,
+            &mut self.entries,
             &mut self.pipes,
         );
+        self.described += 1;
         Ok(())
     }
 
@@ -370,9 +542,10 @@ impl Machine {
         bytes: &[u8],
         number: u8,
     ) -> Result<(), KernelFault>
-        ensures call { GivesOrLacks result self.old self.new
-            (here_call self.old pid bytes.now number) }
-        ensures room { LacksWhereGiven result (here_call self.old pid bytes.now number) }
+        ensures call { (s : MachineState) → StandsAt self.old s
+            → GivesOrLacks result self.new s (here_call s pid bytes.now number) }
+        ensures room { (s : MachineState) → StandsAt self.old s
+            → LacksWhereGiven result (here_call s pid bytes.now number) }
     {
         if !lives(&self.processes, pid) {
             return Err(KernelFault::NoProcess);
@@ -380,28 +553,40 @@ impl Machine {
         if !is_allowed(number) {
             return Err(KernelFault::TooManyDescriptors);
         }
+        self.here_at(pid, bytes, number)
+    }
+
+    /// Makes a number that is allowed refer to a here-document, for a process that lives.
+    fn here_at(&mut self, pid: u32, bytes: &[u8], number: u8) -> Result<(), KernelFault>
+        ensures call { (s : MachineState) → StandsAt self.old s → GivesOrLacks result self.new s
+            (open_result s pid for_reading false number (nameless s.files bytes.now)) }
+        ensures room { (s : MachineState) → StandsAt self.old s → LacksWhereGiven result
+            (open_result s pid for_reading false number (nameless s.files bytes.now)) }
+    {
         if bytes.len() > MAX_LENGTH {
             return Err(KernelFault::File(FileFault::TooLarge));
         }
-        self.descriptors.reserve(1)?;
-        self.descriptions.reserve(1)?;
+        if self.described == usize::MAX {
+            return Err(KernelFault::from(AllocError));
+        }
+        self.held.reserve(1)?;
+        self.entries.reserve(1)?;
         let body = Vec::from_slice(self.alloc, bytes)?;
         let node = match self.files.add_nameless(body) {
             Ok(node) => node,
             Err(fault) => return Err(fault_of_file(fault)),
         };
-        let k = self.descriptions.len();
         let target = target_of(&self.files, node);
-        self.descriptions
-            .push_reserved(description_of(target, FOR_READING, false));
-        give_number(
+        add(
             pid,
             number,
-            k,
-            &mut self.descriptors,
-            &self.descriptions,
+            self.described,
+            description_of(target, FOR_READING, false),
+            &mut self.held,
+            &mut self.entries,
             &mut self.pipes,
         );
+        self.described += 1;
         Ok(())
     }
 
@@ -409,46 +594,48 @@ impl Machine {
     /// the answer. A fork doesn't copy it, and a program that the process starts doesn't have it.
     /// `BadDescriptor` where the number refers to nothing. Takes no memory.
     pub(crate) fn set_aside(&mut self, pid: u32, number: u8) -> Result<usize, KernelFault>
-        ensures { Gives result self.new (set_aside_call self.old pid number) }
+        ensures { (s : MachineState) → StandsAt self.old s
+            → GivesTo (StandsAt self.new) result (set_aside_call s pid number) }
     {
-        let Some(k) = find(&self.descriptors, pid, DescriptorRef::Number(number)) else {
+        let Some(k) = self.number_of(pid, DescriptorRef::Number(number)) else {
             return Err(KernelFault::BadDescriptor);
         };
-        rename(
-            &mut self.descriptors,
-            pid,
-            DescriptorRef::Number(number),
-            None,
-        );
+        self.renumber(pid, DescriptorRef::Number(number), None);
         Ok(k)
+    }
+
+    /// Gives the first descriptor of this name another number, or none.
+    fn renumber(&mut self, pid: u32, name: DescriptorRef, number: Option<u8>)
+        ensures { (s : MachineState) → StandsAt self.old s → StandsAt self.new
+            (record s { descriptors = after_renaming s.descriptors pid name number }) }
+    {
+        rename(&mut self.held, pid, name, number);
     }
 
     /// Gives a descriptor that was set aside a number again; what the number referred to is closed.
     /// `BadDescriptor` where the process has set aside no descriptor of this description;
     /// `TooManyDescriptors` where the number is too high. Takes no memory.
     pub(crate) fn put_back(&mut self, pid: u32, aside: usize, number: u8) -> Result<(), KernelFault>
-        ensures { Gives result self.new (put_back_call self.old pid aside number) }
+        ensures { (s : MachineState) → StandsAt self.old s
+            → GivesTo (StandsAt self.new) result (put_back_call s pid aside number) }
     {
-        let Some(_) = find(&self.descriptors, pid, DescriptorRef::Aside(aside)) else {
+        let Some(_) = self.number_of(pid, DescriptorRef::Aside(aside)) else {
             return Err(KernelFault::BadDescriptor);
         };
         if !is_allowed(number) {
             return Err(KernelFault::TooManyDescriptors);
         }
-        close(
-            pid,
-            Closing::Named(DescriptorRef::Number(number)),
-            &mut self.descriptors,
-            &self.descriptions,
-            &mut self.pipes,
-        );
-        rename(
-            &mut self.descriptors,
-            pid,
-            DescriptorRef::Aside(aside),
-            Some(number),
-        );
+        self.give_back(pid, aside, number);
         Ok(())
+    }
+
+    /// Gives the first descriptor of a description that was set aside a number; what the number referred to is closed.
+    fn give_back(&mut self, pid: u32, aside: usize, number: u8)
+        ensures { (s : MachineState) → StandsAt self.old s
+            → StandsAt self.new (put_back s pid aside number) }
+    {
+        self.close_each(pid, Closing::Named(DescriptorRef::Number(number)));
+        self.renumber(pid, DescriptorRef::Aside(aside), Some(number));
     }
 
     /// Makes a process (XSH fork), and answers its number. The new process has the descriptors of `pid`, but
@@ -456,8 +643,10 @@ impl Machine {
     /// `NoProcess` where no such process lives; `TooManyProcesses` where [`MAX_LIVE`](crate::MAX_LIVE) live
     /// already, or the number would be above [`MAX_PID`](crate::MAX_PID); else `NoMemory`.
     pub(crate) fn fork(&mut self, pid: u32) -> Result<u32, KernelFault>
-        ensures call { GivesOrLacks result self.old self.new (fork_call self.old pid) }
-        ensures room { LacksWhereGiven result (fork_call self.old pid) }
+        ensures call { (s : MachineState) → StandsAt self.old s
+            → GivesOrLacks result self.new s (fork_call s pid) }
+        ensures room { (s : MachineState) → StandsAt self.old s
+            → LacksWhereGiven result (fork_call s pid) }
     {
         if !lives(&self.processes, pid) {
             return Err(KernelFault::NoProcess);
@@ -467,7 +656,7 @@ impl Machine {
         }
         self.processes.reserve(1)?;
         let child = FIRST_PID + self.processes.len() as u32;
-        copy_all(self.alloc, &mut self.descriptors, pid, child)?;
+        copy_all(self.alloc, &mut self.held, &mut self.entries, pid, child)?;
         self.processes.push_reserved(Process {
             maker: pid,
             status: Status::Running,
@@ -478,195 +667,26 @@ impl Machine {
     /// Ends a process with an exit status, by its own call (XSH _exit): all its descriptors are closed.
     /// `NoProcess` where no such process lives. Takes no memory.
     pub(crate) fn end(&mut self, pid: u32, status: u8) -> Result<(), KernelFault>
-        ensures { Gives result self.new (end_call self.old pid status) }
+        ensures { (s : MachineState) → StandsAt self.old s
+            → GivesTo (StandsAt self.new) result (end_call s pid status) }
     {
         if !lives(&self.processes, pid) {
             return Err(KernelFault::NoProcess);
         }
-        close(
-            pid,
-            Closing::All,
-            &mut self.descriptors,
-            &self.descriptions,
-            &mut self.pipes,
-        );
-        set_status(&mut self.processes, pid, Status::Exited(status));
+        self.finish(pid, Status::Exited(status));
         Ok(())
     }
 
     /// A process starts a program: what it has set aside is closed (XSH exec, FD_CLOEXEC). `NoProcess` where no such
     /// process lives. Takes no memory.
     pub(crate) fn start_program(&mut self, pid: u32) -> Result<(), KernelFault>
-        ensures { Gives result self.new (start_call self.old pid) }
+        ensures { (s : MachineState) → StandsAt self.old s
+            → GivesTo (StandsAt self.new) result (start_call s pid) }
     {
         if !lives(&self.processes, pid) {
             return Err(KernelFault::NoProcess);
         }
-        close(
-            pid,
-            Closing::Asides,
-            &mut self.descriptors,
-            &self.descriptions,
-            &mut self.pipes,
-        );
+        self.close_each(pid, Closing::Asides);
         Ok(())
-    }
-
-    /// Succeeds where all these children of a process have ended (XSH waitpid). `NoProcess` where one of them
-    /// is no child of the process; `WouldWait` where one lives. Takes no memory.
-    pub(crate) fn wait(&self, pid: u32, awaited: &[u32]) -> Result<(), KernelFault>
-        ensures { result ≡ wait_answer self.now.processes pid awaited.now }
-    {
-        if !all_children(&self.processes, pid, awaited) {
-            return Err(KernelFault::NoProcess);
-        }
-        if !all_ended(&self.processes, awaited) {
-            return Err(KernelFault::WouldWait);
-        }
-        Ok(())
-    }
-
-    /// Whether a process runs, is stopped or has ended; `None` where no process ever had this number. Takes
-    /// no memory.
-    pub(crate) fn status(&self, pid: u32) -> Option<Status>
-        ensures { result ≡ status_at self.now.processes pid }
-    {
-        status_at(&self.processes, pid)
-    }
-
-    /// The number of a process's parent (XSH getppid): 1 where the process that made it has ended; `None`
-    /// where no process ever had this number. Takes no memory.
-    pub(crate) fn parent(&self, pid: u32) -> Option<u32>
-        ensures { result ≡ parent_at self.now.processes pid }
-    {
-        parent_at(&self.processes, pid)
-    }
-
-    /// The files. Takes no memory.
-    pub(crate) fn files(&self) -> &Files
-        ensures { result.now ≡ self.now.files }
-    {
-        &self.files
-    }
-
-    /// The description to which a descriptor refers.
-    fn described(&self, pid: u32, name: DescriptorRef) -> Option<Description>
-        ensures { result ≡ open_description self.now pid name }
-    {
-        match find(&self.descriptors, pid, name) {
-            Some(k) => self.descriptions.get(k).copied(),
-            None => None,
-        }
-    }
-
-    /// Whether a descriptor refers to the terminal (XSH isatty); `false` where there is none of this name.
-    /// Takes no memory.
-    pub(crate) fn is_terminal(&self, pid: u32, name: DescriptorRef) -> bool
-        ensures { result ≡ is_terminal self.now pid name }
-    {
-        match self.described(pid, name) {
-            Some(description) => is_of_terminal(&description),
-            None => false,
-        }
-    }
-
-    /// Whether a descriptor refers to the terminal and is open for reading. Takes no memory.
-    pub(crate) fn reads_terminal(&self, pid: u32, name: DescriptorRef) -> bool
-        ensures { result ≡ reads_terminal self.now pid name }
-    {
-        match self.described(pid, name) {
-            Some(description) => is_of_terminal(&description) && description.readable,
-            None => false,
-        }
-    }
-
-    /// Whether a descriptor refers to the terminal and is open for writing. Takes no memory.
-    pub(crate) fn writes_terminal(&self, pid: u32, name: DescriptorRef) -> bool
-        ensures { result ≡ writes_terminal self.now pid name }
-    {
-        match self.described(pid, name) {
-            Some(description) => is_of_terminal(&description) && description.writable,
-            None => false,
-        }
-    }
-
-    /// Whether a read by a description would wait.
-    #[tactic(auto, using(crate::proofs::FileWaits::read_waits))]
-    fn read_target_waits(&self, description: Description) -> bool
-        ensures { (n k : ℕ)
-            → result
-            ≡ waits (read_target self.now n k description.offset description.target).answer }
-    {
-        match description.target {
-            Target::ReadEnd(pipe) => {
-                let writer = has_writer(&self.descriptors, &self.descriptions, pipe);
-                read_pipe_waits(&self.pipes, pipe, writer)
-            },
-            Target::File(_) => false,
-            Target::Terminal => false,
-            Target::Null => false,
-            Target::WriteEnd(_) => false,
-        }
-    }
-
-    /// Whether [`Machine::read`] would answer `WouldWait`. Takes no memory.
-    pub(crate) fn read_waits(&self, pid: u32, name: DescriptorRef) -> bool
-        ensures { (n : ℕ) → result ≡ waits (read_call self.now pid name n).answer }
-    {
-        let Some(k) = find(&self.descriptors, pid, name) else {
-            return false;
-        };
-        let Some(description) = self.descriptions.get(k).copied() else {
-            return false;
-        };
-        if !description.readable {
-            return false;
-        }
-        self.read_target_waits(description)
-    }
-
-    /// Whether a write by a description would wait.
-    #[tactic(auto, using(crate::proofs::FileWaits::write_waits))]
-    fn write_target_waits(&self, description: Description, count: usize) -> bool
-        ensures { (bytes : List ℕ) (pid k : ℕ) → length bytes ≡ count
-            → result
-            ≡ waits (write_target self.now pid bytes k description description.target).answer }
-    {
-        match description.target {
-            Target::WriteEnd(pipe) => {
-                if !has_reader(&self.descriptors, &self.descriptions, pipe) {
-                    return false;
-                }
-                write_pipe_waits(&self.pipes, pipe, count)
-            },
-            Target::File(_) => false,
-            Target::Terminal => false,
-            Target::Null => false,
-            Target::ReadEnd(_) => false,
-        }
-    }
-
-    /// Whether [`Machine::write`] of so many bytes would answer `WouldWait`. Takes no memory.
-    pub(crate) fn write_waits(&self, pid: u32, number: u8, count: usize) -> bool
-        ensures { (bytes : List ℕ) → length bytes ≡ count
-            → result ≡ waits (write_call self.now pid number bytes).answer }
-    {
-        let Some(k) = find(&self.descriptors, pid, DescriptorRef::Number(number)) else {
-            return false;
-        };
-        let Some(description) = self.descriptions.get(k).copied() else {
-            return false;
-        };
-        if !description.writable || count == 0 {
-            return false;
-        }
-        self.write_target_waits(description, count)
-    }
-
-    /// Whether a process is neither stopped nor ended. Takes no memory.
-    pub(crate) fn is_running(&self, pid: u32) -> bool
-        ensures { result ≡ is_running (status_at self.now.processes pid) }
-    {
-        is_running(status_at(&self.processes, pid))
     }
 }

@@ -10,3 +10,5 @@ pub mod Naming
 pub mod Opening
 pub mod Starting
 pub mod Terminals
+pub mod Kept
+pub mod Counts

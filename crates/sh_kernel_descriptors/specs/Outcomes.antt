@@ -52,3 +52,13 @@ LacksWhereGiven result d = IfErr result (λ fault. fault ≡ NoMemory no_memory 
 abbrev pub GivesRead : {S : Type 0} → Result ℕ KernelFault → List ℕ → List ℕ → S → Done S (List ℕ) → Type 0
 GivesRead (Ok n) buf buf' new d = (d ≡ record { answer = Ok (take n buf'); after = new }) × (drop n buf' ≡ drop n buf)
 GivesRead (Err fault) buf buf' new d = (d ≡ record { answer = Err fault; after = new }) × (buf' ≡ buf)
+
+-- ---- where what is kept is no part of the state, but agrees with it
+-- the call gave this answer, and what is kept now agrees with the state after it
+abbrev pub GivesTo : {S A : Type 0} → (S → Type 0) → Result A KernelFault → Done S A → Type 0
+GivesTo agrees result d = (d.answer ≡ result) × agrees d.after
+
+-- the same of a read
+abbrev pub GivesReadTo : {S : Type 0} → (S → Type 0) → Result ℕ KernelFault → List ℕ → List ℕ → Done S (List ℕ) → Type 0
+GivesReadTo agrees (Ok n) buf buf' d = (d.answer ≡ Ok (take n buf')) × (drop n buf' ≡ drop n buf) × agrees d.after
+GivesReadTo agrees (Err fault) buf buf' d = (d.answer ≡ Err fault) × (buf' ≡ buf) × agrees d.after

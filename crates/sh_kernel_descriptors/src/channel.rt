@@ -42,6 +42,13 @@ impl Channel {
         })
     }
 
+    /// The pipe.
+    pub fn pipe(&self) -> &Pipe
+        ensures { result.now ≡ self.now }
+    {
+        &self.pipe
+    }
+
     /// Reads as [`Pipe::read_into`] does.
     pub fn read_into(&mut self, buf: &mut [u8], has_writer: bool) -> Result<usize, PipeFault>
         ensures result { result ≡ read_result self.old (length buf.old) has_writer }

@@ -1,11 +1,19 @@
 //! Finding and closing descriptors.
-ghost use Rattle.std.specs.Prelude.{◌≡◌, ◌≤◌, vec_len, vec_capacity};
+ghost use Rattle.std.specs.Prelude.{◌≡◌, ◌≤◌, ◌++◌, ◌==◌, ℕ, List, None, if◌then◌else◌, vec_len, vec_capacity};
+ghost use Rattle.std.specs.List.{list_any};
 ghost use Rattle.sh_kernel_descriptors.specs.Descriptors as names;
 ghost use Rattle.sh_kernel_descriptors.specs.Closings as closings;
+ghost use Rattle.sh_kernel_descriptors.specs.Closings.{Pipes};
+ghost use Rattle.sh_kernel_descriptors.specs.Counts as counts;
+ghost use Rattle.sh_kernel_descriptors.specs.Kept.{IsCounted, Linked, PipesAgree, listed, number_at, pipe_kept};
+ghost use Rattle.sh_kernel_descriptors.specs.declared.description.Description.{Description as TheDescription};
 
 use crate::channel::Channel;
-use crate::description::{Description, Target};
+use crate::description::Target;
 use crate::descriptor::{Closing, Descriptor, DescriptorRef};
+use crate::kept::{Entry, Held, described, release_each};
+use slab::Slab;
+use std::collections::BTreeMap;
 
 fn is_number(number: u8, of: Option<u8>) -> bool
     ensures { result ≡ names.is_number number of }
@@ -33,14 +41,18 @@ pub(crate) fn is_named(pid: u32, name: DescriptorRef, d: &Descriptor) -> bool
     d.pid == pid && is_called(name, d)
 }
 
-/// The number of the description to which the process's descriptor of this name refers.
-pub fn find(descriptors: &[Descriptor], pid: u32, name: DescriptorRef) -> Option<usize>
-    ensures { result ≡ names.description_number descriptors.now pid name }
+/// Whether a descriptor that is kept is the process's descriptor of this name.
+pub(crate) fn is_of_name(pid: u32, name: DescriptorRef, h: &Held) -> bool
+    ensures { result ≡ counts.is_of_name pid name h.now }
 {
-    descriptors
-        .iter()
-        .find(|d| is_named(pid, name, d))
-        .map(|d| d.description)
+    is_named(pid, name, &h.descriptor)
+}
+
+/// The process's descriptor of this name.
+pub fn find(held: &[Held], pid: u32, name: DescriptorRef) -> Option<Held>
+    ensures { result ≡ counts.find held.now pid name }
+{
+    held.iter().find(|h| is_of_name(pid, name, h)).map(|h| *h)
 }
 
 fn reads_from(pipe: usize, target: Target) -> bool
@@ -67,40 +79,56 @@ fn writes_to(pipe: usize, target: Target) -> bool
     }
 }
 
-fn is_reader(descriptions: &[Description], pipe: usize, d: &Descriptor) -> bool
-    ensures { result ≡ names.is_reader descriptions.now pipe d.now }
+fn is_reader(entries: &Slab<Entry>, pipe: usize, h: &Held) -> bool
+    ensures { result ≡ counts.is_reader entries.now pipe h.now }
 {
-    match descriptions.get(d.description) {
+    match described(entries, h.key) {
         Some(e) => reads_from(pipe, e.target),
         None => false,
     }
 }
 
-fn is_writer(descriptions: &[Description], pipe: usize, d: &Descriptor) -> bool
-    ensures { result ≡ names.is_writer descriptions.now pipe d.now }
+fn is_writer(entries: &Slab<Entry>, pipe: usize, h: &Held) -> bool
+    ensures { result ≡ counts.is_writer entries.now pipe h.now }
 {
-    match descriptions.get(d.description) {
+    match described(entries, h.key) {
         Some(e) => writes_to(pipe, e.target),
         None => false,
     }
 }
 
-/// Whether some descriptor refers to an end of the pipe to read from.
-pub fn has_reader(descriptors: &[Descriptor], descriptions: &[Description], pipe: usize) -> bool
-    ensures { result ≡ names.has_reader descriptors.now descriptions.now pipe }
+fn reads_it(held: &[Held], entries: &Slab<Entry>, pipe: usize) -> bool
+    ensures { result ≡ list_any (counts.is_reader entries.now pipe) held.now }
 {
-    descriptors.iter().any(|d| is_reader(descriptions, pipe, d))
+    held.iter().any(|h| is_reader(entries, pipe, h))
+}
+
+fn writes_it(held: &[Held], entries: &Slab<Entry>, pipe: usize) -> bool
+    ensures { result ≡ list_any (counts.is_writer entries.now pipe) held.now }
+{
+    held.iter().any(|h| is_writer(entries, pipe, h))
+}
+
+/// Whether some descriptor refers to an end of the pipe to read from.
+#[tactic(auto, using(crate::proofs::Ends::readers))]
+pub fn has_reader(held: &[Held], entries: &Slab<Entry>, pipe: usize) -> bool
+    ensures { (es : List TheDescription) → Linked held.now entries.now es
+        → result ≡ names.has_reader (listed held.now) es pipe }
+{
+    reads_it(held, entries, pipe)
 }
 
 /// Whether some descriptor refers to an end of the pipe to write to.
-pub fn has_writer(descriptors: &[Descriptor], descriptions: &[Description], pipe: usize) -> bool
-    ensures { result ≡ names.has_writer descriptors.now descriptions.now pipe }
+#[tactic(auto, using(crate::proofs::Ends::writers))]
+pub fn has_writer(held: &[Held], entries: &Slab<Entry>, pipe: usize) -> bool
+    ensures { (es : List TheDescription) → Linked held.now entries.now es
+        → result ≡ names.has_writer (listed held.now) es pipe }
 {
-    descriptors.iter().any(|d| is_writer(descriptions, pipe, d))
+    writes_it(held, entries, pipe)
 }
 
 /// Whether a descriptor is closed.
-fn goes(pid: u32, closing: Closing, d: &Descriptor) -> bool
+pub(crate) fn goes(pid: u32, closing: Closing, d: &Descriptor) -> bool
     ensures { result ≡ closings.goes pid closing d.now }
 {
     match closing {
@@ -110,10 +138,10 @@ fn goes(pid: u32, closing: Closing, d: &Descriptor) -> bool
     }
 }
 
-fn stays(pid: u32, closing: Closing, d: &Descriptor) -> bool
-    ensures { result ≡ closings.stays pid closing d.now }
+fn stays(pid: u32, closing: Closing, h: &Held) -> bool
+    ensures { result ≡ counts.stays pid closing h.now }
 {
-    !goes(pid, closing, d)
+    !goes(pid, closing, &h.descriptor)
 }
 
 fn pipe_of(target: Target) -> Option<usize>
@@ -128,133 +156,115 @@ fn pipe_of(target: Target) -> Option<usize>
     }
 }
 
-/// The pipe of which a description is an end.
-fn pipe_at(descriptions: &[Description], k: usize) -> Option<usize>
-    ensures { result ≡ closings.pipe_at descriptions.now k }
+/// The number by creation of the pipe of which the description at a key is an end.
+pub fn pipe_named(entries: &Slab<Entry>, key: usize) -> Option<usize>
+    ensures { result ≡ number_at entries.now key }
 {
-    match descriptions.get(k) {
+    match described(entries, key) {
         Some(e) => pipe_of(e.target),
         None => None,
     }
 }
 
-fn is_end(descriptions: &[Description], pipe: usize, d: &Descriptor) -> bool
-    ensures { result ≡ closings.is_end descriptions.now pipe d.now }
+fn is_end(entries: &Slab<Entry>, pipe: usize, h: &Held) -> bool
+    ensures { result ≡ counts.is_end entries.now pipe h.now }
 {
-    is_reader(descriptions, pipe, d) || is_writer(descriptions, pipe, d)
+    is_reader(entries, pipe, h) || is_writer(entries, pipe, h)
 }
 
 /// Whether a descriptor stays and refers to an end of the pipe.
-fn holds(
-    pid: u32,
-    closing: Closing,
-    descriptions: &[Description],
-    pipe: usize,
-    d: &Descriptor,
-) -> bool
-    ensures { result ≡ closings.holds pid closing descriptions.now pipe d.now }
+fn holds(pid: u32, closing: Closing, entries: &Slab<Entry>, pipe: usize, h: &Held) -> bool
+    ensures { result ≡ counts.holds pid closing entries.now pipe h.now }
 {
-    stays(pid, closing, d) && is_end(descriptions, pipe, d)
+    stays(pid, closing, h) && is_end(entries, pipe, h)
 }
 
 /// Whether some descriptor that stays refers to an end of the pipe.
-fn is_held(
-    pid: u32,
-    closing: Closing,
-    descriptors: &[Descriptor],
-    descriptions: &[Description],
-    pipe: usize,
-) -> bool
-    ensures { result ≡ closings.is_held pid closing descriptors.now descriptions.now pipe }
+fn is_held(pid: u32, closing: Closing, held: &[Held], entries: &Slab<Entry>, pipe: usize) -> bool
+    ensures { result ≡ counts.is_held pid closing held.now entries.now pipe }
 {
-    descriptors
-        .iter()
-        .any(|d| holds(pid, closing, descriptions, pipe, d))
+    held.iter().any(|h| holds(pid, closing, entries, pipe, h))
 }
 
-/// Removes a pipe, if no descriptor that stays refers to an end of it.
-fn let_go(
-    pid: u32,
-    closing: Closing,
-    descriptors: &[Descriptor],
-    descriptions: &[Description],
-    pipes: &mut Vec<Option<Channel>>,
-    pipe: usize,
-)
-    ensures { pipes.new.items ≡ closings.let_go_pipe pid closing descriptors.now descriptions.now
-        pipes.old.items pipe }
+/// Removes a pipe.
+#[tactic(auto, using(crate::proofs::Ends::same_number))]
+fn remove(pipes: &mut BTreeMap<usize, Channel>, pipe: usize)
+    ensures { (p : ℕ) → pipe_kept pipes.new.entries p ≡ (if pipe == p then None else pipe_kept pipes.old.entries p) }
 {
-    if is_held(pid, closing, descriptors, descriptions, pipe) {
-        return;
-    }
-    if pipe < pipes.len() {
-        pipes[pipe] = None;
-    }
+    let _ = pipes.remove(&pipe);
 }
 
 /// Removes the pipe of a descriptor that is closed, if no descriptor that stays refers to an end of it.
 fn let_go_of(
     pid: u32,
     closing: Closing,
-    descriptors: &[Descriptor],
-    descriptions: &[Description],
-    pipes: &mut Vec<Option<Channel>>,
-    d: &Descriptor,
+    held: &[Held],
+    entries: &Slab<Entry>,
+    pipes: &mut BTreeMap<usize, Channel>,
+    h: &Held,
 )
-    ensures { pipes.new.items ≡ closings.let_go_of pid closing descriptors.now descriptions.now
-        pipes.old.items d.now }
+    ensures { (p : ℕ) → pipe_kept pipes.new.entries p
+        ≡ (if counts.goes_with pid closing held.now entries.now p h.now then None else pipe_kept pipes.old.entries p) }
 {
-    if !goes(pid, closing, d) {
+    if !goes(pid, closing, &h.descriptor) {
         return;
     }
-    let Some(pipe) = pipe_at(descriptions, d.description) else {
+    let Some(pipe) = pipe_named(entries, h.key) else {
         return;
     };
-    let_go(pid, closing, descriptors, descriptions, pipes, pipe);
+    if is_held(pid, closing, held, entries, pipe) {
+        return;
+    }
+    remove(pipes, pipe);
 }
 
 /// Removes the pipes to whose ends only descriptors that are closed refer.
 fn let_go_each(
     pid: u32,
     closing: Closing,
-    descriptors: &[Descriptor],
-    descriptions: &[Description],
-    pipes: &mut Vec<Option<Channel>>,
+    held: &[Held],
+    entries: &Slab<Entry>,
+    pipes: &mut BTreeMap<usize, Channel>,
 )
-    ensures { pipes.new.items ≡ closings.pipes_left pid closing descriptors.now descriptions.now
-        pipes.old.items }
+    ensures { (p : ℕ) → pipe_kept pipes.new.entries p
+        ≡ counts.pipe_left pid closing held.now entries.now p held.now (pipe_kept pipes.old.entries p) }
 {
-    for d in descriptors {
-        let_go_of(pid, closing, descriptors, descriptions, pipes, d);
+    for h in held {
+        let_go_of(pid, closing, held, entries, pipes, h);
     }
 }
 
 /// Removes the closed descriptors from the list.
-fn keep(pid: u32, closing: Closing, descriptors: &mut Vec<Descriptor>)
-    ensures items { descriptors.new.items ≡ closings.descriptors_left pid closing
-        descriptors.old.items }
-    ensures len { vec_len descriptors.new ≤ vec_len descriptors.old }
-    ensures capacity { vec_capacity descriptors.new ≡ vec_capacity descriptors.old }
+fn keep(pid: u32, closing: Closing, held: &mut Vec<Held>)
+    ensures items { held.new.items ≡ counts.held_left pid closing held.old.items }
+    ensures len { vec_len held.new ≤ vec_len held.old }
+    ensures capacity { vec_capacity held.new ≡ vec_capacity held.old }
 {
-    descriptors.retain(|d| stays(pid, closing, d));
+    held.retain(|h| stays(pid, closing, h));
 }
 
-/// Closes descriptors of a process (XSH close). A pipe goes with the last descriptor that refers to one of
-/// its ends.
+/// Closes descriptors of a process (XSH close). An entry goes with the last descriptor that refers to it, and a pipe
+/// with the last descriptor that refers to one of its ends. What further descriptors name, which are no longer or not
+/// yet in the list, stays.
 pub fn close(
     pid: u32,
     closing: Closing,
-    descriptors: &mut Vec<Descriptor>,
-    descriptions: &[Description],
-    pipes: &mut Vec<Option<Channel>>,
+    held: &mut Vec<Held>,
+    entries: &mut Slab<Entry>,
+    pipes: &mut BTreeMap<usize, Channel>,
 )
-    ensures descriptors { descriptors.new.items ≡ closings.descriptors_left pid closing
-        descriptors.old.items }
-    ensures pipes { pipes.new.items ≡ closings.pipes_left pid closing descriptors.old.items
-        descriptions.now pipes.old.items }
-    ensures len { vec_len descriptors.new ≤ vec_len descriptors.old }
-    ensures capacity { vec_capacity descriptors.new ≡ vec_capacity descriptors.old }
+    ensures held { held.new.items ≡ counts.held_left pid closing held.old.items }
+    ensures listed { listed held.new.items ≡ closings.descriptors_left pid closing (listed held.old.items) }
+    ensures counted { (more : List Held) → IsCounted entries.old (more ++ held.old.items)
+        → IsCounted entries.new (more ++ held.new.items) }
+    ensures linked { (more : List Held) (es : List TheDescription) → IsCounted entries.old (more ++ held.old.items)
+        → Linked (more ++ held.old.items) entries.old es → Linked (more ++ held.new.items) entries.new es }
+    ensures pipes { (es : List TheDescription) (ps : Pipes) → Linked held.old.items entries.old es
+        → PipesAgree pipes.old.entries ps → PipesAgree pipes.new.entries (closings.pipes_left pid closing (listed held.old.items) es ps) }
+    ensures len { vec_len held.new ≤ vec_len held.old }
+    ensures capacity { vec_capacity held.new ≡ vec_capacity held.old }
 {
-    let_go_each(pid, closing, descriptors, descriptions, pipes);
-    keep(pid, closing, descriptors);
+    let_go_each(pid, closing, held, entries, pipes);
+    release_each(pid, closing, held, entries);
+    keep(pid, closing, held);
 }

@@ -1,4 +1,4 @@
-//! The parts of a kernel: processes, descriptors, open file descriptions and pipes, each by its number in a list.
+//! The parts of a kernel: processes and descriptors in lists, open file descriptions by key, and pipes by number.
 #![tactic(auto)]
 
 mod channel;
@@ -6,6 +6,7 @@ mod closing;
 mod description;
 mod descriptor;
 mod fault;
+mod kept;
 mod naming;
 mod opening;
 mod process;
@@ -15,17 +16,18 @@ mod waiting;
 mod writing;
 
 pub use channel::{CAPACITY, Channel};
-pub use closing::{close, find, has_reader, has_writer};
+pub use closing::{close, find, has_reader, has_writer, pipe_named};
 pub use description::{Description, Target};
 pub use descriptor::{Closing, Descriptor, DescriptorRef};
 pub use fault::{KernelFault, fault_of_file};
-pub use naming::{MAX_DESCRIPTORS, end_of, give_number, is_allowed, is_description, rename};
+pub use kept::{Entry, Held, described, move_to};
+pub use naming::{MAX_DESCRIPTORS, add, add_pipe, is_allowed, is_description, refer, rename};
 pub use opening::{description_of, is_of_terminal, target_of, the_terminal, to_terminal};
 pub use process::{Process, Status};
 pub use processes::{
     FIRST_PID, MAX_LIVE, MAX_PID, all_children, all_ended, copy_all, lives, may_fork, parent_at,
     set_status, status_at,
 };
-pub use reading::{move_to, read_file, read_pipe};
+pub use reading::{read_file, read_pipe};
 pub use waiting::{is_running, read_pipe_waits, write_pipe_waits};
 pub use writing::{write_node, write_pipe, write_start};

@@ -1,13 +1,22 @@
 //! Numbers of descriptors.
-ghost use Rattle.std.specs.Prelude.{◌≡◌, ◌+◌, ◌++◌, ◌∷◌, [], ◌≤◌, ◌<◌, Some, position, vec_len, vec_capacity};
-ghost use Rattle.sh_kernel_descriptors.specs.Descriptors.{is_named};
-ghost use Rattle.sh_kernel_descriptors.specs.Closings.{descriptors_left, pipes_left};
+ghost use Rattle.std.specs.Prelude.{◌≡◌, ◌==◌, ◌+◌, ◌++◌, ◌∷◌, [], ◌≤◌, ◌<◌, ◌^◌, if◌then◌else◌, ℕ, List, OnErr, OnOk, Some, length, position, vec_len, vec_capacity};
+ghost use Rattle.slab.specs.Slab.{HasRoomFor};
+ghost use Rattle.slab.specs.Slab as slab;
+ghost use Rattle.sh_kernel_descriptors.specs.Closings.{Pipes, descriptors_left, pipes_left};
+ghost use Rattle.sh_kernel_descriptors.specs.Counts as counts;
+ghost use Rattle.sh_kernel_descriptors.specs.Kept.{Among, IsCounted, Linked, PipesAgree, listed, pipe_kept};
 ghost use Rattle.sh_kernel_descriptors.specs.Naming as naming;
+ghost use Rattle.sh_kernel_descriptors.specs.declared.description.Description.{Description as TheDescription};
+ghost use Rattle.sh_kernel_descriptors.specs.declared.kept.Entry.{Entry as TheEntry};
 
 use crate::channel::Channel;
-use crate::closing::{close, is_named};
+use crate::closing::{close, is_of_name};
 use crate::description::{Description, Target};
 use crate::descriptor::{Closing, Descriptor, DescriptorRef};
+use crate::kept::{Entry, Held, share};
+use slab::Slab;
+use std::alloc::{AllocError, Global};
+use std::collections::BTreeMap;
 
 /// How many numbers of descriptors a process has: they go from 0 up (`OPEN_MAX` of XBD `<limits.h>`).
 pub const MAX_DESCRIPTORS: u8 = 32;
@@ -42,59 +51,243 @@ pub fn end_of(target: Target, reading: bool) -> Description
     }
 }
 
-/// Makes a number of a process refer to a description; what it referred to is closed first (XSH dup2). The
-/// list has to have room for one more descriptor.
-pub fn give_number(
+/// Makes a number of a process refer to a description; what it referred to is closed first (XSH dup2). The entry counts
+/// the new descriptor already, and the list has to have room for it.
+
+fn give_number(
     pid: u32,
     number: u8,
     k: usize,
-    descriptors: &mut Vec<Descriptor>,
-    descriptions: &[Description],
-    pipes: &mut Vec<Option<Channel>>,
+    key: usize,
+    held: &mut Vec<Held>,
+    entries: &mut Slab<Entry>,
+    pipes: &mut BTreeMap<usize, Channel>,
 )
-    requires { vec_len descriptors.old < vec_capacity descriptors.old }
-    ensures descriptors { descriptors.new.items ≡ descriptors_left pid
-        (Closing.Named (DescriptorRef.Number number)) descriptors.old.items
+    requires { vec_len held.old < vec_capacity held.old }
+    ensures listed { listed held.new.items ≡ descriptors_left pid (Closing.Named (DescriptorRef.Number number)) (listed held.old.items)
         ++ record { pid = pid; number = Some number; description = k } ∷ [] }
-    ensures pipes { pipes.new.items ≡ pipes_left pid (Closing.Named (DescriptorRef.Number number))
-        descriptors.old.items descriptions.now pipes.old.items }
-    ensures len { vec_len descriptors.new ≤ vec_len descriptors.old + 1 }
-    ensures capacity { vec_capacity descriptors.new ≡ vec_capacity descriptors.old }
+    ensures counted { (more : List Held) → IsCounted entries.old (more ++ counts.given pid number k key ∷ held.old.items)
+        → IsCounted entries.new (more ++ held.new.items) }
+    ensures linked { (more : List Held) (es : List TheDescription) → IsCounted entries.old (more ++ counts.given pid number k key ∷ held.old.items)
+        → Linked (more ++ counts.given pid number k key ∷ held.old.items) entries.old es → Linked (more ++ held.new.items) entries.new es }
+    ensures pipes { (es : List TheDescription) (ps : Pipes) → Linked held.old.items entries.old es → PipesAgree pipes.old.entries ps
+        → PipesAgree pipes.new.entries (pipes_left pid (Closing.Named (DescriptorRef.Number number)) (listed held.old.items) es ps) }
+    ensures len { vec_len held.new ≤ vec_len held.old + 1 }
+    ensures capacity { vec_capacity held.new ≡ vec_capacity held.old }
 {
     close(
         pid,
         Closing::Named(DescriptorRef::Number(number)),
-        descriptors,
-        descriptions,
+        held,
+        entries,
         pipes,
     );
-    descriptors.push_reserved(Descriptor {
-        pid,
-        number: Some(number),
-        description: k,
+    held.push_reserved(Held {
+        descriptor: Descriptor {
+            pid,
+            number: Some(number),
+            description: k,
+        },
+        key,
     });
 }
 
 /// The place of the first descriptor of a name.
-fn place_of(descriptors: &[Descriptor], pid: u32, name: DescriptorRef) -> Option<usize>
-    ensures { result ≡ position (is_named pid name) descriptors.now }
+fn place_of(held: &[Held], pid: u32, name: DescriptorRef) -> Option<usize>
+    ensures { result ≡ position (counts.is_of_name pid name) held.now }
 {
-    descriptors.iter().position(|d| is_named(pid, name, d))
+    held.iter().position(|h| is_of_name(pid, name, h))
+}
+
+/// Gives the first descriptor of this name another number, or none.
+fn renumber(held: &mut Vec<Held>, pid: u32, name: DescriptorRef, number: Option<u8>)
+    ensures { held.new.items ≡ counts.renamed held.old.items pid name number }
+{
+    let Some(i) = place_of(held, pid, name) else {
+        return;
+    };
+    if i < held.len() {
+        let old = held[i];
+        let descriptor = Descriptor {
+            number,
+            ..old.descriptor
+        };
+        held[i] = Held { descriptor, ..old };
+    }
 }
 
 /// Gives the first descriptor of this name another number, or none. Where there is no such descriptor nothing
 /// changes.
-pub fn rename(descriptors: &mut Vec<Descriptor>, pid: u32, name: DescriptorRef, number: Option<u8>)
-    ensures items { descriptors.new.items ≡ naming.after_renaming descriptors.old.items pid name
+pub fn rename(held: &mut Vec<Held>, pid: u32, name: DescriptorRef, number: Option<u8>)
+    ensures listed { listed held.new.items ≡ naming.after_renaming (listed held.old.items) pid name
         number }
-    ensures len { vec_len descriptors.new ≡ vec_len descriptors.old }
-    ensures capacity { vec_capacity descriptors.new ≡ vec_capacity descriptors.old }
+    ensures counted { (entries : slab.Slab TheEntry) → IsCounted entries held.old.items
+        → IsCounted entries held.new.items }
+    ensures linked { (entries : slab.Slab TheEntry) (es : List TheDescription)
+        → Linked held.old.items entries es → Linked held.new.items entries es }
 {
-    let Some(i) = place_of(descriptors, pid, name) else {
-        return;
-    };
-    if i < descriptors.len() {
-        let old = descriptors[i];
-        descriptors[i] = Descriptor { number, ..old };
+    renumber(held, pid, name, number);
+}
+
+/// A list has fewer elements than a count can tell.
+fn is_short(held: &[Held])
+    ensures { length held.now < 18446744073709551615 }
+{
+    let _count = held.len();
+}
+
+/// Makes a number of a process refer to the description to which a descriptor of the list refers; what the number
+/// referred to is closed (XSH dup2). The list has to have room for one more descriptor.
+pub fn refer(
+    pid: u32,
+    number: u8,
+    to: Held,
+    held: &mut Vec<Held>,
+    entries: &mut Slab<Entry>,
+    pipes: &mut BTreeMap<usize, Channel>,
+)
+    requires { vec_len held.old < vec_capacity held.old }
+    ensures listed { listed held.new.items
+        ≡ descriptors_left pid (Closing.Named (DescriptorRef.Number number)) (listed held.old.items)
+        ++ record { pid = pid; number = Some number; description = to.descriptor.description } ∷ [] }
+    ensures counted { Among to held.old.items → IsCounted entries.old held.old.items
+        → IsCounted entries.new held.new.items }
+    ensures linked { (es : List TheDescription) → Among to held.old.items
+        → IsCounted entries.old held.old.items → Linked held.old.items entries.old es
+        → Linked held.new.items entries.new es }
+    ensures pipes { (es : List TheDescription) (ps : Pipes) → Linked held.old.items entries.old es
+        → PipesAgree pipes.old.entries ps
+        → PipesAgree pipes.new.entries
+        (pipes_left pid (Closing.Named (DescriptorRef.Number number)) (listed held.old.items) es ps) }
+{
+    is_short(held);
+    share(entries, to.key);
+    let description = to.descriptor.description;
+    give_number(pid, number, description, to.key, held, entries, pipes);
+}
+
+/// Makes a number of a process refer to a new description; what the number referred to is closed (XSH open). The number
+/// by creation of the description is how many there were; the list and the entries have to have room for one more.
+pub fn add(
+    pid: u32,
+    number: u8,
+    k: usize,
+    description: Description,
+    held: &mut Vec<Held>,
+    entries: &mut Slab<Entry>,
+    pipes: &mut BTreeMap<usize, Channel>,
+)
+    requires list { vec_len held.old < vec_capacity held.old }
+    requires room { HasRoomFor entries.old 1 }
+    ensures listed { listed held.new.items
+        ≡ descriptors_left pid (Closing.Named (DescriptorRef.Number number)) (listed held.old.items)
+        ++ record { pid = pid; number = Some number; description = k } ∷ [] }
+    ensures counted { IsCounted entries.old held.old.items → IsCounted entries.new held.new.items }
+    ensures linked { (es : List TheDescription) → k ≡ length es
+        → IsCounted entries.old held.old.items → Linked held.old.items entries.old es
+        → Linked held.new.items entries.new (es ++ description ∷ []) }
+    ensures pipes { (es : List TheDescription) (ps : Pipes) → k ≡ length es
+        → IsCounted entries.old held.old.items → Linked held.old.items entries.old es
+        → PipesAgree pipes.old.entries ps
+        → PipesAgree pipes.new.entries
+        (pipes_left pid (Closing.Named (DescriptorRef.Number number)) (listed held.old.items)
+        (es ++ description ∷ []) ps) }
+{
+    let key = entries.insert_reserved(Entry {
+        description,
+        count: 1,
+    });
+    give_number(pid, number, k, key, held, entries, pipes);
+}
+
+/// Keeps a new pipe by its number, which is how many there were. The only error is want of memory, after which the pipes
+/// are as they were.
+#[tactic(auto, using(crate::proofs::Ends::same_number))]
+fn keep_pipe(
+    pipes: &mut BTreeMap<usize, Channel>,
+    pipe: usize,
+    made: Channel,
+) -> Result<(), AllocError>
+    ensures ok { OnOk result ((p : ℕ) → pipe_kept pipes.new.entries p
+        ≡ (if pipe == p then Some made else pipe_kept pipes.old.entries p)) }
+    ensures err { OnErr result (pipes.new.entries ≡ pipes.old.entries) }
+{
+    match pipes.insert(pipe, made) {
+        Ok(_) => Ok(()),
+        Err(failed) => Err(AllocError::from(failed)),
     }
+}
+
+/// Makes two numbers of a process refer to new ends of a pipe, to read from and to write to; what they referred to is
+/// closed. The numbers by creation of the ends are how many descriptions there were, and the next; the list and the
+/// entries have to have room for two more.
+fn add_ends(
+    pid: u32,
+    from: u8,
+    to: u8,
+    k: usize,
+    pipe: usize,
+    held: &mut Vec<Held>,
+    entries: &mut Slab<Entry>,
+    pipes: &mut BTreeMap<usize, Channel>,
+)
+    requires list { vec_len held.old + 2 ≤ vec_capacity held.old }
+    requires room { HasRoomFor entries.old 2 }
+    requires fits { k + 1 < 2 ^ 64 }
+    ensures listed { listed held.new.items ≡ counts.ends_listed pid from to k (listed held.old.items) }
+    ensures counted { IsCounted entries.old held.old.items → IsCounted entries.new held.new.items }
+    ensures linked { (es : List TheDescription) → k ≡ length es
+        → IsCounted entries.old held.old.items → Linked held.old.items entries.old es
+        → Linked held.new.items entries.new (counts.with_ends pipe es) }
+    ensures pipes { (es : List TheDescription) (ps : Pipes) → k ≡ length es
+        → IsCounted entries.old held.old.items → Linked held.old.items entries.old es
+        → PipesAgree pipes.old.entries ps
+        → PipesAgree pipes.new.entries (counts.ends_pipes pid from to k (listed held.old.items) (counts.with_ends pipe es) ps) }
+{
+    let first = entries.insert_reserved(Entry {
+        description: end_of(Target::ReadEnd(pipe), true),
+        count: 1,
+    });
+    let second = entries.insert_reserved(Entry {
+        description: end_of(Target::WriteEnd(pipe), false),
+        count: 1,
+    });
+    give_number(pid, from, k, first, held, entries, pipes);
+    give_number(pid, to, k + 1, second, held, entries, pipes);
+}
+
+/// Makes two numbers of a process refer to the ends of a new pipe, to read from and to write to; what they referred to
+/// is closed (XSH pipe). The numbers by creation are how many descriptions and pipes there were; the list and the entries
+/// have to have room for two more. The only error is want of memory, after which nothing has changed.
+pub fn add_pipe(
+    alloc: Global,
+    pid: u32,
+    from: u8,
+    to: u8,
+    k: usize,
+    pipe: usize,
+    held: &mut Vec<Held>,
+    entries: &mut Slab<Entry>,
+    pipes: &mut BTreeMap<usize, Channel>,
+) -> Result<(), AllocError>
+    requires list { vec_len held.old + 2 ≤ vec_capacity held.old }
+    requires room { HasRoomFor entries.old 2 }
+    requires fits { k + 1 < 2 ^ 64 }
+    ensures listed { OnOk result (listed held.new.items ≡ counts.ends_listed pid from to k (listed held.old.items)) }
+    ensures counted { OnOk result (IsCounted entries.old held.old.items → IsCounted entries.new held.new.items) }
+    ensures linked { OnOk result ((es : List TheDescription) → k ≡ length es
+        → IsCounted entries.old held.old.items → Linked held.old.items entries.old es
+        → Linked held.new.items entries.new (counts.with_ends pipe es)) }
+    ensures pipes { OnOk result ((es : List TheDescription) (ps : Pipes) → k ≡ length es → pipe ≡ length ps
+        → IsCounted entries.old held.old.items → Linked held.old.items entries.old es
+        → PipesAgree pipes.old.entries ps
+        → PipesAgree pipes.new.entries (counts.ends_pipes pid from to k (listed held.old.items) (counts.with_ends pipe es) (counts.with_new ps))) }
+    ensures held { OnErr result (held.new ≡ held.old) }
+    ensures entries { OnErr result (entries.new ≡ entries.old) }
+    ensures unpiped { OnErr result (pipes.new.entries ≡ pipes.old.entries) }
+{
+    let made = Channel::new(alloc)?;
+    keep_pipe(pipes, pipe, made)?;
+    add_ends(pid, from, to, k, pipe, held, entries, pipes);
+    Ok(())
 }

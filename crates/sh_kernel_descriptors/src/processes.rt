@@ -1,9 +1,15 @@
 //! Processes by their numbers.
-ghost use Rattle.std.specs.Prelude.{◌≡◌, ◌++◌, IfOk, OnOk, OnErr, vec_len, vec_capacity, option_copied};
+ghost use Rattle.std.specs.Prelude.{◌≡◌, ◌≤◌, ◌<◌, ◌++◌, ℕ, List, length, drop, IfOk, OnOk, OnErr, vec_len, vec_capacity, option_copied};
+ghost use Rattle.slab.specs.Slab as slab;
+ghost use Rattle.sh_kernel_descriptors.specs.Counts as counts;
+ghost use Rattle.sh_kernel_descriptors.specs.Kept.{IsCounted, Linked, listed};
+ghost use Rattle.sh_kernel_descriptors.specs.declared.description.Description.{Description as TheDescription};
 ghost use Rattle.sh_kernel_descriptors.specs.Processes as processes;
 
 use crate::descriptor::Descriptor;
+use crate::kept::{Entry, Held, share_each};
 use crate::process::{Process, Status};
+use slab::Slab;
 use std::alloc::{AllocError, Global};
 
 /// The number of the first process.
@@ -105,49 +111,77 @@ pub fn set_status(all: &mut Vec<Process>, pid: u32, status: Status)
 }
 
 /// The descriptor, as one of another process.
-fn of_process(pid: u32, d: &Descriptor) -> Descriptor
-    ensures { result ≡ processes.of_process pid d.now }
+fn of_process(pid: u32, h: &Held) -> Held
+    ensures { result ≡ counts.of_process pid h.now }
 {
-    Descriptor { pid, ..*d }
+    Held {
+        descriptor: Descriptor {
+            pid,
+            ..h.descriptor
+        },
+        ..*h
+    }
 }
 
-fn is_copied(pid: u32, d: &Descriptor) -> bool
-    ensures { result ≡ processes.is_copied pid d.now }
+fn is_copied(pid: u32, h: &Held) -> bool
+    ensures { result ≡ counts.is_copied pid h.now }
 {
-    d.pid == pid && d.number.is_some()
+    h.descriptor.pid == pid && h.descriptor.number.is_some()
 }
 
 /// The descriptors of a process that a fork copies, as those of another process.
-fn copies(
-    alloc: Global,
-    descriptors: &[Descriptor],
-    pid: u32,
-    child: u32,
-) -> Result<Vec<Descriptor>, AllocError>
-    ensures { IfOk result (λ v. v.items ≡ processes.copies descriptors.now pid child) }
+fn copies(alloc: Global, held: &[Held], pid: u32, child: u32) -> Result<Vec<Held>, AllocError>
+    ensures { IfOk result (λ v. v.items ≡ counts.copies held.now pid child) }
 {
-    descriptors
-        .iter()
-        .filter(|d| is_copied(pid, d))
-        .map(|d| of_process(child, d))
+    held.iter()
+        .filter(|h| is_copied(pid, h))
+        .map(|h| of_process(child, h))
         .collect(alloc)
 }
 
-/// Adds the descriptors that a fork copies for the new process. The only error is want of memory, after which
-/// the list is as it was.
-pub fn copy_all(
+/// Adds the descriptors that a fork copies to the list. The only error is want of memory, after which it is as it was.
+fn append_copies(
     alloc: Global,
-    descriptors: &mut Vec<Descriptor>,
+    held: &mut Vec<Held>,
     pid: u32,
     child: u32,
 ) -> Result<(), AllocError>
-    ensures ok { OnOk result
-        (descriptors.new.items ≡ descriptors.old.items ++ processes.copies descriptors.old.items
-        pid child) }
-    ensures err { OnErr result (descriptors.new.items ≡ descriptors.old.items) }
+    ensures ok { OnOk result (held.new.items ≡ held.old.items ++ counts.copies held.old.items pid child) }
+    ensures err { OnErr result (held.new.items ≡ held.old.items) }
 {
-    let mut more = copies(alloc, descriptors, pid, child)?;
-    descriptors.append(&mut more)
+    let mut more = copies(alloc, held, pid, child)?;
+    held.append(&mut more)
+}
+
+/// Counts the descriptors of the list from a place on.
+fn share_from(held: &[Held], from: usize, entries: &mut Slab<Entry>)
+    requires { from ≤ length held.now }
+    ensures short { length held.now < 18446744073709551615 }
+    ensures at { (k : ℕ) → slab.get entries.new k ≡ counts.shared k (drop from held.now) (slab.get entries.old k) }
+{
+    share_each(&held[from..], entries);
+}
+
+/// Adds the descriptors that a fork copies for the new process. The only error is want of memory, after which
+/// nothing has changed.
+pub fn copy_all(
+    alloc: Global,
+    held: &mut Vec<Held>,
+    entries: &mut Slab<Entry>,
+    pid: u32,
+    child: u32,
+) -> Result<(), AllocError>
+    ensures listed { OnOk result (listed held.new.items ≡ listed held.old.items ++ processes.copies (listed held.old.items) pid child) }
+    ensures counted { OnOk result (IsCounted entries.old held.old.items → IsCounted entries.new held.new.items) }
+    ensures linked { OnOk result ((es : List TheDescription) → Linked held.old.items entries.old es
+        → Linked held.new.items entries.new es) }
+    ensures held { OnErr result (held.new.items ≡ held.old.items) }
+    ensures entries { OnErr result (entries.new ≡ entries.old) }
+{
+    let before = held.as_slice().len();
+    append_copies(alloc, held, pid, child)?;
+    share_from(held, before, entries);
+    Ok(())
 }
 
 fn is_child(all: &[Process], pid: u32, child: u32) -> bool

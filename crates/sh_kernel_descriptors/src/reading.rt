@@ -1,12 +1,17 @@
 //! Reads, over the parts that they change.
-ghost use Rattle.std.specs.Prelude.{◌≡◌, ◌+◌, ◌-◌, ◌≤◌, ◌<◌, ◌++◌, length, take, drop};
-ghost use Rattle.sh_kernel_descriptors.specs.Outcomes.{GivesRead};
+ghost use Rattle.std.specs.Prelude.{◌≡◌, ◌+◌, ◌-◌, ◌≤◌, ◌<◌, ◌++◌, ◌==◌, ℕ, List, false, length, take, drop};
+ghost use Rattle.sh_kernel_descriptors.specs.Closings.{Pipes};
+ghost use Rattle.sh_kernel_descriptors.specs.Kept.{Among, IsCounted, Linked, PipesAgree, pipe_kept};
+ghost use Rattle.sh_kernel_descriptors.specs.Outcomes.{GivesRead, GivesReadTo};
+ghost use Rattle.sh_kernel_descriptors.specs.declared.description.Description.{Description as TheDescription};
 ghost use Rattle.sh_kernel_descriptors.specs.Reading as reading;
 
 use crate::channel::Channel;
-use crate::description::Description;
 use crate::fault::{KernelFault, fault_of_pipe};
+use crate::kept::{Entry, Held, move_to};
 use sh_files::{Files, Node};
+use slab::Slab;
+use std::collections::BTreeMap;
 
 /// Copies the bytes from an offset on, up to the buffer's length, and says how many.
 fn copy_out(content: &[u8], offset: usize, buf: &mut [u8]) -> usize
@@ -54,44 +59,43 @@ fn read_node(
     }
 }
 
-/// Gives a description an offset.
-pub fn move_to(descriptions: &mut Vec<Description>, k: usize, offset: usize)
-    ensures { descriptions.new.items ≡ reading.with_offset descriptions.old.items k offset }
-{
-    if k < descriptions.len() {
-        let old = descriptions[k];
-        descriptions[k] = Description { offset, ..old };
-    }
-}
-
-/// Reads a file from an offset on, and moves the offset of a description by as many bytes. `File` with the
-/// files' refusal; nothing has changed then.
+/// Reads a file from an offset on, and moves the offset of the description to which a descriptor refers by as many bytes.
+/// `File` with the files' refusal; nothing has changed then.
 pub fn read_file(
     files: &Files,
-    descriptions: &mut Vec<Description>,
-    k: usize,
+    entries: &mut Slab<Entry>,
+    h: Held,
     node: usize,
     offset: usize,
     buf: &mut [u8],
 ) -> Result<usize, KernelFault>
-    ensures { GivesRead result buf.old buf.new descriptions.new.items
-        (reading.read_file files.now descriptions.old.items k node offset (length buf.old)) }
+    ensures counted { (hs : List Held) → IsCounted entries.old hs → IsCounted entries.new hs }
+    ensures gives { (hs : List Held) (es : List TheDescription) → Among h hs → Linked hs entries.old es
+        → GivesReadTo (Linked hs entries.new) result buf.old buf.new
+        (reading.read_file files.now es h.descriptor.description node offset (length buf.old)) }
 {
     let mut place = offset;
     let result = read_node(files, node, &mut place, buf);
-    move_to(descriptions, k, place);
+    move_to(entries, h, place);
     result
 }
 
-/// Reads from a pipe, if it is there.
-fn read_slot(slot: &mut Option<Channel>, writer: bool, buf: &mut [u8]) -> Result<usize, KernelFault>
-    ensures { GivesRead result buf.old buf.new slot.new
-        (reading.read_slot writer (length buf.old) slot.old) }
+/// Reads from the pipe of a number.
+fn read_at(
+    pipes: &mut BTreeMap<usize, Channel>,
+    pipe: usize,
+    writer: bool,
+    buf: &mut [u8],
+) -> Result<usize, KernelFault>
+    ensures gives { GivesRead result buf.old buf.new (pipe_kept pipes.new.entries pipe)
+        (reading.read_slot writer (length buf.old) (pipe_kept pipes.old.entries pipe)) }
+    ensures others { (p : ℕ) → (pipe == p) ≡ false
+        → pipe_kept pipes.new.entries p ≡ pipe_kept pipes.old.entries p }
 {
-    let Some(pipe) = slot else {
+    let Some(channel) = pipes.get_mut(&pipe) else {
         return Err(KernelFault::BadDescriptor);
     };
-    match pipe.read_into(buf, writer) {
+    match channel.read_into(buf, writer) {
         Ok(count) => Ok(count),
         Err(fault) => Err(fault_of_pipe(fault)),
     }
@@ -100,17 +104,14 @@ fn read_slot(slot: &mut Option<Channel>, writer: bool, buf: &mut [u8]) -> Result
 /// Reads from the pipe of a number. `BadDescriptor` where there is no such pipe; `WouldWait` where it is
 /// empty and has a writer.
 pub fn read_pipe(
-    pipes: &mut Vec<Option<Channel>>,
+    pipes: &mut BTreeMap<usize, Channel>,
     pipe: usize,
     writer: bool,
     buf: &mut [u8],
 ) -> Result<usize, KernelFault>
-    ensures { GivesRead result buf.old buf.new pipes.new.items
-        (reading.read_pipe pipes.old.items pipe writer (length buf.old)) }
+    ensures { (ps : Pipes) → PipesAgree pipes.old.entries ps
+        → GivesReadTo (PipesAgree pipes.new.entries) result buf.old buf.new
+        (reading.read_pipe ps pipe writer (length buf.old)) }
 {
-    if pipe >= pipes.len() {
-        return Err(KernelFault::BadDescriptor);
-    }
-    let slot = &mut pipes[pipe];
-    read_slot(slot, writer, buf)
+    read_at(pipes, pipe, writer, buf)
 }

@@ -1,12 +1,15 @@
 //! Writes, over the parts that they change.
 ghost use Rattle.sh_base.specs.Memory.{no_memory};
-ghost use Rattle.std.specs.Prelude.{◌≡◌, ◌≢◌, IfErr, ◌<◌, length, slice_get};
-ghost use Rattle.sh_kernel_descriptors.specs.Outcomes.{Gives, GivesOrLacks, LacksWhereGiven};
+ghost use Rattle.std.specs.Prelude.{◌≡◌, ◌≢◌, ◌==◌, ℕ, false, IfErr, ◌<◌, length, slice_get};
+ghost use Rattle.sh_kernel_descriptors.specs.Closings.{Pipes};
+ghost use Rattle.sh_kernel_descriptors.specs.Kept.{PipesAgree, pipe_kept};
+ghost use Rattle.sh_kernel_descriptors.specs.Outcomes.{Gives, GivesOrLacks, GivesTo, LacksWhereGiven};
 ghost use Rattle.sh_kernel_descriptors.specs.Writing as writing;
 
 use crate::channel::Channel;
 use crate::fault::{KernelFault, fault_of_file, fault_of_pipe};
 use sh_files::{FileFault, Files, MAX_LENGTH, Node};
+use std::collections::BTreeMap;
 
 /// The length of a file.
 fn size_of(files: &Files, node: usize) -> usize
@@ -53,15 +56,22 @@ pub fn write_node(
     }
 }
 
-/// Writes to a pipe that has a reader, if it is there.
-fn write_slot(slot: &mut Option<Channel>, bytes: &[u8]) -> Result<usize, KernelFault>
+/// Writes to the pipe of a number, which has a reader.
+fn write_to(
+    pipes: &mut BTreeMap<usize, Channel>,
+    pipe: usize,
+    bytes: &[u8],
+) -> Result<usize, KernelFault>
     ensures memory { IfErr result (λ fault. fault ≢ KernelFault.NoMemory no_memory) }
-    ensures gives { Gives result slot.new (writing.write_slot bytes.now slot.old) }
+    ensures gives { Gives result (pipe_kept pipes.new.entries pipe)
+        (writing.write_slot bytes.now (pipe_kept pipes.old.entries pipe)) }
+    ensures others { (p : ℕ) → (pipe == p) ≡ false
+        → pipe_kept pipes.new.entries p ≡ pipe_kept pipes.old.entries p }
 {
-    let Some(pipe) = slot else {
+    let Some(channel) = pipes.get_mut(&pipe) else {
         return Err(KernelFault::BadDescriptor);
     };
-    match pipe.write(bytes, true) {
+    match channel.write(bytes, true) {
         Ok(count) => Ok(count),
         Err(fault) => Err(fault_of_pipe(fault)),
     }
@@ -70,16 +80,13 @@ fn write_slot(slot: &mut Option<Channel>, bytes: &[u8]) -> Result<usize, KernelF
 /// Writes to the pipe of a number, which has a reader, and says how many bytes went. `BadDescriptor` where
 /// there is no such pipe; `WouldWait` where it has no room.
 pub fn write_pipe(
-    pipes: &mut Vec<Option<Channel>>,
+    pipes: &mut BTreeMap<usize, Channel>,
     pipe: usize,
     bytes: &[u8],
 ) -> Result<usize, KernelFault>
     ensures memory { IfErr result (λ fault. fault ≢ KernelFault.NoMemory no_memory) }
-    ensures gives { Gives result pipes.new.items (writing.write_pipe pipes.old.items pipe bytes.now) }
+    ensures gives { (ps : Pipes) → PipesAgree pipes.old.entries ps
+        → GivesTo (PipesAgree pipes.new.entries) result (writing.write_pipe ps pipe bytes.now) }
 {
-    if pipe >= pipes.len() {
-        return Err(KernelFault::BadDescriptor);
-    }
-    let slot = &mut pipes[pipe];
-    write_slot(slot, bytes)
+    write_to(pipes, pipe, bytes)
 }

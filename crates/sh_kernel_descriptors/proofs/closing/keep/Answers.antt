@@ -1,6 +1,6 @@
 use Rattle.std.proofs.Common.{rules}
 use Rattle.std.proofs.lemmas.Fn.{filter_same}
-use Rattle.sh_kernel_descriptors.specs.Closings.{stays}
+use Rattle.sh_kernel_descriptors.specs.Counts.{stays}
 use Rattle.sh_kernel_descriptors.proofs.closing.keep.Goals as goal
 
 pub returns-clause-items : goal.returns-clause-items

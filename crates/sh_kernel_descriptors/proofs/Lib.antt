@@ -1,0 +1,11 @@
+pub mod Places
+pub mod Ends
+pub mod Leaving
+pub mod Giving
+pub mod Renaming
+pub mod Coming
+pub mod Piping
+pub mod Copying
+pub mod Moving
+pub mod Slots
+pub mod Finding
