@@ -2,6 +2,7 @@
 //! it does, and what it writes of them. Nothing here knows of processes.
 #![tactic(auto)]
 
+mod copying;
 mod environment;
 pub mod message;
 mod pipeline;
@@ -11,6 +12,7 @@ mod rest;
 mod served;
 pub mod simple;
 
+pub use copying::{Copying, copy_all};
 pub use environment::script_environment;
 pub use pipeline::{commands_of, is_negated};
 pub use queue::Queue;

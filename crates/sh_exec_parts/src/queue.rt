@@ -1,8 +1,10 @@
 //! Items that are taken from the front.
 ghost use Rattle.std.specs.Prelude.{◌≡◌, ◌∷◌, [], MatchOption, OnErr, OnOk, length, nat_eq};
 
+use crate::copying::{Copying, copy_all};
+use sh_base::NoMemory;
 use sh_base::sequence::Sequence;
-use std::alloc::AllocError;
+use std::alloc::{AllocError, Global};
 use std::marker::Model;
 
 /// Items in order, the first of which is taken first.
@@ -54,5 +56,13 @@ impl<T: Drop> Queue<T> {
     {
         self.items.push(item)?;
         Ok(())
+    }
+}
+
+impl<T: Copying> Copying for Queue<T> {
+    fn copy(&self, alloc: Global) -> Result<Queue<T>, NoMemory> {
+        Ok(Queue {
+            items: copy_all(alloc, self.items.as_slice())?,
+        })
     }
 }

@@ -9,6 +9,7 @@
 #![tactic(auto)]
 
 mod asking;
+mod copying;
 mod laws;
 mod lines;
 mod name;
@@ -17,6 +18,7 @@ mod start;
 mod stock;
 
 pub use asking::{Answer, Ask, Turn};
+pub use copying::CopyStock;
 pub use laws::laws_of_lines;
 pub use program::{Program, Search};
 pub use sh_base::sequence::Text;
