@@ -5,6 +5,7 @@
 
 mod answers;
 mod assigning;
+mod copying;
 mod expanding;
 mod found;
 mod preparing;

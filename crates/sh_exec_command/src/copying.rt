@@ -1,0 +1,292 @@
+//! Copies of places and of what they hold, which are equal to what they are copies of.
+ghost use Rattle.std.specs.Prelude.{◌≡◌, IfOk};
+
+use crate::running::{
+    Action, Active, ExpandedCommand, Finish, ForLoop, Pending, Report, Saved, Stages, Substitution,
+    ToExpand, Undo,
+};
+use sh_base::NoMemory;
+use sh_base::sequence::{Sequence, Text, copies_of};
+use sh_exec_parts::message::Piece;
+use sh_exec_parts::{Copying, copy_all};
+use std::alloc::Global;
+
+impl Copying for Saved {
+    fn copy(&self, alloc: Global) -> Result<Saved, NoMemory> {
+        match self {
+            Saved::Variable(entry) => Ok(Saved::Variable(entry.copy(alloc)?)),
+            Saved::Absent(name) => Ok(Saved::Absent(name.copy(alloc)?)),
+        }
+    }
+}
+
+impl Copying for Undo {
+    fn copy(&self, alloc: Global) -> Result<Undo, NoMemory> {
+        let descriptors = Sequence::copy_of(alloc, self.descriptors.as_slice())?;
+        match copy_all(alloc, self.variables.as_slice()) {
+            Ok(variables) => Ok(Undo {
+                descriptors,
+                variables: Sequence::from_vec(variables),
+            }),
+            Err(lack) => {
+                drop(descriptors);
+                Err(lack)
+            },
+        }
+    }
+}
+
+/// Copies of some texts.
+fn copy_texts(alloc: Global, texts: &[Text]) -> Result<Sequence<Text>, NoMemory>
+    ensures { IfOk result (λ copies. copies ≡ texts.now) }
+{
+    Ok(Sequence::from_vec(copies_of(alloc, texts)?))
+}
+
+impl Copying for ExpandedCommand {
+    fn copy(&self, alloc: Global) -> Result<ExpandedCommand, NoMemory> {
+        let fields = copy_texts(alloc, self.fields.as_slice())?;
+        let redirections = match self.redirections.copy(alloc) {
+            Ok(redirections) => redirections,
+            Err(lack) => {
+                drop(fields);
+                return Err(lack);
+            },
+        };
+        let assignments = match self.assignments.copy(alloc) {
+            Ok(assignments) => assignments,
+            Err(lack) => {
+                drop(redirections);
+                drop(fields);
+                return Err(lack);
+            },
+        };
+        match self.undo.copy(alloc) {
+            Ok(undo) => Ok(ExpandedCommand {
+                role: self.role,
+                fields,
+                redirections,
+                assignments,
+                undo,
+                status: self.status,
+            }),
+            Err(lack) => {
+                drop(assignments);
+                drop(redirections);
+                drop(fields);
+                Err(lack)
+            },
+        }
+    }
+}
+
+impl Copying for ForLoop {
+    fn copy(&self, alloc: Global) -> Result<ForLoop, NoMemory> {
+        let name = self.name.copy(alloc)?;
+        let values = match self.values.copy(alloc) {
+            Ok(values) => values,
+            Err(lack) => {
+                drop(name);
+                return Err(lack);
+            },
+        };
+        match self.body.copy(alloc) {
+            Ok(body) => Ok(ForLoop { name, values, body }),
+            Err(lack) => {
+                drop(values);
+                drop(name);
+                Err(lack)
+            },
+        }
+    }
+}
+
+impl Copying for ToExpand {
+    fn copy(&self, alloc: Global) -> Result<ToExpand, NoMemory> {
+        match self {
+            ToExpand::Words {
+                command,
+                in_place,
+                status,
+            } => Ok(ToExpand::Words {
+                command: command.copy(alloc)?,
+                in_place: *in_place,
+                status: *status,
+            }),
+            ToExpand::Values(command) => Ok(ToExpand::Values(command.copy(alloc)?)),
+            ToExpand::ForWords(command) => Ok(ToExpand::ForWords(command.copy(alloc)?)),
+        }
+    }
+}
+
+impl Copying for Pending {
+    fn copy(&self, alloc: Global) -> Result<Pending, NoMemory> {
+        let answers = copy_texts(alloc, self.answers.as_slice())?;
+        match self.start.copy() {
+            Ok(start) => Ok(Pending { start, answers }),
+            Err(error) => {
+                drop(answers);
+                Err(NoMemory::from(error))
+            },
+        }
+    }
+}
+
+/// A copy of an expansion that needs answers, if there is one.
+fn copy_pending(alloc: Global, pending: &Option<Pending>) -> Result<Option<Pending>, NoMemory>
+    ensures { IfOk result (λ copy. copy ≡ pending.now) }
+{
+    match pending {
+        Some(pending) => Ok(Some(pending.copy(alloc)?)),
+        None => Ok(None),
+    }
+}
+
+impl Copying for Substitution {
+    fn copy(&self, alloc: Global) -> Result<Substitution, NoMemory> {
+        let written = self.written.copy(alloc)?;
+        let children = match Sequence::copy_of(alloc, self.children.as_slice()) {
+            Ok(children) => children,
+            Err(error) => {
+                drop(written);
+                return Err(NoMemory::from(error));
+            },
+        };
+        let wants = match self.wants.copy(alloc) {
+            Ok(wants) => wants,
+            Err(lack) => {
+                drop(children);
+                drop(written);
+                return Err(lack);
+            },
+        };
+        match self.pending.copy(alloc) {
+            Ok(pending) => Ok(Substitution {
+                wants,
+                pending,
+                written,
+                aside: self.aside,
+                children,
+            }),
+            Err(lack) => {
+                drop(wants);
+                drop(children);
+                drop(written);
+                Err(lack)
+            },
+        }
+    }
+}
+
+impl Copying for Stages {
+    fn copy(&self, alloc: Global) -> Result<Stages, NoMemory> {
+        let children = Sequence::copy_of(alloc, self.children.as_slice())?;
+        match self.commands.copy(alloc) {
+            Ok(commands) => Ok(Stages {
+                commands,
+                aside: self.aside,
+                children,
+            }),
+            Err(lack) => {
+                drop(children);
+                Err(lack)
+            },
+        }
+    }
+}
+
+impl Copying for Report {
+    fn copy(&self, alloc: Global) -> Result<Report, NoMemory> {
+        Ok(Report {
+            messages: self.messages.copy(alloc)?,
+            status: self.status,
+        })
+    }
+}
+
+impl Copying for Finish {
+    fn copy(&self, alloc: Global) -> Result<Finish, NoMemory> {
+        match self {
+            Finish::Status(status) => Ok(Finish::Status(*status)),
+            Finish::Fault(status) => Ok(Finish::Fault(*status)),
+            Finish::Messages(report) => Ok(Finish::Messages(report.copy(alloc)?)),
+            Finish::Output(builtin, report) => Ok(Finish::Output(*builtin, report.copy(alloc)?)),
+        }
+    }
+}
+
+/// A copy of the action that expands.
+fn copy_expanding(
+    alloc: Global,
+    wants: &ToExpand,
+    pending: &Option<Pending>,
+) -> Result<Action, NoMemory>
+    ensures { IfOk result (λ action. action ≡ Action.Expanding wants.now pending.now) }
+{
+    let wants = wants.copy(alloc)?;
+    match copy_pending(alloc, pending) {
+        Ok(pending) => Ok(Action::Expanding(wants, pending)),
+        Err(lack) => {
+            drop(wants);
+            Err(lack)
+        },
+    }
+}
+
+/// A copy of the action that writes.
+fn copy_writing(alloc: Global, piece: &Piece, finish: &Finish) -> Result<Action, NoMemory>
+    ensures { IfOk result (λ action. action ≡ Action.Writing piece.now finish.now) }
+{
+    let piece = piece.copy(alloc)?;
+    match finish.copy(alloc) {
+        Ok(finish) => Ok(Action::Writing(piece, finish)),
+        Err(lack) => {
+            drop(piece);
+            Err(lack)
+        },
+    }
+}
+
+impl Copying for Action {
+    fn copy(&self, alloc: Global) -> Result<Action, NoMemory> {
+        match self {
+            Action::Reading(rest, status) => Ok(Action::Reading(rest.copy(alloc)?, *status)),
+            Action::Expanding(wants, pending) => copy_expanding(alloc, wants, pending),
+            Action::ReadSubstitution(substitution) => {
+                Ok(Action::ReadSubstitution(substitution.copy(alloc)?))
+            },
+            Action::WaitSubstitution(substitution) => {
+                Ok(Action::WaitSubstitution(substitution.copy(alloc)?))
+            },
+            Action::Redirecting(command) => Ok(Action::Redirecting(command.copy(alloc)?)),
+            Action::Forking(command) => Ok(Action::Forking(command.copy(alloc)?)),
+            Action::Starting(fields) => {
+                Ok(Action::Starting(copy_texts(alloc, fields.as_slice())?))
+            },
+            Action::ForkStage(stages) => Ok(Action::ForkStage(stages.copy(alloc)?)),
+            Action::AssignLoopVariable(series) => {
+                Ok(Action::AssignLoopVariable(series.copy(alloc)?))
+            },
+            Action::Waiting(children) => {
+                let children = Sequence::copy_of(alloc, children.as_slice())?;
+                Ok(Action::Waiting(children))
+            },
+            Action::Writing(piece, finish) => copy_writing(alloc, piece, finish),
+            Action::Ending(status) => Ok(Action::Ending(*status)),
+        }
+    }
+}
+
+impl Copying for Active {
+    fn copy(&self, alloc: Global) -> Result<Active, NoMemory> {
+        match self {
+            Active::Next(action) => Ok(Active::Next(action.copy(alloc)?)),
+            Active::Acting(builtin, fields) => {
+                let fields = copy_texts(alloc, fields.as_slice())?;
+                Ok(Active::Acting(*builtin, fields))
+            },
+            Active::Done(status) => Ok(Active::Done(*status)),
+            Active::Leaving(leave) => Ok(Active::Leaving(*leave)),
+        }
+    }
+}
