@@ -1,9 +1,10 @@
 //! The running forms of a shell.
-ghost use Rattle.std.specs.Prelude.{◌≡◌, ◌∷◌, [], MatchOption, OnOk, reverse};
+ghost use Rattle.std.specs.Prelude.{◌≡◌, ◌∷◌, [], IfOk, MatchOption, OnOk, reverse};
 ghost use Rattle.sh_exec_forms.specs.Frames.{has_loop, is_loop};
 
 use crate::form::Form;
 use sh_base::NoMemory;
+use sh_exec_parts::copy_all;
 use std::alloc::Global;
 use std::marker::Model;
 
@@ -57,6 +58,15 @@ impl Frames {
         ensures { result.now ≡ reverse self.now }
     {
         self.forms.as_slice()
+    }
+
+    /// A copy, which is equal. The only error is want of memory.
+    pub fn copy(&self, alloc: Global) -> Result<Frames, NoMemory>
+        ensures { IfOk result (λ frames. frames ≡ self.now) }
+    {
+        Ok(Frames {
+            forms: copy_all(alloc, self.forms.as_slice())?,
+        })
     }
 
     /// Whether a loop is among them.

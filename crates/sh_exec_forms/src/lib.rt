@@ -4,6 +4,7 @@
 
 mod acting;
 mod bodies;
+mod copying;
 mod entering;
 mod form;
 mod forms;
