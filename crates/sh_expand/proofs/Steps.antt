@@ -8,7 +8,7 @@ use Rattle.sh_expand_parts.specs.Drafts.{concatenation, nothing, plain, text_ite
 use Rattle.sh_expand_parts.specs.declared.draft.Draft.{Draft}
 use Rattle.sh_expand.specs.Expansion.{Need, Done, then}
 use Rattle.sh_expand.specs.Parts.{expand, run_words, start}
-use Rattle.sh_expand.specs.WordProgress.{around, run_frame, rest, state_of, outcome_of, Waits, IsStep}
+use Rattle.sh_expand.specs.WordProgress.{around, run_frame, rest, state_of, outcome_of, Waits, IsStep, inputs}
 use Rattle.sh_expand.specs.declared.wanted.Wanted.{Wanted}
 use Rattle.sh_expand.specs.declared.words.Frame.{Frame}
 use Rattle.sh_expand.specs.declared.words.WordExpansion.{WordExpansion}
@@ -20,7 +20,7 @@ around_need [] p e = refl
 around_need (g ∷ fs) p e = ap (λ x. then x (run_frame g)) (around_need fs p e)
 
 -- a step whose outcome is that of the definition, whatever answers are still to come
-pub step_is : (s : Step) (e : WordExpansion) (env : Environment) (words : List Wanted) (before : Environment) (given : List (List ℕ)) → ((bs : List (List ℕ)) → outcome_of s e env bs ≡ expand words before (given ++ bs)) → IsStep s e env words before given
+pub step_is : (s : Step) (e : WordExpansion) (env : Environment) (words : List Wanted) (before : Environment) (given : List (List ℕ)) → ((bs : List (List ℕ)) → outcome_of s e env bs ≡ expand words before (given ++ bs)) → IsStep s e env (inputs words before given)
 step_is (step.Need p) e env words before given h =
     (ap (expand words before) (sym (append-nil given)) ∙ sym (h []) ∙ ap (λ o. then o (run_words (drop e.next e.words))) (around_need e.frames p env), record { goes_on = λ a bs. sym (h (a ∷ bs)) })
 step_is step.Words e env words before given h = ap (expand words before) (sym (append-nil given)) ∙ sym (h [])

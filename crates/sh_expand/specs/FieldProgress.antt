@@ -5,6 +5,7 @@ use Rattle.std.specs.declared.alloc.Global.{Global}
 use Rattle.sh_vars.specs.Environment.{Environment}
 use Rattle.sh_files.specs.Nodes.{FileMap}
 use Rattle.sh_expand.specs.WordProgress as words
+use Rattle.sh_expand.specs.WordProgress.{Inputs}
 use Rattle.sh_expand.specs.Parts as words_in
 use Rattle.sh_expand.specs.Expansion.{Done}
 use Rattle.sh_expand.specs.declared.wanted.Wanted.{Wanted}
@@ -36,9 +37,9 @@ abbrev pub pattern_in : Expansion → List PatternByte
 pattern_in e = first_pattern e.words.done
 
 -- a step is the expansion with the answers so far
-abbrev pub IsStep : FileMap → Step → Expansion → Environment → List Wanted → Environment → List (List ℕ) → Type 0
-IsStep files (step.Need program) e env wanted before given =
-    (expand files wanted before given ≡ Need program env) × Waits e env wanted before given
-IsStep files (step.Fields fields) e env wanted before given =
-    (expand files wanted before given ≡ Fields fields env) × HasWords e env wanted before given
-IsStep files (step.Fault fault) e env wanted before given = expand files wanted before given ≡ Stops fault env
+abbrev pub IsStep : FileMap → Step → Expansion → Environment → Inputs → Type 0
+IsStep files (step.Need program) e env i =
+    (expand files i.words i.before i.given ≡ Need program env) × Waits e env i.words i.before i.given
+IsStep files (step.Fields fields) e env i =
+    (expand files i.words i.before i.given ≡ Fields fields env) × HasWords e env i.words i.before i.given
+IsStep files (step.Fault fault) e env i = expand files i.words i.before i.given ≡ Stops fault env

@@ -77,11 +77,20 @@ outcome_closed (Some f) e env bs = Stops f env
 pub record Waits (e : WordExpansion) (env : Environment) (words : List Wanted) (before : Environment) (given : List (List ℕ)) : Type 0 where
   pub goes_on : (a : List ℕ) (bs : List (List ℕ)) → expand words before (given ++ a ∷ bs) ≡ rest e (with_answer e.asked a bs (state_of e env (a ∷ bs)))
 
+-- what an expansion depends on: its words, the environment before it, and the answers so far
+pub record Inputs : Type 0 where
+  pub words : List Wanted
+  pub before : Environment
+  pub given : List (List ℕ)
+
+abbrev pub inputs : List Wanted → Environment → List (List ℕ) → Inputs
+inputs words before given = record { words = words; before = before; given = given }
+
 -- a step is the outcome of the expansion with the answers so far
-abbrev pub IsStep : Step → WordExpansion → Environment → List Wanted → Environment → List (List ℕ) → Type 0
-IsStep (step.Need p) e env words before given = (expand words before given ≡ Need p env) × Waits e env words before given
-IsStep step.Words e env words before given = expand words before given ≡ Done (state_of e env [])
-IsStep (step.Fault f) e env words before given = expand words before given ≡ Stops f env
+abbrev pub IsStep : Step → WordExpansion → Environment → Inputs → Type 0
+IsStep (step.Need p) e env i = (expand i.words i.before i.given ≡ Need p env) × Waits e env i.words i.before i.given
+IsStep step.Words e env i = expand i.words i.before i.given ≡ Done (state_of e env [])
+IsStep (step.Fault f) e env i = expand i.words i.before i.given ≡ Stops f env
 
 abbrev pub act_weight : Act → ℕ
 act_weight act.Went = 0

@@ -3,6 +3,7 @@ ghost use Rattle.std.specs.Prelude.{◌≡◌, ◌++◌, ◌∷◌, [], ℕ, Lis
 ghost use Rattle.sh_vars.specs.Environment.{Environment};
 ghost use Rattle.sh_expand.specs.declared.wanted.Wanted.{Wanted};
 ghost use Rattle.sh_expand.specs.WordProgress as words_stand;
+ghost use Rattle.sh_expand.specs.WordProgress.{inputs};
 ghost use Rattle.sh_expand.specs.FieldProgress.{IsStep};
 
 use crate::fields::all_fields;
@@ -45,8 +46,8 @@ fn finish(
 ) -> Result<Step, AllocError>
     ensures { IfOk result (λ s.
         (wanted : List Wanted) (before : Environment) (given : List (List ℕ))
-        → words_stand.IsStep step words.now vars.now wanted before given
-        → IsStep files.now s (record { words = words.now }) vars.now wanted before given) }
+        → words_stand.IsStep step words.now vars.now (inputs wanted before given)
+        → IsStep files.now s (record { words = words.now }) vars.now (inputs wanted before given)) }
 {
     match step {
         words::Step::Need(program) => Ok(Step::Need(program)),
@@ -60,6 +61,7 @@ fn finish(
 
 impl Expansion {
     ghost use Rattle.sh_expand.specs.FieldProgress.{IsStep, Waits, pattern_in};
+    ghost use Rattle.sh_expand.specs.WordProgress.{inputs};
 
     /// Begins the expansion of words, in order, and goes on until an answer is needed or it ends (XCU 2.6).
     ///
@@ -71,7 +73,7 @@ impl Expansion {
         vars: &mut Vars,
         files: &Files,
     ) -> Result<(Expansion, Step), AllocError>
-        ensures { IfOk result (λ r. IsStep files.now r.1 r.0 vars.new words vars.old []) }
+        ensures { IfOk result (λ r. IsStep files.now r.1 r.0 vars.new (inputs words vars.old [])) }
     {
         let (words, step) = WordExpansion::start(alloc, words, vars)?;
         let step = finish(alloc, step, &words, vars, files)?;
@@ -91,7 +93,7 @@ impl Expansion {
     ) -> Result<Step, AllocError>
         ensures { (wanted : List Wanted) (before : Environment) (given : List (List ℕ))
             → Waits self.old vars.old wanted before given → IfOk result (λ s.
-            IsStep files.now s self.new vars.new wanted before (given ++ answer.now ∷ [])) }
+            IsStep files.now s self.new vars.new (inputs wanted before (given ++ answer.now ∷ []))) }
     {
         let step = self.words.resume(alloc, answer, vars)?;
         let step = finish(alloc, step, &self.words, vars, files)?;

@@ -68,7 +68,7 @@ impl Frame {
 }
 
 impl WordExpansion {
-    ghost use Rattle.sh_expand.specs.WordProgress.{IsStep, Waits, act_weight, entered_frame, left_of, outcome_after, outcome_at, outcome_closed, outcome_of, rest, run_frame, state_of, weight};
+    ghost use Rattle.sh_expand.specs.WordProgress.{IsStep, Waits, act_weight, entered_frame, inputs, left_of, outcome_after, outcome_at, outcome_closed, outcome_of, rest, run_frame, state_of, weight};
 
     /// Ends a word inside another one, or a word of its own.
     fn end(
@@ -261,7 +261,7 @@ impl WordExpansion {
         words: Sequence<Wanted>,
         vars: &mut Vars,
     ) -> Result<(WordExpansion, Step), AllocError>
-        ensures { IfOk result (λ r. IsStep r.1 r.0 vars.new words vars.old []) }
+        ensures { IfOk result (λ r. IsStep r.1 r.0 vars.new (inputs words vars.old [])) }
     {
         let mut expansion = WordExpansion {
             words,
@@ -287,7 +287,7 @@ impl WordExpansion {
     ) -> Result<Step, AllocError>
         ensures { (words : List Wanted) (before : Environment) (given : List (List ℕ))
             → Waits self.old vars.old words before given → IfOk result (λ s.
-            IsStep s self.new vars.new words before (given ++ answer.now ∷ [])) }
+            IsStep s self.new vars.new (inputs words before (given ++ answer.now ∷ []))) }
     {
         let items = answer_items(alloc, self.asked, answer)?;
         self.draft.append(&items)?;
