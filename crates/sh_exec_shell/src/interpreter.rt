@@ -14,7 +14,7 @@ use sh_base::sequence::Text;
 use sh_builtin::{Leave, Shell};
 use sh_exec_command::{Action, Active};
 use sh_exec_forms::{Form, Frames};
-use sh_exec_parts::Rest;
+use sh_exec_parts::{Copying, Rest};
 use sh_kernel::Kernel;
 use std::alloc::Global;
 use std::marker::Model;
@@ -116,6 +116,28 @@ impl Interpreter {
         ensures { result.now ≡ forms_of self.now.run }
     {
         self.frames.as_slice()
+    }
+
+    /// A copy, which is equal: the same shell at the same place of the same tree. The only error is want of memory.
+    pub fn copy(&self, alloc: Global) -> Result<Interpreter, NoMemory>
+        ensures { IfOk result (λ interpreter. interpreter ≡ self.now) }
+    {
+        let active = self.active.copy(alloc)?;
+        let frames = match self.frames.copy(alloc) {
+            Ok(frames) => frames,
+            Err(lack) => {
+                drop(active);
+                return Err(lack);
+            },
+        };
+        match self.shell.copy() {
+            Ok(shell) => Ok(interpreter_of(shell, frames, active)),
+            Err(error) => {
+                drop(frames);
+                drop(active);
+                Err(NoMemory::from(error))
+            },
+        }
     }
 
     /// One turn, and what runs in the process that it made, if it made one. The only error is want of memory, after which
