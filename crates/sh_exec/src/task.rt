@@ -26,7 +26,7 @@ use sh_exec_parts::Rest;
 use sh_exec_shell::Interpreter;
 use sh_files::Files;
 use sh_kernel::{FIRST_PID, Kernel, Next};
-use sh_stock::{Ask, Stock};
+use sh_stock::{Ask, CopyStock, Stock};
 use sh_vars::Vars;
 use std::alloc::Global;
 use std::mem;
@@ -189,5 +189,36 @@ impl<S: Stock> Task<S> {
             → result ≡ can_do s (pid_of self.now) (action_of self.now) }
     {
         kernel.runnable(self.pid(), self.next())
+    }
+}
+
+/// A copy of a program and of what it asks, in the process of this number.
+fn copy_program<S: CopyStock>(
+    alloc: Global,
+    pid: u32,
+    ask: &Ask,
+    program: &S,
+) -> Result<Task<S>, NoMemory>
+    ensures { IfOk result (λ task. task ≡ Task.Asks pid ask.now program.now) }
+{
+    let program = program.copy(alloc)?;
+    match ask.copy(alloc) {
+        Ok(ask) => Ok(Task::Asks { pid, ask, program }),
+        Err(error) => {
+            drop(program);
+            Err(NoMemory::from(error))
+        },
+    }
+}
+
+impl<S: CopyStock> Task<S> {
+    /// A copy, which is equal: the same process at the same place. The only error is want of memory.
+    pub fn copy(&self, alloc: Global) -> Result<Task<S>, NoMemory>
+        ensures { IfOk result (λ task. task ≡ self.now) }
+    {
+        match self {
+            Task::Runs(interpreter) => Ok(Task::Runs(interpreter.copy(alloc)?)),
+            Task::Asks { pid, ask, program } => copy_program(alloc, *pid, ask, program),
+        }
     }
 }
