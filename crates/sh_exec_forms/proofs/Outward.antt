@@ -1,12 +1,12 @@
 -- A tree and the list of its forms: what is settled inward and outward again is settled form by form.
-use Rattle.std.proofs.Common.{◌≡◌, ◌<◌, ℕ, arith, length, List, [], ◌∷◌, ◌||◌, Bool, true, false, refl, sym, ap, subst, ◌∙◌}
+use Rattle.std.proofs.Common.{◌≡◌, ℕ, arith, length, List, [], ◌∷◌, Bool, false, refl, sym, ap, subst, ◌∙◌}
 use Rattle.sh_exec_command.specs.declared.running.Active.TheVariants.{Acting, Next, Done, Leaving}
 use Rattle.sh_builtin.specs.declared.outcome.Leave.{Leave}
 use Rattle.sh_builtin.specs.declared.shell.Shell.{Shell}
 use Rattle.sh_exec_command.specs.declared.running.Active.{Active}
-use Rattle.sh_exec_forms.specs.Builtins.{Performed, effect_at}
-use Rattle.sh_exec_forms.specs.Forms.{Acted, HasGone, HasPerformed, IsActed, IsOnWay, after, after_by, after_leave, after_status, at_action, outward, step_run, with_run, within_loop, within_run}
-use Rattle.sh_exec_forms.specs.Frames.{Goes, IsFewer, Leaves, active_in, has_loop, is_loop, is_over, run_in, run_of}
+use Rattle.sh_exec_forms.specs.Builtins.{effect_at}
+use Rattle.sh_exec_forms.specs.Forms.{Acted, HasGone, HasPerformed, IsActed, IsOnWay, after, after_leave, after_status, at_action, outward, step_run, with_run, within_loop, within_run}
+use Rattle.sh_exec_forms.specs.Frames.{Goes, IsFewer, Leaves, active_in, has_loop, is_over, run_in, run_of}
 use Rattle.sh_exec_forms.specs.Running.{Run, At, In}
 use Rattle.sh_exec_forms.specs.declared.form.Form.{Form}
 use Rattle.sh_exec_forms.specs.declared.step.Step.{Step}

@@ -1,5 +1,4 @@
 use Rattle.std.proofs.Common.{◌≡◌, length}
-use Rattle.sh_exec_command.specs.declared.running.Active.{Active}
 use Rattle.sh_exec_forms.specs.Forms.{IsOnWay, outward, with_run}
 use Rattle.sh_exec_forms.specs.Running.{At}
 use Rattle.sh_exec_forms.specs.declared.step.Step.TheVariants.{Outward}
