@@ -1,11 +1,14 @@
 -- A turn of one process among others, by its place.
-use Rattle.std.proofs.Common.{◌≡◌, ℕ, ◌≤◌, ◌<◌, suc, List, [], ◌∷◌, Bool, true, false, nat_eq, None, Option, length, slice_index_or, slice_set, if◌then◌else◌, refl, ap, subst, arith}
+use Rattle.std.proofs.Common.{◌≡◌, ℕ, ◌≤◌, ◌<◌, suc, List, [], ◌∷◌, Bool, true, false, nat_eq, None, Option, Some, ◌++◌, ◌∙◌, take, length, slice_index_or, slice_set, if◌then◌else◌, refl, ap, subst, arith}
+use Rattle.std.proofs.Math.Seq.{take-append_seam}
 use Rattle.sh_exec.specs.Tasks.{pid_of}
 use Rattle.sh_exec.specs.Turns.{IsTurned, turn}
 use Rattle.sh_exec.specs.declared.task.Task.{Task}
 use Rattle.sh_kernel.specs.State.{KernelKept, KernelState, StandsAt}
 use Rattle.sh_stock.specs.Asking.{Meaning}
-use Rattle.sh_machine.specs.Tasks.{HaveTurned, TasksTurned, behind, place_of, turn_among, turned_first}
+use Rattle.sh_machine.specs.State.{State, after_turn}
+use Rattle.sh_machine.specs.Tasks.{HaveTurned, TasksTurned, behind, living, place_of, turn_among, turned_first, with_child}
+use Rattle.sh_world.specs.World.{PartsStand}
 
 -- what a turn leaves of the process at a place
 abbrev pub turned_at : {S : Type 0} → Meaning S → KernelState → ℕ → List (Task S) → ℕ → Task S → TasksTurned S
@@ -58,3 +61,25 @@ pub one_turned : {S : Type 0} (m : Meaning S) (s : KernelState) (kernel : Kernel
 one_turned m s kernel pid tasks d next made i is =
     subst (λ j. j < length tasks → IsTurned kernel next made (turn m s (slice_index_or tasks j d)) → HaveTurned kernel (slice_set tasks j next) made (turn_among m s pid tasks)) is
     (one-at m s kernel pid tasks d next made)
+
+-- a slice that was written back is the whole list
+pub written_back : {A : Type 0} (new rest : List A) (n : ℕ) → length new ≡ n → take n (new ++ rest) ≡ new
+written_back new rest n e = subst (λ k. take k (new ++ rest) ≡ new) e (take-append_seam new rest)
+
+-- the processes that live after a turn, with the one that it made
+pub turn_parts : {S : Type 0} (m : Meaning S) (s : State S) (old kernel : KernelKept) (tasks slice turned put left : List (Task S)) (last : Option ℕ) (pid : ℕ) (made : Option (Task S))
+    → PartsStand old tasks last s → slice ≡ tasks
+    → (StandsAt old s.machine → HaveTurned kernel turned made (turn_among m s.machine pid slice))
+    → put ≡ with_child turned made
+    → ((t : KernelState) → StandsAt kernel t → left ≡ living t put)
+    → PartsStand kernel left (Some pid) (after_turn m s pid)
+turn_parts m s old kernel tasks slice turned put left last pid made h same turns puts keeps =
+    let t = turn_among m s.machine pid s.tasks in
+    let got = subst (λ these. HaveTurned kernel turned made (turn_among m s.machine pid these)) (same ∙ h.tasks_are) (turns h.machine) in
+    record {
+      machine = got.state;
+      tasks_are =
+          keeps t.machine got.state
+          ∙ ap (living t.machine) (puts ∙ ap (λ these. with_child these made) got.tasks_are ∙ ap (with_child t.tasks) got.child);
+      last_is = refl;
+    }
