@@ -18,9 +18,6 @@ LISTED = {
     ("sh_parse_words/src/build.rt", "return Err(AllocError);"),
     # A count of open levels, of which the same holds.
     ("sh_token/src/state.rt", "return Err(AllocError);"),
-    # A number by creation that has no place in a usize: it would take 2^64 descriptions or pipes, more than a run can make.
-    ("sh_kernel/src/machine.rt", "return Err(AllocError);"),
-    ("sh_kernel/src/machine.rt", "return Err(KernelFault::from(AllocError));"),
 }
 # Lines that make a refusal up, and lines that hand one on or name a type: each run looks whether they are told apart.
 MADE = ["return Err(AllocError);", "Err(_) => Err(NoMemory::from(AllocError)),", "x.ok_or(AllocError)?", "let it = AllocError;", "Err(AllocError {})"]

@@ -84,18 +84,18 @@ two_longer : {X : Type 0} (xs : List X) (x y : X) → length (xs ++ x ∷ y ∷ 
 two_longer [] x y = omega arith
 two_longer (z ∷ xs) x y = omega (arith, two_longer xs x y)
 
-pub opens : (m : MachineKept) (hs : List Held) (entries : Slab Entry) (pipes : List (ℕ × PipeState)) (files : FileMap) (s : MachineState) (pid number node : ℕ) (how : Opening) (append : Bool) (d : Description) → d ≡ description_of (target_of node (slice_get files.nodes node)) how append → StandsAt m s → IsCounted m.entries m.held
+pub opens : (m : MachineKept) (hs : List Held) (entries : Slab Entry) (pipes : List (ℕ × PipeState)) (files : FileMap) (described : ℕ) (s : MachineState) (pid number node : ℕ) (how : Opening) (append : Bool) (d : Description) → described ≡ m.described + 1 → d ≡ description_of (target_of node (slice_get files.nodes node)) how append → StandsAt m s → IsCounted m.entries m.held
     → listed hs ≡ descriptors_left pid (Named (Number number)) (listed m.held) ++ record { pid = pid; number = Some number; description = m.described } ∷ []
     → ((es : List Description) → m.described ≡ length es → IsCounted m.entries m.held → Linked m.held m.entries es → Linked hs entries (es ++ d ∷ []))
     → ((es : List Description) (ps : Pipes) → m.described ≡ length es → IsCounted m.entries m.held → Linked m.held m.entries es → PipesAgree m.pipes ps → PipesAgree pipes (pipes_left pid (Named (Number number)) (listed m.held) (es ++ d ∷ []) ps))
-    → StandsAt (record m { held = hs; entries = entries; pipes = pipes; described = m.described + 1; files = files }) (with_number (with_node s how append node files) pid number (length s.descriptions))
-opens m hs entries pipes files s pid number node how append d is st c e l p =
-    subst (λ x. StandsAt (record m { held = hs; entries = entries; pipes = pipes; described = m.described + 1; files = files }) (with_number (record s { files = files; descriptions = s.descriptions ++ x ∷ [] }) pid number (length s.descriptions))) is
+    → StandsAt (record m { held = hs; entries = entries; pipes = pipes; described = described; files = files }) (with_number (with_node s how append node files) pid number (length s.descriptions))
+opens m hs entries pipes files described s pid number node how append d more is st c e l p =
+    subst (λ x. StandsAt (record m { held = hs; entries = entries; pipes = pipes; described = described; files = files }) (with_number (record s { files = files; descriptions = s.descriptions ++ x ∷ [] }) pid number (length s.descriptions))) is
     (record {
       processes = st.processes;
       descriptors = e ∙ ap (λ ds. descriptors_left pid (Named (Number number)) ds ++ record { pid = pid; number = Some number; description = m.described } ∷ []) st.descriptors ∙ ap (λ k. descriptors_left pid (Named (Number number)) s.descriptors ++ record { pid = pid; number = Some number; description = k } ∷ []) st.described;
       descriptions = l s.descriptions st.described c st.descriptions;
-      described = ap (λ k. k + 1) st.described ∙ sym (one_longer s.descriptions d);
+      described = more ∙ ap (λ k. k + 1) st.described ∙ sym (one_longer s.descriptions d);
       pipes = subst (λ ds. PipesAgree pipes (pipes_left pid (Named (Number number)) ds (s.descriptions ++ d ∷ []) s.pipes)) st.descriptors (p s.descriptions s.pipes st.described c st.descriptions st.pipes);
       piped = st.piped ∙ sym (pipes_left_length pid (Named (Number number)) s.descriptors (s.descriptions ++ d ∷ []) s.pipes);
       files = refl;
@@ -124,23 +124,34 @@ pub counted_room : (hs hs' : List Held) (entries entries' : Slab Entry) → hs' 
 counted_room hs hs' entries entries' e f c =
     subst (λ xs. IsCounted entries' xs) (sym e) (subst (λ slab. IsCounted slab hs) (sym f) c)
 
+pub with_numbers : (m : MachineKept) (described piped : ℕ) (s : MachineState) → described ≡ m.described → piped ≡ m.piped → StandsAt m s → StandsAt (record m { described = described; piped = piped }) s
+with_numbers m described piped s d p st = record {
+  processes = st.processes;
+  descriptors = st.descriptors;
+  descriptions = st.descriptions;
+  described = d ∙ st.described;
+  pipes = st.pipes;
+  piped = p ∙ st.piped;
+  files = st.files;
+}
+
 -- ---- a new pipe
-pub pipes : (m : MachineKept) (hs : List Held) (entries : Slab Entry) (left : List (ℕ × PipeState)) (s : MachineState) (pid from to : ℕ) → StandsAt m s → IsCounted m.entries m.held
+pub pipes : (m : MachineKept) (hs : List Held) (entries : Slab Entry) (left : List (ℕ × PipeState)) (described piped : ℕ) (s : MachineState) (pid from to : ℕ) → described ≡ m.described + 2 → piped ≡ m.piped + 1 → StandsAt m s → IsCounted m.entries m.held
     → listed hs ≡ ends_listed pid from to m.described (listed m.held)
     → ((es : List Description) → m.described ≡ length es → IsCounted m.entries m.held → Linked m.held m.entries es → Linked hs entries (with_ends m.piped es))
     → ((es : List Description) (ps : Pipes) → m.described ≡ length es → m.piped ≡ length ps → IsCounted m.entries m.held → Linked m.held m.entries es → PipesAgree m.pipes ps → PipesAgree left (ends_pipes pid from to m.described (listed m.held) (with_ends m.piped es) (with_new ps)))
-    → StandsAt (record m { held = hs; entries = entries; pipes = left; described = m.described + 2; piped = m.piped + 1 }) (with_number (with_number (with_pipe s) pid from (length s.descriptions)) pid to (length s.descriptions + 1))
-pipes m hs entries left s pid from to st c e l p =
+    → StandsAt (record m { held = hs; entries = entries; pipes = left; described = described; piped = piped }) (with_number (with_number (with_pipe s) pid from (length s.descriptions)) pid to (length s.descriptions + 1))
+pipes m hs entries left described piped s pid from to two one st c e l p =
     let more = with_ends (length s.pipes) s.descriptions in
     record {
       processes = st.processes;
       descriptors = e ∙ ap (λ ds. ends_listed pid from to m.described ds) st.descriptors ∙ ap (λ k. ends_listed pid from to k s.descriptors) st.described;
       descriptions = subst (λ n. Linked hs entries (with_ends n s.descriptions)) st.piped (l s.descriptions st.described c st.descriptions);
-      described = ap (λ k. k + 2) st.described ∙ sym (two_longer s.descriptions _ _);
+      described = two ∙ ap (λ k. k + 2) st.described ∙ sym (two_longer s.descriptions _ _);
       pipes = subst (λ k. PipesAgree left (ends_pipes pid from to k s.descriptors more (with_new s.pipes))) st.described
           (subst (λ ds. PipesAgree left (ends_pipes pid from to m.described ds more (with_new s.pipes))) st.descriptors
           (subst (λ n. PipesAgree left (ends_pipes pid from to m.described (listed m.held) (with_ends n s.descriptions) (with_new s.pipes))) st.piped (p s.descriptions s.pipes st.described st.piped c st.descriptions st.pipes)));
-      piped = ap (λ k. k + 1) st.piped ∙ sym (one_longer s.pipes (Some (record { bytes = []; capacity = 4096 })))
+      piped = one ∙ ap (λ k. k + 1) st.piped ∙ sym (one_longer s.pipes (Some (record { bytes = []; capacity = 4096 })))
           ∙ sym (pipes_left_length pid (Named (Number from)) s.descriptors more (with_new s.pipes))
           ∙ sym (pipes_left_length pid (Named (Number to)) (with_number (with_pipe s) pid from (length s.descriptions)).descriptors more (pipes_left pid (Named (Number from)) s.descriptors more (with_new s.pipes)));
       files = st.files;

@@ -39,15 +39,16 @@ pub struct Machine {
     processes: Vec<Process>,
     held: Vec<Held>,
     entries: Slab<Entry>,
-    /// How many descriptions were ever made: the number of the next.
-    described: usize,
+    /// An element of no size for each description that was ever made. How many there are is the number of the next.
+    described: Vec<()>,
     pipes: BTreeMap<usize, Channel>,
-    /// How many pipes were ever made: the number of the next.
-    piped: usize,
+    /// The same for each pipe that was ever made.
+    piped: Vec<()>,
     files: Files,
 }
 
 impl Model for Machine {
+    ghost use Rattle.std.specs.Prelude.{vec_len};
     ghost use Rattle.sh_kernel.specs.Machine.{MachineKept};
     ghost use Rattle.sh_kernel_descriptors.specs.Kept.{IsCounted};
     ghost use Rattle.sh_files_image.specs.Codes.{map_code};
@@ -61,9 +62,9 @@ impl Model for Machine {
       processes = m.processes.items;
       held = m.held.items;
       entries = m.entries;
-      described = m.described;
+      described = vec_len m.described;
       pipes = m.pipes.entries;
-      piped = m.piped;
+      piped = vec_len m.piped;
       files = m.files;
     } };
 
@@ -97,10 +98,12 @@ impl Machine {
         })?;
         let mut entries = Slab::with_capacity(alloc, 1)?;
         let mut held = Vec::with_capacity(alloc, 3)?;
+        let mut described = Vec::with_capacity(alloc, 1)?;
         let key = entries.insert_reserved(Entry {
             description: the_terminal(),
             count: 3,
         });
+        described.push_reserved(());
         held.push(Held {
             descriptor: to_terminal(0),
             key,
@@ -118,9 +121,9 @@ impl Machine {
             processes,
             held,
             entries,
-            described: 1,
+            described,
             pipes: BTreeMap::new(alloc),
-            piped: 0,
+            piped: Vec::new(alloc),
             files,
         })
     }
@@ -450,24 +453,24 @@ impl Machine {
         ensures err { (s : MachineState) → StandsAt self.old s
             → OnErr result (StandsAt self.new s) }
     {
-        if self.described > usize::MAX - 2 || self.piped == usize::MAX {
-            return Err(AllocError);
-        }
         self.held.reserve(2)?;
         self.entries.reserve(2)?;
+        self.described.reserve(2)?;
+        self.piped.reserve(1)?;
         add_pipe(
             self.alloc,
             pid,
             from,
             to,
-            self.described,
-            self.piped,
+            self.described.len(),
+            self.piped.len(),
             &mut self.held,
             &mut self.entries,
             &mut self.pipes,
         )?;
-        self.described += 2;
-        self.piped += 1;
+        self.described.push_reserved(());
+        self.described.push_reserved(());
+        self.piped.push_reserved(());
         Ok(())
     }
 
@@ -510,11 +513,9 @@ impl Machine {
         ensures { (s : MachineState) → StandsAt self.old s → GivesOrLacks result self.new s
             (open_result s pid how append number (opened s.files directory.now path.now how)) }
     {
-        if self.described == usize::MAX {
-            return Err(KernelFault::from(AllocError));
-        }
         self.held.reserve(1)?;
         self.entries.reserve(1)?;
+        self.described.reserve(1)?;
         let node = match self.files.open(directory, path, how) {
             Ok(node) => node,
             Err(fault) => return Err(fault_of_file(fault)),
@@ -523,13 +524,13 @@ impl Machine {
         add(
             pid,
             number,
-            self.described,
+            self.described.len(),
             description_of(target, how, append),
             &mut self.held,
             &mut self.entries,
             &mut self.pipes,
         );
-        self.described += 1;
+        self.described.push_reserved(());
         Ok(())
     }
 
@@ -566,11 +567,9 @@ impl Machine {
         if bytes.len() > MAX_LENGTH {
             return Err(KernelFault::File(FileFault::TooLarge));
         }
-        if self.described == usize::MAX {
-            return Err(KernelFault::from(AllocError));
-        }
         self.held.reserve(1)?;
         self.entries.reserve(1)?;
+        self.described.reserve(1)?;
         let body = Vec::from_slice(self.alloc, bytes)?;
         let node = match self.files.add_nameless(body) {
             Ok(node) => node,
@@ -580,13 +579,13 @@ impl Machine {
         add(
             pid,
             number,
-            self.described,
+            self.described.len(),
             description_of(target, FOR_READING, false),
             &mut self.held,
             &mut self.entries,
             &mut self.pipes,
         );
-        self.described += 1;
+        self.described.push_reserved(());
         Ok(())
     }
 

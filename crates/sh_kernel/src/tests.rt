@@ -70,3 +70,14 @@ fn a_key_is_used_again(rt: HostRuntime) -> Result<(), Fail> {
     assert_eq!(rt; kernel.set_aside(FIRST_PID, 4), Ok(4));
     Ok(())
 }
+
+#[test]
+fn a_number_is_not_used_again(rt: HostRuntime) -> Result<(), Fail> {
+    let mut kernel = forked(rt.alloc())?;
+    for _ in 0..50 {
+        kernel.pipe(FIRST_PID, 3, 4)?;
+    }
+    assert_eq!(rt; kernel.descriptions().len(), 5);
+    assert_eq!(rt; kernel.set_aside(FIRST_PID, 4), Ok(102));
+    Ok(())
+}

@@ -1,8 +1,8 @@
-use Rattle.std.proofs.Common.{◌∙◌, ap, subst, sym}
+use Rattle.std.proofs.Common.{◌∙◌, ap, arith, refl, subst, sym}
 use Rattle.sh_files.specs.Nodes.{opened}
 use Rattle.sh_kernel_descriptors.specs.Opening.{description_of}
 use Rattle.sh_kernel.specs.Machine.{StandsAt}
-use Rattle.sh_kernel.proofs.Standing.{counted_room, opened_call, opens, with_room}
+use Rattle.sh_kernel.proofs.Standing.{counted_room, opened_call, opens, with_numbers, with_room}
 use Rattle.sh_kernel.proofs.machine.Machine.open_at.Goals as goal
 
 pub returns : goal.returns
@@ -10,8 +10,9 @@ returns c s st =
     let before = subst (λ m. StandsAt m s) (sym c.self.view_is) st in
     let d = c.description_of.ensures ∙ ap (λ t. description_of t c.args.how c.args.append) c.target_of-target.ensures in
     let stands =
-    opens _ c.add.new.held.items c.add.new.entries c.add.new.pipes.entries c.open.new.self s c.args.pid c.args.number c.in-Ok.node c.args.how c.args.append c.description_of.result d
-    (with_room _ c.reserve.new.self.items c.reserve-2.new.self s c.in_ok-reserve.ensures.items c.in_ok-reserve-2.ensures.rest_kept before)
+    opens _ c.add.new.held.items c.add.new.entries c.add.new.pipes.entries c.open.new.self _ s c.args.pid c.args.number c.in-Ok.node c.args.how c.args.append c.description_of.result (omega (arith, c.push_reserved.ensures.len, c.len.ensures)) d
+    (with_numbers _ c.len.result _ s (c.len.ensures ∙ c.in_ok-reserve-3.ensures.len) refl
+    (with_room _ c.reserve.new.self.items c.reserve-2.new.self s c.in_ok-reserve.ensures.items c.in_ok-reserve-2.ensures.rest_kept before))
     (counted_room c.self.inside.held.items c.reserve.new.self.items c.self.inside.entries c.reserve-2.new.self c.in_ok-reserve.ensures.items c.in_ok-reserve-2.ensures.rest_kept c.self.invariant)
     c.add.ensures.listed c.add.ensures.linked c.add.ensures.pipes in
     opened_call _ c.open.new.self s c.args.pid c.args.number c.in-Ok.node c.args.how c.args.append _ (ap (λ files. opened files c.args.directory.now c.args.path.now c.args.how) (sym before.files) ∙ c.in-Ok.ensures.ok) stands
