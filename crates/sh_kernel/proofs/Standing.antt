@@ -6,16 +6,18 @@ use Rattle.slab.specs.Slab.{Slab}
 use Rattle.sh_files.specs.Nodes.{FileMap}
 use Rattle.sh_files.specs.declared.opening.Opening.{Opening}
 use Rattle.sh_pipe.specs.Pipe.{PipeState}
-use Rattle.sh_kernel_descriptors.specs.Closings.{Pipes, descriptors_left, pipes_left}
+use Rattle.sh_kernel_descriptors.specs.Closings.{Pipes, descriptors_left, pipe_of, pipes_left}
 use Rattle.sh_kernel_descriptors.specs.Counts as counts
 use Rattle.sh_kernel_descriptors.specs.Counts.{ends_listed, ends_pipes, with_ends, with_new}
 use Rattle.sh_kernel_descriptors.specs.Descriptors as names
-use Rattle.sh_kernel_descriptors.specs.Kept.{Among, IsCounted, Linked, PipesAgree, listed}
+use Rattle.sh_kernel_descriptors.specs.Kept.{Among, IsCounted, IsPaired, Linked, PipesAgree, listed}
 use Rattle.sh_kernel_descriptors.specs.Machine.{MachineState, after_close}
 use Rattle.sh_kernel_descriptors.specs.Naming.{with_number, with_pipe}
 use Rattle.sh_kernel_descriptors.specs.Opening.{description_of, open_result, target_of, with_node}
 use Rattle.sh_kernel_descriptors.specs.Outcomes.{GivesTo}
 use Rattle.sh_files.specs.declared.fault.FileFault.{FileFault}
+use Rattle.sh_files_image.specs.declared.node.Node.{Node}
+use Rattle.sh_files_image.specs.declared.node.Node.TheVariants as node
 use Rattle.sh_kernel_descriptors.specs.declared.descriptor.Closing.{Closing}
 use Rattle.sh_kernel_descriptors.specs.declared.descriptor.Closing.TheVariants.{Named}
 use Rattle.sh_kernel_descriptors.specs.declared.descriptor.DescriptorRef.{DescriptorRef}
@@ -156,3 +158,15 @@ pipes m hs entries left described piped s pid from to two one st c e l p =
           ∙ sym (pipes_left_length pid (Named (Number to)) (with_number (with_pipe s) pid from (length s.descriptions)).descriptors more (pipes_left pid (Named (Number from)) s.descriptors more (with_new s.pipes)));
       files = st.files;
     }
+
+pub paired_room : (made : ℕ) (entries entries' : Slab Entry) → entries' ≡ record entries { capacity = entries'.capacity } → IsPaired made entries → IsPaired made entries'
+paired_room made entries entries' f p =
+    subst (λ slab. IsPaired made slab) (sym f) (record { keys = p.keys; numbers = p.numbers })
+
+-- what is opened by a path is no end of a pipe
+pub no_end : (n : ℕ) (o : Option Node) → pipe_of (target_of n o) ≡ None
+no_end n None = refl
+no_end n (Some node.Directory) = refl
+no_end n (Some (node.File file)) = refl
+no_end n (Some node.Null) = refl
+no_end n (Some node.Terminal) = refl

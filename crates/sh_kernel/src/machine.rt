@@ -50,7 +50,7 @@ pub struct Machine {
 impl Model for Machine {
     ghost use Rattle.std.specs.Prelude.{vec_len};
     ghost use Rattle.sh_kernel.specs.Machine.{MachineKept};
-    ghost use Rattle.sh_kernel_descriptors.specs.Kept.{IsCounted};
+    ghost use Rattle.sh_kernel_descriptors.specs.Kept.{IsCounted, IsPaired};
     ghost use Rattle.sh_files_image.specs.Codes.{map_code};
     ghost use Rattle.std.specs.Coded.{codes};
 
@@ -68,7 +68,7 @@ impl Model for Machine {
       files = m.files;
     } };
 
-    ghost invariant = { λ m. IsCounted m.entries m.held.items };
+    ghost invariant = { λ m. IsCounted m.entries m.held.items × IsPaired (vec_len m.piped) m.entries };
 }
 
 impl Machine {
@@ -77,7 +77,7 @@ impl Machine {
     ghost use Rattle.sh_kernel_descriptors.specs.Opening.{for_reading, here_call, open_call, open_result};
     ghost use Rattle.sh_files.specs.Nodes.{nameless, opened};
     ghost use Rattle.sh_kernel_descriptors.specs.Starting.{starting};
-    ghost use Rattle.sh_kernel_descriptors.specs.Kept.{Among};
+    ghost use Rattle.sh_kernel_descriptors.specs.Kept.{Among, description_at, target_at};
     ghost use Rattle.sh_kernel_descriptors.specs.Machine.{MachineState, after_close, after_end};
     ghost use Rattle.sh_kernel_descriptors.specs.Outcomes.{GivesReadTo, GivesTo, LacksWhereGiven};
     ghost use Rattle.sh_kernel.specs.Machine.{GivesOrLacks, StandsAt};
@@ -102,6 +102,7 @@ impl Machine {
         let key = entries.insert_reserved(Entry {
             description: the_terminal(),
             count: 3,
+            other: None,
         });
         described.push_reserved(());
         held.push(Held {
@@ -162,6 +163,7 @@ impl Machine {
         buf: &mut [u8],
     ) -> Result<usize, KernelFault>
         ensures { (s : MachineState) → StandsAt self.old s → Among h self.old.held
+            → description_at self.old.entries h.key ≡ Some description
             → GivesReadTo (StandsAt self.new) result buf.old buf.new
             (read_target s (length buf.old) h.descriptor.description description.offset
             description.target) }
@@ -178,7 +180,7 @@ impl Machine {
             Target::Terminal => Err(KernelFault::BadDescriptor),
             Target::Null => Ok(0),
             Target::ReadEnd(pipe) => {
-                let writer = has_writer(&self.held, &self.entries, pipe);
+                let writer = self.is_written(pipe, h.key);
                 read_pipe(&mut self.pipes, pipe, writer, buf)
             },
             Target::WriteEnd(_) => Err(KernelFault::BadDescriptor),
@@ -227,29 +229,38 @@ impl Machine {
         write_pipe(&mut self.pipes, pipe, bytes)
     }
 
-    /// Whether the pipe has a reader.
-    fn is_read(&self, pipe: usize) -> bool
+    /// Whether the pipe whose end to write to is at a key has a reader.
+    fn is_read(&self, pipe: usize, key: usize) -> bool
         ensures { (s : MachineState) → StandsAt self.now s
+            → target_at self.now.entries key ≡ Some (Target.WriteEnd pipe)
             → result ≡ names.has_reader s.descriptors s.descriptions pipe }
     {
-        has_reader(&self.held, &self.entries, pipe)
+        has_reader(&self.entries, pipe, key)
     }
 
-    /// Whether the pipe has a writer.
-    fn is_written(&self, pipe: usize) -> bool
+    /// Whether the pipe whose end to read from is at a key has a writer.
+    fn is_written(&self, pipe: usize, key: usize) -> bool
         ensures { (s : MachineState) → StandsAt self.now s
+            → target_at self.now.entries key ≡ Some (Target.ReadEnd pipe)
             → result ≡ names.has_writer s.descriptors s.descriptions pipe }
     {
-        has_writer(&self.held, &self.entries, pipe)
+        has_writer(&self.entries, pipe, key)
     }
 
-    /// Writes to a pipe.
-    fn write_end(&mut self, pid: u32, pipe: usize, bytes: &[u8]) -> Result<usize, KernelFault>
+    /// Writes to a pipe whose end to write to is at a key.
+    fn write_end(
+        &mut self,
+        pid: u32,
+        pipe: usize,
+        key: usize,
+        bytes: &[u8],
+    ) -> Result<usize, KernelFault>
         ensures memory { IfErr result (λ fault. fault ≢ KernelFault.NoMemory no_memory) }
         ensures gives { (s : MachineState) → StandsAt self.old s
+            → target_at self.old.entries key ≡ Some (Target.WriteEnd pipe)
             → GivesTo (StandsAt self.new) result (write_end s pid pipe bytes.now) }
     {
-        if self.is_read(pipe) {
+        if self.is_read(pipe, key) {
             return self.fill(pipe, bytes);
         }
         self.break_pipe(pid)
@@ -291,6 +302,7 @@ impl Machine {
     ) -> Result<usize, KernelFault>
         requires { 0 < length bytes.now }
         ensures call { (s : MachineState) → StandsAt self.old s → Among h self.old.held
+            → description_at self.old.entries h.key ≡ Some description
             → GivesOrLacks result self.new s
             (write_target s pid bytes.now h.descriptor.description description description.target) }
         ensures room { (s : MachineState) → StandsAt self.old s → LacksWhereGiven result
@@ -304,7 +316,7 @@ impl Machine {
             Target::Terminal => Err(KernelFault::BadDescriptor),
             Target::Null => Ok(bytes.len()),
             Target::ReadEnd(_) => Err(KernelFault::BadDescriptor),
-            Target::WriteEnd(pipe) => self.write_end(pid, pipe, bytes),
+            Target::WriteEnd(pipe) => self.write_end(pid, pipe, h.key, bytes),
         }
     }
 
@@ -362,7 +374,8 @@ impl Machine {
 
     /// The description to which a descriptor refers, which is kept.
     fn description_by(&self, h: Held) -> Option<Description>
-        ensures { (s : MachineState) → StandsAt self.now s → Among h self.now.held
+        ensures kept { result ≡ description_at self.now.entries h.key }
+        ensures numbered { (s : MachineState) → StandsAt self.now s → Among h self.now.held
             → result ≡ slice_get s.descriptions h.descriptor.description }
     {
         described(&self.entries, h.key)

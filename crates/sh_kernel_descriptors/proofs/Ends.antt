@@ -3,7 +3,7 @@ use Rattle.std.proofs.Common.{◌≡◌, ℕ, zero, suc, List, [], ◌∷◌, Bo
 use Rattle.std.proofs.lemmas.Bool.{eqb-true}
 use Rattle.std.specs.List.{list_any}
 use Rattle.std.specs.Ordering.{is_eq, nat_cmp}
-use Rattle.std.specs.Option.{option_and_then, option_map_or}
+use Rattle.std.specs.Option.{option_and_then, option_map, option_map_or}
 use Rattle.slab.specs.Slab.{Slab}
 use Rattle.sh_pipe.specs.Pipe.{PipeState}
 use Rattle.sh_kernel_descriptors.specs.Descriptors as names
@@ -13,6 +13,7 @@ use Rattle.sh_kernel_descriptors.specs.Counts as counts
 use Rattle.sh_kernel_descriptors.specs.Kept.{Among, Linked, description_at, listed, number_at, pipe_made}
 use Rattle.sh_kernel_descriptors.specs.declared.descriptor.Closing.{Closing}
 use Rattle.sh_kernel_descriptors.specs.declared.description.Description.{Description}
+use Rattle.sh_kernel_descriptors.specs.declared.description.Target.{Target}
 use Rattle.sh_kernel_descriptors.specs.declared.kept.Entry.{Entry}
 use Rattle.sh_kernel_descriptors.specs.declared.kept.Held.{Held}
 use Rattle.sh_kernel_descriptors.proofs.Places.{apart, other_place}
@@ -24,11 +25,15 @@ Alike hs entries es = (h : Held) → Among h hs → description_at entries h.key
 pub later : (h : Held) (hs : List Held) (entries : Slab Entry) (es : List Description) → Alike (h ∷ hs) entries es → Alike hs entries es
 later h hs entries es same g a = same g (inr a)
 
+fused : (test : Target → Bool) (o : Option Description) → option_map_or (λ t. test t) (option_map (λ d. d.target) o) false ≡ option_map_or (λ e. test e.target) o false
+fused test None = refl
+fused test (Some d) = refl
+
 pub reader : (entries : Slab Entry) (es : List Description) (pipe : ℕ) (h : Held) → description_at entries h.key ≡ slice_get es h.descriptor.description → counts.is_reader entries pipe h ≡ names.is_reader es pipe h.descriptor
-reader entries es pipe h same = ap (λ o. option_map_or (λ e. names.reads_from pipe e.target) o false) same
+reader entries es pipe h same = fused (λ t. names.reads_from pipe t) (description_at entries h.key) ∙ ap (λ o. option_map_or (λ e. names.reads_from pipe e.target) o false) same
 
 pub writer : (entries : Slab Entry) (es : List Description) (pipe : ℕ) (h : Held) → description_at entries h.key ≡ slice_get es h.descriptor.description → counts.is_writer entries pipe h ≡ names.is_writer es pipe h.descriptor
-writer entries es pipe h same = ap (λ o. option_map_or (λ e. names.writes_to pipe e.target) o false) same
+writer entries es pipe h same = fused (λ t. names.writes_to pipe t) (description_at entries h.key) ∙ ap (λ o. option_map_or (λ e. names.writes_to pipe e.target) o false) same
 
 readers_of : (hs : List Held) (entries : Slab Entry) (es : List Description) (pipe : ℕ) → Alike hs entries es → list_any (counts.is_reader entries pipe) hs ≡ names.has_reader (listed hs) es pipe
 readers_of [] entries es pipe same = refl

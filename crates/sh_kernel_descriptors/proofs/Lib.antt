@@ -9,3 +9,4 @@ pub mod Copying
 pub mod Moving
 pub mod Slots
 pub mod Finding
+pub mod Pairs

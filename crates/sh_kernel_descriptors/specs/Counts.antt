@@ -2,19 +2,20 @@
 use Rattle.std.specs.Prelude as prelude
 use Rattle.std.specs.Prelude.{ℕ, ◌==◌, ◌&&◌, ◌||◌, ◌+◌, ◌-◌, ◌++◌, List, [], ◌∷◌, map, filter, min, Bool, true, false, not, Option, Some, None, if◌then◌else◌, nat_le, position, slice_get, slice_set}
 use Rattle.std.specs.List.{list_any}
-use Rattle.std.specs.Option.{option_map, option_map_or}
+use Rattle.std.specs.Option.{option_and_then, option_map, option_map_or}
 use Rattle.slab.specs.Slab.{Slab}
 use Rattle.sh_pipe.specs.Pipe.{PipeState}
 use Rattle.sh_kernel_descriptors.specs.Descriptors.{is_named, reads_from, writes_to}
 use Rattle.sh_kernel_descriptors.specs.declared.descriptor.DescriptorRef.{DescriptorRef}
 use Rattle.sh_kernel_descriptors.specs.Closings as closings
 use Rattle.sh_kernel_descriptors.specs.declared.description.Description.{Description}
-use Rattle.sh_kernel_descriptors.specs.Kept.{description_at, number_at}
+use Rattle.sh_kernel_descriptors.specs.Kept.{number_at, other_at, target_at}
 use Rattle.sh_kernel_descriptors.specs.Naming as naming
 use Rattle.sh_kernel_descriptors.specs.Processes as processes
 use Rattle.sh_kernel_descriptors.specs.declared.descriptor.Closing.TheVariants.{Named}
 use Rattle.sh_kernel_descriptors.specs.declared.descriptor.Descriptor.{Descriptor}
 use Rattle.sh_kernel_descriptors.specs.declared.descriptor.DescriptorRef.TheVariants.{Number}
+use Rattle.sh_kernel_descriptors.specs.declared.description.Target.{Target}
 use Rattle.sh_kernel_descriptors.specs.declared.description.Target.TheVariants.{ReadEnd, WriteEnd}
 use Rattle.sh_kernel_descriptors.specs.declared.descriptor.Closing.{Closing}
 use Rattle.sh_kernel_descriptors.specs.declared.kept.Entry.{Entry}
@@ -83,16 +84,31 @@ abbrev pub moved : ℕ → Option Entry → Option Entry
 moved offset None = None
 moved offset (Some e) = Some (record e { description = record e.description { offset = offset } })
 
+-- an end of a pipe has the key of the other end now
+abbrev pub joined : ℕ → Option Entry → Option Entry
+joined key None = None
+joined key (Some e) = Some (record e { other = Some key })
+
 -- the process's descriptor of this name
 abbrev pub find : List Held → ℕ → DescriptorRef → Option Held
 find hs pid name = option_map (λ h. h) (prelude.find (is_of_name pid name) hs)
 
 -- ---- the ends of a pipe
+abbrev pub is_read_end : ℕ → Option Target → Bool
+is_read_end p target = option_map_or (λ t. reads_from p t) target false
+
+abbrev pub is_write_end : ℕ → Option Target → Bool
+is_write_end p target = option_map_or (λ t. writes_to p t) target false
+
+-- what is open at the other end
+abbrev pub other_target : Slab Entry → ℕ → Option Target
+other_target entries key = option_and_then (λ k. target_at entries k) (other_at entries key)
+
 abbrev pub is_reader : Slab Entry → ℕ → Held → Bool
-is_reader entries p h = option_map_or (λ e. reads_from p e.target) (description_at entries h.key) false
+is_reader entries p h = is_read_end p (target_at entries h.key)
 
 abbrev pub is_writer : Slab Entry → ℕ → Held → Bool
-is_writer entries p h = option_map_or (λ e. writes_to p e.target) (description_at entries h.key) false
+is_writer entries p h = is_write_end p (target_at entries h.key)
 
 abbrev pub is_end : Slab Entry → ℕ → Held → Bool
 is_end entries p h = is_reader entries p h || is_writer entries p h

@@ -1,6 +1,6 @@
 -- What is kept of descriptors, open file descriptions and pipes: those that are referred to. All that were ever made are
 -- listed by number; what is kept agrees with these lists on all that descriptors name.
-use Rattle.std.specs.Prelude.{◌≡◌, ◌⊎◌, ℕ, zero, suc, ◌==◌, List, [], ◌∷◌, Option, Some, None, if◌then◌else◌, slice_get}
+use Rattle.std.specs.Prelude.{◌≡◌, ◌<◌, ◌⊎◌, ℕ, zero, suc, ◌==◌, List, [], ◌∷◌, Option, Some, None, if◌then◌else◌, slice_get}
 use Rattle.std.specs.Option.{option_map, option_and_then}
 use Rattle.std.specs.Ordering.{nat_cmp}
 use Rattle.std.specs.BTreeMap.{is_at}
@@ -11,6 +11,8 @@ use Rattle.sh_pipe.specs.Pipe.{PipeState}
 use Rattle.sh_kernel_descriptors.specs.Closings.{Pipes, pipe_of}
 use Rattle.sh_kernel_descriptors.specs.declared.descriptor.Descriptor.{Descriptor}
 use Rattle.sh_kernel_descriptors.specs.declared.description.Description.{Description}
+use Rattle.sh_kernel_descriptors.specs.declared.description.Target.{Target}
+use Rattle.sh_kernel_descriptors.specs.declared.description.Target.TheVariants.{ReadEnd, WriteEnd}
 use Rattle.sh_kernel_descriptors.specs.declared.kept.Entry.{Entry}
 use Rattle.sh_kernel_descriptors.specs.declared.kept.Held.{Held}
 
@@ -48,6 +50,23 @@ pub record Linked (hs : List Held) (entries : Slab Entry) (es : List Description
   pub descriptions : (h : Held) → Among h hs → description_at entries h.key ≡ slice_get es h.descriptor.description
   pub keys : (h i : Held) → Among h hs → Among i hs → (h.key == i.key) ≡ (h.descriptor.description == i.descriptor.description)
 
+-- ---- the ends of pipes
+abbrev pub target_at : Slab Entry → ℕ → Option Target
+target_at entries key = option_map (λ e. e.target) (description_at entries key)
+
+abbrev pub other_at : Slab Entry → ℕ → Option ℕ
+other_at entries key = option_and_then (λ e. e.other) (slab.get entries key)
+
+-- what is open at a key, and the key of the other end
+abbrev pub end_at : Slab Entry → ℕ → Option (Target × Option ℕ)
+end_at entries key = option_map (λ e. (e.description.target, e.other)) (slab.get entries key)
+
+-- where both ends of a pipe are kept, each has the key of the other; and so many pipes were ever made
+pub record IsPaired (made : ℕ) (entries : Slab Entry) : Type 0 where
+  pub keys : (pipe reads writes : ℕ) (o o' : Option ℕ) → end_at entries reads ≡ Some (ReadEnd pipe, o) → end_at entries writes ≡ Some (WriteEnd pipe, o') → (o ≡ Some writes) × (o' ≡ Some reads)
+  pub numbers : (pipe key : ℕ) (target : Target) (o : Option ℕ) → end_at entries key ≡ Some (target, o) → pipe_of target ≡ Some pipe → pipe < made
+
+-- ---- pipes
 -- the pipes that are left, by number
 abbrev pub pipe_kept : List (ℕ × PipeState) → ℕ → Option PipeState
 pipe_kept pipes p = lookup (is_at (nat_cmp p)) pipes

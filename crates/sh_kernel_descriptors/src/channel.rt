@@ -55,13 +55,9 @@ impl Channel {
         ensures buffer { buf.new ≡ read_buffer self.old buf.old has_writer }
         ensures pipe { self.new ≡ after_read self.old (length buf.old) has_writer }
     {
-        match self.pipe.read_into(buf, has_writer) {
-            Ok(count) => {
-                self.held = self.held.saturating_sub(count);
-                Ok(count)
-            },
-            Err(fault) => Err(fault),
-        }
+        let count = self.pipe.read_into(buf, has_writer)?;
+        self.held = self.held.saturating_sub(count);
+        Ok(count)
     }
 
     /// Writes as [`Pipe::write`] does.
@@ -69,13 +65,9 @@ impl Channel {
         ensures result { result ≡ write_result self.old bytes.now has_reader }
         ensures pipe { self.new ≡ after_write self.old bytes.now has_reader }
     {
-        match self.pipe.write(bytes, has_reader) {
-            Ok(count) => {
-                self.held += count;
-                Ok(count)
-            },
-            Err(fault) => Err(fault),
-        }
+        let count = self.pipe.write(bytes, has_reader)?;
+        self.held += count;
+        Ok(count)
     }
 
     /// Whether a read would wait.

@@ -1,27 +1,23 @@
 //! Finding and closing descriptors.
-ghost use Rattle.std.specs.Prelude.{◌≡◌, ◌≤◌, ◌++◌, ◌==◌, ℕ, List, None, if◌then◌else◌, vec_len, vec_capacity};
-ghost use Rattle.std.specs.List.{list_any};
+ghost use Rattle.std.specs.Prelude.{◌≡◌, ◌≤◌, ◌++◌, ◌==◌, ℕ, List, None, Some, if◌then◌else◌, vec_len, vec_capacity};
 ghost use Rattle.sh_kernel_descriptors.specs.Descriptors as names;
 ghost use Rattle.sh_kernel_descriptors.specs.Closings as closings;
 ghost use Rattle.sh_kernel_descriptors.specs.Closings.{Pipes};
 ghost use Rattle.sh_kernel_descriptors.specs.Counts as counts;
-ghost use Rattle.sh_kernel_descriptors.specs.Kept.{IsCounted, Linked, PipesAgree, listed, number_at, pipe_kept};
+ghost use Rattle.sh_kernel_descriptors.specs.Kept.{IsCounted, IsPaired, Linked, PipesAgree, listed, number_at, pipe_kept, target_at};
 ghost use Rattle.sh_kernel_descriptors.specs.declared.description.Description.{Description as TheDescription};
 
 use crate::channel::Channel;
 use crate::description::Target;
 use crate::descriptor::{Closing, Descriptor, DescriptorRef};
-use crate::kept::{Entry, Held, described, release_each};
+use crate::kept::{Entry, Held, described, other_of, release_each};
 use slab::Slab;
 use std::collections::BTreeMap;
 
 fn is_number(number: u8, of: Option<u8>) -> bool
     ensures { result ≡ names.is_number number of }
 {
-    match of {
-        Some(n) => n == number,
-        None => false,
-    }
+    of.is_some_and(|n| n == number)
 }
 
 /// Whether this is the name of a descriptor in its process.
@@ -41,90 +37,66 @@ pub(crate) fn is_named(pid: u32, name: DescriptorRef, d: &Descriptor) -> bool
     d.pid == pid && is_called(name, d)
 }
 
-/// Whether a descriptor that is kept is the process's descriptor of this name.
-pub(crate) fn is_of_name(pid: u32, name: DescriptorRef, h: &Held) -> bool
-    ensures { result ≡ counts.is_of_name pid name h.now }
-{
-    is_named(pid, name, &h.descriptor)
-}
-
 /// The process's descriptor of this name.
 pub fn find(held: &[Held], pid: u32, name: DescriptorRef) -> Option<Held>
     ensures { result ≡ counts.find held.now pid name }
 {
-    held.iter().find(|h| is_of_name(pid, name, h)).map(|h| *h)
+    held.iter()
+        .find(|h| is_named(pid, name, &h.descriptor))
+        .map(|h| *h)
 }
 
-fn reads_from(pipe: usize, target: Target) -> bool
-    ensures { result ≡ names.reads_from pipe target }
+/// What is open at a key.
+fn target_at(entries: &Slab<Entry>, key: usize) -> Option<Target>
+    ensures { result ≡ target_at entries.now key }
+{
+    Some(described(entries, key)?.target)
+}
+
+/// What is open at the other end of the pipe of which an end is at a key.
+fn other_target(entries: &Slab<Entry>, key: usize) -> Option<Target>
+    ensures { result ≡ counts.other_target entries.now key }
+{
+    target_at(entries, other_of(entries, key)?)
+}
+
+fn is_read_end(pipe: usize, target: Option<Target>) -> bool
+    ensures { result ≡ counts.is_read_end pipe target }
 {
     match target {
-        Target::ReadEnd(p) => p == pipe,
-        Target::File(_) => false,
-        Target::Terminal => false,
-        Target::Null => false,
-        Target::WriteEnd(_) => false,
+        Some(Target::ReadEnd(p)) => p == pipe,
+        _ => false,
     }
 }
 
-fn writes_to(pipe: usize, target: Target) -> bool
-    ensures { result ≡ names.writes_to pipe target }
+fn is_write_end(pipe: usize, target: Option<Target>) -> bool
+    ensures { result ≡ counts.is_write_end pipe target }
 {
     match target {
-        Target::WriteEnd(p) => p == pipe,
-        Target::File(_) => false,
-        Target::Terminal => false,
-        Target::Null => false,
-        Target::ReadEnd(_) => false,
+        Some(Target::WriteEnd(p)) => p == pipe,
+        _ => false,
     }
 }
 
-fn is_reader(entries: &Slab<Entry>, pipe: usize, h: &Held) -> bool
-    ensures { result ≡ counts.is_reader entries.now pipe h.now }
+/// Whether some descriptor refers to the end to read from of a pipe whose end to write to is at a key. The two ends know
+/// each other's keys, so no descriptors are gone through.
+pub fn has_reader(entries: &Slab<Entry>, pipe: usize, key: usize) -> bool
+    ensures { (made : ℕ) (held : List Held) (es : List TheDescription) → IsPaired made entries.now
+        → IsCounted entries.now held → Linked held entries.now es
+        → target_at entries.now key ≡ Some (Target.WriteEnd pipe)
+        → result ≡ names.has_reader (listed held) es pipe }
 {
-    match described(entries, h.key) {
-        Some(e) => reads_from(pipe, e.target),
-        None => false,
-    }
+    is_read_end(pipe, other_target(entries, key))
 }
 
-fn is_writer(entries: &Slab<Entry>, pipe: usize, h: &Held) -> bool
-    ensures { result ≡ counts.is_writer entries.now pipe h.now }
+/// Whether some descriptor refers to the end to write to of a pipe whose end to read from is at a key.
+pub fn has_writer(entries: &Slab<Entry>, pipe: usize, key: usize) -> bool
+    ensures { (made : ℕ) (held : List Held) (es : List TheDescription) → IsPaired made entries.now
+        → IsCounted entries.now held → Linked held entries.now es
+        → target_at entries.now key ≡ Some (Target.ReadEnd pipe)
+        → result ≡ names.has_writer (listed held) es pipe }
 {
-    match described(entries, h.key) {
-        Some(e) => writes_to(pipe, e.target),
-        None => false,
-    }
-}
-
-fn reads_it(held: &[Held], entries: &Slab<Entry>, pipe: usize) -> bool
-    ensures { result ≡ list_any (counts.is_reader entries.now pipe) held.now }
-{
-    held.iter().any(|h| is_reader(entries, pipe, h))
-}
-
-fn writes_it(held: &[Held], entries: &Slab<Entry>, pipe: usize) -> bool
-    ensures { result ≡ list_any (counts.is_writer entries.now pipe) held.now }
-{
-    held.iter().any(|h| is_writer(entries, pipe, h))
-}
-
-/// Whether some descriptor refers to an end of the pipe to read from.
-#[tactic(auto, using(crate::proofs::Ends::readers))]
-pub fn has_reader(held: &[Held], entries: &Slab<Entry>, pipe: usize) -> bool
-    ensures { (es : List TheDescription) → Linked held.now entries.now es
-        → result ≡ names.has_reader (listed held.now) es pipe }
-{
-    reads_it(held, entries, pipe)
-}
-
-/// Whether some descriptor refers to an end of the pipe to write to.
-#[tactic(auto, using(crate::proofs::Ends::writers))]
-pub fn has_writer(held: &[Held], entries: &Slab<Entry>, pipe: usize) -> bool
-    ensures { (es : List TheDescription) → Linked held.now entries.now es
-        → result ≡ names.has_writer (listed held.now) es pipe }
-{
-    writes_it(held, entries, pipe)
+    is_write_end(pipe, other_target(entries, key))
 }
 
 /// Whether a descriptor is closed.
@@ -150,9 +122,7 @@ fn pipe_of(target: Target) -> Option<usize>
     match target {
         Target::ReadEnd(pipe) => Some(pipe),
         Target::WriteEnd(pipe) => Some(pipe),
-        Target::File(_) => None,
-        Target::Terminal => None,
-        Target::Null => None,
+        _ => None,
     }
 }
 
@@ -160,16 +130,14 @@ fn pipe_of(target: Target) -> Option<usize>
 pub fn pipe_named(entries: &Slab<Entry>, key: usize) -> Option<usize>
     ensures { result ≡ number_at entries.now key }
 {
-    match described(entries, key) {
-        Some(e) => pipe_of(e.target),
-        None => None,
-    }
+    pipe_of(described(entries, key)?.target)
 }
 
 fn is_end(entries: &Slab<Entry>, pipe: usize, h: &Held) -> bool
     ensures { result ≡ counts.is_end entries.now pipe h.now }
 {
-    is_reader(entries, pipe, h) || is_writer(entries, pipe, h)
+    let target = target_at(entries, h.key);
+    is_read_end(pipe, target) || is_write_end(pipe, target)
 }
 
 /// Whether a descriptor stays and refers to an end of the pipe.
@@ -259,6 +227,7 @@ pub fn close(
         → IsCounted entries.new (more ++ held.new.items) }
     ensures linked { (more : List Held) (es : List TheDescription) → IsCounted entries.old (more ++ held.old.items)
         → Linked (more ++ held.old.items) entries.old es → Linked (more ++ held.new.items) entries.new es }
+    ensures paired { (made : ℕ) → IsPaired made entries.old → IsPaired made entries.new }
     ensures pipes { (es : List TheDescription) (ps : Pipes) → Linked held.old.items entries.old es
         → PipesAgree pipes.old.entries ps → PipesAgree pipes.new.entries (closings.pipes_left pid closing (listed held.old.items) es ps) }
     ensures len { vec_len held.new ≤ vec_len held.old }

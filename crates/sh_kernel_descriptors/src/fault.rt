@@ -45,16 +45,7 @@ impl KernelFault {
     pub fn is_wait(self) -> bool
         ensures { result ≡ is_wait self }
     {
-        match self {
-            KernelFault::WouldWait => true,
-            KernelFault::BadDescriptor => false,
-            KernelFault::NoProcess => false,
-            KernelFault::TooManyProcesses => false,
-            KernelFault::TooManyDescriptors => false,
-            KernelFault::BrokenPipe => false,
-            KernelFault::File(_) => false,
-            KernelFault::NoMemory(_) => false,
-        }
+        matches!(self, KernelFault::WouldWait)
     }
 }
 

@@ -1,19 +1,18 @@
 //! Numbers of descriptors.
-ghost use Rattle.std.specs.Prelude.{◌≡◌, ◌==◌, ◌+◌, ◌++◌, ◌∷◌, [], ◌≤◌, ◌<◌, ◌^◌, if◌then◌else◌, ℕ, List, OnErr, OnOk, Some, length, position, vec_len, vec_capacity};
-ghost use Rattle.slab.specs.Slab.{HasRoomFor};
+ghost use Rattle.std.specs.Prelude.{◌≡◌, ◌==◌, ◌+◌, ◌++◌, ◌∷◌, [], ◌≤◌, ◌<◌, ◌^◌, if◌then◌else◌, ℕ, List, None, OnErr, OnOk, Some, length, position, vec_len, vec_capacity};
 ghost use Rattle.slab.specs.Slab as slab;
-ghost use Rattle.sh_kernel_descriptors.specs.Closings.{Pipes, descriptors_left, pipes_left};
+ghost use Rattle.sh_kernel_descriptors.specs.Closings.{Pipes, descriptors_left, pipe_of, pipes_left};
 ghost use Rattle.sh_kernel_descriptors.specs.Counts as counts;
-ghost use Rattle.sh_kernel_descriptors.specs.Kept.{Among, IsCounted, Linked, PipesAgree, listed, pipe_kept};
+ghost use Rattle.sh_kernel_descriptors.specs.Kept.{Among, IsCounted, IsPaired, Linked, PipesAgree, listed, pipe_kept};
 ghost use Rattle.sh_kernel_descriptors.specs.Naming as naming;
 ghost use Rattle.sh_kernel_descriptors.specs.declared.description.Description.{Description as TheDescription};
 ghost use Rattle.sh_kernel_descriptors.specs.declared.kept.Entry.{Entry as TheEntry};
 
 use crate::channel::Channel;
-use crate::closing::{close, is_of_name};
+use crate::closing::{close, is_named};
 use crate::description::{Description, Target};
 use crate::descriptor::{Closing, Descriptor, DescriptorRef};
-use crate::kept::{Entry, Held, share};
+use crate::kept::{Entry, Held, join, keep_new, share};
 use slab::Slab;
 use std::alloc::{AllocError, Global};
 use std::collections::BTreeMap;
@@ -32,10 +31,7 @@ pub fn is_allowed(number: u8) -> bool
 pub fn is_description(k: usize, found: Option<usize>) -> bool
     ensures { result ≡ naming.is_description k found }
 {
-    match found {
-        Some(j) => j == k,
-        None => false,
-    }
+    found.is_some_and(|j| j == k)
 }
 
 /// The description of an end of a pipe, to read from or to write to.
@@ -53,7 +49,6 @@ pub fn end_of(target: Target, reading: bool) -> Description
 
 /// Makes a number of a process refer to a description; what it referred to is closed first (XSH dup2). The entry counts
 /// the new descriptor already, and the list has to have room for it.
-
 fn give_number(
     pid: u32,
     number: u8,
@@ -70,6 +65,7 @@ fn give_number(
         → IsCounted entries.new (more ++ held.new.items) }
     ensures linked { (more : List Held) (es : List TheDescription) → IsCounted entries.old (more ++ counts.given pid number k key ∷ held.old.items)
         → Linked (more ++ counts.given pid number k key ∷ held.old.items) entries.old es → Linked (more ++ held.new.items) entries.new es }
+    ensures paired { (made : ℕ) → IsPaired made entries.old → IsPaired made entries.new }
     ensures pipes { (es : List TheDescription) (ps : Pipes) → Linked held.old.items entries.old es → PipesAgree pipes.old.entries ps
         → PipesAgree pipes.new.entries (pipes_left pid (Closing.Named (DescriptorRef.Number number)) (listed held.old.items) es ps) }
     ensures len { vec_len held.new ≤ vec_len held.old + 1 }
@@ -96,7 +92,7 @@ fn give_number(
 fn place_of(held: &[Held], pid: u32, name: DescriptorRef) -> Option<usize>
     ensures { result ≡ position (counts.is_of_name pid name) held.now }
 {
-    held.iter().position(|h| is_of_name(pid, name, h))
+    held.iter().position(|h| is_named(pid, name, &h.descriptor))
 }
 
 /// Gives the first descriptor of this name another number, or none.
@@ -155,13 +151,14 @@ pub fn refer(
     ensures linked { (es : List TheDescription) → Among to held.old.items
         → IsCounted entries.old held.old.items → Linked held.old.items entries.old es
         → Linked held.new.items entries.new es }
+    ensures paired { (made : ℕ) → IsPaired made entries.old → IsPaired made entries.new }
     ensures pipes { (es : List TheDescription) (ps : Pipes) → Linked held.old.items entries.old es
         → PipesAgree pipes.old.entries ps
         → PipesAgree pipes.new.entries
         (pipes_left pid (Closing.Named (DescriptorRef.Number number)) (listed held.old.items) es ps) }
 {
     is_short(held);
-    share(entries, to.key);
+    share(entries, &to);
     let description = to.descriptor.description;
     give_number(pid, number, description, to.key, held, entries, pipes);
 }
@@ -178,7 +175,7 @@ pub fn add(
     pipes: &mut BTreeMap<usize, Channel>,
 )
     requires list { vec_len held.old < vec_capacity held.old }
-    requires room { HasRoomFor entries.old 1 }
+    requires room { slab.HasRoomFor entries.old 1 }
     ensures listed { listed held.new.items
         ≡ descriptors_left pid (Closing.Named (DescriptorRef.Number number)) (listed held.old.items)
         ++ record { pid = pid; number = Some number; description = k } ∷ [] }
@@ -186,6 +183,8 @@ pub fn add(
     ensures linked { (es : List TheDescription) → k ≡ length es
         → IsCounted entries.old held.old.items → Linked held.old.items entries.old es
         → Linked held.new.items entries.new (es ++ description ∷ []) }
+    ensures paired { (made : ℕ) → pipe_of description.target ≡ None → IsPaired made entries.old
+        → IsPaired made entries.new }
     ensures pipes { (es : List TheDescription) (ps : Pipes) → k ≡ length es
         → IsCounted entries.old held.old.items → Linked held.old.items entries.old es
         → PipesAgree pipes.old.entries ps
@@ -193,10 +192,7 @@ pub fn add(
         (pipes_left pid (Closing.Named (DescriptorRef.Number number)) (listed held.old.items)
         (es ++ description ∷ []) ps) }
 {
-    let key = entries.insert_reserved(Entry {
-        description,
-        count: 1,
-    });
+    let key = keep_new(entries, description, None);
     give_number(pid, number, k, key, held, entries, pipes);
 }
 
@@ -232,26 +228,22 @@ fn add_ends(
     pipes: &mut BTreeMap<usize, Channel>,
 )
     requires list { vec_len held.old + 2 ≤ vec_capacity held.old }
-    requires room { HasRoomFor entries.old 2 }
+    requires room { slab.HasRoomFor entries.old 2 }
     requires fits { k + 1 < 2 ^ 64 }
     ensures listed { listed held.new.items ≡ counts.ends_listed pid from to k (listed held.old.items) }
     ensures counted { IsCounted entries.old held.old.items → IsCounted entries.new held.new.items }
     ensures linked { (es : List TheDescription) → k ≡ length es
         → IsCounted entries.old held.old.items → Linked held.old.items entries.old es
         → Linked held.new.items entries.new (counts.with_ends pipe es) }
+    ensures paired { IsPaired pipe entries.old → IsPaired (pipe + 1) entries.new }
     ensures pipes { (es : List TheDescription) (ps : Pipes) → k ≡ length es
         → IsCounted entries.old held.old.items → Linked held.old.items entries.old es
         → PipesAgree pipes.old.entries ps
         → PipesAgree pipes.new.entries (counts.ends_pipes pid from to k (listed held.old.items) (counts.with_ends pipe es) ps) }
 {
-    let first = entries.insert_reserved(Entry {
-        description: end_of(Target::ReadEnd(pipe), true),
-        count: 1,
-    });
-    let second = entries.insert_reserved(Entry {
-        description: end_of(Target::WriteEnd(pipe), false),
-        count: 1,
-    });
+    let first = keep_new(entries, end_of(Target::ReadEnd(pipe), true), None);
+    let second = keep_new(entries, end_of(Target::WriteEnd(pipe), false), Some(first));
+    join(entries, first, second);
     give_number(pid, from, k, first, held, entries, pipes);
     give_number(pid, to, k + 1, second, held, entries, pipes);
 }
@@ -271,13 +263,14 @@ pub fn add_pipe(
     pipes: &mut BTreeMap<usize, Channel>,
 ) -> Result<(), AllocError>
     requires list { vec_len held.old + 2 ≤ vec_capacity held.old }
-    requires room { HasRoomFor entries.old 2 }
+    requires room { slab.HasRoomFor entries.old 2 }
     requires fits { k + 1 < 2 ^ 64 }
     ensures listed { OnOk result (listed held.new.items ≡ counts.ends_listed pid from to k (listed held.old.items)) }
     ensures counted { OnOk result (IsCounted entries.old held.old.items → IsCounted entries.new held.new.items) }
     ensures linked { OnOk result ((es : List TheDescription) → k ≡ length es
         → IsCounted entries.old held.old.items → Linked held.old.items entries.old es
         → Linked held.new.items entries.new (counts.with_ends pipe es)) }
+    ensures paired { OnOk result (IsPaired pipe entries.old → IsPaired (pipe + 1) entries.new) }
     ensures pipes { OnOk result ((es : List TheDescription) (ps : Pipes) → k ≡ length es → pipe ≡ length ps
         → IsCounted entries.old held.old.items → Linked held.old.items entries.old es
         → PipesAgree pipes.old.entries ps

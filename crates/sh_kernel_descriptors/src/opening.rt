@@ -16,9 +16,7 @@ pub fn target_of(files: &Files, node: usize) -> Target
     match files.node(node) {
         Some(Node::Null) => Target::Null,
         Some(Node::Terminal) => Target::Terminal,
-        Some(Node::File(_)) => Target::File(node),
-        Some(Node::Directory) => Target::File(node),
-        None => Target::File(node),
+        _ => Target::File(node),
     }
 }
 
@@ -63,11 +61,5 @@ pub fn to_terminal(number: u8) -> Descriptor
 pub fn is_of_terminal(description: &Description) -> bool
     ensures { result ≡ is_of_terminal description.now }
 {
-    match description.target {
-        Target::Terminal => true,
-        Target::File(_) => false,
-        Target::Null => false,
-        Target::ReadEnd(_) => false,
-        Target::WriteEnd(_) => false,
-    }
+    matches!(description.target, Target::Terminal)
 }

@@ -2,7 +2,7 @@
 ghost use Rattle.std.specs.Prelude.{◌≡◌, ◌≤◌, ◌<◌, ◌++◌, ℕ, List, length, drop, IfOk, OnOk, OnErr, vec_len, vec_capacity, option_copied};
 ghost use Rattle.slab.specs.Slab as slab;
 ghost use Rattle.sh_kernel_descriptors.specs.Counts as counts;
-ghost use Rattle.sh_kernel_descriptors.specs.Kept.{IsCounted, Linked, listed};
+ghost use Rattle.sh_kernel_descriptors.specs.Kept.{IsCounted, IsPaired, Linked, listed};
 ghost use Rattle.sh_kernel_descriptors.specs.declared.description.Description.{Description as TheDescription};
 ghost use Rattle.sh_kernel_descriptors.specs.Processes as processes;
 
@@ -35,10 +35,7 @@ fn process_at(all: &[Process], pid: u32) -> Option<Process>
 pub fn status_at(all: &[Process], pid: u32) -> Option<Status>
     ensures { result ≡ processes.status_at all.now pid }
 {
-    match process_at(all, pid) {
-        Some(process) => Some(process.status),
-        None => None,
-    }
+    Some(process_at(all, pid)?.status)
 }
 
 fn is_live(status: Status) -> bool
@@ -62,10 +59,7 @@ fn is_living(process: &Process) -> bool
 pub fn lives(all: &[Process], pid: u32) -> bool
     ensures { result ≡ processes.lives all.now pid }
 {
-    match process_at(all, pid) {
-        Some(process) => is_live(process.status),
-        None => false,
-    }
+    process_at(all, pid).is_some_and(|process| is_living(&process))
 }
 
 fn live_count(all: &[Process]) -> usize
@@ -86,14 +80,11 @@ pub fn may_fork(all: &[Process]) -> bool
 pub fn parent_at(all: &[Process], pid: u32) -> Option<u32>
     ensures { result ≡ processes.parent_at all.now pid }
 {
-    match process_at(all, pid) {
-        Some(process) => Some(if lives(all, process.maker) {
-            process.maker
-        } else {
-            1
-        }),
-        None => None,
+    let maker = process_at(all, pid)?.maker;
+    if lives(all, maker) {
+        return Some(maker);
     }
+    Some(1)
 }
 
 /// Gives a process a status.
@@ -175,6 +166,7 @@ pub fn copy_all(
     ensures counted { OnOk result (IsCounted entries.old held.old.items → IsCounted entries.new held.new.items) }
     ensures linked { OnOk result ((es : List TheDescription) → Linked held.old.items entries.old es
         → Linked held.new.items entries.new es) }
+    ensures paired { OnOk result ((made : ℕ) → IsPaired made entries.old → IsPaired made entries.new) }
     ensures held { OnErr result (held.new.items ≡ held.old.items) }
     ensures entries { OnErr result (entries.new ≡ entries.old) }
 {
@@ -187,19 +179,13 @@ pub fn copy_all(
 fn is_child(all: &[Process], pid: u32, child: u32) -> bool
     ensures { result ≡ processes.is_child all.now pid child }
 {
-    match process_at(all, child) {
-        Some(process) => process.maker == pid,
-        None => false,
-    }
+    process_at(all, child).is_some_and(|process| process.maker == pid)
 }
 
 fn has_ended(all: &[Process], pid: u32) -> bool
     ensures { result ≡ processes.has_ended all.now pid }
 {
-    match process_at(all, pid) {
-        Some(process) => !is_live(process.status),
-        None => false,
-    }
+    process_at(all, pid).is_some_and(|process| !is_living(&process))
 }
 
 /// Whether each of these is a child of the process.

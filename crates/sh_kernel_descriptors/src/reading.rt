@@ -1,7 +1,7 @@
 //! Reads, over the parts that they change.
 ghost use Rattle.std.specs.Prelude.{◌≡◌, ◌+◌, ◌-◌, ◌≤◌, ◌<◌, ◌++◌, ◌==◌, ℕ, List, false, length, take, drop};
 ghost use Rattle.sh_kernel_descriptors.specs.Closings.{Pipes};
-ghost use Rattle.sh_kernel_descriptors.specs.Kept.{Among, IsCounted, Linked, PipesAgree, pipe_kept};
+ghost use Rattle.sh_kernel_descriptors.specs.Kept.{Among, IsCounted, IsPaired, Linked, PipesAgree, pipe_kept};
 ghost use Rattle.sh_kernel_descriptors.specs.Outcomes.{GivesRead, GivesReadTo};
 ghost use Rattle.sh_kernel_descriptors.specs.declared.description.Description.{Description as TheDescription};
 ghost use Rattle.sh_kernel_descriptors.specs.Reading as reading;
@@ -53,9 +53,7 @@ fn read_node(
     match files.node(node) {
         Some(Node::File(file)) => Ok(read_content(file.bytes(), offset, buf)),
         Some(Node::Null) => Ok(0),
-        Some(Node::Directory) => Err(KernelFault::BadDescriptor),
-        Some(Node::Terminal) => Err(KernelFault::BadDescriptor),
-        None => Err(KernelFault::BadDescriptor),
+        _ => Err(KernelFault::BadDescriptor),
     }
 }
 
@@ -70,6 +68,7 @@ pub fn read_file(
     buf: &mut [u8],
 ) -> Result<usize, KernelFault>
     ensures counted { (hs : List Held) → IsCounted entries.old hs → IsCounted entries.new hs }
+    ensures paired { (made : ℕ) → IsPaired made entries.old → IsPaired made entries.new }
     ensures gives { (hs : List Held) (es : List TheDescription) → Among h hs → Linked hs entries.old es
         → GivesReadTo (Linked hs entries.new) result buf.old buf.new
         (reading.read_file files.now es h.descriptor.description node offset (length buf.old)) }

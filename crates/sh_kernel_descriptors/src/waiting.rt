@@ -50,11 +50,5 @@ pub fn write_pipe_waits(pipes: &BTreeMap<usize, Channel>, pipe: usize, count: us
 pub fn is_running(status: Option<Status>) -> bool
     ensures { result ≡ is_running status }
 {
-    match status {
-        Some(Status::Running) => true,
-        Some(Status::Stopped(_)) => false,
-        Some(Status::Exited(_)) => false,
-        Some(Status::Signaled(_)) => false,
-        None => false,
-    }
+    matches!(status, Some(Status::Running))
 }

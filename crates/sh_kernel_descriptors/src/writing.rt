@@ -17,10 +17,7 @@ fn size_of(files: &Files, node: usize) -> usize
 {
     match files.node(node) {
         Some(Node::File(file)) => file.bytes().len(),
-        Some(Node::Null) => 0,
-        Some(Node::Directory) => 0,
-        Some(Node::Terminal) => 0,
-        None => 0,
+        _ => 0,
     }
 }
 

@@ -1,5 +1,5 @@
 //! What can be asked of a machine. Nothing here takes memory.
-ghost use Rattle.std.specs.Prelude.{◌≡◌, ℕ, List, length, option_copied};
+ghost use Rattle.std.specs.Prelude.{◌≡◌, ℕ, List, Some, length, option_copied};
 
 use super::Machine;
 use sh_files::Files;
@@ -12,7 +12,7 @@ use sh_pipe::Pipe;
 use slab::Slab;
 
 impl Machine {
-    ghost use Rattle.sh_kernel_descriptors.specs.Kept.{IsCounted, pipe_at};
+    ghost use Rattle.sh_kernel_descriptors.specs.Kept.{IsCounted, description_at, pipe_at};
     ghost use Rattle.sh_kernel_descriptors.specs.Machine.{MachineState, wait_answer};
     ghost use Rattle.sh_kernel_descriptors.specs.Processes.{parent_at, status_at};
     ghost use Rattle.sh_kernel_descriptors.specs.Reading.{read_call, read_target};
@@ -118,15 +118,15 @@ impl Machine {
         }
     }
 
-    /// Whether a read by a description would wait.
-    fn read_target_waits(&self, description: Description) -> bool
+    /// Whether a read by the description at a key would wait.
+    fn read_target_waits(&self, key: usize, description: Description) -> bool
         ensures { (s : MachineState) → StandsAt self.now s → (n k : ℕ)
-            → result
+            → description_at self.now.entries key ≡ Some description → result
             ≡ waits (read_target s n k description.offset description.target).answer }
     {
         match description.target {
             Target::ReadEnd(pipe) => {
-                let writer = self.is_written(pipe);
+                let writer = self.is_written(pipe, key);
                 read_pipe_waits(&self.pipes, pipe, writer)
             },
             Target::File(_) => false,
@@ -141,24 +141,27 @@ impl Machine {
         ensures { (s : MachineState) → StandsAt self.now s → (n : ℕ)
             → result ≡ waits (read_call s pid name n).answer }
     {
-        let Some(description) = self.description_of(pid, name) else {
+        let Some(h) = self.look(pid, name) else {
+            return false;
+        };
+        let Some(description) = self.description_by(h) else {
             return false;
         };
         if !description.readable {
             return false;
         }
-        self.read_target_waits(description)
+        self.read_target_waits(h.key, description)
     }
 
-    /// Whether a write by a description would wait.
-    fn write_target_waits(&self, description: Description, count: usize) -> bool
+    /// Whether a write by the description at a key would wait.
+    fn write_target_waits(&self, key: usize, description: Description, count: usize) -> bool
         ensures { (s : MachineState) → StandsAt self.now s → (bytes : List ℕ) (pid k : ℕ)
-            → length bytes ≡ count
+            → length bytes ≡ count → description_at self.now.entries key ≡ Some description
             → result ≡ waits (write_target s pid bytes k description description.target).answer }
     {
         match description.target {
             Target::WriteEnd(pipe) => {
-                if !self.is_read(pipe) {
+                if !self.is_read(pipe, key) {
                     return false;
                 }
                 write_pipe_waits(&self.pipes, pipe, count)
@@ -175,13 +178,16 @@ impl Machine {
         ensures { (s : MachineState) → StandsAt self.now s → (bytes : List ℕ)
             → length bytes ≡ count → result ≡ waits (write_call s pid number bytes).answer }
     {
-        let Some(description) = self.description_of(pid, DescriptorRef::Number(number)) else {
+        let Some(h) = self.look(pid, DescriptorRef::Number(number)) else {
+            return false;
+        };
+        let Some(description) = self.description_by(h) else {
             return false;
         };
         if !description.writable || count == 0 {
             return false;
         }
-        self.write_target_waits(description, count)
+        self.write_target_waits(h.key, description, count)
     }
 
     /// Whether a process is neither stopped nor ended. Takes no memory.

@@ -12,10 +12,10 @@ among c =
     (subst (λ (m : MachineKept). Among c.args.h m.held) (sym c.self.view_is) c.requires)
 
 counted : (c : goal.After-refer) → IsCounted c.self.inside.entries c.reserve.new.self.items
-counted c = subst (λ (hs : List Held). IsCounted c.self.inside.entries hs) (sym c.in_ok-reserve.ensures.items) c.self.invariant
+counted c = subst (λ (hs : List Held). IsCounted c.self.inside.entries hs) (sym c.in_ok-reserve.ensures.items) c.self.invariant.0
 
 pub invariant_of-self-2 : goal.invariant_of-self-2
-invariant_of-self-2 c = c.refer.ensures.counted (among c) (counted c)
+invariant_of-self-2 c = (c.refer.ensures.counted (among c) (counted c), c.refer.ensures.paired _ c.self.invariant.1)
 
 pub returns-clause-ok : goal.returns-clause-ok
 returns-clause-ok c s st =
