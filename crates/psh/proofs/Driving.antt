@@ -3,9 +3,9 @@ use Rattle.sh_base.specs.Memory.{no_memory}
 use Rattle.std.proofs.Common.{◌≡◌, ◌≢◌, ◌⊎◌, ⊎_elim, Result, Ok, Err, OnErr, ℕ, zero, suc, ◌+◌, add-one, ◌<◌, ◌≤◌, List, [], ◌∷◌, ◌++◌, append_assoc, length, length-append, take, take_all, get_or, replicate, zero-add, add_assoc, refl, sym, ap, ◌∙◌, arith}
 use Rattle.sh_stock.specs.Asking.{Meaning}
 use Rattle.sh_world.specs.World.{WorldKept, WorldStands, shown_of}
-use Rattle.sh_machine.specs.State.{State, run, start, step, terminal_of}
+use Rattle.sh_exec.specs.State.{State, run, start, step, terminal_of}
 use Rattle.sh_files.specs.Nodes.{FileMap}
-use Rattle.sh_machine.specs.declared.event.Event.{Event}
+use Rattle.sh_exec.specs.declared.event.Event.{Event}
 use Rattle.sh_exec.specs.declared.settings.Settings.{Settings}
 use Rattle.psh.specs.Events.{Outcome, each_event, events_of}
 use Rattle.psh.specs.declared.events.EventFault.{EventFault}

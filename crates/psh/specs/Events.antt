@@ -5,8 +5,8 @@ use Rattle.std.specs.Str.{bytes_eq}
 use Rattle.std.specs.Char.{is_ascii_digit}
 use Rattle.sh_base.specs.Decimals.{at_most, value_of}
 use Rattle.psh.specs.Lines.{parts}
-use Rattle.sh_machine.specs.declared.event.Event.{Event}
-use Rattle.sh_machine.specs.declared.event.Event.TheVariants.{Run, Next}
+use Rattle.sh_exec.specs.declared.event.Event.{Event}
+use Rattle.sh_exec.specs.declared.event.Event.TheVariants.{Run, Next}
 use Rattle.psh.specs.declared.events.Turns.{Turns}
 use Rattle.psh.specs.declared.events.EventFault.{EventFault}
 use Rattle.psh.specs.declared.events.EventFault.TheVariants.{BadEvent}

@@ -5,8 +5,8 @@ use Rattle.sh_files.specs.Nodes.{FileMap}
 use Rattle.sh_files_image.specs.Faults.{name_of}
 use Rattle.sh_files_image.specs.declared.image_fault.ImageFault.{ImageFault}
 use Rattle.sh_stock.specs.Asking.{Meaning}
-use Rattle.sh_machine.specs.State.{run, start, terminal_of}
-use Rattle.sh_machine.specs.declared.event.Event.{Event}
+use Rattle.sh_exec.specs.State.{run, start, terminal_of}
+use Rattle.sh_exec.specs.declared.event.Event.{Event}
 use Rattle.sh_exec.specs.declared.settings.Settings.{Settings}
 use Rattle.psh.specs.Events.{each_event, events_of}
 use Rattle.psh.specs.declared.events.EventFault.TheVariants.{BadEvent}

@@ -4,7 +4,7 @@ ghost use Rattle.std.specs.Prelude.{◌≡◌, ◌≢◌, ◌⊎◌, ◌++◌, �
 ghost use Rattle.sh_files_image.specs.Faults.{name_of};
 ghost use Rattle.sh_files_image.specs.declared.image_fault.FaultKind.TheVariants as kind;
 ghost use Rattle.sh_world.specs.World.{WorldStands, shown_of};
-ghost use Rattle.sh_machine.specs.State.{State, run, terminal_of};
+ghost use Rattle.sh_exec.specs.State.{State, run, terminal_of};
 ghost use Rattle.psh.specs.Events.{each_event};
 ghost use Rattle.psh.specs.Serving.{SaysLack, Shows, ShowsSome, WasCut, WasRefused, WasRun, refusal};
 

@@ -1,2 +1,4 @@
 pub mod Extending
 mod Elements
+pub mod Rising
+pub mod Runs

@@ -1,7 +1,11 @@
 pub mod Actions
+pub mod Choice
+pub mod Order
+pub mod Processes
 pub mod Programs
 pub mod Scripts
 pub mod Search
 pub mod Starting
+pub mod State
 pub mod Tasks
 pub mod Turns

@@ -1,10 +1,10 @@
 -- The script that a shell is given as its operand (the page of sh): the text of its file, which need not be executable.
 use Rattle.std.specs.Prelude.{ℕ, List, [], ◌&&◌, nat_le, codes, Option, Some, None, length, if◌then◌else◌}
-use Rattle.sh_exec_command.specs.Statuses as statuses
+use Rattle.sh_exec_actions.specs.Statuses as statuses
 use Rattle.sh_exec_parts.specs.Messages.{cannot_execute, message, not_found}
-use Rattle.sh_exec_command.specs.declared.running.Finish.TheVariants.{Fault}
-use Rattle.sh_exec_command.specs.declared.running.Action.{Action}
-use Rattle.sh_exec_command.specs.declared.running.Action.TheVariants.{Reading, Writing}
+use Rattle.sh_exec_actions.specs.declared.action.Finish.TheVariants.{Fault}
+use Rattle.sh_exec_actions.specs.declared.action.Action.{Action}
+use Rattle.sh_exec_actions.specs.declared.action.Action.TheVariants.{Reading, Writing}
 use Rattle.sh_files.specs.Nodes.{FileMap, node_of_path}
 use Rattle.sh_files_image.specs.declared.node.Node.{Node}
 use Rattle.sh_files_image.specs.declared.node.Node.TheVariants.{Directory, File, Null, Terminal}

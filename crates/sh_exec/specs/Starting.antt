@@ -1,6 +1,6 @@
 -- A program's start in the process of a shell (XCU 2.9.1.4, 2.9.1.6): the search, and what the process then is.
 use Rattle.std.specs.Prelude.{ℕ, List, [], ◌∷◌, Option, Some, None, unwrap_or}
-use Rattle.sh_exec_command.specs.Statuses as statuses
+use Rattle.sh_exec_actions.specs.Statuses as statuses
 use Rattle.sh_builtin.specs.declared.shell.Shell.{Shell}
 use Rattle.sh_exec.specs.Programs.{Left, ProgramState, asking, with_next}
 use Rattle.sh_exec.specs.declared.task.Task.{Task}
@@ -10,11 +10,11 @@ use Rattle.sh_exec_parts.specs.Scripts.{script_environment}
 use Rattle.sh_exec.specs.Search.{located_of}
 use Rattle.sh_exec.specs.declared.search.Located.{Located}
 use Rattle.sh_exec.specs.declared.search.Located.TheVariants as located
-use Rattle.sh_exec_command.specs.declared.running.Active.{Active}
-use Rattle.sh_exec_command.specs.declared.running.Active.TheVariants.{Acting, Next, Done, Leaving}
-use Rattle.sh_exec_command.specs.declared.running.Finish.TheVariants.{Fault}
-use Rattle.sh_exec_command.specs.declared.running.Action.{Action}
-use Rattle.sh_exec_command.specs.declared.running.Action.TheVariants.{Reading, Expanding, ReadSubstitution, WaitSubstitution, Redirecting, Forking, Starting, ForkStage, AssignLoopVariable, Waiting, Writing, Ending}
+use Rattle.sh_exec_actions.specs.declared.action.Active.{Active}
+use Rattle.sh_exec_actions.specs.declared.action.Active.TheVariants.{Acting, Next, Done, Leaving}
+use Rattle.sh_exec_actions.specs.declared.action.Finish.TheVariants.{Fault}
+use Rattle.sh_exec_actions.specs.declared.action.Action.{Action}
+use Rattle.sh_exec_actions.specs.declared.action.Action.TheVariants.{Reading, Expanding, ReadSubstitution, WaitSubstitution, Redirecting, Forking, Starting, ForkStage, AssignLoopVariable, Waiting, Writing, Ending}
 use Rattle.sh_exec_forms.specs.Running.{At}
 use Rattle.sh_kernel.specs.Calls.{start_call}
 use Rattle.sh_kernel.specs.State.{KernelState}
@@ -91,5 +91,5 @@ starting_at (Ending status) = None
 abbrev pub starting_in : Active → Option (List (List ℕ))
 starting_in (Next place) = starting_at place
 starting_in (Acting builtin fields) = None
-starting_in (Done status) = None
+starting_in (Done ended) = None
 starting_in (Leaving status) = None

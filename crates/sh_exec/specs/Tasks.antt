@@ -6,12 +6,12 @@ use Rattle.sh_exec.specs.declared.settings.Source.{Source}
 use Rattle.sh_exec.specs.declared.settings.Source.TheVariants.{Text, Script}
 use Rattle.sh_exec.specs.declared.task.Task.{Task}
 use Rattle.sh_exec.specs.declared.task.Task.TheVariants.{Runs, Asks}
-use Rattle.sh_exec_command.specs.declared.running.Active.TheVariants.{Next}
-use Rattle.sh_exec_command.specs.declared.running.Action.{Action}
-use Rattle.sh_exec_command.specs.declared.running.Action.TheVariants.{Reading}
-use Rattle.sh_exec_forms.specs.Codes.{forms_of}
+use Rattle.sh_exec_actions.specs.declared.action.Active.TheVariants.{Next}
+use Rattle.sh_exec_actions.specs.declared.action.Action.{Action}
+use Rattle.sh_exec_actions.specs.declared.action.Action.TheVariants.{Reading}
+use Rattle.sh_exec_forms.specs.Frames as shell
 use Rattle.sh_exec_forms.specs.Running.{At}
-use Rattle.sh_exec_forms.specs.declared.form.Form.{Form}
+use Rattle.sh_exec_forms.specs.declared.form.Frame.{Frame}
 use Rattle.sh_files.specs.Nodes.{FileMap}
 use Rattle.sh_vars.specs.Environment.{Environment, with_options, with_positional, with_zero}
 use Rattle.sh_vars.specs.Starting.{starting}
@@ -42,6 +42,6 @@ first_task image settings = Runs (record {
 })
 
 -- ---- the running forms of a shell, the outermost first
-abbrev pub frames_of : {S : Type 0} → Task S → List Form
-frames_of (Runs interpreter) = forms_of interpreter.run
+abbrev pub frames_of : {S : Type 0} → Task S → List Frame
+frames_of (Runs interpreter) = shell.frames_of interpreter.run
 frames_of (Asks pid ask program) = []

@@ -3,7 +3,7 @@ ghost use Rattle.std.specs.Prelude.{◌≡◌};
 ghost use Rattle.sh_kernel.specs.Turns.{action_of};
 ghost use Rattle.sh_exec.specs.Actions.{action_at, action_in, action_for, collecting};
 
-use sh_exec_command::{Action, Active};
+use sh_exec_actions::{Action, Active};
 use sh_kernel::{DescriptorRef, Next};
 use sh_stock::Ask;
 

@@ -1,7 +1,11 @@
-//! The processes of a modelled machine: shells, and the programs of a stock. One turn of a process is one reduction of what it runs.
+//! The shell machine: its processes, which are shells and the programs of a stock, its states, and its events. One turn of a process is one
+//! reduction of what it runs.
 #![tactic(auto)]
 
 mod action;
+mod event;
+mod jobs;
+pub mod laws;
 mod program;
 mod script;
 mod search;
@@ -10,6 +14,8 @@ mod shell;
 mod start;
 mod task;
 
+pub use event::Event;
+pub use jobs::Jobs;
 pub use search::{Located, MAX_SCRIPT, locate};
 pub use settings::{Settings, Source};
 pub use task::Task;

@@ -6,8 +6,8 @@ ghost use Rattle.sh_exec.specs.Scripts.{missing, place_by, script_place, unreada
 use crate::MAX_SCRIPT;
 use sh_base::NoMemory;
 use sh_base::sequence::Text;
-use sh_exec_command::status::{CANNOT_EXECUTE, NOT_FOUND};
-use sh_exec_command::{Action, Finish};
+use sh_exec_actions::status::{CANNOT_EXECUTE, NOT_FOUND};
+use sh_exec_actions::{Action, Finish};
 use sh_exec_parts::Rest;
 use sh_exec_parts::message::{cannot_execute, not_found};
 use sh_files::{File, Files, Node};

@@ -4,7 +4,7 @@ ghost use Rattle.sh_exec.specs.Starting.{starting_at, starting_in};
 
 use sh_base::NoMemory;
 use sh_base::sequence::{Sequence, Text, copies_of};
-use sh_exec_command::{Action, Active};
+use sh_exec_actions::{Action, Active};
 use std::alloc::Global;
 
 /// What is started at a place.

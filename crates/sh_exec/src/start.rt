@@ -1,6 +1,6 @@
 //! A program's start in the process of a shell.
 ghost use Rattle.std.specs.Prelude.{◌≡◌, IfOk};
-ghost use Rattle.sh_exec_command.specs.Statuses as statuses;
+ghost use Rattle.sh_exec_actions.specs.Statuses as statuses;
 ghost use Rattle.sh_kernel.specs.Calls.{start_call};
 ghost use Rattle.sh_kernel.specs.State.{KernelState, StandsAt};
 ghost use Rattle.sh_exec_parts.specs.Messages as messages;
@@ -13,8 +13,8 @@ use crate::{Located, locate};
 use sh_base::NoMemory;
 use sh_base::sequence::{Sequence, Text};
 use sh_builtin::Shell;
-use sh_exec_command::status::{CANNOT_EXECUTE, NOT_FOUND};
-use sh_exec_command::{Action, Finish};
+use sh_exec_actions::status::{CANNOT_EXECUTE, NOT_FOUND};
+use sh_exec_actions::{Action, Finish};
 use sh_exec_parts::message::{Piece, cannot_execute, not_found};
 use sh_exec_parts::script_environment;
 use sh_exec_shell::Interpreter;

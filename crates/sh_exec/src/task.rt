@@ -20,8 +20,8 @@ use crate::start::start_turn;
 use sh_base::NoMemory;
 use sh_base::sequence::{Sequence, Text};
 use sh_builtin::Shell;
-use sh_exec_command::Action;
-use sh_exec_forms::Form;
+use sh_exec_actions::Action;
+use sh_exec_forms::Frame;
 use sh_exec_parts::Rest;
 use sh_exec_shell::Interpreter;
 use sh_files::Files;
@@ -163,8 +163,9 @@ impl<S: Stock> Task<S> {
         }
     }
 
-    /// The running forms of a shell round the place where it acts, the outermost first; none of a program. Takes no memory.
-    pub fn frames(&self) -> &[Form]
+    /// The running forms of a shell round the place where it acts, the outermost first, each with whether a failure inside it is ignored;
+    /// none of a program. Takes no memory.
+    pub fn frames(&self) -> &[Frame]
         ensures { result.now ≡ frames_of self.now }
     {
         match self {

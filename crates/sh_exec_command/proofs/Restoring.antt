@@ -1,7 +1,7 @@
 -- The last one of some is restored first.
 use Rattle.std.proofs.Common.{◌≡◌, List, [], ◌∷◌, ◌++◌, refl, sym, ap, ◌∙◌}
 use Rattle.sh_exec_command.specs.Undoing.{all_restored, with_saved}
-use Rattle.sh_exec_command.specs.declared.running.Saved.{Saved}
+use Rattle.sh_exec_actions.specs.declared.action.Saved.{Saved}
 use Rattle.sh_vars.specs.Environment.{Environment}
 
 all_restored-last : (ss : List Saved) (s : Saved) (env : Environment) → all_restored (ss ++ s ∷ []) env ≡ all_restored ss (with_saved s env)

@@ -6,8 +6,8 @@ use Rattle.sh_exec_command.specs.Assigning.{Step, assignments_turn, assigned_by,
 use Rattle.sh_exec_command.specs.Expanding.{Turn, start_of}
 use Rattle.sh_exec_command.specs.declared.assigning.Assigned.{Assigned}
 use Rattle.sh_exec_command.specs.declared.assigning.Assigned.TheVariants.{On, Over}
-use Rattle.sh_exec_command.specs.declared.running.Pending.{Pending}
-use Rattle.sh_exec_command.specs.declared.running.ExpandedCommand.{ExpandedCommand}
+use Rattle.sh_exec_actions.specs.declared.action.Pending.{Pending}
+use Rattle.sh_exec_actions.specs.declared.action.ExpandedCommand.{ExpandedCommand}
 use Rattle.sh_expand.specs.Expanding as expanding
 use Rattle.sh_files.specs.Nodes.{FileMap}
 use Rattle.sh_vars.specs.Environment.{Environment}

@@ -9,14 +9,14 @@ use Rattle.sh_exec_command.specs.Preparing.{final_move}
 use Rattle.sh_exec_command.specs.Undoing.{saved_of}
 use Rattle.sh_exec_command.specs.declared.assigning.Assigned.{Assigned}
 use Rattle.sh_exec_command.specs.declared.assigning.Assigned.TheVariants.{On, Over}
-use Rattle.sh_exec_command.specs.declared.running.Expanded.TheVariants as expanded_as
-use Rattle.sh_exec_command.specs.declared.running.Move.TheVariants.{Held}
-use Rattle.sh_exec_command.specs.declared.running.Pending.{Pending}
-use Rattle.sh_exec_command.specs.declared.running.ExpandedCommand.{ExpandedCommand}
-use Rattle.sh_exec_command.specs.declared.running.Role.{Role}
-use Rattle.sh_exec_command.specs.declared.running.Role.TheVariants as role
-use Rattle.sh_exec_command.specs.declared.running.Undo.{Undo}
-use Rattle.sh_exec_command.specs.declared.running.ToExpand.TheVariants.{Values}
+use Rattle.sh_exec_actions.specs.declared.action.Expanded.TheVariants as expanded_as
+use Rattle.sh_exec_actions.specs.declared.action.Move.TheVariants.{Held}
+use Rattle.sh_exec_actions.specs.declared.action.Pending.{Pending}
+use Rattle.sh_exec_actions.specs.declared.action.ExpandedCommand.{ExpandedCommand}
+use Rattle.sh_exec_actions.specs.declared.action.Role.{Role}
+use Rattle.sh_exec_actions.specs.declared.action.Role.TheVariants as role
+use Rattle.sh_exec_actions.specs.declared.action.Undo.{Undo}
+use Rattle.sh_exec_actions.specs.declared.action.ToExpand.TheVariants.{Values}
 use Rattle.sh_expand.specs.Expanding as expanding
 use Rattle.sh_expand_parts.specs.declared.context.Context.TheVariants as context
 use Rattle.sh_expand.specs.declared.wanted.Wanted.{Wanted}

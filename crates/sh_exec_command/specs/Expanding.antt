@@ -1,20 +1,20 @@
 -- The expansion turn of a simple command's words (XCU 2.9.1.1, steps 1 and 2): always from the first word, in the variables at
 -- its start, with the answers so far.
 use Rattle.std.specs.Prelude.{ℕ, List, [], Bool, Option, Some, None}
-use Rattle.sh_exec_command.specs.Statuses as statuses
+use Rattle.sh_exec_actions.specs.Statuses as statuses
 use Rattle.sh_exec_parts.specs.Messages.{fault_text, message}
 use Rattle.sh_exec_parts.specs.Simple.{items_of, wanted_of}
 use Rattle.sh_exec_command.specs.Answers.{expansion_with}
 use Rattle.sh_exec_command.specs.Preparing.{first_move, prepared_of}
-use Rattle.sh_exec_command.specs.declared.running.Active.{Active}
-use Rattle.sh_exec_command.specs.declared.running.Active.TheVariants.{Next}
-use Rattle.sh_exec_command.specs.declared.running.Expanded.{Expanded}
-use Rattle.sh_exec_command.specs.declared.running.Expanded.TheVariants.{Need, Go}
-use Rattle.sh_exec_command.specs.declared.running.Finish.TheVariants.{Fault}
-use Rattle.sh_exec_command.specs.declared.running.Move.TheVariants.{At}
-use Rattle.sh_exec_command.specs.declared.running.Pending.{Pending}
-use Rattle.sh_exec_command.specs.declared.running.Action.TheVariants.{Writing}
-use Rattle.sh_exec_command.specs.declared.running.ToExpand.TheVariants.{Words}
+use Rattle.sh_exec_actions.specs.declared.action.Active.{Active}
+use Rattle.sh_exec_actions.specs.declared.action.Active.TheVariants.{Next}
+use Rattle.sh_exec_actions.specs.declared.action.Expanded.{Expanded}
+use Rattle.sh_exec_actions.specs.declared.action.Expanded.TheVariants.{Need, Go}
+use Rattle.sh_exec_actions.specs.declared.action.Finish.TheVariants.{Fault}
+use Rattle.sh_exec_actions.specs.declared.action.Move.TheVariants.{At}
+use Rattle.sh_exec_actions.specs.declared.action.Pending.{Pending}
+use Rattle.sh_exec_actions.specs.declared.action.Action.TheVariants.{Writing}
+use Rattle.sh_exec_actions.specs.declared.action.ToExpand.TheVariants.{Words}
 use Rattle.sh_expand.specs.Expanding as expanding
 use Rattle.sh_files.specs.Nodes.{FileMap}
 use Rattle.sh_syntax.specs.declared.tree.Command.{Command}

@@ -4,5 +4,4 @@ pub mod Expanding
 pub mod Preparing
 pub mod Reading
 pub mod Series
-pub mod Statuses
 pub mod Undoing

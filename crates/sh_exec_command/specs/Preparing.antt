@@ -1,6 +1,6 @@
 -- A simple command (XCU 2.9.1) from its tree to the place of its first action, and from its expanded words to what it does.
 use Rattle.std.specs.Prelude.{ℕ, List, [], ◌∷◌, ◌||◌, not, Bool, true, false, Option, Some, None, length, if◌then◌else◌}
-use Rattle.sh_exec_command.specs.Statuses as statuses
+use Rattle.sh_exec_actions.specs.Statuses as statuses
 use Rattle.std.specs.List.{list_any}
 use Rattle.sh_builtin.specs.Builtins.{builtin_of, is_special}
 use Rattle.sh_builtin.specs.declared.builtin.Builtin.{Builtin}
@@ -9,19 +9,19 @@ use Rattle.sh_exec_parts.specs.Redirections.{redirections_of}
 use Rattle.sh_exec_parts.specs.Simple.{assignments_of, is_redirect, is_word, items_of, redirect_fields, redirects_of, word_fields}
 use Rattle.sh_exec_parts.specs.declared.redirection.Redirection.{Redirection}
 use Rattle.sh_exec_parts.specs.declared.simple.Assignment.{Assignment}
-use Rattle.sh_exec_command.specs.declared.running.Active.TheVariants.{Acting, Next, Done}
-use Rattle.sh_exec_command.specs.declared.running.Finish.{Finish}
-use Rattle.sh_exec_command.specs.declared.running.Finish.TheVariants.{Status, Fault}
-use Rattle.sh_exec_command.specs.declared.running.Move.{Move}
-use Rattle.sh_exec_command.specs.declared.running.Move.TheVariants.{At, Held}
-use Rattle.sh_exec_command.specs.declared.running.Action.{Action}
-use Rattle.sh_exec_command.specs.declared.running.Action.TheVariants.{Expanding, Redirecting, Forking, Starting, Writing}
-use Rattle.sh_exec_command.specs.declared.running.ExpandedCommand.{ExpandedCommand}
-use Rattle.sh_exec_command.specs.declared.running.Role.{Role}
-use Rattle.sh_exec_command.specs.declared.running.Role.TheVariants as role
-use Rattle.sh_exec_command.specs.declared.running.Undo.{Undo}
-use Rattle.sh_exec_command.specs.declared.running.ToExpand.{ToExpand}
-use Rattle.sh_exec_command.specs.declared.running.ToExpand.TheVariants.{Words, Values}
+use Rattle.sh_exec_actions.specs.declared.action.Active.TheVariants.{Acting, Next, Done}
+use Rattle.sh_exec_actions.specs.declared.action.Finish.{Finish}
+use Rattle.sh_exec_actions.specs.declared.action.Finish.TheVariants.{Status, Fault}
+use Rattle.sh_exec_actions.specs.declared.action.Move.{Move}
+use Rattle.sh_exec_actions.specs.declared.action.Move.TheVariants.{At, Held}
+use Rattle.sh_exec_actions.specs.declared.action.Action.{Action}
+use Rattle.sh_exec_actions.specs.declared.action.Action.TheVariants.{Expanding, Redirecting, Forking, Starting, Writing}
+use Rattle.sh_exec_actions.specs.declared.action.ExpandedCommand.{ExpandedCommand}
+use Rattle.sh_exec_actions.specs.declared.action.Role.{Role}
+use Rattle.sh_exec_actions.specs.declared.action.Role.TheVariants as role
+use Rattle.sh_exec_actions.specs.declared.action.Undo.{Undo}
+use Rattle.sh_exec_actions.specs.declared.action.ToExpand.{ToExpand}
+use Rattle.sh_exec_actions.specs.declared.action.ToExpand.TheVariants.{Words, Values}
 use Rattle.sh_kernel_descriptors.specs.declared.fault.KernelFault.{KernelFault}
 use Rattle.sh_syntax.specs.declared.tree.Command.{Command}
 use Rattle.sh_syntax.specs.declared.tree.SimpleItem.{SimpleItem}
@@ -83,7 +83,7 @@ failing_of (role.Builtin builtin) = failing (is_special builtin)
 failing_of role.Program = Fault statuses.error
 
 abbrev pub performed_by : ExpandedCommand → Role → Move
-performed_by p role.NoCommandName = Held p.undo (Done p.status)
+performed_by p role.NoCommandName = Held p.undo (Done (statuses.unexcused p.status))
 performed_by p (role.Builtin builtin) = Held p.undo (Acting builtin p.fields)
 performed_by p role.Program = At (Next (Starting p.fields))
 

@@ -5,14 +5,16 @@ use Rattle.sh_exec_parts.specs.Simple.{Opened, word_wanted}
 use Rattle.sh_exec_command.specs.Answers.{expansion_with}
 use Rattle.sh_exec_command.specs.Assigning.{may_set}
 use Rattle.sh_exec_command.specs.Expanding.{Turn, fatal, start_of}
-use Rattle.sh_exec_command.specs.declared.running.Active.{Active}
-use Rattle.sh_exec_command.specs.declared.running.Active.TheVariants.{Next, Done}
-use Rattle.sh_exec_command.specs.declared.running.Expanded.TheVariants.{Need, Go}
-use Rattle.sh_exec_command.specs.declared.running.Move.TheVariants.{At}
-use Rattle.sh_exec_command.specs.declared.running.Pending.{Pending}
-use Rattle.sh_exec_command.specs.declared.running.Action.TheVariants.{AssignLoopVariable}
-use Rattle.sh_exec_command.specs.declared.running.ForLoop.{ForLoop}
-use Rattle.sh_exec_command.specs.declared.running.ToExpand.TheVariants as wants
+use Rattle.sh_exec_actions.specs.Statuses.{unexcused}
+use Rattle.sh_exec_actions.specs.declared.action.Active.{Active}
+use Rattle.sh_exec_actions.specs.declared.action.Active.TheVariants.{Next, Done}
+use Rattle.sh_exec_actions.specs.declared.action.Expanded.TheVariants.{Need, Go}
+use Rattle.sh_exec_actions.specs.declared.action.Move.TheVariants.{At}
+use Rattle.sh_exec_actions.specs.declared.action.Pending.{Pending}
+use Rattle.sh_exec_actions.specs.declared.action.Action.TheVariants.{AssignLoopVariable}
+use Rattle.sh_exec_actions.specs.declared.status.CommandStatus.{CommandStatus}
+use Rattle.sh_exec_actions.specs.declared.action.ForLoop.{ForLoop}
+use Rattle.sh_exec_actions.specs.declared.action.ToExpand.TheVariants as wants
 use Rattle.sh_exec_command.specs.declared.series.Header.{Header}
 use Rattle.sh_exec_command.specs.declared.series.Round.{Round}
 use Rattle.sh_exec_command.specs.declared.series.Round.TheVariants.{Body, Over}
@@ -50,15 +52,15 @@ unfoldable pub header_of : Command → Option Header
 header_of command = header_of_command (view.out-Command command)
 
 -- ---- the next value, or the end with this status where none is left
-abbrev pub given_by : ForLoop → List (List ℕ) → ℕ → Active
+abbrev pub given_by : ForLoop → List (List ℕ) → CommandStatus → Active
 given_by series [] status = Done status
 given_by series (value ∷ values) status = Next (AssignLoopVariable series)
 
-abbrev pub rest_of_series : ForLoop → ℕ → Active
+abbrev pub rest_of_series : ForLoop → CommandStatus → Active
 rest_of_series series status = given_by series series.values status
 
 abbrev pub begun_with : List ℕ → List (List ℕ) → CompoundList → Active
-begun_with name values body = rest_of_series (record { name = name; values = values; body = body }) 0
+begun_with name values body = rest_of_series (record { name = name; values = values; body = body }) (unexcused 0)
 
 -- ---- the turn of the words
 abbrev pub series_by : Command → Pending → List ℕ → CompoundList → expanding.Result → Turn
@@ -76,7 +78,7 @@ values_turn files env command pending name body Parameters =
     record { environment = env; outcome = Go (At (begun_with name env.positional body)) }
 
 abbrev pub header_turn : FileMap → Environment → Command → Option Pending → Option Header → Turn
-header_turn files env command pending None = record { environment = env; outcome = Go (At (Done 0)) }
+header_turn files env command pending None = record { environment = env; outcome = Go (At (Done (unexcused 0))) }
 header_turn files env command pending (Some header) = values_turn files env command pending header.name header.body header.values
 
 unfoldable pub series_turn : FileMap → Environment → Command → Option Pending → Turn
@@ -88,7 +90,7 @@ pub record Given : Type 0 where
   pub round : Round
 
 abbrev pub give_by : Environment → ForLoop → List (List ℕ) → Given
-give_by env series [] = record { environment = env; round = Over (Done 0) }
+give_by env series [] = record { environment = env; round = Over (Done (unexcused 0)) }
 give_by env series (value ∷ values) =
     if may_set env series.name
     then record { environment = with_value env series.name value; round = Body (record series { values = values }) }

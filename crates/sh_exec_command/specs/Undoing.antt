@@ -1,7 +1,7 @@
 -- The variables as they were before a command's assignments (XCU 2.9.1.2): the newest is undone first.
 use Rattle.std.specs.Prelude.{ℕ, List, [], ◌∷◌, Option, Some, None}
-use Rattle.sh_exec_command.specs.declared.running.Saved.{Saved}
-use Rattle.sh_exec_command.specs.declared.running.Saved.TheVariants as saved
+use Rattle.sh_exec_actions.specs.declared.action.Saved.{Saved}
+use Rattle.sh_exec_actions.specs.declared.action.Saved.TheVariants as saved
 use Rattle.sh_vars.specs.Environment.{Environment, Variable, variable_of, with_variable, without}
 
 abbrev pub saved_by : List ℕ → Option Variable → Saved

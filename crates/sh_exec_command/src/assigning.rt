@@ -1,6 +1,6 @@
 //! The assignment turn of a simple command.
 ghost use Rattle.std.specs.Prelude.{◌≡◌, ◌∷◌, [], IfOk, IsTrue, OnOk};
-ghost use Rattle.sh_exec_command.specs.Statuses as statuses;
+ghost use Rattle.sh_exec_actions.specs.Statuses as statuses;
 ghost use Rattle.sh_exec_command.specs.Answers.{expansion_with, result_of};
 ghost use Rattle.sh_exec_command.specs.Assigning.{assign_turn, assignments_turn, assigned_by, assigned_one, is_passing, is_undone, may_set, with_saved_variable, fatal_step, text_of, undo_with, value_of, value_wanted, value_step, with_assigned};
 ghost use Rattle.sh_exec_parts.specs.Messages.{fault_text};
@@ -10,13 +10,13 @@ ghost use Rattle.sh_vars.specs.Environment.{with_value};
 use crate::answers::expand;
 use crate::expanding::{fatal_message, start};
 use crate::preparing::perform;
-use crate::running::{
-    Action, Active, Expanded, ExpandedCommand, Finish, Move, Pending, Role, ToExpand, Undo,
-};
 use crate::undo::save;
 use sh_base::NoMemory;
 use sh_base::sequence::{Sequence, Text};
 use sh_base::shared::Shared;
+use sh_exec_actions::{
+    Action, Active, Expanded, ExpandedCommand, Finish, Move, Pending, Role, ToExpand, Undo,
+};
 use sh_exec_parts::message::{Piece, not_expanded, read_only};
 use sh_exec_parts::simple::Assignment;
 use sh_expand::{Context, Fault, Step, Wanted};

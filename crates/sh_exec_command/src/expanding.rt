@@ -1,6 +1,6 @@
 //! The expansion turn of a simple command's words.
 ghost use Rattle.std.specs.Prelude.{◌≡◌, IfOk};
-ghost use Rattle.sh_exec_command.specs.Statuses as statuses;
+ghost use Rattle.sh_exec_actions.specs.Statuses as statuses;
 ghost use Rattle.sh_exec_command.specs.Answers.{expansion_with, result_of};
 ghost use Rattle.sh_exec_parts.specs.Messages.{fault_text};
 ghost use Rattle.sh_exec_parts.specs.Simple.{items_of, wanted_of};
@@ -10,11 +10,11 @@ ghost use Rattle.sh_expand.specs.Expanding as expanding;
 
 use crate::answers::expand;
 use crate::preparing::{begin_command, prepare};
-use crate::running::{Action, Active, Expanded, Finish, Move, Pending, ToExpand};
-use crate::status::ERROR;
 use sh_base::NoMemory;
 use sh_base::sequence::{Sequence, Text};
 use sh_base::shared::Shared;
+use sh_exec_actions::status::ERROR;
+use sh_exec_actions::{Action, Active, Expanded, Finish, Move, Pending, ToExpand};
 use sh_exec_parts::message::{Piece, not_expanded};
 use sh_exec_parts::simple::{items_of, wanted_of};
 use sh_expand::{Fault, Step};

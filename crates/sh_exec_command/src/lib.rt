@@ -5,14 +5,11 @@
 
 mod answers;
 mod assigning;
-mod copying;
 mod expanding;
 mod found;
 mod preparing;
 mod reading;
-mod running;
 mod series;
-pub mod status;
 mod undo;
 
 pub use assigning::assign_turn;
@@ -20,9 +17,5 @@ pub use expanding::words_turn;
 pub use found::Found;
 pub use preparing::{first_place, go_ahead, not_done};
 pub use reading::find_command;
-pub use running::{
-    Action, Active, Expanded, ExpandedCommand, Finish, ForLoop, Move, Pending, Report, Role, Saved,
-    Stages, Substitution, ToExpand, Undo,
-};
-pub use series::{Round, give_turn, series_turn};
+pub use series::{Round, give_turn, rest_of_series, series_turn};
 pub use undo::restore_variables;

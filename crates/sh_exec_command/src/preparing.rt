@@ -2,12 +2,14 @@
 ghost use Rattle.std.specs.Prelude.{◌≡◌, IfOk};
 ghost use Rattle.sh_exec_command.specs.Preparing.{ahead, first_move, failing, failing_of, first_place, forks, nameless, no_undo, not_done, final_move, prepared_of, role_by, role_of, wants_of};
 
-use crate::running::{Action, Active, ExpandedCommand, Finish, Move, Role, ToExpand, Undo};
-use crate::status::ERROR;
 use sh_base::NoMemory;
 use sh_base::sequence::{Sequence, Text, copies_of};
 use sh_base::shared::Shared;
 use sh_builtin::Builtin;
+use sh_exec_actions::status::ERROR;
+use sh_exec_actions::{
+    Action, Active, CommandStatus, ExpandedCommand, Finish, Move, Role, ToExpand, Undo,
+};
 use sh_exec_parts::Queue;
 use sh_exec_parts::message::not_redirected;
 use sh_exec_parts::redirection::prepared_redirections;
@@ -151,7 +153,7 @@ pub(crate) fn perform(prepared: ExpandedCommand) -> Move
         ..
     } = prepared;
     match role {
-        Role::NoCommandName => Move::Held(undo, Active::Done(status)),
+        Role::NoCommandName => Move::Held(undo, Active::Done(CommandStatus::unexcused(status))),
         Role::Builtin(builtin) => Move::Held(undo, Active::Acting(builtin, fields)),
         Role::Program => Move::At(Active::Next(Action::Starting(fields))),
     }

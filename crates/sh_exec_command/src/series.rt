@@ -8,10 +8,10 @@ ghost use Rattle.sh_exec_command.specs.Series.{begun_with, give_by, give_turn, r
 use crate::answers::expand;
 use crate::assigning::{may_set, set_plain};
 use crate::expanding::{fatal_message, start};
-use crate::running::{Action, Active, Expanded, ForLoop, Move, Pending, ToExpand};
 use sh_base::NoMemory;
 use sh_base::sequence::{Sequence, Text, copies_of};
 use sh_base::shared::Shared;
+use sh_exec_actions::{Action, Active, CommandStatus, Expanded, ForLoop, Move, Pending, ToExpand};
 use sh_exec_parts::Queue;
 use sh_exec_parts::message::{not_expanded, read_only};
 use sh_expand::{Context, Step, Wanted};
@@ -102,16 +102,14 @@ fn header_of(alloc: Global, command: &Command) -> Result<Option<Header>, NoMemor
     }
 }
 
-impl ForLoop {
-    /// What a `for` goes on with: its next value, or its end with this status where none is left. Takes no memory.
-    pub fn go_on(self, status: u8) -> Active
-        ensures { result ≡ rest_of_series self status }
-    {
-        if self.values.is_empty() {
-            return Active::Done(status);
-        }
-        Active::Next(Action::AssignLoopVariable(self))
+/// What a `for` goes on with: its next value, or its end, with this status, where none is left. Takes no memory.
+pub fn rest_of_series(series: ForLoop, status: CommandStatus) -> Active
+    ensures { result ≡ rest_of_series series status }
+{
+    if series.values.is_empty() {
+        return Active::Done(status);
     }
+    Active::Next(Action::AssignLoopVariable(series))
 }
 
 /// The words of a `for` are expanded.
@@ -141,7 +139,7 @@ fn expand_words(
                 values: Queue::new(fields),
                 body,
             };
-            Ok(Expanded::Go(Move::At(series.go_on(0))))
+            Ok(Expanded::Go(Move::At(rest_of_series(series, CommandStatus::unexcused(0)))))
         },
         Step::Fault(fault) => {
             let piece = not_expanded(alloc, fault)?;
@@ -165,7 +163,7 @@ pub fn series_turn(
         pending) }
 {
     let Some(Header { name, values, body }) = header_of(alloc, command.get())? else {
-        return Ok(Expanded::Go(Move::At(Active::Done(0))));
+        return Ok(Expanded::Go(Move::At(Active::Done(CommandStatus::unexcused(0)))));
     };
     match values {
         Values::Words(wanted) => {
@@ -184,7 +182,7 @@ pub fn series_turn(
                 values: Queue::new(values),
                 body,
             };
-            Ok(Expanded::Go(Move::At(series.go_on(0))))
+            Ok(Expanded::Go(Move::At(rest_of_series(series, CommandStatus::unexcused(0)))))
         },
     }
 }
@@ -208,7 +206,7 @@ pub fn give_turn(alloc: Global, series: ForLoop, vars: &mut Vars) -> Result<Roun
     let ForLoop { name, values, body } = series;
     let mut values = values;
     let Some(value) = values.take() else {
-        return Ok(Round::Over(Active::Done(0)));
+        return Ok(Round::Over(Active::Done(CommandStatus::unexcused(0))));
     };
     if !may_set(vars, name.as_slice()) {
         let piece = read_only(alloc, name.as_slice())?;

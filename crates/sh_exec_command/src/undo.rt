@@ -2,9 +2,9 @@
 ghost use Rattle.std.specs.Prelude.{◌≡◌, IfOk, OnOk};
 ghost use Rattle.sh_exec_command.specs.Undoing.{all_restored, with_saved, saved_of};
 
-use crate::running::Saved;
 use sh_base::NoMemory;
 use sh_base::sequence::{Sequence, Text};
+use sh_exec_actions::Saved;
 use sh_vars::Vars;
 use std::alloc::Global;
 

@@ -1,10 +1,11 @@
 -- How commands are entered that are all that a process runs, by their parts.
 use Rattle.std.proofs.Common.{◌≡◌, ◌≤◌, arith, length, List, [], ◌∷◌, map, Option, Some, None, Bool, true, false, refl, sym, ap, ◌∙◌}
 use Rattle.sh_exec_command.specs.Preparing.{first_place}
-use Rattle.sh_exec_command.specs.declared.running.Active.TheVariants.{Next}
-use Rattle.sh_exec_command.specs.declared.running.Action.TheVariants.{Ending}
+use Rattle.sh_exec_actions.specs.declared.action.Active.TheVariants.{Next}
+use Rattle.sh_exec_actions.specs.declared.action.Action.TheVariants.{Ending}
 use Rattle.sh_exec_forms.proofs.Entered.{trees_beside}
 use Rattle.sh_exec_forms.specs.Bodies.{body_items, body_of, body_step, own_command_step, own_compound, own_entry, own_form, own_form_step, sole_and_or, sole_and_or_step, sole_command, sole_item, sole_or_entered, sole_pipeline, sole_pipeline_step, stage_run, sole_run}
+use Rattle.sh_exec_actions.specs.Statuses.{unexcused}
 use Rattle.sh_exec_forms.specs.Entering.{Entry, command_run, compound_step, items_run, list_item_step, no_entry}
 use Rattle.sh_exec_forms.specs.Running.{Run, At}
 use Rattle.sh_syntax.specs.declared.tree.AndOr.{AndOr}
@@ -41,16 +42,16 @@ of_none x e = body_is x ∙ ap body_as e
 pub of_one : (x : CompoundList) (item : ListItem) → (view.out-CompoundList x).items ≡ item ∷ [] → body_of x ≡ sole_or_entered item (sole_item item)
 of_one x item e = body_is x ∙ ap body_as e
 
-pub of_several : (x : CompoundList) (item next : ListItem) (items : List ListItem) → (view.out-CompoundList x).items ≡ item ∷ next ∷ items → body_of x ≡ items_run (view.out-CompoundList x).items 0
+pub of_several : (x : CompoundList) (item next : ListItem) (items : List ListItem) → (view.out-CompoundList x).items ≡ item ∷ next ∷ items → body_of x ≡ items_run (view.out-CompoundList x).items (unexcused 0)
 of_several x item next items e =
-    body_is x ∙ ap body_as e ∙ ap (λ others. items_run (item ∷ next ∷ others) 0) (trees_beside sole_item items) ∙ ap (λ others. items_run others 0) (sym e)
+    body_is x ∙ ap body_as e ∙ ap (λ others. items_run (item ∷ next ∷ others) (unexcused 0)) (trees_beside sole_item items) ∙ ap (λ others. items_run others (unexcused 0)) (sym e)
 
-long_as : (items : List ListItem) → 2 ≤ length items → body_as items ≡ items_run items 0
+long_as : (items : List ListItem) → 2 ≤ length items → body_as items ≡ items_run items (unexcused 0)
 long_as [] h = absurd (omega (arith, h))
 long_as (item ∷ []) h = absurd (omega (arith, h))
-long_as (item ∷ next ∷ items) h = ap (λ others. items_run (item ∷ next ∷ others) 0) (trees_beside sole_item items)
+long_as (item ∷ next ∷ items) h = ap (λ others. items_run (item ∷ next ∷ others) (unexcused 0)) (trees_beside sole_item items)
 
-pub of_long : (x : CompoundList) → 2 ≤ length (view.out-CompoundList x).items → body_of x ≡ items_run (view.out-CompoundList x).items 0
+pub of_long : (x : CompoundList) → 2 ≤ length (view.out-CompoundList x).items → body_of x ≡ items_run (view.out-CompoundList x).items (unexcused 0)
 of_long x h = body_is x ∙ long_as (view.out-CompoundList x).items h
 
 pub item_is : (x : ListItem) → sole_item x ≡ sole_and_or (view.out-ListItem x).list

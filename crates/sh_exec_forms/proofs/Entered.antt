@@ -1,10 +1,12 @@
 -- How each form of the syntax is entered, by its parts.
-use Rattle.std.proofs.Common.{◌≡◌, ℕ, ◌≤◌, arith, length, List, [], ◌∷◌, map, Option, Some, None, option_map, Bool, false, refl, sym, ap, ◌∙◌}
+use Rattle.std.proofs.Common.{◌≡◌, ◌≤◌, arith, length, List, [], ◌∷◌, map, Option, Some, None, option_map, Bool, false, refl, sym, ap, ◌∙◌}
+use Rattle.sh_exec_actions.specs.Statuses.{unexcused}
+use Rattle.sh_exec_actions.specs.declared.status.CommandStatus.{CommandStatus}
 use Rattle.sh_exec_parts.specs.Pipelines.{commands_of}
 use Rattle.sh_exec_command.specs.Preparing.{first_place}
-use Rattle.sh_exec_command.specs.declared.running.Active.TheVariants.{Next, Done}
-use Rattle.sh_exec_command.specs.declared.running.Action.TheVariants.{Expanding}
-use Rattle.sh_exec_command.specs.declared.running.ToExpand.TheVariants.{ForWords}
+use Rattle.sh_exec_actions.specs.declared.action.Active.TheVariants.{Next, Done}
+use Rattle.sh_exec_actions.specs.declared.action.Action.TheVariants.{Expanding}
+use Rattle.sh_exec_actions.specs.declared.action.ToExpand.TheVariants.{ForWords}
 use Rattle.sh_exec_forms.specs.Entering.{Entry, and_or_run, and_or_step, command_entry, command_run, command_step, commands_run, commands_step, compound_list_step, compound_entry, compound_step, items_run, form_entry, form_step, item_run, with_others, list_item_step, list_run, with_negation, pipeline_run, pipeline_step, staging, to_enter, tree, trees, no_entry}
 use Rattle.sh_exec_forms.specs.Running.{Run, At, In}
 use Rattle.sh_exec_forms.specs.declared.form.Form.TheVariants.{Commands, Condition, If}
@@ -36,10 +38,10 @@ tree_beside f None = refl
 tree_beside f (Some x) = refl
 
 -- ---- lists
-pub behind_first : (item : ListItem) (items : List ListItem) (status : ℕ) → items_run (item ∷ items) status ≡ In (Commands items) (item_run item)
+pub behind_first : (item : ListItem) (items : List ListItem) (status : CommandStatus) → items_run (item ∷ items) status ≡ In (Commands items) (item_run item)
 behind_first item items status = ap (λ others. In (Commands others) (item_run item)) (trees_beside item_run items)
 
-pub list_is : (x : CompoundList) → list_run x ≡ items_run (view.out-CompoundList x).items 0
+pub list_is : (x : CompoundList) → list_run x ≡ items_run (view.out-CompoundList x).items (unexcused 0)
 unfolding list_run item_run
 list_is x = ap list_run (sym (view.roll-out-CompoundList x)) ∙ folds.para-roll-CompoundList Entry Entry (Unit {0}) (Unit {0}) (Unit {0}) Run (Unit {0}) Entry Run (Unit {0}) (Unit {0}) Run (Unit {0}) Run (Unit {0}) (Unit {0})
     command_step form_step no_entry no_entry no_entry and_or_step no_entry compound_step compound_list_step no_entry no_entry list_item_step no_entry pipeline_step no_entry no_entry (view.out-CompoundList x)
@@ -55,11 +57,11 @@ and_or_is x = ap and_or_run (sym (view.roll-out-AndOr x)) ∙ folds.para-roll-An
     command_step form_step no_entry no_entry no_entry and_or_step no_entry compound_step compound_list_step no_entry no_entry list_item_step no_entry pipeline_step no_entry no_entry (view.out-AndOr x)
     ∙ ap (λ rest. with_others rest (pipeline_run (view.out-AndOr x).first)) (trees_beside _ (view.out-AndOr x).rest)
 
-pub entered_with : (items : List ListItem) (item : ListItem) (others : List ListItem) (status : ℕ) → items ≡ item ∷ others → items_run items status ≡ In (Commands others) (and_or_run (view.out-ListItem item).list)
+pub entered_with : (items : List ListItem) (item : ListItem) (others : List ListItem) (status : CommandStatus) → items ≡ item ∷ others → items_run items status ≡ In (Commands others) (and_or_run (view.out-ListItem item).list)
 entered_with items item others status e = ap (λ these. items_run these status) e ∙ behind_first item others status ∙ ap (In (Commands others)) (item_is item)
 
 pub list_with : (x : CompoundList) (item : ListItem) (others : List ListItem) → (view.out-CompoundList x).items ≡ item ∷ others → list_run x ≡ In (Commands others) (and_or_run (view.out-ListItem item).list)
-list_with x item others e = list_is x ∙ entered_with (view.out-CompoundList x).items item others 0 e
+list_with x item others e = list_is x ∙ entered_with (view.out-CompoundList x).items item others (unexcused 0) e
 
 -- ---- pipelines
 pub pipeline_is : (x : Pipeline) → pipeline_run x ≡ with_negation (view.out-Pipeline x).is_negated (commands_run x)
@@ -115,7 +117,7 @@ if_entered condition body else_ifs (Some list) whole = ap (λ entry. form_entry 
     command_step form_step no_entry no_entry no_entry and_or_step no_entry compound_step compound_list_step no_entry no_entry list_item_step no_entry pipeline_step no_entry no_entry (layer.If condition body else_ifs (Some list)))
     ∙ ap (λ others. In (If (record { body = body; else_ifs = others; else_body = (Some list) })) (list_run condition)) (trees_beside no_entry else_ifs)
 
-pub loop_entered : (kind : LoopKind) (condition : CompoundList) (body : CompoundList) (whole : Command) → form_entry (form.Loop kind condition body) whole ≡ In (Condition (record { kind = kind; condition = condition; body = body }) 0) (list_run condition)
+pub loop_entered : (kind : LoopKind) (condition : CompoundList) (body : CompoundList) (whole : Command) → form_entry (form.Loop kind condition body) whole ≡ In (Condition (record { kind = kind; condition = condition; body = body }) (unexcused 0)) (list_run condition)
 unfolding form_entry list_run
 loop_entered kind condition body whole = ap (λ entry. form_entry entry whole) (sym (form.rolls-Loop kind condition body)) ∙ ap (λ entry. entry whole) (folds.para-roll-CompoundForm Entry Entry (Unit {0}) (Unit {0}) (Unit {0}) Run (Unit {0}) Entry Run (Unit {0}) (Unit {0}) Run (Unit {0}) Run (Unit {0}) (Unit {0})
     command_step form_step no_entry no_entry no_entry and_or_step no_entry compound_step compound_list_step no_entry no_entry list_item_step no_entry pipeline_step no_entry no_entry (layer.Loop kind condition body))
@@ -130,7 +132,7 @@ unfolding form_entry list_run
 for_parameters_entered name is_separated body whole = ap (λ entry. form_entry entry whole) (sym (form.rolls-ForParameters name is_separated body)) ∙ ap (λ entry. entry whole) (folds.para-roll-CompoundForm Entry Entry (Unit {0}) (Unit {0}) (Unit {0}) Run (Unit {0}) Entry Run (Unit {0}) (Unit {0}) Run (Unit {0}) Run (Unit {0}) (Unit {0})
     command_step form_step no_entry no_entry no_entry and_or_step no_entry compound_step compound_list_step no_entry no_entry list_item_step no_entry pipeline_step no_entry no_entry (layer.ForParameters name is_separated body))
 
-pub case_entered : (word : Word) (items : List CaseItem) (whole : Command) → form_entry (form.Case word items) whole ≡ At (Done 0)
+pub case_entered : (word : Word) (items : List CaseItem) (whole : Command) → form_entry (form.Case word items) whole ≡ At (Done (unexcused 0))
 unfolding form_entry list_run
 case_entered word items whole = ap (λ entry. form_entry entry whole) (sym (form.rolls-Case word items)) ∙ ap (λ entry. entry whole) (folds.para-roll-CompoundForm Entry Entry (Unit {0}) (Unit {0}) (Unit {0}) Run (Unit {0}) Entry Run (Unit {0}) (Unit {0}) Run (Unit {0}) Run (Unit {0}) (Unit {0})
     command_step form_step no_entry no_entry no_entry and_or_step no_entry compound_step compound_list_step no_entry no_entry list_item_step no_entry pipeline_step no_entry no_entry (layer.Case word items))
@@ -146,7 +148,7 @@ unfolding command_entry compound_entry
 compound_entered compound whole = ap (λ entry. command_entry entry whole) (sym (command.rolls-Compound compound)) ∙ ap (λ entry. entry whole) (folds.para-roll-Command Entry Entry (Unit {0}) (Unit {0}) (Unit {0}) Run (Unit {0}) Entry Run (Unit {0}) (Unit {0}) Run (Unit {0}) Run (Unit {0}) (Unit {0})
     command_step form_step no_entry no_entry no_entry and_or_step no_entry compound_step compound_list_step no_entry no_entry list_item_step no_entry pipeline_step no_entry no_entry (layer.Compound compound))
 
-pub function_entered : (name : Name) (body : Compound) (whole : Command) → command_entry (command.Function name body) whole ≡ At (Done 0)
+pub function_entered : (name : Name) (body : Compound) (whole : Command) → command_entry (command.Function name body) whole ≡ At (Done (unexcused 0))
 unfolding command_entry compound_entry
 function_entered name body whole = ap (λ entry. command_entry entry whole) (sym (command.rolls-Function name body)) ∙ ap (λ entry. entry whole) (folds.para-roll-Command Entry Entry (Unit {0}) (Unit {0}) (Unit {0}) Run (Unit {0}) Entry Run (Unit {0}) (Unit {0}) Run (Unit {0}) Run (Unit {0}) (Unit {0})
     command_step form_step no_entry no_entry no_entry and_or_step no_entry compound_step compound_list_step no_entry no_entry list_item_step no_entry pipeline_step no_entry no_entry (layer.Function name body))

@@ -1,11 +1,11 @@
 -- What is entered inside some forms, by the parts in which it is entered.
-use Rattle.std.proofs.Common.{◌≡◌, ℕ, List, [], ◌∷◌, ◌++◌, ◌||◌, Bool, true, false, reverse, refl, sym, ap, subst, ◌∙◌}
-use Rattle.std.proofs.lemmas.List.{reverse-append}
-use Rattle.sh_exec_command.specs.declared.running.Active.{Active}
+use Rattle.std.proofs.Common.{◌≡◌, List, ◌∷◌, true, false, refl, sym, ap, subst, ◌∙◌}
+use Rattle.sh_exec_actions.specs.declared.action.Active.{Active}
+use Rattle.sh_exec_actions.specs.declared.status.CommandStatus.{CommandStatus}
 use Rattle.sh_exec_forms.proofs.Entered.{entered_with, list_with, pipeline_is}
 use Rattle.sh_exec_forms.proofs.Outward.{goes_runs}
 use Rattle.sh_exec_forms.specs.Entering.{and_or_run, commands_run, items_run, list_run, pipeline_run, with_negation}
-use Rattle.sh_exec_forms.specs.Frames.{Goes, active_in, has_loop, is_loop, is_over, run_in}
+use Rattle.sh_exec_forms.specs.Frames.{Goes, active_in, is_over, run_in}
 use Rattle.sh_exec_forms.specs.Running.{Run, At, In}
 use Rattle.sh_exec_forms.specs.declared.form.Form.{Form}
 use Rattle.sh_exec_forms.specs.declared.form.Form.TheVariants.{Commands, Negated}
@@ -40,7 +40,7 @@ pub list_inside : (x : CompoundList) (item : ListItem) (others : List ListItem) 
 list_inside x item others now mid before whole step e m g w =
     step_inside whole step now mid before (Commands others) (and_or_run (view.out-ListItem item).list) (list_run x) w g m (list_with x item others e)
 
-pub items_inside : (items : List ListItem) (item : ListItem) (others : List ListItem) (status : ℕ) (now mid before : List Form) (whole step : Step)
+pub items_inside : (items : List ListItem) (item : ListItem) (others : List ListItem) (status : CommandStatus) (now mid before : List Form) (whole step : Step)
     → items ≡ item ∷ others → mid ≡ Commands others ∷ before
     → Goes step now mid (and_or_run (view.out-ListItem item).list) → whole ≡ Inward (active_in step) → Goes whole now before (items_run items status)
 items_inside items item others status now mid before whole step e m g w =
@@ -52,27 +52,3 @@ negated x e = pipeline_is x ∙ ap (λ is_negated. with_negation is_negated (com
 
 pub unnegated : (x : Pipeline) → (view.out-Pipeline x).is_negated ≡ false → pipeline_run x ≡ commands_run x
 unnegated x e = pipeline_is x ∙ ap (λ is_negated. with_negation is_negated (commands_run x)) e
-
--- ---- loops
-or_assoc : (x y z : Bool) → (x || y) || z ≡ x || (y || z)
-or_assoc true y z = refl
-or_assoc false y z = refl
-
-or_comm : (x y : Bool) → x || y ≡ y || x
-or_comm true true = refl
-or_comm true false = refl
-or_comm false true = refl
-or_comm false false = refl
-
-loop_among : (some others : List Form) → has_loop (some ++ others) ≡ has_loop some || has_loop others
-loop_among [] others = refl
-loop_among (form ∷ some) others = ap (λ rest. is_loop form || rest) (loop_among some others) ∙ sym (or_assoc (is_loop form) (has_loop some) (has_loop others))
-
-pub loop_either_way : (forms : List Form) → has_loop (reverse forms) ≡ has_loop forms
-loop_either_way [] = refl
-loop_either_way (form ∷ forms) =
-    ap has_loop (reverse-append (form ∷ []) forms)
-    ∙ loop_among (reverse forms) (form ∷ [])
-    ∙ or_comm (has_loop (reverse forms)) (is_loop form || false)
-    ∙ ap (λ either. either || has_loop (reverse forms)) (or_comm (is_loop form) false)
-    ∙ ap (λ rest. is_loop form || rest) (loop_either_way forms)

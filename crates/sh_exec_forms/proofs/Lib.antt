@@ -1,4 +1,5 @@
 pub mod Alone
 pub mod Entered
+pub mod Framed
 pub mod Inside
 pub mod Outward

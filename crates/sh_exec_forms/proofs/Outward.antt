@@ -1,12 +1,13 @@
 -- A tree and the list of its forms: what is settled inward and outward again is settled form by form.
-use Rattle.std.proofs.Common.{◌≡◌, ℕ, arith, length, List, [], ◌∷◌, Bool, false, refl, sym, ap, subst, ◌∙◌}
-use Rattle.sh_exec_command.specs.declared.running.Active.TheVariants.{Acting, Next, Done, Leaving}
+use Rattle.std.proofs.Common.{◌≡◌, arith, length, List, [], ◌∷◌, Bool, false, refl, sym, ap, subst, ◌∙◌}
+use Rattle.sh_exec_actions.specs.declared.action.Active.TheVariants.{Acting, Next, Done, Leaving}
 use Rattle.sh_builtin.specs.declared.outcome.Leave.{Leave}
 use Rattle.sh_builtin.specs.declared.shell.Shell.{Shell}
-use Rattle.sh_exec_command.specs.declared.running.Active.{Active}
+use Rattle.sh_exec_actions.specs.declared.action.Active.{Active}
+use Rattle.sh_exec_actions.specs.declared.status.CommandStatus.{CommandStatus}
 use Rattle.sh_exec_forms.specs.Builtins.{effect_at}
-use Rattle.sh_exec_forms.specs.Forms.{Acted, HasGone, HasPerformed, IsActed, IsOnWay, after, after_leave, after_status, at_action, outward, step_run, with_run, within_loop, within_run}
-use Rattle.sh_exec_forms.specs.Frames.{Goes, IsFewer, Leaves, active_in, has_loop, is_over, run_in, run_of}
+use Rattle.sh_exec_forms.specs.Forms.{Acted, HasGone, HasPerformed, IsActed, IsOnWay, after, after_leave, after_status, at_action, exits_on_error, outward, step_run, with_run, within, within_run}
+use Rattle.sh_exec_forms.specs.Frames.{Goes, IsFewer, Leaves, active_in, is_over, run_in, run_of}
 use Rattle.sh_exec_forms.specs.Running.{Run, At, In}
 use Rattle.sh_exec_forms.specs.declared.form.Form.{Form}
 use Rattle.sh_exec_forms.specs.declared.step.Step.{Step}
@@ -15,25 +16,25 @@ use Rattle.sh_kernel.specs.State.{KernelKept, KernelState, StandsAt}
 
 -- a tree is settled from the innermost form outward
 pub by_forms : (forms : List Form) (s : KernelState) (shell : Shell) (run : Run)
-    → at_action false s shell (run_in forms run) ≡ outward forms (at_action (has_loop forms) s shell run)
+    → at_action [] s shell (run_in forms run) ≡ outward forms (at_action forms s shell run)
 by_forms [] s shell run = refl
 by_forms (form ∷ forms) s shell run = by_forms forms s shell (In form run)
 
 -- where nothing is over no form around it changes
-over_stays : (looped : Bool) (form : Form) (s : KernelState) (shell : Shell) (run : Run) → is_over run ≡ false
-    → after looped form (with_run s shell run) ≡ with_run s shell (In form run)
+over_stays : (around : List Form) (form : Form) (s : KernelState) (shell : Shell) (run : Run) → is_over run ≡ false
+    → after around form (with_run s shell run) ≡ with_run s shell (In form run)
 unfolding after
-over_stays looped form s shell (At (Acting builtin fields)) h = refl
-over_stays looped form s shell (At (Next place)) h = refl
-over_stays looped form s shell (At (Done status)) h = absurd (cc h)
-over_stays looped form s shell (At (Leaving leave)) h = absurd (cc h)
-over_stays looped form s shell (In inner run) h = refl
+over_stays around form s shell (At (Acting builtin fields)) h = refl
+over_stays around form s shell (At (Next place)) h = refl
+over_stays around form s shell (At (Done status)) h = absurd (cc h)
+over_stays around form s shell (At (Leaving leave)) h = absurd (cc h)
+over_stays around form s shell (In inner run) h = refl
 
 pub stays : (forms : List Form) (s : KernelState) (shell : Shell) (run : Run) → is_over run ≡ false
     → outward forms (with_run s shell run) ≡ with_run s shell (run_in forms run)
 stays [] s shell run h = refl
 stays (form ∷ forms) s shell run h =
-    ap (outward forms) (over_stays (has_loop forms) form s shell run h) ∙ stays forms s shell (In form run) refl
+    ap (outward forms) (over_stays forms form s shell run h) ∙ stays forms s shell (In form run) refl
 
 -- what was entered, or is over, runs at its place
 pub goes_runs : (step : Step) (now before : List Form) (run : Run) → Goes step now before run → run_of now (active_in step) ≡ run_in before run
@@ -64,21 +65,21 @@ pub on_way : (kernel : KernelKept) (shell : Shell) (now rest : List Form) (step 
     → HasGone kernel shell now rest step a → IsOnWay kernel shell now step (outward rest a)
 on_way kernel shell now rest step a g = record { machine = a.machine; state = g.state; left = form_on_way kernel shell now rest step a g }
 
-pub ended_on_way : (kernel : KernelKept) (shell : Shell) (now rest before : List Form) (form : Form) (step : Step) (s : KernelState) (old : Shell) (status : ℕ)
-    → before ≡ form ∷ rest → HasGone kernel shell now rest step (after_status form s old status)
-    → IsOnWay kernel shell now step (outward before (with_run s old (At (Done status))))
+pub ended_on_way : (kernel : KernelKept) (shell : Shell) (now rest before : List Form) (form : Form) (step : Step) (s : KernelState) (old : Shell) (ended : CommandStatus)
+    → before ≡ form ∷ rest → HasGone kernel shell now rest step (after_status form s old ended)
+    → IsOnWay kernel shell now step (outward before (with_run s old (At (Done ended))))
 unfolding after
-ended_on_way kernel shell now rest before form step s old status e g =
-    subst (λ forms. IsOnWay kernel shell now step (outward forms (with_run s old (At (Done status))))) (sym e)
-    (on_way kernel shell now rest step (after_status form s old status) g)
+ended_on_way kernel shell now rest before form step s old ended e g =
+    subst (λ forms. IsOnWay kernel shell now step (outward forms (with_run s old (At (Done ended))))) (sym e)
+    (on_way kernel shell now rest step (after_status form s old ended) g)
 
 pub left_on_way : (kernel : KernelKept) (shell : Shell) (now rest before : List Form) (form : Form) (step : Step) (s : KernelState) (old : Shell) (leave : Leave)
-    → before ≡ form ∷ rest → HasGone kernel shell now rest step (after_leave (has_loop rest) form s old leave)
+    → before ≡ form ∷ rest → HasGone kernel shell now rest step (after_leave rest form s old leave)
     → IsOnWay kernel shell now step (outward before (with_run s old (At (Leaving leave))))
 unfolding after
 left_on_way kernel shell now rest before form step s old leave e g =
     subst (λ forms. IsOnWay kernel shell now step (outward forms (with_run s old (At (Leaving leave))))) (sym e)
-    (on_way kernel shell now rest step (after_leave (has_loop rest) form s old leave) g)
+    (on_way kernel shell now rest step (after_leave rest form s old leave) g)
 
 -- what isn't over goes on at its place
 pub stays_on_way : (kernel : KernelKept) (shell : Shell) (forms : List Form) (s : KernelState) (active same : Active)
@@ -111,22 +112,22 @@ pub onward : (kernel : KernelKept) (shell : Shell) (forms : List Form) (active :
 onward kernel shell forms active later shell' forms' step a g h = subst (IsOnWay later shell' forms' step) g.left (h g.machine g.state)
 
 -- ---- what a built-in did is settled
-within_stays : (looped : Bool) (run : Run) → is_over run ≡ false → within_run looped run ≡ run
-within_stays looped (At (Acting builtin fields)) h = refl
-within_stays looped (At (Next place)) h = refl
-within_stays looped (At (Done status)) h = absurd (cc h)
-within_stays looped (At (Leaving leave)) h = absurd (cc h)
-within_stays looped (In form run) h = refl
+within_stays : (errexit : Bool) (around : List Form) (run : Run) → is_over run ≡ false → within_run errexit around run ≡ run
+within_stays errexit around (At (Acting builtin fields)) h = refl
+within_stays errexit around (At (Next place)) h = refl
+within_stays errexit around (At (Done status)) h = absurd (cc h)
+within_stays errexit around (At (Leaving leave)) h = absurd (cc h)
+within_stays errexit around (In form run) h = refl
 
 -- what isn't over runs at its place
 pub performed_inward : (kernel : KernelKept) (s : KernelState) (old shell : Shell) (forms : List Form) (active next : Active)
     → StandsAt kernel s → HasPerformed shell (Inward next) (effect_at s old active)
-    → IsActed kernel shell (run_of forms next) (at_action false s old (run_of forms active))
+    → IsActed kernel shell (run_of forms next) (at_action [] s old (run_of forms active))
 performed_inward kernel s old shell forms active next k h =
     let p = effect_at s old active in
     let goes = h.goes forms in
     let whole = by_forms forms s old (At active)
-    ∙ ap (λ run. outward forms (with_run s p.shell run)) (within_stays (has_loop forms) p.run goes.1)
+    ∙ ap (λ run. outward forms (with_run s p.shell run)) (within_stays (exits_on_error p.shell) forms p.run goes.1)
     ∙ stays forms s p.shell p.run goes.1 in
     record {
       state = subst (λ (a : Acted). StandsAt kernel a.machine) (sym whole) k;
@@ -136,14 +137,14 @@ performed_inward kernel s old shell forms active next k h =
 
 -- what is over goes outward
 pub performed_outward : (later : KernelKept) (s : KernelState) (old shell after_shell : Shell) (forms : List Form) (active next bounded : Active) (ran : Run)
-    → HasPerformed shell (Outward next) (effect_at s old active) → bounded ≡ within_loop (has_loop forms) next
+    → HasPerformed shell (Outward next) (effect_at s old active) → bounded ≡ within (exits_on_error shell) forms next
     → IsActed later after_shell ran (outward forms (with_run s shell (At bounded)))
-    → IsActed later after_shell ran (at_action false s old (run_of forms active))
+    → IsActed later after_shell ran (at_action [] s old (run_of forms active))
 performed_outward later s old shell after_shell forms active next bounded ran h b a =
     let p = effect_at s old active in
     let goes = h.goes [] in
     let whole = by_forms forms s old (At active)
-    ∙ ap (λ run. outward forms (with_run s p.shell (within_run (has_loop forms) run))) goes.1
-    ∙ ap (λ this. outward forms (with_run s p.shell (At this))) (sym b)
-    ∙ ap (λ this. outward forms (with_run s this (At bounded))) (sym h.shell_is) in
+    ∙ ap (λ run. outward forms (with_run s p.shell (within_run (exits_on_error p.shell) forms run))) goes.1
+    ∙ ap (λ this. outward forms (with_run s this (At (within (exits_on_error this) forms next)))) (sym h.shell_is)
+    ∙ ap (λ this. outward forms (with_run s shell (At this))) (sym b) in
     subst (IsActed later after_shell ran) (sym whole) a

@@ -2,8 +2,9 @@
 -- other process is made for that; a substitution without commands ends at once, with 0.
 use Rattle.std.specs.Prelude.{List, [], ◌∷◌, Bool, true, false, Option, Some, None}
 use Rattle.sh_exec_command.specs.Preparing.{first_place}
-use Rattle.sh_exec_command.specs.declared.running.Active.TheVariants.{Next}
-use Rattle.sh_exec_command.specs.declared.running.Action.TheVariants.{Ending}
+use Rattle.sh_exec_actions.specs.Statuses.{unexcused}
+use Rattle.sh_exec_actions.specs.declared.action.Active.TheVariants.{Next}
+use Rattle.sh_exec_actions.specs.declared.action.Action.TheVariants.{Ending}
 use Rattle.sh_exec_forms.specs.Entering.{Entry, Layer, command_run, compound_step, items_run, list_item_step, trees, no_entry}
 use Rattle.sh_exec_forms.specs.Running.{Run, At}
 use Rattle.sh_syntax.specs.declared.tree.AndOr.{AndOr}
@@ -49,13 +50,13 @@ sole_and_or_step list = sole_run list.first.1 list.rest
 
 -- ---- a list that is all that a process runs
 abbrev pub sole_or_entered : ListItem → Option Run → Run
-sole_or_entered item None = items_run (item ∷ []) 0
+sole_or_entered item None = items_run (item ∷ []) (unexcused 0)
 sole_or_entered item (Some run) = run
 
 abbrev pub body_items : List (ListItem × Option Run) → Run
 body_items [] = At (Next (Ending 0))
 body_items (item ∷ []) = sole_or_entered item.0 item.1
-body_items (item ∷ next ∷ items) = items_run (item.0 ∷ next.0 ∷ trees items) 0
+body_items (item ∷ next ∷ items) = items_run (item.0 ∷ next.0 ∷ trees items) (unexcused 0)
 
 abbrev pub body_step : Layer (Option Run) layer.CompoundList-F → Run
 body_step list = body_items list.items

@@ -6,16 +6,17 @@ use Rattle.sh_builtin.specs.declared.outcome.Completion.{Completion}
 use Rattle.sh_builtin.specs.declared.outcome.Completion.TheVariants as completion
 use Rattle.sh_builtin.specs.declared.outcome.Outcome.{Outcome}
 use Rattle.sh_builtin.specs.declared.shell.Shell.{Shell}
-use Rattle.sh_exec_command.specs.declared.running.Active.{Active}
-use Rattle.sh_exec_command.specs.declared.running.Active.TheVariants.{Acting, Next, Done, Leaving}
-use Rattle.sh_exec_command.specs.declared.running.Finish.TheVariants.{Messages, Output}
-use Rattle.sh_exec_command.specs.declared.running.Action.TheVariants.{Writing}
-use Rattle.sh_exec_command.specs.declared.running.Report.{Report}
+use Rattle.sh_exec_actions.specs.Statuses.{unexcused}
+use Rattle.sh_exec_actions.specs.declared.action.Active.{Active}
+use Rattle.sh_exec_actions.specs.declared.action.Active.TheVariants.{Acting, Next, Done, Leaving}
+use Rattle.sh_exec_actions.specs.declared.action.Finish.TheVariants.{Messages, Output}
+use Rattle.sh_exec_actions.specs.declared.action.Action.TheVariants.{Writing}
+use Rattle.sh_exec_actions.specs.declared.action.Report.{Report}
 use Rattle.sh_exec_forms.specs.Running.{Run, At}
 use Rattle.sh_kernel.specs.State.{KernelState}
 
 abbrev pub at_completion : Completion → Active
-at_completion (completion.Done status) = Done status
+at_completion (completion.Done status) = Done (unexcused status)
 at_completion (completion.Left leave) = Leaving leave
 
 -- ---- its messages are written to descriptor 2, each in a turn of its own, and then it ends
@@ -51,5 +52,5 @@ builtin_effect s shell builtin fields =
 abbrev pub effect_at : KernelState → Shell → Active → Performed
 effect_at s shell (Acting builtin fields) = builtin_effect s shell builtin fields
 effect_at s shell (Next place) = with_active shell (Next place)
-effect_at s shell (Done status) = with_active shell (Done status)
+effect_at s shell (Done ended) = with_active shell (Done ended)
 effect_at s shell (Leaving leave) = with_active shell (Leaving leave)

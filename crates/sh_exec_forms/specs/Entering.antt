@@ -1,10 +1,12 @@
 -- Commands are entered (2.9): the forms that begin with them, inward to the first place. All this is part of the turn before.
-use Rattle.std.specs.Prelude.{ℕ, List, [], ◌∷◌, map, Bool, true, false, None, option_map}
+use Rattle.std.specs.Prelude.{List, [], ◌∷◌, map, Bool, true, false, None, option_map}
 use Rattle.sh_exec_command.specs.Preparing.{first_place}
-use Rattle.sh_exec_command.specs.declared.running.Active.TheVariants.{Next, Done}
-use Rattle.sh_exec_command.specs.declared.running.Action.{Action}
-use Rattle.sh_exec_command.specs.declared.running.Action.TheVariants.{Expanding, ForkStage}
-use Rattle.sh_exec_command.specs.declared.running.ToExpand.TheVariants.{ForWords}
+use Rattle.sh_exec_actions.specs.Statuses.{unexcused}
+use Rattle.sh_exec_actions.specs.declared.action.Active.TheVariants.{Next, Done}
+use Rattle.sh_exec_actions.specs.declared.action.Action.{Action}
+use Rattle.sh_exec_actions.specs.declared.action.Action.TheVariants.{Expanding, ForkStage}
+use Rattle.sh_exec_actions.specs.declared.action.ToExpand.TheVariants.{ForWords}
+use Rattle.sh_exec_actions.specs.declared.status.CommandStatus.{CommandStatus}
 use Rattle.sh_exec_forms.specs.Running.{Run, At, In}
 use Rattle.sh_exec_forms.specs.declared.form.Form.TheVariants.{Commands, Condition, If, Joined, Negated}
 use Rattle.sh_syntax.specs.declared.tree.AndOr.{AndOr}
@@ -60,10 +62,10 @@ form_step (layer.Subshell list) command = At (Next (staging (command ∷ [])))
 form_step (layer.If condition body else_ifs else_body) command =
     In (If (record { body = body.0; else_ifs = trees else_ifs; else_body = option_map tree else_body })) condition.1
 form_step (layer.Loop kind condition body) command =
-    In (Condition (record { kind = kind; condition = condition.0; body = body.0 }) 0) condition.1
+    In (Condition (record { kind = kind; condition = condition.0; body = body.0 }) (unexcused 0)) condition.1
 form_step (layer.For name words body) command = At (Next (Expanding (ForWords command) None))
 form_step (layer.ForParameters name is_separated body) command = At (Next (Expanding (ForWords command) None))
-form_step (layer.Case word items) command = At (Done 0)
+form_step (layer.Case word items) command = At (Done (unexcused 0))
 
 abbrev pub compound_step : {Way : Type 0} → Layer Way layer.Compound-F → Entry
 compound_step compound command = compound.form.1 command
@@ -71,7 +73,7 @@ compound_step compound command = compound.form.1 command
 abbrev pub command_step : Layer Run layer.Command-F → Entry
 command_step (layer.Simple items) command = At (Next (first_place false command))
 command_step (layer.Compound compound) command = compound.1 command
-command_step (layer.Function name body) command = At (Done 0)
+command_step (layer.Function name body) command = At (Done (unexcused 0))
 
 -- ---- pipelines (2.9.2): a command alone runs in the shell, of several each in a process of its own
 abbrev pub commands_step : Command × Entry → List (Command × Entry) → Run
@@ -96,13 +98,13 @@ and_or_step list = with_others (trees list.rest) list.first.1
 abbrev pub list_item_step : {Way : Type 0} → Layer Way layer.ListItem-F → Way
 list_item_step item = item.list.1
 
--- ---- AND-OR lists one after another (2.9.3), entered after a command that had this status
-abbrev pub items_step : List (ListItem × Run) → ℕ → Run
+-- ---- AND-OR lists one after another (2.9.3), entered after a command that ended so
+abbrev pub items_step : List (ListItem × Run) → CommandStatus → Run
 items_step [] status = At (Done status)
 items_step (item ∷ items) status = In (Commands (trees items)) item.1
 
 abbrev pub compound_list_step : Layer Run layer.CompoundList-F → Run
-compound_list_step list = items_step list.items 0
+compound_list_step list = items_step list.items (unexcused 0)
 
 -- ---- each form of the syntax, from the innermost outward
 unfoldable pub list_run : CompoundList → Run
@@ -146,5 +148,5 @@ commands_run pipeline = commands_step (to_enter (view.out-Pipeline pipeline).fir
 abbrev pub beside : ListItem → ListItem × Run
 beside item = (item, item_run item)
 
-abbrev pub items_run : List ListItem → ℕ → Run
+abbrev pub items_run : List ListItem → CommandStatus → Run
 items_run items status = items_step (map beside items) status

@@ -1,22 +1,24 @@
 -- What a form becomes when what runs inside it is done, or leaves it.
-use Rattle.std.specs.Prelude.{◌≡◌, ℕ, zero, suc, List, [], ◌∷◌, ◌||◌, Bool, true, false, Option, Some, None, if◌then◌else◌}
+use Rattle.std.specs.Prelude.{◌≡◌, ℕ, zero, suc, List, [], ◌∷◌, ◌||◌, ◌&&◌, Bool, true, false, nat_eq, not, Option, Some, None, if◌then◌else◌}
 use Rattle.sh_builtin.specs.declared.outcome.Leave.{Leave}
 use Rattle.sh_builtin.specs.declared.shell.Shell.{Shell}
 use Rattle.sh_builtin.specs.declared.outcome.Leave.TheVariants as leave
 use Rattle.sh_exec_command.specs.Series.{rest_of_series}
 use Rattle.sh_exec_command.specs.Undoing as variables
-use Rattle.sh_exec_command.specs.declared.running.Active.{Active}
-use Rattle.sh_exec_command.specs.declared.running.Active.TheVariants.{Acting, Next, Done, Leaving}
-use Rattle.sh_exec_command.specs.declared.running.Action.TheVariants.{Reading}
-use Rattle.sh_exec_command.specs.declared.running.Undo.{Undo}
+use Rattle.sh_exec_actions.specs.Statuses.{unexcused}
+use Rattle.sh_exec_actions.specs.declared.action.Active.{Active}
+use Rattle.sh_exec_actions.specs.declared.action.Active.TheVariants.{Acting, Next, Done, Leaving}
+use Rattle.sh_exec_actions.specs.declared.action.Action.TheVariants.{Reading}
+use Rattle.sh_exec_actions.specs.declared.action.Undo.{Undo}
+use Rattle.sh_exec_actions.specs.declared.status.CommandStatus.{CommandStatus}
 use Rattle.sh_exec_machine.specs.Undoing as descriptors
 use Rattle.sh_exec_forms.specs.Builtins.{Performed, effect_at}
 use Rattle.sh_exec_forms.specs.Entering.{items_run, with_others, list_run, pipeline_run}
-use Rattle.sh_exec_forms.specs.Frames.{Goes, has_loop, is_loop, run_of}
+use Rattle.sh_exec_forms.specs.Frames.{Goes, has_loop, is_failure_ignored, run_of}
 use Rattle.sh_exec_forms.specs.Running.{Run, At, In}
 use Rattle.sh_exec_forms.specs.declared.form.Branches.{Branches}
 use Rattle.sh_exec_forms.specs.declared.form.Form.{Form}
-use Rattle.sh_exec_forms.specs.declared.form.Form.TheVariants.{Text, Commands, Joined, Negated, Restoring, If, Condition, Body, ForBody}
+use Rattle.sh_exec_forms.specs.declared.form.Form.TheVariants.{Text, Commands, Joined, Negated, Restoring, If, Condition, Body, ForBody, FailuresIgnored}
 use Rattle.sh_exec_forms.specs.declared.form.Loop.{Loop}
 use Rattle.sh_exec_forms.specs.declared.step.Step.{Step}
 use Rattle.sh_exec_forms.specs.declared.step.Step.TheVariants.{Outward, Inward}
@@ -46,10 +48,10 @@ with_run s shell run = record { machine = s; shell = shell; run = run }
 abbrev pub behind_status : Shell → ℕ → Shell
 behind_status shell status = record shell { vars = with_status shell.vars status }
 
--- `!` (2.9.2)
-abbrev pub negation : ℕ → ℕ
-negation zero = 1
-negation (suc n) = 0
+-- `!` (2.9.2); a failure that it makes of a success is excused (2.15, set -e)
+abbrev pub negation : ℕ → CommandStatus
+negation zero = record { status = 1; excused = true }
+negation (suc n) = unexcused 0
 
 -- ---- AND-OR lists (2.9.3): what is after `&&` is run after 0, what is after `||` after any other status
 abbrev pub goes_on : Connector → ℕ → Bool
@@ -59,16 +61,16 @@ goes_on Or zero = false
 goes_on Or (suc n) = true
 
 -- what isn't run has no status
-abbrev pub connected_run : List Connected → ℕ → Run
-connected_run [] status = At (Done status)
-connected_run (next ∷ others) status =
-    if goes_on (view.out-Connected next).connector status
+abbrev pub connected_run : List Connected → CommandStatus → Run
+connected_run [] ended = At (Done ended)
+connected_run (next ∷ others) ended =
+    if goes_on (view.out-Connected next).connector ended.status
     then with_others others (pipeline_run (view.out-Connected next).pipeline)
-    else connected_run others status
+    else connected_run others ended
 
 -- ---- `if` (2.9.4.4): 0 where no list is run but conditions
 abbrev pub otherwise : List ElseIf → Option CompoundList → Run
-otherwise [] None = At (Done 0)
+otherwise [] None = At (Done (unexcused 0))
 otherwise [] (Some list) = list_run list
 otherwise (next ∷ others) else_body =
     In (If (record { body = (view.out-ElseIf next).body; else_ifs = others; else_body = else_body })) (list_run (view.out-ElseIf next).condition)
@@ -84,28 +86,45 @@ runs While (suc n) = false
 runs Until zero = false
 runs Until (suc n) = true
 
-unfoldable pub behind_condition : Loop → ℕ → ℕ → Run
+unfoldable pub behind_condition : Loop → (last : CommandStatus) → ℕ → Run
 behind_condition loop last status = if runs loop.kind status then In (Body loop) (list_run loop.body) else At (Done last)
 
-unfoldable pub condition_run : Loop → ℕ → Run
-condition_run loop status = In (Condition loop status) (list_run loop.condition)
+unfoldable pub condition_run : Loop → (last : CommandStatus) → Run
+condition_run loop last = In (Condition loop last) (list_run loop.condition)
+
+-- ---- a failure is excused where failures are ignored; else `set -e` makes it the end of the shell (2.15, set)
+abbrev pub is_failure : CommandStatus → Bool
+is_failure ended = not (nat_eq ended.status 0)
+
+abbrev pub ended_within : (errexit ignored : Bool) → CommandStatus → Active
+ended_within errexit true ended = Done (record ended { excused = ended.excused || is_failure ended })
+ended_within false false ended = Done ended
+ended_within true false ended = if is_failure ended && not ended.excused then Leaving (leave.Exit ended.status) else Done ended
 
 -- ---- break and continue (2.15): they are done with 0, and do nothing where no loop stands around
-abbrev pub within_loop : (looped : Bool) → Active → Active
-within_loop looped (Acting builtin fields) = Acting builtin fields
-within_loop looped (Next place) = Next place
-within_loop looped (Done status) = Done status
-within_loop looped (Leaving (leave.Exit status)) = Leaving (leave.Exit status)
-within_loop looped (Leaving (leave.Fault status)) = Leaving (leave.Fault status)
-within_loop true (Leaving (leave.Break inside)) = Leaving (leave.Break inside)
-within_loop false (Leaving (leave.Break inside)) = Done 0
-within_loop true (Leaving (leave.Continue inside)) = Leaving (leave.Continue inside)
-within_loop false (Leaving (leave.Continue inside)) = Done 0
+abbrev pub left_within : (looped : Bool) → Leave → Active
+left_within looped (leave.Exit status) = Leaving (leave.Exit status)
+left_within looped (leave.Fault status) = Leaving (leave.Fault status)
+left_within true (leave.Break inside) = Leaving (leave.Break inside)
+left_within false (leave.Break inside) = Done (unexcused 0)
+left_within true (leave.Continue inside) = Leaving (leave.Continue inside)
+left_within false (leave.Continue inside) = Done (unexcused 0)
+
+-- what a place comes to inside the forms round it, the innermost first
+abbrev pub within : (errexit : Bool) → (around : List Form) → Active → Active
+within errexit around (Acting builtin fields) = Acting builtin fields
+within errexit around (Next place) = Next place
+within errexit around (Done ended) = ended_within errexit (is_failure_ignored around) ended
+within errexit around (Leaving leave) = left_within (has_loop around) leave
 
 -- the same of what a built-in leaves; forms that it entered have their own
-abbrev pub within_run : (looped : Bool) → Run → Run
-within_run looped (At active) = At (within_loop looped active)
-within_run looped (In form run) = In form run
+abbrev pub within_run : (errexit : Bool) → (around : List Form) → Run → Run
+within_run errexit around (At active) = At (within errexit around active)
+within_run errexit around (In form run) = In form run
+
+-- whether a failure that isn't ignored ends a shell
+abbrev pub exits_on_error : Shell → Bool
+exits_on_error shell = shell.vars.options.exit_on_error
 
 -- seen from outside of a loop that is left: how many loops are inside the one that is meant. None where that
 -- is this loop, and where this loop is the outermost one
@@ -126,7 +145,7 @@ onward looped (leave.Continue inside) = onward_by leave.Continue On (beyond loop
 
 abbrev pub loop_left : KernelState → Shell → (next : Run) → Onward → Acted
 loop_left s shell next (Left leave) = with_run s shell (At (Leaving leave))
-loop_left s shell next Over = with_run s shell (At (Done 0))
+loop_left s shell next Over = with_run s shell (At (Done (unexcused 0)))
 loop_left s shell next On = with_run s (behind_status shell 0) next
 
 -- what a command changed is undone (2.9.1): its redirections, and then its assignments
@@ -136,45 +155,48 @@ undone undo s shell run =
     (record shell { vars = variables.all_restored undo.variables shell.vars }) run
 
 -- the next command of a text is read, behind this status; `$?` is the status of the command before (2.5.2)
-abbrev pub after_status : Form → KernelState → Shell → ℕ → Acted
-after_status (Text rest) s shell status = with_run s shell (At (Next (Reading rest status)))
-after_status (Commands items) s shell status = with_run s (behind_status shell status) (items_run items status)
-after_status (Joined others) s shell status = with_run s (behind_status shell status) (connected_run others status)
-after_status Negated s shell status = with_run s shell (At (Done (negation status)))
-after_status (Restoring undo) s shell status = undone undo s shell (At (Done status))
-after_status (If branches) s shell status = with_run s (behind_status shell status) (branch branches status)
-after_status (Condition loop last) s shell status = with_run s (behind_status shell status) (behind_condition loop last status)
-after_status (Body loop) s shell status = with_run s (behind_status shell status) (condition_run loop status)
-after_status (ForBody series) s shell status = with_run s (behind_status shell status) (At (rest_of_series series status))
+abbrev pub after_status : Form → KernelState → Shell → CommandStatus → Acted
+after_status (Text rest) s shell ended = with_run s shell (At (Next (Reading rest ended.status)))
+after_status (Commands items) s shell ended = with_run s (behind_status shell ended.status) (items_run items ended)
+after_status (Joined others) s shell ended = with_run s (behind_status shell ended.status) (connected_run others ended)
+after_status Negated s shell ended = with_run s shell (At (Done (negation ended.status)))
+after_status (Restoring undo) s shell ended = undone undo s shell (At (Done ended))
+after_status (If branches) s shell ended = with_run s (behind_status shell ended.status) (branch branches ended.status)
+after_status (Condition loop last) s shell ended = with_run s (behind_status shell ended.status) (behind_condition loop last ended.status)
+after_status (Body loop) s shell ended = with_run s (behind_status shell ended.status) (condition_run loop ended)
+after_status (ForBody series) s shell ended = with_run s (behind_status shell ended.status) (At (rest_of_series series ended))
+after_status FailuresIgnored s shell ended = with_run s shell (At (Done ended))
 
--- looped: whether a loop is around the form
-abbrev pub after_leave : (looped : Bool) → Form → KernelState → Shell → Leave → Acted
-after_leave looped (Text rest) s shell leave = with_run s shell (At (Leaving leave))
-after_leave looped (Commands items) s shell leave = with_run s shell (At (Leaving leave))
-after_leave looped (Joined others) s shell leave = with_run s shell (At (Leaving leave))
-after_leave looped Negated s shell leave = with_run s shell (At (Leaving leave))
-after_leave looped (Restoring undo) s shell leave = undone undo s shell (At (Leaving leave))
-after_leave looped (If branches) s shell leave = with_run s shell (At (Leaving leave))
-after_leave looped (Condition loop last) s shell leave = loop_left s shell (condition_run loop last) (onward looped leave)
-after_leave looped (Body loop) s shell leave = loop_left s shell (condition_run loop 0) (onward looped leave)
-after_leave looped (ForBody series) s shell leave = loop_left s shell (At (rest_of_series series 0)) (onward looped leave)
+-- around: the forms round this one, the innermost first
+abbrev pub after_leave : (around : List Form) → Form → KernelState → Shell → Leave → Acted
+after_leave around (Text rest) s shell leave = with_run s shell (At (Leaving leave))
+after_leave around (Commands items) s shell leave = with_run s shell (At (Leaving leave))
+after_leave around (Joined others) s shell leave = with_run s shell (At (Leaving leave))
+after_leave around Negated s shell leave = with_run s shell (At (Leaving leave))
+after_leave around (Restoring undo) s shell leave = undone undo s shell (At (Leaving leave))
+after_leave around (If branches) s shell leave = with_run s shell (At (Leaving leave))
+after_leave around (Condition loop last) s shell leave = loop_left s shell (condition_run loop last) (onward (has_loop around) leave)
+after_leave around (Body loop) s shell leave = loop_left s shell (condition_run loop (unexcused 0)) (onward (has_loop around) leave)
+after_leave around (ForBody series) s shell leave =
+    loop_left s shell (At (rest_of_series series (unexcused 0))) (onward (has_loop around) leave)
+after_leave around FailuresIgnored s shell leave = with_run s shell (At (Leaving leave))
 
-abbrev pub after_by : (looped : Bool) → Form → KernelState → Shell → Run → Acted
-after_by looped form s shell (At (Done status)) = after_status form s shell status
-after_by looped form s shell (At (Leaving leave)) = after_leave looped form s shell leave
-after_by looped form s shell (At (Acting builtin fields)) = with_run s shell (In form (At (Acting builtin fields)))
-after_by looped form s shell (At (Next place)) = with_run s shell (In form (At (Next place)))
-after_by looped form s shell (In inner run) = with_run s shell (In form (In inner run))
+abbrev pub after_by : (around : List Form) → Form → KernelState → Shell → Run → Acted
+after_by around form s shell (At (Done ended)) = after_status form s shell ended
+after_by around form s shell (At (Leaving leave)) = after_leave around form s shell leave
+after_by around form s shell (At (Acting builtin fields)) = with_run s shell (In form (At (Acting builtin fields)))
+after_by around form s shell (At (Next place)) = with_run s shell (In form (At (Next place)))
+after_by around form s shell (In inner run) = with_run s shell (In form (In inner run))
 
 -- a form again round what an action inside it left
-unfoldable pub after : (looped : Bool) → Form → Acted → Acted
-after looped form a = after_by looped form a.machine a.shell a.run
+unfoldable pub after : (around : List Form) → Form → Acted → Acted
+after around form a = after_by around form a.machine a.shell a.run
 
 -- a built-in acts, and statuses go outward until the place is an action
-abbrev pub at_action : (looped : Bool) → KernelState → Shell → Run → Acted
-at_action looped s shell (At active) =
-    let p = effect_at s shell active in with_run s p.shell (within_run looped p.run)
-at_action looped s shell (In form run) = after looped form (at_action (is_loop form || looped) s shell run)
+abbrev pub at_action : (around : List Form) → KernelState → Shell → Run → Acted
+at_action around s shell (At active) =
+    let p = effect_at s shell active in with_run s p.shell (within_run (exits_on_error p.shell) around p.run)
+at_action around s shell (In form run) = after around form (at_action (form ∷ around) s shell run)
 
 -- a shell goes on at a step behind what a built-in did, inside whatever forms there are
 pub record HasPerformed (shell : Shell) (step : Step) (p : Performed) : Type 0 where
@@ -190,7 +212,7 @@ pub record IsActed (kernel : KernelKept) (shell : Shell) (ran : Run) (a : Acted)
 -- ---- the same by the list of the forms, the innermost first: each is settled by those that are around it
 abbrev pub outward : List Form → Acted → Acted
 outward [] a = a
-outward (form ∷ forms) a = outward forms (after (has_loop forms) form a)
+outward (form ∷ forms) a = outward forms (after forms form a)
 
 -- where a shell goes on that changed only itself, inside the forms that there were before
 pub record Follows (s : KernelState) (shell : Shell) (now before : List Form) (step : Step) (a : Acted) : Type 0 where

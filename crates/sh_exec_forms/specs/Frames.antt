@@ -1,10 +1,11 @@
 -- The forms round the place where a shell acts, as a list with the innermost first.
-use Rattle.std.specs.Prelude.{◌≡◌, List, [], ◌∷◌, ◌||◌, Bool, true, false, length, ◌<◌, ⊤}
-use Rattle.sh_exec_command.specs.declared.running.Active.{Active}
-use Rattle.sh_exec_command.specs.declared.running.Active.TheVariants.{Acting, Next, Done, Leaving}
+use Rattle.std.specs.Prelude.{◌≡◌, List, [], ◌∷◌, map, reverse, ◌||◌, Bool, true, false, length, ◌<◌, ⊤}
+use Rattle.sh_exec_actions.specs.declared.action.Active.{Active}
+use Rattle.sh_exec_actions.specs.declared.action.Active.TheVariants.{Acting, Next, Done, Leaving}
 use Rattle.sh_exec_forms.specs.Running.{Run, At, In}
 use Rattle.sh_exec_forms.specs.declared.form.Form.{Form}
-use Rattle.sh_exec_forms.specs.declared.form.Form.TheVariants.{Text, Commands, Joined, Negated, Restoring, If, Condition, Body, ForBody}
+use Rattle.sh_exec_forms.specs.declared.form.Form.TheVariants.{Text, Commands, Joined, Negated, Restoring, If, Condition, Body, ForBody, FailuresIgnored}
+use Rattle.sh_exec_forms.specs.declared.form.Frame.{Frame}
 use Rattle.sh_exec_forms.specs.declared.step.Step.{Step}
 use Rattle.sh_exec_forms.specs.declared.step.Step.TheVariants.{Outward, Inward}
 
@@ -26,11 +27,56 @@ is_loop (If branches) = false
 is_loop (Condition loop last) = true
 is_loop (Body loop) = true
 is_loop (ForBody series) = true
+is_loop FailuresIgnored = false
 
 -- whether a loop is among some forms
 abbrev pub has_loop : List Form → Bool
 has_loop [] = false
 has_loop (form ∷ forms) = is_loop form || has_loop forms
+
+-- whether `set -e` takes no notice of a failure inside a form, whatever is around it (2.15, set): in a condition, in a pipeline of an
+-- AND-OR list that isn't its last, after `!`, and in a process that was made where this was so
+abbrev pub ignores_failure : Form → Bool
+ignores_failure (Text rest) = false
+ignores_failure (Commands items) = false
+ignores_failure (Joined others) = true
+ignores_failure Negated = true
+ignores_failure (Restoring undo) = false
+ignores_failure (If branches) = true
+ignores_failure (Condition loop last) = true
+ignores_failure (Body loop) = false
+ignores_failure (ForBody series) = false
+ignores_failure FailuresIgnored = true
+
+-- the same inside some forms
+abbrev pub is_failure_ignored : List Form → Bool
+is_failure_ignored [] = false
+is_failure_ignored (form ∷ around) = ignores_failure form || is_failure_ignored around
+
+-- the forms with which a process begins
+abbrev pub root_forms : (ignored : Bool) → List Form
+root_forms true = FailuresIgnored ∷ []
+root_forms false = []
+
+-- forms, each with whether a failure inside it is ignored
+abbrev pub framed : List Form → List Frame
+framed [] = []
+framed (form ∷ around) = record { form = form; ignores_failure = is_failure_ignored (form ∷ around) } ∷ framed around
+
+abbrev pub forms_in : List Frame → List Form
+forms_in frames = map (λ frame. frame.form) frames
+
+-- the forms round the place of a tree that stands inside some forms, and of a whole tree
+abbrev pub forms_round : (around : List Form) → Run → List Form
+forms_round around (At active) = around
+forms_round around (In form run) = forms_round (form ∷ around) run
+
+abbrev pub path_of : Run → List Form
+path_of run = forms_round [] run
+
+-- the forms of a tree, the outermost first
+abbrev pub frames_of : Run → List Frame
+frames_of run = reverse (framed (path_of run))
 
 -- whether all that runs is done or left, so that what is around it goes on
 abbrev pub is_over : Run → Bool

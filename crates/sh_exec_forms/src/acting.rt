@@ -11,7 +11,7 @@ use crate::step::Step;
 use sh_base::NoMemory;
 use sh_base::sequence::Text;
 use sh_builtin::{Builtin, Completion, Outcome, Shell};
-use sh_exec_command::{Action, Active, Finish, Report};
+use sh_exec_actions::{Action, Active, CommandStatus, Finish, Report};
 use sh_exec_parts::Queue;
 use sh_exec_parts::message::Piece;
 use sh_kernel::Kernel;
@@ -22,7 +22,7 @@ fn at_completion(status: Completion) -> Active
     ensures { result ≡ at_completion status }
 {
     match status {
-        Completion::Done(status) => Active::Done(status),
+        Completion::Done(status) => Active::Done(CommandStatus::unexcused(status)),
         Completion::Left(leave) => Active::Leaving(leave),
     }
 }
@@ -105,7 +105,7 @@ fn step_at(active: Active) -> Step
     match active {
         Active::Acting(builtin, fields) => Step::Inward(Active::Acting(builtin, fields)),
         Active::Next(place) => Step::Inward(Active::Next(place)),
-        Active::Done(status) => Step::Outward(Active::Done(status)),
+        Active::Done(ended) => Step::Outward(Active::Done(ended)),
         Active::Leaving(leave) => Step::Outward(Active::Leaving(leave)),
     }
 }
@@ -126,7 +126,7 @@ pub(crate) fn perform(
             Ok(step_at(next))
         },
         Active::Next(place) => Ok(Step::Inward(Active::Next(place))),
-        Active::Done(status) => Ok(Step::Outward(Active::Done(status))),
+        Active::Done(ended) => Ok(Step::Outward(Active::Done(ended))),
         Active::Leaving(leave) => Ok(Step::Outward(Active::Leaving(leave))),
     }
 }

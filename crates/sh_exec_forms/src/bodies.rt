@@ -1,16 +1,17 @@
 //! Commands for which a process is made (XCU 2.12).
 ghost use Rattle.std.specs.Prelude.{◌≡◌, IfOk, None, option_map};
+ghost use Rattle.sh_exec_actions.specs.Statuses.{unexcused};
 ghost use Rattle.sh_exec_forms.specs.Bodies.{body_of, own_compound, own_form, sole_and_or, sole_item, sole_pipeline, stage_run};
 ghost use Rattle.sh_exec_forms.specs.Entering.{command_run, items_run};
 ghost use Rattle.sh_exec_forms.specs.Frames.{run_in, run_of};
 
 use crate::entering::{enter, enter_command};
 use crate::frames::Frames;
-use crate::share::share_all;
 use sh_base::NoMemory;
 use sh_base::shared::Shared;
-use sh_exec_command::{Action, Active, first_place};
-use sh_exec_parts::is_negated;
+use sh_exec_actions::{Action, Active, CommandStatus};
+use sh_exec_command::first_place;
+use sh_exec_parts::{Queue, is_negated};
 use sh_syntax::tree::{AndOr, Command, Compound, CompoundForm, CompoundList, ListItem, Pipeline};
 use std::alloc::Global;
 
@@ -137,10 +138,10 @@ fn sole_item(
 /// Copies of AND-OR lists, entered.
 fn enter_copies(alloc: Global, frames: &mut Frames, items: &[ListItem]) -> Result<Active, NoMemory>
     ensures { IfOk result (λ active.
-        run_of frames.new active ≡ run_in frames.old (items_run items.now 0)) }
+        run_of frames.new active ≡ run_in frames.old (items_run items.now (unexcused 0))) }
 {
-    let items = share_all(alloc, items)?;
-    let step = enter(alloc, frames, items, 0)?;
+    let items = Queue::of_copies(alloc, items)?;
+    let step = enter(alloc, frames, items, CommandStatus::unexcused(0))?;
     Ok(step.into_active())
 }
 

@@ -1,7 +1,7 @@
 //! Copies of running forms, which are equal to what they are copies of.
 ghost use Rattle.std.specs.Prelude.{◌≡◌, IfOk};
 
-use crate::form::{Branches, Form, Loop};
+use crate::form::{Branches, Form, Frame, Loop};
 use sh_base::NoMemory;
 use sh_base::shared::Shared;
 use sh_exec_parts::Copying;
@@ -77,6 +77,16 @@ impl Copying for Form {
             },
             Form::Body(looping) => Ok(Form::Body(looping.copy(alloc)?)),
             Form::ForBody(series) => Ok(Form::ForBody(series.copy(alloc)?)),
+            Form::FailuresIgnored => Ok(Form::FailuresIgnored),
         }
+    }
+}
+
+impl Copying for Frame {
+    fn copy(&self, alloc: Global) -> Result<Frame, NoMemory> {
+        Ok(Frame {
+            form: self.form.copy(alloc)?,
+            ignores_failure: self.ignores_failure,
+        })
     }
 }

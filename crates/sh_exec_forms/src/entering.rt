@@ -1,18 +1,19 @@
 //! Commands are entered.
 ghost use Rattle.std.specs.Prelude.{◌≡◌, ◌∷◌, [], IfOk, OnOk, None, option_map};
 ghost use Rattle.sh_exec_parts.specs.Pipelines.{commands_of};
+ghost use Rattle.sh_exec_actions.specs.Statuses.{unexcused};
 ghost use Rattle.sh_exec_forms.specs.Entering.{and_or_run, command_run, commands_run, compound_entry, form_entry, items_run, list_run, pipeline_run, staging, with_others};
 ghost use Rattle.sh_exec_forms.specs.Running.{Run};
 ghost use Rattle.sh_exec_forms.specs.Frames.{Goes};
 
 use crate::form::{Branches, Form, Loop};
 use crate::frames::Frames;
-use crate::share::share_all;
 use crate::step::Step;
 use sh_base::NoMemory;
 use sh_base::sequence::Sequence;
 use sh_base::shared::Shared;
-use sh_exec_command::{Action, Active, Stages, ToExpand, first_place};
+use sh_exec_actions::{Action, Active, CommandStatus, Stages, ToExpand};
+use sh_exec_command::first_place;
 use sh_exec_parts::{Queue, commands_of, is_negated};
 use sh_syntax::tree::{
     AndOr, Command, Compound, CompoundForm, CompoundList, Connected, ElseIf, ListItem, LoopKind,
@@ -61,7 +62,7 @@ fn branches_of(
         None => None,
     };
     let body = body.share()?;
-    let else_ifs = share_all(alloc, else_ifs)?;
+    let else_ifs = Queue::of_copies(alloc, else_ifs)?;
     Ok(Branches {
         body,
         else_ifs,
@@ -115,10 +116,10 @@ fn push_loop(
     body: &Shared<CompoundList>,
 ) -> Result<(), NoMemory>
     ensures { OnOk result (frames.new ≡ Form.Condition
-        (record { kind = kind; condition = condition.now; body = body.now }) 0 ∷ frames.old) }
+        (record { kind = kind; condition = condition.now; body = body.now }) (unexcused 0) ∷ frames.old) }
 {
     let looping = loop_of(kind, condition, body)?;
-    frames.push(Form::Condition(looping, 0))
+    frames.push(Form::Condition(looping, CommandStatus::unexcused(0)))
 }
 
 /// A `for`, whose words are to be expanded.
@@ -165,7 +166,7 @@ fn enter_form(
         },
         CompoundForm::For { .. } => Ok(Step::Inward(series(command)?)),
         CompoundForm::ForParameters { .. } => Ok(Step::Inward(series(command)?)),
-        CompoundForm::Case { .. } => Ok(Step::Outward(Active::Done(0))),
+        CompoundForm::Case { .. } => Ok(Step::Outward(Active::Done(CommandStatus::unexcused(0)))),
     }
 }
 
@@ -198,7 +199,7 @@ pub(crate) fn enter_command(
             Ok(Step::Inward(Active::Next(place)))
         },
         Command::Compound(compound) => enter_compound(alloc, frames, compound.get(), command),
-        Command::Function { .. } => Ok(Step::Outward(Active::Done(0))),
+        Command::Function { .. } => Ok(Step::Outward(Active::Done(CommandStatus::unexcused(0)))),
     }
 }
 
@@ -263,7 +264,7 @@ pub(crate) fn enter_joined(
 fn enter_and_or(alloc: Global, frames: &mut Frames, list: &AndOr) -> Result<Step, NoMemory>
     ensures { IfOk result (λ step. Goes step frames.new frames.old (and_or_run list.now)) }
 {
-    let others = share_all(alloc, list.rest.as_slice())?;
+    let others = Queue::of_copies(alloc, list.rest.as_slice())?;
     enter_joined(alloc, frames, list.first.get(), others)
 }
 
@@ -271,7 +272,7 @@ fn enter_and_or(alloc: Global, frames: &mut Frames, list: &AndOr) -> Result<Step
 fn push_items(alloc: Global, frames: &mut Frames, items: &[ListItem]) -> Result<(), NoMemory>
     ensures { OnOk result (frames.new ≡ Form.Commands items.now ∷ frames.old) }
 {
-    let items = share_all(alloc, items)?;
+    let items = Queue::of_copies(alloc, items)?;
     frames.push(Form::Commands(items))
 }
 
@@ -281,19 +282,19 @@ pub fn enter_list(alloc: Global, frames: &mut Frames, list: &CompoundList) -> Re
     ensures { IfOk result (λ step. Goes step frames.new frames.old (list_run list.now)) }
 {
     let Some((item, others)) = list.items.as_slice().split_first() else {
-        return Ok(Step::Outward(Active::Done(0)));
+        return Ok(Step::Outward(Active::Done(CommandStatus::unexcused(0))));
     };
     push_items(alloc, frames, others)?;
     let step = enter_and_or(alloc, frames, item.list.get())?;
     Ok(step.inside())
 }
 
-/// AND-OR lists one after another, entered after a command that had this status. The only error is want of memory.
+/// AND-OR lists one after another, entered after a command that ended so. The only error is want of memory.
 pub fn enter(
     alloc: Global,
     frames: &mut Frames,
     items: Queue<ListItem>,
-    status: u8,
+    status: CommandStatus,
 ) -> Result<Step, NoMemory>
     ensures { IfOk result (λ step. Goes step frames.new frames.old (items_run items status)) }
 {

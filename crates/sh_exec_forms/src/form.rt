@@ -1,6 +1,6 @@
 //! Running forms.
 use sh_base::shared::Shared;
-use sh_exec_command::{ForLoop, Undo};
+use sh_exec_actions::{CommandStatus, ForLoop, Undo};
 use sh_exec_parts::{Queue, Rest};
 use sh_syntax::tree::{CompoundList, Connected, ElseIf, ListItem, LoopKind};
 
@@ -38,10 +38,20 @@ pub enum Form {
     Restoring(Undo),
     /// A condition of an `if`.
     If(Branches),
-    /// The condition of a loop, and the status of its body's last run, 0 before the first.
-    Condition(Loop, u8),
+    /// The condition of a loop, and how its body's last run ended: with 0 before the first.
+    Condition(Loop, CommandStatus),
     /// The body of such a loop.
     Body(Loop),
     /// The body of a `for` (2.9.4.2), with the values that its variable is still to have.
     ForBody(ForLoop),
+    /// All of a process that was made where failures are ignored: they are ignored there too (2.15, set -e).
+    FailuresIgnored,
+}
+
+/// A running form, and what holds of all that runs inside it.
+#[derive(Drop)]
+pub struct Frame {
+    pub form: Form,
+    /// Whether `set -e` takes no notice of a failure inside it (2.15, set), because of this form or of one around it.
+    pub ignores_failure: bool,
 }

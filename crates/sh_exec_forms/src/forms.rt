@@ -1,5 +1,5 @@
 //! What a form becomes when what runs inside it is done, or leaves it.
-ghost use Rattle.std.specs.Prelude.{◌≡◌, IfOk, false};
+ghost use Rattle.std.specs.Prelude.{◌≡◌, [], IfOk};
 ghost use Rattle.sh_kernel.specs.State.{KernelState, StandsAt};
 ghost use Rattle.sh_syntax.specs.declared.tree.Command.TheViews as view;
 ghost use Rattle.sh_exec_forms.specs.Entering.{list_run, pipeline_run, with_others};
@@ -11,23 +11,30 @@ use crate::acting::perform;
 use crate::entering::{enter, enter_inside, enter_joined, enter_list};
 use crate::form::{Branches, Form};
 use crate::frames::Frames;
-use crate::loops::{bound, leave_loop, leave_series, next_value, repeat, test};
+use crate::loops::{leave_loop, leave_series, next_value, repeat, test, within};
 use crate::step::Step;
 use sh_base::NoMemory;
 use sh_base::shared::Shared;
 use sh_builtin::{Leave, Shell};
-use sh_exec_command::{Action, Active, Move, Undo, restore_variables};
+use sh_exec_actions::{Action, Active, CommandStatus, Move, Undo};
+use sh_exec_command::restore_variables;
 use sh_exec_machine::restore_all;
 use sh_exec_parts::Queue;
 use sh_kernel::Kernel;
 use sh_syntax::tree::{CompoundList, Connected, Connector, ElseIf};
 use std::alloc::Global;
 
-/// The status of a pipeline after `!`.
-fn negation(status: u8) -> u8
-    ensures { result ≡ negation status }
+/// How a pipeline after `!` ends. A failure that this makes of a success is excused (2.15, set -e).
+fn negation(ended: CommandStatus) -> CommandStatus
+    ensures { result ≡ negation ended.status }
 {
-    if status == 0 { 1 } else { 0 }
+    if ended.status != 0 {
+        return CommandStatus::unexcused(0);
+    }
+    CommandStatus {
+        status: 1,
+        excused: true,
+    }
 }
 
 /// Whether what is after a connector is run after this status (2.9.3).
@@ -60,17 +67,17 @@ fn connect(
     alloc: Global,
     frames: &mut Frames,
     others: Queue<Connected>,
-    status: u8,
+    ended: CommandStatus,
 ) -> Result<Step, NoMemory>
-    ensures { IfOk result (λ step. Goes step frames.new frames.old (connected_run others status)) }
+    ensures { IfOk result (λ step. Goes step frames.new frames.old (connected_run others ended)) }
 {
     let mut others = others;
     'others: while let Some(next) = others.take() {
-        if goes_on(next.connector, status) {
+        if goes_on(next.connector, ended.status) {
             return enter_next(alloc, frames, next, others);
         }
     }
-    Ok(Step::Outward(Active::Done(status)))
+    Ok(Step::Outward(Active::Done(ended)))
 }
 
 /// What an `if` goes on with after a condition that failed.
@@ -97,7 +104,7 @@ fn otherwise(
         },
         None => match else_body {
             Some(list) => enter_list(alloc, frames, list.get()),
-            None => Ok(Step::Outward(Active::Done(0))),
+            None => Ok(Step::Outward(Active::Done(CommandStatus::unexcused(0)))),
         },
     }
 }
@@ -160,50 +167,51 @@ fn end_form(
     shell: &mut Shell,
     frames: &mut Frames,
     form: Form,
-    status: u8,
+    ended: CommandStatus,
 ) -> Result<Step, NoMemory>
     ensures state { (s : KernelState) → StandsAt kernel.old s → IfOk result (λ step.
         HasGone kernel.new shell.new frames.new frames.old step
-        (after_status form s shell.old status)) }
+        (after_status form s shell.old ended)) }
     ensures kept { IfOk result (λ step. Leaves step frames.new frames.old) }
     ensures terminal { kernel.new.terminal ≡ kernel.old.terminal }
 {
     match form {
-        Form::Text(rest) => Ok(Step::Inward(Active::Next(Action::Reading(rest, status)))),
+        Form::Text(rest) => Ok(Step::Inward(Active::Next(Action::Reading(rest, ended.status)))),
         Form::Commands(items) => {
-            shell.vars.set_status(status);
-            let step = enter(alloc, frames, items, status)?;
+            shell.vars.set_status(ended.status);
+            let step = enter(alloc, frames, items, ended)?;
             Ok(step)
         },
         Form::Joined(others) => {
-            shell.vars.set_status(status);
-            let step = connect(alloc, frames, others, status)?;
+            shell.vars.set_status(ended.status);
+            let step = connect(alloc, frames, others, ended)?;
             Ok(step)
         },
-        Form::Negated => Ok(Step::Outward(Active::Done(negation(status)))),
+        Form::Negated => Ok(Step::Outward(Active::Done(negation(ended)))),
         Form::Restoring(change) => {
-            let active = undo(kernel, shell, change, Active::Done(status))?;
+            let active = undo(kernel, shell, change, Active::Done(ended))?;
             Ok(Step::Outward(active))
         },
         Form::If(branches) => {
-            shell.vars.set_status(status);
-            let step = branch(alloc, frames, branches, status)?;
+            shell.vars.set_status(ended.status);
+            let step = branch(alloc, frames, branches, ended.status)?;
             Ok(step)
         },
         Form::Condition(looping, last) => {
-            shell.vars.set_status(status);
-            let step = test(alloc, frames, looping, last, status)?;
+            shell.vars.set_status(ended.status);
+            let step = test(alloc, frames, looping, last, ended.status)?;
             Ok(step)
         },
         Form::Body(looping) => {
-            shell.vars.set_status(status);
-            let step = repeat(alloc, frames, looping, status)?;
+            shell.vars.set_status(ended.status);
+            let step = repeat(alloc, frames, looping, ended)?;
             Ok(step)
         },
         Form::ForBody(series) => {
-            shell.vars.set_status(status);
-            Ok(next_value(series, status))
+            shell.vars.set_status(ended.status);
+            Ok(next_value(series, ended))
         },
+        Form::FailuresIgnored => Ok(Step::Outward(Active::Done(ended))),
     }
 }
 
@@ -219,7 +227,7 @@ fn leave_form(
 ) -> Result<Step, NoMemory>
     ensures state { (s : KernelState) → StandsAt kernel.old s → IfOk result (λ step.
         HasGone kernel.new shell.new frames.new frames.old step
-        (after_leave (has_loop frames.old) form s shell.old leave)) }
+        (after_leave frames.old form s shell.old leave)) }
     ensures kept { IfOk result (λ step. Leaves step frames.new frames.old) }
     ensures terminal { kernel.new.terminal ≡ kernel.old.terminal }
 {
@@ -238,10 +246,18 @@ fn leave_form(
             Ok(step)
         },
         Form::Body(looping) => {
-            let step = leave_loop(alloc, shell, frames, looping, 0, leave)?;
+            let step = leave_loop(
+                alloc,
+                shell,
+                frames,
+                looping,
+                CommandStatus::unexcused(0),
+                leave,
+            )?;
             Ok(step)
         },
         Form::ForBody(series) => Ok(leave_series(shell, frames, series, leave)),
+        Form::FailuresIgnored => Ok(Step::Outward(Active::Leaving(leave))),
     }
 }
 
@@ -263,9 +279,9 @@ fn go_outward(
     match active {
         Active::Next(place) => Ok(Step::Inward(Active::Next(place))),
         Active::Acting(builtin, fields) => Ok(Step::Inward(Active::Acting(builtin, fields))),
-        Active::Done(status) => match frames.pop() {
-            Some(form) => end_form(alloc, kernel, shell, frames, form, status),
-            None => Ok(Step::Inward(Active::Done(status))),
+        Active::Done(ended) => match frames.pop() {
+            Some(form) => end_form(alloc, kernel, shell, frames, form, ended),
+            None => Ok(Step::Inward(Active::Done(ended))),
         },
         Active::Leaving(leave) => match frames.pop() {
             Some(form) => leave_form(alloc, kernel, shell, frames, form, leave),
@@ -309,13 +325,14 @@ pub fn settle(
 ) -> Result<Active, NoMemory>
     ensures state { (s : KernelState) → StandsAt kernel.old s → IfOk result (λ next.
         IsActed kernel.new shell.new (run_of frames.new next)
-        (at_action false s shell.old (run_of frames.old active))) }
+        (at_action [] s shell.old (run_of frames.old active))) }
     ensures terminal { kernel.new.terminal ≡ kernel.old.terminal }
 {
     match perform(alloc, kernel, shell, active)? {
         Step::Inward(active) => Ok(active),
         Step::Outward(active) => {
-            let active = bound(frames, active);
+            let errexit = shell.vars.options().exit_on_error;
+            let active = within(frames, errexit, active);
             let active = settle_outward(alloc, kernel, shell, frames, active)?;
             Ok(active)
         },

@@ -1,8 +1,8 @@
 //! The running forms of a shell.
 ghost use Rattle.std.specs.Prelude.{◌≡◌, ◌∷◌, [], IfOk, MatchOption, OnOk, reverse};
-ghost use Rattle.sh_exec_forms.specs.Frames.{has_loop, is_loop};
+ghost use Rattle.sh_exec_forms.specs.Frames.{forms_in, framed, has_loop, ignores_failure, is_failure_ignored, is_loop, root_forms};
 
-use crate::form::Form;
+use crate::form::{Form, Frame};
 use sh_base::NoMemory;
 use sh_exec_parts::copy_all;
 use std::alloc::Global;
@@ -11,20 +11,23 @@ use std::marker::Model;
 /// The running forms round the place where a shell acts, the outermost first. Contracts see them with the innermost first.
 #[derive(Drop)]
 pub struct Frames {
-    forms: Vec<Form>,
+    frames: Vec<Frame>,
 }
 
 impl Model for Frames {
-    ghost use Rattle.std.specs.Prelude.{List, reverse};
+    ghost use Rattle.std.specs.Prelude.{◌≡◌, List, reverse};
     ghost use Rattle.std.specs.Coded.{codes};
     ghost use Rattle.sh_exec_forms.specs.Codes.{forms_code};
+    ghost use Rattle.sh_exec_forms.specs.Frames.{forms_in, framed};
     ghost use Rattle.sh_exec_forms.specs.declared.form.Form.{Form};
 
     ghost Value = { List Form };
 
     ghost coded = { Prim.hlevel (codes, forms_code) };
 
-    ghost view = { λ f. reverse f.forms.items };
+    ghost view = { λ f. forms_in (reverse f.frames.items) };
+
+    ghost invariant = { λ f. reverse f.frames.items ≡ framed (forms_in (reverse f.frames.items)) };
 }
 
 impl Frames {
@@ -33,15 +36,31 @@ impl Frames {
         ensures { result ≡ [] }
     {
         Frames {
-            forms: Vec::new(alloc),
+            frames: Vec::new(alloc),
         }
+    }
+
+    /// The forms with which a process begins, which ignores failures if it was made where they are ignored (XCU 2.15, set -e).
+    /// The only error is want of memory.
+    pub fn of_process(alloc: Global, ignores_failure: bool) -> Result<Self, NoMemory>
+        ensures { IfOk result (λ frames. frames ≡ root_forms ignores_failure) }
+    {
+        let mut frames = Frames::new(alloc);
+        if ignores_failure {
+            frames.push(Form::FailuresIgnored)?;
+        }
+        Ok(frames)
     }
 
     /// A form inside all others. The only error is want of memory; the form is gone then.
     pub fn push(&mut self, form: Form) -> Result<(), NoMemory>
         ensures { OnOk result (self.new ≡ form ∷ self.old) }
     {
-        self.forms.push(form)?;
+        let ignores_failure = ignores_failure(&form) || self.is_failure_ignored();
+        self.frames.push(Frame {
+            form,
+            ignores_failure,
+        })?;
         Ok(())
     }
 
@@ -50,14 +69,17 @@ impl Frames {
         ensures { MatchOption result ((self.old ≡ []) × (self.new ≡ [])) (λ form.
             self.old ≡ form ∷ self.new) }
     {
-        self.forms.pop()
+        match self.frames.pop() {
+            Some(frame) => Some(frame.form),
+            None => None,
+        }
     }
 
-    /// The forms, the outermost first.
-    pub fn as_slice(&self) -> &[Form]
-        ensures { result.now ≡ reverse self.now }
+    /// The forms, the outermost first, each with whether failures inside it are ignored.
+    pub fn as_slice(&self) -> &[Frame]
+        ensures { result.now ≡ reverse (framed self.now) }
     {
-        self.forms.as_slice()
+        self.frames.as_slice()
     }
 
     /// A copy, which is equal. The only error is want of memory.
@@ -65,7 +87,7 @@ impl Frames {
         ensures { IfOk result (λ frames. frames ≡ self.now) }
     {
         Ok(Frames {
-            forms: copy_all(alloc, self.forms.as_slice())?,
+            frames: copy_all(alloc, self.frames.as_slice())?,
         })
     }
 
@@ -73,17 +95,27 @@ impl Frames {
     pub fn has_loop(&self) -> bool
         ensures { result ≡ has_loop self.now }
     {
-        is_loop_among(self.forms.as_slice())
+        is_loop_among(self.frames.as_slice())
+    }
+
+    /// Whether `set -e` takes no notice of a failure inside them. Looks at the innermost one only.
+    pub fn is_failure_ignored(&self) -> bool
+        ensures { result ≡ is_failure_ignored self.now }
+    {
+        match self.frames.last() {
+            Some(frame) => frame.ignores_failure,
+            None => false,
+        }
     }
 }
 
 /// Whether a loop is among some forms.
-fn is_loop_among(forms: &[Form]) -> bool
-    ensures { result ≡ has_loop forms.now }
+fn is_loop_among(frames: &[Frame]) -> bool
+    ensures { result ≡ has_loop (forms_in frames.now) }
 {
-    let mut rest = forms;
-    while let Some((form, others)) = rest.split_first() {
-        if is_loop(form) {
+    let mut rest = frames;
+    while let Some((frame, others)) = rest.split_first() {
+        if is_loop(&frame.form) {
             return true;
         }
         rest = others;
@@ -105,5 +137,24 @@ fn is_loop(form: &Form) -> bool
         Form::Condition(_, _) => true,
         Form::Body(_) => true,
         Form::ForBody(_) => true,
+        Form::FailuresIgnored => false,
+    }
+}
+
+/// Whether `set -e` takes no notice of a failure inside a form, whatever is around it (XCU 2.15, set).
+fn ignores_failure(form: &Form) -> bool
+    ensures { result ≡ ignores_failure form.now }
+{
+    match form {
+        Form::Text(_) => false,
+        Form::Commands(_) => false,
+        Form::Joined(_) => true,
+        Form::Negated => true,
+        Form::Restoring(_) => false,
+        Form::If(_) => true,
+        Form::Condition(_, _) => true,
+        Form::Body(_) => false,
+        Form::ForBody(_) => false,
+        Form::FailuresIgnored => true,
     }
 }

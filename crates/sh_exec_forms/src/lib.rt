@@ -10,13 +10,12 @@ mod form;
 mod forms;
 mod frames;
 mod loops;
-mod share;
 mod step;
 
 pub use acting::reported;
 pub use bodies::{body_of, stage};
 pub use entering::{enter, enter_list};
-pub use form::{Branches, Form, Loop};
+pub use form::{Branches, Form, Frame, Loop};
 pub use forms::{go_to, settle};
 pub use frames::Frames;
 pub use step::Step;

@@ -1,9 +1,10 @@
-//! Loops, and break and continue in them.
+//! Loops, break and continue in them, and failures that are ignored.
 ghost use Rattle.std.specs.Prelude.{◌≡◌, IfOk, List};
 ghost use Rattle.sh_exec_forms.specs.declared.form.Form.{Form};
+ghost use Rattle.sh_exec_actions.specs.Statuses.{unexcused};
 ghost use Rattle.sh_exec_command.specs.Series.{rest_of_series};
-ghost use Rattle.sh_exec_forms.specs.Forms.{Acted, Follows, behind_condition, beyond, condition_run, loop_left, onward, onward_by, runs, within_loop};
-ghost use Rattle.sh_exec_forms.specs.Frames.{Goes, Leaves, has_loop};
+ghost use Rattle.sh_exec_forms.specs.Forms.{Acted, Follows, behind_condition, beyond, condition_run, ended_within, left_within, loop_left, onward, onward_by, runs, within};
+ghost use Rattle.sh_exec_forms.specs.Frames.{Goes, Leaves, has_loop, is_failure_ignored};
 ghost use Rattle.sh_exec_forms.specs.Running.{Run};
 ghost use Rattle.sh_kernel.specs.State.{KernelState};
 
@@ -13,7 +14,8 @@ use crate::frames::Frames;
 use crate::step::Step;
 use sh_base::NoMemory;
 use sh_builtin::{Leave, Shell};
-use sh_exec_command::{Active, ForLoop};
+use sh_exec_actions::{Active, CommandStatus, ForLoop};
+use sh_exec_command::rest_of_series;
 use sh_syntax::tree::LoopKind;
 use std::alloc::Global;
 
@@ -27,30 +29,57 @@ pub(crate) enum Onward {
     On,
 }
 
+/// A command that ended: a failure is excused where failures are ignored, and else ends the shell if `set -e` says so (XCU 2.15,
+/// set).
+fn end_within(frames: &Frames, errexit: bool, ended: CommandStatus) -> Active
+    ensures { result ≡ ended_within errexit (is_failure_ignored frames.now) ended }
+{
+    if ended.status == 0 {
+        return Active::Done(ended);
+    }
+    if frames.is_failure_ignored() {
+        return Active::Done(CommandStatus {
+            status: ended.status,
+            excused: true,
+        });
+    }
+    if errexit && !ended.excused {
+        return Active::Leaving(Leave::Exit(ended.status));
+    }
+    Active::Done(ended)
+}
+
 /// break and continue do nothing where no loop is around.
-pub(crate) fn bound(frames: &Frames, active: Active) -> Active
-    ensures { result ≡ within_loop (has_loop frames.now) active }
+fn leave_within(frames: &Frames, leave: Leave) -> Active
+    ensures { result ≡ left_within (has_loop frames.now) leave }
+{
+    match leave {
+        Leave::Exit(status) => Active::Leaving(Leave::Exit(status)),
+        Leave::Fault(status) => Active::Leaving(Leave::Fault(status)),
+        Leave::Break(inside) => {
+            if frames.has_loop() {
+                return Active::Leaving(Leave::Break(inside));
+            }
+            Active::Done(CommandStatus::unexcused(0))
+        },
+        Leave::Continue(inside) => {
+            if frames.has_loop() {
+                return Active::Leaving(Leave::Continue(inside));
+            }
+            Active::Done(CommandStatus::unexcused(0))
+        },
+    }
+}
+
+/// What a place comes to inside the forms that are around it, with or without `set -e`.
+pub(crate) fn within(frames: &Frames, errexit: bool, active: Active) -> Active
+    ensures { result ≡ within errexit frames.now active }
 {
     match active {
         Active::Acting(builtin, fields) => Active::Acting(builtin, fields),
         Active::Next(place) => Active::Next(place),
-        Active::Done(status) => Active::Done(status),
-        Active::Leaving(leave) => match leave {
-            Leave::Exit(status) => Active::Leaving(Leave::Exit(status)),
-            Leave::Fault(status) => Active::Leaving(Leave::Fault(status)),
-            Leave::Break(inside) => {
-                if frames.has_loop() {
-                    return Active::Leaving(Leave::Break(inside));
-                }
-                Active::Done(0)
-            },
-            Leave::Continue(inside) => {
-                if frames.has_loop() {
-                    return Active::Leaving(Leave::Continue(inside));
-                }
-                Active::Done(0)
-            },
-        },
+        Active::Done(ended) => end_within(frames, errexit, ended),
+        Active::Leaving(leave) => leave_within(frames, leave),
     }
 }
 
@@ -88,7 +117,7 @@ pub(crate) fn leave_loop(
     shell: &mut Shell,
     frames: &mut Frames,
     looping: Loop,
-    last: u8,
+    last: CommandStatus,
     leave: Leave,
 ) -> Result<Step, NoMemory>
     ensures follows { (s : KernelState) → IfOk result (λ step. Follows s shell.new frames.new frames.old step
@@ -97,7 +126,7 @@ pub(crate) fn leave_loop(
 {
     match where_to(frames, leave) {
         Onward::Left(leave) => Ok(Step::Outward(Active::Leaving(leave))),
-        Onward::Over => Ok(Step::Outward(Active::Done(0))),
+        Onward::Over => Ok(Step::Outward(Active::Done(CommandStatus::unexcused(0)))),
         Onward::On => {
             shell.vars.set_status(0);
             let step = repeat(alloc, frames, looping, last)?;
@@ -114,23 +143,23 @@ pub(crate) fn leave_series(
     leave: Leave,
 ) -> Step
     ensures { (s : KernelState) → Follows s shell.new frames.now frames.now result
-        (loop_left s shell.old (Run.At (rest_of_series series 0)) (onward (has_loop frames.now) leave)) }
+        (loop_left s shell.old (Run.At (rest_of_series series (unexcused 0))) (onward (has_loop frames.now) leave)) }
 {
     match where_to(frames, leave) {
         Onward::Left(leave) => Step::Outward(Active::Leaving(leave)),
-        Onward::Over => Step::Outward(Active::Done(0)),
+        Onward::Over => Step::Outward(Active::Done(CommandStatus::unexcused(0))),
         Onward::On => {
             shell.vars.set_status(0);
-            next_value(series, 0)
+            next_value(series, CommandStatus::unexcused(0))
         },
     }
 }
 
 /// A `for` goes on with its next value, or is done with this status where none is left.
-pub(crate) fn next_value(series: ForLoop, status: u8) -> Step
+pub(crate) fn next_value(series: ForLoop, status: CommandStatus) -> Step
     ensures { (forms : List Form) → Goes result forms forms (Run.At (rest_of_series series status)) }
 {
-    match series.go_on(status) {
+    match rest_of_series(series, status) {
         Active::Next(place) => Step::Inward(Active::Next(place)),
         active => Step::Outward(active),
     }
@@ -152,7 +181,7 @@ pub(crate) fn test(
     alloc: Global,
     frames: &mut Frames,
     looping: Loop,
-    last: u8,
+    last: CommandStatus,
     status: u8,
 ) -> Result<Step, NoMemory>
     ensures { IfOk result (λ step.
@@ -171,10 +200,10 @@ pub(crate) fn repeat(
     alloc: Global,
     frames: &mut Frames,
     looping: Loop,
-    status: u8,
+    last: CommandStatus,
 ) -> Result<Step, NoMemory>
-    ensures { IfOk result (λ step. Goes step frames.new frames.old (condition_run looping status)) }
+    ensures { IfOk result (λ step. Goes step frames.new frames.old (condition_run looping last)) }
 {
     let condition = looping.condition.share()?;
-    enter_inside(alloc, frames, Form::Condition(looping, status), &condition)
+    enter_inside(alloc, frames, Form::Condition(looping, last), &condition)
 }

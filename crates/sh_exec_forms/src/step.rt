@@ -1,7 +1,7 @@
 //! Where a shell goes on.
 ghost use Rattle.std.specs.Prelude.{◌≡◌};
 
-use sh_exec_command::Active;
+use sh_exec_actions::Active;
 
 /// Where a shell goes on.
 #[derive(Drop)]

@@ -1,5 +1,5 @@
 //! Items that are taken from the front.
-ghost use Rattle.std.specs.Prelude.{◌≡◌, ◌∷◌, [], MatchOption, OnErr, OnOk, length, nat_eq};
+ghost use Rattle.std.specs.Prelude.{◌≡◌, ◌∷◌, [], IfOk, MatchOption, OnErr, OnOk, length, nat_eq};
 
 use crate::copying::{Copying, copy_all};
 use sh_base::NoMemory;
@@ -56,6 +56,15 @@ impl<T: Drop> Queue<T> {
     {
         self.items.push(item)?;
         Ok(())
+    }
+}
+
+impl<T: Copying> Queue<T> {
+    /// Copies of some items, in order. The only error is want of memory.
+    pub fn of_copies(alloc: Global, items: &[T]) -> Result<Self, NoMemory>
+        ensures { IfOk result (λ queue. queue ≡ items.now) }
+    {
+        Ok(Queue::new(Sequence::from_vec(copy_all(alloc, items)?)))
     }
 }
 

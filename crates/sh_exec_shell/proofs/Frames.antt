@@ -1,15 +1,14 @@
 -- A shell's tree and the list of the forms round its place.
-use Rattle.std.proofs.Common.{◌≡◌, ◌≤◌, ℕ, arith, length, List, [], ◌∷◌, ◌++◌, Option, false, reverse, refl, sym, ap, subst, ◌∙◌, append_assoc, append-nil}
-use Rattle.std.proofs.lemmas.List.{reverse-append}
+use Rattle.std.proofs.Common.{◌≡◌, ◌<◌, ◌≤◌, arith, length, List, [], ◌∷◌, Option, reverse, refl, sym, ap, subst, ◌∙◌}
+use Rattle.std.proofs.lemmas.List.{length-reverse}
 use Rattle.sh_builtin.specs.declared.shell.Shell.{Shell}
-use Rattle.sh_exec_command.specs.declared.running.Active.{Active}
-use Rattle.sh_exec_forms.specs.Codes.{forms_of}
+use Rattle.sh_exec_actions.specs.declared.action.Active.{Active}
 use Rattle.sh_exec_forms.specs.Forms.{Acted, IsActed, at_action, outward}
-use Rattle.sh_exec_forms.specs.Frames.{has_loop, run_in, run_of}
+use Rattle.sh_exec_forms.specs.Frames.{forms_round, framed, is_failure_ignored, path_of, run_in, run_of}
 use Rattle.sh_exec_forms.specs.Running.{InterpreterState, Run, At, In, active_of}
 use Rattle.sh_exec_forms.specs.declared.form.Form.{Form}
 use Rattle.sh_exec_forms.proofs.Outward.{by_forms}
-use Rattle.sh_exec_shell.specs.Forks.{IsTurned, Turned}
+use Rattle.sh_exec_shell.specs.Forks.{IsTurned, Turned, inherited}
 use Rattle.sh_exec_shell.specs.Reduction.{act_at, at_root, reduce, shell_turn, with_root}
 use Rattle.sh_kernel.specs.State.{KernelKept, KernelState, StandsAt}
 
@@ -20,64 +19,67 @@ active_in (form ∷ forms) run = active_in forms (In form run)
 pub active_within : (forms : List Form) (active : Active) → active_of (run_of forms active) ≡ active
 active_within forms active = active_in forms (At active)
 
--- the forms of a tree that these forms are round
-forms_in : (forms : List Form) (run : Run) → forms_of (run_in forms run) ≡ reverse forms ++ forms_of run
-forms_in [] run = refl
-forms_in (form ∷ forms) run =
-    forms_in forms (In form run)
-    ∙ sym (append_assoc (reverse forms) (form ∷ []) (forms_of run))
-    ∙ ap (λ these. these ++ forms_of run) (sym (reverse-append (form ∷ []) forms))
+-- the forms round the place of a tree that these forms are round
+path_in : (forms : List Form) (run : Run) → path_of (run_in forms run) ≡ forms_round forms run
+path_in [] run = refl
+path_in (form ∷ forms) run = path_in forms (In form run)
 
-pub forms_within : (forms : List Form) (active : Active) → reverse forms ≡ forms_of (run_of forms active)
-forms_within forms active = sym (forms_in forms (At active) ∙ append-nil (reverse forms))
+pub path_within : (forms : List Form) (active : Active) → path_of (run_of forms active) ≡ forms
+path_within forms active = path_in forms (At active)
 
 -- with a form round it nothing is at the root
 rooted : (form : Form) (forms : List Form) (run : Run) → at_root (run_in forms (In form run)) ≡ run_in forms (In form run)
 rooted form [] run = refl
 rooted form (outer ∷ forms) run = rooted outer forms (In form run)
 
-pub rooted_within : (forms : List Form) (active : Active) → 1 ≤ length (reverse forms) → at_root (run_of forms active) ≡ run_of forms active
+pub rooted_within : (forms : List Form) (active : Active) → 1 ≤ length (reverse (framed forms)) → at_root (run_of forms active) ≡ run_of forms active
 rooted_within [] active h = absurd (omega (arith, h))
 rooted_within (form ∷ forms) active h = rooted form forms (At active)
 
+-- with none round it all is at the root
+pub alone : (forms : List Form) (active rooted : Active) → length (reverse (framed forms)) < 1 → At rooted ≡ at_root (At active)
+    → run_of forms rooted ≡ at_root (run_of forms active)
+alone [] active rooted h e = e
+alone (form ∷ forms) active rooted h e = absurd (omega (arith, length-reverse (framed (form ∷ forms)), h))
+
 -- a turn goes outward form by form
 turned_by_forms : (s : KernelState) (shell : Shell) (forms : List Form) (run : Run)
-    → reduce s shell false (run_in forms run)
-    ≡ record { left = outward forms (reduce s shell (has_loop forms) run).left; child = (reduce s shell (has_loop forms) run).child }
+    → reduce s shell [] (run_in forms run)
+    ≡ record { left = outward forms (reduce s shell forms run).left; child = (reduce s shell forms run).child }
 turned_by_forms s shell [] run = refl
 turned_by_forms s shell (form ∷ forms) run = turned_by_forms s shell forms (In form run)
 
 -- a turn acts at the place, and settles all that then runs
 pub turn_is : (s : KernelState) (shell : Shell) (forms : List Form) (active : Active)
-    → reduce s shell false (run_of forms active)
+    → reduce s shell [] (run_of forms active)
     ≡ record {
-      left = at_action false (act_at s shell active).left.machine (act_at s shell active).left.shell (run_in forms (act_at s shell active).left.run);
-      child = (act_at s shell active).child;
+      left = at_action [] (act_at s shell active).left.machine (act_at s shell active).left.shell (run_in forms (act_at s shell active).left.run);
+      child = inherited (is_failure_ignored forms) (act_at s shell active).child;
     }
 turn_is s shell forms active =
     turned_by_forms s shell forms (At active)
-    ∙ ap (λ (a : Acted). record { left = a; child = (act_at s shell active).child })
+    ∙ ap (λ (a : Acted). record { left = a; child = inherited (is_failure_ignored forms) (act_at s shell active).child })
     (sym (by_forms forms (act_at s shell active).left.machine (act_at s shell active).left.shell (act_at s shell active).left.run))
 
 -- what is settled from what the action left is what the turn leaves
 pub turn_leaves : (s : KernelState) (shell : Shell) (forms : List Form) (active : Active) (shell' : Shell) (run : Run)
     → shell' ≡ (act_at s shell active).left.shell → run ≡ run_in forms (act_at s shell active).left.run
-    → at_action false (act_at s shell active).left.machine shell' run ≡ (reduce s shell false (run_of forms active)).left
+    → at_action [] (act_at s shell active).left.machine shell' run ≡ (reduce s shell [] (run_of forms active)).left
 turn_leaves s shell forms active shell' run e r =
-    ap (λ z. at_action false (act_at s shell active).left.machine z run) e
-    ∙ ap (λ z. at_action false (act_at s shell active).left.machine (act_at s shell active).left.shell z) r
+    ap (λ z. at_action [] (act_at s shell active).left.machine z run) e
+    ∙ ap (λ z. at_action [] (act_at s shell active).left.machine (act_at s shell active).left.shell z) r
     ∙ ap (λ (t : Turned). t.left) (sym (turn_is s shell forms active))
 
 pub turn_makes : (s : KernelState) (shell : Shell) (forms : List Form) (active : Active)
-    → (act_at s shell active).child ≡ (reduce s shell false (run_of forms active)).child
+    → inherited (is_failure_ignored forms) (act_at s shell active).child ≡ (reduce s shell [] (run_of forms active)).child
 turn_makes s shell forms active = ap (λ (t : Turned). t.child) (sym (turn_is s shell forms active))
 
 -- an action at the place, and what is settled from it, are a turn
 pub turned : (s : KernelState) (shell : Shell) (forms : List Form) (active : Active)
     (kernel : KernelKept) (shell' later : Shell) (run ran : Run) (child : Option InterpreterState)
-    → shell' ≡ (act_at s shell active).left.shell → run ≡ run_in forms (act_at s shell active).left.run → child ≡ (act_at s shell active).child
-    → IsActed kernel later ran (at_action false (act_at s shell active).left.machine shell' run)
-    → IsTurned kernel later ran child (reduce s shell false (run_of forms active))
+    → shell' ≡ (act_at s shell active).left.shell → run ≡ run_in forms (act_at s shell active).left.run → child ≡ inherited (is_failure_ignored forms) (act_at s shell active).child
+    → IsActed kernel later ran (at_action [] (act_at s shell active).left.machine shell' run)
+    → IsTurned kernel later ran child (reduce s shell [] (run_of forms active))
 turned s shell forms active kernel shell' later run ran child e r made a =
     let left = turn_leaves s shell forms active shell' run e r in
     record {
@@ -97,9 +99,9 @@ at_its_root kernel shell ran rooted child t i e =
 pub shell_turned : (s : KernelState) (interpreter : InterpreterState) (shell : Shell) (run : Run)
     (kernel : KernelKept) (later : Shell) (ran rooted : Run) (child : Option InterpreterState)
     → interpreter ≡ record { shell = shell; run = run }
-    → IsTurned kernel later ran child (reduce s shell false run) → rooted ≡ at_root ran
+    → IsTurned kernel later ran child (reduce s shell [] run) → rooted ≡ at_root ran
     → IsTurned kernel later rooted child (shell_turn s interpreter)
 unfolding shell_turn
 shell_turned s interpreter shell run kernel later ran rooted child is i e =
     subst (λ (this : InterpreterState). IsTurned kernel later rooted child (shell_turn s this)) (sym is)
-    (at_its_root kernel later ran rooted child (reduce s shell false run) i e)
+    (at_its_root kernel later ran rooted child (reduce s shell [] run) i e)

@@ -14,19 +14,20 @@ use Rattle.sh_exec_command.specs.Series as series
 use Rattle.sh_exec_command.specs.Series.{series_turn}
 use Rattle.sh_exec_command.specs.declared.found.Found.{Found}
 use Rattle.sh_exec_command.specs.declared.found.Found.TheVariants as found
-use Rattle.sh_exec_command.specs.declared.running.Active.{Active}
-use Rattle.sh_exec_command.specs.declared.running.Active.TheVariants.{Next, Done, Leaving}
-use Rattle.sh_exec_command.specs.declared.running.Finish.{Finish}
-use Rattle.sh_exec_command.specs.declared.running.Finish.TheVariants.{Status, Fault, Messages, Output}
-use Rattle.sh_exec_command.specs.declared.running.Pending.{Pending}
-use Rattle.sh_exec_command.specs.declared.running.Action.{Action}
-use Rattle.sh_exec_command.specs.declared.running.Action.TheVariants.{WaitSubstitution, ReadSubstitution, Ending, Expanding, Waiting, Writing}
-use Rattle.sh_exec_command.specs.declared.running.ExpandedCommand.{ExpandedCommand}
-use Rattle.sh_exec_command.specs.declared.running.Role.{Role}
-use Rattle.sh_exec_command.specs.declared.running.Role.TheVariants as role
-use Rattle.sh_exec_command.specs.declared.running.Substitution.{Substitution}
-use Rattle.sh_exec_command.specs.declared.running.ToExpand.{ToExpand}
-use Rattle.sh_exec_command.specs.declared.running.ToExpand.TheVariants.{Words, Values, ForWords}
+use Rattle.sh_exec_actions.specs.Statuses.{unexcused}
+use Rattle.sh_exec_actions.specs.declared.action.Active.{Active}
+use Rattle.sh_exec_actions.specs.declared.action.Active.TheVariants.{Next, Done, Leaving}
+use Rattle.sh_exec_actions.specs.declared.action.Finish.{Finish}
+use Rattle.sh_exec_actions.specs.declared.action.Finish.TheVariants.{Status, Fault, Messages, Output}
+use Rattle.sh_exec_actions.specs.declared.action.Pending.{Pending}
+use Rattle.sh_exec_actions.specs.declared.action.Action.{Action}
+use Rattle.sh_exec_actions.specs.declared.action.Action.TheVariants.{WaitSubstitution, ReadSubstitution, Ending, Expanding, Waiting, Writing}
+use Rattle.sh_exec_actions.specs.declared.action.ExpandedCommand.{ExpandedCommand}
+use Rattle.sh_exec_actions.specs.declared.action.Role.{Role}
+use Rattle.sh_exec_actions.specs.declared.action.Role.TheVariants as role
+use Rattle.sh_exec_actions.specs.declared.action.Substitution.{Substitution}
+use Rattle.sh_exec_actions.specs.declared.action.ToExpand.{ToExpand}
+use Rattle.sh_exec_actions.specs.declared.action.ToExpand.TheVariants.{Words, Values, ForWords}
 use Rattle.sh_exec_command.specs.declared.series.Round.{Round}
 use Rattle.sh_exec_command.specs.declared.series.Round.TheVariants as round
 use Rattle.sh_exec_machine.specs.Redirecting.{redirection_outcome}
@@ -56,7 +57,7 @@ use Rattle.sh_vars.specs.Environment.{Environment}
 -- the first one
 abbrev pub read_turn : Environment → (status : ℕ) → Found → Run
 read_turn env status found.Nothing = At (Leaving (leave.Exit status))
-read_turn env status (found.Command tree rest) = In (Text rest) (items_run (view.out-CompoundList tree).items env.special.status)
+read_turn env status (found.Command tree rest) = In (Text rest) (items_run (view.out-CompoundList tree).items (unexcused env.special.status))
 read_turn env status (found.Fault refusal) = At (fatal (refusal_text refusal))
 
 -- ---- expansion
@@ -114,7 +115,7 @@ answer_turn s pid substitution = answer_by substitution (wait_status s pid subst
 
 abbrev pub wait_by : List ℕ → Option ℕ → Active
 wait_by children None = Next (Waiting children)
-wait_by children (Some status) = Done status
+wait_by children (Some status) = Done (unexcused status)
 
 unfoldable pub wait_turn : KernelState → ℕ → List ℕ → Active
 wait_turn s pid children = wait_by children (wait_status s pid children)
@@ -150,14 +151,14 @@ redirect_turn s shell p = redirect_from s shell p p.redirections
 
 -- ---- writing
 abbrev pub after_writing : Finish → Active
-after_writing (Status status) = Done status
+after_writing (Status status) = Done (unexcused status)
 after_writing (Fault status) = Leaving (leave.Fault status)
 after_writing (Messages report) = reported report
 after_writing (Output builtin report) = reported report
 
 -- a message that can't be written is dropped; a built-in whose output can't be written has 1, and a message before its others
 abbrev pub unwritten : Finish → Active
-unwritten (Status status) = Done status
+unwritten (Status status) = Done (unexcused status)
 unwritten (Fault status) = Leaving (leave.Fault status)
 unwritten (Messages report) = reported report
 unwritten (Output builtin report) =

@@ -4,22 +4,23 @@ use Rattle.sh_builtin.specs.declared.shell.Shell.{Shell}
 use Rattle.sh_exec_parts.specs.Messages.{cannot_fork}
 use Rattle.sh_exec_command.specs.Expanding.{fatal}
 use Rattle.sh_exec_command.specs.Preparing.{ahead}
-use Rattle.sh_exec_command.specs.declared.running.Active.TheVariants.{Next}
-use Rattle.sh_exec_command.specs.declared.running.Move.{Move}
-use Rattle.sh_exec_command.specs.declared.running.Move.TheVariants as move
-use Rattle.sh_exec_command.specs.declared.running.Pending.{Pending}
-use Rattle.sh_exec_command.specs.declared.running.Action.{Action}
-use Rattle.sh_exec_command.specs.declared.running.Action.TheVariants.{ReadSubstitution, ForkStage, Waiting}
-use Rattle.sh_exec_command.specs.declared.running.ExpandedCommand.{ExpandedCommand}
-use Rattle.sh_exec_command.specs.declared.running.Stages.{Stages}
-use Rattle.sh_exec_command.specs.declared.running.Substitution.{Substitution}
-use Rattle.sh_exec_command.specs.declared.running.ToExpand.{ToExpand}
-use Rattle.sh_exec_command.specs.declared.running.ToExpand.TheVariants.{Words, Values, ForWords}
+use Rattle.sh_exec_actions.specs.declared.action.Active.TheVariants.{Next}
+use Rattle.sh_exec_actions.specs.declared.action.Move.{Move}
+use Rattle.sh_exec_actions.specs.declared.action.Move.TheVariants as move
+use Rattle.sh_exec_actions.specs.declared.action.Pending.{Pending}
+use Rattle.sh_exec_actions.specs.declared.action.Action.{Action}
+use Rattle.sh_exec_actions.specs.declared.action.Action.TheVariants.{ReadSubstitution, ForkStage, Waiting}
+use Rattle.sh_exec_actions.specs.declared.action.ExpandedCommand.{ExpandedCommand}
+use Rattle.sh_exec_actions.specs.declared.action.Stages.{Stages}
+use Rattle.sh_exec_actions.specs.declared.action.Substitution.{Substitution}
+use Rattle.sh_exec_actions.specs.declared.action.ToExpand.{ToExpand}
+use Rattle.sh_exec_actions.specs.declared.action.ToExpand.TheVariants.{Words, Values, ForWords}
 use Rattle.sh_exec_machine.specs.Forking.{fork_of}
 use Rattle.sh_exec_forms.specs.Forms.{Acted, with_run}
 use Rattle.sh_exec_shell.specs.Acting.{in_forms}
 use Rattle.sh_exec_forms.specs.declared.form.Form.{Form}
 use Rattle.sh_exec_forms.specs.Bodies.{body_of, stage_run}
+use Rattle.sh_exec_forms.specs.Frames.{root_forms, run_in}
 use Rattle.sh_exec_forms.specs.Running.{InterpreterState, Run, At, move_run}
 use Rattle.sh_kernel.specs.State.{KernelKept, KernelState, StandsAt}
 use Rattle.sh_syntax.specs.declared.tree.Command.{Command}
@@ -43,6 +44,17 @@ forked_shell pid shell = record shell { pid = pid }
 
 abbrev pub child_of : ℕ → Shell → Run → Option InterpreterState
 child_of pid shell run = Some (record { shell = forked_shell pid shell; run = run })
+
+-- where failures are ignored where it is made, they are ignored in it too (2.15, set -e)
+abbrev pub in_process : (ignored : Bool) → Run → Run
+in_process ignored run = run_in (root_forms ignored) run
+
+abbrev pub inherited : (ignored : Bool) → Option InterpreterState → Option InterpreterState
+inherited ignored None = None
+inherited ignored (Some child) = Some (record child { run = in_process ignored child.run })
+
+abbrev pub inheriting : (ignored : Bool) → Turned → Turned
+inheriting ignored t = record t { child = inherited ignored t.child }
 
 -- ---- a program (2.9.1.6)
 abbrev pub program_by : KernelState → Shell → ExpandedCommand → Option ℕ → Turned

@@ -1,20 +1,21 @@
 -- One turn of a shell: inward to its active place, the action there, and outward again.
-use Rattle.std.specs.Prelude.{ℕ, ◌||◌, Bool, false, None}
+use Rattle.std.specs.Prelude.{List, [], ◌∷◌, None}
 use Rattle.sh_exec_command.specs.Expanding.{Turn}
 use Rattle.sh_builtin.specs.declared.outcome.Leave.TheVariants as leave
 use Rattle.sh_builtin.specs.declared.shell.Shell.{Shell}
 use Rattle.sh_exec_command.specs.Reading.{next_command}
 use Rattle.sh_exec_command.specs.Series.{give_turn}
-use Rattle.sh_exec_command.specs.declared.running.Active.{Active}
-use Rattle.sh_exec_command.specs.declared.running.Active.TheVariants.{Acting, Next, Done, Leaving}
-use Rattle.sh_exec_command.specs.declared.running.Expanded.{Expanded}
-use Rattle.sh_exec_command.specs.declared.running.Expanded.TheVariants as expanded
-use Rattle.sh_exec_command.specs.declared.running.Action.{Action}
-use Rattle.sh_exec_command.specs.declared.running.Action.TheVariants.{Reading, Expanding, ReadSubstitution, WaitSubstitution, Redirecting, Forking, Starting, ForkStage, AssignLoopVariable, Waiting, Writing, Ending}
+use Rattle.sh_exec_actions.specs.declared.action.Active.{Active}
+use Rattle.sh_exec_actions.specs.declared.action.Active.TheVariants.{Acting, Next, Done, Leaving}
+use Rattle.sh_exec_actions.specs.declared.action.Expanded.{Expanded}
+use Rattle.sh_exec_actions.specs.declared.action.Expanded.TheVariants as expanded
+use Rattle.sh_exec_actions.specs.declared.action.Action.{Action}
+use Rattle.sh_exec_actions.specs.declared.action.Action.TheVariants.{Reading, Expanding, ReadSubstitution, WaitSubstitution, Redirecting, Forking, Starting, ForkStage, AssignLoopVariable, Waiting, Writing, Ending}
 use Rattle.sh_exec_shell.specs.Acting.{answer_turn, collect_turn, end_turn, expand_turn, given_round, next, read_turn, redirect_turn, wait_turn, write_turn}
-use Rattle.sh_exec_shell.specs.Forks.{Turned, fork_turn, stage_turn, substitute_turn}
+use Rattle.sh_exec_shell.specs.Forks.{Turned, fork_turn, inheriting, stage_turn, substitute_turn}
 use Rattle.sh_exec_forms.specs.Forms.{Acted, with_run, after, at_action}
-use Rattle.sh_exec_forms.specs.Frames.{is_loop}
+use Rattle.sh_exec_forms.specs.Frames.{is_failure_ignored}
+use Rattle.sh_exec_forms.specs.declared.form.Form.{Form}
 use Rattle.sh_exec_forms.specs.Running.{Run, At, In, InterpreterState, move_run}
 use Rattle.sh_kernel.specs.State.{KernelState}
 
@@ -47,17 +48,17 @@ act_place s shell (Ending status) = plain (end_turn s shell status)
 abbrev pub act_at : KernelState → Shell → Active → Turned
 act_at s shell (Acting builtin fields) = plain (with_run s shell (At (Acting builtin fields)))
 act_at s shell (Next place) = act_place s shell place
-act_at s shell (Done status) = plain (with_run s shell (At (Done status)))
+act_at s shell (Done ended) = plain (with_run s shell (At (Done ended)))
 act_at s shell (Leaving leave) = plain (with_run s shell (At (Leaving leave)))
 
--- statuses go outward from what the action left; looped: whether a loop is around it
-abbrev pub settled_turn : (looped : Bool) → Turned → Turned
-settled_turn looped t = record { left = at_action looped t.left.machine t.left.shell t.left.run; child = t.child }
+-- statuses go outward from what the action left; around: the forms round it, the innermost first
+abbrev pub settled_turn : (around : List Form) → Turned → Turned
+settled_turn around t = record { left = at_action around t.left.machine t.left.shell t.left.run; child = t.child }
 
-abbrev pub reduce : KernelState → Shell → (looped : Bool) → Run → Turned
-reduce s shell looped (At active) = settled_turn looped (act_at s shell active)
-reduce s shell looped (In form run) =
-    let t = reduce s shell (is_loop form || looped) run in record { left = after looped form t.left; child = t.child }
+abbrev pub reduce : KernelState → Shell → (around : List Form) → Run → Turned
+reduce s shell around (At active) = settled_turn around (inheriting (is_failure_ignored around) (act_at s shell active))
+reduce s shell around (In form run) =
+    let t = reduce s shell (form ∷ around) run in record { left = after around form t.left; child = t.child }
 
 -- at the root what leaves the shell, or is done, becomes the end of the process
 abbrev pub at_root : Run → Run
@@ -65,7 +66,7 @@ at_root (At (Leaving (leave.Exit status))) = At (Next (Ending status))
 at_root (At (Leaving (leave.Fault status))) = At (Next (Ending status))
 at_root (At (Leaving (leave.Break inside))) = At (Next (Ending 0))
 at_root (At (Leaving (leave.Continue inside))) = At (Next (Ending 0))
-at_root (At (Done status)) = At (Next (Ending status))
+at_root (At (Done ended)) = At (Next (Ending ended.status))
 at_root (At (Acting builtin fields)) = At (Acting builtin fields)
 at_root (At (Next place)) = At (Next place)
 at_root (In form run) = In form run
@@ -74,4 +75,4 @@ abbrev pub with_root : Turned → Turned
 with_root t = record { left = with_run t.left.machine t.left.shell (at_root t.left.run); child = t.child }
 
 unfoldable pub shell_turn : KernelState → InterpreterState → Turned
-shell_turn s interpreter = with_root (reduce s interpreter.shell false interpreter.run)
+shell_turn s interpreter = with_root (reduce s interpreter.shell [] interpreter.run)

@@ -1,6 +1,6 @@
 -- Waiting for processes (2.9.2, 2.8.2).
 use Rattle.std.specs.Prelude.{ℕ, ◌+◌, ◌-◌, List, length, nat_lt, Option, Some, None, Result, Ok, Err, slice_get, unwrap_or, if◌then◌else◌}
-use Rattle.sh_exec_command.specs.Statuses as statuses
+use Rattle.sh_exec_actions.specs.Statuses as statuses
 use Rattle.sh_kernel.specs.State.{KernelState}
 use Rattle.sh_kernel_descriptors.specs.Machine.{wait_answer}
 use Rattle.sh_kernel_descriptors.specs.Processes.{status_at}

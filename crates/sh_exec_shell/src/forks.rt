@@ -5,21 +5,21 @@ ghost use Rattle.sh_exec_parts.specs.Messages as messages;
 ghost use Rattle.sh_exec_command.specs.Expanding as expanding;
 ghost use Rattle.sh_exec_command.specs.Preparing.{ahead};
 ghost use Rattle.sh_exec_machine.specs.Forking.{HasForked};
-ghost use Rattle.sh_exec_shell.specs.Forks.{IsTurned, begun_substitution, child_of, fork_turn, forked_shell, inside, is_more, program_by, stage_by, stage_from, stage_one, stage_turn, stage_place, substitute_turn, substitution_by, with_child, fork_failure};
+ghost use Rattle.sh_exec_shell.specs.Forks.{IsTurned, begun_substitution, child_of, fork_turn, forked_shell, in_process, inherited, inheriting, inside, is_more, program_by, stage_by, stage_from, stage_one, stage_turn, stage_place, substitute_turn, substitution_by, with_child, fork_failure};
 ghost use Rattle.sh_exec_forms.specs.Bodies.{body_of, stage_run};
 ghost use Rattle.sh_exec_forms.specs.Running.{Run, move_run};
-ghost use Rattle.sh_exec_forms.specs.Frames.{run_in, run_of};
+ghost use Rattle.sh_exec_forms.specs.Frames.{is_failure_ignored, root_forms, run_in, run_of};
 
 use crate::interpreter::{Interpreter, interpreter_of};
 use sh_base::NoMemory;
 use sh_base::sequence::{Sequence, Text};
 use sh_base::shared::Shared;
 use sh_builtin::Shell;
-use sh_exec_command::status::ERROR;
-use sh_exec_command::{
+use sh_exec_actions::status::ERROR;
+use sh_exec_actions::{
     Action, Active, ExpandedCommand, Finish, Move, Pending, Stages, Substitution, ToExpand,
-    go_ahead,
 };
+use sh_exec_command::go_ahead;
 use sh_exec_forms::{Frames, body_of, go_to, stage};
 use sh_exec_machine::{Forked, fork_process};
 use sh_exec_parts::Queue;
@@ -72,17 +72,24 @@ fn with_copy(
 fn put_program(
     alloc: Global,
     shell: &Shell,
+    ignores_failure: bool,
     prepared: ExpandedCommand,
     child: u32,
 ) -> Result<Interpreter, NoMemory>
     ensures { IfOk result (λ made.
         made ≡ record {
           shell = forked_shell child shell.now;
-          run = move_run (ahead prepared);
+          run = in_process ignores_failure (move_run (ahead prepared));
         }) }
 {
+    let mut frames = match Frames::of_process(alloc, ignores_failure) {
+        Ok(frames) => frames,
+        Err(lack) => {
+            drop(prepared);
+            return Err(lack);
+        },
+    };
     let to = go_ahead(prepared);
-    let mut frames = Frames::new(alloc);
     let active = go_to(&mut frames, to)?;
     with_copy(child, shell, frames, active)
 }
@@ -93,10 +100,12 @@ pub(crate) fn fork_turn(
     alloc: Global,
     kernel: &mut Kernel,
     shell: &Shell,
+    ignores_failure: bool,
     prepared: ExpandedCommand,
 ) -> Result<(Active, Option<Interpreter>), NoMemory>
     ensures state { (s : KernelState) → StandsAt kernel.old s → IfOk result (λ r.
-        IsTurned kernel.new shell.now (Run.At r.0) r.1 (fork_turn s shell.now prepared)) }
+        IsTurned kernel.new shell.now (Run.At r.0) r.1
+        (inheriting ignores_failure (fork_turn s shell.now prepared))) }
     ensures terminal { kernel.new.terminal ≡ kernel.old.terminal }
 {
     let forked = match fork_process(kernel, shell.pid, None, false) {
@@ -108,7 +117,7 @@ pub(crate) fn fork_turn(
     };
     match forked.child {
         Some(child) => {
-            let made = put_program(alloc, shell, prepared, child)?;
+            let made = put_program(alloc, shell, ignores_failure, prepared, child)?;
             match one_more(Sequence::new(alloc), child) {
                 Ok(children) => Ok((Active::Next(Action::Waiting(children)), Some(made))),
                 Err(refusal) => {
@@ -161,16 +170,23 @@ fn next_stage(
 fn put_stage(
     alloc: Global,
     shell: &Shell,
+    ignores_failure: bool,
     command: Shared<Command>,
     child: u32,
 ) -> Result<Interpreter, NoMemory>
     ensures { IfOk result (λ made.
         made ≡ record {
           shell = forked_shell child shell.now;
-          run = stage_run command;
+          run = in_process ignores_failure (stage_run command);
         }) }
 {
-    let mut frames = Frames::new(alloc);
+    let mut frames = match Frames::of_process(alloc, ignores_failure) {
+        Ok(frames) => frames,
+        Err(lack) => {
+            drop(command);
+            return Err(lack);
+        },
+    };
     let active = stage(alloc, &mut frames, &command);
     drop(command);
     let active = active?;
@@ -183,12 +199,13 @@ fn stage_one(
     alloc: Global,
     kernel: &mut Kernel,
     shell: &Shell,
+    ignores_failure: bool,
     command: Shared<Command>,
     stages: Stages,
 ) -> Result<(Active, Option<Interpreter>), NoMemory>
     ensures state { (s : KernelState) → StandsAt kernel.old s → IfOk result (λ r.
         IsTurned kernel.new shell.now (Run.At r.0) r.1
-        (stage_one s shell.now command stages)) }
+        (inheriting ignores_failure (stage_one s shell.now command stages))) }
     ensures terminal { kernel.new.terminal ≡ kernel.old.terminal }
 {
     let Stages {
@@ -207,7 +224,7 @@ fn stage_one(
     };
     match forked.child {
         Some(child) => {
-            let made = match put_stage(alloc, shell, command, child) {
+            let made = match put_stage(alloc, shell, ignores_failure, command, child) {
                 Ok(made) => made,
                 Err(refusal) => {
                     drop(commands);
@@ -239,17 +256,19 @@ pub(crate) fn stage_turn(
     alloc: Global,
     kernel: &mut Kernel,
     shell: &Shell,
+    ignores_failure: bool,
     stages: Stages,
 ) -> Result<(Active, Option<Interpreter>), NoMemory>
     ensures state { (s : KernelState) → StandsAt kernel.old s → IfOk result (λ r.
-        IsTurned kernel.new shell.now (Run.At r.0) r.1 (stage_turn s shell.now stages)) }
+        IsTurned kernel.new shell.now (Run.At r.0) r.1
+        (inheriting ignores_failure (stage_turn s shell.now stages))) }
     ensures terminal { kernel.new.terminal ≡ kernel.old.terminal }
 {
     let mut stages = stages;
     let Some(command) = stages.commands.take() else {
         return Ok((Active::Next(Action::Waiting(stages.children)), None));
     };
-    let (active, child) = stage_one(alloc, kernel, shell, command, stages)?;
+    let (active, child) = stage_one(alloc, kernel, shell, ignores_failure, command, stages)?;
     Ok((active, child))
 }
 
@@ -275,16 +294,17 @@ fn unforked(alloc: Global, wants: ToExpand) -> Result<Move, NoMemory>
 fn put_substitution(
     alloc: Global,
     shell: &Shell,
+    ignores_failure: bool,
     program: &CompoundList,
     child: u32,
 ) -> Result<Interpreter, NoMemory>
     ensures { IfOk result (λ made.
         made ≡ record {
           shell = forked_shell child shell.now;
-          run = body_of program.now;
+          run = in_process ignores_failure (body_of program.now);
         }) }
 {
-    let mut frames = Frames::new(alloc);
+    let mut frames = Frames::of_process(alloc, ignores_failure)?;
     let active = body_of(alloc, &mut frames, program)?;
     with_copy(child, shell, frames, active)
 }
@@ -338,7 +358,8 @@ pub(crate) fn substitute_turn(
 ) -> Result<(Active, Option<Interpreter>), NoMemory>
     ensures state { (s : KernelState) → StandsAt kernel.old s → IfOk result (λ r.
         IsTurned kernel.new shell.now (run_of frames.new r.0) r.1
-        (inside frames.old (substitute_turn s shell.now program wants pending))) }
+        (inside frames.old (inheriting (is_failure_ignored frames.old)
+        (substitute_turn s shell.now program wants pending)))) }
     ensures terminal { kernel.new.terminal ≡ kernel.old.terminal }
 {
     let forked = match fork_process(kernel, shell.pid, None, true) {
@@ -352,7 +373,8 @@ pub(crate) fn substitute_turn(
     };
     match forked.child {
         Some(child) => {
-            let made = put_substitution(alloc, shell, program.get(), child);
+            let ignores_failure = frames.is_failure_ignored();
+            let made = put_substitution(alloc, shell, ignores_failure, program.get(), child);
             drop(program);
             let made = match made {
                 Ok(made) => made,

@@ -7,7 +7,7 @@ ghost use Rattle.sh_exec_forms.specs.Running.{Run};
 
 use sh_base::NoMemory;
 use sh_builtin::Shell;
-use sh_exec_command::{Action, Active, Substitution};
+use sh_exec_actions::{Action, Active, Substitution};
 use sh_exec_machine::{ReadOutcome, take_bytes};
 use sh_kernel::{DescriptorRef, Kernel};
 use std::alloc::Global;

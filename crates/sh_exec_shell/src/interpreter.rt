@@ -4,16 +4,15 @@ ghost use Rattle.sh_kernel.specs.State.{KernelState, StandsAt};
 ghost use Rattle.sh_tty.specs.Terminal.{Extends};
 ghost use Rattle.sh_exec_shell.specs.Forks.{IsTurned};
 ghost use Rattle.sh_exec_shell.specs.Reduction.{at_root, reduce, shell_turn, with_root};
-ghost use Rattle.sh_exec_forms.specs.Codes.{forms_of};
-ghost use Rattle.sh_exec_forms.specs.Frames.{run_of};
+ghost use Rattle.sh_exec_forms.specs.Frames.{framed, frames_of, path_of, run_of};
 ghost use Rattle.sh_exec_forms.specs.Running.{Run, active_of};
 
 use crate::turn::reduce;
 use sh_base::NoMemory;
 use sh_base::sequence::Text;
 use sh_builtin::{Leave, Shell};
-use sh_exec_command::{Action, Active};
-use sh_exec_forms::{Form, Frames};
+use sh_exec_actions::{Action, Active, CommandStatus};
+use sh_exec_forms::{Frame, Frames};
 use sh_exec_parts::{Copying, Rest};
 use sh_kernel::Kernel;
 use std::alloc::Global;
@@ -54,17 +53,24 @@ fn status_of(leave: Leave) -> u8
     }
 }
 
+/// With no form around it what leaves the shell, or is done, becomes the end of the process.
+fn ending(active: Active) -> Active
+    ensures { Run.At result ≡ at_root (Run.At active) }
+{
+    match active {
+        Active::Leaving(leave) => Active::Next(Action::Ending(status_of(leave))),
+        Active::Done(ended) => Active::Next(Action::Ending(ended.status)),
+        Active::Next(place) => Active::Next(place),
+        Active::Acting(builtin, fields) => Active::Acting(builtin, fields),
+    }
+}
+
 /// At the root what leaves the shell becomes the end of the process.
 fn root(frames: &Frames, active: Active) -> Active
     ensures { run_of frames.now result ≡ at_root (run_of frames.now active) }
 {
     match frames.as_slice() {
-        [] => match active {
-            Active::Leaving(leave) => Active::Next(Action::Ending(status_of(leave))),
-            Active::Done(status) => Active::Next(Action::Ending(status)),
-            Active::Next(place) => Active::Next(place),
-            Active::Acting(builtin, fields) => Active::Acting(builtin, fields),
-        },
+        [] => ending(active),
         [_, ..] => active,
     }
 }
@@ -110,10 +116,11 @@ impl Interpreter {
         &self.active
     }
 
-    /// The running forms round its active place, the outermost first. Takes no memory.
-    #[tactic(auto, using(crate::proofs::Frames::forms_within))]
-    pub fn frames(&self) -> &[Form]
-        ensures { result.now ≡ forms_of self.now.run }
+    /// The running forms round its active place, the outermost first, each with whether a failure inside it is ignored. Takes
+    /// no memory.
+    #[tactic(auto, using(crate::proofs::Frames::path_within))]
+    pub fn frames(&self) -> &[Frame]
+        ensures { result.now ≡ frames_of self.now.run }
     {
         self.frames.as_slice()
     }
@@ -151,7 +158,7 @@ impl Interpreter {
             IsTurned kernel.new self.new.shell self.new.run child (shell_turn s self.old)) }
         ensures terminal { Extends kernel.old.terminal.bytes kernel.new.terminal.bytes }
     {
-        let active = mem::replace(&mut self.active, Active::Done(0));
+        let active = mem::replace(&mut self.active, Active::Done(CommandStatus::unexcused(0)));
         let (next, child) = reduce(alloc, kernel, &mut self.shell, &mut self.frames, active)?;
         drop(mem::replace(&mut self.active, root(&self.frames, next)));
         Ok(child)

@@ -9,7 +9,7 @@ ghost use Rattle.sh_exec_forms.specs.Running.{Run};
 use sh_base::NoMemory;
 use sh_base::sequence::Text;
 use sh_builtin::{Completion, Leave, Shell};
-use sh_exec_command::{Action, Active, Finish, Report};
+use sh_exec_actions::{Action, Active, CommandStatus, Finish, Report};
 use sh_exec_forms::reported;
 use sh_exec_machine::{WriteOutcome, give_bytes};
 use sh_exec_parts::message::{Piece, write_error};
@@ -21,7 +21,7 @@ fn finished(finish: Finish) -> Active
     ensures { result ≡ after_writing finish }
 {
     match finish {
-        Finish::Status(status) => Active::Done(status),
+        Finish::Status(status) => Active::Done(CommandStatus::unexcused(status)),
         Finish::Fault(status) => Active::Leaving(Leave::Fault(status)),
         Finish::Messages(report) => reported(report),
         Finish::Output(_, report) => reported(report),
@@ -33,7 +33,7 @@ fn unwritten(alloc: Global, finish: Finish) -> Result<Active, NoMemory>
     ensures { IfOk result (λ active. active ≡ unwritten finish) }
 {
     match finish {
-        Finish::Status(status) => Ok(Active::Done(status)),
+        Finish::Status(status) => Ok(Active::Done(CommandStatus::unexcused(status))),
         Finish::Fault(status) => Ok(Active::Leaving(Leave::Fault(status))),
         Finish::Messages(report) => Ok(reported(report)),
         Finish::Output(builtin, report) => {

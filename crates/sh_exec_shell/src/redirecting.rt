@@ -7,7 +7,8 @@ ghost use Rattle.sh_exec_forms.specs.Frames.{run_in, run_of};
 
 use sh_base::NoMemory;
 use sh_builtin::Shell;
-use sh_exec_command::{Active, ExpandedCommand, Role, go_ahead, not_done};
+use sh_exec_actions::{Active, ExpandedCommand, Role};
+use sh_exec_command::{go_ahead, not_done};
 use sh_exec_forms::{Frames, go_to};
 use sh_exec_machine::{Redirected, Undone, redirect};
 use sh_exec_parts::redirection::Redirection;

@@ -1,5 +1,5 @@
 //! One turn: inward to the active place, the action there, and outward again.
-ghost use Rattle.std.specs.Prelude.{◌≡◌, IfOk, false};
+ghost use Rattle.std.specs.Prelude.{◌≡◌, [], IfOk};
 ghost use Rattle.sh_kernel.specs.State.{KernelState, StandsAt};
 ghost use Rattle.sh_tty.specs.Terminal.{Extends};
 ghost use Rattle.sh_exec_command.specs.Expanding as expanding;
@@ -7,10 +7,10 @@ ghost use Rattle.sh_exec_command.specs.Reading.{next_command};
 ghost use Rattle.sh_exec_forms.specs.Forms.{IsActed};
 ghost use Rattle.sh_exec_command.specs.Series.{give_turn};
 ghost use Rattle.sh_exec_shell.specs.Acting.{expand_turn, given_round, in_forms, read_turn, round_run};
-ghost use Rattle.sh_exec_shell.specs.Forks.{IsTurned, inside};
+ghost use Rattle.sh_exec_shell.specs.Forks.{IsTurned, inheriting, inside};
 ghost use Rattle.sh_exec_shell.specs.Reduction.{act_at, act_place, expanded_by, expansion, plain, reduce};
 ghost use Rattle.sh_exec_forms.specs.Running.{Run};
-ghost use Rattle.sh_exec_forms.specs.Frames.{run_in, run_of};
+ghost use Rattle.sh_exec_forms.specs.Frames.{is_failure_ignored, run_in, run_of};
 
 use crate::forks::{fork_turn, stage_turn, substitute_turn};
 use crate::input::collect_turn;
@@ -20,10 +20,12 @@ use crate::redirecting::redirect_turn;
 use crate::waits::{answer_turn, wait_turn};
 use sh_base::NoMemory;
 use sh_builtin::{Leave, Shell};
-use sh_exec_command::status::ERROR;
+use sh_exec_actions::status::ERROR;
+use sh_exec_actions::{
+    Action, Active, CommandStatus, Expanded, Finish, ForLoop, Pending, ToExpand,
+};
 use sh_exec_command::{
-    Action, Active, Expanded, Finish, ForLoop, Found, Pending, Round, ToExpand, assign_turn,
-    find_command, give_turn, series_turn, words_turn,
+    Found, Round, assign_turn, find_command, give_turn, series_turn, words_turn,
 };
 use sh_exec_forms::{Form, Frames, enter, enter_list, go_to, settle};
 use sh_exec_parts::message::refused;
@@ -55,7 +57,12 @@ fn read(
                     return Err(lack);
                 },
             }
-            let step = enter(alloc, frames, items, vars.status())?;
+            let step = enter(
+                alloc,
+                frames,
+                items,
+                CommandStatus::unexcused(vars.status()),
+            )?;
             Ok(step.into_active())
         },
         Found::Fault(refusal) => {
@@ -98,7 +105,8 @@ fn expanded(
 ) -> Result<(Active, Option<Interpreter>), NoMemory>
     ensures state { (s : KernelState) → StandsAt kernel.old s → IfOk result (λ r.
         IsTurned kernel.new shell.now (run_of frames.new r.0) r.1
-        (inside frames.old (expanded_by s shell.now expanded))) }
+        (inside frames.old (inheriting (is_failure_ignored frames.old)
+        (expanded_by s shell.now expanded)))) }
     ensures terminal { kernel.new.terminal ≡ kernel.old.terminal }
 {
     match expanded {
@@ -130,8 +138,8 @@ fn expand_place(
 ) -> Result<(Active, Option<Interpreter>), NoMemory>
     ensures state { (s : KernelState) → StandsAt kernel.old s → IfOk result (λ r.
         IsTurned kernel.new shell.new (run_of frames.new r.0) r.1
-        (inside frames.old (expansion s shell.old
-        (expand_turn s.machine.files shell.old.vars wants pending)))) }
+        (inside frames.old (inheriting (is_failure_ignored frames.old)
+        (expansion s shell.old (expand_turn s.machine.files shell.old.vars wants pending))))) }
     ensures terminal { kernel.new.terminal ≡ kernel.old.terminal }
 {
     let outcome = expand(alloc, wants, pending, &mut shell.vars, kernel.files())?;
@@ -187,7 +195,8 @@ fn act_place(
 ) -> Result<(Active, Option<Interpreter>), NoMemory>
     ensures state { (s : KernelState) → StandsAt kernel.old s → IfOk result (λ r.
         IsTurned kernel.new shell.new (run_of frames.new r.0) r.1
-        (inside frames.old (act_place s shell.old place))) }
+        (inside frames.old (inheriting (is_failure_ignored frames.old)
+        (act_place s shell.old place)))) }
     ensures terminal { Extends kernel.old.terminal.bytes kernel.new.terminal.bytes }
 {
     match place {
@@ -212,12 +221,24 @@ fn act_place(
             Ok((active, None))
         },
         Action::Forking(prepared) => {
-            let (active, child) = fork_turn(alloc, kernel, shell, prepared)?;
+            let (active, child) = fork_turn(
+                alloc,
+                kernel,
+                shell,
+                frames.is_failure_ignored(),
+                prepared,
+            )?;
             Ok((active, child))
         },
         Action::Starting(fields) => Ok((Active::Next(Action::Starting(fields)), None)),
         Action::ForkStage(stages) => {
-            let (active, child) = stage_turn(alloc, kernel, shell, stages)?;
+            let (active, child) = stage_turn(
+                alloc,
+                kernel,
+                shell,
+                frames.is_failure_ignored(),
+                stages,
+            )?;
             Ok((active, child))
         },
         Action::AssignLoopVariable(series) => {
@@ -243,7 +264,8 @@ fn act(
 ) -> Result<(Active, Option<Interpreter>), NoMemory>
     ensures state { (s : KernelState) → StandsAt kernel.old s → IfOk result (λ r.
         IsTurned kernel.new shell.new (run_of frames.new r.0) r.1
-        (inside frames.old (act_at s shell.old active))) }
+        (inside frames.old (inheriting (is_failure_ignored frames.old)
+        (act_at s shell.old active)))) }
     ensures terminal { Extends kernel.old.terminal.bytes kernel.new.terminal.bytes }
 {
     match active {
@@ -252,7 +274,7 @@ fn act(
             Ok((active, child))
         },
         Active::Acting(builtin, fields) => Ok((Active::Acting(builtin, fields), None)),
-        Active::Done(status) => Ok((Active::Done(status), None)),
+        Active::Done(ended) => Ok((Active::Done(ended), None)),
         Active::Leaving(leave) => Ok((Active::Leaving(leave), None)),
     }
 }
@@ -267,7 +289,7 @@ pub(crate) fn reduce(
 ) -> Result<(Active, Option<Interpreter>), NoMemory>
     ensures state { (s : KernelState) → StandsAt kernel.old s → IfOk result (λ r.
         IsTurned kernel.new shell.new (run_of frames.new r.0) r.1
-        (reduce s shell.old false (run_of frames.old active))) }
+        (reduce s shell.old [] (run_of frames.old active))) }
     ensures terminal { Extends kernel.old.terminal.bytes kernel.new.terminal.bytes }
 {
     let (active, child) = act(alloc, kernel, shell, frames, active)?;

@@ -6,8 +6,8 @@ ghost use Rattle.sh_exec_shell.specs.Waits.{last_of, number_of, signal_status, w
 
 use sh_base::NoMemory;
 use sh_base::sequence::{Sequence, Text};
-use sh_exec_command::status::{NOT_FOUND, SIGNALED};
-use sh_exec_command::{Action, Active, Pending, Substitution, ToExpand};
+use sh_exec_actions::status::{NOT_FOUND, SIGNALED};
+use sh_exec_actions::{Action, Active, CommandStatus, Pending, Substitution, ToExpand};
 use sh_kernel::{Kernel, Status};
 
 /// The exit status of a process that a signal ended.
@@ -132,7 +132,7 @@ pub(crate) fn wait_turn(kernel: &Kernel, pid: u32, children: Sequence<u32>) -> A
     ensures { (s : KernelState) → StandsAt kernel.now s → result ≡ wait_turn s pid children }
 {
     match waited(kernel, pid, children.as_slice()) {
-        Some(status) => Active::Done(status),
+        Some(status) => Active::Done(CommandStatus::unexcused(status)),
         None => Active::Next(Action::Waiting(children)),
     }
 }

@@ -2,6 +2,7 @@
 use Rattle.std.proofs.Common.{◌≡◌, List, [], ◌∷◌, Option, Some, None, Bool, true, false, refl, sym, ap, ◌∙◌, subst}
 use Rattle.sh_exec_forms.specs.Running.{Run}
 use Rattle.sh_exec_forms.specs.Bodies.{body_of, own_entry, own_form, sole_and_or, sole_item, sole_or_entered, sole_pipeline, sole_run, stage_run}
+use Rattle.sh_exec_actions.specs.Statuses.{unexcused}
 use Rattle.sh_exec_forms.specs.Entering.{command_run, items_run}
 use Rattle.sh_exec_forms.proofs.Entered.{entered_with, trees_beside}
 use Rattle.sh_exec_forms.proofs.Alone.{and_or_is, body_as, body_is, compound_command_alone, compound_at, for_alone, for_parameters_alone, group_alone, if_alone, item_is, loop_alone, of_alone, of_negated, of_stages, simple_alone, subshell_alone}
@@ -24,8 +25,8 @@ SoleStands None = Unit {0}
 SoleStands (Some run) = RunStands run
 
 -- what isn't alone is entered as a list is
-in_list_stands : (item : ListItem) (others : List ListItem) → AndOrBegins (view.out-ListItem item).list → ItemsBegin others → RunStands (items_run (item ∷ others) 0)
-in_list_stands item others a r = subst RunStands (sym (entered_with (item ∷ others) item others 0 refl)) (r, and_or_stands (view.out-ListItem item).list a)
+in_list_stands : (item : ListItem) (others : List ListItem) → AndOrBegins (view.out-ListItem item).list → ItemsBegin others → RunStands (items_run (item ∷ others) (unexcused 0))
+in_list_stands item others a r = subst RunStands (sym (entered_with (item ∷ others) item others (unexcused 0) refl)) (r, and_or_stands (view.out-ListItem item).list a)
 
 sole_or_stands : (item : ListItem) (run : Option Run) → AndOrBegins (view.out-ListItem item).list → SoleStands run → RunStands (sole_or_entered item run)
 sole_or_stands item None a s = in_list_stands item [] a no_items
@@ -49,7 +50,7 @@ mutual
   body_items_stand : (these : List ListItem) → ItemsBegin these → RunStands (body_as these)
   body_items_stand _ no_items = tt
   body_items_stand _ (more_items item [] a r) = sole_or_stands item (sole_item item) a (subst SoleStands (sym (item_is item)) (sole_stands (view.out-ListItem item).list a))
-  body_items_stand _ (more_items item (next ∷ others) a r) = subst (λ these. RunStands (items_run (item ∷ next ∷ these) 0)) (sym (trees_beside sole_item others)) (in_list_stands item (next ∷ others) a r)
+  body_items_stand _ (more_items item (next ∷ others) a r) = subst (λ these. RunStands (items_run (item ∷ next ∷ these) (unexcused 0))) (sym (trees_beside sole_item others)) (in_list_stands item (next ∷ others) a r)
 
   sole_stands : (x : AndOr) → AndOrBegins x → SoleStands (sole_and_or x)
   sole_stands x (joined _ p c) =

@@ -10,19 +10,21 @@ use Rattle.sh_exec_command.specs.Preparing.{ahead, ahead_by, final_move, first_m
 use Rattle.sh_exec_command.specs.Reading.{answer_of, found_behind, found_by, next_command}
 use Rattle.sh_exec_command.specs.Series.{Given, give_by, give_turn, given_by, header_in, header_of, header_of_command, header_turn, rest_of_series, series_by, series_turn, word_of_series}
 use Rattle.sh_exec_command.specs.declared.found.Found.{Found}
-use Rattle.sh_exec_command.specs.declared.running.Active.{Active}
-use Rattle.sh_exec_command.specs.declared.running.Active.TheVariants.{Acting, Next, Done, Leaving}
-use Rattle.sh_exec_command.specs.declared.running.Expanded.{Expanded}
-use Rattle.sh_exec_command.specs.declared.running.Expanded.TheVariants as expanded
-use Rattle.sh_exec_command.specs.declared.running.Move.{Move}
-use Rattle.sh_exec_command.specs.declared.running.Move.TheVariants as move
-use Rattle.sh_exec_command.specs.declared.running.Pending.{Pending}
-use Rattle.sh_exec_command.specs.declared.running.Action.TheVariants.{Forking}
-use Rattle.sh_exec_command.specs.declared.running.ExpandedCommand.{ExpandedCommand}
-use Rattle.sh_exec_command.specs.declared.running.Role.{Role}
-use Rattle.sh_exec_command.specs.declared.running.Role.TheVariants as role
-use Rattle.sh_exec_command.specs.declared.running.ForLoop.{ForLoop}
-use Rattle.sh_exec_command.specs.declared.running.ToExpand.TheVariants as wants
+use Rattle.sh_exec_actions.specs.Statuses.{unexcused}
+use Rattle.sh_exec_actions.specs.declared.status.CommandStatus.{CommandStatus}
+use Rattle.sh_exec_actions.specs.declared.action.Active.{Active}
+use Rattle.sh_exec_actions.specs.declared.action.Active.TheVariants.{Acting, Next, Done, Leaving}
+use Rattle.sh_exec_actions.specs.declared.action.Expanded.{Expanded}
+use Rattle.sh_exec_actions.specs.declared.action.Expanded.TheVariants as expanded
+use Rattle.sh_exec_actions.specs.declared.action.Move.{Move}
+use Rattle.sh_exec_actions.specs.declared.action.Move.TheVariants as move
+use Rattle.sh_exec_actions.specs.declared.action.Pending.{Pending}
+use Rattle.sh_exec_actions.specs.declared.action.Action.TheVariants.{Forking}
+use Rattle.sh_exec_actions.specs.declared.action.ExpandedCommand.{ExpandedCommand}
+use Rattle.sh_exec_actions.specs.declared.action.Role.{Role}
+use Rattle.sh_exec_actions.specs.declared.action.Role.TheVariants as role
+use Rattle.sh_exec_actions.specs.declared.action.ForLoop.{ForLoop}
+use Rattle.sh_exec_actions.specs.declared.action.ToExpand.TheVariants as wants
 use Rattle.sh_exec_command.specs.declared.series.Round.{Round}
 use Rattle.sh_exec_command.specs.declared.series.Round.TheVariants as round
 use Rattle.sh_exec_parts.specs.Messages.{read_only}
@@ -209,17 +211,17 @@ series_begin : (words : List Word) → SeriesBegin words → WantedBegin (map wo
 series_begin _ no_series = tt
 series_begin _ (more_series word others b r) = (b, series_begin others r)
 
-given_by_holds : (series : ForLoop) (left : List (List ℕ)) (status : ℕ) → ListBegins series.body → ActiveHolds (given_by series left status)
+given_by_holds : (series : ForLoop) (left : List (List ℕ)) (status : CommandStatus) → ListBegins series.body → ActiveHolds (given_by series left status)
 given_by_holds series [] status b = tt
 given_by_holds series (value ∷ left) status b = b
 
-pub rest_holds : (series : ForLoop) (status : ℕ) → ListBegins series.body → ActiveHolds (rest_of_series series status)
+pub rest_holds : (series : ForLoop) (status : CommandStatus) → ListBegins series.body → ActiveHolds (rest_of_series series status)
 rest_holds series status b = given_by_holds series series.values status b
 
 series_by_holds : (command : Command) (pending : Pending) (name : List ℕ) (body : CompoundList) (r : expanding.Result) → CommandBegins command → ListBegins body → ResultBegins r
     → TurnHolds (series_by command pending name body r)
 series_by_holds command pending name body (expanding.Need program env) c l b = (b, c)
-series_by_holds command pending name body (expanding.Fields fields env) c l b = rest_holds (record { name = name; values = fields; body = body }) 0 l
+series_by_holds command pending name body (expanding.Fields fields env) c l b = rest_holds (record { name = name; values = fields; body = body }) (unexcused 0) l
 series_by_holds command pending name body (expanding.Stops fault env) c l b = tt
 
 module _ (files : FileMap) (env : Environment) (command : Command) (pending : Option Pending) (c : CommandBegins command) where
@@ -239,7 +241,7 @@ module _ (files : FileMap) (env : Environment) (command : Command) (pending : Op
   form_holds x (in_loop _ kind condition body e t b) = subst FormTurn (sym e) tt
   form_holds x (in_for _ name words body e s b) = subst FormTurn (sym e) (words_of_hold name.name body (map word_of_series words) b (series_begin words s))
   form_holds x (in_for_parameters _ name is_separated body e b) =
-      subst FormTurn (sym e) (rest_holds (record { name = name.name; values = env.positional; body = body }) 0 b)
+      subst FormTurn (sym e) (rest_holds (record { name = name.name; values = env.positional; body = body }) (unexcused 0) b)
 
   abbrev HeaderTurn : Opened layer.Command-F → Type 0
   HeaderTurn z = TurnHolds (header_turn files env command pending (header_of_command z))

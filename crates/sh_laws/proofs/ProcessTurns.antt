@@ -8,8 +8,8 @@ use Rattle.sh_exec.specs.declared.task.Task.TheVariants.{Runs, Asks}
 use Rattle.sh_builtin.specs.declared.shell.Shell.{Shell}
 use Rattle.sh_exec.specs.declared.search.Located.{Located}
 use Rattle.sh_exec.specs.declared.search.Located.TheVariants as located
-use Rattle.sh_exec_command.specs.declared.running.Active.{Active}
-use Rattle.sh_exec_command.specs.declared.running.Active.TheVariants.{Acting, Next, Done, Leaving}
+use Rattle.sh_exec_actions.specs.declared.action.Active.{Active}
+use Rattle.sh_exec_actions.specs.declared.action.Active.TheVariants.{Acting, Next, Done, Leaving}
 use Rattle.sh_exec_forms.specs.Running.{Run, At, In, InterpreterState, active_of}
 use Rattle.sh_kernel.specs.State.{KernelState}
 use Rattle.sh_exec_shell.specs.Reduction.{shell_turn}

@@ -5,10 +5,10 @@ use Rattle.sh_exec.specs.Tasks.{pid_of}
 use Rattle.sh_exec.specs.Turns.{turn}
 use Rattle.sh_kernel.specs.State.{KernelState}
 use Rattle.sh_stock.specs.Asking.{Meaning}
-use Rattle.sh_machine.specs.Choice.{choice}
-use Rattle.sh_machine.specs.State.{State, run, runnables, step, turn_of}
-use Rattle.sh_machine.specs.Tasks.{behind, turn_among, turned_first}
-use Rattle.sh_machine.specs.declared.event.Event.{Event}
+use Rattle.sh_exec.specs.Choice.{choice}
+use Rattle.sh_exec.specs.State.{State, run, runnables, step, turn_of}
+use Rattle.sh_exec.specs.Processes.{behind, turn_among, turned_first}
+use Rattle.sh_exec.specs.declared.event.Event.{Event}
 use Rattle.sh_exec.specs.declared.task.Task.{Task}
 use Rattle.sh_laws.specs.Requests.{ComesByRequests, after_all}
 use Rattle.sh_laws.proofs.Lists.{after_append, turns}

@@ -1,6 +1,6 @@
 -- Forms are settled to an action, where all that they hold begins with one.
 use Rattle.std.proofs.Common.{ℕ, zero, suc, List, [], ◌∷◌, Option, Bool, true, false, refl, sym, subst}
-use Rattle.std.specs.Prelude.{drop}
+use Rattle.std.specs.Prelude.{drop, not, ◌&&◌}
 use Rattle.sh_builtin.specs.Running.{built_in}
 use Rattle.sh_builtin.specs.declared.shell.Shell.{Shell}
 use Rattle.sh_builtin.specs.declared.outcome.Completion.{Completion}
@@ -10,19 +10,22 @@ use Rattle.sh_builtin.specs.declared.outcome.Leave.{Leave}
 use Rattle.sh_builtin.specs.declared.outcome.Leave.TheVariants as leave
 use Rattle.sh_builtin.specs.declared.builtin.Builtin.{Builtin}
 use Rattle.sh_exec_command.specs.Series.{given_by, rest_of_series}
-use Rattle.sh_exec_command.specs.declared.running.Active.{Active}
-use Rattle.sh_exec_command.specs.declared.running.Active.TheVariants.{Acting, Next, Done, Leaving}
-use Rattle.sh_exec_command.specs.declared.running.ForLoop.{ForLoop}
-use Rattle.sh_exec_command.specs.declared.running.Report.{Report}
-use Rattle.sh_exec_command.specs.declared.running.Undo.{Undo}
+use Rattle.sh_exec_actions.specs.Statuses.{unexcused}
+use Rattle.sh_exec_actions.specs.declared.status.CommandStatus.{CommandStatus}
+use Rattle.sh_exec_actions.specs.declared.action.Active.{Active}
+use Rattle.sh_exec_actions.specs.declared.action.Active.TheVariants.{Acting, Next, Done, Leaving}
+use Rattle.sh_exec_actions.specs.declared.action.ForLoop.{ForLoop}
+use Rattle.sh_exec_actions.specs.declared.action.Report.{Report}
+use Rattle.sh_exec_actions.specs.declared.action.Undo.{Undo}
 use Rattle.sh_exec_forms.proofs.Entered.{entered_with}
 use Rattle.sh_exec_forms.specs.Builtins.{at_completion, behind, builtin_effect, effect_at, output_of, reported, said}
 use Rattle.sh_exec_forms.specs.Entering.{items_run, list_run, pipeline_run, with_others}
-use Rattle.sh_exec_forms.specs.Forms.{Acted, after, after_by, after_leave, after_status, at_action, behind_condition, branch, condition_run, connected_run, goes_on, loop_left, onward, otherwise, runs, undone, within_loop, within_run}
+use Rattle.sh_exec_forms.specs.Forms.{Acted, after, after_by, after_leave, after_status, at_action, behind_condition, branch, condition_run, connected_run, goes_on, loop_left, onward, otherwise, runs, undone, ended_within, is_failure, left_within, within, within_run}
+use Rattle.sh_exec_forms.specs.Frames.{has_loop, is_failure_ignored}
 use Rattle.sh_exec_forms.specs.Running.{Run, At, In}
 use Rattle.sh_exec_forms.specs.declared.form.Branches.{Branches}
 use Rattle.sh_exec_forms.specs.declared.form.Form.{Form}
-use Rattle.sh_exec_forms.specs.declared.form.Form.TheVariants.{Text, Commands, Joined, Negated, Restoring, If, Condition, Body, ForBody}
+use Rattle.sh_exec_forms.specs.declared.form.Form.TheVariants.{Text, Commands, Joined, Negated, Restoring, If, Condition, Body, ForBody, FailuresIgnored}
 use Rattle.sh_exec_forms.specs.declared.form.Loop.{Loop}
 use Rattle.sh_kernel.specs.State.{KernelState}
 use Rattle.sh_syntax.specs.declared.tree.Command.TheViews as view
@@ -82,14 +85,14 @@ settled_holds (At active) s = settled_active active s
 settled_holds (In form run) s = (s.0, stands_holds run s.1)
 
 -- ---- lists
-pub items_settled : (items : List ListItem) (status : ℕ) → ItemsBegin items → Settled (items_run items status)
+pub items_settled : (items : List ListItem) (status : CommandStatus) → ItemsBegin items → Settled (items_run items status)
 items_settled _ status no_items = tt
 items_settled _ status (more_items item others a r) = subst Settled (sym (entered_with (item ∷ others) item others status refl)) (r, and_or_stands (view.out-ListItem item).list a)
 
-connected_settled : (others : List Connected) (status : ℕ) → ConnectedBegin others → Settled (connected_run others status)
+connected_settled : (others : List Connected) (status : CommandStatus) → ConnectedBegin others → Settled (connected_run others status)
 connected_settled _ status no_more = tt
 connected_settled _ status (more_connected next others p r) =
-    choose Settled (goes_on (view.out-Connected next).connector status) (with_others others (pipeline_run (view.out-Connected next).pipeline)) (connected_run others status)
+    choose Settled (goes_on (view.out-Connected next).connector status.status) (with_others others (pipeline_run (view.out-Connected next).pipeline)) (connected_run others status)
     (λ e. stands_settled (with_others others (pipeline_run (view.out-Connected next).pipeline)) (others_stand others (pipeline_run (view.out-Connected next).pipeline) r (pipeline_stands (view.out-Connected next).pipeline p)))
     (λ e. connected_settled others status r)
 
@@ -105,18 +108,18 @@ branch_settled branches zero h = stands_settled (list_run branches.body) (list_s
 branch_settled branches (suc n) h = otherwise_settled branches.else_ifs branches.else_body h.1 h.2
 
 -- ---- loops
-condition_settled : (loop : Loop) (status : ℕ) → LoopHolds loop → Settled (condition_run loop status)
+condition_settled : (loop : Loop) (status : CommandStatus) → LoopHolds loop → Settled (condition_run loop status)
 unfolding condition_run
 condition_settled loop status h = (h, list_stands loop.condition h.0)
 
-body_settled : (loop : Loop) (last status : ℕ) → LoopHolds loop → Settled (behind_condition loop last status)
+body_settled : (loop : Loop) (last : CommandStatus) (status : ℕ) → LoopHolds loop → Settled (behind_condition loop last status)
 unfolding behind_condition
 body_settled loop last status h = choose Settled (runs loop.kind status) (In (Body loop) (list_run loop.body)) (At (Done last)) (λ e. (h, list_stands loop.body h.1)) (λ e. tt)
 
 abbrev ActedSettled : Acted → Type 0
 ActedSettled a = Settled a.run
 
-given_by_settled : (series : ForLoop) (left : List (List ℕ)) (status : ℕ) → ListBegins series.body → ActiveSettled (given_by series left status)
+given_by_settled : (series : ForLoop) (left : List (List ℕ)) (status : CommandStatus) → ListBegins series.body → ActiveSettled (given_by series left status)
 given_by_settled series [] status b = tt
 given_by_settled series (value ∷ left) status b = b
 
@@ -154,38 +157,40 @@ undone_settled : (undo : Undo) (s : KernelState) (shell : Shell) (run : Run) →
 unfolding undone
 undone_settled undo s shell run p = p
 
-status_settled : (form : Form) (s : KernelState) (shell : Shell) (status : ℕ) → FormHolds form → ActedSettled (after_status form s shell status)
+status_settled : (form : Form) (s : KernelState) (shell : Shell) (status : CommandStatus) → FormHolds form → ActedSettled (after_status form s shell status)
 status_settled (Text rest) s shell status h = tt
 status_settled (Commands items) s shell status h = items_settled items status h
 status_settled (Joined others) s shell status h = connected_settled others status h
 status_settled Negated s shell status h = tt
 status_settled (Restoring undo) s shell status h = undone_settled undo s shell (At (Done status)) tt
-status_settled (If branches) s shell status h = branch_settled branches status h
-status_settled (Condition loop last) s shell status h = body_settled loop last status h
+status_settled (If branches) s shell status h = branch_settled branches status.status h
+status_settled (Condition loop last) s shell status h = body_settled loop last status.status h
 status_settled (Body loop) s shell status h = condition_settled loop status h
 status_settled (ForBody series) s shell status h = given_by_settled series series.values status h
+status_settled FailuresIgnored s shell status h = tt
 
-leave_settled : (looped : Bool) (form : Form) (s : KernelState) (shell : Shell) (l : Leave) → FormHolds form → ActedSettled (after_leave looped form s shell l)
-leave_settled looped (Text rest) s shell l h = tt
-leave_settled looped (Commands items) s shell l h = tt
-leave_settled looped (Joined others) s shell l h = tt
-leave_settled looped Negated s shell l h = tt
-leave_settled looped (Restoring undo) s shell l h = undone_settled undo s shell (At (Leaving l)) tt
-leave_settled looped (If branches) s shell l h = tt
-leave_settled looped (Condition loop last) s shell l h = left_settled looped l s shell (condition_run loop last) (condition_settled loop last h)
-leave_settled looped (Body loop) s shell l h = left_settled looped l s shell (condition_run loop 0) (condition_settled loop 0 h)
-leave_settled looped (ForBody series) s shell l h = left_settled looped l s shell (At (rest_of_series series 0)) (given_by_settled series series.values 0 h)
+leave_settled : (around : List Form) (form : Form) (s : KernelState) (shell : Shell) (l : Leave) → FormHolds form → ActedSettled (after_leave around form s shell l)
+leave_settled around (Text rest) s shell l h = tt
+leave_settled around (Commands items) s shell l h = tt
+leave_settled around (Joined others) s shell l h = tt
+leave_settled around Negated s shell l h = tt
+leave_settled around (Restoring undo) s shell l h = undone_settled undo s shell (At (Leaving l)) tt
+leave_settled around (If branches) s shell l h = tt
+leave_settled around (Condition loop last) s shell l h = left_settled (has_loop around) l s shell (condition_run loop last) (condition_settled loop last h)
+leave_settled around (Body loop) s shell l h = left_settled (has_loop around) l s shell (condition_run loop (unexcused 0)) (condition_settled loop (unexcused 0) h)
+leave_settled around (ForBody series) s shell l h = left_settled (has_loop around) l s shell (At (rest_of_series series (unexcused 0))) (given_by_settled series series.values (unexcused 0) h)
+leave_settled around FailuresIgnored s shell l h = tt
 
-after_by_settled : (looped : Bool) (form : Form) (s : KernelState) (shell : Shell) (run : Run) → FormHolds form → Settled run → ActedSettled (after_by looped form s shell run)
-after_by_settled looped form s shell (At (Done status)) h p = status_settled form s shell status h
-after_by_settled looped form s shell (At (Leaving l)) h p = leave_settled looped form s shell l h
-after_by_settled looped form s shell (At (Acting builtin fields)) h p = absurd p
-after_by_settled looped form s shell (At (Next place)) h p = (h, p)
-after_by_settled looped form s shell (In inner run) h p = (h, p)
+after_by_settled : (around : List Form) (form : Form) (s : KernelState) (shell : Shell) (run : Run) → FormHolds form → Settled run → ActedSettled (after_by around form s shell run)
+after_by_settled around form s shell (At (Done status)) h p = status_settled form s shell status h
+after_by_settled around form s shell (At (Leaving l)) h p = leave_settled around form s shell l h
+after_by_settled around form s shell (At (Acting builtin fields)) h p = absurd p
+after_by_settled around form s shell (At (Next place)) h p = (h, p)
+after_by_settled around form s shell (In inner run) h p = (h, p)
 
-pub after_settled : (looped : Bool) (form : Form) (a : Acted) → FormHolds form → ActedSettled a → ActedSettled (after looped form a)
+pub after_settled : (around : List Form) (form : Form) (a : Acted) → FormHolds form → ActedSettled a → ActedSettled (after around form a)
 unfolding after
-after_settled looped form a h p = after_by_settled looped form a.machine a.shell a.run h p
+after_settled around form a h p = after_by_settled around form a.machine a.shell a.run h p
 
 -- ---- a built-in acts
 effect_settled : (s : KernelState) (shell : Shell) (active : Active) → ActiveHolds active → Settled (effect_at s shell active).run
@@ -195,21 +200,30 @@ effect_settled s shell (Next place) h = h
 effect_settled s shell (Done status) h = tt
 effect_settled s shell (Leaving l) h = tt
 
-within_settled : (looped : Bool) (active : Active) → ActiveSettled active → ActiveSettled (within_loop looped active)
-within_settled looped (Acting builtin fields) p = p
-within_settled looped (Next place) p = p
-within_settled looped (Done status) p = tt
-within_settled looped (Leaving (leave.Exit status)) p = tt
-within_settled looped (Leaving (leave.Fault status)) p = tt
-within_settled true (Leaving (leave.Break inside)) p = tt
-within_settled false (Leaving (leave.Break inside)) p = tt
-within_settled true (Leaving (leave.Continue inside)) p = tt
-within_settled false (Leaving (leave.Continue inside)) p = tt
+left_within_settled : (looped : Bool) (l : Leave) → ActiveSettled (left_within looped l)
+left_within_settled looped (leave.Exit status) = tt
+left_within_settled looped (leave.Fault status) = tt
+left_within_settled true (leave.Break inside) = tt
+left_within_settled false (leave.Break inside) = tt
+left_within_settled true (leave.Continue inside) = tt
+left_within_settled false (leave.Continue inside) = tt
 
-within_run_settled : (looped : Bool) (run : Run) → Settled run → Settled (within_run looped run)
-within_run_settled looped (At active) p = within_settled looped active p
-within_run_settled looped (In form run) p = p
+ended_within_settled : (errexit ignored : Bool) (ended : CommandStatus) → ActiveSettled (ended_within errexit ignored ended)
+ended_within_settled errexit true ended = tt
+ended_within_settled false false ended = tt
+ended_within_settled true false ended =
+    choose ActiveSettled (is_failure ended && not ended.excused) (Leaving (leave.Exit ended.status)) (Done ended) (λ e. tt) (λ e. tt)
 
-pub at_action_settled : (looped : Bool) (s : KernelState) (shell : Shell) (run : Run) → Holds run → ActedSettled (at_action looped s shell run)
-at_action_settled looped s shell (At active) h = within_run_settled looped (effect_at s shell active).run (effect_settled s shell active h)
-at_action_settled looped s shell (In form run) h = after_settled looped form (at_action _ s shell run) h.0 (at_action_settled _ s shell run h.1)
+within_settled : (errexit : Bool) (around : List Form) (active : Active) → ActiveSettled active → ActiveSettled (within errexit around active)
+within_settled errexit around (Acting builtin fields) p = p
+within_settled errexit around (Next place) p = p
+within_settled errexit around (Done ended) p = ended_within_settled errexit (is_failure_ignored around) ended
+within_settled errexit around (Leaving l) p = left_within_settled (has_loop around) l
+
+within_run_settled : (errexit : Bool) (around : List Form) (run : Run) → Settled run → Settled (within_run errexit around run)
+within_run_settled errexit around (At active) p = within_settled errexit around active p
+within_run_settled errexit around (In form run) p = p
+
+pub at_action_settled : (around : List Form) (s : KernelState) (shell : Shell) (run : Run) → Holds run → ActedSettled (at_action around s shell run)
+at_action_settled around s shell (At active) h = within_run_settled _ around (effect_at s shell active).run (effect_settled s shell active h)
+at_action_settled around s shell (In form run) h = after_settled around form (at_action _ s shell run) h.0 (at_action_settled _ s shell run h.1)

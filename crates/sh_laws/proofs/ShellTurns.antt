@@ -8,29 +8,32 @@ use Rattle.sh_exec_command.specs.Reading.{next_command}
 use Rattle.sh_exec_command.specs.Series.{give_turn}
 use Rattle.sh_exec_command.specs.declared.found.Found.{Found}
 use Rattle.sh_exec_command.specs.declared.found.Found.TheVariants as found
-use Rattle.sh_exec_command.specs.declared.running.Active.{Active}
-use Rattle.sh_exec_command.specs.declared.running.Active.TheVariants.{Acting, Next, Done, Leaving}
-use Rattle.sh_exec_command.specs.declared.running.Expanded.{Expanded}
-use Rattle.sh_exec_command.specs.declared.running.Expanded.TheVariants as expanded
-use Rattle.sh_exec_command.specs.declared.running.Finish.{Finish}
-use Rattle.sh_exec_command.specs.declared.running.Report.{Report}
+use Rattle.sh_exec_actions.specs.Statuses.{unexcused}
+use Rattle.sh_exec_actions.specs.declared.action.Active.{Active}
+use Rattle.sh_exec_actions.specs.declared.action.Active.TheVariants.{Acting, Next, Done, Leaving}
+use Rattle.sh_exec_actions.specs.declared.action.Expanded.{Expanded}
+use Rattle.sh_exec_actions.specs.declared.action.Expanded.TheVariants as expanded
+use Rattle.sh_exec_actions.specs.declared.action.Finish.{Finish}
+use Rattle.sh_exec_actions.specs.declared.action.Report.{Report}
 use Rattle.sh_exec_forms.specs.Builtins.{reported}
-use Rattle.sh_exec_command.specs.declared.running.Finish.TheVariants.{Status, Fault, Messages, Output}
-use Rattle.sh_exec_command.specs.declared.running.Move.{Move}
-use Rattle.sh_exec_command.specs.declared.running.Move.TheVariants as move
-use Rattle.sh_exec_command.specs.declared.running.Pending.{Pending}
-use Rattle.sh_exec_command.specs.declared.running.Action.{Action}
-use Rattle.sh_exec_command.specs.declared.running.Action.TheVariants.{Reading, Expanding, ReadSubstitution, WaitSubstitution, Redirecting, Forking, Starting, ForkStage, AssignLoopVariable, Waiting, Writing, Ending}
-use Rattle.sh_exec_command.specs.declared.running.ExpandedCommand.{ExpandedCommand}
-use Rattle.sh_exec_command.specs.declared.running.Role.TheVariants.{Program}
-use Rattle.sh_exec_command.specs.declared.running.Stages.{Stages}
-use Rattle.sh_exec_command.specs.declared.running.Substitution.{Substitution}
-use Rattle.sh_exec_command.specs.declared.running.ToExpand.{ToExpand}
-use Rattle.sh_exec_command.specs.declared.running.ToExpand.TheVariants.{Words, Values, ForWords}
+use Rattle.sh_exec_actions.specs.declared.action.Finish.TheVariants.{Status, Fault, Messages, Output}
+use Rattle.sh_exec_actions.specs.declared.action.Move.{Move}
+use Rattle.sh_exec_actions.specs.declared.action.Move.TheVariants as move
+use Rattle.sh_exec_actions.specs.declared.action.Pending.{Pending}
+use Rattle.sh_exec_actions.specs.declared.action.Action.{Action}
+use Rattle.sh_exec_actions.specs.declared.action.Action.TheVariants.{Reading, Expanding, ReadSubstitution, WaitSubstitution, Redirecting, Forking, Starting, ForkStage, AssignLoopVariable, Waiting, Writing, Ending}
+use Rattle.sh_exec_actions.specs.declared.action.ExpandedCommand.{ExpandedCommand}
+use Rattle.sh_exec_actions.specs.declared.action.Role.TheVariants.{Program}
+use Rattle.sh_exec_actions.specs.declared.action.Stages.{Stages}
+use Rattle.sh_exec_actions.specs.declared.action.Substitution.{Substitution}
+use Rattle.sh_exec_actions.specs.declared.action.ToExpand.{ToExpand}
+use Rattle.sh_exec_actions.specs.declared.action.ToExpand.TheVariants.{Words, Values, ForWords}
 use Rattle.sh_exec_command.specs.declared.series.Round.{Round}
 use Rattle.sh_exec_command.specs.declared.series.Round.TheVariants as round
 use Rattle.sh_exec_forms.specs.Entering.{items_run, list_run}
 use Rattle.sh_exec_forms.specs.Forms.{Acted, with_run}
+use Rattle.sh_exec_forms.specs.Frames.{is_failure_ignored}
+use Rattle.sh_exec_forms.specs.declared.form.Form.{Form}
 use Rattle.sh_exec_forms.specs.Running.{Run, At, In, InterpreterState, move_run}
 use Rattle.sh_exec_machine.specs.Forking.{fork_of}
 use Rattle.sh_exec_machine.specs.Redirecting.{redirection_outcome}
@@ -44,7 +47,7 @@ use Rattle.sh_exec_parts.specs.declared.message.Piece.{Piece}
 use Rattle.sh_exec_parts.specs.declared.redirection.Redirection.{Redirection}
 use Rattle.sh_exec_parts.specs.declared.simple.Assignment.{Assignment}
 use Rattle.sh_exec_shell.specs.Acting.{after_collection, after_writing, answer_by, answer_turn, collect_by, collect_end, collect_from, collect_turn, end_turn, expand_turn, keeps, next, read_turn, redirect_by, redirect_from, redirect_one, redirect_turn, round_run, unwritten, wait_by, wait_turn, with_substitution, with_undo, with_written, write_turn, written_by}
-use Rattle.sh_exec_shell.specs.Forks.{begun_substitution, Turned, fork_failure, fork_turn, is_more, program_by, stage_by, stage_from, stage_one, stage_place, stage_turn, substitute_turn, substitution_by}
+use Rattle.sh_exec_shell.specs.Forks.{begun_substitution, Turned, fork_failure, fork_turn, inherited, is_more, program_by, stage_by, stage_from, stage_one, stage_place, stage_turn, substitute_turn, substitution_by}
 use Rattle.sh_exec_shell.specs.Reduction.{act_at, act_place, at_root, expanded_by, reduce, shell_turn}
 use Rattle.sh_exec_shell.specs.Waits.{wait_status}
 use Rattle.sh_files.specs.Nodes.{FileMap}
@@ -79,7 +82,7 @@ read_holds : (env : Environment) (status : ℕ) (f : Found) → FoundBegins f �
 read_holds env status found.Nothing h = tt
 read_holds env status (found.Command tree rest) h =
     let items = (view.out-CompoundList tree).items in
-    (tt, settled_holds (items_run items env.special.status) (items_settled items env.special.status h))
+    (tt, settled_holds (items_run items (unexcused env.special.status)) (items_settled items (unexcused env.special.status) h))
 read_holds env status (found.Fault refusal) h = tt
 
 expand_holds : (files : FileMap) (env : Environment) (wants : ToExpand) (pending : Option Pending) → WantsHold wants → TurnHolds (expand_turn files env wants pending)
@@ -265,14 +268,19 @@ active_holds s shell (Next place) h = place_holds s shell place h
 active_holds s shell (Done status) h = absurd h
 active_holds s shell (Leaving l) h = absurd h
 
-reduce_settled : (s : KernelState) (shell : Shell) (looped : Bool) (run : Run) → RunStands run → let t = reduce s shell looped run in Settled t.left.run × ChildStands t.child
-reduce_settled s shell looped (At active) h =
+inherited_stands : (ignored : Bool) (child : Option InterpreterState) → ChildStands child → ChildStands (inherited ignored child)
+inherited_stands ignored None h = tt
+inherited_stands true (Some child) h = (tt, h)
+inherited_stands false (Some child) h = h
+
+reduce_settled : (s : KernelState) (shell : Shell) (around : List Form) (run : Run) → RunStands run → let t = reduce s shell around run in Settled t.left.run × ChildStands t.child
+reduce_settled s shell around (At active) h =
     let t = act_at s shell active in
     let holds = active_holds s shell active h in
-    (at_action_settled looped t.left.machine t.left.shell t.left.run holds.0, holds.1)
-reduce_settled s shell looped (In form run) h =
+    (at_action_settled around t.left.machine t.left.shell t.left.run holds.0, inherited_stands (is_failure_ignored around) t.child holds.1)
+reduce_settled s shell around (In form run) h =
     let settled = reduce_settled s shell _ run h.1 in
-    (after_settled looped form (reduce s shell _ run).left h.0 settled.0, settled.1)
+    (after_settled around form (reduce s shell _ run).left h.0 settled.0, settled.1)
 
 root_stands : (run : Run) → Settled run → RunStands (at_root run)
 root_stands (At (Leaving (leave.Exit status))) p = tt
@@ -287,5 +295,5 @@ root_stands (In form run) p = p
 pub shell_stands : (s : KernelState) (interpreter : InterpreterState) → RunStands interpreter.run → let t = shell_turn s interpreter in RunStands t.left.run × ChildStands t.child
 unfolding shell_turn
 shell_stands s interpreter h =
-    let settled = reduce_settled s interpreter.shell false interpreter.run h in
-    (root_stands (reduce s interpreter.shell false interpreter.run).left.run settled.0, settled.1)
+    let settled = reduce_settled s interpreter.shell [] interpreter.run h in
+    (root_stands (reduce s interpreter.shell [] interpreter.run).left.run settled.0, settled.1)

@@ -4,7 +4,7 @@ use Rattle.std.specs.List.{filter}
 use Rattle.std.specs.Prelude.{codes, cond, length, nat_eq, nat_le, ◌&&◌}
 use Rattle.sh_exec.specs.Tasks.{first_place, pid_of}
 use Rattle.sh_exec.specs.Turns.{turn}
-use Rattle.sh_exec_command.specs.declared.running.Action.TheVariants.{Reading}
+use Rattle.sh_exec_actions.specs.declared.action.Action.TheVariants.{Reading}
 use Rattle.sh_files.specs.Nodes.{FileMap, node_of_path}
 use Rattle.sh_files_image.specs.declared.node.Node.{Node}
 use Rattle.sh_files_image.specs.declared.node.Node.TheVariants.{Directory, File, Null, Terminal}
@@ -13,11 +13,11 @@ use Rattle.sh_laws.proofs.CommandTurns.{choose}
 use Rattle.sh_laws.proofs.ProcessTurns.{task_next, turn_stands}
 use Rattle.sh_laws.specs.BeforeAction.{AreBeforeActions, MadeStands, PlaceHolds, TasksStand}
 use Rattle.sh_stock.specs.Asking.{Meaning}
-use Rattle.sh_machine.specs.Choice.{choice}
+use Rattle.sh_exec.specs.Choice.{choice}
 use Rattle.sh_exec.specs.Scripts.{place_by, script_place, unreadable}
-use Rattle.sh_machine.specs.State.{State, run, runnables, start, step, turn_of}
-use Rattle.sh_machine.specs.Tasks.{TasksTurned, behind, is_living, turn_among, turned_first, with_child}
-use Rattle.sh_machine.specs.declared.event.Event.{Event}
+use Rattle.sh_exec.specs.State.{State, run, runnables, start, step, turn_of}
+use Rattle.sh_exec.specs.Processes.{TasksTurned, behind, is_living, turn_among, turned_first, with_child}
+use Rattle.sh_exec.specs.declared.event.Event.{Event}
 use Rattle.sh_exec.specs.declared.settings.Settings.{Settings}
 use Rattle.sh_exec.specs.declared.settings.Source.{Source}
 use Rattle.sh_exec.specs.declared.settings.Source.TheVariants.{Text, Script}

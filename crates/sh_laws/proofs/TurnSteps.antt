@@ -1,6 +1,6 @@
 -- Turns of a shell.
 use Rattle.std.proofs.Common.{◌≡◌, ℕ, zero, suc, List, [], ◌∷◌, Bool, true, false, length, Option, Some, None, refl, sym, subst, ◌∙◌}
-use Rattle.std.specs.Prelude.{drop, ◌||◌, nat_eq, if◌then◌else◌}
+use Rattle.std.specs.Prelude.{drop, nat_eq, if◌then◌else◌}
 use Rattle.sh_exec_parts.specs.declared.message.Piece.{Piece}
 use Rattle.sh_exec_parts.specs.declared.redirection.Redirection.{Redirection}
 use Rattle.sh_builtin.specs.declared.outcome.Leave.{Leave}
@@ -10,32 +10,34 @@ use Rattle.sh_builtin.specs.declared.builtin.Builtin.{Builtin}
 use Rattle.sh_builtin.specs.declared.builtin.Builtin.TheVariants as builtin
 use Rattle.sh_builtin.specs.declared.shell.Shell.{Shell}
 use Rattle.sh_exec_command.specs.Series.{rest_of_series}
-use Rattle.sh_exec_command.specs.declared.running.Active.{Active}
-use Rattle.sh_exec_command.specs.declared.running.Active.TheVariants.{Acting, Next, Done, Leaving}
-use Rattle.sh_exec_command.specs.declared.running.Expanded.{Expanded}
-use Rattle.sh_exec_command.specs.declared.running.Expanded.TheVariants as expanded
-use Rattle.sh_exec_command.specs.declared.running.Finish.{Finish}
-use Rattle.sh_exec_command.specs.declared.running.Pending.{Pending}
-use Rattle.sh_exec_command.specs.declared.running.Action.{Action}
-use Rattle.sh_exec_command.specs.declared.running.Action.TheVariants.{Reading, Expanding, ReadSubstitution, WaitSubstitution, Redirecting, Forking, Starting, ForkStage, AssignLoopVariable, Waiting, Writing, Ending}
-use Rattle.sh_exec_command.specs.declared.running.ExpandedCommand.{ExpandedCommand}
-use Rattle.sh_exec_command.specs.declared.running.Stages.{Stages}
-use Rattle.sh_exec_command.specs.declared.running.Substitution.{Substitution}
-use Rattle.sh_exec_command.specs.declared.running.Undo.{Undo}
-use Rattle.sh_exec_command.specs.declared.running.ToExpand.{ToExpand}
+use Rattle.sh_exec_actions.specs.Statuses.{unexcused}
+use Rattle.sh_exec_actions.specs.declared.status.CommandStatus.{CommandStatus}
+use Rattle.sh_exec_actions.specs.declared.action.Active.{Active}
+use Rattle.sh_exec_actions.specs.declared.action.Active.TheVariants.{Acting, Next, Done, Leaving}
+use Rattle.sh_exec_actions.specs.declared.action.Expanded.{Expanded}
+use Rattle.sh_exec_actions.specs.declared.action.Expanded.TheVariants as expanded
+use Rattle.sh_exec_actions.specs.declared.action.Finish.{Finish}
+use Rattle.sh_exec_actions.specs.declared.action.Pending.{Pending}
+use Rattle.sh_exec_actions.specs.declared.action.Action.{Action}
+use Rattle.sh_exec_actions.specs.declared.action.Action.TheVariants.{Reading, Expanding, ReadSubstitution, WaitSubstitution, Redirecting, Forking, Starting, ForkStage, AssignLoopVariable, Waiting, Writing, Ending}
+use Rattle.sh_exec_actions.specs.declared.action.ExpandedCommand.{ExpandedCommand}
+use Rattle.sh_exec_actions.specs.declared.action.Stages.{Stages}
+use Rattle.sh_exec_actions.specs.declared.action.Substitution.{Substitution}
+use Rattle.sh_exec_actions.specs.declared.action.Undo.{Undo}
+use Rattle.sh_exec_actions.specs.declared.action.ToExpand.{ToExpand}
 use Rattle.sh_exec_machine.specs.Forking.{fork_of}
 use Rattle.sh_exec_machine.specs.Transfers.{take_bytes}
 use Rattle.sh_exec_machine.specs.declared.transfer.ReadOutcome.{ReadOutcome}
 use Rattle.sh_exec_machine.specs.declared.transfer.ReadOutcome.TheVariants as taken
 use Rattle.sh_exec_shell.specs.Acting.{collect_by, collect_end, collect_from, collect_turn, after_collection, end_turn, expand_turn, keeps, next, redirect_from, redirect_one, redirect_turn, with_written, write_turn}
-use Rattle.sh_exec_shell.specs.Forks.{Turned, begun_substitution, fork_turn, is_more, program_by, stage_by, stage_from, stage_one, stage_turn, substitute_turn, substitution_by}
+use Rattle.sh_exec_shell.specs.Forks.{Turned, begun_substitution, fork_turn, inherited, is_more, program_by, stage_by, stage_from, stage_one, stage_turn, substitute_turn, substitution_by}
 use Rattle.sh_exec_forms.specs.Builtins.{builtin_effect, effect_at}
 use Rattle.sh_exec_forms.specs.Forms.{Acted, with_run, after, after_by, after_status, after_leave, loop_left, onward, condition_run, at_action, undone}
-use Rattle.sh_exec_forms.specs.Frames.{is_loop}
+use Rattle.sh_exec_forms.specs.Frames.{has_loop, is_failure_ignored}
 use Rattle.sh_exec_shell.specs.Reduction.{act_at, act_place, expanded_by, reduce, shell_turn}
 use Rattle.sh_exec_forms.specs.Running.{InterpreterState, Run, At, In}
 use Rattle.sh_exec_forms.specs.declared.form.Form.{Form}
-use Rattle.sh_exec_forms.specs.declared.form.Form.TheVariants.{Text, Commands, Joined, Negated, Restoring, If, Condition, Body, ForBody}
+use Rattle.sh_exec_forms.specs.declared.form.Form.TheVariants.{Text, Commands, Joined, Negated, Restoring, If, Condition, Body, ForBody, FailuresIgnored}
 use Rattle.sh_kernel_descriptors.specs.Machine.{MachineState}
 use Rattle.sh_kernel_descriptors.specs.declared.descriptor.DescriptorRef.TheVariants.{Aside}
 use Rattle.sh_kernel.specs.Requests.{Close, End}
@@ -70,6 +72,11 @@ effect_number s shell (Next place) = refl
 effect_number s shell (Done status) = refl
 effect_number s shell (Leaving leave) = refl
 
+-- a process has the same number where failures are ignored
+inherited_number : (ignored : Bool) (child : Option InterpreterState) → made_number child ≡ made_number (inherited ignored child)
+inherited_number ignored None = refl
+inherited_number ignored (Some child) = refl
+
 -- what is kept by the requests of a process is kept by what its shell does, which stays in that process
 module _ (directory : List ℕ) (pid : ℕ) (P : KernelState → Type 0) (kept : IsKept directory pid P) where
   abbrev Keeps : Acted → Type 0
@@ -83,7 +90,7 @@ module _ (directory : List ℕ) (pid : ℕ) (P : KernelState → Type 0) (kept :
   unfolding undone
   undone_keeps undo s shell run e p = (e, undo_keeps directory shell.pid P (own shell e) undo.descriptors s p)
 
-  ended_keeps : (form : Form) (s : KernelState) (shell : Shell) (status : ℕ) → shell.pid ≡ pid → P s → Keeps (after_status form s shell status)
+  ended_keeps : (form : Form) (s : KernelState) (shell : Shell) (status : CommandStatus) → shell.pid ≡ pid → P s → Keeps (after_status form s shell status)
   ended_keeps (Text rest) s shell status e p = (e, p)
   ended_keeps (Commands items) s shell status e p = (e, p)
   ended_keeps (Joined others) s shell status e p = (e, p)
@@ -93,6 +100,7 @@ module _ (directory : List ℕ) (pid : ℕ) (P : KernelState → Type 0) (kept :
   ended_keeps (Condition loop last) s shell status e p = (e, p)
   ended_keeps (Body loop) s shell status e p = (e, p)
   ended_keeps (ForBody series) s shell status e p = (e, p)
+  ended_keeps FailuresIgnored s shell status e p = (e, p)
 
   loop_left_keeps : (looped : Bool) (leave : Leave) (s : KernelState) (shell : Shell) (next : Run) → shell.pid ≡ pid → P s → Keeps (loop_left s shell next (onward looped leave))
   loop_left_keeps looped (leave.Exit status) s shell next e p = (e, p)
@@ -104,32 +112,33 @@ module _ (directory : List ℕ) (pid : ℕ) (P : KernelState → Type 0) (kept :
   loop_left_keeps false (leave.Continue (suc inside)) s shell next e p = (e, p)
   loop_left_keeps true (leave.Continue (suc inside)) s shell next e p = (e, p)
 
-  left_keeps : (looped : Bool) (form : Form) (s : KernelState) (shell : Shell) (leave : Leave) → shell.pid ≡ pid → P s → Keeps (after_leave looped form s shell leave)
-  left_keeps looped (Text rest) s shell leave e p = (e, p)
-  left_keeps looped (Commands items) s shell leave e p = (e, p)
-  left_keeps looped (Joined others) s shell leave e p = (e, p)
-  left_keeps looped Negated s shell leave e p = (e, p)
-  left_keeps looped (Restoring undo) s shell leave e p = undone_keeps undo s shell (At (Leaving leave)) e p
-  left_keeps looped (If branches) s shell leave e p = (e, p)
-  left_keeps looped (Condition loop last) s shell leave e p = loop_left_keeps looped leave s shell (condition_run loop last) e p
-  left_keeps looped (Body loop) s shell leave e p = loop_left_keeps looped leave s shell (condition_run loop 0) e p
-  left_keeps looped (ForBody series) s shell leave e p = loop_left_keeps looped leave s shell (At (rest_of_series series 0)) e p
+  left_keeps : (around : List Form) (form : Form) (s : KernelState) (shell : Shell) (leave : Leave) → shell.pid ≡ pid → P s → Keeps (after_leave around form s shell leave)
+  left_keeps around (Text rest) s shell leave e p = (e, p)
+  left_keeps around (Commands items) s shell leave e p = (e, p)
+  left_keeps around (Joined others) s shell leave e p = (e, p)
+  left_keeps around Negated s shell leave e p = (e, p)
+  left_keeps around (Restoring undo) s shell leave e p = undone_keeps undo s shell (At (Leaving leave)) e p
+  left_keeps around (If branches) s shell leave e p = (e, p)
+  left_keeps around (Condition loop last) s shell leave e p = loop_left_keeps (has_loop around) leave s shell (condition_run loop last) e p
+  left_keeps around (Body loop) s shell leave e p = loop_left_keeps (has_loop around) leave s shell (condition_run loop (unexcused 0)) e p
+  left_keeps around (ForBody series) s shell leave e p = loop_left_keeps (has_loop around) leave s shell (At (rest_of_series series (unexcused 0))) e p
+  left_keeps around FailuresIgnored s shell leave e p = (e, p)
 
-  after_by_keeps : (looped : Bool) (form : Form) (s : KernelState) (shell : Shell) (run : Run) → shell.pid ≡ pid → P s → Keeps (after_by looped form s shell run)
-  after_by_keeps looped form s shell (At (Done status)) e p = ended_keeps form s shell status e p
-  after_by_keeps looped form s shell (At (Leaving leave)) e p = left_keeps looped form s shell leave e p
-  after_by_keeps looped form s shell (At (Acting b fields)) e p = (e, p)
-  after_by_keeps looped form s shell (At (Next place)) e p = (e, p)
-  after_by_keeps looped form s shell (In inner run) e p = (e, p)
+  after_by_keeps : (around : List Form) (form : Form) (s : KernelState) (shell : Shell) (run : Run) → shell.pid ≡ pid → P s → Keeps (after_by around form s shell run)
+  after_by_keeps around form s shell (At (Done status)) e p = ended_keeps form s shell status e p
+  after_by_keeps around form s shell (At (Leaving leave)) e p = left_keeps around form s shell leave e p
+  after_by_keeps around form s shell (At (Acting b fields)) e p = (e, p)
+  after_by_keeps around form s shell (At (Next place)) e p = (e, p)
+  after_by_keeps around form s shell (In inner run) e p = (e, p)
 
-  after_keeps : (looped : Bool) (form : Form) (a : Acted) → Keeps a → Keeps (after looped form a)
+  after_keeps : (around : List Form) (form : Form) (a : Acted) → Keeps a → Keeps (after around form a)
   unfolding after
-  after_keeps looped form a k = after_by_keeps looped form a.machine a.shell a.run k.0 k.1
+  after_keeps around form a k = after_by_keeps around form a.machine a.shell a.run k.0 k.1
 
-  settled_keeps : (looped : Bool) (s : KernelState) (shell : Shell) (run : Run) → shell.pid ≡ pid → P s → Keeps (at_action looped s shell run)
-  settled_keeps looped s shell (At active) e p = (effect_number s shell active ∙ e, p)
-  settled_keeps looped s shell (In form run) e p =
-      after_keeps looped form (at_action (is_loop form || looped) s shell run) (settled_keeps (is_loop form || looped) s shell run e p)
+  settled_keeps : (around : List Form) (s : KernelState) (shell : Shell) (run : Run) → shell.pid ≡ pid → P s → Keeps (at_action around s shell run)
+  settled_keeps around s shell (At active) e p = (effect_number s shell active ∙ e, p)
+  settled_keeps around s shell (In form run) e p =
+      after_keeps around form (at_action (form ∷ around) s shell run) (settled_keeps (form ∷ around) s shell run e p)
 
   -- ---- what a substitution's process writes
   collected_keeps : (s : KernelState) (shell : Shell) (substitution : Substitution) (aside : ℕ) → shell.pid ≡ pid → P s → Keeps (after_collection s shell substitution aside)
@@ -244,15 +253,17 @@ module _ (directory : List ℕ) (pid : ℕ) (P : Option ℕ → KernelState → 
   active_keeps s shell (Done status) e d p = (e, p)
   active_keeps s shell (Leaving leave) e d p = (e, p)
 
-  reduce_keeps : (s : KernelState) (shell : Shell) (looped : Bool) (run : Run) → shell.pid ≡ pid → shell.vars.directory ≡ directory → P None s → Leaves (reduce s shell looped run)
-  reduce_keeps s shell looped (At active) e d p =
+  reduce_keeps : (s : KernelState) (shell : Shell) (around : List Form) (run : Run) → shell.pid ≡ pid → shell.vars.directory ≡ directory → P None s → Leaves (reduce s shell around run)
+  reduce_keeps s shell around (At active) e d p =
       let t = act_at s shell active in
       let k = active_keeps s shell active e d p in
-      settled_keeps directory pid (P (made_number t.child)) (kept (made_number t.child)) looped t.left.machine t.left.shell t.left.run k.0 k.1
-  reduce_keeps s shell looped (In form run) e d p =
-      let t = reduce s shell (is_loop form || looped) run in
-      after_keeps directory pid (P (made_number t.child)) (kept (made_number t.child)) looped form t.left (reduce_keeps s shell (is_loop form || looped) run e d p)
+      let made = made_number (inherited (is_failure_ignored around) t.child) in
+      settled_keeps directory pid (P made) (kept made) around t.left.machine t.left.shell t.left.run k.0
+      (subst (λ number. P number t.left.machine) (inherited_number (is_failure_ignored around) t.child) k.1)
+  reduce_keeps s shell around (In form run) e d p =
+      let t = reduce s shell (form ∷ around) run in
+      after_keeps directory pid (P (made_number t.child)) (kept (made_number t.child)) around form t.left (reduce_keeps s shell (form ∷ around) run e d p)
 
   pub shell_keeps : (s : KernelState) (interpreter : InterpreterState) → interpreter.shell.pid ≡ pid → interpreter.shell.vars.directory ≡ directory → P None s → Leaves (shell_turn s interpreter)
   unfolding shell_turn
-  shell_keeps s interpreter e d p = reduce_keeps s interpreter.shell false interpreter.run e d p
+  shell_keeps s interpreter e d p = reduce_keeps s interpreter.shell [] interpreter.run e d p

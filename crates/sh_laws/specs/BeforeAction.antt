@@ -6,16 +6,16 @@ use Rattle.sh_exec.specs.declared.task.Task.{Task}
 use Rattle.sh_exec.specs.declared.task.Task.TheVariants.{Runs, Asks}
 use Rattle.sh_exec_command.specs.declared.found.Found.{Found}
 use Rattle.sh_exec_command.specs.declared.found.Found.TheVariants as found
-use Rattle.sh_exec_command.specs.declared.running.Active.{Active}
-use Rattle.sh_exec_command.specs.declared.running.Active.TheVariants.{Acting, Next, Done, Leaving}
-use Rattle.sh_exec_command.specs.declared.running.Action.{Action}
-use Rattle.sh_exec_command.specs.declared.running.Action.TheVariants.{Reading, Expanding, ReadSubstitution, WaitSubstitution, Redirecting, Forking, Starting, ForkStage, AssignLoopVariable, Waiting, Writing, Ending}
-use Rattle.sh_exec_command.specs.declared.running.Role.TheVariants.{Program}
-use Rattle.sh_exec_command.specs.declared.running.ToExpand.{ToExpand}
-use Rattle.sh_exec_command.specs.declared.running.ToExpand.TheVariants.{Words, Values, ForWords}
+use Rattle.sh_exec_actions.specs.declared.action.Active.{Active}
+use Rattle.sh_exec_actions.specs.declared.action.Active.TheVariants.{Acting, Next, Done, Leaving}
+use Rattle.sh_exec_actions.specs.declared.action.Action.{Action}
+use Rattle.sh_exec_actions.specs.declared.action.Action.TheVariants.{Reading, Expanding, ReadSubstitution, WaitSubstitution, Redirecting, Forking, Starting, ForkStage, AssignLoopVariable, Waiting, Writing, Ending}
+use Rattle.sh_exec_actions.specs.declared.action.Role.TheVariants.{Program}
+use Rattle.sh_exec_actions.specs.declared.action.ToExpand.{ToExpand}
+use Rattle.sh_exec_actions.specs.declared.action.ToExpand.TheVariants.{Words, Values, ForWords}
 use Rattle.sh_exec_forms.specs.Running.{InterpreterState, Run, At, In, active_of}
 use Rattle.sh_exec_forms.specs.declared.form.Form.{Form}
-use Rattle.sh_exec_forms.specs.declared.form.Form.TheVariants.{Text, Commands, Joined, Negated, Restoring, If, Condition, Body, ForBody}
+use Rattle.sh_exec_forms.specs.declared.form.Form.TheVariants.{Text, Commands, Joined, Negated, Restoring, If, Condition, Body, ForBody, FailuresIgnored}
 use Rattle.sh_exec_forms.specs.declared.form.Loop.{Loop}
 use Rattle.sh_exec_parts.specs.declared.simple.Assignment.{Assignment}
 use Rattle.sh_expand.specs.Parts.{parts_of}
@@ -76,6 +76,7 @@ FormHolds (If branches) = ListBegins branches.body × ElseIfsBegin branches.else
 FormHolds (Condition loop last) = LoopHolds loop
 FormHolds (Body loop) = LoopHolds loop
 FormHolds (ForBody series) = ListBegins series.body
+FormHolds FailuresIgnored = Unit {0}
 
 -- ---- what runs has an action next, and holds only such syntax
 abbrev pub ActiveStands : Active → Type 0

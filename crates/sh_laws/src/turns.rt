@@ -12,8 +12,8 @@ ghost use Rattle.sh_kernel_descriptors.specs.Processes.{next_pid};
 ghost use Rattle.sh_kernel.specs.Laws.{OnlyGrows};
 ghost use Rattle.sh_kernel.specs.State.{KernelState};
 ghost use Rattle.sh_laws.specs.Requests.{ByRequests, ChangesByRequests, ComesByRequests, Shows, directory_of, number_of};
-ghost use Rattle.sh_machine.specs.State.{State, run, start};
-ghost use Rattle.sh_machine.specs.declared.event.Event.{Event};
+ghost use Rattle.sh_exec.specs.State.{State, run, start};
+ghost use Rattle.sh_exec.specs.declared.event.Event.{Event};
 ghost use Rattle.sh_exec.specs.declared.settings.Settings.{Settings};
 
 use sh_stock::Stock;

@@ -6,8 +6,8 @@ use Rattle.sh_exec.specs.Turns.{IsTurned, turn}
 use Rattle.sh_exec.specs.declared.task.Task.{Task}
 use Rattle.sh_kernel.specs.State.{KernelKept, KernelState, StandsAt}
 use Rattle.sh_stock.specs.Asking.{Meaning}
-use Rattle.sh_machine.specs.State.{State, after_turn}
-use Rattle.sh_machine.specs.Tasks.{HaveTurned, TasksTurned, behind, living, place_of, turn_among, turned_first, with_child}
+use Rattle.sh_exec.specs.State.{State, after_turn}
+use Rattle.sh_exec.specs.Processes.{HaveTurned, TasksTurned, behind, living, place_of, turn_among, turned_first, with_child}
 use Rattle.sh_world.specs.World.{PartsStand}
 
 -- what a turn leaves of the process at a place

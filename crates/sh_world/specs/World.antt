@@ -2,8 +2,8 @@
 use Rattle.std.specs.Prelude.{◌≡◌, ℕ, List, length, take, Bool, true, false, Option}
 use Rattle.sh_exec.specs.declared.task.Task.{Task}
 use Rattle.sh_kernel.specs.State.{KernelKept, StandsAt}
-use Rattle.sh_machine.specs.State.{State}
-use Rattle.sh_machine.specs.declared.jobs.Jobs.{Jobs}
+use Rattle.sh_exec.specs.State.{State}
+use Rattle.sh_exec.specs.declared.jobs.Jobs.{Jobs}
 
 pub record WorldKept (S : Type 0) : Type 0 where
   pub kernel : KernelKept

@@ -1,8 +1,8 @@
 //! Which process an event moves.
 ghost use Rattle.std.specs.Prelude.{◌≡◌, find, nat_lt};
-ghost use Rattle.sh_machine.specs.Choice.{choice, next_above};
+ghost use Rattle.sh_exec.specs.Choice.{choice, next_above};
 
-use sh_machine::Event;
+use sh_exec::Event;
 
 /// The least pid above another.
 fn first_above(last: u32, runnable: &[u32]) -> Option<u32>

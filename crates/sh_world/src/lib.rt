@@ -5,7 +5,6 @@ mod choice;
 mod tasks;
 mod world;
 
-pub use sh_exec::{Settings, Source};
+pub use sh_exec::{Event, Jobs, Settings, Source};
 pub use sh_kernel::Status;
-pub use sh_machine::{Event, Jobs};
 pub use world::World;

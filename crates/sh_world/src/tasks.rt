@@ -5,7 +5,7 @@ ghost use Rattle.sh_kernel_descriptors.specs.Processes.{lives};
 ghost use Rattle.sh_tty.specs.Terminal.{Extends};
 ghost use Rattle.sh_exec.specs.Actions.{action_of};
 ghost use Rattle.sh_kernel.specs.Turns.{can_do};
-ghost use Rattle.sh_machine.specs.Tasks.{HaveTurned, living, pid_before, place_of, runnable_pids, turn_among, with_child};
+ghost use Rattle.sh_exec.specs.Processes.{HaveTurned, living, pid_before, place_of, runnable_pids, turn_among, with_child};
 
 use sh_base::NoMemory;
 use sh_exec::Task;

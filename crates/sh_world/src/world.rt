@@ -2,17 +2,16 @@
 ghost use Rattle.std.specs.Prelude.{◌≡◌, ℕ, ◌<◌, List, OnOk, OnErr, IsErr, IfOk, Some, None, length, take, option_copied};
 ghost use Rattle.sh_kernel.specs.State.{KernelState, StandsAt};
 ghost use Rattle.sh_tty.specs.Terminal.{Extends};
-ghost use Rattle.sh_machine.specs.Choice.{choice};
+ghost use Rattle.sh_exec.specs.Choice.{choice};
 ghost use Rattle.sh_world.specs.World.{IsSpent, PartsStand, WorldKept, WorldStands, shown_of};
-ghost use Rattle.sh_machine.specs.State.{State, after_turn, end_of, ended_of, files_of, run, runnables, start, status_of, step, terminal_of, turn_of};
+ghost use Rattle.sh_exec.specs.State.{State, after_turn, end_of, ended_of, files_of, run, runnables, start, status_of, step, terminal_of, turn_of};
 
 use crate::choice::choose;
 use crate::tasks::{is_living, keep_living, put_child, runnable_pids, turn_among};
 use sh_base::NoMemory;
-use sh_exec::{Settings, Task};
+use sh_exec::{Event, Jobs, Settings, Task};
 use sh_files::Files;
 use sh_kernel::{FIRST_PID, Kernel, Status};
-use sh_machine::{Event, Jobs};
 use sh_stock::Stock;
 use std::alloc::Global;
 use std::marker::Model;

@@ -1,6 +1,6 @@
 use Rattle.std.proofs.Common.{take}
 use Rattle.sh_world.specs.World.{WorldStands}
-use Rattle.sh_machine.specs.State.{State, run}
+use Rattle.sh_exec.specs.State.{State, run}
 use Rattle.psh.specs.Events.{each_event}
 use Rattle.psh.proofs.serving.drive.Given as goal
 

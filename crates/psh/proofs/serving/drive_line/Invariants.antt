@@ -1,6 +1,6 @@
 use Rattle.std.proofs.Common.{replicate}
 use Rattle.sh_world.specs.World.{WorldStands}
-use Rattle.sh_machine.specs.State.{State, run}
+use Rattle.sh_exec.specs.State.{State, run}
 use Rattle.psh.proofs.serving.drive_line.Given as goal
 
 abbrev pub invariant-times : goal.invariant-times

@@ -1,4 +1,4 @@
-use Rattle.sh_machine.specs.State.{start}
+use Rattle.sh_exec.specs.State.{start}
 use Rattle.psh.proofs.Driving.{shows_some}
 use Rattle.psh.proofs.serving.run.Goals as goal
 

@@ -1,5 +1,5 @@
 use Rattle.std.proofs.Common.{rules, refl}
-use Rattle.sh_exec_command.specs.declared.running.Active.TheVariants.{Acting, Done, Leaving, Next}
+use Rattle.sh_exec_actions.specs.declared.action.Active.TheVariants.{Acting, Done, Leaving, Next}
 use Rattle.sh_exec_forms.proofs.Outward.{alone_on_way, stays_on_way}
 use Rattle.sh_exec_forms.proofs.forms.go_outward.Goals as goal
 
@@ -13,7 +13,7 @@ returns-in-Acting-clause-state c = λ s k.
 
 pub returns-in-None-clause-state : goal.returns-in-None-clause-state
 returns-in-None-clause-state c = λ s k.
-    alone_on_way c.args.kernel.now c.args.shell.now c.pop.new.self c.args.frames.now s c.args.active (Done c.in-Done.status) c.in-Done.is k (search rules) (search rules)
+    alone_on_way c.args.kernel.now c.args.shell.now c.pop.new.self c.args.frames.now s c.args.active (Done c.in-Done.ended) c.in-Done.is k (search rules) (search rules)
 
 pub returns-in-None-pop-clause-state : goal.returns-in-None-pop-clause-state
 returns-in-None-pop-clause-state c = λ s k.

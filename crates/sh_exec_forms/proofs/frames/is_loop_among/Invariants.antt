@@ -1,9 +1,9 @@
 use Rattle.std.proofs.Common.{◌≡◌, length}
-use Rattle.sh_exec_forms.specs.Frames.{has_loop}
+use Rattle.sh_exec_forms.specs.Frames.{forms_in, has_loop}
 use Rattle.sh_exec_forms.proofs.frames.is_loop_among.Given as goal
 
-abbrev pub invariant-loop-form : goal.invariant-loop-form
-invariant-loop-form l = has_loop l.rest ≡ has_loop l.forms
+abbrev pub invariant-loop-frame : goal.invariant-loop-frame
+invariant-loop-frame l = has_loop (forms_in l.rest) ≡ has_loop (forms_in l.frames)
 
-abbrev pub decreases-loop-form : goal.decreases-loop-form
-decreases-loop-form l = length l.rest
+abbrev pub decreases-loop-frame : goal.decreases-loop-frame
+decreases-loop-frame l = length l.rest

@@ -1,5 +1,5 @@
 use Rattle.std.proofs.Common.{◌≡◌, ◌+◌, length}
-use Rattle.sh_machine.specs.Tasks.{place_of}
+use Rattle.sh_exec.specs.Processes.{place_of}
 use Rattle.sh_world.proofs.tasks.place_of.Given as goal
 
 abbrev pub invariant-tasks : goal.invariant-tasks

@@ -1,6 +1,6 @@
 use Rattle.std.proofs.Common.{◌≡◌, ◌++◌, length}
 use Rattle.sh_kernel.specs.State.{KernelState, StandsAt}
-use Rattle.sh_machine.specs.Tasks.{runnable_pids}
+use Rattle.sh_exec.specs.Processes.{runnable_pids}
 use Rattle.sh_world.proofs.tasks.runnable_pids.Given as goal
 
 abbrev pub invariant-tasks : goal.invariant-tasks

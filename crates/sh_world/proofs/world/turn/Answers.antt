@@ -1,5 +1,5 @@
 use Rattle.std.proofs.Common.{ap, ◌∙◌}
-use Rattle.sh_machine.specs.Tasks.{with_child}
+use Rattle.sh_exec.specs.Processes.{with_child}
 use Rattle.sh_world.proofs.Among.{turn_parts, written_back}
 use Rattle.sh_world.proofs.world.turn.Goals as goal
 

@@ -1,6 +1,6 @@
 use Rattle.std.proofs.Common.{◌≤◌, length, take_all, arith}
-use Rattle.sh_machine.specs.declared.event.Event.TheVariants.{Run}
-use Rattle.sh_machine.proofs.Runs.{run-take_more}
+use Rattle.sh_exec.specs.declared.event.Event.TheVariants.{Run}
+use Rattle.sh_exec.proofs.Runs.{run-take_more}
 use Rattle.sh_world.proofs.world.World.run.Goals as goal
 
 -- the world stood at the state before this event, so it stands at the state after it

@@ -1,5 +1,5 @@
 use Rattle.std.proofs.Common.{take}
-use Rattle.sh_machine.specs.State.{State, run}
+use Rattle.sh_exec.specs.State.{State, run}
 use Rattle.sh_world.specs.World.{WorldStands}
 use Rattle.sh_world.proofs.world.World.run.Given as goal
 

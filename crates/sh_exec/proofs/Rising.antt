@@ -7,8 +7,8 @@ use Rattle.sh_exec.specs.Tasks.{pid_of}
 use Rattle.sh_kernel.specs.State.{KernelState}
 use Rattle.sh_kernel.specs.Turns.{can_do, is_runnable}
 use Rattle.sh_kernel.proofs.Lists.{false_of}
-use Rattle.sh_machine.specs.Order.{IsBelow, ListsRunnable, Rises, actions_of, has, pids_of}
-use Rattle.sh_machine.specs.Tasks.{runnable_pids}
+use Rattle.sh_exec.specs.Order.{IsBelow, ListsRunnable, Rises, actions_of, has, pids_of}
+use Rattle.sh_exec.specs.Processes.{runnable_pids}
 use Rattle.sh_exec.specs.declared.task.Task.{Task}
 
 below_by : (n pid : ℕ) (pids : List ℕ) (b : Bool) → n < pid → IsBelow n pids → IsBelow n (if b then pid ∷ pids else pids)

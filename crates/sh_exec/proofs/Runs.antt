@@ -2,8 +2,8 @@
 use Rattle.std.proofs.Common.{◌≡◌, ℕ, ◌+◌, ◌<◌, List, [], ◌∷◌, ◌++◌, length, take, get_or, refl, ap, ◌∙◌}
 use Rattle.std.proofs.lemmas.List.{take_more}
 use Rattle.sh_stock.specs.Asking.{Meaning}
-use Rattle.sh_machine.specs.declared.event.Event.{Event}
-use Rattle.sh_machine.specs.State.{State, step, run}
+use Rattle.sh_exec.specs.declared.event.Event.{Event}
+use Rattle.sh_exec.specs.State.{State, step, run}
 
 pub run-append : {S : Type 0} (m : Meaning S) (s : State S) (es : List Event) (e : Event) → run m s (es ++ e ∷ []) ≡ step m (run m s es) e
 run-append m s [] e = refl

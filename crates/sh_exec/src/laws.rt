@@ -1,8 +1,8 @@
 //! Laws of the processes that can take a turn.
 ghost use Rattle.std.specs.Prelude.{List};
 ghost use Rattle.sh_kernel.specs.State.{KernelState};
-ghost use Rattle.sh_machine.specs.Order.{ListsRunnable, Rises, pids_of};
-ghost use Rattle.sh_machine.specs.Tasks.{runnable_pids};
+ghost use Rattle.sh_exec.specs.Order.{ListsRunnable, Rises, pids_of};
+ghost use Rattle.sh_exec.specs.Processes.{runnable_pids};
 ghost use Rattle.sh_exec.specs.declared.task.Task.{Task};
 
 use sh_stock::Stock;

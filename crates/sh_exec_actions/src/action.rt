@@ -1,4 +1,5 @@
 //! The place of a shell: its next action, with all that this needs.
+use crate::status::CommandStatus;
 use sh_base::sequence::{Sequence, Text};
 use sh_base::shared::Shared;
 use sh_builtin::{Builtin, Completion, Leave};
@@ -171,8 +172,8 @@ pub enum Active {
     Next(Action),
     /// A built-in acts, in the same turn; its name and arguments.
     Acting(Builtin, Sequence<Text>),
-    /// What ran here is done, with this status.
-    Done(u8),
+    /// What ran here is done, and ended so.
+    Done(CommandStatus),
     /// What ran here is left before its end.
     Leaving(Leave),
 }

@@ -1,7 +1,7 @@
 -- Which process an event gives a turn to, of those that are runnable.
 use Rattle.std.specs.Prelude.{ℕ, List, [], ◌∷◌, Option, Some, None, length, ◌%◌, slice_get, nat_lt, find}
-use Rattle.sh_machine.specs.declared.event.Event.{Event}
-use Rattle.sh_machine.specs.declared.event.Event.TheVariants.{Run, Next}
+use Rattle.sh_exec.specs.declared.event.Event.{Event}
+use Rattle.sh_exec.specs.declared.event.Event.TheVariants.{Run, Next}
 
 -- the first, where no process above the last one was found
 abbrev pub else_first : Option ℕ → List ℕ → Option ℕ

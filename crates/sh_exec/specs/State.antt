@@ -8,10 +8,10 @@ use Rattle.sh_kernel_descriptors.specs.declared.process.Status.{Status}
 use Rattle.sh_kernel_descriptors.specs.declared.process.Status.TheVariants.{Running, Stopped, Exited, Signaled}
 use Rattle.sh_stock.specs.Asking.{Meaning}
 use Rattle.sh_tty.specs.Happenings.{bytes_of}
-use Rattle.sh_machine.specs.Choice.{choice}
-use Rattle.sh_machine.specs.Tasks.{TasksTurned, living, runnable_pids, turn_among, with_child}
-use Rattle.sh_machine.specs.declared.event.Event.{Event}
-use Rattle.sh_machine.specs.declared.jobs.Jobs.{Jobs}
+use Rattle.sh_exec.specs.Choice.{choice}
+use Rattle.sh_exec.specs.Processes.{TasksTurned, living, runnable_pids, turn_among, with_child}
+use Rattle.sh_exec.specs.declared.event.Event.{Event}
+use Rattle.sh_exec.specs.declared.jobs.Jobs.{Jobs}
 use Rattle.sh_exec.specs.Tasks.{first_pid, first_task}
 use Rattle.sh_exec.specs.declared.settings.Settings.{Settings}
 use Rattle.sh_exec.specs.declared.task.Task.{Task}

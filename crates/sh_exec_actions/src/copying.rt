@@ -1,7 +1,7 @@
 //! Copies of places and of what they hold, which are equal to what they are copies of.
 ghost use Rattle.std.specs.Prelude.{◌≡◌, IfOk};
 
-use crate::running::{
+use crate::action::{
     Action, Active, ExpandedCommand, Finish, ForLoop, Pending, Report, Saved, Stages, Substitution,
     ToExpand, Undo,
 };

@@ -1,4 +1,0 @@
-pub mod Choice
-pub mod Order
-pub mod State
-pub mod Tasks
