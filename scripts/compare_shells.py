@@ -1,13 +1,13 @@
 #!/usr/bin/env python3
 """Runs scripts made at random by psh and by real shells, and shows those in which psh stands alone.
 
-usage: compare_shells.py words|documents|processes|lists|builtins [COUNT [SEED]]
+usage: compare_shells.py words|documents|processes|lists|errexit|builtins [COUNT [SEED]]
 
 `words` expands words of every form, nested, with several IFS and positional parameters, into the fields that a program
 then shows. `documents` does so in bodies of here-documents and in assignments. `processes` runs pipelines, redirections,
 here-documents, assignments and command substitutions over a few files, and shows these at the end. `lists` runs such
-commands in AND-OR lists, groups, subshells, conditions and loops, some of which are left by break and continue. `builtins`
-adds built-ins that act on variables, options, parameters and the directory, and conditions. Scripts do nothing whose result
+commands in AND-OR lists, groups, subshells, conditions and loops, some of which are left by break and continue. `errexit` does
+so under `set -e`. `builtins` adds built-ins that act on variables, options, parameters and the directory, and conditions. Scripts do nothing whose result
 depends on the order of turns.
 
 Shown is a script where no real shell gives what psh gives, and one where four or more agree with one another and not with
@@ -246,6 +246,18 @@ class Lists(Processes):
         return "\n".join([*lines, *(f"echo {file}: ; cat <{file}" for file in self.made), ""])
 
 
+class Errexit(Lists):
+    """Such lists in subshells with `set -e`, in places where failures count and where they are ignored."""
+
+    def script(self):
+        lines = []
+        for _ in range(self.pick([1, 2, 3])):
+            text = f"( set -e\n{self.list(3, None)}\necho end )"
+            lines.append(self.pick([text, text, f"{text} || echo no", f"if {text}\nthen echo yes; else echo no; fi", f"! {text}", f"{text} | cat"]))
+            lines.append('echo $? "$x" "$y" $i')
+        return "\n".join([*lines, *(f"echo {file}: ; cat <{file}" for file in self.made), ""])
+
+
 class Builtins(Lists):
     """Built-ins that act on variables, options, parameters and the directory, and conditions, in such lists."""
 
@@ -312,7 +324,7 @@ def by_shell(room, shell, script, operands):
     return subprocess.run([*NOBODY, *shell, "-c", script, "psh", *operands], timeout=20, **how).stdout
 
 
-SOURCES = {"words": Words, "documents": Documents, "processes": Processes, "lists": Lists, "builtins": Builtins}
+SOURCES = {"words": Words, "documents": Documents, "processes": Processes, "lists": Lists, "errexit": Errexit, "builtins": Builtins}
 
 
 def main(kind, count=200, seed=1):
