@@ -8,9 +8,10 @@ what some commands add to a round. The last line is the greatest ratio of growth
 """
 
 import os
-import subprocess
 import sys
 import tempfile
+
+import measuring
 
 TOP = os.path.dirname(os.path.dirname(os.path.abspath(__file__)))
 PROGRAM = f"{TOP}/out/psh"
@@ -18,21 +19,9 @@ PROGRAM = f"{TOP}/out/psh"
 COMMANDS = [("echo $a $b >/dev/null", 3, True), ("[ -f f ] && :", 2, True), ("x=$(echo a)", 7, False)]
 
 
-def counted(folder, words):
-    """The instructions of a run."""
-    ran = subprocess.run(["valgrind", "--tool=callgrind", f"--callgrind-out-file={folder}/out", *words], capture_output=True)
-    for line in ran.stderr.decode(errors="replace").splitlines():
-        if "Collected" in line:
-            return int(line.split(":")[1].replace(",", ""))
-    sys.exit(f"{words}: {ran.stdout[-200:]} {ran.stderr[-400:]}")
-
-
 def events_of(folder, turns):
     """A file of events with so many turns."""
-    path = f"{folder}/events"
-    with open(path, "w", encoding="utf-8") as events:
-        events.write(f"next {turns}\n")
-    return path
+    return measuring.write_events(f"{folder}/events", turns)
 
 
 def loop(limit, more="", groups=0):
@@ -43,24 +32,19 @@ def loop(limit, more="", groups=0):
 def psh_round(folder, image, turns=2, more="", groups=0):
     """The instructions for one round, which takes so many turns."""
     script = loop(100_000, more, groups)
-    few, many = (counted(folder, [PROGRAM, "-c", script, image, events_of(folder, rounds * turns + 10)]) for rounds in (200, 700))
+    few, many = (measuring.instructions(folder, [PROGRAM, "-c", script, image, events_of(folder, rounds * turns + 10)]) for rounds in (200, 700))
     return (many - few) / 500
 
 
 def dash_round(folder, more=""):
     """The instructions for one round in dash."""
-    few, many = (counted(folder, ["dash", "-c", loop(rounds, more)]) for rounds in (100, 300))
+    few, many = (measuring.instructions(folder, ["dash", "-c", loop(rounds, more)]) for rounds in (100, 300))
     return (many - few) / 200
 
 
 def memory(folder, image, rounds):
     """The most memory that a run of so many rounds had, in KiB."""
-    words = [PROGRAM, "-c", loop(1_000_000), image, events_of(folder, rounds * 2)]
-    process = subprocess.Popen(words, stdout=subprocess.DEVNULL)
-    _, status, usage = os.wait4(process.pid, 0)
-    if status:
-        sys.exit(f"{words}: {status}")
-    return usage.ru_maxrss
+    return measuring.memory([PROGRAM, "-c", loop(1_000_000), image, events_of(folder, rounds * 2)])
 
 
 def main():

@@ -11,9 +11,10 @@ valgrind, and psh built (./build).
 """
 
 import os
-import subprocess
 import sys
 import tempfile
+
+import measuring
 
 TOP = os.path.dirname(os.path.dirname(os.path.abspath(__file__)))
 PROGRAM = f"{TOP}/out/psh"
@@ -31,29 +32,10 @@ def write_image(path, files):
         image.write(b"end\n")
 
 
-def write_events(path, turns):
-    """Writes so many turns, going round."""
-    with open(path, "w") as it:
-        while turns:
-            part = min(turns, 1_000_000)
-            it.write(f"next {part}\n")
-            turns -= part
-
-
 def instructions(folder, image, script, turns):
     """The instructions of a run of so many turns."""
-    events = f"{folder}/events"
-    write_events(events, turns)
-    ran = subprocess.run(
-        ["valgrind", "--tool=callgrind", f"--callgrind-out-file={folder}/out", PROGRAM, "-c", script, image, events],
-        capture_output=True,
-    )
-    if ran.returncode:
-        sys.exit(f"{script}: {ran.stdout[-200:]} {ran.stderr[-400:]}")
-    for line in ran.stderr.decode().splitlines():
-        if "Collected" in line:
-            return int(line.split(":")[1].replace(",", ""))
-    sys.exit("callgrind counted nothing")
+    events = measuring.write_events(f"{folder}/events", turns)
+    return measuring.instructions(folder, [PROGRAM, "-c", script, image, events])
 
 
 def each(folder, image, script, begin, end):
@@ -68,14 +50,9 @@ TURNS = 6
 
 
 def memory(folder, image, count):
-    """The greatest memory of a run, in KiB, in which so many processes end. The script is an operand, in the image."""
-    events = f"{folder}/events"
-    write_events(events, count * TURNS + 100)
-    ran = subprocess.Popen([PROGRAM, image, events, f"/ends{count}"], stdout=subprocess.DEVNULL)
-    _, status, used = os.wait4(ran.pid, 0)
-    if status:
-        sys.exit(f"{count} processes: psh ended with {status}")
-    return used.ru_maxrss
+    """The most memory of a run in which so many processes end, in KiB. The script is an operand, in the image."""
+    events = measuring.write_events(f"{folder}/events", count * TURNS + 100)
+    return measuring.memory([PROGRAM, image, events, f"/ends{count}"])
 
 
 def many():
