@@ -6,17 +6,19 @@ use Rattle.sh_builtin.specs.Conditional.{verdict_of}
 use Rattle.sh_builtin.specs.Loops.{exit_with, loop_with, operands_of}
 use Rattle.sh_builtin.specs.Outcomes.{done, misuse, outcome_of, output}
 use Rattle.sh_builtin.specs.declared.builtin.Builtin.{Builtin}
-use Rattle.sh_builtin.specs.declared.builtin.Builtin.TheVariants.{Bracket, Break, Cd, Colon, Continue, Echo, Exit, False, Pwd, Set, Shift, Test, True, Unset}
+use Rattle.sh_builtin.specs.declared.builtin.Builtin.TheVariants.{Bracket, Break, Cd, Colon, Continue, Echo, Exit, Export, False, Pwd, ReadOnly, Set, Shift, Test, True, Unset}
 use Rattle.sh_builtin.specs.declared.conditional.Verdict.{Verdict}
 use Rattle.sh_builtin.specs.declared.conditional.Verdict.TheVariants as verdict
 use Rattle.sh_builtin.specs.declared.outcome.Leave.TheVariants as leave
 use Rattle.sh_builtin.specs.declared.outcome.Outcome.{Outcome}
 use Rattle.sh_builtin.specs.declared.shell.Shell.{Shell}
 use Rattle.sh_builtin_environment.specs.Directories.{cd_ran, pwd_outcome}
+use Rattle.sh_builtin_environment.specs.Marking.{mark_ran}
 use Rattle.sh_builtin_environment.specs.Outcomes.{Ran}
 use Rattle.sh_builtin_environment.specs.Setting.{set_ran}
 use Rattle.sh_builtin_environment.specs.Shifting.{shift_ran}
 use Rattle.sh_builtin_environment.specs.Unsetting.{unset_ran}
+use Rattle.sh_builtin_environment.specs.declared.attribute.Attribute.TheVariants as attribute
 use Rattle.sh_kernel_descriptors.specs.Machine.{MachineState}
 use Rattle.sh_kernel_descriptors.specs.Terminals.{is_terminal}
 use Rattle.sh_kernel_descriptors.specs.declared.descriptor.DescriptorRef.TheVariants.{Number}
@@ -91,8 +93,10 @@ built_in machine shell Colon arguments = with_outcome shell (done 0)
 built_in machine shell Continue arguments = with_outcome shell (loop_with Continue leave.Continue (operands_of arguments))
 built_in machine shell Echo arguments = with_outcome shell (echo_outcome arguments)
 built_in machine shell Exit arguments = with_outcome shell (exit_with shell.vars.special.status (operands_of arguments))
+built_in machine shell Export arguments = ran Export shell (mark_ran attribute.Export shell.vars arguments)
 built_in machine shell False arguments = with_outcome shell (done 1)
 built_in machine shell Pwd arguments = with_outcome shell (outcome_of Pwd (pwd_outcome shell.vars arguments))
+built_in machine shell ReadOnly arguments = ran ReadOnly shell (mark_ran attribute.ReadOnly shell.vars arguments)
 built_in machine shell Set arguments = ran Set shell (set_ran shell.vars arguments)
 built_in machine shell Shift arguments = ran Shift shell (shift_ran shell.vars arguments)
 built_in machine shell Test arguments = with_outcome shell (test_outcome machine shell Test arguments)

@@ -10,7 +10,7 @@ use crate::shell::Shell;
 use crate::testing::{bracket, test};
 use sh_base::NoMemory;
 use sh_base::sequence::{Sequence, Text};
-use sh_builtin_environment::{cd, pwd, set, shift, unset};
+use sh_builtin_environment::{Attribute, cd, mark, pwd, set, shift, unset};
 use sh_kernel::Kernel;
 use std::alloc::Global;
 
@@ -26,8 +26,10 @@ pub enum Builtin {
     Continue,
     Echo,
     Exit,
+    Export,
     False,
     Pwd,
+    ReadOnly,
     Set,
     Shift,
     Test,
@@ -65,7 +67,7 @@ impl Row {
 }
 
 /// All of them.
-const BUILTINS: [Builtin; 14] = [
+const BUILTINS: [Builtin; 16] = [
     Builtin::Bracket,
     Builtin::Break,
     Builtin::Cd,
@@ -73,8 +75,10 @@ const BUILTINS: [Builtin; 14] = [
     Builtin::Continue,
     Builtin::Echo,
     Builtin::Exit,
+    Builtin::Export,
     Builtin::False,
     Builtin::Pwd,
+    Builtin::ReadOnly,
     Builtin::Set,
     Builtin::Shift,
     Builtin::Test,
@@ -95,8 +99,10 @@ impl Builtin {
             Builtin::Continue => Row::special(b"continue"),
             Builtin::Echo => Row::regular(b"echo"),
             Builtin::Exit => Row::special(b"exit"),
+            Builtin::Export => Row::special(b"export"),
             Builtin::False => Row::regular(b"false"),
             Builtin::Pwd => Row::regular(b"pwd"),
+            Builtin::ReadOnly => Row::special(b"readonly"),
             Builtin::Set => Row::special(b"set"),
             Builtin::Shift => Row::special(b"shift"),
             Builtin::Test => Row::regular(b"test"),
@@ -155,10 +161,18 @@ impl Builtin {
             Builtin::Continue => continue_with(alloc, operands_of(arguments)),
             Builtin::Echo => echo(alloc, arguments),
             Builtin::Exit => exit_with(alloc, shell.vars.status(), operands_of(arguments)),
+            Builtin::Export => {
+                let answer = mark(alloc, Attribute::Export, &mut shell.vars, arguments)?;
+                Outcome::of(alloc, Builtin::Export, answer)
+            },
             Builtin::False => Ok(Outcome::done(alloc, 1)),
             Builtin::Pwd => {
                 let answer = pwd(alloc, &shell.vars, arguments)?;
                 Outcome::of(alloc, Builtin::Pwd, answer)
+            },
+            Builtin::ReadOnly => {
+                let answer = mark(alloc, Attribute::ReadOnly, &mut shell.vars, arguments)?;
+                Outcome::of(alloc, Builtin::ReadOnly, answer)
             },
             Builtin::Set => {
                 let answer = set(alloc, &mut shell.vars, arguments)?;

@@ -11,7 +11,7 @@ use Rattle.sh_exec_actions.specs.declared.action.Action.{Action}
 use Rattle.sh_exec_actions.specs.declared.action.Action.TheVariants.{Reading}
 use Rattle.sh_exec_forms.specs.Frames as shell
 use Rattle.sh_exec_forms.specs.Running.{At}
-use Rattle.sh_exec_forms.specs.declared.form.Frame.{Frame}
+use Rattle.sh_exec_actions.specs.declared.form.Frame.{Frame}
 use Rattle.sh_files.specs.Nodes.{FileMap}
 use Rattle.sh_vars.specs.Environment.{Environment, with_options, with_positional, with_zero}
 use Rattle.sh_vars.specs.Starting.{starting}

@@ -1,1 +1,3 @@
+pub mod Preparing
+pub mod Served
 pub mod Statuses

@@ -8,18 +8,22 @@ use sh_exec_parts::message::Piece;
 use sh_exec_parts::redirection::Redirection;
 use sh_exec_parts::simple::Assignment;
 use sh_exec_parts::{Queue, Rest};
-use sh_syntax::tree::{Command, CompoundList};
+use sh_syntax::tree::{Command, CompoundList, Parts};
 use sh_vars::{Entry, Vars};
 
-/// What runs a simple command (XCU 2.9.1).
-#[derive(Clone, Copy, Debug, PartialEq, Eq)]
+/// What runs a command once its redirections and assignments are done.
+#[derive(Drop)]
 pub enum Role {
-    /// Nothing: it has no command name.
+    /// Nothing: it is a simple command (XCU 2.9.1) without a command name.
     NoCommandName,
     /// A built-in utility.
     Builtin(Builtin),
     /// A program.
     Program,
+    /// The shell, in which it is entered: it is this compound command (2.9.4).
+    Compound(Shared<Command>),
+    /// A process of its own, in which this list of a subshell (2.9.4.1) is entered.
+    Subshell(Shared<CompoundList>),
 }
 
 /// A variable as it was before a command's assignment.
@@ -39,7 +43,7 @@ pub struct Undo {
     pub variables: Sequence<Saved>,
 }
 
-/// A simple command whose words are expanded.
+/// A simple command whose words are expanded, or a compound command of whose redirections they are.
 #[derive(Drop)]
 pub struct ExpandedCommand {
     pub role: Role,
@@ -64,6 +68,22 @@ pub struct ForLoop {
     pub body: Shared<CompoundList>,
 }
 
+/// A pattern of a `case` (2.9.4.3), and the list that is run where it matches.
+#[derive(Drop)]
+pub struct CaseBranch {
+    pub pattern: Shared<Parts>,
+    pub body: Shared<CompoundList>,
+}
+
+/// A `case` (2.9.4.3) whose word is expanded.
+#[derive(Drop)]
+pub struct Case {
+    /// What its word came to.
+    pub word: Text,
+    /// The patterns that are still to be tried, the next one first.
+    pub branches: Queue<CaseBranch>,
+}
+
 /// What is expanded.
 #[derive(Drop)]
 pub enum ToExpand {
@@ -76,8 +96,14 @@ pub enum ToExpand {
     },
     /// The values of its assignments, one after another.
     Values(ExpandedCommand),
+    /// The words of the redirections of a compound command.
+    Redirects(Shared<Command>),
     /// The words of a `for`.
     ForWords(Shared<Command>),
+    /// The word of a `case`.
+    CaseWord(Shared<Command>),
+    /// The next pattern of a `case`.
+    CasePattern(Case),
 }
 
 /// An expansion that needs answers: the shell's variables at its start, and the answers so far.
@@ -185,6 +211,12 @@ pub enum Move {
     At(Active),
     /// Here, and when that is done what the command changed is undone.
     Held(Undo, Active),
+    /// Here, in this list.
+    Enter(Shared<CompoundList>),
+    /// Here, in this compound command, and when that is done what its redirections changed is undone.
+    Compound(Undo, Shared<Command>),
+    /// Here, in this list of a subshell, which is all that its process has left to do.
+    Subshell(Shared<CompoundList>),
 }
 
 /// What an expansion turn comes to.

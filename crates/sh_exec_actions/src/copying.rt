@@ -2,8 +2,8 @@
 ghost use Rattle.std.specs.Prelude.{◌≡◌, IfOk};
 
 use crate::action::{
-    Action, Active, ExpandedCommand, Finish, ForLoop, Pending, Report, Saved, Stages, Substitution,
-    ToExpand, Undo,
+    Action, Active, Case, CaseBranch, ExpandedCommand, Finish, ForLoop, Pending, Report, Role,
+    Saved, Stages, Substitution, ToExpand, Undo,
 };
 use sh_base::NoMemory;
 use sh_base::sequence::{Sequence, Text, copies_of};
@@ -16,6 +16,18 @@ impl Copying for Saved {
         match self {
             Saved::Variable(entry) => Ok(Saved::Variable(entry.copy(alloc)?)),
             Saved::Absent(name) => Ok(Saved::Absent(name.copy(alloc)?)),
+        }
+    }
+}
+
+impl Copying for Role {
+    fn copy(&self, alloc: Global) -> Result<Role, NoMemory> {
+        match self {
+            Role::NoCommandName => Ok(Role::NoCommandName),
+            Role::Builtin(builtin) => Ok(Role::Builtin(*builtin)),
+            Role::Program => Ok(Role::Program),
+            Role::Compound(command) => Ok(Role::Compound(command.copy(alloc)?)),
+            Role::Subshell(list) => Ok(Role::Subshell(list.copy(alloc)?)),
         }
     }
 }
@@ -61,9 +73,18 @@ impl Copying for ExpandedCommand {
                 return Err(lack);
             },
         };
-        match self.undo.copy(alloc) {
-            Ok(undo) => Ok(ExpandedCommand {
-                role: self.role,
+        let undo = match self.undo.copy(alloc) {
+            Ok(undo) => undo,
+            Err(lack) => {
+                drop(assignments);
+                drop(redirections);
+                drop(fields);
+                return Err(lack);
+            },
+        };
+        match self.role.copy(alloc) {
+            Ok(role) => Ok(ExpandedCommand {
+                role,
                 fields,
                 redirections,
                 assignments,
@@ -71,6 +92,7 @@ impl Copying for ExpandedCommand {
                 status: self.status,
             }),
             Err(lack) => {
+                drop(undo);
                 drop(assignments);
                 drop(redirections);
                 drop(fields);
@@ -101,6 +123,32 @@ impl Copying for ForLoop {
     }
 }
 
+impl Copying for CaseBranch {
+    fn copy(&self, alloc: Global) -> Result<CaseBranch, NoMemory> {
+        let pattern = self.pattern.copy(alloc)?;
+        match self.body.copy(alloc) {
+            Ok(body) => Ok(CaseBranch { pattern, body }),
+            Err(lack) => {
+                drop(pattern);
+                Err(lack)
+            },
+        }
+    }
+}
+
+impl Copying for Case {
+    fn copy(&self, alloc: Global) -> Result<Case, NoMemory> {
+        let word = self.word.copy(alloc)?;
+        match self.branches.copy(alloc) {
+            Ok(branches) => Ok(Case { word, branches }),
+            Err(lack) => {
+                drop(word);
+                Err(lack)
+            },
+        }
+    }
+}
+
 impl Copying for ToExpand {
     fn copy(&self, alloc: Global) -> Result<ToExpand, NoMemory> {
         match self {
@@ -114,7 +162,10 @@ impl Copying for ToExpand {
                 status: *status,
             }),
             ToExpand::Values(command) => Ok(ToExpand::Values(command.copy(alloc)?)),
+            ToExpand::Redirects(command) => Ok(ToExpand::Redirects(command.copy(alloc)?)),
             ToExpand::ForWords(command) => Ok(ToExpand::ForWords(command.copy(alloc)?)),
+            ToExpand::CaseWord(command) => Ok(ToExpand::CaseWord(command.copy(alloc)?)),
+            ToExpand::CasePattern(case) => Ok(ToExpand::CasePattern(case.copy(alloc)?)),
         }
     }
 }

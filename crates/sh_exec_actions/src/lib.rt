@@ -1,13 +1,19 @@
-//! What a shell does next: its actions, with all that each needs. They are values; nothing here does one. The statuses that a shell
-//! itself gives are here too (XCU 2.8.1, 2.8.2).
+//! What a shell runs: the forms round the place where it acts, and the action that comes next there, with all that each needs. They are
+//! values; nothing here does one. The statuses that a shell itself gives are here too (XCU 2.8.1, 2.8.2).
 #![tactic(auto)]
 
 mod action;
 mod copying;
+mod form;
+mod preparing;
+mod served;
 pub mod status;
 
 pub use action::{
-    Action, Active, Expanded, ExpandedCommand, Finish, ForLoop, Move, Pending, Report, Role, Saved,
-    Stages, Substitution, ToExpand, Undo,
+    Action, Active, Case, CaseBranch, Expanded, ExpandedCommand, Finish, ForLoop, Move, Pending,
+    Report, Role, Saved, Stages, Substitution, ToExpand, Undo,
 };
+pub use form::{Branches, Form, Frame, Loop};
+pub use preparing::{begin_command, first_place, go_ahead, no_undo, not_done, perform, prepare};
+pub use served::is_served;
 pub use status::CommandStatus;

@@ -1,29 +1,75 @@
 -- An expansion with answers (XCU 2.6.3): it goes from its first word, and each answer serves the next need.
-use Rattle.std.specs.Prelude.{ℕ, List, [], ◌∷◌, ◌++◌}
-use Rattle.sh_expand.specs.Expanding.{Result, Need, Fields, Stops, expand}
+use Rattle.std.specs.Prelude.{◌≡◌, ℕ, List, [], ◌∷◌, ◌++◌}
+use Rattle.sh_expand.specs.Expanding as expanding
+use Rattle.sh_expand.specs.Expansion.{Outcome, Need, Done, Stops}
+use Rattle.sh_expand.specs.FieldProgress.{IsStep, first_pattern}
+use Rattle.sh_expand.specs.Parts as words
+use Rattle.sh_expand.specs.WordProgress.{inputs}
+use Rattle.sh_expand.specs.declared.expansion.Expansion.{Expansion}
 use Rattle.sh_expand.specs.declared.expansion.Step.{Step}
 use Rattle.sh_expand.specs.declared.expansion.Step.TheVariants as step
 use Rattle.sh_expand.specs.declared.wanted.Wanted.{Wanted}
+use Rattle.sh_expand_parts.specs.declared.context.Context.TheVariants.{Single}
+use Rattle.sh_expand_parts.specs.declared.fault.Fault.{Fault}
 use Rattle.sh_files.specs.Nodes.{FileMap}
+use Rattle.sh_pattern.specs.declared.pattern_byte.PatternByte.{PatternByte}
+use Rattle.sh_syntax.specs.declared.tree.CompoundList.{CompoundList}
+use Rattle.sh_syntax.specs.declared.tree.Parts.{Parts}
+use Rattle.sh_exec_command.specs.declared.answers.PatternStep.{PatternStep}
+use Rattle.sh_exec_command.specs.declared.answers.PatternStep.TheVariants as pattern_step
 use Rattle.sh_vars.specs.Environment.{Environment}
 
 -- the next answer serves a need; what ends needs none
-abbrev pub resumption : Result → Result → Result
+abbrev pub resumption : Outcome → Outcome → Outcome
 resumption (Need program env) next = next
-resumption (Fields fields env) next = Fields fields env
+resumption (Done s) next = Done s
 resumption (Stops fault env) next = Stops fault env
 
--- the expansion that has had the answers `given`, when these come too
-abbrev pub expansion_after : FileMap → List Wanted → Environment → (given answers : List (List ℕ)) → Result
-expansion_after files wanted env given [] = expand files wanted env given
-expansion_after files wanted env given (answer ∷ answers) =
-    resumption (expand files wanted env given) (expansion_after files wanted env (given ++ answer ∷ []) answers)
+-- the words that have had the answers `given`, when these come too
+abbrev pub words_after : List Wanted → Environment → (given answers : List (List ℕ)) → Outcome
+words_after wanted env given [] = words.expand wanted env given
+words_after wanted env given (answer ∷ answers) = resumption (words.expand wanted env given) (words_after wanted env (given ++ answer ∷ []) answers)
 
-unfoldable pub expansion_with : FileMap → List Wanted → Environment → List (List ℕ) → Result
-expansion_with files wanted env answers = expansion_after files wanted env [] answers
+unfoldable pub words_with : List Wanted → Environment → List (List ℕ) → Outcome
+words_with wanted env answers = words_after wanted env [] answers
+
+-- ---- to fields
+unfoldable pub expansion_with : FileMap → List Wanted → Environment → List (List ℕ) → expanding.Result
+expansion_with files wanted env answers = expanding.result_of files (words_with wanted env answers)
 
 -- a step and the variables with it, as what the expansion comes to
-abbrev pub result_of : Step → Environment → Result
-result_of (step.Need program) env = Need program env
-result_of (step.Fields fields) env = Fields fields env
-result_of (step.Fault fault) env = Stops fault env
+abbrev pub result_of : Step → Environment → expanding.Result
+result_of (step.Need program) env = expanding.Need program env
+result_of (step.Fields fields) env = expanding.Fields fields env
+result_of (step.Fault fault) env = expanding.Stops fault env
+
+-- ---- to a pattern (2.14.1), which the first word gives
+-- a word that gives one text
+abbrev pub single : Parts → Wanted
+single parts = record { parts = parts; context = Single }
+
+pub data Patterned : Type 0 where
+  Needs : (program : CompoundList) → (env : Environment) → Patterned
+  Pattern : (pattern : List PatternByte) → (env : Environment) → Patterned
+  Fails : (fault : Fault) → (env : Environment) → Patterned
+
+abbrev pub pattern_of : Outcome → Patterned
+pattern_of (Need program env) = Needs program env
+pattern_of (Done s) = Pattern (first_pattern s.words) s.env
+pattern_of (Stops fault env) = Fails fault env
+
+unfoldable pub pattern_with : List Wanted → Environment → List (List ℕ) → Patterned
+pattern_with wanted env answers = pattern_of (words_with wanted env answers)
+
+abbrev pub patterned_by : PatternStep → Environment → Patterned
+patterned_by (pattern_step.Need program) env = Needs program env
+patterned_by (pattern_step.Pattern pattern) env = Pattern pattern env
+patterned_by (pattern_step.Fault fault) env = Fails fault env
+
+-- a step of an expansion that has had all its answers, or needs no more of them
+pub record IsAnswered (files : FileMap) (reached : Step) (expansion : Expansion) (env : Environment) (outcome : Outcome) : Type 0 where
+  pub wanted : List Wanted
+  pub start : Environment
+  pub given : List (List ℕ)
+  pub is_step : IsStep files reached expansion env (inputs wanted start given)
+  pub is_outcome : words.expand wanted start given ≡ outcome

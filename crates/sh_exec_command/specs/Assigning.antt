@@ -5,7 +5,7 @@ use Rattle.sh_exec_parts.specs.Messages.{fault_text, read_only}
 use Rattle.sh_exec_parts.specs.declared.simple.Assignment.{Assignment}
 use Rattle.sh_exec_command.specs.Answers.{expansion_with}
 use Rattle.sh_exec_command.specs.Expanding.{Turn, fatal, start_of}
-use Rattle.sh_exec_command.specs.Preparing.{final_move}
+use Rattle.sh_exec_actions.specs.Preparing.{final_move}
 use Rattle.sh_exec_command.specs.Undoing.{saved_of}
 use Rattle.sh_exec_command.specs.declared.assigning.Assigned.{Assigned}
 use Rattle.sh_exec_command.specs.declared.assigning.Assigned.TheVariants.{On, Over}
@@ -26,11 +26,13 @@ use Rattle.sh_vars.specs.Environment.{Environment, is_read_only, with_export, wi
 use Rattle.sh_base.specs.Names.{is_name}
 
 -- before a built-in that isn't special and before a program the variable is exported while that runs; before a special built-in,
--- and without a command name, it is set and stays (2.9.1.2, 2.15)
+-- and without a command name, it is set and stays (2.9.1.2, 2.15); a compound command has no assignments
 abbrev pub is_passing : Role → Bool
 is_passing role.NoCommandName = false
 is_passing (role.Builtin builtin) = not (is_special builtin)
 is_passing role.Program = true
+is_passing (role.Compound command) = false
+is_passing (role.Subshell list) = false
 
 unfoldable pub with_assigned : Role → Environment → List ℕ → List ℕ → Environment
 with_assigned r env name value = if is_passing r then with_export (with_value env name value) name else with_value env name value
@@ -40,6 +42,8 @@ abbrev pub is_undone : Role → Bool
 is_undone role.NoCommandName = false
 is_undone (role.Builtin builtin) = not (is_special builtin)
 is_undone role.Program = false
+is_undone (role.Compound command) = false
+is_undone (role.Subshell list) = false
 
 unfoldable pub undo_with : Role → Environment → Undo → List ℕ → Undo
 undo_with r env undo name = if is_undone r then record undo { variables = undo.variables ++ saved_of env name ∷ [] } else undo

@@ -3,9 +3,10 @@
 use Rattle.std.specs.Prelude.{ℕ, List, [], Bool, Option, Some, None}
 use Rattle.sh_exec_actions.specs.Statuses as statuses
 use Rattle.sh_exec_parts.specs.Messages.{fault_text, message}
-use Rattle.sh_exec_parts.specs.Simple.{items_of, wanted_of}
+use Rattle.sh_exec_parts.specs.Simple.{items_of}
+use Rattle.sh_exec_parts.specs.Wants.{wanted_of}
 use Rattle.sh_exec_command.specs.Answers.{expansion_with}
-use Rattle.sh_exec_command.specs.Preparing.{first_move, prepared_of}
+use Rattle.sh_exec_actions.specs.Preparing.{first_move, prepared_of}
 use Rattle.sh_exec_actions.specs.declared.action.Active.{Active}
 use Rattle.sh_exec_actions.specs.declared.action.Active.TheVariants.{Next}
 use Rattle.sh_exec_actions.specs.declared.action.Expanded.{Expanded}

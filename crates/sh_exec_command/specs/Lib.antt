@@ -1,7 +1,8 @@
 pub mod Answers
 pub mod Assigning
+pub mod Cases
 pub mod Expanding
-pub mod Preparing
 pub mod Reading
+pub mod Redirects
 pub mod Series
 pub mod Undoing

@@ -6,7 +6,7 @@ use Rattle.sh_parse.specs.declared.Reading.{Reading}
 use Rattle.sh_parse.specs.declared.Reading.TheVariants.{Complete, Blank, More}
 use Rattle.sh_parse.specs.declared.ParseFault.{ParseFault}
 use Rattle.sh_parse.specs.declared.ParseFault.TheVariants.{Refused, Unclosed, BadSubstitution, TooDeep, NoMemory}
-use Rattle.sh_exec_parts.specs.Served.{serves}
+use Rattle.sh_exec_actions.specs.Served.{serves}
 use Rattle.sh_exec_command.specs.declared.found.Found.{Found}
 use Rattle.sh_exec_command.specs.declared.found.Found.TheVariants.{Nothing, Command, Fault}
 use Rattle.sh_exec_command.specs.declared.found.Answer.{Answer}

@@ -9,13 +9,12 @@ ghost use Rattle.sh_vars.specs.Environment.{with_value};
 
 use crate::answers::expand;
 use crate::expanding::{fatal_message, start};
-use crate::preparing::perform;
 use crate::undo::save;
 use sh_base::NoMemory;
 use sh_base::sequence::{Sequence, Text};
 use sh_base::shared::Shared;
 use sh_exec_actions::{
-    Action, Active, Expanded, ExpandedCommand, Finish, Move, Pending, Role, ToExpand, Undo,
+    Action, Active, Expanded, ExpandedCommand, Finish, Move, Pending, Role, ToExpand, Undo, perform,
 };
 use sh_exec_parts::message::{Piece, not_expanded, read_only};
 use sh_exec_parts::simple::Assignment;
@@ -35,24 +34,28 @@ pub(crate) enum Assigned {
 }
 
 /// Whether the variables that are set for a command are exported.
-fn is_passing(role: Role) -> bool
-    ensures { result ≡ is_passing role }
+fn is_passing(role: &Role) -> bool
+    ensures { result ≡ is_passing role.now }
 {
     match role {
         Role::NoCommandName => false,
         Role::Builtin(builtin) => !builtin.is_special(),
         Role::Program => true,
+        Role::Compound(_) => false,
+        Role::Subshell(_) => false,
     }
 }
 
 /// Whether they are brought back after the command.
-fn is_undone(role: Role) -> bool
-    ensures { result ≡ is_undone role }
+fn is_undone(role: &Role) -> bool
+    ensures { result ≡ is_undone role.now }
 {
     match role {
         Role::NoCommandName => false,
         Role::Builtin(builtin) => !builtin.is_special(),
         Role::Program => false,
+        Role::Compound(_) => false,
+        Role::Subshell(_) => false,
     }
 }
 
@@ -83,9 +86,9 @@ pub(crate) fn set_plain(vars: &mut Vars, name: &[u8], value: &[u8]) -> Result<()
 
 /// Sets a variable that may be set, for a command.
 #[tactic(auto, unfolding(crate::specs::Assigning::with_assigned))]
-fn set(vars: &mut Vars, role: Role, name: &[u8], value: &[u8]) -> Result<(), NoMemory>
+fn set(vars: &mut Vars, role: &Role, name: &[u8], value: &[u8]) -> Result<(), NoMemory>
     requires { IsTrue (may_set vars.old name.now) }
-    ensures { OnOk result (vars.new ≡ with_assigned role vars.old name.now value.now) }
+    ensures { OnOk result (vars.new ≡ with_assigned role.now vars.old name.now value.now) }
 {
     set_plain(vars, name, value)?;
     if is_passing(role) {
@@ -102,12 +105,12 @@ fn set(vars: &mut Vars, role: Role, name: &[u8], value: &[u8]) -> Result<(), NoM
 #[tactic(auto, unfolding(crate::specs::Assigning::undo_with))]
 fn undo_with(
     alloc: Global,
-    role: Role,
+    role: &Role,
     vars: &Vars,
     undo: Undo,
     name: &[u8],
 ) -> Result<Undo, NoMemory>
-    ensures { IfOk result (λ next. next ≡ undo_with role vars.now undo name.now) }
+    ensures { IfOk result (λ next. next ≡ undo_with role.now vars.now undo name.now) }
 {
     if !is_undone(role) {
         return Ok(undo);
@@ -134,7 +137,7 @@ fn note(
         undo,
         status,
     } = prepared;
-    let undo = undo_with(alloc, role, vars, undo, name)?;
+    let undo = undo_with(alloc, &role, vars, undo, name)?;
     Ok(ExpandedCommand {
         role,
         fields,
@@ -178,9 +181,8 @@ fn assign(
         };
         return Ok(stop(prepared, piece));
     }
-    let role = prepared.role;
     let prepared = note(alloc, prepared, vars, name)?;
-    match set(vars, role, name, value) {
+    match set(vars, &prepared.role, name, value) {
         Ok(()) => Ok(Assigned::On(prepared)),
         Err(lack) => {
             drop(prepared);
@@ -190,7 +192,7 @@ fn assign(
 }
 
 /// The one text that a value comes to.
-fn text_of(fields: &[Text]) -> &[u8]
+pub(crate) fn text_of(fields: &[Text]) -> &[u8]
     ensures { result.now ≡ text_of fields.now }
 {
     match fields.first() {

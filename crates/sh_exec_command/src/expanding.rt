@@ -3,20 +3,23 @@ ghost use Rattle.std.specs.Prelude.{◌≡◌, IfOk};
 ghost use Rattle.sh_exec_actions.specs.Statuses as statuses;
 ghost use Rattle.sh_exec_command.specs.Answers.{expansion_with, result_of};
 ghost use Rattle.sh_exec_parts.specs.Messages.{fault_text};
-ghost use Rattle.sh_exec_parts.specs.Simple.{items_of, wanted_of};
+ghost use Rattle.sh_exec_parts.specs.Simple.{items_of};
+ghost use Rattle.sh_exec_parts.specs.Wants.{wanted_of};
 ghost use Rattle.sh_exec_command.specs.Expanding.{fatal, start_of, words_by, words_turn};
-ghost use Rattle.sh_exec_command.specs.Preparing.{first_move, prepared_of};
+ghost use Rattle.sh_exec_actions.specs.Preparing.{first_move, prepared_of};
 ghost use Rattle.sh_expand.specs.Expanding as expanding;
 
 use crate::answers::expand;
-use crate::preparing::{begin_command, prepare};
 use sh_base::NoMemory;
 use sh_base::sequence::{Sequence, Text};
 use sh_base::shared::Shared;
 use sh_exec_actions::status::ERROR;
-use sh_exec_actions::{Action, Active, Expanded, Finish, Move, Pending, ToExpand};
+use sh_exec_actions::{
+    Action, Active, Expanded, Finish, Move, Pending, ToExpand, begin_command, prepare,
+};
 use sh_exec_parts::message::{Piece, not_expanded};
-use sh_exec_parts::simple::{items_of, wanted_of};
+use sh_exec_parts::simple::items_of;
+use sh_exec_parts::wanted::wanted_of;
 use sh_expand::{Fault, Step};
 use sh_files::Files;
 use sh_syntax::tree::Command;
@@ -95,7 +98,7 @@ fn begin(
 }
 
 /// The turn is over with a fault of the words.
-fn fail(alloc: Global, fault: Fault) -> Result<Expanded, NoMemory>
+pub(crate) fn fail(alloc: Global, fault: Fault) -> Result<Expanded, NoMemory>
     ensures { IfOk result (λ e. e ≡ Expanded.Go (Move.At (fatal (fault_text fault)))) }
 {
     let piece = not_expanded(alloc, fault)?;

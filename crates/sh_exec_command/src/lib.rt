@@ -1,21 +1,22 @@
-//! A simple command of a shell between its turns (XCU 2.9.1): what its words, its redirections and its
-//! assignments come to, and what it does then. Nothing here calls a kernel; what a turn asks of one is told
-//! by the shell's next place.
+//! Commands of a shell between their turns (XCU 2.9): what their words come to, and what they do then. Nothing here calls a kernel; what a
+//! turn asks of one is told by the shell's next place.
 #![tactic(auto)]
 
 mod answers;
 mod assigning;
+mod cases;
 mod expanding;
 mod found;
-mod preparing;
 mod reading;
+mod redirects;
 mod series;
 mod undo;
 
 pub use assigning::assign_turn;
+pub use cases::{case_turn, pattern_turn};
 pub use expanding::words_turn;
 pub use found::Found;
-pub use preparing::{first_place, go_ahead, not_done};
 pub use reading::find_command;
+pub use redirects::redirects_turn;
 pub use series::{Round, give_turn, rest_of_series, series_turn};
 pub use undo::restore_variables;

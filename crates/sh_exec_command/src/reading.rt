@@ -6,8 +6,9 @@ ghost use Rattle.sh_exec_command.specs.Reading.{answer_of, next_command};
 
 use crate::found::{Answer, Found};
 use sh_base::NoMemory;
+use sh_exec_actions::is_served;
+use sh_exec_parts::Rest;
 use sh_exec_parts::message::Refusal;
-use sh_exec_parts::{Rest, is_served};
 use sh_parse::{Aliases, ParseFault, Reading, read_command};
 use std::alloc::Global;
 

@@ -7,13 +7,13 @@ ghost use Rattle.sh_exec_command.specs.Series.{begun_with, give_by, give_turn, r
 
 use crate::answers::expand;
 use crate::assigning::{may_set, set_plain};
-use crate::expanding::{fatal_message, start};
+use crate::expanding::{fail, fatal_message, start};
 use sh_base::NoMemory;
 use sh_base::sequence::{Sequence, Text, copies_of};
 use sh_base::shared::Shared;
 use sh_exec_actions::{Action, Active, CommandStatus, Expanded, ForLoop, Move, Pending, ToExpand};
 use sh_exec_parts::Queue;
-use sh_exec_parts::message::{not_expanded, read_only};
+use sh_exec_parts::message::read_only;
 use sh_expand::{Context, Step, Wanted};
 use sh_files::Files;
 use sh_syntax::tree::{Command, CompoundForm, CompoundList, Name, Word};
@@ -141,10 +141,7 @@ fn expand_words(
             };
             Ok(Expanded::Go(Move::At(rest_of_series(series, CommandStatus::unexcused(0)))))
         },
-        Step::Fault(fault) => {
-            let piece = not_expanded(alloc, fault)?;
-            Ok(Expanded::Go(Move::At(fatal_message(piece))))
-        },
+        Step::Fault(fault) => fail(alloc, fault),
     }
 }
 

@@ -1,15 +1,15 @@
 -- How each form of the syntax is entered, by its parts.
-use Rattle.std.proofs.Common.{◌≡◌, ◌≤◌, arith, length, List, [], ◌∷◌, map, Option, Some, None, option_map, Bool, false, refl, sym, ap, ◌∙◌}
+use Rattle.std.proofs.Common.{◌≡◌, ◌≤◌, arith, length, List, [], ◌∷◌, map, Option, Some, None, option_map, Bool, true, false, refl, sym, ap, ◌∙◌}
 use Rattle.sh_exec_actions.specs.Statuses.{unexcused}
 use Rattle.sh_exec_actions.specs.declared.status.CommandStatus.{CommandStatus}
 use Rattle.sh_exec_parts.specs.Pipelines.{commands_of}
-use Rattle.sh_exec_command.specs.Preparing.{first_place}
+use Rattle.sh_exec_actions.specs.Preparing.{first_place}
 use Rattle.sh_exec_actions.specs.declared.action.Active.TheVariants.{Next, Done}
 use Rattle.sh_exec_actions.specs.declared.action.Action.TheVariants.{Expanding}
-use Rattle.sh_exec_actions.specs.declared.action.ToExpand.TheVariants.{ForWords}
-use Rattle.sh_exec_forms.specs.Entering.{Entry, and_or_run, and_or_step, command_entry, command_run, command_step, commands_run, commands_step, compound_list_step, compound_entry, compound_step, items_run, form_entry, form_step, item_run, with_others, list_item_step, list_run, with_negation, pipeline_run, pipeline_step, staging, to_enter, tree, trees, no_entry}
+use Rattle.sh_exec_actions.specs.declared.action.ToExpand.TheVariants.{CaseWord, ForWords, Redirects}
+use Rattle.sh_exec_forms.specs.Entering.{Entry, and_or_run, and_or_step, command_entry, command_run, command_step, commands_run, commands_step, compound_list_step, compound_entry, compound_step, items_run, form_entry, form_step, item_run, with_others, list_item_step, list_run, with_negation, pipeline_run, pipeline_step, staging, is_subshell, redirected, to_enter, tree, trees, unless_subshell, no_entry}
 use Rattle.sh_exec_forms.specs.Running.{Run, At, In}
-use Rattle.sh_exec_forms.specs.declared.form.Form.TheVariants.{Commands, Condition, If}
+use Rattle.sh_exec_actions.specs.declared.form.Form.TheVariants.{Commands, Condition, If}
 use Rattle.sh_syntax.specs.declared.tree.AndOr.{AndOr}
 use Rattle.sh_syntax.specs.declared.tree.Command.{Command}
 use Rattle.sh_syntax.specs.declared.tree.CompoundList.{CompoundList}
@@ -20,6 +20,7 @@ use Rattle.sh_syntax.specs.declared.tree.LoopKind.{LoopKind}
 use Rattle.sh_syntax.specs.declared.tree.CaseItem.{CaseItem}
 use Rattle.sh_syntax.specs.declared.tree.Name.{Name}
 use Rattle.sh_syntax.specs.declared.tree.Pipeline.{Pipeline}
+use Rattle.sh_syntax.specs.declared.tree.Redirect.{Redirect}
 use Rattle.sh_syntax.specs.declared.tree.SimpleItem.{SimpleItem}
 use Rattle.sh_syntax.specs.declared.tree.Word.{Word}
 use Rattle.sh_syntax.specs.declared.tree.Command.TheFolds as folds
@@ -90,13 +91,41 @@ pub several_long : (x : Pipeline) → 1 ≤ length (view.out-Pipeline x).rest �
 several_long x h = long_as (view.out-Pipeline x).first (view.out-Pipeline x).rest h
 
 -- ---- compound commands
-pub compound_is : (x : Compound) → compound_entry x ≡ form_entry (view.out-Compound x).form
-unfolding compound_entry form_entry
-compound_is x = ap compound_entry (sym (view.roll-out-Compound x)) ∙ folds.para-roll-Compound Entry Entry (Unit {0}) (Unit {0}) (Unit {0}) Run (Unit {0}) Entry Run (Unit {0}) (Unit {0}) Run (Unit {0}) Run (Unit {0}) (Unit {0})
-    command_step form_step no_entry no_entry no_entry and_or_step no_entry compound_step compound_list_step no_entry no_entry list_item_step no_entry pipeline_step no_entry no_entry (view.out-Compound x)
+redirected_beside : {A B : Type 0} (f : A → B) (xs : List A) (run : Run) (whole : Command) → redirected (map f xs) run whole ≡ redirected xs run whole
+redirected_beside f [] run whole = refl
+redirected_beside f (x ∷ xs) run whole = refl
 
-pub compound_at : (x : Compound) (whole : Command) → compound_entry x whole ≡ form_entry (view.out-Compound x).form whole
-compound_at x whole = ap (λ entry. entry whole) (compound_is x)
+unless_beside : {A B : Type 0} (b : Bool) (f : A → B) (xs : List A) (run : Run) (whole : Command) → unless_subshell b (map f xs) run whole ≡ unless_subshell b xs run whole
+unless_beside true f xs run whole = refl
+unless_beside false f xs run whole = redirected_beside f xs run whole
+
+pub compound_is : (x : Compound) (whole : Command)
+    → compound_entry x whole ≡ unless_subshell (is_subshell (view.out-CompoundForm (view.out-Compound x).form)) (view.out-Compound x).redirects (form_entry (view.out-Compound x).form whole) whole
+unfolding compound_entry form_entry
+compound_is x whole = ap (λ entry. entry whole) (ap compound_entry (sym (view.roll-out-Compound x)) ∙ folds.para-roll-Compound Entry Entry (Unit {0}) (Unit {0}) (Unit {0}) Run (Unit {0}) Entry Run (Unit {0}) (Unit {0}) Run (Unit {0}) Run (Unit {0}) (Unit {0})
+    command_step form_step no_entry no_entry no_entry and_or_step no_entry compound_step compound_list_step no_entry no_entry list_item_step no_entry pipeline_step no_entry no_entry (view.out-Compound x))
+    ∙ unless_beside (is_subshell (view.out-CompoundForm (view.out-Compound x).form)) _ (view.out-Compound x).redirects (form_entry (view.out-Compound x).form whole) whole
+
+pub compound_of_subshell : (x : Compound) (whole : Command) → is_subshell (view.out-CompoundForm (view.out-Compound x).form) ≡ true → compound_entry x whole ≡ form_entry (view.out-Compound x).form whole
+compound_of_subshell x whole b = compound_is x whole ∙ ap (λ z. unless_subshell z (view.out-Compound x).redirects (form_entry (view.out-Compound x).form whole) whole) b
+
+unless_none : (b : Bool) (xs : List Redirect) (run : Run) (whole : Command) → xs ≡ [] → unless_subshell b xs run whole ≡ run
+unless_none true xs run whole e = refl
+unless_none false xs run whole e = ap (λ (these : List Redirect). redirected these run whole) e
+
+pub compound_plain : (x : Compound) (whole : Command) → (view.out-Compound x).redirects ≡ [] → compound_entry x whole ≡ form_entry (view.out-Compound x).form whole
+compound_plain x whole e =
+    compound_is x whole ∙ unless_none (is_subshell (view.out-CompoundForm (view.out-Compound x).form)) (view.out-Compound x).redirects (form_entry (view.out-Compound x).form whole) whole e
+
+pub redirected_some : (xs : List Redirect) (run : Run) (whole : Command) → 1 ≤ length xs → redirected xs run whole ≡ At (Next (Expanding (Redirects whole) None))
+redirected_some [] run whole h = absurd (omega (arith, h))
+redirected_some (x ∷ xs) run whole h = refl
+
+pub compound_redirected : (x : Compound) (whole : Command) → is_subshell (view.out-CompoundForm (view.out-Compound x).form) ≡ false → 1 ≤ length (view.out-Compound x).redirects
+    → compound_entry x whole ≡ At (Next (Expanding (Redirects whole) None))
+compound_redirected x whole b h =
+    compound_is x whole ∙ ap (λ z. unless_subshell z (view.out-Compound x).redirects (form_entry (view.out-Compound x).form whole) whole) b
+    ∙ redirected_some (view.out-Compound x).redirects (form_entry (view.out-Compound x).form whole) whole h
 
 pub group_entered : (list : CompoundList) (whole : Command) → form_entry (form.Group list) whole ≡ list_run list
 unfolding form_entry list_run
@@ -132,7 +161,7 @@ unfolding form_entry list_run
 for_parameters_entered name is_separated body whole = ap (λ entry. form_entry entry whole) (sym (form.rolls-ForParameters name is_separated body)) ∙ ap (λ entry. entry whole) (folds.para-roll-CompoundForm Entry Entry (Unit {0}) (Unit {0}) (Unit {0}) Run (Unit {0}) Entry Run (Unit {0}) (Unit {0}) Run (Unit {0}) Run (Unit {0}) (Unit {0})
     command_step form_step no_entry no_entry no_entry and_or_step no_entry compound_step compound_list_step no_entry no_entry list_item_step no_entry pipeline_step no_entry no_entry (layer.ForParameters name is_separated body))
 
-pub case_entered : (word : Word) (items : List CaseItem) (whole : Command) → form_entry (form.Case word items) whole ≡ At (Done (unexcused 0))
+pub case_entered : (word : Word) (items : List CaseItem) (whole : Command) → form_entry (form.Case word items) whole ≡ At (Next (Expanding (CaseWord whole) None))
 unfolding form_entry list_run
 case_entered word items whole = ap (λ entry. form_entry entry whole) (sym (form.rolls-Case word items)) ∙ ap (λ entry. entry whole) (folds.para-roll-CompoundForm Entry Entry (Unit {0}) (Unit {0}) (Unit {0}) Run (Unit {0}) Entry Run (Unit {0}) (Unit {0}) Run (Unit {0}) Run (Unit {0}) (Unit {0})
     command_step form_step no_entry no_entry no_entry and_or_step no_entry compound_step compound_list_step no_entry no_entry list_item_step no_entry pipeline_step no_entry no_entry (layer.Case word items))

@@ -2,7 +2,7 @@
 use Rattle.std.proofs.Common.{◌≡◌, List, [], ◌∷◌, ◌++◌, ◌||◌, Bool, true, false, reverse, refl, sym, ap, ◌∙◌}
 use Rattle.std.proofs.lemmas.List.{reverse-append}
 use Rattle.sh_exec_forms.specs.Frames.{forms_in, has_loop, is_loop}
-use Rattle.sh_exec_forms.specs.declared.form.Frame.{Frame}
+use Rattle.sh_exec_actions.specs.declared.form.Frame.{Frame}
 
 or_assoc : (x y z : Bool) → (x || y) || z ≡ x || (y || z)
 or_assoc true y z = refl

@@ -9,7 +9,7 @@ use Rattle.sh_exec_forms.specs.Builtins.{effect_at}
 use Rattle.sh_exec_forms.specs.Forms.{Acted, HasGone, HasPerformed, IsActed, IsOnWay, after, after_leave, after_status, at_action, exits_on_error, outward, step_run, with_run, within, within_run}
 use Rattle.sh_exec_forms.specs.Frames.{Goes, IsFewer, Leaves, active_in, is_over, run_in, run_of}
 use Rattle.sh_exec_forms.specs.Running.{Run, At, In}
-use Rattle.sh_exec_forms.specs.declared.form.Form.{Form}
+use Rattle.sh_exec_actions.specs.declared.form.Form.{Form}
 use Rattle.sh_exec_forms.specs.declared.step.Step.{Step}
 use Rattle.sh_exec_forms.specs.declared.step.Step.TheVariants.{Outward, Inward}
 use Rattle.sh_kernel.specs.State.{KernelKept, KernelState, StandsAt}

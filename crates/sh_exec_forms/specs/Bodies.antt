@@ -1,11 +1,11 @@
 -- Commands for which a process is made (2.13): where a simple command or a subshell is all that it runs, no
 -- other process is made for that; a substitution without commands ends at once, with 0.
 use Rattle.std.specs.Prelude.{List, [], ◌∷◌, Bool, true, false, Option, Some, None}
-use Rattle.sh_exec_command.specs.Preparing.{first_place}
+use Rattle.sh_exec_actions.specs.Preparing.{first_place}
 use Rattle.sh_exec_actions.specs.Statuses.{unexcused}
 use Rattle.sh_exec_actions.specs.declared.action.Active.TheVariants.{Next}
 use Rattle.sh_exec_actions.specs.declared.action.Action.TheVariants.{Ending}
-use Rattle.sh_exec_forms.specs.Entering.{Entry, Layer, command_run, compound_step, items_run, list_item_step, trees, no_entry}
+use Rattle.sh_exec_forms.specs.Entering.{Entry, Layer, command_run, items_run, list_item_step, redirected, trees, no_entry}
 use Rattle.sh_exec_forms.specs.Running.{Run, At}
 use Rattle.sh_syntax.specs.declared.tree.AndOr.{AndOr}
 use Rattle.sh_syntax.specs.declared.tree.Command.{Command}
@@ -26,6 +26,10 @@ own_form_step (layer.Loop kind condition body) command = command_run command
 own_form_step (layer.For name words body) command = command_run command
 own_form_step (layer.ForParameters name is_separated body) command = command_run command
 own_form_step (layer.Case word items) command = command_run command
+
+-- the words of its redirections are expanded in that process
+abbrev pub own_compound_step : Layer (Option Run) layer.Compound-F → Entry
+own_compound_step compound command = redirected compound.redirects (compound.form.1 command) command
 
 abbrev pub own_command_step : Layer (Option Run) layer.Command-F → Entry
 own_command_step (layer.Simple items) command = At (Next (first_place true command))
@@ -64,31 +68,31 @@ body_step list = body_items list.items
 -- ---- each form of the syntax, from the innermost outward
 unfoldable pub body_of : CompoundList → Run
 body_of = folds.para-CompoundList Entry Entry (Unit {0}) (Unit {0}) (Unit {0}) (Option Run) (Unit {0}) Entry Run (Unit {0}) (Unit {0}) (Option Run) (Unit {0}) (Option Run) (Unit {0}) (Unit {0})
-    own_command_step own_form_step no_entry no_entry no_entry sole_and_or_step no_entry compound_step body_step no_entry no_entry list_item_step no_entry sole_pipeline_step no_entry no_entry
+    own_command_step own_form_step no_entry no_entry no_entry sole_and_or_step no_entry own_compound_step body_step no_entry no_entry list_item_step no_entry sole_pipeline_step no_entry no_entry
 
 unfoldable pub sole_item : ListItem → Option Run
 sole_item = folds.para-ListItem Entry Entry (Unit {0}) (Unit {0}) (Unit {0}) (Option Run) (Unit {0}) Entry Run (Unit {0}) (Unit {0}) (Option Run) (Unit {0}) (Option Run) (Unit {0}) (Unit {0})
-    own_command_step own_form_step no_entry no_entry no_entry sole_and_or_step no_entry compound_step body_step no_entry no_entry list_item_step no_entry sole_pipeline_step no_entry no_entry
+    own_command_step own_form_step no_entry no_entry no_entry sole_and_or_step no_entry own_compound_step body_step no_entry no_entry list_item_step no_entry sole_pipeline_step no_entry no_entry
 
 unfoldable pub sole_and_or : AndOr → Option Run
 sole_and_or = folds.para-AndOr Entry Entry (Unit {0}) (Unit {0}) (Unit {0}) (Option Run) (Unit {0}) Entry Run (Unit {0}) (Unit {0}) (Option Run) (Unit {0}) (Option Run) (Unit {0}) (Unit {0})
-    own_command_step own_form_step no_entry no_entry no_entry sole_and_or_step no_entry compound_step body_step no_entry no_entry list_item_step no_entry sole_pipeline_step no_entry no_entry
+    own_command_step own_form_step no_entry no_entry no_entry sole_and_or_step no_entry own_compound_step body_step no_entry no_entry list_item_step no_entry sole_pipeline_step no_entry no_entry
 
 unfoldable pub sole_pipeline : Pipeline → Option Run
 sole_pipeline = folds.para-Pipeline Entry Entry (Unit {0}) (Unit {0}) (Unit {0}) (Option Run) (Unit {0}) Entry Run (Unit {0}) (Unit {0}) (Option Run) (Unit {0}) (Option Run) (Unit {0}) (Unit {0})
-    own_command_step own_form_step no_entry no_entry no_entry sole_and_or_step no_entry compound_step body_step no_entry no_entry list_item_step no_entry sole_pipeline_step no_entry no_entry
+    own_command_step own_form_step no_entry no_entry no_entry sole_and_or_step no_entry own_compound_step body_step no_entry no_entry list_item_step no_entry sole_pipeline_step no_entry no_entry
 
 unfoldable pub own_entry : Command → Entry
 own_entry = folds.para-Command Entry Entry (Unit {0}) (Unit {0}) (Unit {0}) (Option Run) (Unit {0}) Entry Run (Unit {0}) (Unit {0}) (Option Run) (Unit {0}) (Option Run) (Unit {0}) (Unit {0})
-    own_command_step own_form_step no_entry no_entry no_entry sole_and_or_step no_entry compound_step body_step no_entry no_entry list_item_step no_entry sole_pipeline_step no_entry no_entry
+    own_command_step own_form_step no_entry no_entry no_entry sole_and_or_step no_entry own_compound_step body_step no_entry no_entry list_item_step no_entry sole_pipeline_step no_entry no_entry
 
 unfoldable pub own_compound : Compound → Entry
 own_compound = folds.para-Compound Entry Entry (Unit {0}) (Unit {0}) (Unit {0}) (Option Run) (Unit {0}) Entry Run (Unit {0}) (Unit {0}) (Option Run) (Unit {0}) (Option Run) (Unit {0}) (Unit {0})
-    own_command_step own_form_step no_entry no_entry no_entry sole_and_or_step no_entry compound_step body_step no_entry no_entry list_item_step no_entry sole_pipeline_step no_entry no_entry
+    own_command_step own_form_step no_entry no_entry no_entry sole_and_or_step no_entry own_compound_step body_step no_entry no_entry list_item_step no_entry sole_pipeline_step no_entry no_entry
 
 unfoldable pub own_form : CompoundForm → Entry
 own_form = folds.para-CompoundForm Entry Entry (Unit {0}) (Unit {0}) (Unit {0}) (Option Run) (Unit {0}) Entry Run (Unit {0}) (Unit {0}) (Option Run) (Unit {0}) (Option Run) (Unit {0}) (Unit {0})
-    own_command_step own_form_step no_entry no_entry no_entry sole_and_or_step no_entry compound_step body_step no_entry no_entry list_item_step no_entry sole_pipeline_step no_entry no_entry
+    own_command_step own_form_step no_entry no_entry no_entry sole_and_or_step no_entry own_compound_step body_step no_entry no_entry list_item_step no_entry sole_pipeline_step no_entry no_entry
 
 -- a stage of a pipeline, or a subshell
 unfoldable pub stage_run : Command → Run

@@ -2,10 +2,10 @@
 use Rattle.std.specs.Prelude.{◌≡◌, List, [], ◌∷◌, refl}
 use Rattle.std.specs.Coded.{Coded, code_by, coded×, coded_list}
 use Rattle.std.proofs.Common.{ap}
-use Rattle.sh_exec_forms.specs.contracts.form.Form as form
+use Rattle.sh_exec_actions.specs.contracts.form.Form as form
 use Rattle.sh_exec_actions.specs.contracts.action.Active as active
 use Rattle.sh_exec_actions.specs.declared.action.Active.{Active}
-use Rattle.sh_exec_forms.specs.declared.form.Form.{Form}
+use Rattle.sh_exec_actions.specs.declared.form.Form.{Form}
 use Rattle.sh_exec_forms.specs.Running.{Run, At, In}
 
 -- the forms of a tree, the outermost first, and its active place

@@ -1,14 +1,15 @@
 -- Commands are entered (2.9): the forms that begin with them, inward to the first place. All this is part of the turn before.
 use Rattle.std.specs.Prelude.{List, [], ◌∷◌, map, Bool, true, false, None, option_map}
-use Rattle.sh_exec_command.specs.Preparing.{first_place}
+use Rattle.sh_exec_actions.specs.Preparing.{first_place}
 use Rattle.sh_exec_actions.specs.Statuses.{unexcused}
 use Rattle.sh_exec_actions.specs.declared.action.Active.TheVariants.{Next, Done}
 use Rattle.sh_exec_actions.specs.declared.action.Action.{Action}
 use Rattle.sh_exec_actions.specs.declared.action.Action.TheVariants.{Expanding, ForkStage}
-use Rattle.sh_exec_actions.specs.declared.action.ToExpand.TheVariants.{ForWords}
+use Rattle.sh_exec_actions.specs.declared.action.ToExpand.TheVariants.{CaseWord, ForWords, Redirects}
 use Rattle.sh_exec_actions.specs.declared.status.CommandStatus.{CommandStatus}
 use Rattle.sh_exec_forms.specs.Running.{Run, At, In}
-use Rattle.sh_exec_forms.specs.declared.form.Form.TheVariants.{Commands, Condition, If, Joined, Negated}
+use Rattle.sh_exec_parts.specs.Simple.{Opened}
+use Rattle.sh_exec_actions.specs.declared.form.Form.TheVariants.{Commands, Condition, If, Joined, Negated}
 use Rattle.sh_syntax.specs.declared.tree.AndOr.{AndOr}
 use Rattle.sh_syntax.specs.declared.tree.CaseItem.{CaseItem}
 use Rattle.sh_syntax.specs.declared.tree.Command.{Command}
@@ -55,7 +56,7 @@ trees parts = map tree parts
 abbrev pub staging : List Command → Action
 staging commands = ForkStage (record { commands = commands; aside = None; children = [] })
 
--- ---- compound commands (2.9.4): a subshell is a pipeline of one process; those that aren't served are never entered
+-- ---- compound commands (2.9.4): a subshell is a pipeline of one process
 abbrev pub form_step : Layer Run layer.CompoundForm-F → Entry
 form_step (layer.Group list) command = list.1
 form_step (layer.Subshell list) command = At (Next (staging (command ∷ [])))
@@ -65,11 +66,32 @@ form_step (layer.Loop kind condition body) command =
     In (Condition (record { kind = kind; condition = condition.0; body = body.0 }) (unexcused 0)) condition.1
 form_step (layer.For name words body) command = At (Next (Expanding (ForWords command) None))
 form_step (layer.ForParameters name is_separated body) command = At (Next (Expanding (ForWords command) None))
-form_step (layer.Case word items) command = At (Done (unexcused 0))
+form_step (layer.Case word items) command = At (Next (Expanding (CaseWord command) None))
 
-abbrev pub compound_step : {Way : Type 0} → Layer Way layer.Compound-F → Entry
-compound_step compound command = compound.form.1 command
+-- a compound command with redirections: their words are expanded first
+abbrev pub redirected : {A : Type 0} → List A → Run → Command → Run
+redirected [] run command = run
+redirected (redirect ∷ redirects) run command = At (Next (Expanding (Redirects command) None))
 
+-- those of a subshell are of no account until it has its process
+abbrev pub is_subshell : Opened layer.CompoundForm-F → Bool
+is_subshell (layer.Group list) = false
+is_subshell (layer.Subshell list) = true
+is_subshell (layer.If condition body else_ifs else_body) = false
+is_subshell (layer.Loop kind condition body) = false
+is_subshell (layer.For name words body) = false
+is_subshell (layer.ForParameters name is_separated body) = false
+is_subshell (layer.Case word items) = false
+
+abbrev pub unless_subshell : {A : Type 0} → Bool → List A → Run → Command → Run
+unless_subshell true redirects run command = run
+unless_subshell false redirects run command = redirected redirects run command
+
+abbrev pub compound_step : Layer Run layer.Compound-F → Entry
+compound_step compound command =
+    unless_subshell (is_subshell (view.out-CompoundForm compound.form.0)) compound.redirects (compound.form.1 command) command
+
+-- a function definition isn't served, so it is never entered
 abbrev pub command_step : Layer Run layer.Command-F → Entry
 command_step (layer.Simple items) command = At (Next (first_place false command))
 command_step (layer.Compound compound) command = compound.1 command
@@ -150,3 +172,12 @@ beside item = (item, item_run item)
 
 abbrev pub items_run : List ListItem → CommandStatus → Run
 items_run items status = items_step (map beside items) status
+
+-- ---- a compound command whose redirections are done
+abbrev pub form_of_command : Opened layer.Command-F → Entry
+form_of_command (layer.Simple items) command = At (Done (unexcused 0))
+form_of_command (layer.Compound compound) command = form_entry (view.out-Compound compound).form command
+form_of_command (layer.Function name body) command = At (Done (unexcused 0))
+
+unfoldable pub form_run : Command → Run
+form_run command = form_of_command (view.out-Command command) command

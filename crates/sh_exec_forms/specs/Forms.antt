@@ -16,10 +16,10 @@ use Rattle.sh_exec_forms.specs.Builtins.{Performed, effect_at}
 use Rattle.sh_exec_forms.specs.Entering.{items_run, with_others, list_run, pipeline_run}
 use Rattle.sh_exec_forms.specs.Frames.{Goes, has_loop, is_failure_ignored, run_of}
 use Rattle.sh_exec_forms.specs.Running.{Run, At, In}
-use Rattle.sh_exec_forms.specs.declared.form.Branches.{Branches}
-use Rattle.sh_exec_forms.specs.declared.form.Form.{Form}
-use Rattle.sh_exec_forms.specs.declared.form.Form.TheVariants.{Text, Commands, Joined, Negated, Restoring, If, Condition, Body, ForBody, FailuresIgnored}
-use Rattle.sh_exec_forms.specs.declared.form.Loop.{Loop}
+use Rattle.sh_exec_actions.specs.declared.form.Branches.{Branches}
+use Rattle.sh_exec_actions.specs.declared.form.Form.{Form}
+use Rattle.sh_exec_actions.specs.declared.form.Form.TheVariants.{Text, Commands, Joined, Negated, Restoring, If, Condition, Body, ForBody, FailuresIgnored}
+use Rattle.sh_exec_actions.specs.declared.form.Loop.{Loop}
 use Rattle.sh_exec_forms.specs.declared.step.Step.{Step}
 use Rattle.sh_exec_forms.specs.declared.step.Step.TheVariants.{Outward, Inward}
 use Rattle.sh_exec_forms.specs.declared.loops.Onward.{Onward}

@@ -3,9 +3,9 @@ use Rattle.std.specs.Prelude.{◌≡◌, List, [], ◌∷◌, map, reverse, ◌|
 use Rattle.sh_exec_actions.specs.declared.action.Active.{Active}
 use Rattle.sh_exec_actions.specs.declared.action.Active.TheVariants.{Acting, Next, Done, Leaving}
 use Rattle.sh_exec_forms.specs.Running.{Run, At, In}
-use Rattle.sh_exec_forms.specs.declared.form.Form.{Form}
-use Rattle.sh_exec_forms.specs.declared.form.Form.TheVariants.{Text, Commands, Joined, Negated, Restoring, If, Condition, Body, ForBody, FailuresIgnored}
-use Rattle.sh_exec_forms.specs.declared.form.Frame.{Frame}
+use Rattle.sh_exec_actions.specs.declared.form.Form.{Form}
+use Rattle.sh_exec_actions.specs.declared.form.Form.TheVariants.{Text, Commands, Joined, Negated, Restoring, If, Condition, Body, ForBody, FailuresIgnored}
+use Rattle.sh_exec_actions.specs.declared.form.Frame.{Frame}
 use Rattle.sh_exec_forms.specs.declared.step.Step.{Step}
 use Rattle.sh_exec_forms.specs.declared.step.Step.TheVariants.{Outward, Inward}
 

@@ -1,10 +1,7 @@
 -- What a shell's process runs: a tree of running forms, with the one place at which it acts.
 use Rattle.sh_builtin.specs.declared.shell.Shell.{Shell}
 use Rattle.sh_exec_actions.specs.declared.action.Active.{Active}
-use Rattle.sh_exec_actions.specs.declared.action.Move.{Move}
-use Rattle.sh_exec_actions.specs.declared.action.Move.TheVariants as move
-use Rattle.sh_exec_forms.specs.declared.form.Form.{Form}
-use Rattle.sh_exec_forms.specs.declared.form.Form.TheVariants.{Restoring}
+use Rattle.sh_exec_actions.specs.declared.form.Form.{Form}
 
 -- an active place, or a form round another tree
 pub data Run : Type 0 where
@@ -15,11 +12,6 @@ pub data Run : Type 0 where
 pub record InterpreterState : Type 0 where
   pub shell : Shell
   pub run : Run
-
--- where a command goes on
-abbrev pub move_run : Move → Run
-move_run (move.At active) = At active
-move_run (move.Held undo active) = In (Restoring undo) (At active)
 
 -- the one active place of a tree
 abbrev pub active_of : Run → Active

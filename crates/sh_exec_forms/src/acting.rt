@@ -4,7 +4,7 @@ ghost use Rattle.sh_exec_forms.specs.Builtins.{at_completion, behind, builtin_ef
 ghost use Rattle.sh_exec_forms.specs.Forms.{HasPerformed};
 ghost use Rattle.sh_exec_forms.specs.Frames.{Goes};
 ghost use Rattle.sh_exec_forms.specs.Running.{Run};
-ghost use Rattle.sh_exec_forms.specs.declared.form.Form.{Form};
+ghost use Rattle.sh_exec_actions.specs.declared.form.Form.{Form};
 ghost use Rattle.sh_kernel.specs.State.{KernelState, StandsAt};
 
 use crate::step::Step;

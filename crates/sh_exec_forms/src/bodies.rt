@@ -5,12 +5,11 @@ ghost use Rattle.sh_exec_forms.specs.Bodies.{body_of, own_compound, own_form, so
 ghost use Rattle.sh_exec_forms.specs.Entering.{command_run, items_run};
 ghost use Rattle.sh_exec_forms.specs.Frames.{run_in, run_of};
 
-use crate::entering::{enter, enter_command};
+use crate::entering::{enter, enter_command, redirected};
 use crate::frames::Frames;
 use sh_base::NoMemory;
 use sh_base::shared::Shared;
-use sh_exec_actions::{Action, Active, CommandStatus};
-use sh_exec_command::first_place;
+use sh_exec_actions::{Action, Active, CommandStatus, first_place};
 use sh_exec_parts::{Queue, is_negated};
 use sh_syntax::tree::{AndOr, Command, Compound, CompoundForm, CompoundList, ListItem, Pipeline};
 use std::alloc::Global;
@@ -61,7 +60,10 @@ fn own_compound(
     ensures { IfOk result (λ active.
         run_of frames.new active ≡ run_in frames.old (own_compound compound.now command.now)) }
 {
-    own_form(alloc, frames, &compound.form, command)
+    match compound.redirects.as_slice() {
+        [] => own_form(alloc, frames, &compound.form, command),
+        [_, ..] => redirected(command),
+    }
 }
 
 /// A stage of a pipeline (2.9.2), or a subshell, for which a process is made. The only error is want of memory.

@@ -2,18 +2,19 @@
 ghost use Rattle.std.specs.Prelude.{◌≡◌, ◌∷◌, [], IfOk, OnOk, None, option_map};
 ghost use Rattle.sh_exec_parts.specs.Pipelines.{commands_of};
 ghost use Rattle.sh_exec_actions.specs.Statuses.{unexcused};
-ghost use Rattle.sh_exec_forms.specs.Entering.{and_or_run, command_run, commands_run, compound_entry, form_entry, items_run, list_run, pipeline_run, staging, with_others};
+ghost use Rattle.sh_exec_forms.specs.Entering.{and_or_run, command_run, commands_run, compound_entry, form_entry, form_run, is_subshell, items_run, list_run, pipeline_run, staging, with_others};
 ghost use Rattle.sh_exec_forms.specs.Running.{Run};
 ghost use Rattle.sh_exec_forms.specs.Frames.{Goes};
+ghost use Rattle.sh_syntax.specs.declared.tree.Command.TheViews as view;
 
-use crate::form::{Branches, Form, Loop};
 use crate::frames::Frames;
 use crate::step::Step;
 use sh_base::NoMemory;
 use sh_base::sequence::Sequence;
 use sh_base::shared::Shared;
-use sh_exec_actions::{Action, Active, CommandStatus, Stages, ToExpand};
-use sh_exec_command::first_place;
+use sh_exec_actions::{
+    Action, Active, Branches, CommandStatus, Form, Loop, Stages, ToExpand, first_place,
+};
 use sh_exec_parts::{Queue, commands_of, is_negated};
 use sh_syntax::tree::{
     AndOr, Command, Compound, CompoundForm, CompoundList, Connected, ElseIf, ListItem, LoopKind,
@@ -131,6 +132,39 @@ fn series(command: &Shared<Command>) -> Result<Active, NoMemory>
     Ok(Active::Next(Action::Expanding(ToExpand::ForWords(command), None)))
 }
 
+/// A `case`, whose word is to be expanded.
+fn case(command: &Shared<Command>) -> Result<Active, NoMemory>
+    ensures { IfOk result (λ active.
+        active ≡ Active.Next (Action.Expanding (ToExpand.CaseWord command.now) None)) }
+{
+    let command = command.share()?;
+    Ok(Active::Next(Action::Expanding(ToExpand::CaseWord(command), None)))
+}
+
+/// A compound command, the words of whose redirections are to be expanded.
+pub(crate) fn redirected(command: &Shared<Command>) -> Result<Active, NoMemory>
+    ensures { IfOk result (λ active.
+        active ≡ Active.Next (Action.Expanding (ToExpand.Redirects command.now) None)) }
+{
+    let command = command.share()?;
+    Ok(Active::Next(Action::Expanding(ToExpand::Redirects(command), None)))
+}
+
+/// Whether a compound command is a subshell.
+fn is_subshell(form: &CompoundForm) -> bool
+    ensures { result ≡ is_subshell (view.out-CompoundForm form.now) }
+{
+    match form {
+        CompoundForm::Group(_) => false,
+        CompoundForm::Subshell(_) => true,
+        CompoundForm::If { .. } => false,
+        CompoundForm::Loop { .. } => false,
+        CompoundForm::For { .. } => false,
+        CompoundForm::ForParameters { .. } => false,
+        CompoundForm::Case { .. } => false,
+    }
+}
+
 /// The form of a compound command.
 #[cycle(entering)]
 fn enter_form(
@@ -166,7 +200,7 @@ fn enter_form(
         },
         CompoundForm::For { .. } => Ok(Step::Inward(series(command)?)),
         CompoundForm::ForParameters { .. } => Ok(Step::Inward(series(command)?)),
-        CompoundForm::Case { .. } => Ok(Step::Outward(Active::Done(CommandStatus::unexcused(0)))),
+        CompoundForm::Case { .. } => Ok(Step::Inward(case(command)?)),
     }
 }
 
@@ -181,7 +215,13 @@ fn enter_compound(
     ensures { IfOk result (λ step.
         Goes step frames.new frames.old (compound_entry compound.now command.now)) }
 {
-    enter_form(alloc, frames, &compound.form, command)
+    if is_subshell(&compound.form) {
+        return enter_form(alloc, frames, &compound.form, command);
+    }
+    match compound.redirects.as_slice() {
+        [] => enter_form(alloc, frames, &compound.form, command),
+        [_, ..] => Ok(Step::Inward(redirected(command)?)),
+    }
 }
 
 /// A command that is alone in its pipeline.
@@ -199,6 +239,22 @@ pub(crate) fn enter_command(
             Ok(Step::Inward(Active::Next(place)))
         },
         Command::Compound(compound) => enter_compound(alloc, frames, compound.get(), command),
+        Command::Function { .. } => Ok(Step::Outward(Active::Done(CommandStatus::unexcused(0)))),
+    }
+}
+
+/// A compound command whose redirections are done.
+#[tactic(auto, unfolding(crate::specs::Entering::form_run))]
+pub(crate) fn enter_redirected(
+    alloc: Global,
+    frames: &mut Frames,
+    command: &Shared<Command>,
+) -> Result<Step, NoMemory>
+    ensures { IfOk result (λ step. Goes step frames.new frames.old (form_run command.now)) }
+{
+    match command.get() {
+        Command::Simple(_) => Ok(Step::Outward(Active::Done(CommandStatus::unexcused(0)))),
+        Command::Compound(compound) => enter_form(alloc, frames, &compound.get().form, command),
         Command::Function { .. } => Ok(Step::Outward(Active::Done(CommandStatus::unexcused(0)))),
     }
 }

@@ -4,19 +4,18 @@ ghost use Rattle.sh_kernel.specs.State.{KernelState, StandsAt};
 ghost use Rattle.sh_syntax.specs.declared.tree.Command.TheViews as view;
 ghost use Rattle.sh_exec_forms.specs.Entering.{list_run, pipeline_run, with_others};
 ghost use Rattle.sh_exec_forms.specs.Forms.{Acted, Follows, HasGone, IsActed, IsOnWay, after_leave, after_status, at_action, branch, connected_run, goes_on, negation, otherwise, outward, undone, with_run};
-ghost use Rattle.sh_exec_forms.specs.Frames.{Goes, IsFewer, Leaves, has_loop, run_in, run_of};
-ghost use Rattle.sh_exec_forms.specs.Running.{Run, move_run};
+ghost use Rattle.sh_exec_forms.specs.Frames.{Goes, IsFewer, Leaves, has_loop, run_of};
+ghost use Rattle.sh_exec_forms.specs.Running.{Run};
 
 use crate::acting::perform;
 use crate::entering::{enter, enter_inside, enter_joined, enter_list};
-use crate::form::{Branches, Form};
 use crate::frames::Frames;
 use crate::loops::{leave_loop, leave_series, next_value, repeat, test, within};
 use crate::step::Step;
 use sh_base::NoMemory;
 use sh_base::shared::Shared;
 use sh_builtin::{Leave, Shell};
-use sh_exec_actions::{Action, Active, CommandStatus, Move, Undo};
+use sh_exec_actions::{Action, Active, Branches, CommandStatus, Form, Undo};
 use sh_exec_command::restore_variables;
 use sh_exec_machine::restore_all;
 use sh_exec_parts::Queue;
@@ -335,22 +334,6 @@ pub fn settle(
             let active = within(frames, errexit, active);
             let active = settle_outward(alloc, kernel, shell, frames, active)?;
             Ok(active)
-        },
-    }
-}
-
-/// Where a command goes on. The only error is want of memory.
-pub fn go_to(frames: &mut Frames, to: Move) -> Result<Active, NoMemory>
-    ensures { IfOk result (λ active. run_of frames.new active ≡ run_in frames.old (move_run to)) }
-{
-    match to {
-        Move::At(active) => Ok(active),
-        Move::Held(undo, active) => match frames.push(Form::Restoring(undo)) {
-            Ok(()) => Ok(active),
-            Err(lack) => {
-                drop(active);
-                Err(lack)
-            },
         },
     }
 }

@@ -2,8 +2,8 @@
 ghost use Rattle.std.specs.Prelude.{◌≡◌, ◌∷◌, [], IfOk, MatchOption, OnOk, reverse};
 ghost use Rattle.sh_exec_forms.specs.Frames.{forms_in, framed, has_loop, ignores_failure, is_failure_ignored, is_loop, root_forms};
 
-use crate::form::{Form, Frame};
 use sh_base::NoMemory;
+use sh_exec_actions::{Form, Frame};
 use sh_exec_parts::copy_all;
 use std::alloc::Global;
 use std::marker::Model;
@@ -19,7 +19,7 @@ impl Model for Frames {
     ghost use Rattle.std.specs.Coded.{codes};
     ghost use Rattle.sh_exec_forms.specs.Codes.{forms_code};
     ghost use Rattle.sh_exec_forms.specs.Frames.{forms_in, framed};
-    ghost use Rattle.sh_exec_forms.specs.declared.form.Form.{Form};
+    ghost use Rattle.sh_exec_actions.specs.declared.form.Form.{Form};
 
     ghost Value = { List Form };
 

@@ -4,18 +4,17 @@
 
 mod acting;
 mod bodies;
-mod copying;
 mod entering;
-mod form;
 mod forms;
 mod frames;
 mod loops;
+mod moves;
 mod step;
 
 pub use acting::reported;
 pub use bodies::{body_of, stage};
 pub use entering::{enter, enter_list};
-pub use form::{Branches, Form, Frame, Loop};
-pub use forms::{go_to, settle};
+pub use forms::settle;
 pub use frames::Frames;
+pub use moves::go_to;
 pub use step::Step;

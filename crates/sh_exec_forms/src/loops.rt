@@ -1,6 +1,6 @@
 //! Loops, break and continue in them, and failures that are ignored.
 ghost use Rattle.std.specs.Prelude.{◌≡◌, IfOk, List};
-ghost use Rattle.sh_exec_forms.specs.declared.form.Form.{Form};
+ghost use Rattle.sh_exec_actions.specs.declared.form.Form.{Form};
 ghost use Rattle.sh_exec_actions.specs.Statuses.{unexcused};
 ghost use Rattle.sh_exec_command.specs.Series.{rest_of_series};
 ghost use Rattle.sh_exec_forms.specs.Forms.{Acted, Follows, behind_condition, beyond, condition_run, ended_within, left_within, loop_left, onward, onward_by, runs, within};
@@ -9,12 +9,11 @@ ghost use Rattle.sh_exec_forms.specs.Running.{Run};
 ghost use Rattle.sh_kernel.specs.State.{KernelState};
 
 use crate::entering::enter_inside;
-use crate::form::{Form, Loop};
 use crate::frames::Frames;
 use crate::step::Step;
 use sh_base::NoMemory;
 use sh_builtin::{Leave, Shell};
-use sh_exec_actions::{Active, CommandStatus, ForLoop};
+use sh_exec_actions::{Active, CommandStatus, ForLoop, Form, Loop};
 use sh_exec_command::rest_of_series;
 use sh_syntax::tree::LoopKind;
 use std::alloc::Global;

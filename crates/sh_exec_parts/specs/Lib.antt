@@ -1,6 +1,7 @@
+pub mod Declarations
 pub mod Messages
 pub mod Pipelines
 pub mod Redirections
 pub mod Scripts
 pub mod Simple
-pub mod Served
+pub mod Wants

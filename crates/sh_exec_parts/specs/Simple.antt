@@ -1,5 +1,4 @@
--- The parts of a simple command in its tree (XCU 2.9.1), and what of it is expanded before its redirections (2.9.1.1, steps 1
--- and 2).
+-- The parts of a simple command in its tree (XCU 2.9.1), and the redirections of a compound command.
 use Rattle.std.specs.Prelude.{ℕ, List, [], ◌∷◌, ◌++◌, ◌-◌, Option, Some, None, Bool, is_some, length, option_map, take, drop, unwrap_or}
 use Rattle.sh_exec_parts.specs.declared.simple.Assignment.{Assignment}
 use Rattle.sh_expand_parts.specs.declared.context.Context.TheVariants.{Fields, Single, QuotedSingle}
@@ -94,7 +93,7 @@ abbrev pub assignments_of : List SimpleItem → List Assignment
 assignments_of [] = []
 assignments_of (item ∷ items) = before (option_map to_assign (assignment_of item)) (assignments_of items)
 
--- ---- what is expanded first: the command's words, and after them the word of each redirection (2.9.1.1)
+-- ---- what is expanded of words and redirections
 abbrev pub word_wanted : Parts → Wanted
 word_wanted parts = record { parts = parts; context = Fields }
 
@@ -106,20 +105,18 @@ target_wanted (layer.Here operator delimiter body) = record { parts = body; cont
 abbrev pub redirect_wanted : Redirect → Wanted
 redirect_wanted redirect = target_wanted (view.out-Target (view.out-Redirect redirect).target)
 
-abbrev pub words_wanted : List SimpleItem → List Wanted
-words_wanted [] = []
-words_wanted (item ∷ items) = before (option_map word_wanted (word_of item)) (words_wanted items)
-
-abbrev pub redirects_wanted : List SimpleItem → List Wanted
-redirects_wanted [] = []
-redirects_wanted (item ∷ items) = before (option_map redirect_wanted (redirect_of item)) (redirects_wanted items)
-
-unfoldable pub wanted_of : List SimpleItem → List Wanted
-wanted_of items = words_wanted items ++ redirects_wanted items
-
 -- ---- the fields that come back: a redirection's word gives one, so the last ones are those of the redirections
 abbrev pub word_fields : List (List ℕ) → ℕ → List (List ℕ)
 word_fields fields redirections = take (length fields - redirections) fields
 
 abbrev pub redirect_fields : List (List ℕ) → ℕ → List (List ℕ)
 redirect_fields fields redirections = drop (length fields - redirections) fields
+
+-- ---- the redirections of a compound command (2.9.4); a command of another form has none
+abbrev pub compound_redirects_in : Opened layer.Command-F → List Redirect
+compound_redirects_in (layer.Simple items) = []
+compound_redirects_in (layer.Compound compound) = (view.out-Compound compound).redirects
+compound_redirects_in (layer.Function name body) = []
+
+abbrev pub compound_redirects : Command → List Redirect
+compound_redirects command = compound_redirects_in (view.out-Command command)

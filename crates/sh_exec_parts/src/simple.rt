@@ -1,7 +1,7 @@
-//! The parts of a simple command in its tree (XCU 2.9.1), and what of it is expanded before its redirections.
+//! The parts of a simple command in its tree (XCU 2.9.1).
 ghost use Rattle.std.specs.Prelude.{◌≡◌, ◌++◌, [], IfOk, OnOk, length, option_map};
 ghost use Rattle.std.specs.List.{list_any};
-ghost use Rattle.sh_exec_parts.specs.Simple.{assignment_of, assignments_of, before, is_redirect, is_word, items_of, redirect_fields, redirect_of, redirect_wanted, redirects_of, redirects_wanted, simple_items, to_assign, wanted_of, word_fields, word_of, word_wanted, words_wanted};
+ghost use Rattle.sh_exec_parts.specs.Simple.{assignment_of, assignments_of, before, is_redirect, is_word, items_of, redirect_fields, redirect_of, redirect_wanted, redirects_of, simple_items, to_assign, word_fields, word_of};
 
 use sh_base::NoMemory;
 use sh_base::sequence::{Sequence, Text};
@@ -116,7 +116,7 @@ pub fn redirect_count(items: &[SimpleItem]) -> usize
 }
 
 /// What of a redirection is expanded.
-fn redirect_wanted(redirect: &Redirect) -> Result<Wanted, NoMemory>
+pub(crate) fn redirect_wanted(redirect: &Redirect) -> Result<Wanted, NoMemory>
     ensures { IfOk result (λ wanted. wanted ≡ redirect_wanted redirect.now) }
 {
     match &redirect.target {
@@ -129,69 +129,6 @@ fn redirect_wanted(redirect: &Redirect) -> Result<Wanted, NoMemory>
             context: Context::QuotedSingle,
         }),
     }
-}
-
-/// Adds an item that is a word after the others.
-fn put_word(wanted: &mut Sequence<Wanted>, item: &SimpleItem) -> Result<(), NoMemory>
-    ensures { OnOk result
-        (wanted.new ≡ wanted.old ++ before (option_map word_wanted (word_of item.now)) []) }
-{
-    let Some(parts) = word_of(item) else {
-        return Ok(());
-    };
-    wanted.push(Wanted {
-        parts: parts.share()?,
-        context: Context::Fields,
-    })?;
-    Ok(())
-}
-
-/// Adds what is expanded of an item that is a redirection after the others.
-fn put_redirect(wanted: &mut Sequence<Wanted>, item: &SimpleItem) -> Result<(), NoMemory>
-    ensures { OnOk result
-        (wanted.new ≡ wanted.old ++ before (option_map redirect_wanted (redirect_of item.now)) []) }
-{
-    let Some(redirect) = redirect_of(item) else {
-        return Ok(());
-    };
-    wanted.push(redirect_wanted(redirect)?)?;
-    Ok(())
-}
-
-/// Adds the words of a command after the others.
-fn put_words(wanted: &mut Sequence<Wanted>, items: &[SimpleItem]) -> Result<(), NoMemory>
-    ensures { OnOk result (wanted.new ≡ wanted.old ++ words_wanted items.now) }
-{
-    let mut rest = items;
-    'items: while let Some((item, others)) = rest.split_first() {
-        put_word(wanted, item)?;
-        rest = others;
-    }
-    Ok(())
-}
-
-/// Adds what is expanded of a command's redirections after the others.
-fn put_redirects(wanted: &mut Sequence<Wanted>, items: &[SimpleItem]) -> Result<(), NoMemory>
-    ensures { OnOk result (wanted.new ≡ wanted.old ++ redirects_wanted items.now) }
-{
-    let mut rest = items;
-    'items: while let Some((item, others)) = rest.split_first() {
-        put_redirect(wanted, item)?;
-        rest = others;
-    }
-    Ok(())
-}
-
-/// What of a command is expanded before its redirections are done: its words, and after them the word of each
-/// redirection, of a here-document its body.
-#[tactic(auto, unfolding(crate::specs::Simple::wanted_of))]
-pub fn wanted_of(alloc: Global, items: &[SimpleItem]) -> Result<Sequence<Wanted>, NoMemory>
-    ensures { IfOk result (λ wanted. wanted ≡ wanted_of items.now) }
-{
-    let mut wanted = Sequence::new(alloc);
-    put_words(&mut wanted, items)?;
-    put_redirects(&mut wanted, items)?;
-    Ok(wanted)
 }
 
 /// Splits the fields of a command with this many redirections: first those of its words, then those of its

@@ -6,7 +6,7 @@ use Rattle.sh_exec_actions.specs.declared.action.Active.{Active}
 use Rattle.sh_exec_forms.specs.Forms.{Acted, IsActed, at_action, outward}
 use Rattle.sh_exec_forms.specs.Frames.{forms_round, framed, is_failure_ignored, path_of, run_in, run_of}
 use Rattle.sh_exec_forms.specs.Running.{InterpreterState, Run, At, In, active_of}
-use Rattle.sh_exec_forms.specs.declared.form.Form.{Form}
+use Rattle.sh_exec_actions.specs.declared.form.Form.{Form}
 use Rattle.sh_exec_forms.proofs.Outward.{by_forms}
 use Rattle.sh_exec_shell.specs.Forks.{IsTurned, Turned, inherited}
 use Rattle.sh_exec_shell.specs.Reduction.{act_at, at_root, reduce, shell_turn, with_root}

@@ -8,8 +8,10 @@ use Rattle.sh_builtin.specs.declared.shell.Shell.{Shell}
 use Rattle.sh_exec_parts.specs.declared.message.Piece.{Piece}
 use Rattle.sh_exec_parts.specs.declared.redirection.Redirection.{Redirection}
 use Rattle.sh_exec_command.specs.Assigning.{assign_turn}
+use Rattle.sh_exec_command.specs.Cases.{case_turn, pattern_turn}
 use Rattle.sh_exec_command.specs.Expanding.{Turn, fatal, words_turn}
-use Rattle.sh_exec_command.specs.Preparing.{ahead, not_done}
+use Rattle.sh_exec_actions.specs.Preparing.{ahead, not_done}
+use Rattle.sh_exec_command.specs.Redirects.{redirects_turn}
 use Rattle.sh_exec_command.specs.Series as series
 use Rattle.sh_exec_command.specs.Series.{series_turn}
 use Rattle.sh_exec_command.specs.declared.found.Found.{Found}
@@ -27,7 +29,7 @@ use Rattle.sh_exec_actions.specs.declared.action.Role.{Role}
 use Rattle.sh_exec_actions.specs.declared.action.Role.TheVariants as role
 use Rattle.sh_exec_actions.specs.declared.action.Substitution.{Substitution}
 use Rattle.sh_exec_actions.specs.declared.action.ToExpand.{ToExpand}
-use Rattle.sh_exec_actions.specs.declared.action.ToExpand.TheVariants.{Words, Values, ForWords}
+use Rattle.sh_exec_actions.specs.declared.action.ToExpand.TheVariants.{Words, Values, Redirects, ForWords, CaseWord, CasePattern}
 use Rattle.sh_exec_command.specs.declared.series.Round.{Round}
 use Rattle.sh_exec_command.specs.declared.series.Round.TheVariants as round
 use Rattle.sh_exec_machine.specs.Redirecting.{redirection_outcome}
@@ -40,11 +42,12 @@ use Rattle.sh_exec_machine.specs.declared.undone.Undone.{Undone}
 use Rattle.sh_exec_forms.specs.Builtins.{reported}
 use Rattle.sh_exec_forms.specs.Forms.{Acted, with_run}
 use Rattle.sh_exec_forms.specs.Entering.{items_run, list_run}
+use Rattle.sh_exec_forms.specs.Moves.{move_run}
 use Rattle.sh_exec_forms.specs.Frames.{run_in}
-use Rattle.sh_exec_forms.specs.Running.{Run, At, In, move_run}
+use Rattle.sh_exec_forms.specs.Running.{Run, At, In}
 use Rattle.sh_exec_shell.specs.Waits.{wait_status}
-use Rattle.sh_exec_forms.specs.declared.form.Form.{Form}
-use Rattle.sh_exec_forms.specs.declared.form.Form.TheVariants.{Text, ForBody}
+use Rattle.sh_exec_actions.specs.declared.form.Form.{Form}
+use Rattle.sh_exec_actions.specs.declared.form.Form.TheVariants.{Text, ForBody}
 use Rattle.sh_files.specs.Nodes.{FileMap}
 use Rattle.sh_kernel.specs.Calls.{close_call, end_call}
 use Rattle.sh_kernel.specs.State.{KernelState}
@@ -64,7 +67,10 @@ read_turn env status (found.Fault refusal) = At (fatal (refusal_text refusal))
 abbrev pub expand_turn : FileMap → Environment → ToExpand → Option Pending → Turn
 expand_turn files env (Words command in_place status) pending = words_turn files env command in_place status pending
 expand_turn files env (Values p) pending = assign_turn files env p pending
+expand_turn files env (Redirects command) pending = redirects_turn files env command pending
 expand_turn files env (ForWords command) pending = series_turn files env command pending
+expand_turn files env (CaseWord command) pending = case_turn files env command pending
+expand_turn files env (CasePattern case) pending = pattern_turn env case pending
 
 -- ---- reading what a substitution's process writes, 1024 bytes at a time; a read that fails counts as end of file
 abbrev pub next : Action → Run
@@ -100,7 +106,10 @@ collect_turn s shell substitution = collect_end s shell substitution substitutio
 abbrev pub with_substitution : ToExpand → ℕ → ToExpand
 with_substitution (Words command in_place before) status = Words command in_place status
 with_substitution (Values p) status = Values (record p { status = status })
+with_substitution (Redirects command) status = Redirects command
 with_substitution (ForWords command) status = ForWords command
+with_substitution (CaseWord command) status = CaseWord command
+with_substitution (CasePattern case) status = CasePattern case
 
 abbrev pub with_next_answer : Pending → List ℕ → Pending
 with_next_answer pending answer = record pending { answers = pending.answers ++ answer ∷ [] }
@@ -120,11 +129,13 @@ wait_by children (Some status) = Done (unexcused status)
 unfoldable pub wait_turn : KernelState → ℕ → List ℕ → Active
 wait_turn s pid children = wait_by children (wait_status s pid children)
 
--- ---- redirection (2.7); what a program's process changes is never undone
+-- ---- redirection (2.7); what the process of a program or of a subshell changes is never undone
 abbrev pub keeps : Role → Bool
 keeps role.NoCommandName = true
 keeps (role.Builtin builtin) = true
 keeps role.Program = false
+keeps (role.Compound command) = true
+keeps (role.Subshell list) = false
 
 abbrev pub undone_by : List Undone → Option Undone → List Undone
 undone_by undo None = undo

@@ -3,7 +3,7 @@ use Rattle.std.specs.Prelude.{◌≡◌, ℕ, List, [], ◌∷◌, ◌++◌, Boo
 use Rattle.sh_builtin.specs.declared.shell.Shell.{Shell}
 use Rattle.sh_exec_parts.specs.Messages.{cannot_fork}
 use Rattle.sh_exec_command.specs.Expanding.{fatal}
-use Rattle.sh_exec_command.specs.Preparing.{ahead}
+use Rattle.sh_exec_actions.specs.Preparing.{ahead}
 use Rattle.sh_exec_actions.specs.declared.action.Active.TheVariants.{Next}
 use Rattle.sh_exec_actions.specs.declared.action.Move.{Move}
 use Rattle.sh_exec_actions.specs.declared.action.Move.TheVariants as move
@@ -14,14 +14,15 @@ use Rattle.sh_exec_actions.specs.declared.action.ExpandedCommand.{ExpandedComman
 use Rattle.sh_exec_actions.specs.declared.action.Stages.{Stages}
 use Rattle.sh_exec_actions.specs.declared.action.Substitution.{Substitution}
 use Rattle.sh_exec_actions.specs.declared.action.ToExpand.{ToExpand}
-use Rattle.sh_exec_actions.specs.declared.action.ToExpand.TheVariants.{Words, Values, ForWords}
+use Rattle.sh_exec_actions.specs.declared.action.ToExpand.TheVariants.{Words, Values, Redirects, ForWords, CaseWord, CasePattern}
 use Rattle.sh_exec_machine.specs.Forking.{fork_of}
 use Rattle.sh_exec_forms.specs.Forms.{Acted, with_run}
 use Rattle.sh_exec_shell.specs.Acting.{in_forms}
-use Rattle.sh_exec_forms.specs.declared.form.Form.{Form}
+use Rattle.sh_exec_actions.specs.declared.form.Form.{Form}
 use Rattle.sh_exec_forms.specs.Bodies.{body_of, stage_run}
+use Rattle.sh_exec_forms.specs.Moves.{move_run}
 use Rattle.sh_exec_forms.specs.Frames.{root_forms, run_in}
-use Rattle.sh_exec_forms.specs.Running.{InterpreterState, Run, At, move_run}
+use Rattle.sh_exec_forms.specs.Running.{InterpreterState, Run, At}
 use Rattle.sh_kernel.specs.State.{KernelKept, KernelState, StandsAt}
 use Rattle.sh_syntax.specs.declared.tree.Command.{Command}
 use Rattle.sh_syntax.specs.declared.tree.CompoundList.{CompoundList}
@@ -96,7 +97,10 @@ stage_turn s shell stages = stage_from s shell stages stages.commands
 abbrev pub fork_failure : ToExpand → Move
 fork_failure (Words command in_place status) = move.At (fatal cannot_fork)
 fork_failure (Values p) = move.Held p.undo (fatal cannot_fork)
+fork_failure (Redirects command) = move.At (fatal cannot_fork)
 fork_failure (ForWords command) = move.At (fatal cannot_fork)
+fork_failure (CaseWord command) = move.At (fatal cannot_fork)
+fork_failure (CasePattern case) = move.At (fatal cannot_fork)
 
 abbrev pub substitution_by : KernelState → Shell → CompoundList → Substitution → Option ℕ → Turned
 substitution_by s shell program substitution (Some pid) =

@@ -3,11 +3,12 @@ ghost use Rattle.std.specs.Prelude.{◌≡◌, ◌++◌, ◌∷◌, [], IfOk, tr
 ghost use Rattle.sh_kernel.specs.State.{KernelState, StandsAt};
 ghost use Rattle.sh_exec_parts.specs.Messages as messages;
 ghost use Rattle.sh_exec_command.specs.Expanding as expanding;
-ghost use Rattle.sh_exec_command.specs.Preparing.{ahead};
+ghost use Rattle.sh_exec_actions.specs.Preparing.{ahead};
 ghost use Rattle.sh_exec_machine.specs.Forking.{HasForked};
 ghost use Rattle.sh_exec_shell.specs.Forks.{IsTurned, begun_substitution, child_of, fork_turn, forked_shell, in_process, inherited, inheriting, inside, is_more, program_by, stage_by, stage_from, stage_one, stage_turn, stage_place, substitute_turn, substitution_by, with_child, fork_failure};
 ghost use Rattle.sh_exec_forms.specs.Bodies.{body_of, stage_run};
-ghost use Rattle.sh_exec_forms.specs.Running.{Run, move_run};
+ghost use Rattle.sh_exec_forms.specs.Moves.{move_run};
+ghost use Rattle.sh_exec_forms.specs.Running.{Run};
 ghost use Rattle.sh_exec_forms.specs.Frames.{is_failure_ignored, root_forms, run_in, run_of};
 
 use crate::interpreter::{Interpreter, interpreter_of};
@@ -18,8 +19,8 @@ use sh_builtin::Shell;
 use sh_exec_actions::status::ERROR;
 use sh_exec_actions::{
     Action, Active, ExpandedCommand, Finish, Move, Pending, Stages, Substitution, ToExpand,
+    go_ahead,
 };
-use sh_exec_command::go_ahead;
 use sh_exec_forms::{Frames, body_of, go_to, stage};
 use sh_exec_machine::{Forked, fork_process};
 use sh_exec_parts::Queue;
@@ -90,7 +91,7 @@ fn put_program(
         },
     };
     let to = go_ahead(prepared);
-    let active = go_to(&mut frames, to)?;
+    let active = go_to(alloc, &mut frames, to)?;
     with_copy(child, shell, frames, active)
 }
 
@@ -286,7 +287,10 @@ fn unforked(alloc: Global, wants: ToExpand) -> Result<Move, NoMemory>
     match wants {
         ToExpand::Words { .. } => Ok(Move::At(active)),
         ToExpand::Values(prepared) => Ok(Move::Held(prepared.undo, active)),
+        ToExpand::Redirects(_) => Ok(Move::At(active)),
         ToExpand::ForWords(_) => Ok(Move::At(active)),
+        ToExpand::CaseWord(_) => Ok(Move::At(active)),
+        ToExpand::CasePattern(_) => Ok(Move::At(active)),
     }
 }
 
@@ -396,7 +400,7 @@ pub(crate) fn substitute_turn(
             drop(program);
             drop(pending);
             let to = unforked(alloc, wants)?;
-            let active = go_to(frames, to)?;
+            let active = go_to(alloc, frames, to)?;
             Ok((active, None))
         },
     }

@@ -7,8 +7,7 @@ ghost use Rattle.sh_exec_forms.specs.Frames.{run_in, run_of};
 
 use sh_base::NoMemory;
 use sh_builtin::Shell;
-use sh_exec_actions::{Active, ExpandedCommand, Role};
-use sh_exec_command::{go_ahead, not_done};
+use sh_exec_actions::{Active, ExpandedCommand, Role, go_ahead, not_done};
 use sh_exec_forms::{Frames, go_to};
 use sh_exec_machine::{Redirected, Undone, redirect};
 use sh_exec_parts::redirection::Redirection;
@@ -16,13 +15,15 @@ use sh_kernel::{Kernel, KernelFault};
 use std::alloc::Global;
 
 /// Whether the redirections of a command are undone after it.
-fn keeps(role: Role) -> bool
-    ensures { result ≡ keeps role }
+fn keeps(role: &Role) -> bool
+    ensures { result ≡ keeps role.now }
 {
     match role {
         Role::NoCommandName => true,
         Role::Builtin(_) => true,
         Role::Program => false,
+        Role::Compound(_) => true,
+        Role::Subshell(_) => false,
     }
 }
 
@@ -59,11 +60,11 @@ fn go_on(
         Ok(()) => {
             let prepared = note(prepared, one)?;
             let to = go_ahead(prepared);
-            go_to(frames, to)
+            go_to(alloc, frames, to)
         },
         Err(fault) => {
             let to = not_done(alloc, prepared, word, fault)?;
-            go_to(frames, to)
+            go_to(alloc, frames, to)
         },
     }
 }
@@ -83,7 +84,7 @@ fn redirect_one(
         (in_forms frames.old (redirect_one s shell.now prepared redirection))) }
     ensures terminal { kernel.new.terminal ≡ kernel.old.terminal }
 {
-    let kept = keeps(prepared.role);
+    let kept = keeps(&prepared.role);
     match redirect(
         kernel,
         shell.pid,
@@ -122,7 +123,7 @@ pub(crate) fn redirect_turn(
     let mut prepared = prepared;
     let Some(redirection) = prepared.redirections.take() else {
         let to = go_ahead(prepared);
-        let active = go_to(frames, to)?;
+        let active = go_to(alloc, frames, to)?;
         return Ok(active);
     };
     let active = redirect_one(alloc, kernel, shell, frames, prepared, redirection)?;

@@ -22,12 +22,13 @@ use sh_base::NoMemory;
 use sh_builtin::{Leave, Shell};
 use sh_exec_actions::status::ERROR;
 use sh_exec_actions::{
-    Action, Active, CommandStatus, Expanded, Finish, ForLoop, Pending, ToExpand,
+    Action, Active, CommandStatus, Expanded, Finish, ForLoop, Form, Pending, ToExpand,
 };
 use sh_exec_command::{
-    Found, Round, assign_turn, find_command, give_turn, series_turn, words_turn,
+    Found, Round, assign_turn, case_turn, find_command, give_turn, pattern_turn, redirects_turn,
+    series_turn, words_turn,
 };
-use sh_exec_forms::{Form, Frames, enter, enter_list, go_to, settle};
+use sh_exec_forms::{Frames, enter, enter_list, go_to, settle};
 use sh_exec_parts::message::refused;
 use sh_exec_parts::{Queue, Rest};
 use sh_files::Files;
@@ -91,7 +92,10 @@ fn expand(
             status,
         } => words_turn(alloc, command, in_place, status, pending, vars, files),
         ToExpand::Values(prepared) => assign_turn(alloc, prepared, pending, vars, files),
+        ToExpand::Redirects(command) => redirects_turn(alloc, command, pending, vars, files),
         ToExpand::ForWords(command) => series_turn(alloc, command, pending, vars, files),
+        ToExpand::CaseWord(command) => case_turn(alloc, command, pending, vars, files),
+        ToExpand::CasePattern(case) => pattern_turn(alloc, case, pending, vars, files),
     }
 }
 
@@ -121,7 +125,7 @@ fn expanded(
             Ok((active, child))
         },
         Expanded::Go(to) => {
-            let active = go_to(frames, to)?;
+            let active = go_to(alloc, frames, to)?;
             Ok((active, None))
         },
     }

@@ -80,7 +80,10 @@ fn with_substitution(wants: ToExpand, status: u8) -> ToExpand
             prepared.status = status;
             ToExpand::Values(prepared)
         },
+        ToExpand::Redirects(command) => ToExpand::Redirects(command),
         ToExpand::ForWords(command) => ToExpand::ForWords(command),
+        ToExpand::CaseWord(command) => ToExpand::CaseWord(command),
+        ToExpand::CasePattern(case) => ToExpand::CasePattern(case),
     }
 }
 

@@ -3,11 +3,11 @@ use Rattle.std.proofs.Common.{◌≡◌, ℕ, List, [], ◌∷◌, ◌++◌, sym
 use Rattle.std.proofs.lemmas.List.{append-nil, append_assoc}
 use Rattle.sh_files.specs.Nodes.{FileMap}
 use Rattle.sh_vars.specs.Environment.{Environment}
-use Rattle.sh_expand.specs.Expanding.{Result, Need, Fields, Stops, expand, result_of}
+use Rattle.sh_expand.specs.Expanding.{expand, result_of}
 use Rattle.sh_expand.specs.Expansion as words
 use Rattle.sh_expand.specs.Parts as words_in
 use Rattle.sh_expand.specs.declared.wanted.Wanted.{Wanted}
-use Rattle.sh_exec_command.specs.Answers.{expansion_after, expansion_with, resumption}
+use Rattle.sh_exec_command.specs.Answers.{expansion_with, resumption, words_after, words_with}
 use Rattle.sh_laws.specs.Answers.{Stays}
 use Rattle.sh_laws.proofs.FurtherAnswers.{Grown}
 use Rattle.sh_laws.proofs.AnsweredParts.{expansion_grows}
@@ -21,18 +21,20 @@ pub stays : (files : FileMap) (wanted : List Wanted) (env : Environment) (answer
 stays files wanted env answers more =
     finished_stays files (words_in.expand wanted env answers) (words_in.expand wanted env (answers ++ more)) more (expansion_grows wanted env answers more)
 
-resumed_is : (now next whole : Result) → Stays now whole → next ≡ whole → resumption now next ≡ whole
-resumed_is (Need p e) next whole s h = h
-resumed_is (Fields fs e) next whole s h = sym s
-resumed_is (Stops f e) next whole s h = sym s
+resumed_is : (files : FileMap) (now next whole : words.Outcome) → Stays (result_of files now) (result_of files whole) → result_of files next ≡ result_of files whole
+    → result_of files (resumption now next) ≡ result_of files whole
+resumed_is files (words.Need p e) next whole s h = h
+resumed_is files (words.Done t) next whole s h = sym s
+resumed_is files (words.Stops f e) next whole s h = sym s
 
-answered_is : (files : FileMap) (wanted : List Wanted) (env : Environment) (given answers : List (List ℕ)) → expansion_after files wanted env given answers ≡ expand files wanted env (given ++ answers)
+answered_is : (files : FileMap) (wanted : List Wanted) (env : Environment) (given answers : List (List ℕ))
+    → result_of files (words_after wanted env given answers) ≡ expand files wanted env (given ++ answers)
 answered_is files wanted env given [] = ap (expand files wanted env) (sym (append-nil given))
 answered_is files wanted env given (a ∷ others) =
-    resumed_is (expand files wanted env given) (expansion_after files wanted env (given ++ a ∷ []) others) (expand files wanted env (given ++ a ∷ others))
+    resumed_is files (words_in.expand wanted env given) (words_after wanted env (given ++ a ∷ []) others) (words_in.expand wanted env (given ++ a ∷ others))
     (stays files wanted env given (a ∷ others))
     (answered_is files wanted env (given ++ a ∷ []) others ∙ ap (expand files wanted env) (append_assoc given (a ∷ []) others))
 
 pub in_order : (files : FileMap) (wanted : List Wanted) (env : Environment) (answers : List (List ℕ)) → expansion_with files wanted env answers ≡ expand files wanted env answers
-unfolding expansion_with
+unfolding expansion_with words_with
 in_order files wanted env answers = answered_is files wanted env [] answers

@@ -1,8 +1,8 @@
 -- Syntax that begins with an action is entered to one.
 use Rattle.std.proofs.Common.{◌≡◌, List, [], ◌∷◌, map, Bool, true, false, sym, ap, ◌∙◌, subst}
 use Rattle.sh_exec_forms.specs.Running.{Run}
-use Rattle.sh_exec_forms.specs.Entering.{and_or_run, command_entry, command_run, commands_run, commands_step, form_entry, list_run, pipeline_run, to_enter, with_negation, with_others}
-use Rattle.sh_exec_forms.proofs.Entered.{and_or_is, compound_at, compound_entered, for_entered, for_parameters_entered, group_entered, if_entered, list_with, loop_entered, pipeline_is, simple_entered, subshell_entered, trees_beside}
+use Rattle.sh_exec_forms.specs.Entering.{and_or_run, command_entry, command_run, commands_run, commands_step, form_entry, is_subshell, list_run, pipeline_run, redirected, to_enter, unless_subshell, with_negation, with_others}
+use Rattle.sh_exec_forms.proofs.Entered.{and_or_is, case_entered, compound_entered, compound_is, for_entered, for_parameters_entered, group_entered, if_entered, list_with, loop_entered, pipeline_is, simple_entered, subshell_entered, trees_beside}
 use Rattle.sh_syntax.specs.declared.tree.AndOr.{AndOr}
 use Rattle.sh_syntax.specs.declared.tree.Command.{Command}
 use Rattle.sh_syntax.specs.declared.tree.Command.TheOpen as layer
@@ -14,8 +14,9 @@ use Rattle.sh_syntax.specs.declared.tree.CompoundForm.TheVariants as form
 use Rattle.sh_syntax.specs.declared.tree.CompoundList.{CompoundList}
 use Rattle.sh_syntax.specs.declared.tree.Connected.{Connected}
 use Rattle.sh_syntax.specs.declared.tree.Pipeline.{Pipeline}
+use Rattle.sh_syntax.specs.declared.tree.Redirect.{Redirect}
 use Rattle.sh_syntax.specs.declared.tree.SimpleItem.{SimpleItem}
-use Rattle.sh_laws.specs.Beginnings.{ListBegins, begins_list, more_items, AndOrBegins, joined, ConnectedBegin, PipelineBegins, staged, CommandsBegin, no_commands, more_commands, CommandBegins, by_words, by_form, FormBegins, in_group, in_subshell, in_if, in_loop, in_for, in_for_parameters}
+use Rattle.sh_laws.specs.Beginnings.{ListBegins, begins_list, more_items, AndOrBegins, joined, ConnectedBegin, PipelineBegins, staged, CommandsBegin, no_commands, more_commands, CommandBegins, by_words, by_form, FormBegins, in_group, in_subshell, in_if, in_loop, in_for, in_for_parameters, in_case}
 use Rattle.sh_laws.specs.BeforeAction.{RunStands}
 use Rattle.sh_laws.proofs.CommandTurns.{first_holds}
 
@@ -41,6 +42,14 @@ stages_stand first [] c cs s = s
 stages_stand first (next ∷ others) c cs s =
     subst (λ these. CommandsBegin (first ∷ next ∷ these)) (sym (trees_beside command_entry others)) (more_commands first (next ∷ others) c cs)
 
+pub redirected_stands : (redirects : List Redirect) (run : Run) (whole : Command) → CommandBegins whole → RunStands run → RunStands (redirected redirects run whole)
+redirected_stands [] run whole w s = s
+redirected_stands (redirect ∷ redirects) run whole w s = w
+
+unless_stands : (b : Bool) (redirects : List Redirect) (run : Run) (whole : Command) → CommandBegins whole → RunStands run → RunStands (unless_subshell b redirects run whole)
+unless_stands true redirects run whole w s = s
+unless_stands false redirects run whole w s = redirected_stands redirects run whole w s
+
 mutual
   pub list_stands : (x : CompoundList) → ListBegins x → RunStands (list_run x)
   list_stands x (begins_list _ item others e (more_items _ _ a r)) = subst RunStands (sym (list_with x item others e)) (r, and_or_stands (view.out-ListItem item).list a)
@@ -57,9 +66,11 @@ mutual
   pub command_stands : (x : Command) → CommandBegins x → (whole : Command) → CommandBegins whole → RunStands (command_entry x whole)
   command_stands x (by_words _ these e b) whole w =
       subst (λ z. RunStands (command_entry z whole)) (sym (is_simple x these e)) (subst RunStands (sym (simple_entered these whole)) (first_holds false whole w))
-  command_stands x (by_form _ inner e b) whole w =
+  command_stands x (by_form _ inner e b r) whole w =
       subst (λ z. RunStands (command_entry z whole)) (sym (is_compound x inner e))
-      (subst RunStands (sym (compound_entered inner whole ∙ compound_at inner whole)) (form_stands (view.out-Compound inner).form b whole w))
+      (subst RunStands (sym (compound_entered inner whole ∙ compound_is inner whole))
+      (unless_stands (is_subshell (view.out-CompoundForm (view.out-Compound inner).form)) (view.out-Compound inner).redirects (form_entry (view.out-Compound inner).form whole) whole w
+      (form_stands (view.out-Compound inner).form b whole w)))
 
   pub form_stands : (x : CompoundForm) → FormBegins x → (whole : Command) → CommandBegins whole → RunStands (form_entry x whole)
   form_stands x (in_group _ body e b) whole w =
@@ -80,3 +91,6 @@ mutual
   form_stands x (in_for_parameters _ name is_separated body e b) whole w =
       subst (λ z. RunStands (form_entry z whole)) (sym (sym (view.roll-out-CompoundForm x) ∙ ap view.roll-CompoundForm e ∙ form.rolls-ForParameters name is_separated body))
       (subst RunStands (sym (for_parameters_entered name is_separated body whole)) w)
+  form_stands x (in_case _ word items e p i) whole w =
+      subst (λ z. RunStands (form_entry z whole)) (sym (sym (view.roll-out-CompoundForm x) ∙ ap view.roll-CompoundForm e ∙ form.rolls-Case word items))
+      (subst RunStands (sym (case_entered word items whole)) w)

@@ -1,12 +1,15 @@
 -- What a command's turns leave holds only what begins with an action.
-use Rattle.std.proofs.Common.{◌≡◌, ℕ, zero, suc, List, [], ◌∷◌, ◌++◌, map, Option, None, Bool, true, false, ◌||◌, refl, sym, subst, option_map}
+use Rattle.std.proofs.Common.{◌≡◌, ℕ, zero, suc, List, [], ◌∷◌, ◌++◌, length, map, Option, Some, None, Bool, true, false, ◌||◌, refl, sym, subst, option_map}
 use Rattle.std.specs.Prelude.{Result, Ok, Err, if◌then◌else◌}
 use Rattle.std.specs.List.{list_any}
 use Rattle.std.specs.Option.{unwrap_or}
-use Rattle.sh_exec_command.specs.Answers.{expansion_after, expansion_with, resumption}
+use Rattle.sh_exec_command.specs.Answers.{Fails, Needs, Pattern, Patterned, expansion_with, pattern_of, pattern_with, resumption, single, words_after, words_with}
 use Rattle.sh_exec_command.specs.Assigning.{Step, assign_turn, assigned_by, assigned_one, assignments_turn, behind, may_set, text_of, value_of, value_step, value_wanted}
+use Rattle.sh_exec_command.specs.Cases as cases
+use Rattle.sh_exec_command.specs.Cases.{branch_of, branch_turn, branches_of, case_turn, item_branches, next_branch, pattern_by, pattern_turn, tried, word_by}
 use Rattle.sh_exec_command.specs.Expanding.{Turn, fatal, start_of, words_by, words_turn}
-use Rattle.sh_exec_command.specs.Preparing.{ahead, ahead_by, final_move, first_move, first_place, forks, nameless, not_done, performed_by, prepared_of}
+use Rattle.sh_exec_actions.specs.Preparing.{ahead, ahead_by, final_move, first_move, first_place, forks, nameless, not_done, performed_by, prepared_of, role_by, role_of}
+use Rattle.sh_exec_command.specs.Redirects.{compound_role, redirected, redirects_by, redirects_turn, role_in, role_of_command}
 use Rattle.sh_exec_command.specs.Reading.{answer_of, found_behind, found_by, next_command}
 use Rattle.sh_exec_command.specs.Series.{Given, give_by, give_turn, given_by, header_in, header_of, header_of_command, header_turn, rest_of_series, series_by, series_turn, word_of_series}
 use Rattle.sh_exec_command.specs.declared.found.Found.{Found}
@@ -23,36 +26,47 @@ use Rattle.sh_exec_actions.specs.declared.action.Action.TheVariants.{Forking}
 use Rattle.sh_exec_actions.specs.declared.action.ExpandedCommand.{ExpandedCommand}
 use Rattle.sh_exec_actions.specs.declared.action.Role.{Role}
 use Rattle.sh_exec_actions.specs.declared.action.Role.TheVariants as role
+use Rattle.sh_exec_actions.specs.declared.action.Case.{Case}
+use Rattle.sh_exec_actions.specs.declared.action.CaseBranch.{CaseBranch}
 use Rattle.sh_exec_actions.specs.declared.action.ForLoop.{ForLoop}
 use Rattle.sh_exec_actions.specs.declared.action.ToExpand.TheVariants as wants
 use Rattle.sh_exec_command.specs.declared.series.Round.{Round}
 use Rattle.sh_exec_command.specs.declared.series.Round.TheVariants as round
 use Rattle.sh_exec_parts.specs.Messages.{read_only}
-use Rattle.sh_exec_parts.specs.Served.{serves}
-use Rattle.sh_exec_parts.specs.Simple.{Opened, assignment_in, assignments_of, before, is_redirect, is_word, items_in, items_of, to_assign, wanted_of}
+use Rattle.sh_exec_actions.specs.Served.{serves}
+use Rattle.sh_builtin.specs.Builtins.{builtin_of}
+use Rattle.sh_builtin.specs.declared.builtin.Builtin.{Builtin}
+use Rattle.sh_exec_parts.specs.Simple.{Opened, assignment_in, assignments_of, before, compound_redirects, compound_redirects_in, is_redirect, is_word, items_in, items_of, redirect_wanted, redirects_of, to_assign, word_fields}
+use Rattle.sh_exec_parts.specs.Wants.{wanted_of}
 use Rattle.sh_exec_parts.specs.declared.redirection.Redirection.{Redirection}
 use Rattle.sh_exec_parts.specs.declared.simple.Assignment.{Assignment}
 use Rattle.sh_expand.specs.Expanding as expanding
+use Rattle.sh_expand.specs.Expansion.{Outcome, Need, Done as Over, Stops}
+use Rattle.sh_expand.specs.Parts.{expand}
 use Rattle.sh_expand.specs.declared.wanted.Wanted.{Wanted}
 use Rattle.sh_files.specs.Nodes.{FileMap}
 use Rattle.sh_kernel_descriptors.specs.declared.fault.KernelFault.{KernelFault}
 use Rattle.sh_parse.specs.Aliases.{no_aliases}
+use Rattle.sh_pattern.specs.Deciding.{is_match}
+use Rattle.sh_pattern.specs.declared.pattern_byte.PatternByte.{PatternByte}
 use Rattle.sh_parse.specs.Reading.{reading}
 use Rattle.sh_parse.specs.declared.ParseFault.{ParseFault}
 use Rattle.sh_parse.specs.declared.ParseFault.TheVariants as parse_fault
 use Rattle.sh_parse.specs.declared.Reading.{Reading}
 use Rattle.sh_parse.specs.declared.Reading.TheVariants.{Complete, Blank, More}
+use Rattle.sh_syntax.specs.declared.tree.CaseItem.{CaseItem}
 use Rattle.sh_syntax.specs.declared.tree.Command.{Command}
 use Rattle.sh_syntax.specs.declared.tree.Command.TheOpen as layer
 use Rattle.sh_syntax.specs.declared.tree.Command.TheViews as view
 use Rattle.sh_syntax.specs.declared.tree.CompoundForm.{CompoundForm}
 use Rattle.sh_syntax.specs.declared.tree.CompoundList.{CompoundList}
+use Rattle.sh_syntax.specs.declared.tree.Redirect.{Redirect}
 use Rattle.sh_syntax.specs.declared.tree.SimpleItem.{SimpleItem}
 use Rattle.sh_syntax.specs.declared.tree.Word.{Word}
 use Rattle.sh_vars.specs.Environment.{Environment, with_value}
-use Rattle.sh_laws.proofs.NeededPrograms.{ItsItems, ResultBegins, WantedBegin, expansion_begins, wanted_begin}
-use Rattle.sh_laws.specs.Beginnings.{CommandBegins, FormBegins, ListBegins, PartsBegin, SeriesBegin, WordsBegin, by_form, by_words, in_for, in_for_parameters, in_group, in_if, in_loop, in_subshell, item_parts, more_series, more_words, no_series, no_words}
-use Rattle.sh_laws.specs.BeforeAction.{AssignmentsHold, FoundBegins, PlaceHolds, WantsHold}
+use Rattle.sh_laws.proofs.NeededPrograms.{ItsItems, OutcomeBegins, ResultBegins, WantedBegin, expansion_begins, result_begins, target_begins, wanted_begin}
+use Rattle.sh_laws.specs.Beginnings.{CaseItemsBegin, CommandBegins, FormBegins, ItemsBegin, ListBegins, PartsBegin, RedirectsBegin, SeriesBegin, WordsBegin, begins_list, by_form, by_words, in_case, in_for, in_for_parameters, in_group, in_if, in_loop, in_subshell, item_parts, more_case_items, more_redirects, more_series, more_words, no_case_items, no_redirects, no_series, no_words, word_parts}
+use Rattle.sh_laws.specs.BeforeAction.{AssignmentsHold, BranchesHold, FoundBegins, PlaceHolds, RoleHolds, WantsHold}
 use Rattle.sh_laws.proofs.ServedReadings.{AnswerFits, reading_fits}
 
 -- ---- what is held at a place, by a move, by what an expansion comes to
@@ -65,6 +79,9 @@ ActiveHolds (Leaving leave) = Unit {0}
 abbrev pub MoveHolds : Move → Type 0
 MoveHolds (move.At active) = ActiveHolds active
 MoveHolds (move.Held undo active) = ActiveHolds active
+MoveHolds (move.Enter list) = ItemsBegin (view.out-CompoundList list).items
+MoveHolds (move.Compound undo command) = CommandBegins command
+MoveHolds (move.Subshell list) = ItemsBegin (view.out-CompoundList list).items
 
 abbrev pub ExpandedHolds : Expanded → Type 0
 ExpandedHolds (expanded.Need program wants pending) = ItsItems program × WantsHold wants
@@ -76,7 +93,7 @@ TurnHolds t = ExpandedHolds t.outcome
 -- ---- the items of a simple command
 pub items_begin : (command : Command) → CommandBegins command → WordsBegin (items_of command)
 items_begin command (by_words _ items e b) = subst (λ (z : Opened layer.Command-F). WordsBegin (unwrap_or (items_in z) [])) (sym e) b
-items_begin command (by_form _ inner e b) = subst (λ (z : Opened layer.Command-F). WordsBegin (unwrap_or (items_in z) [])) (sym e) no_words
+items_begin command (by_form _ inner e b r) = subst (λ (z : Opened layer.Command-F). WordsBegin (unwrap_or (items_in z) [])) (sym e) no_words
 
 assigned_begins : (z : Opened layer.SimpleItem-F) (others : List Assignment) → PartsBegin (item_parts z) → AssignmentsHold others → AssignmentsHold (before (option_map to_assign (assignment_in z)) others)
 assigned_begins (layer.Assignment name value source) others b h = (b, h)
@@ -92,38 +109,45 @@ wants_hold : (b in_place : Bool) (command : Command) → CommandBegins command
     → WantsHold (if b then wants.Words command in_place 0 else wants.Values (nameless (items_of command)))
 unfolding nameless
 wants_hold true in_place command c = c
-wants_hold false in_place command c = assignments_hold (items_of command) (items_begin command c)
+wants_hold false in_place command c = (tt, assignments_hold (items_of command) (items_begin command c))
 
 pub first_holds : (in_place : Bool) (command : Command) → CommandBegins command → PlaceHolds (first_place in_place command)
 unfolding first_place
 first_holds in_place command c = wants_hold (list_any is_word (items_of command) || list_any is_redirect (items_of command)) in_place command c
 
 -- ---- what it does after its expansion
-performed_holds : (p : ExpandedCommand) (r : Role) → MoveHolds (performed_by p r)
-performed_holds p role.NoCommandName = tt
-performed_holds p (role.Builtin builtin) = tt
-performed_holds p role.Program = tt
+performed_holds : (p : ExpandedCommand) (r : Role) → RoleHolds r → MoveHolds (performed_by p r)
+performed_holds p role.NoCommandName b = tt
+performed_holds p (role.Builtin builtin) b = tt
+performed_holds p role.Program b = tt
+performed_holds p (role.Compound command) b = b
+performed_holds p (role.Subshell list) b = b
 
-final_holds : (p : ExpandedCommand) → MoveHolds (final_move p)
+final_holds : (p : ExpandedCommand) → RoleHolds p.role → MoveHolds (final_move p)
 unfolding final_move
-final_holds p = performed_holds p p.role
+final_holds p b = performed_holds p p.role b
 
-ahead_by_holds : (p : ExpandedCommand) (redirections : List Redirection) (assignments : List Assignment) → AssignmentsHold p.assignments → MoveHolds (ahead_by p redirections assignments)
+abbrev pub CommandHolds : ExpandedCommand → Type 0
+CommandHolds p = RoleHolds p.role × AssignmentsHold p.assignments
+
+ahead_by_holds : (p : ExpandedCommand) (redirections : List Redirection) (assignments : List Assignment) → CommandHolds p → MoveHolds (ahead_by p redirections assignments)
 ahead_by_holds p (redirection ∷ redirections) assignments h = h
 ahead_by_holds p [] (assignment ∷ assignments) h = h
-ahead_by_holds p [] [] h = final_holds p
+ahead_by_holds p [] [] h = final_holds p h.0
 
-pub ahead_holds : (p : ExpandedCommand) → AssignmentsHold p.assignments → MoveHolds (ahead p)
+pub ahead_holds : (p : ExpandedCommand) → CommandHolds p → MoveHolds (ahead p)
 unfolding ahead
 ahead_holds p h = ahead_by_holds p p.redirections p.assignments h
 
-first_by_holds : (in_place : Bool) (p : ExpandedCommand) (r : Role) → p.role ≡ r → AssignmentsHold p.assignments → MoveHolds (if forks r in_place then move.At (Next (Forking p)) else ahead p)
+first_by_holds : (in_place : Bool) (p : ExpandedCommand) (r : Role) → p.role ≡ r → CommandHolds p → MoveHolds (if forks r in_place then move.At (Next (Forking p)) else ahead p)
 first_by_holds in_place p role.NoCommandName e h = ahead_holds p h
 first_by_holds in_place p (role.Builtin builtin) e h = ahead_holds p h
 first_by_holds true p role.Program e h = ahead_holds p h
-first_by_holds false p role.Program e h = (e, h)
+first_by_holds false p role.Program e h = (e, h.1)
+first_by_holds in_place p (role.Compound command) e h = ahead_holds p h
+first_by_holds in_place p (role.Subshell list) e h = ahead_holds p h
 
-first_move_holds : (in_place : Bool) (p : ExpandedCommand) → AssignmentsHold p.assignments → MoveHolds (first_move in_place p)
+first_move_holds : (in_place : Bool) (p : ExpandedCommand) → CommandHolds p → MoveHolds (first_move in_place p)
 unfolding first_move
 first_move_holds in_place p h = first_by_holds in_place p p.role refl h
 
@@ -132,25 +156,51 @@ unfolding not_done
 not_done_holds p word f = tt
 
 -- ---- expansions with answers
-resumed_begins : (r s : expanding.Result) → ResultBegins r → ResultBegins s → ResultBegins (resumption r s)
-resumed_begins (expanding.Need program env) s f g = g
-resumed_begins (expanding.Fields fields env) s f g = tt
-resumed_begins (expanding.Stops fault env) s f g = tt
+resumed_begins : (o next : Outcome) → OutcomeBegins o → OutcomeBegins next → OutcomeBegins (resumption o next)
+resumed_begins (Need program env) next f g = g
+resumed_begins (Over s) next f g = tt
+resumed_begins (Stops fault env) next f g = tt
 
-after_begins : (files : FileMap) (ws : List Wanted) (env : Environment) (given answers : List (List ℕ)) → WantedBegin ws → ResultBegins (expansion_after files ws env given answers)
-after_begins files ws env given [] b = expansion_begins files ws env given b
-after_begins files ws env given (answer ∷ answers) b =
-    resumed_begins (expanding.expand files ws env given) (expansion_after files ws env (given ++ answer ∷ []) answers) (expansion_begins files ws env given b)
-    (after_begins files ws env (given ++ answer ∷ []) answers b)
+after_begins : (ws : List Wanted) (env : Environment) (given answers : List (List ℕ)) → WantedBegin ws → OutcomeBegins (words_after ws env given answers)
+after_begins ws env given [] b = expansion_begins ws env given b
+after_begins ws env given (answer ∷ answers) b =
+    resumed_begins (expand ws env given) (words_after ws env (given ++ answer ∷ []) answers) (expansion_begins ws env given b) (after_begins ws env (given ++ answer ∷ []) answers b)
+
+outcome_begins : (ws : List Wanted) (env : Environment) (answers : List (List ℕ)) → WantedBegin ws → OutcomeBegins (words_with ws env answers)
+unfolding words_with
+outcome_begins ws env answers b = after_begins ws env [] answers b
 
 answers_begin : (files : FileMap) (ws : List Wanted) (env : Environment) (answers : List (List ℕ)) → WantedBegin ws → ResultBegins (expansion_with files ws env answers)
 unfolding expansion_with
-answers_begin files ws env answers b = after_begins files ws env [] answers b
+answers_begin files ws env answers b = result_begins files (words_with ws env answers) (outcome_begins ws env answers b)
+
+-- ---- to a pattern
+abbrev PatternedBegins : Patterned → Type 0
+PatternedBegins (Needs program env) = ItsItems program
+PatternedBegins (Pattern pattern env) = Unit {0}
+PatternedBegins (Fails fault env) = Unit {0}
+
+pattern_of_begins : (o : Outcome) → OutcomeBegins o → PatternedBegins (pattern_of o)
+pattern_of_begins (Need program env) b = b
+pattern_of_begins (Over s) b = tt
+pattern_of_begins (Stops fault env) b = tt
+
+pattern_begins : (ws : List Wanted) (env : Environment) (answers : List (List ℕ)) → WantedBegin ws → PatternedBegins (pattern_with ws env answers)
+unfolding pattern_with
+pattern_begins ws env answers b = pattern_of_begins (words_with ws env answers) (outcome_begins ws env answers b)
 
 -- ---- the turn of its words
-prepared_holds : (env : Environment) (items : List SimpleItem) (fields : List (List ℕ)) (status : ℕ) → WordsBegin items → AssignmentsHold (prepared_of env items fields status).assignments
+role_by_holds : (o : Option Builtin) → RoleHolds (role_by o)
+role_by_holds None = tt
+role_by_holds (Some builtin) = tt
+
+role_holds : (words : List (List ℕ)) → RoleHolds (role_of words)
+role_holds [] = tt
+role_holds (name ∷ arguments) = role_by_holds (builtin_of name)
+
+prepared_holds : (env : Environment) (items : List SimpleItem) (fields : List (List ℕ)) (status : ℕ) → WordsBegin items → CommandHolds (prepared_of env items fields status)
 unfolding prepared_of
-prepared_holds env items fields status b = assignments_hold items b
+prepared_holds env items fields status b = (role_holds (word_fields fields (length (redirects_of items))), assignments_hold items b)
 
 words_by_hold : (command : Command) (in_place : Bool) (status : ℕ) (pending : Pending) (r : expanding.Result) → CommandBegins command → ResultBegins r → TurnHolds (words_by command in_place status pending r)
 words_by_hold command in_place status pending (expanding.Need program env) c b = (b, c)
@@ -176,35 +226,77 @@ record StepHolds (next : Environment → ExpandedCommand → Turn) (step : Step)
   holds : TurnHolds (behind step.environment step.outcome next)
 
 abbrev Goes : (Environment → ExpandedCommand → Turn) → Type 0
-Goes next = (env : Environment) (p : ExpandedCommand) → TurnHolds (next env p)
+Goes next = (env : Environment) (p : ExpandedCommand) → RoleHolds p.role → TurnHolds (next env p)
 
-value_holds : (next : Environment → ExpandedCommand → Turn) (p : ExpandedCommand) (env : Environment) (name value : List ℕ) → Goes next → StepHolds next (value_step p env name value)
+value_holds : (next : Environment → ExpandedCommand → Turn) (p : ExpandedCommand) (env : Environment) (name value : List ℕ) → Goes next → RoleHolds p.role → StepHolds next (value_step p env name value)
 unfolding value_step
-value_holds next p env name value n = choose (StepHolds next) (may_set env name) _ _ (λ e. record { holds = n _ _ }) (λ e. record { holds = tt })
+value_holds next p env name value n r = choose (StepHolds next) (may_set env name) _ _ (λ e. record { holds = n _ _ r }) (λ e. record { holds = tt })
 
-assigned_by_holds : (next : Environment → ExpandedCommand → Turn) (p : ExpandedCommand) (assignment : Assignment) (pending : Pending) (r : expanding.Result) → Goes next → AssignmentsHold (assignment ∷ p.assignments) → ResultBegins r
-    → StepHolds next (assigned_by p assignment pending r)
-assigned_by_holds next p assignment pending (expanding.Need program env) n h b = record { holds = (b, h) }
-assigned_by_holds next p assignment pending (expanding.Fields fields env) n h b = value_holds next p env assignment.name (text_of fields) n
-assigned_by_holds next p assignment pending (expanding.Stops fault env) n h b = record { holds = tt }
+assigned_by_holds : (next : Environment → ExpandedCommand → Turn) (p : ExpandedCommand) (assignment : Assignment) (pending : Pending) (r : expanding.Result) → Goes next → RoleHolds p.role
+    → AssignmentsHold (assignment ∷ p.assignments) → ResultBegins r → StepHolds next (assigned_by p assignment pending r)
+assigned_by_holds next p assignment pending (expanding.Need program env) n r h b = record { holds = (b, (r, h)) }
+assigned_by_holds next p assignment pending (expanding.Fields fields env) n r h b = value_holds next p env assignment.name (text_of fields) n r
+assigned_by_holds next p assignment pending (expanding.Stops fault env) n r h b = record { holds = tt }
 
 assigned_holds : (next : Environment → ExpandedCommand → Turn) (files : FileMap) (env : Environment) (p : ExpandedCommand) (assignment : Assignment) (pending : Option Pending) → Goes next
-    → AssignmentsHold (assignment ∷ p.assignments) → StepHolds next (assigned_one files env p assignment pending)
+    → RoleHolds p.role → AssignmentsHold (assignment ∷ p.assignments) → StepHolds next (assigned_one files env p assignment pending)
 unfolding assigned_one
-assigned_holds next files env p assignment pending n h =
+assigned_holds next files env p assignment pending n r h =
     let s = start_of env pending in
-    assigned_by_holds next p assignment s (value_of files s assignment) n h (answers_begin files (value_wanted assignment.value ∷ []) s.start s.answers (h.0, tt))
+    assigned_by_holds next p assignment s (value_of files s assignment) n r h (answers_begin files (value_wanted assignment.value ∷ []) s.start s.answers (h.0, tt))
 
-assignments_turn_holds : (files : FileMap) (these : List Assignment) (env : Environment) (p : ExpandedCommand) (pending : Option Pending) → AssignmentsHold these
+assignments_turn_holds : (files : FileMap) (these : List Assignment) (env : Environment) (p : ExpandedCommand) (pending : Option Pending) → RoleHolds p.role → AssignmentsHold these
     → TurnHolds (assignments_turn files these env p pending)
-assignments_turn_holds files [] env p pending h = final_holds p
-assignments_turn_holds files (assignment ∷ others) env p pending h =
+assignments_turn_holds files [] env p pending r h = final_holds p r
+assignments_turn_holds files (assignment ∷ others) env p pending r h =
     (assigned_holds (λ after command. assignments_turn files others after command None) files env (record p { assignments = others }) assignment pending
-    (λ after command. assignments_turn_holds files others after command None h.1) h).holds
+    (λ after command s. assignments_turn_holds files others after command None s h.1) r h).holds
 
-pub assign_holds : (files : FileMap) (env : Environment) (p : ExpandedCommand) (pending : Option Pending) → AssignmentsHold p.assignments → TurnHolds (assign_turn files env p pending)
+pub assign_holds : (files : FileMap) (env : Environment) (p : ExpandedCommand) (pending : Option Pending) → CommandHolds p → TurnHolds (assign_turn files env p pending)
 unfolding assign_turn
-assign_holds files env p pending h = assignments_turn_holds files p.assignments env p pending h
+assign_holds files env p pending h = assignments_turn_holds files p.assignments env p pending h.0 h.1
+
+-- ---- the turn of the redirections of a compound command
+redirect_wants_begin : (redirects : List Redirect) → RedirectsBegin redirects → WantedBegin (map redirect_wanted redirects)
+redirect_wants_begin _ no_redirects = tt
+redirect_wants_begin _ (more_redirects redirect others b r) = (target_begins (view.out-Target (view.out-Redirect redirect).target) b, redirect_wants_begin others r)
+
+compound_redirects_begin : (command : Command) → CommandBegins command → RedirectsBegin (compound_redirects command)
+compound_redirects_begin command (by_words _ items e b) = subst (λ (z : Opened layer.Command-F). RedirectsBegin (compound_redirects_in z)) (sym e) no_redirects
+compound_redirects_begin command (by_form _ inner e b r) = subst (λ (z : Opened layer.Command-F). RedirectsBegin (compound_redirects_in z)) (sym e) r
+
+listed : (x : CompoundList) → ListBegins x → ItemsBegin (view.out-CompoundList x).items
+listed x (begins_list _ item others e b) = subst ItemsBegin (sym e) b
+
+form_role_holds : (command : Command) (x : CompoundForm) → CommandBegins command → FormBegins x → RoleHolds (role_in command (view.out-CompoundForm x))
+form_role_holds command x c (in_group _ body e b) = subst (λ z. RoleHolds (role_in command z)) (sym e) c
+form_role_holds command x c (in_subshell _ body e b) = subst (λ z. RoleHolds (role_in command z)) (sym e) (listed body b)
+form_role_holds command x c (in_if _ condition body else_ifs else_body e t b i o) = subst (λ z. RoleHolds (role_in command z)) (sym e) c
+form_role_holds command x c (in_loop _ kind condition body e t b) = subst (λ z. RoleHolds (role_in command z)) (sym e) c
+form_role_holds command x c (in_for _ name words body e s b) = subst (λ z. RoleHolds (role_in command z)) (sym e) c
+form_role_holds command x c (in_for_parameters _ name is_separated body e b) = subst (λ z. RoleHolds (role_in command z)) (sym e) c
+form_role_holds command x c (in_case _ word items e w i) = subst (λ z. RoleHolds (role_in command z)) (sym e) c
+
+role_of_command_holds : (command : Command) → CommandBegins command → CommandBegins command → RoleHolds (role_of_command command (view.out-Command command))
+role_of_command_holds command c (by_words _ items e b) = subst (λ z. RoleHolds (role_of_command command z)) (sym e) tt
+role_of_command_holds command c (by_form _ inner e b r) = subst (λ z. RoleHolds (role_of_command command z)) (sym e) (form_role_holds command (view.out-Compound inner).form c b)
+
+redirected_holds : (env : Environment) (command : Command) (fields : List (List ℕ)) → CommandBegins command → CommandHolds (redirected env command fields)
+unfolding redirected compound_role
+redirected_holds env command fields c = (role_of_command_holds command c c, tt)
+
+redirects_by_hold : (command : Command) (pending : Pending) (r : expanding.Result) → CommandBegins command → ResultBegins r → TurnHolds (redirects_by command pending r)
+redirects_by_hold command pending (expanding.Need program env) c b = (b, c)
+redirects_by_hold command pending (expanding.Fields fields env) c b = ahead_holds (redirected env command fields) (redirected_holds env command fields c)
+redirects_by_hold command pending (expanding.Stops fault env) c b = tt
+
+pub redirects_hold : (files : FileMap) (env : Environment) (command : Command) (pending : Option Pending) → CommandBegins command → TurnHolds (redirects_turn files env command pending)
+unfolding redirects_turn
+redirects_hold files env command pending c =
+    let p = start_of env pending in
+    let wanted = map redirect_wanted (compound_redirects command) in
+    redirects_by_hold command p (expansion_with files wanted p.start p.answers) c
+    (answers_begin files wanted p.start p.answers (redirect_wants_begin (compound_redirects command) (compound_redirects_begin command c)))
 
 -- ---- a `for`
 series_begin : (words : List Word) → SeriesBegin words → WantedBegin (map word_of_series words)
@@ -242,17 +334,90 @@ module _ (files : FileMap) (env : Environment) (command : Command) (pending : Op
   form_holds x (in_for _ name words body e s b) = subst FormTurn (sym e) (words_of_hold name.name body (map word_of_series words) b (series_begin words s))
   form_holds x (in_for_parameters _ name is_separated body e b) =
       subst FormTurn (sym e) (rest_holds (record { name = name.name; values = env.positional; body = body }) (unexcused 0) b)
+  form_holds x (in_case _ word items e w i) = subst FormTurn (sym e) tt
 
   abbrev HeaderTurn : Opened layer.Command-F → Type 0
   HeaderTurn z = TurnHolds (header_turn files env command pending (header_of_command z))
 
   header_holds : CommandBegins command → HeaderTurn (view.out-Command command)
   header_holds (by_words _ items e b) = subst HeaderTurn (sym e) tt
-  header_holds (by_form _ inner e b) = subst HeaderTurn (sym e) (form_holds (view.out-Compound inner).form b)
+  header_holds (by_form _ inner e b r) = subst HeaderTurn (sym e) (form_holds (view.out-Compound inner).form b)
 
   pub series_hold : TurnHolds (series_turn files env command pending)
   unfolding series_turn header_of
   series_hold = header_holds c
+
+-- ---- a `case`
+patterns_hold : (body : CompoundList) (patterns : List Word) (others : List CaseBranch) → SeriesBegin patterns → ItemsBegin (view.out-CompoundList body).items → BranchesHold others
+    → BranchesHold (map (branch_of body) patterns ++ others)
+patterns_hold body _ others no_series i h = h
+patterns_hold body _ others (more_series pattern more p r) i h = ((p, i), patterns_hold body more others r i h)
+
+branches_hold : (items : List CaseItem) → CaseItemsBegin items → BranchesHold (branches_of items)
+branches_hold _ no_case_items = tt
+branches_hold _ (more_case_items item others p i r) =
+    let z = view.out-CaseItem item in patterns_hold z.body (z.pattern ∷ z.more_patterns) (branches_of others) p i (branches_hold others r)
+
+next_branch_holds : (word : List ℕ) (branches : List CaseBranch) → BranchesHold branches → ActiveHolds (next_branch word branches)
+next_branch_holds word [] h = tt
+next_branch_holds word (branch ∷ branches) h = h
+
+word_by_holds : (command : Command) (pending : Pending) (branches : List CaseBranch) (r : expanding.Result) → CommandBegins command → BranchesHold branches → ResultBegins r
+    → TurnHolds (word_by command pending branches r)
+word_by_holds command pending branches (expanding.Need program env) c h b = (b, c)
+word_by_holds command pending branches (expanding.Fields fields env) c h b = next_branch_holds (text_of fields) branches h
+word_by_holds command pending branches (expanding.Stops fault env) c h b = tt
+
+module _ (files : FileMap) (env : Environment) (command : Command) (pending : Option Pending) (c : CommandBegins command) where
+  word_of_holds : (word : Word) (items : List CaseItem) → PartsBegin (word_parts word) → CaseItemsBegin items
+      → let p = start_of env pending in TurnHolds (word_by command p (branches_of items) (expansion_with files (single (view.out-Word word).parts ∷ []) p.start p.answers))
+  word_of_holds word items w i =
+      let p = start_of env pending in
+      let wanted = single (view.out-Word word).parts ∷ [] in
+      word_by_holds command p (branches_of items) (expansion_with files wanted p.start p.answers) c (branches_hold items i) (answers_begin files wanted p.start p.answers (w, tt))
+
+  abbrev CaseFormTurn : Opened layer.CompoundForm-F → Type 0
+  CaseFormTurn z = TurnHolds (cases.header_turn files env command pending (cases.header_in z))
+
+  case_form_holds : (x : CompoundForm) → FormBegins x → CaseFormTurn (view.out-CompoundForm x)
+  case_form_holds x (in_group _ body e b) = subst CaseFormTurn (sym e) tt
+  case_form_holds x (in_subshell _ body e b) = subst CaseFormTurn (sym e) tt
+  case_form_holds x (in_if _ condition body else_ifs else_body e t b i o) = subst CaseFormTurn (sym e) tt
+  case_form_holds x (in_loop _ kind condition body e t b) = subst CaseFormTurn (sym e) tt
+  case_form_holds x (in_for _ name words body e s b) = subst CaseFormTurn (sym e) tt
+  case_form_holds x (in_for_parameters _ name is_separated body e b) = subst CaseFormTurn (sym e) tt
+  case_form_holds x (in_case _ word items e w i) = subst CaseFormTurn (sym e) (word_of_holds word items w i)
+
+  abbrev CaseTurn : Opened layer.Command-F → Type 0
+  CaseTurn z = TurnHolds (cases.header_turn files env command pending (cases.header_of_command z))
+
+  case_header_holds : CommandBegins command → CaseTurn (view.out-Command command)
+  case_header_holds (by_words _ items e b) = subst CaseTurn (sym e) tt
+  case_header_holds (by_form _ inner e b r) = subst CaseTurn (sym e) (case_form_holds (view.out-Compound inner).form b)
+
+  pub case_holds : TurnHolds (case_turn files env command pending)
+  unfolding case_turn cases.header_of
+  case_holds = case_header_holds c
+
+tried_holds : (word : List ℕ) (branch : CaseBranch) (branches : List CaseBranch) (pattern : List PatternByte) → BranchesHold (branch ∷ branches) → MoveHolds (tried word branch branches pattern)
+tried_holds word branch branches pattern h =
+    choose MoveHolds (is_match pattern word) (move.Enter branch.body) (move.At (next_branch word branches)) (λ e. h.0.1) (λ e. next_branch_holds word branches h.1)
+
+pattern_by_holds : (word : List ℕ) (branch : CaseBranch) (branches : List CaseBranch) (pending : Pending) (p : Patterned) → BranchesHold (branch ∷ branches) → PatternedBegins p
+    → TurnHolds (pattern_by word branch branches pending p)
+pattern_by_holds word branch branches pending (Needs program env) h b = (b, h)
+pattern_by_holds word branch branches pending (Pattern pattern env) h b = tried_holds word branch branches pattern h
+pattern_by_holds word branch branches pending (Fails fault env) h b = tt
+
+branch_turn_holds : (env : Environment) (word : List ℕ) (pending : Option Pending) (branches : List CaseBranch) → BranchesHold branches → TurnHolds (branch_turn env word pending branches)
+branch_turn_holds env word pending [] h = tt
+branch_turn_holds env word pending (branch ∷ branches) h =
+    let p = start_of env pending in
+    pattern_by_holds word branch branches p (pattern_with (single branch.pattern ∷ []) p.start p.answers) h (pattern_begins (single branch.pattern ∷ []) p.start p.answers (h.0.0, tt))
+
+pub pattern_holds : (env : Environment) (case : Case) (pending : Option Pending) → BranchesHold case.branches → TurnHolds (pattern_turn env case pending)
+unfolding pattern_turn
+pattern_holds env case pending h = branch_turn_holds env case.word pending case.branches h
 
 abbrev pub RoundHolds : Round → Type 0
 RoundHolds (round.Body series) = ListBegins series.body

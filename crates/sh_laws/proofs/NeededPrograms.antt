@@ -1,6 +1,8 @@
 -- A program whose output an expansion needs begins with an action, if what is expanded does.
 use Rattle.std.proofs.Common.{◌≡◌, ℕ, List, [], ◌∷◌, ◌++◌, Option, Some, None, Bool, true, false, sym, subst, option_map}
-use Rattle.sh_exec_parts.specs.Simple.{Opened, before, redirect_in, redirect_of, redirect_wanted, redirects_wanted, target_wanted, wanted_of, word_in, word_of, word_wanted, words_wanted}
+use Rattle.sh_exec_parts.specs.Declarations.{declares}
+use Rattle.sh_exec_parts.specs.Simple.{Opened, before, redirect_in, redirect_of, redirect_wanted, target_wanted, word_in, word_of}
+use Rattle.sh_exec_parts.specs.Wants.{argument_wanted, redirects_wanted, wanted_of, words_wanted}
 use Rattle.sh_expand_parts.specs.Closings.{closing_for}
 use Rattle.sh_expand_parts.specs.Contexts.{inside_quotes}
 use Rattle.sh_expand_parts.specs.Forms.{conditional_begun, length_begun, parameter_begun, removal_begun}
@@ -143,13 +145,13 @@ ResultBegins (expanding.Need program env) = ItsItems program
 ResultBegins (expanding.Fields fields env) = Unit {0}
 ResultBegins (expanding.Stops fault env) = Unit {0}
 
-result_begins : (files : FileMap) (o : Outcome) → OutcomeBegins o → ResultBegins (expanding.result_of files o)
+pub result_begins : (files : FileMap) (o : Outcome) → OutcomeBegins o → ResultBegins (expanding.result_of files o)
 result_begins files (Need program env) b = b
 result_begins files (Done s) b = tt
 result_begins files (Stops fault env) b = tt
 
-pub expansion_begins : (files : FileMap) (ws : List Wanted) (env : Environment) (answers : List (List ℕ)) → WantedBegin ws → ResultBegins (expanding.expand files ws env answers)
-expansion_begins files ws env answers b = result_begins files (expand ws env answers) (words_begin ws b (start env answers))
+pub expansion_begins : (ws : List Wanted) (env : Environment) (answers : List (List ℕ)) → WantedBegin ws → OutcomeBegins (expand ws env answers)
+expansion_begins ws env answers b = words_begin ws b (start env answers)
 
 -- ---- what is wanted of a simple command
 abbrev OneBegins : Option Wanted → Type 0
@@ -160,12 +162,12 @@ before_begins : (o : Option Wanted) (ws : List Wanted) → OneBegins o → Wante
 before_begins None ws f g = g
 before_begins (Some w) ws f g = (f, g)
 
-word_in_begins : (z : Opened layer.SimpleItem-F) → PartsBegin (item_parts z) → OneBegins (option_map word_wanted (word_in z))
-word_in_begins (layer.Assignment name value source) b = tt
-word_in_begins (layer.Word word) b = b
-word_in_begins (layer.Redirect redirect) b = tt
+word_in_begins : (d : Bool) (z : Opened layer.SimpleItem-F) → PartsBegin (item_parts z) → OneBegins (option_map (argument_wanted d) (word_in z))
+word_in_begins d (layer.Assignment name value source) b = tt
+word_in_begins d (layer.Word word) b = b
+word_in_begins d (layer.Redirect redirect) b = tt
 
-target_begins : (z : Opened layer.Target-F) → PartsBegin (target_parts z) → PartsBegin (parts_of (target_wanted z).parts)
+pub target_begins : (z : Opened layer.Target-F) → PartsBegin (target_parts z) → PartsBegin (parts_of (target_wanted z).parts)
 target_begins (layer.Named operator word) b = b
 target_begins (layer.Here operator delimiter body) b = b
 
@@ -174,9 +176,10 @@ redirect_in_begins (layer.Assignment name value source) b = tt
 redirect_in_begins (layer.Word word) b = tt
 redirect_in_begins (layer.Redirect redirect) b = target_begins (view.out-Target (view.out-Redirect redirect).target) b
 
-words_wanted_begin : (items : List SimpleItem) → WordsBegin items → WantedBegin (words_wanted items)
-words_wanted_begin _ no_words = tt
-words_wanted_begin _ (more_words item others b r) = before_begins (option_map word_wanted (word_of item)) (words_wanted others) (word_in_begins (view.out-SimpleItem item) b) (words_wanted_begin others r)
+words_wanted_begin : (d : Bool) (items : List SimpleItem) → WordsBegin items → WantedBegin (words_wanted d items)
+words_wanted_begin d _ no_words = tt
+words_wanted_begin d _ (more_words item others b r) =
+    before_begins (option_map (argument_wanted d) (word_of item)) (words_wanted d others) (word_in_begins d (view.out-SimpleItem item) b) (words_wanted_begin d others r)
 
 redirects_wanted_begin : (items : List SimpleItem) → WordsBegin items → WantedBegin (redirects_wanted items)
 redirects_wanted_begin _ no_words = tt
@@ -189,4 +192,4 @@ wanted_then (w ∷ ws) vs f g = (f.0, wanted_then ws vs f.1 g)
 
 pub wanted_begin : (items : List SimpleItem) → WordsBegin items → WantedBegin (wanted_of items)
 unfolding wanted_of
-wanted_begin items b = wanted_then (words_wanted items) (redirects_wanted items) (words_wanted_begin items b) (redirects_wanted_begin items b)
+wanted_begin items b = wanted_then (words_wanted (declares items) items) (redirects_wanted items) (words_wanted_begin (declares items) items b) (redirects_wanted_begin items b)

@@ -3,8 +3,8 @@ use Rattle.std.proofs.Common.{◌≡◌, ℕ, ◌-◌, List, [], ◌∷◌, ◌+
 use Rattle.std.specs.Prelude.{Result, Ok, Err, nat_eq, if◌then◌else◌}
 use Rattle.std.specs.List.{list_all}
 use Rattle.std.specs.Option.{unwrap_or}
-use Rattle.sh_exec_parts.proofs.Serving.{arithmetic_is, backquoted_is, conditional_is, double_quoted_is, parts_are, removal_is, substitution_is}
-use Rattle.sh_exec_parts.specs.Served.{serves_part}
+use Rattle.sh_exec_actions.proofs.Serving.{arithmetic_is, backquoted_is, conditional_is, double_quoted_is, parts_are, removal_is, substitution_is}
+use Rattle.sh_exec_actions.specs.Served.{serves_part}
 use Rattle.sh_exec_parts.specs.Simple.{Opened}
 use Rattle.sh_expand.specs.Parts.{inside, program_of}
 use Rattle.sh_parse_commands.specs.Results.{and_then, fault_moved}
@@ -33,8 +33,7 @@ use Rattle.sh_syntax.specs.declared.tree.Parts.{Parts}
 use Rattle.sh_token_pieces.specs.declared.piece.Piece.{Piece}
 use Rattle.sh_token_pieces.specs.declared.piece.Piece.TheVariants as piece
 use Rattle.sh_laws.specs.Beginnings.{PartsBegin, ProgramBegins, more_parts, no_parts, no_program, of_program}
-use Rattle.sh_laws.proofs.ServedSyntax.{IsServed, PartsFit, and_left, and_right}
-use Rattle.sh_laws.proofs.ServedValues.{ProgramFits}
+use Rattle.sh_laws.proofs.ServedSyntax.{IsServed, PartsFit, ProgramFits, and_left, and_right}
 
 -- ---- parts
 abbrev pub OpenBegins : Opened layer.Part-F → Type 0

@@ -17,7 +17,7 @@ use Rattle.sh_parse.specs.declared.ParseFault.TheVariants.{Refused, Unclosed}
 use Rattle.sh_parse.specs.declared.Reading.TheVariants.{Complete, Blank, More}
 use Rattle.sh_syntax.specs.declared.tree.Parts.{Parts}
 use Rattle.sh_laws.proofs.ServedParts.{Unless, and_then_fits, either}
-use Rattle.sh_laws.proofs.ServedValues.{ProgramFits}
+use Rattle.sh_laws.proofs.ServedSyntax.{ProgramFits}
 use Rattle.sh_laws.proofs.ServedTexts.{BodiesFit, JudgedFits, bodies_of_fit, bodies_then, read_text_fits, tree_fits, with_item_fits}
 
 abbrev pub AnswerFits : Answer → Type 0

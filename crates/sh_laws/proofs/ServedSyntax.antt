@@ -28,12 +28,13 @@ use Rattle.sh_syntax.specs.declared.tree.SimpleItem.TheVariants as item
 use Rattle.sh_syntax.specs.declared.tree.Target.{Target}
 use Rattle.sh_syntax.specs.declared.tree.Target.TheVariants as target
 use Rattle.sh_syntax.specs.declared.tree.Word.{Word}
-use Rattle.sh_parse_actions.specs.Forms.{and_or, compound_list, compound, connected_pipeline, else_if, list_item, pipeline, redirect}
-use Rattle.sh_exec_parts.specs.Served.{serves, serves_and_or, serves_command, serves_connected, serves_else_if, serves_form, serves_item, serves_list_item, serves_parts, serves_pipeline, serves_redirect, serves_target, serves_word, no_more, waits}
-use Rattle.sh_exec_parts.proofs.Serving.{and_or_is, assignment_is, case_is, compound_form_is, compound_is, compound_list_is, connected_is, else_if_is, for_is, for_parameters_is, function_is, group_is, here_is, if_is, item_redirect_is, item_word_is, list_item_is, loop_is, named_is, pipeline_is, redirect_is, serves_otherwise, simple_is, subshell_is, word_is}
+use Rattle.sh_parse_actions.specs.Forms.{and_or, case_item, compound_list, compound, connected_pipeline, else_if, list_item, pipeline, redirect}
+use Rattle.sh_parse_actions.specs.declared.value.ItemBody.{ItemBody}
+use Rattle.sh_exec_actions.specs.Served.{serves, serves_and_or, serves_case_item, serves_command, serves_connected, serves_else_if, serves_form, serves_item, serves_list_item, serves_parts, serves_pipeline, serves_redirect, serves_target, serves_word, waits}
+use Rattle.sh_exec_actions.proofs.Serving.{and_or_is, assignment_is, case_is, case_item_is, compound_form_is, compound_is, compound_list_is, connected_is, else_if_is, for_is, for_parameters_is, function_is, group_is, here_is, if_is, item_redirect_is, item_word_is, list_item_is, loop_is, named_is, pipeline_is, redirect_is, serves_otherwise, simple_is, subshell_is, word_is}
 use Rattle.sh_exec_parts.specs.Simple.{Opened}
 use Rattle.sh_expand.specs.Parts.{parts_of}
-use Rattle.sh_laws.specs.Beginnings.{AndOrBegins, CommandBegins, CommandsBegin, ConnectedBegin, ElseBegins, ElseIfsBegin, FormBegins, ItemsBegin, ListBegins, PartsBegin, PipelineBegins, SeriesBegin, WordsBegin, begins_list, by_form, by_words, in_for, in_for_parameters, in_group, in_if, in_loop, in_subshell, joined, more_commands, more_connected, more_else_ifs, more_items, more_series, more_words, item_parts, parts_in_item, staged, target_parts, with_else, word_parts}
+use Rattle.sh_laws.specs.Beginnings.{AndOrBegins, CaseItemsBegin, CommandBegins, CommandsBegin, ConnectedBegin, ElseBegins, ElseIfsBegin, FormBegins, ItemsBegin, ListBegins, PartsBegin, PipelineBegins, RedirectsBegin, SeriesBegin, WordsBegin, begins_list, by_form, by_words, in_case, in_for, in_for_parameters, in_group, in_if, in_loop, in_subshell, joined, more_case_items, more_commands, more_connected, more_else_ifs, more_items, more_redirects, more_series, more_words, item_parts, parts_in_item, redirect_parts, staged, target_parts, with_else, word_parts}
 
 -- ---- what is claimed of each form
 abbrev pub IsServed : Bool → Type 0
@@ -63,6 +64,13 @@ CommandFits x = IsServed (serves_command x) → CommandBegins x
 abbrev pub FormFits : CompoundForm → Type 0
 FormFits x = IsServed (serves_form x) → FormBegins x
 
+abbrev pub CaseItemsFit : List CaseItem → Type 0
+CaseItemsFit xs = IsServed (list_all serves_case_item xs) → CaseItemsBegin xs
+
+-- the list of an item of a `case`, or of a command substitution, of which there may be no commands
+abbrev pub ProgramFits : CompoundList → Type 0
+ProgramFits x = IsServed (serves x) → ItemsBegin (view.out-CompoundList x).items
+
 abbrev pub ElseIfsFit : List ElseIf → Type 0
 ElseIfsFit xs = IsServed (list_all serves_else_if xs) → ElseIfsBegin xs
 
@@ -88,7 +96,10 @@ abbrev pub TargetFits : Target → Type 0
 TargetFits x = IsServed (serves_target x) → PartsBegin (target_parts (view.out-Target x))
 
 abbrev pub RedirectFits : Redirect → Type 0
-RedirectFits x = IsServed (serves_redirect x) → PartsBegin (target_parts (view.out-Target (view.out-Redirect x).target))
+RedirectFits x = IsServed (serves_redirect x) → PartsBegin (redirect_parts x)
+
+abbrev pub RedirectsFit : List Redirect → Type 0
+RedirectsFit xs = IsServed (list_all serves_redirect xs) → RedirectsBegin xs
 
 -- ---- both of two
 pub and_left : (a b : Bool) → IsServed (a && b) → IsServed a
@@ -105,6 +116,11 @@ list_fits first others f h =
     let is = ap (λ (z : Opened layer.CompoundList-F). z.items) (view.out-roll-CompoundList (record { items = first ∷ others })) in
     begins_list (compound_list (first ∷ others)) first others is
     (f (sym (ap (list_all serves_list_item) is) ∙ sym (compound_list_is (compound_list (first ∷ others))) ∙ h))
+
+pub whole_fits : (items : List ListItem) → ItemsFit items → ProgramFits (compound_list items)
+whole_fits items f h =
+    let is = ap (λ (z : Opened layer.CompoundList-F). z.items) (view.out-roll-CompoundList (record { items = items })) in
+    subst ItemsBegin (sym is) (f (sym (ap (list_all _) is) ∙ sym (compound_list_is (compound_list items)) ∙ h))
 
 pub items_fit : (list : AndOr) (separator : Separator) (others : List ListItem) → AndOrFits list → ItemsFit others → ItemsFit (list_item list separator ∷ others)
 items_fit list separator others f g h =
@@ -150,13 +166,14 @@ pub simple_fits : (items : List SimpleItem) → WordsFit items → CommandFits (
 simple_fits items f h =
     by_words (command.Simple items) items (ap view.out-Command (sym (command.rolls-Simple items)) ∙ view.out-roll-Command (layer.Simple items)) (f (sym (simple_is items) ∙ h))
 
-pub compound_fits : (x : CompoundForm) (redirects : List Redirect) → FormFits x → CommandFits (command.Compound (compound x redirects))
-compound_fits x redirects f h =
+pub compound_fits : (x : CompoundForm) (redirects : List Redirect) → FormFits x → RedirectsFit redirects → CommandFits (command.Compound (compound x redirects))
+compound_fits x redirects f g h =
     let c = compound x redirects in
     let is = view.out-roll-Compound (record { form = x; redirects = redirects }) in
     let own = sym (compound_form_is c) ∙ sym (compound_is c) ∙ h in
     by_form (command.Compound c) c (ap view.out-Command (sym (command.rolls-Compound c)) ∙ view.out-roll-Command (layer.Compound c))
-    (subst (λ (z : Opened layer.Compound-F). FormFits z.form) (sym is) f (and_left (serves_form (view.out-Compound c).form) (no_more (view.out-Compound c).redirects) own))
+    (subst (λ (z : Opened layer.Compound-F). FormFits z.form) (sym is) f (and_left (serves_form (view.out-Compound c).form) (list_all serves_redirect (view.out-Compound c).redirects) own))
+    (subst (λ (z : Opened layer.Compound-F). RedirectsFit z.redirects) (sym is) g (and_right (serves_form (view.out-Compound c).form) (list_all serves_redirect (view.out-Compound c).redirects) own))
 
 untrue : (b : Bool) → b ≡ false → b ≡ true → ⊥
 untrue b e h = absurd (cc)
@@ -204,8 +221,26 @@ for_parameters_fits name is_separated body f h =
     (ap view.out-CompoundForm (sym (form.rolls-ForParameters name is_separated body)) ∙ view.out-roll-CompoundForm (layer.ForParameters name is_separated body))
     (f (sym (for_parameters_is name is_separated body) ∙ h))
 
-pub case_fits : (word : Word) (items : List CaseItem) → FormFits (form.Case word items)
-case_fits word items h = absurd (untrue (serves_form (form.Case word items)) (case_is word items) h)
+pub case_fits : (word : Word) (items : List CaseItem) → WordFits word → CaseItemsFit items → FormFits (form.Case word items)
+case_fits word items f g h =
+    let own = sym (case_is word items) ∙ h in
+    in_case (form.Case word items) word items (ap view.out-CompoundForm (sym (form.rolls-Case word items)) ∙ view.out-roll-CompoundForm (layer.Case word items))
+    (f (and_right (list_all serves_case_item items) (serves_word word) own)) (g (and_left (list_all serves_case_item items) (serves_word word) own))
+
+pub case_items_fit : (has_parenthesis : Bool) (pattern : Word) (more : List Word) (behind : ItemBody) (others : List CaseItem) → WordFits pattern → SeriesFit more
+    → ProgramFits behind.body → CaseItemsFit others → CaseItemsFit (case_item has_parenthesis pattern more behind ∷ others)
+case_items_fit has_parenthesis pattern more behind others f g i j h =
+    let x = case_item has_parenthesis pattern more behind in
+    let z = view.out-CaseItem x in
+    let is = view.out-roll-CaseItem (record { has_parenthesis = has_parenthesis; pattern = pattern; more_patterns = more; body = behind.body; end = behind.end.end }) in
+    let own = sym (case_item_is x) ∙ and_left (serves_case_item x) (list_all serves_case_item others) h in
+    let inner = and_right (serves_word z.pattern) (list_all serves_word z.more_patterns && serves z.body) own in
+    more_case_items x others
+    (more_series z.pattern z.more_patterns
+    (subst (λ (z : Opened layer.CaseItem-F). WordFits z.pattern) (sym is) f (and_left (serves_word z.pattern) (list_all serves_word z.more_patterns && serves z.body) own))
+    (subst (λ (z : Opened layer.CaseItem-F). SeriesFit z.more_patterns) (sym is) g (and_left (list_all serves_word z.more_patterns) (serves z.body) inner)))
+    (subst (λ (z : Opened layer.CaseItem-F). ProgramFits z.body) (sym is) i (and_right (list_all serves_word z.more_patterns) (serves z.body) inner))
+    (j (and_right (serves_case_item x) (list_all serves_case_item others) h))
 
 pub else_ifs_fit : (condition body : CompoundList) (others : List ElseIf) → ListFits condition → ListFits body → ElseIfsFit others → ElseIfsFit (else_if condition body ∷ others)
 else_ifs_fit condition body others f g i h =
@@ -267,3 +302,7 @@ redirect_fits number to f h =
     let x = redirect number to in
     let is = view.out-roll-Redirect (record { number = number; target = to }) in
     subst (λ (z : Opened layer.Redirect-F). TargetFits z.target) (sym is) f (sym (redirect_is x) ∙ h)
+
+pub redirects_fit : (r : Redirect) (others : List Redirect) → RedirectFits r → RedirectsFit others → RedirectsFit (r ∷ others)
+redirects_fit r others f g h =
+    more_redirects r others (f (and_left (serves_redirect r) (list_all serves_redirect others) h)) (g (and_right (serves_redirect r) (list_all serves_redirect others) h))

@@ -34,8 +34,8 @@ use Rattle.sh_parse_commands.specs.Sources.{behind_pieces, text_between}
 use Rattle.sh_parse_commands.specs.Words.{Reader, parts_in, within}
 use Rattle.sh_syntax.specs.declared.tree.CompoundList.{CompoundList}
 use Rattle.sh_syntax.specs.declared.tree.Parts.{Parts}
-use Rattle.sh_exec_parts.proofs.Serving.{literal_is, parts_are}
-use Rattle.sh_exec_parts.specs.Served.{serves_part}
+use Rattle.sh_exec_actions.proofs.Serving.{literal_is, parts_are}
+use Rattle.sh_exec_actions.specs.Served.{serves_part}
 use Rattle.sh_exec_parts.specs.Simple.{Opened}
 use Rattle.sh_syntax.specs.declared.tree.Command.TheOpen as layer
 use Rattle.sh_syntax.specs.declared.tree.Command.TheViews as view
@@ -43,8 +43,8 @@ use Rattle.sh_syntax.specs.declared.tree.Part.{Part}
 use Rattle.sh_syntax.specs.declared.tree.Part.TheVariants as part
 use Rattle.sh_laws.specs.Beginnings.{PartsBegin, more_parts, no_items}
 use Rattle.sh_laws.proofs.ServedParts.{ReaderFits, Unless, and_then_fits, either, literal_fits, moved_fits, parts_fit, parts_in_fit, with_literal_fits}
-use Rattle.sh_laws.proofs.ServedSyntax.{IsServed, PartsFit, and_right, word_fits}
-use Rattle.sh_laws.proofs.ServedValues.{LeafFits, LeavesFit, ProgramFits, Where, syntax_fits, whole_fits}
+use Rattle.sh_laws.proofs.ServedSyntax.{IsServed, PartsFit, ProgramFits, and_right, whole_fits, word_fits}
+use Rattle.sh_laws.proofs.ServedValues.{LeafFits, LeavesFit, Where, syntax_fits}
 
 -- ---- what a token is to the tree
 operator_fits : (o : Operator) → LeafFits (operator_leaf o)

@@ -1,10 +1,9 @@
 -- What productions make begins with an action where it is served, if what they are given does.
-use Rattle.std.proofs.Common.{ℕ, zero, suc, List, [], ◌∷◌, Option, Some, None, Bool, true, false, sym, ap, ◌∙◌, subst, option_map}
+use Rattle.std.proofs.Common.{ℕ, zero, suc, List, [], ◌∷◌, Option, Some, None, Bool, true, false, option_map}
 use Rattle.std.specs.Option.{option_and_then, option_zip}
-use Rattle.std.specs.List.{list_all}
 use Rattle.std.specs.Prelude.{take, drop, slice_get}
 use Rattle.sh_grammar.specs.Grammar.{Tree, Forest, Leaf as Last, Node, Empty, And}
-use Rattle.sh_parse_actions.specs.Actions.{made_for, made_named, made_of_one, made_of_three, made_of_two, made_one, made_redirect, made_simple, made_three, made_two, production_value}
+use Rattle.sh_parse_actions.specs.Actions.{list_items, made_for, made_named, made_of_one, made_of_three, made_of_two, made_one, made_redirect, made_simple, made_three, made_two, production_value}
 use Rattle.sh_parse_actions.specs.Forms.{compound_list, list_item}
 use Rattle.sh_parse_actions.specs.Values.{and_or_in, body_in, case_items_in, item_body_in, item_end_in, loop_in, number_in, patterns_in, redirects_in, command_in, commands_in, compound_list_in, else_in, form_in, item_in, items_in, leaf_assignment, leaf_in, leaf_target, leaf_word, list_in, name_in, parameters_in, pipeline_in, pipelines_in, redirect_in, tail_in, target_in, values_in, word_in}
 use Rattle.sh_parse_actions.specs.declared.kind.Binary.{Binary}
@@ -20,6 +19,8 @@ use Rattle.sh_parse_actions.specs.declared.kind.Unary.TheVariants as one
 use Rattle.sh_parse_actions.specs.declared.leaf.Leaf.{Leaf}
 use Rattle.sh_parse_actions.specs.declared.leaf.Leaf.TheVariants as leaf
 use Rattle.sh_parse_actions.specs.declared.value.ElsePart.{ElsePart}
+use Rattle.sh_parse_actions.specs.declared.value.ItemBody.{ItemBody}
+use Rattle.sh_parse_actions.specs.declared.value.ItemEnd.{ItemEnd}
 use Rattle.sh_parse_actions.specs.declared.value.Parameters.{Parameters}
 use Rattle.sh_parse_actions.specs.declared.value.Tail.{Tail}
 use Rattle.sh_parse_actions.specs.declared.value.Value.{Value}
@@ -27,18 +28,12 @@ use Rattle.sh_parse_actions.specs.declared.value.Value.TheVariants as value
 use Rattle.sh_parse_actions.specs.declared.value.Values.{Values}
 use Rattle.sh_parse_trees.specs.Meaning.{kept_by, kept_values, no_values, only, syntax_of, value_made, value_of, values_of, whole_list, width}
 use Rattle.sh_parse_trees.specs.Productions.{kinds}
-use Rattle.sh_syntax.specs.declared.tree.Command.TheOpen as layer
 use Rattle.sh_syntax.specs.declared.tree.Command.TheViews as view
 use Rattle.sh_syntax.specs.declared.tree.Compound.{Compound}
-use Rattle.sh_syntax.specs.declared.tree.CompoundList.{CompoundList}
-use Rattle.sh_syntax.specs.declared.tree.ListItem.{ListItem}
 use Rattle.sh_syntax.specs.declared.tree.Name.{Name}
 use Rattle.sh_syntax.specs.declared.tree.Word.{Word}
-use Rattle.sh_exec_parts.specs.Served.{serves}
-use Rattle.sh_exec_parts.proofs.Serving.{compound_list_is}
-use Rattle.sh_exec_parts.specs.Simple.{Opened}
-use Rattle.sh_laws.specs.Beginnings.{ItemsBegin, no_commands, no_else, no_else_ifs, no_items, no_more, no_series, no_words}
-use Rattle.sh_laws.proofs.ServedSyntax.{AndOrFits, CommandFits, CommandsFit, ConnectedFit, ElseFits, ElseIfsFit, FormFits, IsServed, ItemFits, ItemsFit, ListFits, PartsFit, PipelineFits, RedirectFits, SeriesFit, TargetFits, WordFits, WordsFit, and_or_fits, assignment_fits, case_fits, commands_fit, compound_fits, connected_fit, else_fits, else_ifs_fit, for_fits, for_parameters_fits, function_fits, group_fits, here_fits, if_fits, item_redirect_fits, item_word_fits, items_fit, list_fits, loop_fits, named_fits, pipeline_fits, redirect_fits, series_fit, simple_fits, subshell_fits, words_fit}
+use Rattle.sh_laws.specs.Beginnings.{no_case_items, no_commands, no_else, no_else_ifs, no_items, no_more, no_redirects, no_series, no_words}
+use Rattle.sh_laws.proofs.ServedSyntax.{AndOrFits, CaseItemsFit, CommandFits, CommandsFit, ConnectedFit, ElseFits, ElseIfsFit, FormFits, ItemFits, ItemsFit, ListFits, PartsFit, PipelineFits, ProgramFits, RedirectFits, RedirectsFit, SeriesFit, TargetFits, WordFits, WordsFit, and_or_fits, assignment_fits, case_fits, case_items_fit, commands_fit, compound_fits, connected_fit, else_fits, else_ifs_fit, for_fits, for_parameters_fits, function_fits, group_fits, here_fits, if_fits, item_redirect_fits, item_word_fits, items_fit, list_fits, loop_fits, named_fits, pipeline_fits, redirect_fits, redirects_fit, series_fit, simple_fits, subshell_fits, whole_fits, words_fit}
 
 -- ---- of what is there
 abbrev pub Where : {A : Type 0} → (A → Type 0) → Option A → Type 0
@@ -112,11 +107,17 @@ ValuesFit values = SeriesFit values.words × ListFits values.body
 abbrev pub ParametersFit : Parameters → Type 0
 ParametersFit parameters = ListFits parameters.body
 
+abbrev pub ItemEndFits : ItemEnd → Type 0
+ItemEndFits end = CaseItemsFit end.items
+
+abbrev pub ItemBodyFits : ItemBody → Type 0
+ItemBodyFits behind = ProgramFits behind.body × ItemEndFits behind.end
+
 abbrev pub ValueFits : Value → Type 0
 ValueFits value.Nothing = Unit {0}
 ValueFits (value.Token class l) = LeafFits l
 ValueFits (value.Redirect x) = RedirectFits x
-ValueFits (value.Redirects xs) = Unit {0}
+ValueFits (value.Redirects xs) = RedirectsFit xs
 ValueFits (value.Items xs) = WordsFit xs
 ValueFits (value.Body x) = Unit {0}
 ValueFits (value.Command x) = CommandFits x
@@ -131,10 +132,10 @@ ValueFits (value.Form x) = FormFits x
 ValueFits (value.Else x) = ElsePartFits x
 ValueFits (value.Values x) = ValuesFit x
 ValueFits (value.Parameters x) = ParametersFit x
-ValueFits (value.Patterns xs) = Unit {0}
-ValueFits (value.CaseItems xs) = Unit {0}
-ValueFits (value.ItemEnd x) = Unit {0}
-ValueFits (value.ItemBody x) = Unit {0}
+ValueFits (value.Patterns xs) = SeriesFit xs
+ValueFits (value.CaseItems xs) = CaseItemsFit xs
+ValueFits (value.ItemEnd x) = ItemEndFits x
+ValueFits (value.ItemBody x) = ItemBodyFits x
 
 abbrev pub AllFit : List Value → Type 0
 AllFit [] = Unit {0}
@@ -229,6 +230,35 @@ tail_in_fits value.Nothing f = λ h. no_items
 tail_in_fits (value.Tail x) f = f
 tail_in_fits v f = tt
 
+redirects_in_fits : (v : Value) → ValueFits v → Where RedirectsFit (redirects_in v)
+unfolding redirects_in
+redirects_in_fits value.Nothing f = λ h. no_redirects
+redirects_in_fits (value.Redirects xs) f = f
+redirects_in_fits v f = tt
+
+patterns_in_fits : (v : Value) → ValueFits v → Where SeriesFit (patterns_in v)
+unfolding patterns_in
+patterns_in_fits value.Nothing f = λ h. no_series
+patterns_in_fits (value.Patterns xs) f = f
+patterns_in_fits v f = tt
+
+case_items_in_fits : (v : Value) → ValueFits v → Where CaseItemsFit (case_items_in v)
+unfolding case_items_in
+case_items_in_fits value.Nothing f = λ h. no_case_items
+case_items_in_fits (value.CaseItems xs) f = f
+case_items_in_fits v f = tt
+
+item_end_in_fits : (v : Value) → ValueFits v → Where ItemEndFits (item_end_in v)
+unfolding item_end_in
+item_end_in_fits value.Nothing f = λ h. no_case_items
+item_end_in_fits (value.ItemEnd x) f = f
+item_end_in_fits v f = tt
+
+item_body_in_fits : (v : Value) → ValueFits v → Where ItemBodyFits (item_body_in v)
+unfolding item_body_in
+item_body_in_fits (value.ItemBody x) f = f
+item_body_in_fits v f = tt
+
 else_in_fits : (v : Value) → ValueFits v → Where ElsePartFits (else_in v)
 unfolding else_in
 else_in_fits value.Nothing f = (λ h. no_else_ifs, λ h. no_else)
@@ -258,8 +288,8 @@ made_one_fits (one.Parameters is_separated) a f = mapped ListFits ValueFits _ (c
 made_one_fits one.LastValue a f = mapped ListFits ValueFits _ (compound_list_in a) (λ body g. (λ h. no_series, g)) (compound_list_in_fits a f)
 made_one_fits one.Group a f = mapped ListFits ValueFits _ (compound_list_in a) group_fits (compound_list_in_fits a f)
 made_one_fits one.Subshell a f = mapped ListFits ValueFits _ (compound_list_in a) subshell_fits (compound_list_in_fits a f)
-made_one_fits one.EmptyItem a f = mapped Any ValueFits _ (item_end_in a) (λ x g. tt) (any (item_end_in a))
-made_one_fits one.Break a f = mapped Any ValueFits _ (case_items_in a) (λ x g. tt) (any (case_items_in a))
+made_one_fits one.EmptyItem a f = mapped ItemEndFits ValueFits _ (item_end_in a) (λ end g. (whole_fits [] (λ h. no_items), g)) (item_end_in_fits a f)
+made_one_fits one.Break a f = mapped CaseItemsFit ValueFits _ (case_items_in a) (λ items g. g) (case_items_in_fits a f)
 
 made_simple_fits : (k : Item) (a b : Value) → ValueFits a → ValueFits b → Where ValueFits (made_simple k a b)
 made_simple_fits k a b f g =
@@ -287,20 +317,20 @@ made_two_fits (two.Connected connector) a b f g =
 made_two_fits (two.Pipeline is_negated) a b f g =
     paired CommandFits CommandsFit _ (command_in a) (commands_in b) (pipeline_fits is_negated) (command_in_fits a f) (commands_in_fits b g)
 made_two_fits two.Piped a b f g = paired CommandFits CommandsFit _ (command_in a) (commands_in b) commands_fit (command_in_fits a f) (commands_in_fits b g)
-made_two_fits two.Compound a b f g = paired FormFits Any _ (form_in a) (redirects_in b) (λ x y h i. compound_fits x y h) (form_in_fits a f) (any (redirects_in b))
+made_two_fits two.Compound a b f g = paired FormFits RedirectsFit _ (form_in a) (redirects_in b) compound_fits (form_in_fits a f) (redirects_in_fits b g)
 made_two_fits two.Body a b f g = paired Any Any _ (form_in a) (redirects_in b) (λ x y h i. tt) (any (form_in a)) (any (redirects_in b))
 made_two_fits two.Named a b f g = made_named_fits (body_in b) a b f g
 made_two_fits (two.Simple k) a b f g = made_simple_fits k a b f g
 made_two_fits (two.Items k) a b f g = paired ItemFits WordsFit _ (item_in k a) (items_in b) words_fit (item_in_fits k a f) (items_in_fits b g)
-made_two_fits two.Redirects a b f g = paired Any Any _ (redirect_in a) (redirects_in b) (λ x y h i. tt) (any (redirect_in a)) (any (redirects_in b))
+made_two_fits two.Redirects a b f g = paired RedirectFits RedirectsFit _ (redirect_in a) (redirects_in b) redirects_fit (redirect_in_fits a f) (redirects_in_fits b g)
 made_two_fits two.Redirect a b f g = chained WordFits ValueFits (made_redirect None a) (word_in b) (λ word w. made_redirect_fits None a word f w) (word_in_fits b g)
 made_two_fits two.For a b f g =
     chained Any ValueFits (made_for (parameters_in b) (values_in b)) (name_in a) (λ name h. made_for_fits (parameters_in b) (values_in b) name (parameters_in_fits b g) (values_in_fits b g))
     (any (name_in a))
 made_two_fits two.Value a b f g =
     paired WordFits ValuesFit _ (word_in a) (values_in b) (λ x y h i. (series_fit x y.words h i.0, i.1)) (word_in_fits a f) (values_in_fits b g)
-made_two_fits two.Case a b f g = paired Any Any _ (word_in a) (case_items_in b) (λ x y h i. case_fits x y) (any (word_in a)) (any (case_items_in b))
-made_two_fits two.Patterns a b f g = paired Any Any _ (word_in a) (patterns_in b) (λ x y h i. tt) (any (word_in a)) (any (patterns_in b))
+made_two_fits two.Case a b f g = paired WordFits CaseItemsFit _ (word_in a) (case_items_in b) case_fits (word_in_fits a f) (case_items_in_fits b g)
+made_two_fits two.Patterns a b f g = paired WordFits SeriesFit _ (word_in a) (patterns_in b) series_fit (word_in_fits a f) (patterns_in_fits b g)
 
 made_three_fits : (k : Ternary) (a b c : Value) → ValueFits a → ValueFits b → ValueFits c → Where ValueFits (made_three k a b c)
 made_three_fits three.Redirect a b c f g h =
@@ -316,9 +346,11 @@ made_three_fits three.Loop a b c f g h =
     tripled Any ListFits ListFits _ (loop_in a) (compound_list_in b) (compound_list_in c) (λ x y z i j k. loop_fits x y z j k)
     (any (loop_in a)) (compound_list_in_fits b g) (compound_list_in_fits c h)
 made_three_fits (three.CaseItem has_parenthesis) a b c f g h =
-    tripled Any Any Any _ (word_in a) (patterns_in b) (item_body_in c) (λ x y z i j k. tt) (any (word_in a)) (any (patterns_in b)) (any (item_body_in c))
+    tripled WordFits SeriesFit ItemBodyFits _ (word_in a) (patterns_in b) (item_body_in c) (λ x y z i j k. case_items_fit has_parenthesis x y z z.end.items i j k.0 k.1)
+    (word_in_fits a f) (patterns_in_fits b g) (item_body_in_fits c h)
 made_three_fits three.ItemList a b c f g h =
-    tripled Any Any Any _ (and_or_in a) (tail_in b) (item_end_in c) (λ x y z i j k. tt) (any (and_or_in a)) (any (tail_in b)) (any (item_end_in c))
+    tripled AndOrFits TailFits ItemEndFits _ (and_or_in a) (tail_in b) (item_end_in c) (λ x y z i j k. (whole_fits (list_items x y) (items_fit x y.separator y.items i j), k))
+    (and_or_in_fits a f) (tail_in_fits b g) (item_end_in_fits c h)
 
 of_one_fits : (k : Unary) (vs : List Value) → AllFit vs → Where ValueFits (made_of_one k vs)
 of_one_fits k (a ∷ []) f = made_one_fits k a f.0
@@ -381,14 +413,6 @@ mutual
       (value_fits x (take (width x) ls) (taken_fit (width x) ls f)) (values_fit others (drop (width x) ls) (dropped_fit (width x) ls f)))
 
 -- the commands of a text, of which there may be none
-abbrev pub ProgramFits : CompoundList → Type 0
-ProgramFits x = IsServed (serves x) → ItemsBegin (view.out-CompoundList x).items
-
-pub whole_fits : (items : List ListItem) → ItemsFit items → ProgramFits (compound_list items)
-whole_fits items f h =
-    let is = ap (λ (z : Opened layer.CompoundList-F). z.items) (view.out-roll-CompoundList (record { items = items })) in
-    subst ItemsBegin (sym is) (f (sym (ap (list_all _) is) ∙ sym (compound_list_is (compound_list items)) ∙ h))
-
 pub syntax_fits : (x : Tree) (ls : List Leaf) → LeavesFit ls → Where ProgramFits (syntax_of x ls)
 syntax_fits x ls f =
     chained ValueFits ProgramFits whole_list (value_of x ls) (λ v g. mapped ItemsFit ProgramFits compound_list (list_in v) whole_fits (list_in_fits v g)) (value_fits x ls f)

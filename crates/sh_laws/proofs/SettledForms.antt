@@ -23,10 +23,10 @@ use Rattle.sh_exec_forms.specs.Entering.{items_run, list_run, pipeline_run, with
 use Rattle.sh_exec_forms.specs.Forms.{Acted, after, after_by, after_leave, after_status, at_action, behind_condition, branch, condition_run, connected_run, goes_on, loop_left, onward, otherwise, runs, undone, ended_within, is_failure, left_within, within, within_run}
 use Rattle.sh_exec_forms.specs.Frames.{has_loop, is_failure_ignored}
 use Rattle.sh_exec_forms.specs.Running.{Run, At, In}
-use Rattle.sh_exec_forms.specs.declared.form.Branches.{Branches}
-use Rattle.sh_exec_forms.specs.declared.form.Form.{Form}
-use Rattle.sh_exec_forms.specs.declared.form.Form.TheVariants.{Text, Commands, Joined, Negated, Restoring, If, Condition, Body, ForBody, FailuresIgnored}
-use Rattle.sh_exec_forms.specs.declared.form.Loop.{Loop}
+use Rattle.sh_exec_actions.specs.declared.form.Branches.{Branches}
+use Rattle.sh_exec_actions.specs.declared.form.Form.{Form}
+use Rattle.sh_exec_actions.specs.declared.form.Form.TheVariants.{Text, Commands, Joined, Negated, Restoring, If, Condition, Body, ForBody, FailuresIgnored}
+use Rattle.sh_exec_actions.specs.declared.form.Loop.{Loop}
 use Rattle.sh_kernel.specs.State.{KernelState}
 use Rattle.sh_syntax.specs.declared.tree.Command.TheViews as view
 use Rattle.sh_syntax.specs.declared.tree.CompoundList.{CompoundList}

@@ -3,7 +3,7 @@ use Rattle.std.proofs.Common.{◌≡◌, ℕ, List, [], ◌∷◌, ◌++◌, len
 use Rattle.std.specs.Prelude.{Result, Ok, Err, nat_eq}
 use Rattle.sh_builtin.specs.declared.outcome.Leave.TheVariants as leave
 use Rattle.sh_builtin.specs.declared.shell.Shell.{Shell}
-use Rattle.sh_exec_command.specs.Preparing.{ahead, ahead_by, final_move, performed_by}
+use Rattle.sh_exec_actions.specs.Preparing.{ahead, ahead_by, final_move, performed_by}
 use Rattle.sh_exec_command.specs.Reading.{next_command}
 use Rattle.sh_exec_command.specs.Series.{give_turn}
 use Rattle.sh_exec_command.specs.declared.found.Found.{Found}
@@ -15,6 +15,7 @@ use Rattle.sh_exec_actions.specs.declared.action.Expanded.{Expanded}
 use Rattle.sh_exec_actions.specs.declared.action.Expanded.TheVariants as expanded
 use Rattle.sh_exec_actions.specs.declared.action.Finish.{Finish}
 use Rattle.sh_exec_actions.specs.declared.action.Report.{Report}
+use Rattle.sh_exec_forms.specs.Bodies.{body_of}
 use Rattle.sh_exec_forms.specs.Builtins.{reported}
 use Rattle.sh_exec_actions.specs.declared.action.Finish.TheVariants.{Status, Fault, Messages, Output}
 use Rattle.sh_exec_actions.specs.declared.action.Move.{Move}
@@ -27,14 +28,16 @@ use Rattle.sh_exec_actions.specs.declared.action.Role.TheVariants.{Program}
 use Rattle.sh_exec_actions.specs.declared.action.Stages.{Stages}
 use Rattle.sh_exec_actions.specs.declared.action.Substitution.{Substitution}
 use Rattle.sh_exec_actions.specs.declared.action.ToExpand.{ToExpand}
-use Rattle.sh_exec_actions.specs.declared.action.ToExpand.TheVariants.{Words, Values, ForWords}
+use Rattle.sh_exec_actions.specs.declared.action.ToExpand.TheVariants.{Words, Values, Redirects, ForWords, CaseWord, CasePattern}
 use Rattle.sh_exec_command.specs.declared.series.Round.{Round}
 use Rattle.sh_exec_command.specs.declared.series.Round.TheVariants as round
-use Rattle.sh_exec_forms.specs.Entering.{items_run, list_run}
+use Rattle.sh_exec_forms.specs.Entering.{form_entry, form_of_command, form_run, items_run, list_run}
+use Rattle.sh_exec_forms.specs.Moves.{move_run}
+use Rattle.sh_exec_forms.proofs.Entered.{list_is}
 use Rattle.sh_exec_forms.specs.Forms.{Acted, with_run}
 use Rattle.sh_exec_forms.specs.Frames.{is_failure_ignored}
-use Rattle.sh_exec_forms.specs.declared.form.Form.{Form}
-use Rattle.sh_exec_forms.specs.Running.{Run, At, In, InterpreterState, move_run}
+use Rattle.sh_exec_actions.specs.declared.form.Form.{Form}
+use Rattle.sh_exec_forms.specs.Running.{Run, At, In, InterpreterState}
 use Rattle.sh_exec_machine.specs.Forking.{fork_of}
 use Rattle.sh_exec_machine.specs.Redirecting.{redirection_outcome}
 use Rattle.sh_exec_machine.specs.Transfers.{give_bytes, take_bytes}
@@ -59,11 +62,11 @@ use Rattle.sh_syntax.specs.declared.tree.Command.TheViews as view
 use Rattle.sh_syntax.specs.declared.tree.CompoundList.{CompoundList}
 use Rattle.sh_vars.specs.Environment.{Environment}
 use Rattle.sh_laws.proofs.NeededPrograms.{ItsItems}
-use Rattle.sh_laws.specs.BeforeAction.{ActiveStands, AssignmentsHold, ChildStands, FoundBegins, PlaceHolds, RunStands, WantsHold}
-use Rattle.sh_laws.specs.Beginnings.{CommandBegins, CommandsBegin, more_commands, no_commands}
-use Rattle.sh_laws.proofs.BegunCommands.{list_stands}
+use Rattle.sh_laws.specs.BeforeAction.{ActiveStands, AssignmentsHold, ChildStands, FoundBegins, PlaceHolds, RoleHolds, RunStands, WantsHold}
+use Rattle.sh_laws.specs.Beginnings.{CommandBegins, CommandsBegin, by_form, by_words, more_commands, no_commands}
+use Rattle.sh_laws.proofs.BegunCommands.{form_stands, list_stands}
 use Rattle.sh_laws.proofs.BegunProcesses.{body_stands, stage_stands}
-use Rattle.sh_laws.proofs.CommandTurns.{ActiveHolds, ExpandedHolds, MoveHolds, RoundHolds, TurnHolds, ahead_holds, assign_holds, choose, give_holds, next_holds, not_done_holds, series_hold, words_hold}
+use Rattle.sh_laws.proofs.CommandTurns.{ActiveHolds, CommandHolds, ExpandedHolds, MoveHolds, RoundHolds, TurnHolds, ahead_holds, assign_holds, case_holds, choose, give_holds, next_holds, not_done_holds, pattern_holds, redirects_hold, series_hold, words_hold}
 use Rattle.sh_laws.proofs.SettledForms.{Holds, Settled, after_settled, at_action_settled, items_settled, reported_settled, settled_active, settled_holds, stands_holds}
 
 -- what an action leaves, before it is settled
@@ -73,9 +76,20 @@ ActedHolds a = Holds a.run
 abbrev pub TurnedHolds : Turned → Type 0
 TurnedHolds t = Holds t.left.run × ChildStands t.child
 
+form_run_holds : (command : Command) → CommandBegins command → CommandBegins command → Holds (form_run command)
+unfolding form_run
+form_run_holds command c (by_words _ items e b) = subst (λ z. Holds (form_of_command z command)) (sym e) tt
+form_run_holds command c (by_form _ inner e b r) =
+    subst (λ z. Holds (form_of_command z command)) (sym e)
+    (stands_holds (form_entry (view.out-Compound inner).form command) (form_stands (view.out-Compound inner).form b command c))
+
 move_holds : (m : Move) → MoveHolds m → Holds (move_run m)
 move_holds (move.At active) h = h
 move_holds (move.Held undo active) h = (tt, h)
+move_holds (move.Enter list) h =
+    settled_holds (list_run list) (subst Settled (sym (list_is list)) (items_settled (view.out-CompoundList list).items (unexcused 0) h))
+move_holds (move.Compound undo command) h = (tt, form_run_holds command h h)
+move_holds (move.Subshell list) h = stands_holds (body_of list) (body_stands list h)
 
 -- ---- reading and expansion
 read_holds : (env : Environment) (status : ℕ) (f : Found) → FoundBegins f → Holds (read_turn env status f)
@@ -88,7 +102,10 @@ read_holds env status (found.Fault refusal) h = tt
 expand_holds : (files : FileMap) (env : Environment) (wants : ToExpand) (pending : Option Pending) → WantsHold wants → TurnHolds (expand_turn files env wants pending)
 expand_holds files env (Words command in_place status) pending h = words_hold files env command in_place status pending h
 expand_holds files env (Values p) pending h = assign_holds files env p pending h
+expand_holds files env (Redirects command) pending h = redirects_hold files env command pending h
 expand_holds files env (ForWords command) pending h = series_hold files env command pending h
+expand_holds files env (CaseWord command) pending h = case_holds files env command pending h
+expand_holds files env (CasePattern case) pending h = pattern_holds env case pending h
 
 -- ---- a program's process begins with its redirections, its assignments or its start
 program_stands : (p : ExpandedCommand) → p.role ≡ Program → RunStands (move_run (performed_by p p.role))
@@ -96,8 +113,8 @@ program_stands p e = subst (λ r. RunStands (move_run (performed_by p r))) (sym 
 
 ahead_stands : (p : ExpandedCommand) (redirections : List Redirection) (assignments : List Assignment) → p.role ≡ Program → AssignmentsHold p.assignments → RunStands (move_run (ahead_by p redirections assignments))
 unfolding final_move
-ahead_stands p (redirection ∷ redirections) assignments e h = h
-ahead_stands p [] (assignment ∷ assignments) e h = h
+ahead_stands p (redirection ∷ redirections) assignments e h = (subst RoleHolds (sym e) tt, h)
+ahead_stands p [] (assignment ∷ assignments) e h = (subst RoleHolds (sym e) tt, h)
 ahead_stands p [] [] e h = program_stands p e
 
 -- ---- what a substitution's process writes
@@ -126,7 +143,10 @@ collect_holds s shell substitution h = collect_end_holds s shell substitution su
 with_status_holds : (wants : ToExpand) (status : ℕ) → WantsHold wants → WantsHold (with_substitution wants status)
 with_status_holds (Words command in_place before) status h = h
 with_status_holds (Values p) status h = h
+with_status_holds (Redirects command) status h = h
 with_status_holds (ForWords command) status h = h
+with_status_holds (CaseWord command) status h = h
+with_status_holds (CasePattern case) status h = h
 
 answer_by_holds : (substitution : Substitution) (o : Option ℕ) → WantsHold substitution.wants → PlaceHolds (answer_by substitution o)
 answer_by_holds substitution None h = h
@@ -145,18 +165,18 @@ unfolding wait_turn
 wait_holds s pid children = wait_by_holds children (wait_status s pid children)
 
 -- ---- a redirection
-redirect_by_holds : (p : ExpandedCommand) (word : List ℕ) (r : Result (Unit {0}) KernelFault) (one : Option Undone) → AssignmentsHold p.assignments → Holds (redirect_by p word r one)
+redirect_by_holds : (p : ExpandedCommand) (word : List ℕ) (r : Result (Unit {0}) KernelFault) (one : Option Undone) → CommandHolds p → Holds (redirect_by p word r one)
 redirect_by_holds p word (Ok u) one h = move_holds _ (ahead_holds (with_undo p one) h)
 redirect_by_holds p word (Err f) one h = move_holds _ (not_done_holds p word f)
 
-redirect_from_holds : (s : KernelState) (shell : Shell) (p : ExpandedCommand) (redirections : List Redirection) → AssignmentsHold p.assignments → ActedHolds (redirect_from s shell p redirections)
+redirect_from_holds : (s : KernelState) (shell : Shell) (p : ExpandedCommand) (redirections : List Redirection) → CommandHolds p → ActedHolds (redirect_from s shell p redirections)
 unfolding redirect_one
 redirect_from_holds s shell p [] h = move_holds (ahead p) (ahead_holds p h)
 redirect_from_holds s shell p (redirection ∷ redirections) h =
     let r = redirection_outcome (keeps p.role) s shell.pid shell.vars.directory redirection in
     redirect_by_holds (record p { redirections = redirections }) redirection.word r.answer r.undone h
 
-redirect_holds : (s : KernelState) (shell : Shell) (p : ExpandedCommand) → AssignmentsHold p.assignments → ActedHolds (redirect_turn s shell p)
+redirect_holds : (s : KernelState) (shell : Shell) (p : ExpandedCommand) → CommandHolds p → ActedHolds (redirect_turn s shell p)
 unfolding redirect_turn
 redirect_holds s shell p h = redirect_from_holds s shell p p.redirections h
 
@@ -229,7 +249,10 @@ stage_holds s shell stages b = stage_from_holds s shell stages stages.commands b
 failure_holds : (wants : ToExpand) → MoveHolds (fork_failure wants)
 failure_holds (Words command in_place status) = tt
 failure_holds (Values p) = tt
+failure_holds (Redirects command) = tt
 failure_holds (ForWords command) = tt
+failure_holds (CaseWord command) = tt
+failure_holds (CasePattern case) = tt
 
 substitution_holds : (s : KernelState) (shell : Shell) (program : CompoundList) (substitution : Substitution) (o : Option ℕ) → ItsItems program → WantsHold substitution.wants
     → TurnedHolds (substitution_by s shell program substitution o)

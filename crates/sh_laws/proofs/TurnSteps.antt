@@ -36,8 +36,8 @@ use Rattle.sh_exec_forms.specs.Forms.{Acted, with_run, after, after_by, after_st
 use Rattle.sh_exec_forms.specs.Frames.{has_loop, is_failure_ignored}
 use Rattle.sh_exec_shell.specs.Reduction.{act_at, act_place, expanded_by, reduce, shell_turn}
 use Rattle.sh_exec_forms.specs.Running.{InterpreterState, Run, At, In}
-use Rattle.sh_exec_forms.specs.declared.form.Form.{Form}
-use Rattle.sh_exec_forms.specs.declared.form.Form.TheVariants.{Text, Commands, Joined, Negated, Restoring, If, Condition, Body, ForBody, FailuresIgnored}
+use Rattle.sh_exec_actions.specs.declared.form.Form.{Form}
+use Rattle.sh_exec_actions.specs.declared.form.Form.TheVariants.{Text, Commands, Joined, Negated, Restoring, If, Condition, Body, ForBody, FailuresIgnored}
 use Rattle.sh_kernel_descriptors.specs.Machine.{MachineState}
 use Rattle.sh_kernel_descriptors.specs.declared.descriptor.DescriptorRef.TheVariants.{Aside}
 use Rattle.sh_kernel.specs.Requests.{Close, End}
@@ -57,8 +57,10 @@ built_in_number machine shell builtin.Colon arguments = refl
 built_in_number machine shell builtin.Continue arguments = refl
 built_in_number machine shell builtin.Echo arguments = refl
 built_in_number machine shell builtin.Exit arguments = refl
+built_in_number machine shell builtin.Export arguments = refl
 built_in_number machine shell builtin.False arguments = refl
 built_in_number machine shell builtin.Pwd arguments = refl
+built_in_number machine shell builtin.ReadOnly arguments = refl
 built_in_number machine shell builtin.Set arguments = refl
 built_in_number machine shell builtin.Shift arguments = refl
 built_in_number machine shell builtin.Test arguments = refl

@@ -10,13 +10,15 @@ use Rattle.sh_exec_actions.specs.declared.action.Active.{Active}
 use Rattle.sh_exec_actions.specs.declared.action.Active.TheVariants.{Acting, Next, Done, Leaving}
 use Rattle.sh_exec_actions.specs.declared.action.Action.{Action}
 use Rattle.sh_exec_actions.specs.declared.action.Action.TheVariants.{Reading, Expanding, ReadSubstitution, WaitSubstitution, Redirecting, Forking, Starting, ForkStage, AssignLoopVariable, Waiting, Writing, Ending}
-use Rattle.sh_exec_actions.specs.declared.action.Role.TheVariants.{Program}
+use Rattle.sh_exec_actions.specs.declared.action.Role.{Role}
+use Rattle.sh_exec_actions.specs.declared.action.Role.TheVariants.{NoCommandName, Builtin, Program, Compound, Subshell}
+use Rattle.sh_exec_actions.specs.declared.action.CaseBranch.{CaseBranch}
 use Rattle.sh_exec_actions.specs.declared.action.ToExpand.{ToExpand}
-use Rattle.sh_exec_actions.specs.declared.action.ToExpand.TheVariants.{Words, Values, ForWords}
+use Rattle.sh_exec_actions.specs.declared.action.ToExpand.TheVariants.{Words, Values, Redirects, ForWords, CaseWord, CasePattern}
 use Rattle.sh_exec_forms.specs.Running.{InterpreterState, Run, At, In, active_of}
-use Rattle.sh_exec_forms.specs.declared.form.Form.{Form}
-use Rattle.sh_exec_forms.specs.declared.form.Form.TheVariants.{Text, Commands, Joined, Negated, Restoring, If, Condition, Body, ForBody, FailuresIgnored}
-use Rattle.sh_exec_forms.specs.declared.form.Loop.{Loop}
+use Rattle.sh_exec_actions.specs.declared.form.Form.{Form}
+use Rattle.sh_exec_actions.specs.declared.form.Form.TheVariants.{Text, Commands, Joined, Negated, Restoring, If, Condition, Body, ForBody, FailuresIgnored}
+use Rattle.sh_exec_actions.specs.declared.form.Loop.{Loop}
 use Rattle.sh_exec_parts.specs.declared.simple.Assignment.{Assignment}
 use Rattle.sh_expand.specs.Parts.{parts_of}
 use Rattle.sh_laws.specs.Beginnings.{CommandBegins, CommandsBegin, ConnectedBegin, ElseBegins, ElseIfsBegin, ItemsBegin, ListBegins, PartsBegin}
@@ -42,10 +44,25 @@ abbrev pub AssignmentsHold : List Assignment → Type 0
 AssignmentsHold [] = Unit {0}
 AssignmentsHold (assignment ∷ others) = PartsBegin (parts_of assignment.value) × AssignmentsHold others
 
+abbrev pub RoleHolds : Role → Type 0
+RoleHolds NoCommandName = Unit {0}
+RoleHolds (Builtin builtin) = Unit {0}
+RoleHolds Program = Unit {0}
+RoleHolds (Compound command) = CommandBegins command
+RoleHolds (Subshell list) = ItemsBegin (view.out-CompoundList list).items
+
+abbrev pub BranchesHold : List CaseBranch → Type 0
+BranchesHold [] = Unit {0}
+BranchesHold (branch ∷ others) =
+    (PartsBegin (parts_of branch.pattern) × ItemsBegin (view.out-CompoundList branch.body).items) × BranchesHold others
+
 abbrev pub WantsHold : ToExpand → Type 0
 WantsHold (Words command in_place status) = CommandBegins command
-WantsHold (Values p) = AssignmentsHold p.assignments
+WantsHold (Values p) = RoleHolds p.role × AssignmentsHold p.assignments
+WantsHold (Redirects command) = CommandBegins command
 WantsHold (ForWords command) = CommandBegins command
+WantsHold (CaseWord command) = CommandBegins command
+WantsHold (CasePattern case) = BranchesHold case.branches
 
 -- a process is made for a program alone
 abbrev pub PlaceHolds : Action → Type 0
@@ -53,7 +70,7 @@ PlaceHolds (Reading rest status) = Unit {0}
 PlaceHolds (Expanding wants pending) = WantsHold wants
 PlaceHolds (ReadSubstitution substitution) = WantsHold substitution.wants
 PlaceHolds (WaitSubstitution substitution) = WantsHold substitution.wants
-PlaceHolds (Redirecting p) = AssignmentsHold p.assignments
+PlaceHolds (Redirecting p) = RoleHolds p.role × AssignmentsHold p.assignments
 PlaceHolds (Forking p) = (p.role ≡ Program) × AssignmentsHold p.assignments
 PlaceHolds (Starting fields) = Unit {0}
 PlaceHolds (ForkStage stages) = CommandsBegin stages.commands

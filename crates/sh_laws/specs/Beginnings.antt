@@ -1,10 +1,11 @@
 -- Syntax that begins with an action wherever it is entered: each list of commands has one at least, other than the list of a command
--- substitution, and no command is a function definition or a `case`, which aren't run yet. What is expanded in it has such commands in
--- its substitutions.
+-- substitution or of an item of a `case`, and no command is a function definition, which isn't run yet. What is expanded in it has such
+-- commands in its substitutions.
 use Rattle.std.specs.Prelude.{◌≡◌, List, [], ◌∷◌, Option, Some, None, Bool}
 use Rattle.sh_exec_parts.specs.Simple.{Opened}
 use Rattle.sh_expand.specs.Parts.{inside, parts_of, program_of}
 use Rattle.sh_syntax.specs.declared.tree.AndOr.{AndOr}
+use Rattle.sh_syntax.specs.declared.tree.CaseItem.{CaseItem}
 use Rattle.sh_syntax.specs.declared.tree.Command.{Command}
 use Rattle.sh_syntax.specs.declared.tree.Command.TheOpen as layer
 use Rattle.sh_syntax.specs.declared.tree.Command.TheViews as view
@@ -18,6 +19,7 @@ use Rattle.sh_syntax.specs.declared.tree.LoopKind.{LoopKind}
 use Rattle.sh_syntax.specs.declared.tree.Name.{Name}
 use Rattle.sh_syntax.specs.declared.tree.Part.{Part}
 use Rattle.sh_syntax.specs.declared.tree.Pipeline.{Pipeline}
+use Rattle.sh_syntax.specs.declared.tree.Redirect.{Redirect}
 use Rattle.sh_syntax.specs.declared.tree.SimpleItem.{SimpleItem}
 use Rattle.sh_syntax.specs.declared.tree.Word.{Word}
 
@@ -29,10 +31,13 @@ abbrev pub target_parts : Opened layer.Target-F → List Part
 target_parts (layer.Named operator word) = word_parts word
 target_parts (layer.Here operator delimiter body) = parts_of body
 
+abbrev pub redirect_parts : Redirect → List Part
+redirect_parts redirect = target_parts (view.out-Target (view.out-Redirect redirect).target)
+
 abbrev pub item_parts : Opened layer.SimpleItem-F → List Part
 item_parts (layer.Assignment name value source) = parts_of value
 item_parts (layer.Word word) = word_parts word
-item_parts (layer.Redirect redirect) = target_parts (view.out-Target (view.out-Redirect redirect).target)
+item_parts (layer.Redirect redirect) = redirect_parts redirect
 
 abbrev pub parts_in_item : SimpleItem → List Part
 parts_in_item item = item_parts (view.out-SimpleItem item)
@@ -65,7 +70,12 @@ mutual
   -- ---- commands (2.9.1, 2.9.4)
   pub data CommandBegins : Command → Type 0 where
     by_words : (x : Command) (items : List SimpleItem) → view.out-Command x ≡ layer.Simple items → WordsBegin items → CommandBegins x
-    by_form : (x : Command) (inner : Compound) → view.out-Command x ≡ layer.Compound inner → FormBegins (view.out-Compound inner).form → CommandBegins x
+    by_form : (x : Command) (inner : Compound) → view.out-Command x ≡ layer.Compound inner → FormBegins (view.out-Compound inner).form
+        → RedirectsBegin (view.out-Compound inner).redirects → CommandBegins x
+
+  pub data RedirectsBegin : List Redirect → Type 0 where
+    no_redirects : RedirectsBegin []
+    more_redirects : (redirect : Redirect) (others : List Redirect) → PartsBegin (redirect_parts redirect) → RedirectsBegin others → RedirectsBegin (redirect ∷ others)
 
   pub data FormBegins : CompoundForm → Type 0 where
     in_group : (x : CompoundForm) (body : CompoundList) → view.out-CompoundForm x ≡ layer.Group body → ListBegins body → FormBegins x
@@ -79,6 +89,13 @@ mutual
         → SeriesBegin words → ListBegins body → FormBegins x
     in_for_parameters : (x : CompoundForm) (name : Name) (is_separated : Bool) (body : CompoundList)
         → view.out-CompoundForm x ≡ layer.ForParameters name is_separated body → ListBegins body → FormBegins x
+    in_case : (x : CompoundForm) (word : Word) (items : List CaseItem) → view.out-CompoundForm x ≡ layer.Case word items
+        → PartsBegin (word_parts word) → CaseItemsBegin items → FormBegins x
+
+  pub data CaseItemsBegin : List CaseItem → Type 0 where
+    no_case_items : CaseItemsBegin []
+    more_case_items : (item : CaseItem) (others : List CaseItem) → SeriesBegin ((view.out-CaseItem item).pattern ∷ (view.out-CaseItem item).more_patterns)
+        → ItemsBegin (view.out-CompoundList (view.out-CaseItem item).body).items → CaseItemsBegin others → CaseItemsBegin (item ∷ others)
 
   pub data ElseIfsBegin : List ElseIf → Type 0 where
     no_else_ifs : ElseIfsBegin []
@@ -89,7 +106,7 @@ mutual
     no_else : ElseBegins None
     with_else : (body : CompoundList) → ListBegins body → ElseBegins (Some body)
 
-  -- ---- words: the items of a simple command, and the words of a `for`
+  -- ---- words: the items of a simple command, and the words of a `for` or the patterns of a `case`
   pub data WordsBegin : List SimpleItem → Type 0 where
     no_words : WordsBegin []
     more_words : (item : SimpleItem) (others : List SimpleItem) → PartsBegin (parts_in_item item) → WordsBegin others → WordsBegin (item ∷ others)

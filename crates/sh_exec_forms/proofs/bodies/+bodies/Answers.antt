@@ -1,6 +1,6 @@
 use Rattle.std.proofs.Common.{arith}
 use Rattle.std.proofs.lemmas.Grind.{common_steps}
-use Rattle.sh_exec_forms.proofs.Alone.{and_or_is, case_alone, compound_at, compound_command_alone, for_alone, for_parameters_alone, function_alone, group_alone, if_alone, item_is, loop_alone, of_alone, of_long, of_negated, of_none, of_one, of_several, of_stages, simple_alone, stage_is, stages_long, subshell_alone, unjoined_none, unjoined_some}
+use Rattle.sh_exec_forms.proofs.Alone.{and_or_is, case_alone, compound_command_alone, compound_plain, compound_redirected, for_alone, for_parameters_alone, function_alone, group_alone, if_alone, item_is, loop_alone, of_alone, of_long, of_negated, of_none, of_one, of_several, of_stages, simple_alone, stage_is, stages_long, subshell_alone, unjoined_none, unjoined_some}
 use Rattle.sh_exec_forms.proofs.bodies.+bodies.Goals as goal
 
 pub body_of-returns-in-empty : goal.body_of-returns-in-empty
@@ -42,8 +42,11 @@ stage-returns-in-Function t c = grind (arith, common_steps, stage_is c.args.comm
 pub stage-returns-in_ok-place-in-Simple : goal.stage-returns-in_ok-place-in-Simple
 stage-returns-in_ok-place-in-Simple t c = grind (arith, common_steps, stage_is c.args.command.now, simple_alone)
 
-pub own_compound-returns : goal.own_compound-returns
-own_compound-returns t c = grind (arith, common_steps, compound_at c.args.compound.now c.args.command.now)
+pub own_compound-returns-in-empty : goal.own_compound-returns-in-empty
+own_compound-returns-in-empty t c = grind (arith, common_steps, compound_plain c.args.compound.now c.args.command.now)
+
+pub own_compound-returns-in-len1-up : goal.own_compound-returns-in-len1-up
+own_compound-returns-in-len1-up t c = grind (arith, common_steps, compound_redirected c.args.compound.now c.args.command.now)
 
 pub own_form-returns-in-Group : goal.own_form-returns-in-Group
 own_form-returns-in-Group t c = grind (arith, common_steps, group_alone c.in-Group.field-0 c.args.command.now)

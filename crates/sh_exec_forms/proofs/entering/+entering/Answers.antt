@@ -1,6 +1,6 @@
 use Rattle.std.proofs.Common.{arith, refl, rules}
 use Rattle.std.proofs.lemmas.Grind.{common_steps}
-use Rattle.sh_exec_forms.proofs.Entered.{and_or_is, case_entered, compound_at, compound_entered, for_entered, for_parameters_entered, function_entered, group_entered, if_entered, list_is, loop_entered, several, several_long, simple_entered, subshell_entered}
+use Rattle.sh_exec_forms.proofs.Entered.{and_or_is, case_entered, compound_entered, compound_of_subshell, compound_plain, compound_redirected, for_entered, for_parameters_entered, function_entered, group_entered, if_entered, list_is, loop_entered, several, several_long, simple_entered, subshell_entered}
 use Rattle.sh_exec_forms.proofs.Inside.{begun, list_inside, negated, over, step_inside, unnegated}
 use Rattle.sh_exec_forms.proofs.entering.+entering.Goals as goal
 
@@ -19,8 +19,14 @@ enter_command-returns-in-Function t c = search (rules, over, function_entered c.
 pub enter_commands-returns-in-len1-up : goal.enter_commands-returns-in-len1-up
 enter_commands-returns-in-len1-up t c = search (rules, begun, several_long c.args.pipeline.now, several c.args.pipeline.now)
 
-pub enter_compound-returns : goal.enter_compound-returns
-enter_compound-returns t c = grind (arith, common_steps, compound_at c.args.compound.now c.args.command.now)
+pub enter_compound-returns-then-is_subshell : goal.enter_compound-returns-then-is_subshell
+enter_compound-returns-then-is_subshell t c = grind (arith, common_steps, compound_of_subshell c.args.compound.now c.args.command.now)
+
+pub enter_compound-returns-in-empty : goal.enter_compound-returns-in-empty
+enter_compound-returns-in-empty t c = grind (arith, common_steps, compound_plain c.args.compound.now c.args.command.now)
+
+pub enter_compound-returns-in_ok-redirected-in-len1-up : goal.enter_compound-returns-in_ok-redirected-in-len1-up
+enter_compound-returns-in_ok-redirected-in-len1-up t c = search (rules, begun, compound_redirected c.args.compound.now c.args.command.now)
 
 pub enter_form-returns-in-Group : goal.enter_form-returns-in-Group
 enter_form-returns-in-Group t c = grind (arith, common_steps, group_entered c.in-Group.list c.args.command.now)
@@ -40,8 +46,8 @@ enter_form-returns-in_ok-series-in-For t c = search (rules, begun, for_entered c
 pub enter_form-returns-in_ok-series-in-ForParameters : goal.enter_form-returns-in_ok-series-in-ForParameters
 enter_form-returns-in_ok-series-in-ForParameters t c = search (rules, begun, for_parameters_entered c.in-ForParameters.name c.in-ForParameters.is_separated c.in-ForParameters.body c.args.command.now)
 
-pub enter_form-returns-in-Case : goal.enter_form-returns-in-Case
-enter_form-returns-in-Case t c = search (rules, over, case_entered c.in-Case.word c.in-Case.items c.args.command.now)
+pub enter_form-returns-in_ok-case-in-Case : goal.enter_form-returns-in_ok-case-in-Case
+enter_form-returns-in_ok-case-in-Case t c = search (rules, begun, case_entered c.in-Case.word c.in-Case.items c.args.command.now)
 
 pub enter_list-returns-in_default : goal.enter_list-returns-in_default
 enter_list-returns-in_default t c = (refl, grind (arith, common_steps, list_is c.args.list.now))

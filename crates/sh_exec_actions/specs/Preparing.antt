@@ -1,0 +1,122 @@
+-- A simple command (XCU 2.9.1) from its tree to the place of its first action, and from its expanded words to what it does.
+use Rattle.std.specs.Prelude.{ℕ, List, [], ◌∷◌, ◌||◌, not, Bool, true, false, Option, Some, None, length, if◌then◌else◌}
+use Rattle.sh_exec_actions.specs.Statuses as statuses
+use Rattle.std.specs.List.{list_any}
+use Rattle.sh_builtin.specs.Builtins.{builtin_of, is_special}
+use Rattle.sh_builtin.specs.declared.builtin.Builtin.{Builtin}
+use Rattle.sh_exec_parts.specs.Messages.{message, not_redirected}
+use Rattle.sh_exec_parts.specs.Redirections.{redirections_of}
+use Rattle.sh_exec_parts.specs.Simple.{assignments_of, is_redirect, is_word, items_of, redirect_fields, redirects_of, word_fields}
+use Rattle.sh_exec_parts.specs.declared.redirection.Redirection.{Redirection}
+use Rattle.sh_exec_parts.specs.declared.simple.Assignment.{Assignment}
+use Rattle.sh_exec_actions.specs.declared.action.Active.TheVariants.{Acting, Next, Done}
+use Rattle.sh_exec_actions.specs.declared.action.Finish.{Finish}
+use Rattle.sh_exec_actions.specs.declared.action.Finish.TheVariants.{Status, Fault}
+use Rattle.sh_exec_actions.specs.declared.action.Move.{Move}
+use Rattle.sh_exec_actions.specs.declared.action.Move.TheVariants.{At, Held, Compound, Subshell}
+use Rattle.sh_exec_actions.specs.declared.action.Action.{Action}
+use Rattle.sh_exec_actions.specs.declared.action.Action.TheVariants.{Expanding, Redirecting, Forking, Starting, Writing}
+use Rattle.sh_exec_actions.specs.declared.action.ExpandedCommand.{ExpandedCommand}
+use Rattle.sh_exec_actions.specs.declared.action.Role.{Role}
+use Rattle.sh_exec_actions.specs.declared.action.Role.TheVariants as role
+use Rattle.sh_exec_actions.specs.declared.action.Undo.{Undo}
+use Rattle.sh_exec_actions.specs.declared.action.ToExpand.{ToExpand}
+use Rattle.sh_exec_actions.specs.declared.action.ToExpand.TheVariants.{Words, Values}
+use Rattle.sh_kernel_descriptors.specs.declared.fault.KernelFault.{KernelFault}
+use Rattle.sh_syntax.specs.declared.tree.Command.{Command}
+use Rattle.sh_syntax.specs.declared.tree.SimpleItem.{SimpleItem}
+use Rattle.sh_vars.specs.Environment.{Environment}
+
+abbrev pub no_undo : Undo
+no_undo = record { descriptors = []; variables = [] }
+
+-- ---- the first action: its words and those of its redirections are expanded; a command of assignments alone begins with these
+unfoldable pub nameless : List SimpleItem → ExpandedCommand
+nameless items = record {
+  role = role.NoCommandName;
+  fields = [];
+  redirections = [];
+  assignments = assignments_of items;
+  undo = no_undo;
+  status = 0;
+}
+
+abbrev pub wants_of : Bool → Command → ToExpand
+wants_of in_place command =
+    if list_any is_word (items_of command) || list_any is_redirect (items_of command)
+    then Words command in_place 0
+    else Values (nameless (items_of command))
+
+unfoldable pub first_place : Bool → Command → Action
+first_place in_place command = Expanding (wants_of in_place command) None
+
+-- ---- the command of these fields (2.9.1.4): a built-in is found before a program of that name
+abbrev pub role_by : Option Builtin → Role
+role_by (Some builtin) = role.Builtin builtin
+role_by None = role.Program
+
+abbrev pub role_of : List (List ℕ) → Role
+role_of [] = role.NoCommandName
+role_of (name ∷ arguments) = role_by (builtin_of name)
+
+unfoldable pub prepared_of : Environment → List SimpleItem → List (List ℕ) → ℕ → ExpandedCommand
+prepared_of env items fields status =
+    let count = length (redirects_of items) in
+    record {
+      role = role_of (word_fields fields count);
+      fields = word_fields fields count;
+      redirections = redirections_of env.options.no_clobber (redirects_of items) (redirect_fields fields count);
+      assignments = assignments_of items;
+      undo = no_undo;
+      status = status;
+    }
+
+-- ---- what it does, once all else is done
+-- an error ends the shell in a special built-in (2.8.1), and in the process that was to become a program
+abbrev pub failing : Bool → Finish
+failing true = Fault statuses.error
+failing false = Status statuses.error
+
+abbrev pub failing_of : Role → Finish
+failing_of role.NoCommandName = Status statuses.error
+failing_of (role.Builtin builtin) = failing (is_special builtin)
+failing_of role.Program = Fault statuses.error
+failing_of (role.Compound command) = Status statuses.error
+failing_of (role.Subshell list) = Status statuses.error
+
+abbrev pub performed_by : ExpandedCommand → Role → Move
+performed_by p role.NoCommandName = Held p.undo (Done (statuses.unexcused p.status))
+performed_by p (role.Builtin builtin) = Held p.undo (Acting builtin p.fields)
+performed_by p role.Program = At (Next (Starting p.fields))
+performed_by p (role.Compound command) = Compound p.undo command
+performed_by p (role.Subshell list) = Subshell list
+
+-- a command without a name has the status of its last substitution; a built-in acts in the same turn; a program is started; a compound
+-- command is entered
+unfoldable pub final_move : ExpandedCommand → Move
+final_move p = performed_by p p.role
+
+-- first the redirections, then the assignments (2.9.1.1)
+abbrev pub ahead_by : ExpandedCommand → List Redirection → List Assignment → Move
+ahead_by p (redirection ∷ redirections) assignments = At (Next (Redirecting p))
+ahead_by p [] (assignment ∷ assignments) = At (Next (Expanding (Values p) None))
+ahead_by p [] [] = final_move p
+
+unfoldable pub ahead : ExpandedCommand → Move
+ahead p = ahead_by p p.redirections p.assignments
+
+-- a program runs in a process of its own, unless the shell's process is there for it alone
+abbrev pub forks : Role → (in_place : Bool) → Bool
+forks role.NoCommandName in_place = false
+forks (role.Builtin builtin) in_place = false
+forks role.Program in_place = not in_place
+forks (role.Compound command) in_place = false
+forks (role.Subshell list) in_place = false
+
+unfoldable pub first_move : (in_place : Bool) → ExpandedCommand → Move
+first_move in_place p = if forks p.role in_place then At (Next (Forking p)) else ahead p
+
+-- a redirection that can't be done (2.8.1): its message is written while the redirections before it still
+-- hold
+unfoldable pub not_done : ExpandedCommand → List ℕ → KernelFault → Move
+not_done p word fault = Held p.undo (Next (Writing (message (not_redirected word fault)) (failing_of p.role)))

@@ -1,0 +1,218 @@
+//! A simple command from its tree to its first place, and from its expanded words to what it does.
+ghost use Rattle.std.specs.Prelude.{◌≡◌, IfOk};
+ghost use Rattle.sh_exec_actions.specs.Preparing.{ahead, first_move, failing, failing_of, first_place, forks, nameless, no_undo, not_done, final_move, prepared_of, role_by, role_of, wants_of};
+
+use crate::action::{Action, Active, ExpandedCommand, Finish, Move, Role, ToExpand, Undo};
+use crate::status::{CommandStatus, ERROR};
+use sh_base::NoMemory;
+use sh_base::sequence::{Sequence, Text, copies_of};
+use sh_base::shared::Shared;
+use sh_builtin::Builtin;
+use sh_exec_parts::Queue;
+use sh_exec_parts::message::not_redirected;
+use sh_exec_parts::redirection::prepared_redirections;
+use sh_exec_parts::simple::{
+    assignments_of, has_redirects, has_words, items_of, redirect_count, split_fields,
+};
+use sh_kernel_descriptors::KernelFault;
+use sh_syntax::tree::{Command, SimpleItem};
+use sh_vars::Vars;
+use std::alloc::Global;
+
+/// Nothing to undo.
+pub fn no_undo(alloc: Global) -> Undo
+    ensures { result ≡ no_undo }
+{
+    Undo {
+        descriptors: Sequence::new(alloc),
+        variables: Sequence::new(alloc),
+    }
+}
+
+/// A command of assignments alone.
+#[tactic(auto, unfolding(crate::specs::Preparing::nameless))]
+fn nameless(alloc: Global, items: &[SimpleItem]) -> Result<ExpandedCommand, NoMemory>
+    ensures { IfOk result (λ p. p ≡ nameless items.now) }
+{
+    let assignments = assignments_of(alloc, items)?;
+    Ok(ExpandedCommand {
+        role: Role::NoCommandName,
+        fields: Sequence::new(alloc),
+        redirections: Queue::new(Sequence::new(alloc)),
+        assignments: Queue::new(assignments),
+        undo: no_undo(alloc),
+        status: 0,
+    })
+}
+
+/// What of a command is expanded first.
+fn wants_of(alloc: Global, in_place: bool, command: Shared<Command>) -> Result<ToExpand, NoMemory>
+    ensures { IfOk result (λ wants. wants ≡ wants_of in_place command) }
+{
+    if has_words(items_of(command.get())) || has_redirects(items_of(command.get())) {
+        return Ok(ToExpand::Words {
+            command,
+            in_place,
+            status: 0,
+        });
+    }
+    let prepared = nameless(alloc, items_of(command.get()))?;
+    Ok(ToExpand::Values(prepared))
+}
+
+/// The first place of a simple command; the process is there for it alone if `in_place`.
+#[tactic(auto, unfolding(crate::specs::Preparing::first_place))]
+pub fn first_place(
+    alloc: Global,
+    in_place: bool,
+    command: Shared<Command>,
+) -> Result<Action, NoMemory>
+    ensures { IfOk result (λ place. place ≡ first_place in_place command) }
+{
+    let wants = wants_of(alloc, in_place, command)?;
+    Ok(Action::Expanding(wants, None))
+}
+
+/// What runs the command of a name.
+fn role_by(builtin: Option<Builtin>) -> Role
+    ensures { result ≡ role_by builtin }
+{
+    match builtin {
+        Some(builtin) => Role::Builtin(builtin),
+        None => Role::Program,
+    }
+}
+
+/// What runs the command of these fields.
+fn role_of(fields: &[Text]) -> Role
+    ensures { result ≡ role_of fields.now }
+{
+    match fields.split_first() {
+        Some((name, _)) => role_by(Builtin::of(name.as_slice())),
+        None => Role::NoCommandName,
+    }
+}
+
+/// A command whose words came to these fields.
+#[tactic(auto, unfolding(crate::specs::Preparing::prepared_of))]
+pub fn prepare(
+    alloc: Global,
+    vars: &Vars,
+    items: &[SimpleItem],
+    fields: &[Text],
+    status: u8,
+) -> Result<ExpandedCommand, NoMemory>
+    ensures { IfOk result (λ p. p ≡ prepared_of vars.now items.now fields.now status) }
+{
+    let (words, redirects) = split_fields(fields, redirect_count(items));
+    let redirections = prepared_redirections(alloc, items, redirects, vars.options().no_clobber)?;
+    let assignments = assignments_of(alloc, items)?;
+    Ok(ExpandedCommand {
+        role: role_of(words),
+        fields: Sequence::from_vec(copies_of(alloc, words)?),
+        redirections,
+        assignments: Queue::new(assignments),
+        undo: no_undo(alloc),
+        status,
+    })
+}
+
+/// What follows the message of an error.
+fn failing(is_special: bool) -> Finish
+    ensures { result ≡ failing is_special }
+{
+    if is_special {
+        return Finish::Fault(ERROR);
+    }
+    Finish::Status(ERROR)
+}
+
+/// What follows the message of a redirection that can't be done.
+fn failing_of(role: Role) -> Finish
+    ensures { result ≡ failing_of role }
+{
+    match role {
+        Role::NoCommandName => Finish::Status(ERROR),
+        Role::Builtin(builtin) => failing(builtin.is_special()),
+        Role::Program => Finish::Fault(ERROR),
+        Role::Compound(_) => Finish::Status(ERROR),
+        Role::Subshell(_) => Finish::Status(ERROR),
+    }
+}
+
+/// What a command does, once all else is done.
+#[tactic(auto, unfolding(crate::specs::Preparing::final_move))]
+pub fn perform(prepared: ExpandedCommand) -> Move
+    ensures { result ≡ final_move prepared }
+{
+    let ExpandedCommand {
+        role,
+        fields,
+        undo,
+        status,
+        ..
+    } = prepared;
+    match role {
+        Role::NoCommandName => Move::Held(undo, Active::Done(CommandStatus::unexcused(status))),
+        Role::Builtin(builtin) => Move::Held(undo, Active::Acting(builtin, fields)),
+        Role::Program => Move::At(Active::Next(Action::Starting(fields))),
+        Role::Compound(command) => Move::Compound(undo, command),
+        Role::Subshell(list) => Move::Subshell(list),
+    }
+}
+
+/// Where a command goes on once its words are expanded, or a redirection is done: first its redirections,
+/// then its assignments. Takes no memory.
+#[tactic(auto, unfolding(crate::specs::Preparing::ahead))]
+pub fn go_ahead(prepared: ExpandedCommand) -> Move
+    ensures { result ≡ ahead prepared }
+{
+    if !prepared.redirections.is_empty() {
+        return Move::At(Active::Next(Action::Redirecting(prepared)));
+    }
+    if !prepared.assignments.is_empty() {
+        let wants = ToExpand::Values(prepared);
+        return Move::At(Active::Next(Action::Expanding(wants, None)));
+    }
+    perform(prepared)
+}
+
+/// Whether a command runs in a process that is made for it.
+fn forks(role: &Role, in_place: bool) -> bool
+    ensures { result ≡ forks role.now in_place }
+{
+    match role {
+        Role::NoCommandName => false,
+        Role::Builtin(_) => false,
+        Role::Program => !in_place,
+        Role::Compound(_) => false,
+        Role::Subshell(_) => false,
+    }
+}
+
+/// Where a command whose words are expanded goes on.
+#[tactic(auto, unfolding(crate::specs::Preparing::first_move))]
+pub fn begin_command(in_place: bool, prepared: ExpandedCommand) -> Move
+    ensures { result ≡ first_move in_place prepared }
+{
+    if forks(&prepared.role, in_place) {
+        return Move::At(Active::Next(Action::Forking(prepared)));
+    }
+    go_ahead(prepared)
+}
+
+/// Where a command goes on after a redirection that can't be done, which a message names by this word.
+#[tactic(auto, unfolding(crate::specs::Preparing::not_done))]
+pub fn not_done(
+    alloc: Global,
+    prepared: ExpandedCommand,
+    word: &[u8],
+    fault: KernelFault,
+) -> Result<Move, NoMemory>
+    ensures { IfOk result (λ m. m ≡ not_done prepared word.now fault) }
+{
+    let ExpandedCommand { role, undo, .. } = prepared;
+    let piece = not_redirected(alloc, word, fault)?;
+    let active = Active::Next(Action::Writing(piece, failing_of(role)));
+    Ok(Move::Held(undo, active))
+}
