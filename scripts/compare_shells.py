@@ -1,14 +1,16 @@
 #!/usr/bin/env python3
 """Runs scripts made at random by psh and by real shells, and shows those in which psh stands alone.
 
-usage: compare_shells.py words|documents|processes|lists|errexit|builtins [COUNT [SEED]]
+usage: compare_shells.py words|documents|processes|lists|errexit|case|builtins [COUNT [SEED]]
 
 `words` expands words of every form, nested, with several IFS and positional parameters, into the fields that a program
 then shows. `documents` does so in bodies of here-documents and in assignments. `processes` runs pipelines, redirections,
 here-documents, assignments and command substitutions over a few files, and shows these at the end. `lists` runs such
 commands in AND-OR lists, groups, subshells, conditions and loops, some of which are left by break and continue. `errexit` does
-so under `set -e`. `builtins` adds built-ins that act on variables, options, parameters and the directory, and conditions. Scripts do nothing whose result
-depends on the order of turns.
+so under `set -e`. `case` adds commands of that name, whose words and patterns are quoted, expanded and change variables.
+In all of these every fourth compound command has redirections, and commands in it may read what it is given.
+`builtins` adds built-ins that act on variables, options, parameters and the directory, and conditions. Scripts do nothing
+whose result depends on the order of turns.
 
 Shown is a script where no real shell gives what psh gives, and one where four or more agree with one another and not with
 psh; diagnostics are left out, since their texts differ. The shells are those of dash, bash, yash, mksh and busybox that are
@@ -37,7 +39,8 @@ SCRIPTS = {
     "sub": 'x=$(cat)\necho "[$x]"\n',
 }
 STOCK = ["cat", "count", "echo", "false", "having", "head", "true"]
-STAND_IN = {"having": 'exec grep -F -- "$1"\n', "count": 'wc -c | tr -d " "\n'}
+# (`wc -c` alone would ask for the length of a file, and leave what it was to read to those after it)
+STAND_IN = {"having": 'exec grep -F -- "$1"\n', "count": 'cat | wc -c | tr -d " "\n'}
 FILES = {"in": "apple\nplum\npear\nplum pie\n", "a": "A\n", "long": "0123456789\n" * 60, "nl": "no newline"}
 
 
@@ -159,8 +162,12 @@ class Processes:
         self.pick = random.Random(seed).choice
         self.chance = random.Random(seed + 1).random
 
+    def free(self):
+        """The files that commands may write to."""
+        return self.made
+
     def redirection(self):
-        file = self.pick(self.made)
+        file = self.pick(self.free())
         return self.pick([f" >{file}", f" >>{file}", f" >|{file}", f" >{file} 2>&1", f" 3>{file} >&3", f" 1<>{file}",
                           " 2>&1", " <in", " 2>/dev/null"])
 
@@ -175,7 +182,7 @@ class Processes:
     def command(self):
         name, value = self.pick("xy"), self.pick(self.values)
         others = [f"{name}={value}", f"{name}=$({self.pipeline()}\n)", f"x={value} {self.pick(['vars', 'show $x', 'echo $x'])}",
-                  f">{self.pick(self.made)}", self.pick(["nosuch", "st7", "./in", "./w"]), "cat <none"]
+                  f">{self.pick(self.free())}", self.pick(["nosuch", "st7", "./in", "./w"]), "cat <none"]
         return self.pick(others) if self.chance() < 0.35 else self.pipeline()
 
     def script(self):
@@ -186,11 +193,55 @@ class Processes:
 
 
 class Lists(Processes):
-    """Lists and compound commands of such commands."""
+    """Lists and compound commands of such commands, some of them with redirections."""
+
+    inputs = ["<in", "<in", "<a", "<nl", "<long", "4<in <&4", "<<E", "<<E", "<<'E'"]
+    bodies = ["plum", "x$x ${y-n}", "$? $(echo p q)", "\\$x", "$((1+2))p"]
 
     def __init__(self, seed):
         super().__init__(seed)
         self.loops = 0
+        # The files to which the commands around this one write, and whether one of these is given something to read.
+        self.written, self.is_given = [], False
+
+    def free(self):
+        # (what a command around writes to isn't opened again: a stage of a pipeline may write to it at the same time)
+        return [it for it in self.made if it not in self.written]
+
+    def output(self, file):
+        # (no diagnostics, whose texts differ, and no word that changes a variable: whether a subshell's does differs)
+        word = self.pick([file, file, file, f'"{file}"', f"${{z-{file}}}", f"$(echo {file})"])
+        return self.pick([f">{word}", f">{word}", f">>{word}", f">|{word}", f"1<>{word}", f"3>{word} >&3", f">{word} 2>/dev/null",
+                          f"5>/dev/null >&5 >{word}"])
+
+    def redirected(self, make):
+        """The compound command that `make` makes, sometimes with redirections and then with what it has written."""
+        if self.chance() >= 0.25:
+            return make()
+        kind, given, file = self.chance(), self.is_given, self.pick(self.free())
+        tail, body = [], ""
+        if kind > 0.5:
+            tail.append(self.pick(self.inputs))
+            self.is_given = True
+        if tail and "<<" in tail[0]:
+            body = "".join(f"{self.pick(self.bodies)}\n" for _ in range(self.pick([0, 1, 2]))) + "E\n"
+        is_written = kind < 0.75 and len(self.written) < 2
+        if is_written:
+            tail.insert(self.pick([0, len(tail)]), self.output(file))
+            self.written.append(file)
+        if self.chance() < 0.03:
+            tail.insert(0, "<none")
+        text = make()
+        self.is_given = given
+        if is_written:
+            self.written.remove(file)
+            if self.chance() < 0.1:
+                # (two openings of the file, one inside of the other)
+                text = f"{{ echo {self.pick(self.values)}\necho {self.pick(self.values)} >{file}\n{text}\n}}"
+            if self.chance() < 0.5:
+                body += self.pick(["", "echo $?\n"]) + f"cat <{file}\n"
+        text = f"{text} {' '.join(tail)}"
+        return f"{{ {text}\n{body}}}" if body else text
 
     def simple(self, loops):
         if loops and self.chance() < 0.2:
@@ -205,6 +256,8 @@ class Lists(Processes):
             # (a filter that leaves early would end what writes to it, and the turns would say where)
             reader = self.pick(["cat", "having p", "count", "sub"])
             return f"{self.compound(depth - 1, 0)} | {reader}" if self.chance() < 0.2 else text
+        if self.is_given and self.chance() < 0.25:
+            return self.pick(["cat", "cat", "having p", "count", "sub", "x=$(cat)", "cat | having p"])
         text = self.simple(loops)
         return f"! {text}" if self.chance() < 0.1 and text[:5] not in ("break", "conti", "x=1 &", "false") and text[0] != "!" else text
 
@@ -219,25 +272,29 @@ class Lists(Processes):
 
     def loop(self, depth, loops):
         self.loops += 1
-        count, body = f"k{self.loops}", self.list(depth, (loops or 0) + 1)
-        last = self.pick(["a", "aa"])
-        return self.pick([
-            f"for i in {self.pick(['a b', 'a', '', '$x', 'p $y q'])}; do\n{body}\ndone",
-            f"{{ {count}=\nuntil echo x${count} | having x{last} >/dev/null; do {count}=a${count}\n{body}\ndone; }}",
-            f"{{ {count}=\nwhile ! echo x${count} | having x{last} >/dev/null; do {count}=a${count}\n{body}\ndone; }}",
+        count, last = f"k{self.loops}", self.pick(["a", "aa"])
+        start = self.pick([
+            f"for i in {self.pick(['a b', 'a', '', '$x', 'p $y q'])}; do",
+            f"until echo x${count} | having x{last} >/dev/null; do {count}=a${count}",
+            f"while ! echo x${count} | having x{last} >/dev/null; do {count}=a${count}",
         ])
+        text = self.redirected(lambda: f"{start}\n{self.list(depth, (loops or 0) + 1)}\ndone")
+        return text if start.startswith("for") else f"{{ {count}=\n{text}\n}}"
 
-    def compound(self, depth, loops):
-        kind = self.pick(["group", "subshell", "if", "if", "loop", "loop"])
-        if kind == "group":
-            return f"{{ {self.list(depth, loops)}\n}}"
-        if kind == "subshell":
-            return f"( {self.list(depth, None)} )"
-        if kind == "loop":
-            return self.loop(depth, loops)
+    def condition(self, depth, loops):
         text = f"if {self.list(depth, loops)}\nthen {self.list(depth, loops)}\n"
         text += f"elif {self.list(depth, loops)}\nthen {self.list(depth, loops)}\n" if self.chance() < 0.3 else ""
         return text + (f"else {self.list(depth, loops)}\n" if self.chance() < 0.5 else "") + "fi"
+
+    def compound(self, depth, loops):
+        kind = self.pick(["group", "subshell", "if", "if", "loop", "loop"])
+        if kind == "loop":
+            return self.loop(depth, loops)
+        if kind == "group":
+            return self.redirected(lambda: f"{{ {self.list(depth, loops)}\n}}")
+        if kind == "subshell":
+            return self.redirected(lambda: f"( {self.list(depth, None)} )")
+        return self.redirected(lambda: self.condition(depth, loops))
 
     def script(self):
         lines = []
@@ -252,9 +309,81 @@ class Errexit(Lists):
     def script(self):
         lines = []
         for _ in range(self.pick([1, 2, 3])):
-            text = f"( set -e\n{self.list(3, None)}\necho end )"
+            text = self.redirected(lambda: f"( set -e\n{self.list(3, None)}\necho end )")
             lines.append(self.pick([text, text, f"{text} || echo no", f"if {text}\nthen echo yes; else echo no; fi", f"! {text}", f"{text} | cat"]))
             lines.append('echo $? "$x" "$y" $i')
+        return "\n".join([*lines, *(f"echo {file}: ; cat <{file}" for file in self.made), ""])
+
+
+class Cases(Lists):
+    """Such lists with many `case` commands, some of them under `set -e`."""
+
+    operands = [[], ["a", "b c"], ["ab"]]
+    words = ["a", "b", "ab", "abc", "A", "''", '"a b"', "'*'", "*", "i*", "[a]", "\\*", "a\\ b", '"]"', "~", "~/a", '"~"', "/a/b",
+             ".a", "in", "esac", "$x", '"$x"', "$y", '"$x$y"', "x$y", "$i", '"$i"', "$1", '"$1"', '"$*"', "$#", "$?", "$v", "$w",
+             "${z-a b}", "${x:-a}", "${x+b}", "${v=a}", "${w:=b}", "$((n=n+1))", "$((n+1))", "${#x}", "${x%?}", "$(echo a b)",
+             "$(echo b)", '"$(cat <a)"', "`echo ab`", "$(true)", "$(head -n 1 <in)", "$(cat <in | having pie)", "a$(echo b)c"]
+    literals = ["a", "b", "ab", "''", '"a b"', "a\\ b", "A", "1", "2", "0", "apple", "if", "in", "{", "!", "a=b", "~", '"*"',
+                "\\*", "'[a]'", '"?"']
+    # (`[^a]` and a backslash that an expansion gives are left to rows, since two shells or one take them in other ways)
+    globs = ["*", "?", "??", "a*", "*b", "*p*e", "?b*", "[ab]", "[ab]*", "[!a]", "[!b-d]*", "[a-c]", "[a-c]?", "[c-a]", "[]a]",
+             '[a"-"c]', "['!'a]*", "[[:alpha:]]", "[[:upper:]]*", "[[:digit:]]", "[![:lower:]]", "[[:alpha:][:space:]]*",
+             "*[[:blank:]]*", "[", "[a", "/*", ".*", "?a", 'a"*"', '"a"*', "*\\**", "~/?"]
+    expanded = ["$x", '"$x"', "$x*", '"$x"*', "*$y", "$i", "$1", '"$*"', "$#", "$?", "$v", "$w", "[$x]", "${z-a*}", '"${z-a*}"',
+                "${z-?}b", "${x#?}", "${x:+?}", "${v=a}", "${v=b}", "${w:=?}", "$((n=n+1))", "$((n))", "${#x}", "$(echo a)",
+                "$(echo 'a*')", "\"$(echo 'a*')\"", "`echo '[ab]'`", "$(cat <a)", "$(head -n 1 <in)", "$(true)"]
+
+    def simple(self, loops):
+        if self.chance() < 0.15:
+            return self.pick(['echo "$v" "$w" $n', "echo $?", "v=", "w=b", "n=0", "x=ab", "y='a*'"])
+        return super().simple(loops)
+
+    def pattern(self, word):
+        kind = self.chance()
+        if kind < 0.08:
+            return self.pick(self.literals) + self.pick(self.globs)
+        if kind < 0.2:
+            return "?" if word == "esac" else word
+        return self.pick(self.literals if kind < 0.35 else self.globs if kind < 0.65 else self.expanded)
+
+    def item(self, word, body, is_last):
+        patterns = [self.pattern(word) for _ in range(self.pick([1, 1, 1, 2, 2, 3]))]
+        if is_last and self.chance() < 0.4:
+            patterns[-1] = "*"
+        text = self.pick(["", "", "("]) + self.pick(["|", "|", " | "]).join(patterns) + ")" + self.pick([" ", " ", "\n"])
+        ends = ["\n", ";; ", ";;\n"] if is_last else [";; ", ";;\n", "\n;;\n", "\n;;\n\n"]
+        return text + (body() if self.chance() < 0.85 else "") + self.pick(ends)
+
+    def case(self, body):
+        """A case whose lists `body` makes, some with redirections."""
+        return self.redirected(lambda: self.bare_case(body))
+
+    def bare_case(self, body):
+        word, last = self.pick(self.words), self.pick([0, 1, 2, 2, 3, 3])
+        items = "".join(self.item(word, body, at == last) for at in range(1, last + 1))
+        return f"case {word}" + self.pick([" ", " ", "\n"]) + "in" + self.pick([" ", "\n"]) + items + "esac"
+
+    def compound(self, depth, loops):
+        kind = self.chance()
+        if kind < 0.5:
+            return self.case(lambda: self.list(depth, loops))
+        if kind < 0.58:
+            return "! " + self.case(lambda: self.list(depth, 0))
+        if kind < 0.66:
+            return f"{self.pick('xy')}=$({self.case(lambda: self.list(depth, None))}\n)"
+        if kind < 0.74:
+            readers = ["cat", "sub", "count", "cat && echo end", "echo no", "x=1", "false", "(exit 4)"]
+            return f"echo {self.pick(self.values)} {self.pick(self.values)} | {self.case(lambda: self.pick(readers))}"
+        return super().compound(depth, loops)
+
+    def script(self):
+        lines = ["HOME=/h"]
+        for _ in range(self.pick([1, 2, 3])):
+            text = self.pick([self.compound(2, 0), self.and_or(2, 0)])
+            if self.chance() < 0.25:
+                text = self.redirected(lambda: f"( set -e\n{self.list(2, None)}\necho end )")
+                text += self.pick(["", " || echo no", " && echo yes", " | cat"])
+            lines += [text, 'echo $? "$x" "$y" "$v" "$w" $n $i']
         return "\n".join([*lines, *(f"echo {file}: ; cat <{file}" for file in self.made), ""])
 
 
@@ -324,7 +453,8 @@ def by_shell(room, shell, script, operands):
     return subprocess.run([*NOBODY, *shell, "-c", script, "psh", *operands], timeout=20, **how).stdout
 
 
-SOURCES = {"words": Words, "documents": Documents, "processes": Processes, "lists": Lists, "errexit": Errexit, "builtins": Builtins}
+SOURCES = {"words": Words, "documents": Documents, "processes": Processes, "lists": Lists, "errexit": Errexit, "case": Cases,
+           "builtins": Builtins}
 
 
 def main(kind, count=200, seed=1):
