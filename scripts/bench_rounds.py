@@ -16,7 +16,10 @@ import measuring
 TOP = os.path.dirname(os.path.dirname(os.path.abspath(__file__)))
 PROGRAM = f"{TOP}/out/psh"
 # What a round runs more, how many turns that takes, and whether dash does it in one process, so that its instructions are counted.
-COMMANDS = [("echo $a $b >/dev/null", 3, True), ("[ -f f ] && :", 2, True), ("x=$(echo a)", 7, False)]
+COMMANDS = [
+    ("echo $a $b >/dev/null", 3, True), ("{ :; } >/dev/null", 3, True), ("[ -f f ] && :", 2, True), ("case $a in b|c) ;; ?) :;; esac", 5, True),
+    ("x=$(echo a)", 7, False),
+]
 
 
 def events_of(folder, turns):
