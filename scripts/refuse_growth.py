@@ -58,6 +58,9 @@ ROWS = [
     ("false && echo a || { echo b; (echo c; exit 3); } && ! : || echo $?", 30),
     ("for i in a b; do if (exit 1); then :; elif false; then :; else echo $i; fi; until :; do :; done; continue; done", 60),
     ("x=; while ! echo $x | having aa; do x=a$x; for i do break 2; done; while :; do break; done; done", 120),
+    ("case $(echo a) in b|\"$(echo c)\") echo no;; ${x:=a}*) (echo $x; exit 3) >f;; esac; cat <f", 60),
+    ("for i in a b; do case $i in [!b]) (cat; echo $i) <in 2>&1; continue;; esac; break; done >f 3<<E 2>&3\n$i\nE\ncat <f", 60),
+    ("export x=1 y='a b' z; readonly v=$y; export -p; readonly v=2; echo no", 20),
 ]
 
 # scripts of the image that the shell runs, and their turns
