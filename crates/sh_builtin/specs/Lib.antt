@@ -1,4 +1,5 @@
 pub mod Builtins
+pub mod Functions
 pub mod Messages
 pub mod Outcomes
 pub mod Loops

@@ -4,7 +4,7 @@ use Rattle.sh_builtin.specs.Builtins.{is_special, name_of}
 use Rattle.sh_builtin.specs.Messages.{fault_text, line_of, status_of}
 use Rattle.sh_builtin.specs.declared.builtin.Builtin.{Builtin}
 use Rattle.sh_builtin.specs.declared.outcome.Completion.{Completion}
-use Rattle.sh_builtin.specs.declared.outcome.Completion.TheVariants.{Done, Left}
+use Rattle.sh_builtin.specs.declared.outcome.Completion.TheVariants.{Done, Left, Runs}
 use Rattle.sh_builtin.specs.declared.outcome.Leave.{Leave}
 use Rattle.sh_builtin.specs.declared.outcome.Leave.TheVariants as leave
 use Rattle.sh_builtin.specs.declared.outcome.Outcome.{Outcome}
@@ -25,6 +25,9 @@ output text = outcome text [] (Done 0)
 
 abbrev pub left : Leave → Outcome
 left leave = outcome [] [] (Left leave)
+
+abbrev pub running : List ℕ → Outcome
+running text = outcome [] [] (Runs text)
 
 -- an error in a special built-in ends a shell that isn't interactive (2.8.1)
 abbrev pub failure : (is_special : Bool) → ℕ → Completion

@@ -3,10 +3,11 @@ use Rattle.std.specs.Prelude.{ℕ, List, [], ◌∷◌, ◌++◌, Bool, true, fa
 use Rattle.std.specs.List.{join_with_byte}
 use Rattle.std.specs.Str.{bytes_eq}
 use Rattle.sh_builtin.specs.Conditional.{verdict_of}
-use Rattle.sh_builtin.specs.Loops.{exit_with, loop_with, operands_of}
-use Rattle.sh_builtin.specs.Outcomes.{done, misuse, outcome_of, output}
+use Rattle.sh_builtin.specs.Functions.{unset_by}
+use Rattle.sh_builtin.specs.Loops.{leave_with, loop_with, operands_of}
+use Rattle.sh_builtin.specs.Outcomes.{done, misuse, outcome_of, output, running}
 use Rattle.sh_builtin.specs.declared.builtin.Builtin.{Builtin}
-use Rattle.sh_builtin.specs.declared.builtin.Builtin.TheVariants.{Bracket, Break, Cd, Colon, Continue, Echo, Exit, Export, False, Pwd, ReadOnly, Set, Shift, Test, True, Unset}
+use Rattle.sh_builtin.specs.declared.builtin.Builtin.TheVariants.{Bracket, Break, Cd, Colon, Continue, Echo, Eval, Exit, Export, False, Pwd, ReadOnly, Return, Set, Shift, Test, True, Unset}
 use Rattle.sh_builtin.specs.declared.conditional.Verdict.{Verdict}
 use Rattle.sh_builtin.specs.declared.conditional.Verdict.TheVariants as verdict
 use Rattle.sh_builtin.specs.declared.outcome.Leave.TheVariants as leave
@@ -17,7 +18,7 @@ use Rattle.sh_builtin_environment.specs.Marking.{mark_ran}
 use Rattle.sh_builtin_environment.specs.Outcomes.{Ran}
 use Rattle.sh_builtin_environment.specs.Setting.{set_ran}
 use Rattle.sh_builtin_environment.specs.Shifting.{shift_ran}
-use Rattle.sh_builtin_environment.specs.Unsetting.{unset_ran}
+use Rattle.sh_builtin_environment.specs.Unsetting.{functions_to_unset, unset_ran}
 use Rattle.sh_builtin_environment.specs.declared.attribute.Attribute.TheVariants as attribute
 use Rattle.sh_kernel_descriptors.specs.Machine.{MachineState}
 use Rattle.sh_kernel_descriptors.specs.Terminals.{is_terminal}
@@ -40,12 +41,19 @@ with_vars shell env = record shell { vars = env }
 abbrev pub ran : Builtin → Shell → Ran → BuiltIn
 ran builtin shell r = with_outcome (with_vars shell r.environment) (outcome_of builtin r.outcome)
 
--- ---- echo writes its arguments with a space between them, and a newline
-abbrev pub echo_text : List (List ℕ) → List ℕ
-echo_text arguments = join_with_byte 32 arguments ++ 10 ∷ []
+-- ---- unset -f removes functions
+abbrev pub without_functions : Shell → List (List ℕ) → Shell
+without_functions shell arguments = record shell { functions = unset_by shell.functions (functions_to_unset arguments) }
+
+-- ---- echo writes its arguments with a space between them, and a newline; eval runs them, with a space between them, as a text
+abbrev pub joined : List (List ℕ) → List ℕ
+joined arguments = join_with_byte 32 arguments
 
 abbrev pub echo_outcome : List (List ℕ) → Outcome
-echo_outcome arguments = output (echo_text arguments)
+echo_outcome arguments = output (joined arguments ++ 10 ∷ [])
+
+abbrev pub eval_outcome : List (List ℕ) → Outcome
+eval_outcome arguments = running (joined arguments)
 
 -- ---- test: 0 where the condition holds, else 1; descriptors go from 0 to 31
 abbrev pub truth : Bool → ℕ
@@ -92,13 +100,15 @@ built_in machine shell Cd arguments = ran Cd shell (cd_ran machine.files shell.v
 built_in machine shell Colon arguments = with_outcome shell (done 0)
 built_in machine shell Continue arguments = with_outcome shell (loop_with Continue leave.Continue (operands_of arguments))
 built_in machine shell Echo arguments = with_outcome shell (echo_outcome arguments)
-built_in machine shell Exit arguments = with_outcome shell (exit_with shell.vars.special.status (operands_of arguments))
+built_in machine shell Eval arguments = with_outcome shell (eval_outcome arguments)
+built_in machine shell Exit arguments = with_outcome shell (leave_with Exit leave.Exit shell.vars.special.status (operands_of arguments))
 built_in machine shell Export arguments = ran Export shell (mark_ran attribute.Export shell.vars arguments)
 built_in machine shell False arguments = with_outcome shell (done 1)
 built_in machine shell Pwd arguments = with_outcome shell (outcome_of Pwd (pwd_outcome shell.vars arguments))
 built_in machine shell ReadOnly arguments = ran ReadOnly shell (mark_ran attribute.ReadOnly shell.vars arguments)
+built_in machine shell Return arguments = with_outcome shell (leave_with Return leave.Return shell.vars.special.status (operands_of arguments))
 built_in machine shell Set arguments = ran Set shell (set_ran shell.vars arguments)
 built_in machine shell Shift arguments = ran Shift shell (shift_ran shell.vars arguments)
 built_in machine shell Test arguments = with_outcome shell (test_outcome machine shell Test arguments)
 built_in machine shell True arguments = with_outcome shell (done 0)
-built_in machine shell Unset arguments = ran Unset shell (unset_ran shell.vars arguments)
+built_in machine shell Unset arguments = ran Unset (without_functions shell arguments) (unset_ran shell.vars arguments)

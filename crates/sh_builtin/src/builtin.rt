@@ -1,16 +1,16 @@
 //! Built-in utilities.
 ghost use Rattle.std.specs.Prelude.{◌≡◌, ◌++◌, IfOk};
 ghost use Rattle.sh_builtin.specs.Builtins.{builtin_of, is_special, name_of, row_of, row_seen, regular, special};
-ghost use Rattle.sh_builtin.specs.Running.{built_in, echo_outcome, echo_text, with_outcome};
+ghost use Rattle.sh_builtin.specs.Running.{built_in, echo_outcome, eval_outcome, joined, with_outcome, without_functions};
 ghost use Rattle.sh_kernel.specs.State.{KernelState, StandsAt};
 
-use crate::leaving::{break_with, continue_with, exit_with, operands_of};
+use crate::leaving::{break_with, continue_with, exit_with, operands_of, return_with};
 use crate::outcome::Outcome;
 use crate::shell::Shell;
 use crate::testing::{bracket, test};
 use sh_base::NoMemory;
 use sh_base::sequence::{Sequence, Text};
-use sh_builtin_environment::{Attribute, cd, mark, pwd, set, shift, unset};
+use sh_builtin_environment::{Attribute, cd, functions_to_unset, mark, pwd, set, shift, unset};
 use sh_kernel::Kernel;
 use std::alloc::Global;
 
@@ -25,11 +25,13 @@ pub enum Builtin {
     Colon,
     Continue,
     Echo,
+    Eval,
     Exit,
     Export,
     False,
     Pwd,
     ReadOnly,
+    Return,
     Set,
     Shift,
     Test,
@@ -67,18 +69,20 @@ impl Row {
 }
 
 /// All of them.
-const BUILTINS: [Builtin; 16] = [
+const BUILTINS: [Builtin; 18] = [
     Builtin::Bracket,
     Builtin::Break,
     Builtin::Cd,
     Builtin::Colon,
     Builtin::Continue,
     Builtin::Echo,
+    Builtin::Eval,
     Builtin::Exit,
     Builtin::Export,
     Builtin::False,
     Builtin::Pwd,
     Builtin::ReadOnly,
+    Builtin::Return,
     Builtin::Set,
     Builtin::Shift,
     Builtin::Test,
@@ -98,11 +102,13 @@ impl Builtin {
             Builtin::Colon => Row::special(b":"),
             Builtin::Continue => Row::special(b"continue"),
             Builtin::Echo => Row::regular(b"echo"),
+            Builtin::Eval => Row::special(b"eval"),
             Builtin::Exit => Row::special(b"exit"),
             Builtin::Export => Row::special(b"export"),
             Builtin::False => Row::regular(b"false"),
             Builtin::Pwd => Row::regular(b"pwd"),
             Builtin::ReadOnly => Row::special(b"readonly"),
+            Builtin::Return => Row::special(b"return"),
             Builtin::Set => Row::special(b"set"),
             Builtin::Shift => Row::special(b"shift"),
             Builtin::Test => Row::regular(b"test"),
@@ -160,6 +166,7 @@ impl Builtin {
             Builtin::Colon => Ok(Outcome::done(alloc, 0)),
             Builtin::Continue => continue_with(alloc, operands_of(arguments)),
             Builtin::Echo => echo(alloc, arguments),
+            Builtin::Eval => eval(alloc, arguments),
             Builtin::Exit => exit_with(alloc, shell.vars.status(), operands_of(arguments)),
             Builtin::Export => {
                 let answer = mark(alloc, Attribute::Export, &mut shell.vars, arguments)?;
@@ -174,6 +181,7 @@ impl Builtin {
                 let answer = mark(alloc, Attribute::ReadOnly, &mut shell.vars, arguments)?;
                 Outcome::of(alloc, Builtin::ReadOnly, answer)
             },
+            Builtin::Return => return_with(alloc, shell.vars.status(), operands_of(arguments)),
             Builtin::Set => {
                 let answer = set(alloc, &mut shell.vars, arguments)?;
                 Outcome::of(alloc, Builtin::Set, answer)
@@ -182,6 +190,7 @@ impl Builtin {
             Builtin::Test => test(alloc, kernel, shell, Builtin::Test, arguments),
             Builtin::True => Ok(Outcome::done(alloc, 0)),
             Builtin::Unset => {
+                remove_functions(shell, arguments);
                 let answer = unset(alloc, &mut shell.vars, arguments)?;
                 Outcome::of(alloc, Builtin::Unset, answer)
             },
@@ -189,17 +198,35 @@ impl Builtin {
     }
 }
 
+/// The functions that unset is to remove go.
+fn remove_functions(shell: &mut Shell, arguments: &[Text])
+    ensures { shell.new ≡ without_functions shell.old arguments.now }
+{
+    if let Some(names) = functions_to_unset(arguments) {
+        shell.functions.remove_all(names);
+    }
+}
+
 /// echo with its arguments (XCU echo).
 fn echo(alloc: Global, arguments: &[Text]) -> Result<Outcome, NoMemory>
     ensures { IfOk result (λ outcome. outcome ≡ echo_outcome arguments.now) }
 {
-    let text = echo_text(alloc, arguments)?;
+    let mut text = joined(alloc, arguments)?;
+    text.push(b'\n')?;
     Ok(Outcome::output(alloc, text))
 }
 
-/// The arguments of echo, with a space between them, and a newline.
-fn echo_text(alloc: Global, arguments: &[Text]) -> Result<Text, NoMemory>
-    ensures { IfOk result (λ text. text ≡ echo_text arguments.now) }
+/// eval with its arguments (2.15).
+fn eval(alloc: Global, arguments: &[Text]) -> Result<Outcome, NoMemory>
+    ensures { IfOk result (λ outcome. outcome ≡ eval_outcome arguments.now) }
+{
+    let text = joined(alloc, arguments)?;
+    Ok(Outcome::running(alloc, text))
+}
+
+/// Arguments with a space between them.
+fn joined(alloc: Global, arguments: &[Text]) -> Result<Text, NoMemory>
+    ensures { IfOk result (λ text. text ≡ joined arguments.now) }
 {
     let mut text = Sequence::new(alloc);
     let mut rest = arguments;
@@ -210,6 +237,5 @@ fn echo_text(alloc: Global, arguments: &[Text]) -> Result<Text, NoMemory>
         }
         rest = others;
     }
-    text.push(b'\n')?;
     Ok(text)
 }

@@ -1,6 +1,6 @@
-//! The built-ins that leave commands (XCU 2.15 break, continue, exit).
+//! The built-ins that leave commands (XCU 2.15 break, continue, exit, return).
 ghost use Rattle.std.specs.Prelude.{◌≡◌, IfOk};
-ghost use Rattle.sh_builtin.specs.Loops.{exit_by, exit_with, loop_with, operands_of};
+ghost use Rattle.sh_builtin.specs.Loops.{leave_with, loop_with, operands_of, status_in};
 
 use crate::builtin::Builtin;
 use crate::outcome::{Leave, Outcome};
@@ -24,29 +24,48 @@ pub(crate) fn operands_of(arguments: &[Text]) -> &[Text]
     }
 }
 
-/// exit, by its operand.
-fn exit_by(alloc: Global, status: Option<u64>) -> Result<Outcome, NoMemory>
-    ensures { IfOk result (λ outcome. outcome ≡ exit_by status) }
+/// The status that an operand says, from 0 to 255.
+fn status_in(operand: &[u8]) -> Option<u8>
+    ensures { result ≡ status_in operand.now }
 {
-    match status {
+    match number_of(operand) {
         Some(status) => {
             if status <= 255 {
-                return Ok(Outcome::left(alloc, Leave::Exit(status as u8)));
+                return Some(status as u8);
             }
-            Outcome::misuse(alloc, Builtin::Exit)
+            None
         },
-        None => Outcome::misuse(alloc, Builtin::Exit),
+        None => None,
     }
 }
 
 /// exit, with its operands.
 pub(crate) fn exit_with(alloc: Global, last: u8, operands: &[Text]) -> Result<Outcome, NoMemory>
-    ensures { IfOk result (λ outcome. outcome ≡ exit_with last operands.now) }
+    ensures { IfOk result (λ outcome.
+        outcome ≡ leave_with Builtin.Exit Leave.Exit last operands.now) }
 {
     match operands {
         [] => Ok(Outcome::left(alloc, Leave::Exit(last))),
-        [operand] => exit_by(alloc, number_of(operand.as_slice())),
+        [operand] => match status_in(operand.as_slice()) {
+            Some(status) => Ok(Outcome::left(alloc, Leave::Exit(status))),
+            None => Outcome::misuse(alloc, Builtin::Exit),
+        },
         _ => Outcome::misuse(alloc, Builtin::Exit),
+    }
+}
+
+/// return, with its operands.
+pub(crate) fn return_with(alloc: Global, last: u8, operands: &[Text]) -> Result<Outcome, NoMemory>
+    ensures { IfOk result (λ outcome.
+        outcome ≡ leave_with Builtin.Return Leave.Return last operands.now) }
+{
+    match operands {
+        [] => Ok(Outcome::left(alloc, Leave::Return(last))),
+        [operand] => match status_in(operand.as_slice()) {
+            Some(status) => Ok(Outcome::left(alloc, Leave::Return(status))),
+            None => Outcome::misuse(alloc, Builtin::Return),
+        },
+        _ => Outcome::misuse(alloc, Builtin::Return),
     }
 }
 

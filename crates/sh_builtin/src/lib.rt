@@ -3,6 +3,7 @@
 
 mod builtin;
 mod conditional;
+mod functions;
 mod leaving;
 pub mod message;
 mod number;
@@ -12,5 +13,6 @@ mod testing;
 
 pub use builtin::Builtin;
 pub use conditional::{Verdict, evaluate};
+pub use functions::Functions;
 pub use outcome::{Completion, Leave, Outcome};
 pub use shell::Shell;

@@ -1,6 +1,6 @@
 //! What built-ins come to.
 ghost use Rattle.std.specs.Prelude.{◌≡◌, IfOk};
-ghost use Rattle.sh_builtin.specs.Outcomes.{done, failure, left, misuse, output, outcome_of, refusal};
+ghost use Rattle.sh_builtin.specs.Outcomes.{done, failure, left, misuse, output, outcome_of, refusal, running};
 
 use crate::builtin::Builtin;
 use crate::message::{fault_line, status_of};
@@ -12,10 +12,12 @@ use std::alloc::Global;
 /// How commands are left before their end.
 #[derive(Clone, Copy, Debug, PartialEq, Eq)]
 pub enum Leave {
-    /// The shell is left with this status, by `exit` (XCU 2.15) or at the end of its text.
+    /// The shell is left with this status, by `exit` (XCU 2.15), or by a failure under `set -e`.
     Exit(u8),
     /// An error ends a shell that isn't interactive, with this status (XCU 2.8.1). Its message is written before.
     Fault(u8),
+    /// A function is left with this status, by `return` (2.15); outside of a function the shell is left.
+    Return(u8),
     /// A loop is left: the one with so many other loops inside it around the place, so 0 is the innermost.
     Break(u64),
     /// A run of a loop's body is left, and the loop goes on: the one with so many other loops inside it.
@@ -23,12 +25,14 @@ pub enum Leave {
 }
 
 /// How a built-in ends.
-#[derive(Clone, Copy, Debug, PartialEq, Eq)]
+#[derive(Debug, Drop)]
 pub enum Completion {
     /// It is done with this status.
     Done(u8),
     /// Commands are left.
     Left(Leave),
+    /// This text is run in its place, and the built-in has the status of the text's last command (XCU 2.15 eval).
+    Runs(Text),
 }
 
 /// What a built-in comes to, beside what it changes of the shell. In this order it writes `out`, writes each message of `err`, and
@@ -77,6 +81,17 @@ impl Outcome {
         }
     }
 
+    /// Has a text run in its place.
+    pub(crate) fn running(alloc: Global, text: Text) -> Outcome
+        ensures { result ≡ running text }
+    {
+        Outcome {
+            out: Sequence::new(alloc),
+            err: Sequence::new(alloc),
+            status: Completion::Runs(text),
+        }
+    }
+
     /// Is refused.
     pub(crate) fn refusal(
         alloc: Global,
@@ -85,14 +100,14 @@ impl Outcome {
     ) -> Result<Outcome, NoMemory>
         ensures { IfOk result (λ outcome. outcome ≡ refusal builtin fault) }
     {
-        let status = failure(builtin.is_special(), status_of(&fault));
+        let status = status_of(&fault);
         let line = fault_line(alloc, builtin.name(), fault)?;
         let mut err = Sequence::new(alloc);
         err.push(line)?;
         Ok(Outcome {
             out: Sequence::new(alloc),
             err,
-            status,
+            status: failure(builtin.is_special(), status),
         })
     }
 

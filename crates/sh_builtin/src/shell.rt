@@ -2,8 +2,10 @@
 ghost use Rattle.std.specs.Prelude.{◌≡◌, IfOk};
 ghost use Rattle.sh_builtin.specs.declared.shell.Shell.{Shell};
 
+use crate::functions::Functions;
+use sh_base::NoMemory;
 use sh_vars::Vars;
-use std::alloc::AllocError;
+use std::alloc::Global;
 
 /// A shell execution environment (XCU 2.13) and the process in which it is: what a built-in acts on, beside the kernel.
 #[derive(Drop)]
@@ -12,25 +14,33 @@ pub struct Shell {
     pub pid: u32,
     /// Its variables, options, parameters and working directory.
     pub vars: Vars,
+    /// Its functions.
+    pub functions: Functions,
 }
 
 impl Shell {
     /// The same shell. The only error is want of memory.
-    pub fn copy(&self) -> Result<Shell, AllocError>
+    pub fn copy(&self, alloc: Global) -> Result<Shell, NoMemory>
         ensures { IfOk result (λ shell. shell ≡ self.now) }
     {
-        let vars = self.vars.copy()?;
-        Ok(Shell {
-            pid: self.pid,
-            vars,
-        })
+        self.fork(alloc, self.pid)
     }
 
     /// A shell with the same environment in a process that this one made (XCU 2.13). The only error is want of memory.
-    pub fn fork(&self, pid: u32) -> Result<Shell, AllocError>
+    pub fn fork(&self, alloc: Global, pid: u32) -> Result<Shell, NoMemory>
         ensures { IfOk result (λ shell. shell ≡ record self.now { pid = pid }) }
     {
-        let vars = self.vars.copy()?;
-        Ok(Shell { pid, vars })
+        let functions = self.functions.copy(alloc)?;
+        match self.vars.copy() {
+            Ok(vars) => Ok(Shell {
+                pid,
+                vars,
+                functions,
+            }),
+            Err(error) => {
+                drop(functions);
+                Err(NoMemory::from(error))
+            },
+        }
     }
 }

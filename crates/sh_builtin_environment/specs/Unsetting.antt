@@ -7,7 +7,7 @@ use Rattle.sh_builtin_environment.specs.declared.outcome.Outcome.TheVariants.{Do
 use Rattle.sh_vars.specs.Environment.{Environment, is_read_only, without}
 use Rattle.sh_base.specs.Names.{is_name}
 
--- ---- one name; no function is ever defined yet, so under -f there is none to remove
+-- ---- one name; under -f no variable is meant
 abbrev pub variable_unset : Environment → List ℕ → Stepped
 variable_unset env name =
     if is_read_only env name then with_fault env (Some (fault.ReadOnly name)) else with_fault (without env name) None
@@ -35,6 +35,14 @@ abbrev pub unset_parsed : Environment → Option Parsed → Ran
 unset_parsed env None = misuse env
 unset_parsed env (Some (last, [])) = misuse env
 unset_parsed env (Some (last, name ∷ others)) = unset_all (names_functions last) env (name ∷ others)
+
+-- the names of functions that are to be removed, where -f says so
+abbrev pub functions_by : Option Parsed → Option (List (List ℕ))
+functions_by None = None
+functions_by (Some (last, operands)) = if names_functions last then Some operands else None
+
+abbrev pub functions_to_unset : List (List ℕ) → Option (List (List ℕ))
+functions_to_unset arguments = functions_by (options_and_operands (codes "fv") arguments)
 
 unfoldable pub unset_ran : Environment → List (List ℕ) → Ran
 unset_ran env arguments = unset_parsed env (options_and_operands (codes "fv") arguments)

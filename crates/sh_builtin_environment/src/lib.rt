@@ -27,4 +27,4 @@ pub use setting::set;
 pub use shifting::shift;
 pub use trapping::trap;
 pub use traps::Traps;
-pub use unsetting::unset;
+pub use unsetting::{functions_to_unset, unset};

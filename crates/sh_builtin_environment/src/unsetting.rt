@@ -1,7 +1,7 @@
 //! The built-in unset (XCU 2.15).
-ghost use Rattle.std.specs.Prelude.{◌≡◌, IfOk};
+ghost use Rattle.std.specs.Prelude.{◌≡◌, IfOk, option_map};
 ghost use Rattle.sh_builtin_environment.specs.Outcomes.{with_outcome, with_fault};
-ghost use Rattle.sh_builtin_environment.specs.Unsetting.{kind_unset, names_functions, unset_all, unset_one, unset_ran};
+ghost use Rattle.sh_builtin_environment.specs.Unsetting.{functions_to_unset, kind_unset, names_functions, unset_all, unset_one, unset_ran};
 
 use crate::options::parse_options;
 use crate::outcome::{BuiltinFault, Outcome};
@@ -79,8 +79,8 @@ fn names_functions(last: Option<u8>) -> bool
 }
 
 /// `unset` with its arguments (XCU 2.15): removes the variables of these names, from left to right, with
-/// value and attributes; a name without a variable is no error. `-f` means functions, of which there is none
-/// yet; of `-f` and `-v` the last counts. Refused are other options, no operand, and an operand that is no
+/// value and attributes; a name without a variable is no error. `-f` means functions, see `functions_to_unset`,
+/// and leaves variables alone; of `-f` and `-v` the last counts. Refused are other options, no operand, and an operand that is no
 /// name or names a read-only variable; the operands before that one stay unset. The only error is want of
 /// memory; what the variables are then is left open.
 #[tactic(auto, unfolding(crate::specs::Unsetting::unset_ran))]
@@ -95,4 +95,16 @@ pub fn unset(alloc: Global, vars: &mut Vars, arguments: &[Text]) -> Result<Outco
         return Ok(Outcome::Fault(BuiltinFault::Usage));
     }
     unset_all(alloc, names_functions(last), vars, operands)
+}
+
+/// The operands of `unset` as names of functions, where `-f` says that functions are meant; `None` where it doesn't, or where the
+/// options are wrong. Takes no memory.
+pub fn functions_to_unset(arguments: &[Text]) -> Option<&[Text]>
+    ensures { option_map (λ names. names.now) result ≡ functions_to_unset arguments.now }
+{
+    let (last, operands) = parse_options(b"fv", arguments)?;
+    if names_functions(last) {
+        return Some(operands);
+    }
+    None
 }

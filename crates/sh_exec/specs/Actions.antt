@@ -3,9 +3,9 @@ use Rattle.std.specs.Prelude.{ℕ, length, Option, Some, None}
 use Rattle.sh_exec.specs.declared.task.Task.{Task}
 use Rattle.sh_exec.specs.declared.task.Task.TheVariants.{Runs, Asks}
 use Rattle.sh_exec_actions.specs.declared.action.Active.{Active}
-use Rattle.sh_exec_actions.specs.declared.action.Active.TheVariants.{Acting, Next, Done, Leaving}
+use Rattle.sh_exec_actions.specs.declared.action.Active.TheVariants.{Acting, Calling, Evaluating, Next, Done, Leaving}
 use Rattle.sh_exec_actions.specs.declared.action.Action.{Action}
-use Rattle.sh_exec_actions.specs.declared.action.Action.TheVariants.{Reading, Expanding, ReadSubstitution, WaitSubstitution, Redirecting, Forking, Starting, ForkStage, AssignLoopVariable, Waiting, Writing, Ending}
+use Rattle.sh_exec_actions.specs.declared.action.Action.TheVariants.{Reading, Expanding, ReadSubstitution, WaitSubstitution, Redirecting, Forking, Starting, ForkStage, AssignLoopVariable, Defining, Waiting, Writing, Ending}
 use Rattle.sh_exec_forms.specs.Running.{active_of}
 use Rattle.sh_kernel.specs.Turns.{Action as Asked, Acts, ReadsBy, WaitsFor, WritesBy}
 use Rattle.sh_kernel_descriptors.specs.declared.descriptor.DescriptorRef.TheVariants.{Aside, Number}
@@ -27,6 +27,7 @@ action_at (Forking p) = Acts
 action_at (Starting fields) = Acts
 action_at (ForkStage stages) = Acts
 action_at (AssignLoopVariable series) = Acts
+action_at (Defining definition) = Acts
 action_at (Waiting children) = WaitsFor children
 action_at (Writing piece finish) = WritesBy piece.descriptor (length piece.bytes)
 action_at (Ending status) = Acts
@@ -34,6 +35,8 @@ action_at (Ending status) = Acts
 abbrev pub action_in : Active → Asked
 action_in (Next place) = action_at place
 action_in (Acting builtin fields) = Acts
+action_in (Calling body fields) = Acts
+action_in (Evaluating text) = Acts
 action_in (Done ended) = Acts
 action_in (Leaving status) = Acts
 

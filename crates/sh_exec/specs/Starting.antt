@@ -11,10 +11,10 @@ use Rattle.sh_exec.specs.Search.{located_of}
 use Rattle.sh_exec.specs.declared.search.Located.{Located}
 use Rattle.sh_exec.specs.declared.search.Located.TheVariants as located
 use Rattle.sh_exec_actions.specs.declared.action.Active.{Active}
-use Rattle.sh_exec_actions.specs.declared.action.Active.TheVariants.{Acting, Next, Done, Leaving}
+use Rattle.sh_exec_actions.specs.declared.action.Active.TheVariants.{Acting, Calling, Evaluating, Next, Done, Leaving}
 use Rattle.sh_exec_actions.specs.declared.action.Finish.TheVariants.{Fault}
 use Rattle.sh_exec_actions.specs.declared.action.Action.{Action}
-use Rattle.sh_exec_actions.specs.declared.action.Action.TheVariants.{Reading, Expanding, ReadSubstitution, WaitSubstitution, Redirecting, Forking, Starting, ForkStage, AssignLoopVariable, Waiting, Writing, Ending}
+use Rattle.sh_exec_actions.specs.declared.action.Action.TheVariants.{Reading, Expanding, ReadSubstitution, WaitSubstitution, Redirecting, Forking, Starting, ForkStage, AssignLoopVariable, Defining, Waiting, Writing, Ending}
 use Rattle.sh_exec_forms.specs.Running.{At}
 use Rattle.sh_kernel.specs.Calls.{start_call}
 use Rattle.sh_kernel.specs.State.{KernelState}
@@ -48,10 +48,10 @@ stock_start m s shell name None = failure s shell (cannot_execute name) statuses
 abbrev pub parent_of : KernelState → ℕ → ℕ
 parent_of s pid = unwrap_or (parent_at s.machine.processes pid) 1
 
--- a script is run by a new shell in this process
+-- a script is run by a new shell in this process, which has no functions
 abbrev pub script_shell : KernelState → Shell → List ℕ → List (List ℕ) → Shell
 script_shell s shell path operands =
-    record shell { vars = script_environment shell.vars path operands shell.pid (parent_of s shell.pid) }
+    record { pid = shell.pid; vars = script_environment shell.vars path operands shell.pid (parent_of s shell.pid); functions = [] }
 
 abbrev pub script_start : {S : Type 0} → KernelState → Shell → List ℕ → List ℕ → List (List ℕ) → Left (Task S)
 script_start s shell path text operands =
@@ -84,6 +84,7 @@ starting_at (Forking p) = None
 starting_at (Starting fields) = Some fields
 starting_at (ForkStage stages) = None
 starting_at (AssignLoopVariable series) = None
+starting_at (Defining definition) = None
 starting_at (Waiting children) = None
 starting_at (Writing piece finish) = None
 starting_at (Ending status) = None
@@ -91,5 +92,7 @@ starting_at (Ending status) = None
 abbrev pub starting_in : Active → Option (List (List ℕ))
 starting_in (Next place) = starting_at place
 starting_in (Acting builtin fields) = None
+starting_in (Calling body fields) = None
+starting_in (Evaluating text) = None
 starting_in (Done ended) = None
 starting_in (Leaving status) = None

@@ -37,7 +37,7 @@ first_place image (Script path) = script_place image path
 -- it is before its first action
 abbrev pub first_task : {S : Type 0} → FileMap → Settings → Task S
 first_task image settings = Runs (record {
-  shell = record { pid = first_pid; vars = environment_of settings };
+  shell = record { pid = first_pid; vars = environment_of settings; functions = [] };
   run = At (Next (first_place image settings.source));
 })
 

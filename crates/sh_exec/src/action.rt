@@ -31,6 +31,7 @@ fn action_at(place: &Action) -> Next<'_>
         Action::Starting(_) => Next::Other,
         Action::ForkStage(_) => Next::Other,
         Action::AssignLoopVariable(_) => Next::Other,
+        Action::Defining(_) => Next::Other,
         Action::Waiting(children) => Next::Wait(children.as_slice()),
         Action::Writing(piece, _) => Next::Write(piece.descriptor, piece.bytes.len()),
         Action::Ending(_) => Next::Other,
@@ -44,6 +45,8 @@ pub(crate) fn action_in(active: &Active) -> Next<'_>
     match active {
         Active::Next(place) => action_at(place),
         Active::Acting(_, _) => Next::Other,
+        Active::Calling(_, _) => Next::Other,
+        Active::Evaluating(_) => Next::Other,
         Active::Done(_) => Next::Other,
         Active::Leaving(_) => Next::Other,
     }

@@ -21,6 +21,7 @@ fn starting_at(place: &Action) -> Option<&Sequence<Text>>
         Action::Starting(fields) => Some(fields),
         Action::ForkStage(_) => None,
         Action::AssignLoopVariable(_) => None,
+        Action::Defining(_) => None,
         Action::Waiting(_) => None,
         Action::Writing(_, _) => None,
         Action::Ending(_) => None,
@@ -34,6 +35,8 @@ fn starting_in(active: &Active) -> Option<&Sequence<Text>>
     match active {
         Active::Next(place) => starting_at(place),
         Active::Acting(_, _) => None,
+        Active::Calling(_, _) => None,
+        Active::Evaluating(_) => None,
         Active::Done(_) => None,
         Active::Leaving(_) => None,
     }

@@ -12,7 +12,7 @@ use crate::task::Task;
 use crate::{Located, locate};
 use sh_base::NoMemory;
 use sh_base::sequence::{Sequence, Text};
-use sh_builtin::Shell;
+use sh_builtin::{Functions, Shell};
 use sh_exec_actions::status::{CANNOT_EXECUTE, NOT_FOUND};
 use sh_exec_actions::{Action, Finish};
 use sh_exec_parts::message::{Piece, cannot_execute, not_found};
@@ -122,7 +122,12 @@ fn start_script<S: Stock>(
     let parent = parent_of(kernel, pid);
     let vars = script_environment(alloc, &shell.vars, path, operands, pid, parent)?;
     close_aside(kernel, pid);
-    Ok(Task::Runs(Interpreter::reading(alloc, Shell { pid, vars }, text)))
+    let shell = Shell {
+        pid,
+        vars,
+        functions: Functions::new(alloc),
+    };
+    Ok(Task::Runs(Interpreter::reading(alloc, shell, text)))
 }
 
 /// What was found is started.

@@ -19,7 +19,7 @@ use crate::shell::starting_of;
 use crate::start::start_turn;
 use sh_base::NoMemory;
 use sh_base::sequence::{Sequence, Text};
-use sh_builtin::Shell;
+use sh_builtin::{Functions, Shell};
 use sh_exec_actions::{Action, Frame};
 use sh_exec_parts::Rest;
 use sh_exec_shell::Interpreter;
@@ -90,11 +90,11 @@ fn start_from<S: Stock>(
         HasLeft kernel.new task (start_turn S.meaning s interpreter.now.shell fields)) }
     ensures terminal { kernel.new.terminal ≡ kernel.old.terminal }
 {
-    match interpreter.shell().copy() {
+    match interpreter.shell().copy(alloc) {
         Ok(shell) => start_turn(alloc, kernel, shell, fields),
-        Err(error) => {
+        Err(lack) => {
             drop(fields);
-            Err(NoMemory::from(error))
+            Err(lack)
         },
     }
 }
@@ -119,6 +119,7 @@ impl<S: Stock> Task<S> {
         let shell = Shell {
             pid: FIRST_PID,
             vars,
+            functions: Functions::new(alloc),
         };
         Ok(Task::Runs(Interpreter::at(alloc, shell, place)))
     }

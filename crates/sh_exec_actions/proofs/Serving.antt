@@ -121,8 +121,8 @@ unfolding serves_command serves_compound
 compound_is c = ap serves_command (sym (command.rolls-Compound c)) ∙ folds.fold-roll-Command Bool Bool Bool Bool Bool Bool Bool Bool Bool Bool Bool Bool Bool Bool Bool Bool
     command_step form_step part_step item_step target_step and_or_step case_item_step compound_step compound_list_step connected_step else_if_step list_item_step parts_step pipeline_step redirect_step word_step (layer.Compound c)
 
-pub function_is : (n : Name) (c : Compound) → serves_command (command.Function n c) ≡ false
-unfolding serves_command
+pub function_is : (n : Name) (c : Compound) → serves_command (command.Function n c) ≡ serves_compound c
+unfolding serves_command serves_compound
 function_is n c = ap serves_command (sym (command.rolls-Function n c)) ∙ folds.fold-roll-Command Bool Bool Bool Bool Bool Bool Bool Bool Bool Bool Bool Bool Bool Bool Bool Bool
     command_step form_step part_step item_step target_step and_or_step case_item_step compound_step compound_list_step connected_step else_if_step list_item_step parts_step pipeline_step redirect_step word_step (layer.Function n c)
 

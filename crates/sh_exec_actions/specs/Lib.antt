@@ -1,3 +1,4 @@
+pub mod Kinds
 pub mod Preparing
 pub mod Served
 pub mod Statuses

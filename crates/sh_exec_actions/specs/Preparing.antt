@@ -3,13 +3,14 @@ use Rattle.std.specs.Prelude.{ℕ, List, [], ◌∷◌, ◌||◌, not, Bool, tru
 use Rattle.sh_exec_actions.specs.Statuses as statuses
 use Rattle.std.specs.List.{list_any}
 use Rattle.sh_builtin.specs.Builtins.{builtin_of, is_special}
+use Rattle.sh_builtin.specs.Functions.{Named, body_of}
 use Rattle.sh_builtin.specs.declared.builtin.Builtin.{Builtin}
 use Rattle.sh_exec_parts.specs.Messages.{message, not_redirected}
 use Rattle.sh_exec_parts.specs.Redirections.{redirections_of}
 use Rattle.sh_exec_parts.specs.Simple.{assignments_of, is_redirect, is_word, items_of, redirect_fields, redirects_of, word_fields}
 use Rattle.sh_exec_parts.specs.declared.redirection.Redirection.{Redirection}
 use Rattle.sh_exec_parts.specs.declared.simple.Assignment.{Assignment}
-use Rattle.sh_exec_actions.specs.declared.action.Active.TheVariants.{Acting, Next, Done}
+use Rattle.sh_exec_actions.specs.declared.action.Active.TheVariants.{Acting, Calling, Next, Done}
 use Rattle.sh_exec_actions.specs.declared.action.Finish.{Finish}
 use Rattle.sh_exec_actions.specs.declared.action.Finish.TheVariants.{Status, Fault}
 use Rattle.sh_exec_actions.specs.declared.action.Move.{Move}
@@ -50,20 +51,22 @@ wants_of in_place command =
 unfoldable pub first_place : Bool → Command → Action
 first_place in_place command = Expanding (wants_of in_place command) None
 
--- ---- the command of these fields (2.9.1.4): a built-in is found before a program of that name
-abbrev pub role_by : Option Builtin → Role
-role_by (Some builtin) = role.Builtin builtin
-role_by None = role.Program
+-- ---- the command of these fields (2.9.1.4): a special built-in is found first, then a function, then any other built-in, then a program
+abbrev pub role_by : Option Builtin → Option Command → Role
+role_by (Some builtin) None = role.Builtin builtin
+role_by (Some builtin) (Some body) = if is_special builtin then role.Builtin builtin else role.Function body
+role_by None None = role.Program
+role_by None (Some body) = role.Function body
 
-abbrev pub role_of : List (List ℕ) → Role
-role_of [] = role.NoCommandName
-role_of (name ∷ arguments) = role_by (builtin_of name)
+abbrev pub role_of : List Named → List (List ℕ) → Role
+role_of functions [] = role.NoCommandName
+role_of functions (name ∷ arguments) = role_by (builtin_of name) (body_of functions name)
 
-unfoldable pub prepared_of : Environment → List SimpleItem → List (List ℕ) → ℕ → ExpandedCommand
-prepared_of env items fields status =
+unfoldable pub prepared_of : Environment → List Named → List SimpleItem → List (List ℕ) → ℕ → ExpandedCommand
+prepared_of env functions items fields status =
     let count = length (redirects_of items) in
     record {
-      role = role_of (word_fields fields count);
+      role = role_of functions (word_fields fields count);
       fields = word_fields fields count;
       redirections = redirections_of env.options.no_clobber (redirects_of items) (redirect_fields fields count);
       assignments = assignments_of items;
@@ -80,6 +83,7 @@ failing false = Status statuses.error
 abbrev pub failing_of : Role → Finish
 failing_of role.NoCommandName = Status statuses.error
 failing_of (role.Builtin builtin) = failing (is_special builtin)
+failing_of (role.Function body) = Status statuses.error
 failing_of role.Program = Fault statuses.error
 failing_of (role.Compound command) = Status statuses.error
 failing_of (role.Subshell list) = Status statuses.error
@@ -87,12 +91,13 @@ failing_of (role.Subshell list) = Status statuses.error
 abbrev pub performed_by : ExpandedCommand → Role → Move
 performed_by p role.NoCommandName = Held p.undo (Done (statuses.unexcused p.status))
 performed_by p (role.Builtin builtin) = Held p.undo (Acting builtin p.fields)
+performed_by p (role.Function body) = Held p.undo (Calling body p.fields)
 performed_by p role.Program = At (Next (Starting p.fields))
 performed_by p (role.Compound command) = Compound p.undo command
 performed_by p (role.Subshell list) = Subshell list
 
--- a command without a name has the status of its last substitution; a built-in acts in the same turn; a program is started; a compound
--- command is entered
+-- a command without a name has the status of its last substitution; a built-in acts, and a function is called, in the same turn; a
+-- program is started; a compound command is entered
 unfoldable pub final_move : ExpandedCommand → Move
 final_move p = performed_by p p.role
 
@@ -109,6 +114,7 @@ ahead p = ahead_by p p.redirections p.assignments
 abbrev pub forks : Role → (in_place : Bool) → Bool
 forks role.NoCommandName in_place = false
 forks (role.Builtin builtin) in_place = false
+forks (role.Function body) in_place = false
 forks role.Program in_place = not in_place
 forks (role.Compound command) in_place = false
 forks (role.Subshell list) in_place = false

@@ -1,5 +1,4 @@
--- The complete commands that are run so far: AND-OR lists, one after another, of pipelines of simple commands
--- and of some compound commands. Others are refused, as a text that is no complete command is. A command
+-- The complete commands that are run so far: AND-OR lists, one after another, of pipelines of commands. Asynchronous lists are refused, as a text that is no complete command is. A command
 -- substitution is served where its own commands are.
 use Rattle.std.specs.Prelude.{List, [], ◌∷◌, Option, Some, None, Bool, true, false, ◌&&◌}
 use Rattle.std.specs.List.{list_all}
@@ -60,7 +59,7 @@ target_step (layer.Here operator delimiter body) = body
 abbrev pub redirect_step : Layer layer.Redirect-F → Bool
 redirect_step redirect = redirect.target
 
--- ---- simple commands (2.9.1), and no function definitions
+-- ---- simple commands (2.9.1), and function definitions (2.9.5)
 abbrev pub item_step : Layer layer.SimpleItem-F → Bool
 item_step (layer.Assignment name value source) = value
 item_step (layer.Word word) = word
@@ -69,7 +68,7 @@ item_step (layer.Redirect redirect) = redirect
 abbrev pub command_step : Layer layer.Command-F → Bool
 command_step (layer.Simple items) = all items
 command_step (layer.Compound compound) = compound
-command_step (layer.Function name body) = false
+command_step (layer.Function name body) = body
 
 -- ---- compound commands, with their redirections (2.9.4)
 abbrev pub otherwise : Option Bool → Bool

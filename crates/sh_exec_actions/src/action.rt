@@ -18,6 +18,8 @@ pub enum Role {
     NoCommandName,
     /// A built-in utility.
     Builtin(Builtin),
+    /// A function: its body, a compound command (2.9.5).
+    Function(Shared<Command>),
     /// A program.
     Program,
     /// The shell, in which it is entered: it is this compound command (2.9.4).
@@ -183,6 +185,8 @@ pub enum Action {
     ForkStage(Stages),
     /// Give the variable of a `for` its next value.
     AssignLoopVariable(ForLoop),
+    /// Define the function of this function definition command (2.9.5).
+    Defining(Shared<Command>),
     /// Wait for the end of these processes, the last of which gives the status.
     Waiting(Sequence<u32>),
     /// Write.
@@ -198,6 +202,11 @@ pub enum Active {
     Next(Action),
     /// A built-in acts, in the same turn; its name and arguments.
     Acting(Builtin, Sequence<Text>),
+    /// A function is called (2.9.5): its body, and its name with its arguments. In the same turn it is entered, or refused where it is
+    /// nested too deep.
+    Calling(Shared<Command>, Sequence<Text>),
+    /// A text is to be run here (2.15 eval). In the same turn it is entered, or refused where it is nested too deep.
+    Evaluating(Text),
     /// What ran here is done, and ended so.
     Done(CommandStatus),
     /// What ran here is left before its end.

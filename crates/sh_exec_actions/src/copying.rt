@@ -7,6 +7,7 @@ use crate::action::{
 };
 use sh_base::NoMemory;
 use sh_base::sequence::{Sequence, Text, copies_of};
+use sh_builtin::Completion;
 use sh_exec_parts::message::Piece;
 use sh_exec_parts::{Copying, copy_all};
 use std::alloc::Global;
@@ -25,6 +26,7 @@ impl Copying for Role {
         match self {
             Role::NoCommandName => Ok(Role::NoCommandName),
             Role::Builtin(builtin) => Ok(Role::Builtin(*builtin)),
+            Role::Function(body) => Ok(Role::Function(body.copy(alloc)?)),
             Role::Program => Ok(Role::Program),
             Role::Compound(command) => Ok(Role::Compound(command.copy(alloc)?)),
             Role::Subshell(list) => Ok(Role::Subshell(list.copy(alloc)?)),
@@ -246,12 +248,27 @@ impl Copying for Stages {
     }
 }
 
+/// A copy of how a built-in ends.
+fn copy_completion(alloc: Global, status: &Completion) -> Result<Completion, NoMemory>
+    ensures { IfOk result (λ copy. copy ≡ status.now) }
+{
+    match status {
+        Completion::Done(status) => Ok(Completion::Done(*status)),
+        Completion::Left(leave) => Ok(Completion::Left(*leave)),
+        Completion::Runs(text) => Ok(Completion::Runs(text.copy(alloc)?)),
+    }
+}
+
 impl Copying for Report {
     fn copy(&self, alloc: Global) -> Result<Report, NoMemory> {
-        Ok(Report {
-            messages: self.messages.copy(alloc)?,
-            status: self.status,
-        })
+        let messages = self.messages.copy(alloc)?;
+        match copy_completion(alloc, &self.status) {
+            Ok(status) => Ok(Report { messages, status }),
+            Err(lack) => {
+                drop(messages);
+                Err(lack)
+            },
+        }
     }
 }
 
@@ -318,6 +335,7 @@ impl Copying for Action {
             Action::AssignLoopVariable(series) => {
                 Ok(Action::AssignLoopVariable(series.copy(alloc)?))
             },
+            Action::Defining(command) => Ok(Action::Defining(command.copy(alloc)?)),
             Action::Waiting(children) => {
                 let children = Sequence::copy_of(alloc, children.as_slice())?;
                 Ok(Action::Waiting(children))
@@ -336,6 +354,17 @@ impl Copying for Active {
                 let fields = copy_texts(alloc, fields.as_slice())?;
                 Ok(Active::Acting(*builtin, fields))
             },
+            Active::Calling(body, fields) => {
+                let fields = copy_texts(alloc, fields.as_slice())?;
+                match body.copy(alloc) {
+                    Ok(body) => Ok(Active::Calling(body, fields)),
+                    Err(lack) => {
+                        drop(fields);
+                        Err(lack)
+                    },
+                }
+            },
+            Active::Evaluating(text) => Ok(Active::Evaluating(text.copy(alloc)?)),
             Active::Done(status) => Ok(Active::Done(*status)),
             Active::Leaving(leave) => Ok(Active::Leaving(*leave)),
         }

@@ -4,6 +4,7 @@ ghost use Rattle.std.specs.Prelude.{◌≡◌, IfOk};
 use crate::action::{ForLoop, Undo};
 use crate::status::CommandStatus;
 use sh_base::NoMemory;
+use sh_base::sequence::{Sequence, Text, copies_of};
 use sh_base::shared::Shared;
 use sh_exec_parts::{Copying, Queue, Rest};
 use sh_syntax::tree::{CompoundList, Connected, ElseIf, ListItem, LoopKind};
@@ -104,6 +105,10 @@ pub enum Form {
     Body(Loop),
     /// The body of a `for` (2.9.4.2), with the values that its variable is still to have.
     ForBody(ForLoop),
+    /// The body of a function (2.9.5), with the positional parameters of its caller.
+    Call(Sequence<Text>),
+    /// A text that `eval` runs (2.15).
+    Evaluation,
     /// All of a process that was made where failures are ignored: they are ignored there too (2.15, set -e).
     FailuresIgnored,
 }
@@ -122,6 +127,10 @@ impl Copying for Form {
             },
             Form::Body(looping) => Ok(Form::Body(looping.copy(alloc)?)),
             Form::ForBody(series) => Ok(Form::ForBody(series.copy(alloc)?)),
+            Form::Call(positional) => {
+                Ok(Form::Call(Sequence::from_vec(copies_of(alloc, positional.as_slice())?)))
+            },
+            Form::Evaluation => Ok(Form::Evaluation),
             Form::FailuresIgnored => Ok(Form::FailuresIgnored),
         }
     }
@@ -133,6 +142,8 @@ pub struct Frame {
     pub form: Form,
     /// Whether `set -e` takes no notice of a failure inside it (2.15, set), because of this form or of one around it.
     pub ignores_failure: bool,
+    /// How many more texts and calls of functions there may be inside it, one in another. With none around there may be 1000.
+    pub levels_left: u16,
 }
 
 impl Copying for Frame {
@@ -140,6 +151,7 @@ impl Copying for Frame {
         Ok(Frame {
             form: self.form.copy(alloc)?,
             ignores_failure: self.ignores_failure,
+            levels_left: self.levels_left,
         })
     }
 }

@@ -1,5 +1,5 @@
 //! A simple command from its tree to its first place, and from its expanded words to what it does.
-ghost use Rattle.std.specs.Prelude.{◌≡◌, IfOk};
+ghost use Rattle.std.specs.Prelude.{◌≡◌, IfOk, option_map};
 ghost use Rattle.sh_exec_actions.specs.Preparing.{ahead, first_move, failing, failing_of, first_place, forks, nameless, no_undo, not_done, final_move, prepared_of, role_by, role_of, wants_of};
 
 use crate::action::{Action, Active, ExpandedCommand, Finish, Move, Role, ToExpand, Undo};
@@ -7,7 +7,7 @@ use crate::status::{CommandStatus, ERROR};
 use sh_base::NoMemory;
 use sh_base::sequence::{Sequence, Text, copies_of};
 use sh_base::shared::Shared;
-use sh_builtin::Builtin;
+use sh_builtin::{Builtin, Functions};
 use sh_exec_parts::Queue;
 use sh_exec_parts::message::not_redirected;
 use sh_exec_parts::redirection::prepared_redirections;
@@ -74,22 +74,37 @@ pub fn first_place(
 }
 
 /// What runs the command of a name.
-fn role_by(builtin: Option<Builtin>) -> Role
-    ensures { result ≡ role_by builtin }
+fn role_by(builtin: Option<Builtin>, body: Option<&Shared<Command>>) -> Result<Role, NoMemory>
+    ensures { IfOk result (λ role.
+        role ≡ role_by builtin (option_map (λ body. body.now) body.entry)) }
 {
     match builtin {
-        Some(builtin) => Role::Builtin(builtin),
-        None => Role::Program,
+        Some(builtin) => match body {
+            Some(body) => {
+                if builtin.is_special() {
+                    return Ok(Role::Builtin(builtin));
+                }
+                Ok(Role::Function(body.share()?))
+            },
+            None => Ok(Role::Builtin(builtin)),
+        },
+        None => match body {
+            Some(body) => Ok(Role::Function(body.share()?)),
+            None => Ok(Role::Program),
+        },
     }
 }
 
 /// What runs the command of these fields.
-fn role_of(fields: &[Text]) -> Role
-    ensures { result ≡ role_of fields.now }
+fn role_of(functions: &Functions, fields: &[Text]) -> Result<Role, NoMemory>
+    ensures { IfOk result (λ role. role ≡ role_of functions.now fields.now) }
 {
     match fields.split_first() {
-        Some((name, _)) => role_by(Builtin::of(name.as_slice())),
-        None => Role::NoCommandName,
+        Some((name, _)) => role_by(
+            Builtin::of(name.as_slice()),
+            functions.body(name.as_slice()),
+        ),
+        None => Ok(Role::NoCommandName),
     }
 }
 
@@ -98,17 +113,20 @@ fn role_of(fields: &[Text]) -> Role
 pub fn prepare(
     alloc: Global,
     vars: &Vars,
+    functions: &Functions,
     items: &[SimpleItem],
     fields: &[Text],
     status: u8,
 ) -> Result<ExpandedCommand, NoMemory>
-    ensures { IfOk result (λ p. p ≡ prepared_of vars.now items.now fields.now status) }
+    ensures { IfOk result (λ p.
+        p ≡ prepared_of vars.now functions.now items.now fields.now status) }
 {
     let (words, redirects) = split_fields(fields, redirect_count(items));
     let redirections = prepared_redirections(alloc, items, redirects, vars.options().no_clobber)?;
     let assignments = assignments_of(alloc, items)?;
+    let role = role_of(functions, words)?;
     Ok(ExpandedCommand {
-        role: role_of(words),
+        role,
         fields: Sequence::from_vec(copies_of(alloc, words)?),
         redirections,
         assignments: Queue::new(assignments),
@@ -134,6 +152,7 @@ fn failing_of(role: Role) -> Finish
     match role {
         Role::NoCommandName => Finish::Status(ERROR),
         Role::Builtin(builtin) => failing(builtin.is_special()),
+        Role::Function(_) => Finish::Status(ERROR),
         Role::Program => Finish::Fault(ERROR),
         Role::Compound(_) => Finish::Status(ERROR),
         Role::Subshell(_) => Finish::Status(ERROR),
@@ -155,6 +174,7 @@ pub fn perform(prepared: ExpandedCommand) -> Move
     match role {
         Role::NoCommandName => Move::Held(undo, Active::Done(CommandStatus::unexcused(status))),
         Role::Builtin(builtin) => Move::Held(undo, Active::Acting(builtin, fields)),
+        Role::Function(body) => Move::Held(undo, Active::Calling(body, fields)),
         Role::Program => Move::At(Active::Next(Action::Starting(fields))),
         Role::Compound(command) => Move::Compound(undo, command),
         Role::Subshell(list) => Move::Subshell(list),
@@ -184,6 +204,7 @@ fn forks(role: &Role, in_place: bool) -> bool
     match role {
         Role::NoCommandName => false,
         Role::Builtin(_) => false,
+        Role::Function(_) => false,
         Role::Program => !in_place,
         Role::Compound(_) => false,
         Role::Subshell(_) => false,

@@ -94,7 +94,7 @@ fn serves_command(command: &Command) -> bool
             true
         },
         Command::Compound(compound) => serves_compound(compound.get()),
-        Command::Function { .. } => false,
+        Command::Function { body, .. } => serves_compound(body.get()),
     }
 }
 

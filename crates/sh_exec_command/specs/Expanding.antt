@@ -1,6 +1,7 @@
 -- The expansion turn of a simple command's words (XCU 2.9.1.1, steps 1 and 2): always from the first word, in the variables at
 -- its start, with the answers so far.
 use Rattle.std.specs.Prelude.{ℕ, List, [], Bool, Option, Some, None}
+use Rattle.sh_builtin.specs.Functions.{Named}
 use Rattle.sh_exec_actions.specs.Statuses as statuses
 use Rattle.sh_exec_parts.specs.Messages.{fault_text, message}
 use Rattle.sh_exec_parts.specs.Simple.{items_of}
@@ -36,17 +37,17 @@ abbrev pub fatal : List ℕ → Active
 fatal text = Next (Writing (message text) (Fault statuses.error))
 
 -- what the words come to; what was assigned before a fault stays
-abbrev pub words_by : Command → (in_place : Bool) → (status : ℕ) → Pending → expanding.Result → Turn
-words_by command in_place status pending (expanding.Need program env) =
+abbrev pub words_by : List Named → Command → (in_place : Bool) → (status : ℕ) → Pending → expanding.Result → Turn
+words_by functions command in_place status pending (expanding.Need program env) =
     record { environment = env; outcome = Need program (Words command in_place status) pending }
-words_by command in_place status pending (expanding.Fields fields env) =
-    record { environment = env; outcome = Go (first_move in_place (prepared_of env (items_of command) fields status)) }
-words_by command in_place status pending (expanding.Stops fault env) =
+words_by functions command in_place status pending (expanding.Fields fields env) =
+    record { environment = env; outcome = Go (first_move in_place (prepared_of env functions (items_of command) fields status)) }
+words_by functions command in_place status pending (expanding.Stops fault env) =
     record { environment = env; outcome = Go (At (fatal (fault_text fault))) }
 
-abbrev pub words_from : FileMap → Command → (in_place : Bool) → (status : ℕ) → Pending → Turn
-words_from files command in_place status pending =
-    words_by command in_place status pending (expansion_with files (wanted_of (items_of command)) pending.start pending.answers)
+abbrev pub words_from : FileMap → List Named → Command → (in_place : Bool) → (status : ℕ) → Pending → Turn
+words_from files functions command in_place status pending =
+    words_by functions command in_place status pending (expansion_with files (wanted_of (items_of command)) pending.start pending.answers)
 
-unfoldable pub words_turn : FileMap → Environment → Command → (in_place : Bool) → (status : ℕ) → Option Pending → Turn
-words_turn files env command in_place status pending = words_from files command in_place status (start_of env pending)
+unfoldable pub words_turn : FileMap → Environment → List Named → Command → (in_place : Bool) → (status : ℕ) → Option Pending → Turn
+words_turn files env functions command in_place status pending = words_from files functions command in_place status (start_of env pending)

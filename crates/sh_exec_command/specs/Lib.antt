@@ -1,6 +1,7 @@
 pub mod Answers
 pub mod Assigning
 pub mod Cases
+pub mod Defining
 pub mod Expanding
 pub mod Reading
 pub mod Redirects

@@ -40,6 +40,7 @@ fn is_passing(role: &Role) -> bool
     match role {
         Role::NoCommandName => false,
         Role::Builtin(builtin) => !builtin.is_special(),
+        Role::Function(_) => true,
         Role::Program => true,
         Role::Compound(_) => false,
         Role::Subshell(_) => false,
@@ -53,6 +54,7 @@ fn is_undone(role: &Role) -> bool
     match role {
         Role::NoCommandName => false,
         Role::Builtin(builtin) => !builtin.is_special(),
+        Role::Function(_) => true,
         Role::Program => false,
         Role::Compound(_) => false,
         Role::Subshell(_) => false,

@@ -13,6 +13,7 @@ use crate::answers::expand;
 use sh_base::NoMemory;
 use sh_base::sequence::{Sequence, Text};
 use sh_base::shared::Shared;
+use sh_builtin::Functions;
 use sh_exec_actions::status::ERROR;
 use sh_exec_actions::{
     Action, Active, Expanded, Finish, Move, Pending, ToExpand, begin_command, prepare,
@@ -53,8 +54,8 @@ pub(crate) fn start(
     }
 }
 
-/// An error that ends the shell, whose message is this.
-pub(crate) fn fatal_message(piece: Piece) -> Active
+/// An error that ends the shell (XCU 2.8.1), whose message is this. Takes no memory.
+pub fn fatal_message(piece: Piece) -> Active
     ensures { result ≡ Active.Next (Action.Writing piece (Finish.Fault statuses.error)) }
 {
     Active::Next(Action::Writing(piece, Finish::Fault(ERROR)))
@@ -84,13 +85,14 @@ fn begin(
     status: u8,
     fields: Sequence<Text>,
     vars: &Vars,
+    functions: &Functions,
 ) -> Result<Expanded, NoMemory>
     ensures { IfOk result (λ e.
         e ≡ Expanded.Go
-        (first_move in_place (prepared_of vars.now (items_of command) fields status))) }
+        (first_move in_place (prepared_of vars.now functions.now (items_of command) fields status))) }
 {
     let items = items_of(command.get());
-    let prepared = prepare(alloc, vars, items, fields.as_slice(), status);
+    let prepared = prepare(alloc, vars, functions, items, fields.as_slice(), status);
     drop(fields);
     drop(command);
     let next = begin_command(in_place, prepared?);
@@ -106,7 +108,7 @@ pub(crate) fn fail(alloc: Global, fault: Fault) -> Result<Expanded, NoMemory>
 }
 
 /// The expansion turn of the words of a simple command and of its redirections (XCU 2.9.1.1), from the first one on, with the
-/// answers so far. The only error is want of memory; what the variables are then is left open.
+/// answers so far, in a shell with these functions. The only error is want of memory; what the variables are then is left open.
 #[tactic(auto, unfolding(crate::specs::Expanding::words_turn))]
 pub fn words_turn(
     alloc: Global,
@@ -115,11 +117,12 @@ pub fn words_turn(
     status: u8,
     pending: Option<Pending>,
     vars: &mut Vars,
+    functions: &Functions,
     files: &Files,
 ) -> Result<Expanded, NoMemory>
     ensures { IfOk result (λ e.
-        record { environment = vars.new; outcome = e } ≡ words_turn files.now vars.old command
-        in_place status pending) }
+        record { environment = vars.new; outcome = e } ≡ words_turn files.now vars.old functions.now
+        command in_place status pending) }
 {
     let pending = match start(alloc, vars, pending) {
         Ok(pending) => pending,
@@ -141,7 +144,7 @@ pub fn words_turn(
         }),
         Ok(Step::Fields(fields)) => {
             drop(pending);
-            begin(alloc, command, in_place, status, fields, vars)
+            begin(alloc, command, in_place, status, fields, vars, functions)
         },
         Ok(Step::Fault(fault)) => {
             drop(pending);

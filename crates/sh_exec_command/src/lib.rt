@@ -5,6 +5,7 @@
 mod answers;
 mod assigning;
 mod cases;
+mod defining;
 mod expanding;
 mod found;
 mod reading;
@@ -14,7 +15,8 @@ mod undo;
 
 pub use assigning::assign_turn;
 pub use cases::{case_turn, pattern_turn};
-pub use expanding::words_turn;
+pub use defining::define_turn;
+pub use expanding::{fatal_message, words_turn};
 pub use found::Found;
 pub use reading::find_command;
 pub use redirects::redirects_turn;

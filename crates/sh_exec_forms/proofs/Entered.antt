@@ -5,7 +5,7 @@ use Rattle.sh_exec_actions.specs.declared.status.CommandStatus.{CommandStatus}
 use Rattle.sh_exec_parts.specs.Pipelines.{commands_of}
 use Rattle.sh_exec_actions.specs.Preparing.{first_place}
 use Rattle.sh_exec_actions.specs.declared.action.Active.TheVariants.{Next, Done}
-use Rattle.sh_exec_actions.specs.declared.action.Action.TheVariants.{Expanding}
+use Rattle.sh_exec_actions.specs.declared.action.Action.TheVariants.{Defining, Expanding}
 use Rattle.sh_exec_actions.specs.declared.action.ToExpand.TheVariants.{CaseWord, ForWords, Redirects}
 use Rattle.sh_exec_forms.specs.Entering.{Entry, and_or_run, and_or_step, command_entry, command_run, command_step, commands_run, commands_step, compound_list_step, compound_entry, compound_step, items_run, form_entry, form_step, item_run, with_others, list_item_step, list_run, with_negation, pipeline_run, pipeline_step, staging, is_subshell, redirected, to_enter, tree, trees, unless_subshell, no_entry}
 use Rattle.sh_exec_forms.specs.Running.{Run, At, In}
@@ -177,7 +177,7 @@ unfolding command_entry compound_entry
 compound_entered compound whole = ap (λ entry. command_entry entry whole) (sym (command.rolls-Compound compound)) ∙ ap (λ entry. entry whole) (folds.para-roll-Command Entry Entry (Unit {0}) (Unit {0}) (Unit {0}) Run (Unit {0}) Entry Run (Unit {0}) (Unit {0}) Run (Unit {0}) Run (Unit {0}) (Unit {0})
     command_step form_step no_entry no_entry no_entry and_or_step no_entry compound_step compound_list_step no_entry no_entry list_item_step no_entry pipeline_step no_entry no_entry (layer.Compound compound))
 
-pub function_entered : (name : Name) (body : Compound) (whole : Command) → command_entry (command.Function name body) whole ≡ At (Done (unexcused 0))
+pub function_entered : (name : Name) (body : Compound) (whole : Command) → command_entry (command.Function name body) whole ≡ At (Next (Defining whole))
 unfolding command_entry compound_entry
 function_entered name body whole = ap (λ entry. command_entry entry whole) (sym (command.rolls-Function name body)) ∙ ap (λ entry. entry whole) (folds.para-roll-Command Entry Entry (Unit {0}) (Unit {0}) (Unit {0}) Run (Unit {0}) Entry Run (Unit {0}) (Unit {0}) Run (Unit {0}) Run (Unit {0}) (Unit {0})
     command_step form_step no_entry no_entry no_entry and_or_step no_entry compound_step compound_list_step no_entry no_entry list_item_step no_entry pipeline_step no_entry no_entry (layer.Function name body))

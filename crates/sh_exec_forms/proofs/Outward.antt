@@ -1,13 +1,13 @@
 -- A tree and the list of its forms: what is settled inward and outward again is settled form by form.
 use Rattle.std.proofs.Common.{◌≡◌, arith, length, List, [], ◌∷◌, Bool, false, refl, sym, ap, subst, ◌∙◌}
-use Rattle.sh_exec_actions.specs.declared.action.Active.TheVariants.{Acting, Next, Done, Leaving}
+use Rattle.sh_exec_actions.specs.declared.action.Active.TheVariants.{Acting, Calling, Evaluating, Next, Done, Leaving}
 use Rattle.sh_builtin.specs.declared.outcome.Leave.{Leave}
 use Rattle.sh_builtin.specs.declared.shell.Shell.{Shell}
 use Rattle.sh_exec_actions.specs.declared.action.Active.{Active}
 use Rattle.sh_exec_actions.specs.declared.status.CommandStatus.{CommandStatus}
 use Rattle.sh_exec_forms.specs.Builtins.{effect_at}
 use Rattle.sh_exec_forms.specs.Forms.{Acted, HasGone, HasPerformed, IsActed, IsOnWay, after, after_leave, after_status, at_action, exits_on_error, outward, step_run, with_run, within, within_run}
-use Rattle.sh_exec_forms.specs.Frames.{Goes, IsFewer, Leaves, active_in, is_over, run_in, run_of}
+use Rattle.sh_exec_forms.specs.Frames.{Goes, IsFewer, Leaves, active_in, is_over, levels_left, run_in, run_of}
 use Rattle.sh_exec_forms.specs.Running.{Run, At, In}
 use Rattle.sh_exec_actions.specs.declared.form.Form.{Form}
 use Rattle.sh_exec_forms.specs.declared.step.Step.{Step}
@@ -25,6 +25,8 @@ over_stays : (around : List Form) (form : Form) (s : KernelState) (shell : Shell
     → after around form (with_run s shell run) ≡ with_run s shell (In form run)
 unfolding after
 over_stays around form s shell (At (Acting builtin fields)) h = refl
+over_stays around form s shell (At (Calling body fields)) h = refl
+over_stays around form s shell (At (Evaluating text)) h = refl
 over_stays around form s shell (At (Next place)) h = refl
 over_stays around form s shell (At (Done status)) h = absurd (cc h)
 over_stays around form s shell (At (Leaving leave)) h = absurd (cc h)
@@ -66,12 +68,12 @@ pub on_way : (kernel : KernelKept) (shell : Shell) (now rest : List Form) (step 
 on_way kernel shell now rest step a g = record { machine = a.machine; state = g.state; left = form_on_way kernel shell now rest step a g }
 
 pub ended_on_way : (kernel : KernelKept) (shell : Shell) (now rest before : List Form) (form : Form) (step : Step) (s : KernelState) (old : Shell) (ended : CommandStatus)
-    → before ≡ form ∷ rest → HasGone kernel shell now rest step (after_status form s old ended)
+    → before ≡ form ∷ rest → HasGone kernel shell now rest step (after_status rest form s old ended)
     → IsOnWay kernel shell now step (outward before (with_run s old (At (Done ended))))
 unfolding after
 ended_on_way kernel shell now rest before form step s old ended e g =
     subst (λ forms. IsOnWay kernel shell now step (outward forms (with_run s old (At (Done ended))))) (sym e)
-    (on_way kernel shell now rest step (after_status form s old ended) g)
+    (on_way kernel shell now rest step (after_status rest form s old ended) g)
 
 pub left_on_way : (kernel : KernelKept) (shell : Shell) (now rest before : List Form) (form : Form) (step : Step) (s : KernelState) (old : Shell) (leave : Leave)
     → before ≡ form ∷ rest → HasGone kernel shell now rest step (after_leave rest form s old leave)
@@ -114,37 +116,38 @@ onward kernel shell forms active later shell' forms' step a g h = subst (IsOnWay
 -- ---- what a built-in did is settled
 within_stays : (errexit : Bool) (around : List Form) (run : Run) → is_over run ≡ false → within_run errexit around run ≡ run
 within_stays errexit around (At (Acting builtin fields)) h = refl
+within_stays errexit around (At (Calling body fields)) h = refl
+within_stays errexit around (At (Evaluating text)) h = refl
 within_stays errexit around (At (Next place)) h = refl
 within_stays errexit around (At (Done status)) h = absurd (cc h)
 within_stays errexit around (At (Leaving leave)) h = absurd (cc h)
 within_stays errexit around (In form run) h = refl
 
--- what isn't over runs at its place
-pub performed_inward : (kernel : KernelKept) (s : KernelState) (old shell : Shell) (forms : List Form) (active next : Active)
-    → StandsAt kernel s → HasPerformed shell (Inward next) (effect_at s old active)
-    → IsActed kernel shell (run_of forms next) (at_action [] s old (run_of forms active))
-performed_inward kernel s old shell forms active next k h =
-    let p = effect_at s old active in
-    let goes = h.goes forms in
-    let whole = by_forms forms s old (At active)
-    ∙ ap (λ run. outward forms (with_run s p.shell run)) (within_stays (exits_on_error p.shell) forms p.run goes.1)
-    ∙ stays forms s p.shell p.run goes.1 in
+-- what isn't over runs at its place, inside the forms that were entered
+pub performed_inward : (kernel : KernelKept) (s : KernelState) (old shell : Shell) (now before : List Form) (active next : Active)
+    → StandsAt kernel s → HasPerformed shell now before (Inward next) (effect_at (levels_left before) s old active)
+    → IsActed kernel shell (run_of now next) (at_action [] s old (run_of before active))
+performed_inward kernel s old shell now before active next k h =
+    let p = effect_at (levels_left before) s old active in
+    let whole = by_forms before s old (At active)
+    ∙ ap (λ run. outward before (with_run s p.shell run)) (within_stays (exits_on_error p.shell) before p.run h.goes.1)
+    ∙ stays before s p.shell p.run h.goes.1 in
     record {
       state = subst (λ (a : Acted). StandsAt kernel a.machine) (sym whole) k;
       shell_is = h.shell_is ∙ ap (λ (a : Acted). a.shell) (sym whole);
-      run = goes.0 ∙ ap (λ (a : Acted). a.run) (sym whole);
+      run = h.goes.0 ∙ ap (λ (a : Acted). a.run) (sym whole);
     }
 
 -- what is over goes outward
-pub performed_outward : (later : KernelKept) (s : KernelState) (old shell after_shell : Shell) (forms : List Form) (active next bounded : Active) (ran : Run)
-    → HasPerformed shell (Outward next) (effect_at s old active) → bounded ≡ within (exits_on_error shell) forms next
-    → IsActed later after_shell ran (outward forms (with_run s shell (At bounded)))
-    → IsActed later after_shell ran (at_action [] s old (run_of forms active))
-performed_outward later s old shell after_shell forms active next bounded ran h b a =
-    let p = effect_at s old active in
-    let goes = h.goes [] in
-    let whole = by_forms forms s old (At active)
-    ∙ ap (λ run. outward forms (with_run s p.shell (within_run (exits_on_error p.shell) forms run))) goes.1
-    ∙ ap (λ this. outward forms (with_run s this (At (within (exits_on_error this) forms next)))) (sym h.shell_is)
-    ∙ ap (λ this. outward forms (with_run s shell (At this))) (sym b) in
+pub performed_outward : (later : KernelKept) (s : KernelState) (old shell after_shell : Shell) (now before : List Form) (active next bounded : Active) (ran : Run)
+    → HasPerformed shell now before (Outward next) (effect_at (levels_left before) s old active) → bounded ≡ within (exits_on_error shell) now next
+    → IsActed later after_shell ran (outward now (with_run s shell (At bounded)))
+    → IsActed later after_shell ran (at_action [] s old (run_of before active))
+performed_outward later s old shell after_shell now before active next bounded ran h b a =
+    let p = effect_at (levels_left before) s old active in
+    let whole = by_forms before s old (At active)
+    ∙ ap (λ run. outward before (with_run s p.shell (within_run (exits_on_error p.shell) before run))) h.goes.1
+    ∙ ap (λ this. outward before (with_run s this (At (within (exits_on_error this) before next)))) (sym h.shell_is)
+    ∙ ap (λ forms. outward forms (with_run s shell (At (within (exits_on_error shell) forms next)))) (sym h.goes.0)
+    ∙ ap (λ this. outward now (with_run s shell (At this))) (sym b) in
     subst (IsActed later after_shell ran) (sym whole) a

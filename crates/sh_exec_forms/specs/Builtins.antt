@@ -1,5 +1,6 @@
--- A built-in acts, in the turn of the last of what comes before it (2.9.1.4).
-use Rattle.std.specs.Prelude.{ℕ, List, [], ◌∷◌, drop}
+-- A built-in acts or a function is called, in the turn of the last of what comes before it (2.9.1.4), and a text that is to be run is
+-- entered (2.15 eval).
+use Rattle.std.specs.Prelude.{ℕ, zero, suc, List, [], ◌∷◌, drop}
 use Rattle.sh_builtin.specs.Running.{built_in}
 use Rattle.sh_builtin.specs.declared.builtin.Builtin.{Builtin}
 use Rattle.sh_builtin.specs.declared.outcome.Completion.{Completion}
@@ -8,16 +9,24 @@ use Rattle.sh_builtin.specs.declared.outcome.Outcome.{Outcome}
 use Rattle.sh_builtin.specs.declared.shell.Shell.{Shell}
 use Rattle.sh_exec_actions.specs.Statuses.{unexcused}
 use Rattle.sh_exec_actions.specs.declared.action.Active.{Active}
-use Rattle.sh_exec_actions.specs.declared.action.Active.TheVariants.{Acting, Next, Done, Leaving}
+use Rattle.sh_exec_actions.specs.declared.action.Active.TheVariants.{Acting, Calling, Evaluating, Next, Done, Leaving}
 use Rattle.sh_exec_actions.specs.declared.action.Finish.TheVariants.{Messages, Output}
-use Rattle.sh_exec_actions.specs.declared.action.Action.TheVariants.{Writing}
+use Rattle.sh_exec_actions.specs.declared.action.Action.TheVariants.{Reading, Writing}
 use Rattle.sh_exec_actions.specs.declared.action.Report.{Report}
-use Rattle.sh_exec_forms.specs.Running.{Run, At}
+use Rattle.sh_exec_actions.specs.declared.form.Form.TheVariants.{Call, Evaluation}
+use Rattle.sh_exec_command.specs.Expanding.{fatal}
+use Rattle.sh_exec_forms.specs.Entering.{command_run}
+use Rattle.sh_exec_forms.specs.Running.{Run, At, In}
+use Rattle.sh_exec_parts.specs.Messages.{refusal_text}
+use Rattle.sh_exec_parts.specs.declared.message.Refusal.TheVariants as refusal
 use Rattle.sh_kernel.specs.State.{KernelState}
+use Rattle.sh_syntax.specs.declared.tree.Command.{Command}
+use Rattle.sh_vars.specs.Environment.{with_positional}
 
 abbrev pub at_completion : Completion → Active
 at_completion (completion.Done status) = Done (unexcused status)
 at_completion (completion.Left leave) = Leaving leave
+at_completion (completion.Runs text) = Evaluating text
 
 -- ---- its messages are written to descriptor 2, each in a turn of its own, and then it ends
 abbrev pub said : List (List ℕ) → Completion → Active
@@ -37,7 +46,7 @@ output_of builtin (byte ∷ bytes) report = Next (Writing (record { descriptor =
 abbrev pub behind : Builtin → Outcome → Active
 behind builtin outcome = output_of builtin outcome.out (record { messages = outcome.err; status = outcome.status })
 
--- the shell then, and what runs at the place: another place, or forms that were entered
+-- ---- the shell then, and what runs at the place: another place, or forms that were entered
 pub record Performed : Type 0 where
   pub shell : Shell
   pub run : Run
@@ -45,12 +54,39 @@ pub record Performed : Type 0 where
 abbrev pub with_active : Shell → Active → Performed
 with_active shell active = record { shell = shell; run = At active }
 
-unfoldable pub builtin_effect : KernelState → Shell → Builtin → List (List ℕ) → Performed
-builtin_effect s shell builtin fields =
-    let d = built_in s.machine shell builtin (drop 1 fields) in with_active d.shell (behind builtin d.outcome)
+-- ---- what is entered; the levels are how many more calls and texts there may be, one in another, at this place
+abbrev pub too_deep : Shell → Performed
+too_deep shell = with_active shell (fatal (refusal_text refusal.TooDeep))
 
-abbrev pub effect_at : KernelState → Shell → Active → Performed
-effect_at s shell (Acting builtin fields) = builtin_effect s shell builtin fields
-effect_at s shell (Next place) = with_active shell (Next place)
-effect_at s shell (Done ended) = with_active shell (Done ended)
-effect_at s shell (Leaving leave) = with_active shell (Leaving leave)
+abbrev pub evaluation : (levels : ℕ) → Shell → List ℕ → Performed
+evaluation zero shell text = too_deep shell
+evaluation (suc levels) shell text = record { shell = shell; run = In Evaluation (At (Next (Reading text 0))) }
+
+-- a function's arguments are the positional parameters in its body; those of the caller come back after it (2.9.5)
+abbrev pub with_parameters : Shell → List (List ℕ) → Shell
+with_parameters shell parameters = record shell { vars = with_positional shell.vars parameters }
+
+abbrev pub call : (levels : ℕ) → Shell → Command → List (List ℕ) → Performed
+call zero shell body arguments = too_deep shell
+call (suc levels) shell body arguments = record { shell = with_parameters shell arguments; run = In (Call shell.vars.positional) (command_run body) }
+
+-- what runs at a place where no built-in acts
+abbrev pub performed : (levels : ℕ) → Shell → Active → Performed
+performed levels shell (Acting builtin fields) = with_active shell (Acting builtin fields)
+performed levels shell (Calling body fields) = call levels shell body (drop 1 fields)
+performed levels shell (Evaluating text) = evaluation levels shell text
+performed levels shell (Next place) = with_active shell (Next place)
+performed levels shell (Done ended) = with_active shell (Done ended)
+performed levels shell (Leaving leave) = with_active shell (Leaving leave)
+
+unfoldable pub builtin_effect : (levels : ℕ) → KernelState → Shell → Builtin → List (List ℕ) → Performed
+builtin_effect levels s shell builtin fields =
+    let d = built_in s.machine shell builtin (drop 1 fields) in performed levels d.shell (behind builtin d.outcome)
+
+abbrev pub effect_at : (levels : ℕ) → KernelState → Shell → Active → Performed
+effect_at levels s shell (Acting builtin fields) = builtin_effect levels s shell builtin fields
+effect_at levels s shell (Calling body fields) = performed levels shell (Calling body fields)
+effect_at levels s shell (Evaluating text) = performed levels shell (Evaluating text)
+effect_at levels s shell (Next place) = performed levels shell (Next place)
+effect_at levels s shell (Done ended) = performed levels shell (Done ended)
+effect_at levels s shell (Leaving leave) = performed levels shell (Leaving leave)

@@ -4,7 +4,7 @@ use Rattle.sh_exec_actions.specs.Preparing.{first_place}
 use Rattle.sh_exec_actions.specs.Statuses.{unexcused}
 use Rattle.sh_exec_actions.specs.declared.action.Active.TheVariants.{Next, Done}
 use Rattle.sh_exec_actions.specs.declared.action.Action.{Action}
-use Rattle.sh_exec_actions.specs.declared.action.Action.TheVariants.{Expanding, ForkStage}
+use Rattle.sh_exec_actions.specs.declared.action.Action.TheVariants.{Defining, Expanding, ForkStage}
 use Rattle.sh_exec_actions.specs.declared.action.ToExpand.TheVariants.{CaseWord, ForWords, Redirects}
 use Rattle.sh_exec_actions.specs.declared.status.CommandStatus.{CommandStatus}
 use Rattle.sh_exec_forms.specs.Running.{Run, At, In}
@@ -91,11 +91,11 @@ abbrev pub compound_step : Layer Run layer.Compound-F → Entry
 compound_step compound command =
     unless_subshell (is_subshell (view.out-CompoundForm compound.form.0)) compound.redirects (compound.form.1 command) command
 
--- a function definition isn't served, so it is never entered
+-- a function definition is an action (2.9.5)
 abbrev pub command_step : Layer Run layer.Command-F → Entry
 command_step (layer.Simple items) command = At (Next (first_place false command))
 command_step (layer.Compound compound) command = compound.1 command
-command_step (layer.Function name body) command = At (Done (unexcused 0))
+command_step (layer.Function name body) command = At (Next (Defining command))
 
 -- ---- pipelines (2.9.2): a command alone runs in the shell, of several each in a process of its own
 abbrev pub commands_step : Command × Entry → List (Command × Entry) → Run

@@ -7,18 +7,18 @@ use Rattle.sh_exec_command.specs.Series.{rest_of_series}
 use Rattle.sh_exec_command.specs.Undoing as variables
 use Rattle.sh_exec_actions.specs.Statuses.{unexcused}
 use Rattle.sh_exec_actions.specs.declared.action.Active.{Active}
-use Rattle.sh_exec_actions.specs.declared.action.Active.TheVariants.{Acting, Next, Done, Leaving}
+use Rattle.sh_exec_actions.specs.declared.action.Active.TheVariants.{Acting, Calling, Evaluating, Next, Done, Leaving}
 use Rattle.sh_exec_actions.specs.declared.action.Action.TheVariants.{Reading}
 use Rattle.sh_exec_actions.specs.declared.action.Undo.{Undo}
 use Rattle.sh_exec_actions.specs.declared.status.CommandStatus.{CommandStatus}
 use Rattle.sh_exec_machine.specs.Undoing as descriptors
-use Rattle.sh_exec_forms.specs.Builtins.{Performed, effect_at}
+use Rattle.sh_exec_forms.specs.Builtins.{Performed, effect_at, with_parameters}
 use Rattle.sh_exec_forms.specs.Entering.{items_run, with_others, list_run, pipeline_run}
-use Rattle.sh_exec_forms.specs.Frames.{Goes, has_loop, is_failure_ignored, run_of}
+use Rattle.sh_exec_forms.specs.Frames.{Goes, has_call, has_loop, is_failure_ignored, levels_left, run_of}
 use Rattle.sh_exec_forms.specs.Running.{Run, At, In}
 use Rattle.sh_exec_actions.specs.declared.form.Branches.{Branches}
 use Rattle.sh_exec_actions.specs.declared.form.Form.{Form}
-use Rattle.sh_exec_actions.specs.declared.form.Form.TheVariants.{Text, Commands, Joined, Negated, Restoring, If, Condition, Body, ForBody, FailuresIgnored}
+use Rattle.sh_exec_actions.specs.declared.form.Form.TheVariants.{Text, Commands, Joined, Negated, Restoring, If, Condition, Body, ForBody, Call, Evaluation, FailuresIgnored}
 use Rattle.sh_exec_actions.specs.declared.form.Loop.{Loop}
 use Rattle.sh_exec_forms.specs.declared.step.Step.{Step}
 use Rattle.sh_exec_forms.specs.declared.step.Step.TheVariants.{Outward, Inward}
@@ -101,21 +101,25 @@ ended_within errexit true ended = Done (record ended { excused = ended.excused |
 ended_within false false ended = Done ended
 ended_within true false ended = if is_failure ended && not ended.excused then Leaving (leave.Exit ended.status) else Done ended
 
--- ---- break and continue (2.15): they are done with 0, and do nothing where no loop stands around
-abbrev pub left_within : (looped : Bool) → Leave → Active
-left_within looped (leave.Exit status) = Leaving (leave.Exit status)
-left_within looped (leave.Fault status) = Leaving (leave.Fault status)
-left_within true (leave.Break inside) = Leaving (leave.Break inside)
-left_within false (leave.Break inside) = Done (unexcused 0)
-left_within true (leave.Continue inside) = Leaving (leave.Continue inside)
-left_within false (leave.Continue inside) = Done (unexcused 0)
+-- ---- break and continue (2.15) are done with 0, and do nothing where no loop stands around; return is exit where no function does
+abbrev pub left_within : (called looped : Bool) → Leave → Active
+left_within called looped (leave.Exit status) = Leaving (leave.Exit status)
+left_within called looped (leave.Fault status) = Leaving (leave.Fault status)
+left_within true looped (leave.Return status) = Leaving (leave.Return status)
+left_within false looped (leave.Return status) = Leaving (leave.Exit status)
+left_within called true (leave.Break inside) = Leaving (leave.Break inside)
+left_within called false (leave.Break inside) = Done (unexcused 0)
+left_within called true (leave.Continue inside) = Leaving (leave.Continue inside)
+left_within called false (leave.Continue inside) = Done (unexcused 0)
 
 -- what a place comes to inside the forms round it, the innermost first
 abbrev pub within : (errexit : Bool) → (around : List Form) → Active → Active
 within errexit around (Acting builtin fields) = Acting builtin fields
+within errexit around (Calling body fields) = Calling body fields
+within errexit around (Evaluating text) = Evaluating text
 within errexit around (Next place) = Next place
 within errexit around (Done ended) = ended_within errexit (is_failure_ignored around) ended
-within errexit around (Leaving leave) = left_within (has_loop around) leave
+within errexit around (Leaving leave) = left_within (has_call around) (has_loop around) leave
 
 -- the same of what a built-in leaves; forms that it entered have their own
 abbrev pub within_run : (errexit : Bool) → (around : List Form) → Run → Run
@@ -140,6 +144,7 @@ onward_by leave here (Some inside) = Left (leave inside)
 abbrev pub onward : (looped : Bool) → Leave → Onward
 onward looped (leave.Exit status) = Left (leave.Exit status)
 onward looped (leave.Fault status) = Left (leave.Fault status)
+onward looped (leave.Return status) = Left (leave.Return status)
 onward looped (leave.Break inside) = onward_by leave.Break Over (beyond looped inside)
 onward looped (leave.Continue inside) = onward_by leave.Continue On (beyond looped inside)
 
@@ -154,20 +159,33 @@ undone undo s shell run =
     with_run (descriptors.all_restored shell.pid undo.descriptors s)
     (record shell { vars = variables.all_restored undo.variables shell.vars }) run
 
--- the next command of a text is read, behind this status; `$?` is the status of the command before (2.5.2)
-abbrev pub after_status : Form → KernelState → Shell → CommandStatus → Acted
-after_status (Text rest) s shell ended = with_run s shell (At (Next (Reading rest ended.status)))
-after_status (Commands items) s shell ended = with_run s (behind_status shell ended.status) (items_run items ended)
-after_status (Joined others) s shell ended = with_run s (behind_status shell ended.status) (connected_run others ended)
-after_status Negated s shell ended = with_run s shell (At (Done (negation ended.status)))
-after_status (Restoring undo) s shell ended = undone undo s shell (At (Done ended))
-after_status (If branches) s shell ended = with_run s (behind_status shell ended.status) (branch branches ended.status)
-after_status (Condition loop last) s shell ended = with_run s (behind_status shell ended.status) (behind_condition loop last ended.status)
-after_status (Body loop) s shell ended = with_run s (behind_status shell ended.status) (condition_run loop ended)
-after_status (ForBody series) s shell ended = with_run s (behind_status shell ended.status) (At (rest_of_series series ended))
-after_status FailuresIgnored s shell ended = with_run s shell (At (Done ended))
+-- ---- after a function's body (2.9.5): the positional parameters are the caller's again, and its status is that of a command there
+abbrev pub returned : (around : List Form) → Shell → ℕ → Active
+returned around shell status = ended_within (exits_on_error shell) (is_failure_ignored around) (unexcused status)
 
+abbrev pub after_call : (around : List Form) → Leave → Shell → Active
+after_call around (leave.Exit status) shell = Leaving (leave.Exit status)
+after_call around (leave.Fault status) shell = Leaving (leave.Fault status)
+after_call around (leave.Return status) shell = returned around shell status
+after_call around (leave.Break inside) shell = Leaving (leave.Break inside)
+after_call around (leave.Continue inside) shell = Leaving (leave.Continue inside)
+
+-- the next command of a text is read, behind this status; `$?` is the status of the command before (2.5.2)
 -- around: the forms round this one, the innermost first
+abbrev pub after_status : (around : List Form) → Form → KernelState → Shell → CommandStatus → Acted
+after_status around (Text rest) s shell ended = with_run s shell (At (Next (Reading rest ended.status)))
+after_status around (Commands items) s shell ended = with_run s (behind_status shell ended.status) (items_run items ended)
+after_status around (Joined others) s shell ended = with_run s (behind_status shell ended.status) (connected_run others ended)
+after_status around Negated s shell ended = with_run s shell (At (Done (negation ended.status)))
+after_status around (Restoring undo) s shell ended = undone undo s shell (At (Done ended))
+after_status around (If branches) s shell ended = with_run s (behind_status shell ended.status) (branch branches ended.status)
+after_status around (Condition loop last) s shell ended = with_run s (behind_status shell ended.status) (behind_condition loop last ended.status)
+after_status around (Body loop) s shell ended = with_run s (behind_status shell ended.status) (condition_run loop ended)
+after_status around (ForBody series) s shell ended = with_run s (behind_status shell ended.status) (At (rest_of_series series ended))
+after_status around (Call positional) s shell ended = with_run s (with_parameters shell positional) (At (returned around shell ended.status))
+after_status around Evaluation s shell ended = with_run s shell (At (Done ended))
+after_status around FailuresIgnored s shell ended = with_run s shell (At (Done ended))
+
 abbrev pub after_leave : (around : List Form) → Form → KernelState → Shell → Leave → Acted
 after_leave around (Text rest) s shell leave = with_run s shell (At (Leaving leave))
 after_leave around (Commands items) s shell leave = with_run s shell (At (Leaving leave))
@@ -179,12 +197,16 @@ after_leave around (Condition loop last) s shell leave = loop_left s shell (cond
 after_leave around (Body loop) s shell leave = loop_left s shell (condition_run loop (unexcused 0)) (onward (has_loop around) leave)
 after_leave around (ForBody series) s shell leave =
     loop_left s shell (At (rest_of_series series (unexcused 0))) (onward (has_loop around) leave)
+after_leave around (Call positional) s shell leave = with_run s (with_parameters shell positional) (At (after_call around leave shell))
+after_leave around Evaluation s shell leave = with_run s shell (At (Leaving leave))
 after_leave around FailuresIgnored s shell leave = with_run s shell (At (Leaving leave))
 
 abbrev pub after_by : (around : List Form) → Form → KernelState → Shell → Run → Acted
-after_by around form s shell (At (Done ended)) = after_status form s shell ended
+after_by around form s shell (At (Done ended)) = after_status around form s shell ended
 after_by around form s shell (At (Leaving leave)) = after_leave around form s shell leave
 after_by around form s shell (At (Acting builtin fields)) = with_run s shell (In form (At (Acting builtin fields)))
+after_by around form s shell (At (Calling body fields)) = with_run s shell (In form (At (Calling body fields)))
+after_by around form s shell (At (Evaluating text)) = with_run s shell (In form (At (Evaluating text)))
 after_by around form s shell (At (Next place)) = with_run s shell (In form (At (Next place)))
 after_by around form s shell (In inner run) = with_run s shell (In form (In inner run))
 
@@ -192,16 +214,16 @@ after_by around form s shell (In inner run) = with_run s shell (In form (In inne
 unfoldable pub after : (around : List Form) → Form → Acted → Acted
 after around form a = after_by around form a.machine a.shell a.run
 
--- a built-in acts, and statuses go outward until the place is an action
+-- a built-in acts, a text is entered, and statuses go outward until the place is an action
 abbrev pub at_action : (around : List Form) → KernelState → Shell → Run → Acted
 at_action around s shell (At active) =
-    let p = effect_at s shell active in with_run s p.shell (within_run (exits_on_error p.shell) around p.run)
+    let p = effect_at (levels_left around) s shell active in with_run s p.shell (within_run (exits_on_error p.shell) around p.run)
 at_action around s shell (In form run) = after around form (at_action (form ∷ around) s shell run)
 
--- a shell goes on at a step behind what a built-in did, inside whatever forms there are
-pub record HasPerformed (shell : Shell) (step : Step) (p : Performed) : Type 0 where
+-- a shell goes on at a step behind what a built-in did, inside the forms that there were before
+pub record HasPerformed (shell : Shell) (now before : List Form) (step : Step) (p : Performed) : Type 0 where
   pub shell_is : shell ≡ p.shell
-  pub goes : (forms : List Form) → Goes step forms forms p.run
+  pub goes : Goes step now before p.run
 
 -- the kernel and the shell are what an action leaves
 pub record IsActed (kernel : KernelKept) (shell : Shell) (ran : Run) (a : Acted) : Type 0 where

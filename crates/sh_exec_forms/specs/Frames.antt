@@ -1,11 +1,12 @@
 -- The forms round the place where a shell acts, as a list with the innermost first.
-use Rattle.std.specs.Prelude.{◌≡◌, List, [], ◌∷◌, map, reverse, ◌||◌, Bool, true, false, length, ◌<◌, ⊤}
+use Rattle.std.specs.Prelude.{◌≡◌, ℕ, List, [], ◌∷◌, map, reverse, ◌||◌, ◌&&◌, not, Bool, true, false, length, ◌<◌, ⊤}
 use Rattle.sh_exec_actions.specs.declared.action.Active.{Active}
-use Rattle.sh_exec_actions.specs.declared.action.Active.TheVariants.{Acting, Next, Done, Leaving}
+use Rattle.sh_exec_actions.specs.declared.action.Active.TheVariants.{Acting, Calling, Evaluating, Next, Done, Leaving}
 use Rattle.sh_exec_forms.specs.Running.{Run, At, In}
 use Rattle.sh_exec_actions.specs.declared.form.Form.{Form}
-use Rattle.sh_exec_actions.specs.declared.form.Form.TheVariants.{Text, Commands, Joined, Negated, Restoring, If, Condition, Body, ForBody, FailuresIgnored}
+use Rattle.sh_exec_actions.specs.declared.form.Form.TheVariants.{FailuresIgnored}
 use Rattle.sh_exec_actions.specs.declared.form.Frame.{Frame}
+use Rattle.sh_exec_actions.specs.Kinds.{ignores_failure, is_call, is_loop, levels_inside, most_levels}
 use Rattle.sh_exec_forms.specs.declared.step.Step.{Step}
 use Rattle.sh_exec_forms.specs.declared.step.Step.TheVariants.{Outward, Inward}
 
@@ -17,51 +18,36 @@ run_in (form ∷ forms) run = run_in forms (In form run)
 abbrev pub run_of : List Form → Active → Run
 run_of forms active = run_in forms (At active)
 
-abbrev pub is_loop : Form → Bool
-is_loop (Text rest) = false
-is_loop (Commands items) = false
-is_loop (Joined others) = false
-is_loop Negated = false
-is_loop (Restoring undo) = false
-is_loop (If branches) = false
-is_loop (Condition loop last) = true
-is_loop (Body loop) = true
-is_loop (ForBody series) = true
-is_loop FailuresIgnored = false
+-- whether the body of a function is among some forms
+abbrev pub has_call : List Form → Bool
+has_call [] = false
+has_call (form ∷ forms) = is_call form || has_call forms
 
--- whether a loop is among some forms
+-- whether a loop is among some forms; a function doesn't see the loops of its caller
 abbrev pub has_loop : List Form → Bool
 has_loop [] = false
-has_loop (form ∷ forms) = is_loop form || has_loop forms
+has_loop (form ∷ forms) = is_loop form || (not (is_call form) && has_loop forms)
 
--- whether `set -e` takes no notice of a failure inside a form, whatever is around it (2.15, set): in a condition, in a pipeline of an
--- AND-OR list that isn't its last, after `!`, and in a process that was made where this was so
-abbrev pub ignores_failure : Form → Bool
-ignores_failure (Text rest) = false
-ignores_failure (Commands items) = false
-ignores_failure (Joined others) = true
-ignores_failure Negated = true
-ignores_failure (Restoring undo) = false
-ignores_failure (If branches) = true
-ignores_failure (Condition loop last) = true
-ignores_failure (Body loop) = false
-ignores_failure (ForBody series) = false
-ignores_failure FailuresIgnored = true
-
--- the same inside some forms
+-- whether `set -e` takes no notice of a failure inside some forms (2.15, set)
 abbrev pub is_failure_ignored : List Form → Bool
 is_failure_ignored [] = false
 is_failure_ignored (form ∷ around) = ignores_failure form || is_failure_ignored around
+
+-- how many more calls of functions, and texts that `eval` runs (2.15), there may be inside some forms, one in another
+abbrev pub levels_left : List Form → ℕ
+levels_left [] = most_levels
+levels_left (form ∷ around) = levels_inside form (levels_left around)
 
 -- the forms with which a process begins
 abbrev pub root_forms : (ignored : Bool) → List Form
 root_forms true = FailuresIgnored ∷ []
 root_forms false = []
 
--- forms, each with whether a failure inside it is ignored
+-- forms, each with what holds inside it
 abbrev pub framed : List Form → List Frame
 framed [] = []
-framed (form ∷ around) = record { form = form; ignores_failure = is_failure_ignored (form ∷ around) } ∷ framed around
+framed (form ∷ around) =
+    record { form = form; ignores_failure = is_failure_ignored (form ∷ around); levels_left = levels_left (form ∷ around) } ∷ framed around
 
 abbrev pub forms_in : List Frame → List Form
 forms_in frames = map (λ frame. frame.form) frames
@@ -81,6 +67,8 @@ frames_of run = reverse (framed (path_of run))
 -- whether all that runs is done or left, so that what is around it goes on
 abbrev pub is_over : Run → Bool
 is_over (At (Acting builtin fields)) = false
+is_over (At (Calling body fields)) = false
+is_over (At (Evaluating text)) = false
 is_over (At (Next place)) = false
 is_over (At (Done status)) = true
 is_over (At (Leaving leave)) = true

@@ -1,20 +1,26 @@
-//! Built-ins act.
-ghost use Rattle.std.specs.Prelude.{◌≡◌, IfOk, List, drop};
-ghost use Rattle.sh_exec_forms.specs.Builtins.{at_completion, behind, builtin_effect, effect_at, output_of, reported, with_active};
+//! Built-ins act, and functions and texts are entered.
+ghost use Rattle.std.specs.Prelude.{◌≡◌, ◌∷◌, IfOk, OnOk, drop};
+ghost use Rattle.sh_exec_command.specs.Expanding.{fatal};
+ghost use Rattle.sh_exec_forms.specs.Builtins.{at_completion, behind, builtin_effect, call, effect_at, evaluation, output_of, performed, reported, with_parameters};
 ghost use Rattle.sh_exec_forms.specs.Forms.{HasPerformed};
-ghost use Rattle.sh_exec_forms.specs.Frames.{Goes};
-ghost use Rattle.sh_exec_forms.specs.Running.{Run};
-ghost use Rattle.sh_exec_actions.specs.declared.form.Form.{Form};
+ghost use Rattle.sh_exec_forms.specs.Frames.{levels_left};
+ghost use Rattle.sh_exec_parts.specs.Messages.{refusal_text};
+ghost use Rattle.sh_exec_parts.specs.declared.message.Refusal.TheVariants as refusal;
 ghost use Rattle.sh_kernel.specs.State.{KernelState, StandsAt};
 
+use crate::entering::enter_command;
+use crate::frames::Frames;
 use crate::step::Step;
 use sh_base::NoMemory;
-use sh_base::sequence::Text;
+use sh_base::sequence::{Sequence, Text, copies_of};
+use sh_base::shared::Shared;
 use sh_builtin::{Builtin, Completion, Outcome, Shell};
-use sh_exec_actions::{Action, Active, CommandStatus, Finish, Report};
-use sh_exec_parts::Queue;
-use sh_exec_parts::message::Piece;
+use sh_exec_actions::{Action, Active, CommandStatus, Finish, Form, Report};
+use sh_exec_command::fatal_message;
+use sh_exec_parts::message::{Piece, Refusal, refused};
+use sh_exec_parts::{Queue, Rest};
 use sh_kernel::Kernel;
+use sh_syntax::tree::Command;
 use std::alloc::Global;
 
 /// How a built-in ends.
@@ -24,6 +30,7 @@ fn at_completion(status: Completion) -> Active
     match status {
         Completion::Done(status) => Active::Done(CommandStatus::unexcused(status)),
         Completion::Left(leave) => Active::Leaving(leave),
+        Completion::Runs(text) => Active::Evaluating(text),
     }
 }
 
@@ -82,51 +89,148 @@ fn arguments_of(fields: &[Text]) -> &[Text]
     }
 }
 
+/// What is nested too deep is refused.
+fn too_deep(alloc: Global) -> Result<Step, NoMemory>
+    ensures { IfOk result (λ step.
+        step ≡ Step.Inward (fatal (refusal_text refusal.TooDeep))) }
+{
+    let piece = refused(alloc, Refusal::TooDeep)?;
+    Ok(Step::Inward(fatal_message(piece)))
+}
+
+/// A text is entered, unless it is nested too deep.
+fn evaluate(alloc: Global, shell: &Shell, frames: &mut Frames, text: Text) -> Result<Step, NoMemory>
+    ensures { IfOk result (λ step. HasPerformed shell.now frames.new frames.old step
+        (evaluation (levels_left frames.old) shell.now text)) }
+{
+    if frames.levels_left() == 0 {
+        drop(text);
+        return too_deep(alloc);
+    }
+    match frames.push(Form::Evaluation) {
+        Ok(()) => Ok(Step::Inward(Active::Next(Action::Reading(Rest::new(text), 0)))),
+        Err(lack) => {
+            drop(text);
+            Err(lack)
+        },
+    }
+}
+
+/// The positional parameters of a function take the place of those of its caller.
+fn push_call(
+    alloc: Global,
+    shell: &mut Shell,
+    frames: &mut Frames,
+    arguments: &[Text],
+) -> Result<(), NoMemory>
+    ensures frames { OnOk result (frames.new ≡ Form.Call shell.old.vars.positional ∷ frames.old) }
+    ensures shell { OnOk result (shell.new ≡ with_parameters shell.old arguments.now) }
+{
+    let callers = Sequence::from_vec(copies_of(alloc, shell.vars.positional())?);
+    let parameters = match copies_of(alloc, arguments) {
+        Ok(parameters) => parameters,
+        Err(error) => {
+            drop(callers);
+            return Err(NoMemory::from(error));
+        },
+    };
+    match frames.push(Form::Call(callers)) {
+        Ok(()) => {
+            shell.vars.set_positional(parameters);
+            Ok(())
+        },
+        Err(lack) => {
+            drop(parameters);
+            Err(lack)
+        },
+    }
+}
+
+/// A function is entered, unless it is nested too deep.
+fn call(
+    alloc: Global,
+    shell: &mut Shell,
+    frames: &mut Frames,
+    body: &Shared<Command>,
+    arguments: &[Text],
+) -> Result<Step, NoMemory>
+    ensures { IfOk result (λ step. HasPerformed shell.new frames.new frames.old step
+        (call (levels_left frames.old) shell.old body.now arguments.now)) }
+{
+    if frames.levels_left() == 0 {
+        return too_deep(alloc);
+    }
+    push_call(alloc, shell, frames, arguments)?;
+    let step = enter_command(alloc, frames, body)?;
+    Ok(step.inside())
+}
+
+/// Where a shell goes on from a place at which no built-in acts.
+fn step_at(
+    alloc: Global,
+    shell: &mut Shell,
+    frames: &mut Frames,
+    active: Active,
+) -> Result<Step, NoMemory>
+    ensures { IfOk result (λ step. HasPerformed shell.new frames.new frames.old step
+        (performed (levels_left frames.old) shell.old active)) }
+{
+    match active {
+        Active::Acting(builtin, fields) => Ok(Step::Inward(Active::Acting(builtin, fields))),
+        Active::Calling(body, fields) => {
+            let arguments = arguments_of(fields.as_slice());
+            let step = call(alloc, shell, frames, &body, arguments)?;
+            Ok(step)
+        },
+        Active::Evaluating(text) => {
+            let step = evaluate(alloc, shell, frames, text)?;
+            Ok(step)
+        },
+        Active::Next(place) => Ok(Step::Inward(Active::Next(place))),
+        Active::Done(ended) => Ok(Step::Outward(Active::Done(ended))),
+        Active::Leaving(leave) => Ok(Step::Outward(Active::Leaving(leave))),
+    }
+}
+
 /// A built-in acts.
 #[tactic(auto, unfolding(crate::specs::Builtins::builtin_effect))]
 fn build(
     alloc: Global,
     kernel: &Kernel,
     shell: &mut Shell,
+    frames: &mut Frames,
     builtin: Builtin,
     fields: &[Text],
-) -> Result<Active, NoMemory>
-    ensures { (s : KernelState) → StandsAt kernel.now s → IfOk result (λ active.
-        with_active shell.new active ≡ builtin_effect s shell.old builtin fields.now) }
+) -> Result<Step, NoMemory>
+    ensures { (s : KernelState) → StandsAt kernel.now s → IfOk result (λ step.
+        HasPerformed shell.new frames.new frames.old step
+        (builtin_effect (levels_left frames.old) s shell.old builtin fields.now)) }
 {
     let outcome = builtin.run(alloc, kernel, shell, arguments_of(fields))?;
-    Ok(behind(builtin, outcome))
+    let step = step_at(alloc, shell, frames, behind(builtin, outcome))?;
+    Ok(step)
 }
 
-/// Where a shell goes on from a place whose action is next, or is over.
-fn step_at(active: Active) -> Step
-    ensures { (forms : List Form) → Goes result forms forms (Run.At active) }
-{
-    match active {
-        Active::Acting(builtin, fields) => Step::Inward(Active::Acting(builtin, fields)),
-        Active::Next(place) => Step::Inward(Active::Next(place)),
-        Active::Done(ended) => Step::Outward(Active::Done(ended)),
-        Active::Leaving(leave) => Step::Outward(Active::Leaving(leave)),
-    }
-}
-
-/// Where a shell goes on from its active place, where a built-in has acted if one is to.
+/// Where a shell goes on from its active place, where a built-in has acted and a text is entered if one is to.
 pub(crate) fn perform(
     alloc: Global,
     kernel: &Kernel,
     shell: &mut Shell,
+    frames: &mut Frames,
     active: Active,
 ) -> Result<Step, NoMemory>
     ensures { (s : KernelState) → StandsAt kernel.now s → IfOk result (λ step.
-        HasPerformed shell.new step (effect_at s shell.old active)) }
+        HasPerformed shell.new frames.new frames.old step
+        (effect_at (levels_left frames.old) s shell.old active)) }
 {
     match active {
         Active::Acting(builtin, fields) => {
-            let next = build(alloc, kernel, shell, builtin, fields.as_slice())?;
-            Ok(step_at(next))
+            let step = build(alloc, kernel, shell, frames, builtin, fields.as_slice())?;
+            Ok(step)
         },
-        Active::Next(place) => Ok(Step::Inward(Active::Next(place))),
-        Active::Done(ended) => Ok(Step::Outward(Active::Done(ended))),
-        Active::Leaving(leave) => Ok(Step::Outward(Active::Leaving(leave))),
+        other => {
+            let step = step_at(alloc, shell, frames, other)?;
+            Ok(step)
+        },
     }
 }

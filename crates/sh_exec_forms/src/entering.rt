@@ -141,6 +141,14 @@ fn case(command: &Shared<Command>) -> Result<Active, NoMemory>
     Ok(Active::Next(Action::Expanding(ToExpand::CaseWord(command), None)))
 }
 
+/// A function definition.
+fn definition(command: &Shared<Command>) -> Result<Active, NoMemory>
+    ensures { IfOk result (λ active. active ≡ Active.Next (Action.Defining command.now)) }
+{
+    let command = command.share()?;
+    Ok(Active::Next(Action::Defining(command)))
+}
+
 /// A compound command, the words of whose redirections are to be expanded.
 pub(crate) fn redirected(command: &Shared<Command>) -> Result<Active, NoMemory>
     ensures { IfOk result (λ active.
@@ -239,7 +247,7 @@ pub(crate) fn enter_command(
             Ok(Step::Inward(Active::Next(place)))
         },
         Command::Compound(compound) => enter_compound(alloc, frames, compound.get(), command),
-        Command::Function { .. } => Ok(Step::Outward(Active::Done(CommandStatus::unexcused(0)))),
+        Command::Function { .. } => Ok(Step::Inward(definition(command)?)),
     }
 }
 

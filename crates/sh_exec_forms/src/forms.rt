@@ -3,14 +3,14 @@ ghost use Rattle.std.specs.Prelude.{◌≡◌, [], IfOk};
 ghost use Rattle.sh_kernel.specs.State.{KernelState, StandsAt};
 ghost use Rattle.sh_syntax.specs.declared.tree.Command.TheViews as view;
 ghost use Rattle.sh_exec_forms.specs.Entering.{list_run, pipeline_run, with_others};
-ghost use Rattle.sh_exec_forms.specs.Forms.{Acted, Follows, HasGone, IsActed, IsOnWay, after_leave, after_status, at_action, branch, connected_run, goes_on, negation, otherwise, outward, undone, with_run};
+ghost use Rattle.sh_exec_forms.specs.Forms.{Acted, Follows, HasGone, IsActed, IsOnWay, after_call, after_leave, after_status, at_action, branch, connected_run, goes_on, negation, otherwise, outward, undone, with_run};
 ghost use Rattle.sh_exec_forms.specs.Frames.{Goes, IsFewer, Leaves, has_loop, run_of};
 ghost use Rattle.sh_exec_forms.specs.Running.{Run};
 
 use crate::acting::perform;
 use crate::entering::{enter, enter_inside, enter_joined, enter_list};
 use crate::frames::Frames;
-use crate::loops::{leave_loop, leave_series, next_value, repeat, test, within};
+use crate::loops::{end_within, leave_loop, leave_series, next_value, repeat, test, within};
 use crate::step::Step;
 use sh_base::NoMemory;
 use sh_base::shared::Shared;
@@ -158,6 +158,22 @@ fn undo(
     }
 }
 
+/// What a function comes to whose body is left.
+fn leave_call(frames: &Frames, shell: &Shell, leave: Leave) -> Active
+    ensures { result ≡ after_call frames.now leave shell.now }
+{
+    match leave {
+        Leave::Exit(status) => Active::Leaving(Leave::Exit(status)),
+        Leave::Fault(status) => Active::Leaving(Leave::Fault(status)),
+        Leave::Return(status) => {
+            let errexit = shell.vars.options().exit_on_error;
+            end_within(frames, errexit, CommandStatus::unexcused(status))
+        },
+        Leave::Break(inside) => Active::Leaving(Leave::Break(inside)),
+        Leave::Continue(inside) => Active::Leaving(Leave::Continue(inside)),
+    }
+}
+
 /// A form in which all is done.
 #[tactic(auto, using(crate::proofs::Outward::leaves))]
 fn end_form(
@@ -170,7 +186,7 @@ fn end_form(
 ) -> Result<Step, NoMemory>
     ensures state { (s : KernelState) → StandsAt kernel.old s → IfOk result (λ step.
         HasGone kernel.new shell.new frames.new frames.old step
-        (after_status form s shell.old ended)) }
+        (after_status frames.old form s shell.old ended)) }
     ensures kept { IfOk result (λ step. Leaves step frames.new frames.old) }
     ensures terminal { kernel.new.terminal ≡ kernel.old.terminal }
 {
@@ -210,6 +226,13 @@ fn end_form(
             shell.vars.set_status(ended.status);
             Ok(next_value(series, ended))
         },
+        Form::Call(positional) => {
+            let errexit = shell.vars.options().exit_on_error;
+            shell.vars.set_positional(positional.into_vec());
+            let ended = CommandStatus::unexcused(ended.status);
+            Ok(Step::Outward(end_within(frames, errexit, ended)))
+        },
+        Form::Evaluation => Ok(Step::Outward(Active::Done(ended))),
         Form::FailuresIgnored => Ok(Step::Outward(Active::Done(ended))),
     }
 }
@@ -256,6 +279,12 @@ fn leave_form(
             Ok(step)
         },
         Form::ForBody(series) => Ok(leave_series(shell, frames, series, leave)),
+        Form::Call(positional) => {
+            let active = leave_call(frames, shell, leave);
+            shell.vars.set_positional(positional.into_vec());
+            Ok(Step::Outward(active))
+        },
+        Form::Evaluation => Ok(Step::Outward(Active::Leaving(leave))),
         Form::FailuresIgnored => Ok(Step::Outward(Active::Leaving(leave))),
     }
 }
@@ -278,6 +307,8 @@ fn go_outward(
     match active {
         Active::Next(place) => Ok(Step::Inward(Active::Next(place))),
         Active::Acting(builtin, fields) => Ok(Step::Inward(Active::Acting(builtin, fields))),
+        Active::Calling(body, fields) => Ok(Step::Inward(Active::Calling(body, fields))),
+        Active::Evaluating(text) => Ok(Step::Inward(Active::Evaluating(text))),
         Active::Done(ended) => match frames.pop() {
             Some(form) => end_form(alloc, kernel, shell, frames, form, ended),
             None => Ok(Step::Inward(Active::Done(ended))),
@@ -313,7 +344,7 @@ fn settle_outward(
     }
 }
 
-/// A built-in acts where one is to, and statuses go outward until the place is an action. The only error is want of memory, after
+/// A built-in acts where one is to, a text that it runs is entered, and statuses go outward until the place is an action. The only error is want of memory, after
 /// which the shell is given up.
 pub fn settle(
     alloc: Global,
@@ -327,7 +358,7 @@ pub fn settle(
         (at_action [] s shell.old (run_of frames.old active))) }
     ensures terminal { kernel.new.terminal ≡ kernel.old.terminal }
 {
-    match perform(alloc, kernel, shell, active)? {
+    match perform(alloc, kernel, shell, frames, active)? {
         Step::Inward(active) => Ok(active),
         Step::Outward(active) => {
             let errexit = shell.vars.options().exit_on_error;

@@ -1,9 +1,9 @@
 //! The running forms of a shell.
 ghost use Rattle.std.specs.Prelude.{◌≡◌, ◌∷◌, [], IfOk, MatchOption, OnOk, reverse};
-ghost use Rattle.sh_exec_forms.specs.Frames.{forms_in, framed, has_loop, ignores_failure, is_failure_ignored, is_loop, root_forms};
+ghost use Rattle.sh_exec_forms.specs.Frames.{forms_in, framed, has_call, has_loop, is_failure_ignored, levels_left, root_forms};
 
 use sh_base::NoMemory;
-use sh_exec_actions::{Form, Frame};
+use sh_exec_actions::{Form, Frame, MOST_LEVELS};
 use sh_exec_parts::copy_all;
 use std::alloc::Global;
 use std::marker::Model;
@@ -56,10 +56,12 @@ impl Frames {
     pub fn push(&mut self, form: Form) -> Result<(), NoMemory>
         ensures { OnOk result (self.new ≡ form ∷ self.old) }
     {
-        let ignores_failure = ignores_failure(&form) || self.is_failure_ignored();
+        let ignores_failure = form.ignores_failure() || self.is_failure_ignored();
+        let levels_left = form.levels_inside(self.levels_left());
         self.frames.push(Frame {
             form,
             ignores_failure,
+            levels_left,
         })?;
         Ok(())
     }
@@ -75,7 +77,7 @@ impl Frames {
         }
     }
 
-    /// The forms, the outermost first, each with whether failures inside it are ignored.
+    /// The forms, the outermost first, each with what holds inside it.
     pub fn as_slice(&self) -> &[Frame]
         ensures { result.now ≡ reverse (framed self.now) }
     {
@@ -91,11 +93,18 @@ impl Frames {
         })
     }
 
-    /// Whether a loop is among them.
+    /// Whether a loop is among them that `break` and `continue` may mean (2.15): a function doesn't see those of its caller.
     pub fn has_loop(&self) -> bool
         ensures { result ≡ has_loop self.now }
     {
         is_loop_among(self.frames.as_slice())
+    }
+
+    /// Whether the body of a function is among them.
+    pub fn has_call(&self) -> bool
+        ensures { result ≡ has_call self.now }
+    {
+        is_call_among(self.frames.as_slice())
     }
 
     /// Whether `set -e` takes no notice of a failure inside them. Looks at the innermost one only.
@@ -107,54 +116,47 @@ impl Frames {
             None => false,
         }
     }
+
+    /// How many more texts and calls of functions there may be inside them, one in another. Looks at the innermost one only.
+    pub fn levels_left(&self) -> u16
+        ensures { result ≡ levels_left self.now }
+    {
+        match self.frames.last() {
+            Some(frame) => frame.levels_left,
+            None => MOST_LEVELS,
+        }
+    }
 }
 
-/// Whether a loop is among some forms.
+/// Whether a loop is among some forms, of which the last is the innermost.
+#[tactic(auto, using(crate::proofs::Framed::innermost))]
 fn is_loop_among(frames: &[Frame]) -> bool
-    ensures { result ≡ has_loop (forms_in frames.now) }
+    ensures { result ≡ has_loop (forms_in (reverse frames.now)) }
 {
     let mut rest = frames;
-    while let Some((frame, others)) = rest.split_first() {
-        if is_loop(&frame.form) {
+    'frames: while let Some((frame, others)) = rest.split_last() {
+        if frame.form.is_loop() {
             return true;
+        }
+        if frame.form.is_call() {
+            return false;
         }
         rest = others;
     }
     false
 }
 
-/// Whether a form is a loop.
-fn is_loop(form: &Form) -> bool
-    ensures { result ≡ is_loop form.now }
+/// Whether the body of a function is among some forms, of which the last is the innermost.
+#[tactic(auto, using(crate::proofs::Framed::innermost))]
+fn is_call_among(frames: &[Frame]) -> bool
+    ensures { result ≡ has_call (forms_in (reverse frames.now)) }
 {
-    match form {
-        Form::Text(_) => false,
-        Form::Commands(_) => false,
-        Form::Joined(_) => false,
-        Form::Negated => false,
-        Form::Restoring(_) => false,
-        Form::If(_) => false,
-        Form::Condition(_, _) => true,
-        Form::Body(_) => true,
-        Form::ForBody(_) => true,
-        Form::FailuresIgnored => false,
+    let mut rest = frames;
+    'frames: while let Some((frame, others)) = rest.split_last() {
+        if frame.form.is_call() {
+            return true;
+        }
+        rest = others;
     }
-}
-
-/// Whether `set -e` takes no notice of a failure inside a form, whatever is around it (XCU 2.15, set).
-fn ignores_failure(form: &Form) -> bool
-    ensures { result ≡ ignores_failure form.now }
-{
-    match form {
-        Form::Text(_) => false,
-        Form::Commands(_) => false,
-        Form::Joined(_) => true,
-        Form::Negated => true,
-        Form::Restoring(_) => false,
-        Form::If(_) => true,
-        Form::Condition(_, _) => true,
-        Form::Body(_) => false,
-        Form::ForBody(_) => false,
-        Form::FailuresIgnored => true,
-    }
+    false
 }

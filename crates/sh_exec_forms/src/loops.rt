@@ -4,7 +4,7 @@ ghost use Rattle.sh_exec_actions.specs.declared.form.Form.{Form};
 ghost use Rattle.sh_exec_actions.specs.Statuses.{unexcused};
 ghost use Rattle.sh_exec_command.specs.Series.{rest_of_series};
 ghost use Rattle.sh_exec_forms.specs.Forms.{Acted, Follows, behind_condition, beyond, condition_run, ended_within, left_within, loop_left, onward, onward_by, runs, within};
-ghost use Rattle.sh_exec_forms.specs.Frames.{Goes, Leaves, has_loop, is_failure_ignored};
+ghost use Rattle.sh_exec_forms.specs.Frames.{Goes, Leaves, has_call, has_loop, is_failure_ignored};
 ghost use Rattle.sh_exec_forms.specs.Running.{Run};
 ghost use Rattle.sh_kernel.specs.State.{KernelState};
 
@@ -30,7 +30,7 @@ pub(crate) enum Onward {
 
 /// A command that ended: a failure is excused where failures are ignored, and else ends the shell if `set -e` says so (XCU 2.15,
 /// set).
-fn end_within(frames: &Frames, errexit: bool, ended: CommandStatus) -> Active
+pub(crate) fn end_within(frames: &Frames, errexit: bool, ended: CommandStatus) -> Active
     ensures { result ≡ ended_within errexit (is_failure_ignored frames.now) ended }
 {
     if ended.status == 0 {
@@ -48,13 +48,19 @@ fn end_within(frames: &Frames, errexit: bool, ended: CommandStatus) -> Active
     Active::Done(ended)
 }
 
-/// break and continue do nothing where no loop is around.
+/// break and continue do nothing where no loop is around, and return is exit where no function is.
 fn leave_within(frames: &Frames, leave: Leave) -> Active
-    ensures { result ≡ left_within (has_loop frames.now) leave }
+    ensures { result ≡ left_within (has_call frames.now) (has_loop frames.now) leave }
 {
     match leave {
         Leave::Exit(status) => Active::Leaving(Leave::Exit(status)),
         Leave::Fault(status) => Active::Leaving(Leave::Fault(status)),
+        Leave::Return(status) => {
+            if frames.has_call() {
+                return Active::Leaving(Leave::Return(status));
+            }
+            Active::Leaving(Leave::Exit(status))
+        },
         Leave::Break(inside) => {
             if frames.has_loop() {
                 return Active::Leaving(Leave::Break(inside));
@@ -76,6 +82,8 @@ pub(crate) fn within(frames: &Frames, errexit: bool, active: Active) -> Active
 {
     match active {
         Active::Acting(builtin, fields) => Active::Acting(builtin, fields),
+        Active::Calling(body, fields) => Active::Calling(body, fields),
+        Active::Evaluating(text) => Active::Evaluating(text),
         Active::Next(place) => Active::Next(place),
         Active::Done(ended) => end_within(frames, errexit, ended),
         Active::Leaving(leave) => leave_within(frames, leave),
@@ -99,6 +107,7 @@ fn where_to(frames: &Frames, leave: Leave) -> Onward
     match leave {
         Leave::Exit(status) => Onward::Left(Leave::Exit(status)),
         Leave::Fault(status) => Onward::Left(Leave::Fault(status)),
+        Leave::Return(status) => Onward::Left(Leave::Return(status)),
         Leave::Break(inside) => match beyond(frames, inside) {
             Some(inside) => Onward::Left(Leave::Break(inside)),
             None => Onward::Over,

@@ -1,6 +1,7 @@
 -- The actions of a shell that make no process.
 use Rattle.std.specs.Prelude.{ℕ, List, [], ◌∷◌, ◌++◌, Bool, true, false, drop, length, nat_eq, Option, Some, None, Result, Ok, Err, if◌then◌else◌}
 use Rattle.sh_builtin.specs.Builtins.{name_of}
+use Rattle.sh_builtin.specs.Functions.{Named}
 use Rattle.sh_exec_parts.specs.Messages.{message, refusal_text, write_error}
 use Rattle.sh_builtin.specs.declared.outcome.Completion.TheVariants as completion
 use Rattle.sh_builtin.specs.declared.outcome.Leave.TheVariants as leave
@@ -9,6 +10,7 @@ use Rattle.sh_exec_parts.specs.declared.message.Piece.{Piece}
 use Rattle.sh_exec_parts.specs.declared.redirection.Redirection.{Redirection}
 use Rattle.sh_exec_command.specs.Assigning.{assign_turn}
 use Rattle.sh_exec_command.specs.Cases.{case_turn, pattern_turn}
+use Rattle.sh_exec_command.specs.Defining.{define_turn}
 use Rattle.sh_exec_command.specs.Expanding.{Turn, fatal, words_turn}
 use Rattle.sh_exec_actions.specs.Preparing.{ahead, not_done}
 use Rattle.sh_exec_command.specs.Redirects.{redirects_turn}
@@ -53,24 +55,24 @@ use Rattle.sh_kernel.specs.Calls.{close_call, end_call}
 use Rattle.sh_kernel.specs.State.{KernelState}
 use Rattle.sh_kernel_descriptors.specs.declared.descriptor.DescriptorRef.TheVariants.{Aside}
 use Rattle.sh_kernel_descriptors.specs.declared.fault.KernelFault.{KernelFault}
+use Rattle.sh_syntax.specs.declared.tree.Command.{Command}
 use Rattle.sh_syntax.specs.declared.tree.Command.TheViews as view
 use Rattle.sh_vars.specs.Environment.{Environment}
 
--- ---- reading (2.1): where no command follows the shell is left with the status of the text's last command, which is 0 before
--- the first one
+-- ---- reading (2.1): where no command follows the text is done, with the status of its last command, which is 0 before the first one
 abbrev pub read_turn : Environment → (status : ℕ) → Found → Run
-read_turn env status found.Nothing = At (Leaving (leave.Exit status))
+read_turn env status found.Nothing = At (Done (unexcused status))
 read_turn env status (found.Command tree rest) = In (Text rest) (items_run (view.out-CompoundList tree).items (unexcused env.special.status))
 read_turn env status (found.Fault refusal) = At (fatal (refusal_text refusal))
 
 -- ---- expansion
-abbrev pub expand_turn : FileMap → Environment → ToExpand → Option Pending → Turn
-expand_turn files env (Words command in_place status) pending = words_turn files env command in_place status pending
-expand_turn files env (Values p) pending = assign_turn files env p pending
-expand_turn files env (Redirects command) pending = redirects_turn files env command pending
-expand_turn files env (ForWords command) pending = series_turn files env command pending
-expand_turn files env (CaseWord command) pending = case_turn files env command pending
-expand_turn files env (CasePattern case) pending = pattern_turn env case pending
+abbrev pub expand_turn : FileMap → Environment → List Named → ToExpand → Option Pending → Turn
+expand_turn files env functions (Words command in_place status) pending = words_turn files env functions command in_place status pending
+expand_turn files env functions (Values p) pending = assign_turn files env p pending
+expand_turn files env functions (Redirects command) pending = redirects_turn files env command pending
+expand_turn files env functions (ForWords command) pending = series_turn files env command pending
+expand_turn files env functions (CaseWord command) pending = case_turn files env command pending
+expand_turn files env functions (CasePattern case) pending = pattern_turn env case pending
 
 -- ---- reading what a substitution's process writes, 1024 bytes at a time; a read that fails counts as end of file
 abbrev pub next : Action → Run
@@ -133,6 +135,7 @@ wait_turn s pid children = wait_by children (wait_status s pid children)
 abbrev pub keeps : Role → Bool
 keeps role.NoCommandName = true
 keeps (role.Builtin builtin) = true
+keeps (role.Function body) = true
 keeps role.Program = false
 keeps (role.Compound command) = true
 keeps (role.Subshell list) = false
@@ -194,6 +197,10 @@ round_run (round.Over active) = At active
 
 abbrev pub given_round : KernelState → Shell → series.Given → Acted
 given_round s shell g = with_run s (record shell { vars = g.environment }) (round_run g.round)
+
+-- ---- a function is defined (2.9.5)
+abbrev pub defined : KernelState → Shell → Command → Acted
+defined s shell definition = with_run s (record shell { functions = define_turn shell.functions definition }) (At (Done (unexcused 0)))
 
 -- ---- the end of the process
 unfoldable pub end_turn : KernelState → Shell → ℕ → Acted

@@ -6,12 +6,12 @@ use Rattle.sh_builtin.specs.declared.shell.Shell.{Shell}
 use Rattle.sh_exec_command.specs.Reading.{next_command}
 use Rattle.sh_exec_command.specs.Series.{give_turn}
 use Rattle.sh_exec_actions.specs.declared.action.Active.{Active}
-use Rattle.sh_exec_actions.specs.declared.action.Active.TheVariants.{Acting, Next, Done, Leaving}
+use Rattle.sh_exec_actions.specs.declared.action.Active.TheVariants.{Acting, Calling, Evaluating, Next, Done, Leaving}
 use Rattle.sh_exec_actions.specs.declared.action.Expanded.{Expanded}
 use Rattle.sh_exec_actions.specs.declared.action.Expanded.TheVariants as expanded
 use Rattle.sh_exec_actions.specs.declared.action.Action.{Action}
-use Rattle.sh_exec_actions.specs.declared.action.Action.TheVariants.{Reading, Expanding, ReadSubstitution, WaitSubstitution, Redirecting, Forking, Starting, ForkStage, AssignLoopVariable, Waiting, Writing, Ending}
-use Rattle.sh_exec_shell.specs.Acting.{answer_turn, collect_turn, end_turn, expand_turn, given_round, next, read_turn, redirect_turn, wait_turn, write_turn}
+use Rattle.sh_exec_actions.specs.declared.action.Action.TheVariants.{Reading, Expanding, ReadSubstitution, WaitSubstitution, Redirecting, Forking, Starting, ForkStage, AssignLoopVariable, Defining, Waiting, Writing, Ending}
+use Rattle.sh_exec_shell.specs.Acting.{answer_turn, collect_turn, defined, end_turn, expand_turn, given_round, next, read_turn, redirect_turn, wait_turn, write_turn}
 use Rattle.sh_exec_shell.specs.Forks.{Turned, fork_turn, inheriting, stage_turn, substitute_turn}
 use Rattle.sh_exec_forms.specs.Forms.{Acted, with_run, after, at_action}
 use Rattle.sh_exec_forms.specs.Moves.{move_run}
@@ -34,7 +34,7 @@ expansion s shell t = expanded_by s (record shell { vars = t.environment }) t.ou
 -- the action at a place; a program's start isn't the shell's
 abbrev pub act_place : KernelState → Shell → Action → Turned
 act_place s shell (Reading rest status) = plain (with_run s shell (read_turn shell.vars status (next_command rest)))
-act_place s shell (Expanding wants pending) = expansion s shell (expand_turn s.machine.files shell.vars wants pending)
+act_place s shell (Expanding wants pending) = expansion s shell (expand_turn s.machine.files shell.vars shell.functions wants pending)
 act_place s shell (ReadSubstitution substitution) = plain (collect_turn s shell substitution)
 act_place s shell (WaitSubstitution substitution) = plain (with_run s shell (next (answer_turn s shell.pid substitution)))
 act_place s shell (Redirecting p) = plain (redirect_turn s shell p)
@@ -42,12 +42,15 @@ act_place s shell (Forking p) = fork_turn s shell p
 act_place s shell (Starting fields) = plain (with_run s shell (next (Starting fields)))
 act_place s shell (ForkStage stages) = stage_turn s shell stages
 act_place s shell (AssignLoopVariable series) = plain (given_round s shell (give_turn shell.vars series))
+act_place s shell (Defining definition) = plain (defined s shell definition)
 act_place s shell (Waiting children) = plain (with_run s shell (At (wait_turn s shell.pid children)))
 act_place s shell (Writing piece finish) = plain (write_turn s shell piece finish)
 act_place s shell (Ending status) = plain (end_turn s shell status)
 
 abbrev pub act_at : KernelState → Shell → Active → Turned
 act_at s shell (Acting builtin fields) = plain (with_run s shell (At (Acting builtin fields)))
+act_at s shell (Calling body fields) = plain (with_run s shell (At (Calling body fields)))
+act_at s shell (Evaluating text) = plain (with_run s shell (At (Evaluating text)))
 act_at s shell (Next place) = act_place s shell place
 act_at s shell (Done ended) = plain (with_run s shell (At (Done ended)))
 act_at s shell (Leaving leave) = plain (with_run s shell (At (Leaving leave)))
@@ -65,10 +68,13 @@ reduce s shell around (In form run) =
 abbrev pub at_root : Run → Run
 at_root (At (Leaving (leave.Exit status))) = At (Next (Ending status))
 at_root (At (Leaving (leave.Fault status))) = At (Next (Ending status))
+at_root (At (Leaving (leave.Return status))) = At (Next (Ending status))
 at_root (At (Leaving (leave.Break inside))) = At (Next (Ending 0))
 at_root (At (Leaving (leave.Continue inside))) = At (Next (Ending 0))
 at_root (At (Done ended)) = At (Next (Ending ended.status))
 at_root (At (Acting builtin fields)) = At (Acting builtin fields)
+at_root (At (Calling body fields)) = At (Calling body fields)
+at_root (At (Evaluating text)) = At (Evaluating text)
 at_root (At (Next place)) = At (Next place)
 at_root (In form run) = In form run
 

@@ -16,11 +16,10 @@ use sh_base::NoMemory;
 use sh_base::sequence::{Sequence, Text};
 use sh_base::shared::Shared;
 use sh_builtin::Shell;
-use sh_exec_actions::status::ERROR;
 use sh_exec_actions::{
-    Action, Active, ExpandedCommand, Finish, Move, Pending, Stages, Substitution, ToExpand,
-    go_ahead,
+    Action, Active, ExpandedCommand, Move, Pending, Stages, Substitution, ToExpand, go_ahead,
 };
+use sh_exec_command::fatal_message;
 use sh_exec_forms::{Frames, body_of, go_to, stage};
 use sh_exec_machine::{Forked, fork_process};
 use sh_exec_parts::Queue;
@@ -34,7 +33,7 @@ fn refused(alloc: Global) -> Result<Active, NoMemory>
     ensures { IfOk result (λ active. active ≡ expanding.fatal messages.cannot_fork) }
 {
     let piece = cannot_fork(alloc)?;
-    Ok(Active::Next(Action::Writing(piece, Finish::Fault(ERROR))))
+    Ok(fatal_message(piece))
 }
 
 /// Some processes, and one more.
@@ -48,6 +47,7 @@ fn one_more(children: Sequence<u32>, child: u32) -> Result<Sequence<u32>, NoMemo
 
 /// What runs in a process that a shell made, with a copy of its environment.
 fn with_copy(
+    alloc: Global,
     child: u32,
     shell: &Shell,
     frames: Frames,
@@ -59,12 +59,12 @@ fn with_copy(
           run = run_of frames active;
         }) }
 {
-    match shell.fork(child) {
+    match shell.fork(alloc, child) {
         Ok(forked) => Ok(interpreter_of(forked, frames, active)),
-        Err(error) => {
+        Err(lack) => {
             drop(frames);
             drop(active);
-            Err(NoMemory::from(error))
+            Err(lack)
         },
     }
 }
@@ -92,7 +92,7 @@ fn put_program(
     };
     let to = go_ahead(prepared);
     let active = go_to(alloc, &mut frames, to)?;
-    with_copy(child, shell, frames, active)
+    with_copy(alloc, child, shell, frames, active)
 }
 
 /// The turn in which a program's process is made (XCU 2.9.1.6).
@@ -191,7 +191,7 @@ fn put_stage(
     let active = stage(alloc, &mut frames, &command);
     drop(command);
     let active = active?;
-    with_copy(child, shell, frames, active)
+    with_copy(alloc, child, shell, frames, active)
 }
 
 /// The process of the next stage.
@@ -310,7 +310,7 @@ fn put_substitution(
 {
     let mut frames = Frames::of_process(alloc, ignores_failure)?;
     let active = body_of(alloc, &mut frames, program)?;
-    with_copy(child, shell, frames, active)
+    with_copy(alloc, child, shell, frames, active)
 }
 
 /// A command waits for what a process writes.

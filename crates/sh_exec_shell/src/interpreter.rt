@@ -33,10 +33,11 @@ impl Model for Interpreter {
     ghost use Rattle.sh_exec_forms.specs.Codes.{run_code};
     ghost use Rattle.sh_exec_forms.specs.Running.{InterpreterState};
     ghost use Rattle.sh_exec_forms.specs.Frames.{run_of};
+    ghost use Rattle.sh_syntax.specs.contracts.tree.Command as command_row;
 
     ghost Value = { InterpreterState };
 
-    ghost coded = { Prim.hlevel (codes, map_code, run_code) };
+    ghost coded = { Prim.hlevel (codes, map_code, command_row.the_row.coded, run_code) };
 
     ghost view = { λ t. record { shell = t.shell; run = run_of t.frames t.active } };
 }
@@ -48,6 +49,7 @@ fn status_of(leave: Leave) -> u8
     match leave {
         Leave::Exit(status) => status,
         Leave::Fault(status) => status,
+        Leave::Return(status) => status,
         Leave::Break(_) => 0,
         Leave::Continue(_) => 0,
     }
@@ -62,6 +64,8 @@ fn ending(active: Active) -> Active
         Active::Done(ended) => Active::Next(Action::Ending(ended.status)),
         Active::Next(place) => Active::Next(place),
         Active::Acting(builtin, fields) => Active::Acting(builtin, fields),
+        Active::Calling(body, fields) => Active::Calling(body, fields),
+        Active::Evaluating(text) => Active::Evaluating(text),
     }
 }
 
@@ -137,12 +141,12 @@ impl Interpreter {
                 return Err(lack);
             },
         };
-        match self.shell.copy() {
+        match self.shell.copy(alloc) {
             Ok(shell) => Ok(interpreter_of(shell, frames, active)),
-            Err(error) => {
+            Err(lack) => {
                 drop(frames);
                 drop(active);
-                Err(NoMemory::from(error))
+                Err(lack)
             },
         }
     }

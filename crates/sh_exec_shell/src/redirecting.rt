@@ -21,6 +21,7 @@ fn keeps(role: &Role) -> bool
     match role {
         Role::NoCommandName => true,
         Role::Builtin(_) => true,
+        Role::Function(_) => true,
         Role::Program => false,
         Role::Compound(_) => true,
         Role::Subshell(_) => false,

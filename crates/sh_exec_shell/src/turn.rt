@@ -6,7 +6,7 @@ ghost use Rattle.sh_exec_command.specs.Expanding as expanding;
 ghost use Rattle.sh_exec_command.specs.Reading.{next_command};
 ghost use Rattle.sh_exec_forms.specs.Forms.{IsActed};
 ghost use Rattle.sh_exec_command.specs.Series.{give_turn};
-ghost use Rattle.sh_exec_shell.specs.Acting.{expand_turn, given_round, in_forms, read_turn, round_run};
+ghost use Rattle.sh_exec_shell.specs.Acting.{defined, expand_turn, given_round, in_forms, read_turn, round_run};
 ghost use Rattle.sh_exec_shell.specs.Forks.{IsTurned, inheriting, inside};
 ghost use Rattle.sh_exec_shell.specs.Reduction.{act_at, act_place, expanded_by, expansion, plain, reduce};
 ghost use Rattle.sh_exec_forms.specs.Running.{Run};
@@ -19,20 +19,19 @@ use crate::output::{end_turn, write_turn};
 use crate::redirecting::redirect_turn;
 use crate::waits::{answer_turn, wait_turn};
 use sh_base::NoMemory;
-use sh_builtin::{Leave, Shell};
-use sh_exec_actions::status::ERROR;
-use sh_exec_actions::{
-    Action, Active, CommandStatus, Expanded, Finish, ForLoop, Form, Pending, ToExpand,
-};
+use sh_base::shared::Shared;
+use sh_builtin::{Functions, Shell};
+use sh_exec_actions::{Action, Active, CommandStatus, Expanded, ForLoop, Form, Pending, ToExpand};
 use sh_exec_command::{
-    Found, Round, assign_turn, case_turn, find_command, give_turn, pattern_turn, redirects_turn,
-    series_turn, words_turn,
+    Found, Round, assign_turn, case_turn, define_turn, fatal_message, find_command, give_turn,
+    pattern_turn, redirects_turn, series_turn, words_turn,
 };
 use sh_exec_forms::{Frames, enter, enter_list, go_to, settle};
 use sh_exec_parts::message::refused;
 use sh_exec_parts::{Queue, Rest};
 use sh_files::Files;
 use sh_kernel::Kernel;
+use sh_syntax::tree::Command;
 use sh_vars::Vars;
 use std::alloc::Global;
 
@@ -48,7 +47,7 @@ fn read(
         ≡ run_in frames.old (read_turn vars.now status (next_command rest))) }
 {
     match find_command(alloc, rest)? {
-        Found::Nothing => Ok(Active::Leaving(Leave::Exit(status))),
+        Found::Nothing => Ok(Active::Done(CommandStatus::unexcused(status))),
         Found::Command(tree, rest) => {
             let items = Queue::new(tree.into_items());
             match frames.push(Form::Text(rest)) {
@@ -68,7 +67,7 @@ fn read(
         },
         Found::Fault(refusal) => {
             let piece = refused(alloc, refusal)?;
-            Ok(Active::Next(Action::Writing(piece, Finish::Fault(ERROR))))
+            Ok(fatal_message(piece))
         },
     }
 }
@@ -79,18 +78,21 @@ fn expand(
     wants: ToExpand,
     pending: Option<Pending>,
     vars: &mut Vars,
+    functions: &Functions,
     files: &Files,
 ) -> Result<Expanded, NoMemory>
     ensures { IfOk result (λ e.
-        record { environment = vars.new; outcome = e } ≡ expand_turn files.now vars.old wants
-        pending) }
+        record { environment = vars.new; outcome = e } ≡ expand_turn files.now vars.old
+        functions.now wants pending) }
 {
     match wants {
         ToExpand::Words {
             command,
             in_place,
             status,
-        } => words_turn(alloc, command, in_place, status, pending, vars, files),
+        } => words_turn(
+            alloc, command, in_place, status, pending, vars, functions, files,
+        ),
         ToExpand::Values(prepared) => assign_turn(alloc, prepared, pending, vars, files),
         ToExpand::Redirects(command) => redirects_turn(alloc, command, pending, vars, files),
         ToExpand::ForWords(command) => series_turn(alloc, command, pending, vars, files),
@@ -143,10 +145,17 @@ fn expand_place(
     ensures state { (s : KernelState) → StandsAt kernel.old s → IfOk result (λ r.
         IsTurned kernel.new shell.new (run_of frames.new r.0) r.1
         (inside frames.old (inheriting (is_failure_ignored frames.old)
-        (expansion s shell.old (expand_turn s.machine.files shell.old.vars wants pending))))) }
+        (expansion s shell.old (expand_turn s.machine.files shell.old.vars shell.old.functions wants pending))))) }
     ensures terminal { kernel.new.terminal ≡ kernel.old.terminal }
 {
-    let outcome = expand(alloc, wants, pending, &mut shell.vars, kernel.files())?;
+    let outcome = expand(
+        alloc,
+        wants,
+        pending,
+        &mut shell.vars,
+        &shell.functions,
+        kernel.files(),
+    )?;
     let (active, child) = expanded(alloc, kernel, shell, frames, outcome)?;
     Ok((active, child))
 }
@@ -187,6 +196,20 @@ fn give(
     let round = give_turn(alloc, series, &mut shell.vars)?;
     let active = enter_round(alloc, frames, round)?;
     Ok(active)
+}
+
+/// The turn of a function definition.
+fn define(
+    alloc: Global,
+    kernel: &Kernel,
+    shell: &mut Shell,
+    definition: Shared<Command>,
+) -> Result<Active, NoMemory>
+    ensures { (s : KernelState) → StandsAt kernel.now s → IfOk result (λ active.
+        IsActed kernel.now shell.new (Run.At active) (defined s shell.old definition)) }
+{
+    define_turn(alloc, definition, &mut shell.functions)?;
+    Ok(Active::Done(CommandStatus::unexcused(0)))
 }
 
 /// The action at a place.
@@ -249,6 +272,10 @@ fn act_place(
             let active = give(alloc, kernel, shell, frames, series)?;
             Ok((active, None))
         },
+        Action::Defining(definition) => {
+            let active = define(alloc, kernel, shell, definition)?;
+            Ok((active, None))
+        },
         Action::Waiting(children) => Ok((wait_turn(kernel, shell.pid, children), None)),
         Action::Writing(piece, finish) => {
             let active = write_turn(alloc, kernel, shell, piece, finish)?;
@@ -278,6 +305,8 @@ fn act(
             Ok((active, child))
         },
         Active::Acting(builtin, fields) => Ok((Active::Acting(builtin, fields), None)),
+        Active::Calling(body, fields) => Ok((Active::Calling(body, fields), None)),
+        Active::Evaluating(text) => Ok((Active::Evaluating(text), None)),
         Active::Done(ended) => Ok((Active::Done(ended), None)),
         Active::Leaving(leave) => Ok((Active::Leaving(leave), None)),
     }

@@ -2,7 +2,7 @@
 use Rattle.std.proofs.Common.{◌≡◌, List, [], ◌∷◌, map, Bool, true, false, sym, ap, ◌∙◌, subst}
 use Rattle.sh_exec_forms.specs.Running.{Run}
 use Rattle.sh_exec_forms.specs.Entering.{and_or_run, command_entry, command_run, commands_run, commands_step, form_entry, is_subshell, list_run, pipeline_run, redirected, to_enter, unless_subshell, with_negation, with_others}
-use Rattle.sh_exec_forms.proofs.Entered.{and_or_is, case_entered, compound_entered, compound_is, for_entered, for_parameters_entered, group_entered, if_entered, list_with, loop_entered, pipeline_is, simple_entered, subshell_entered, trees_beside}
+use Rattle.sh_exec_forms.proofs.Entered.{and_or_is, case_entered, compound_entered, compound_is, for_entered, for_parameters_entered, function_entered, group_entered, if_entered, list_with, loop_entered, pipeline_is, simple_entered, subshell_entered, trees_beside}
 use Rattle.sh_syntax.specs.declared.tree.AndOr.{AndOr}
 use Rattle.sh_syntax.specs.declared.tree.Command.{Command}
 use Rattle.sh_syntax.specs.declared.tree.Command.TheOpen as layer
@@ -13,10 +13,11 @@ use Rattle.sh_syntax.specs.declared.tree.CompoundForm.{CompoundForm}
 use Rattle.sh_syntax.specs.declared.tree.CompoundForm.TheVariants as form
 use Rattle.sh_syntax.specs.declared.tree.CompoundList.{CompoundList}
 use Rattle.sh_syntax.specs.declared.tree.Connected.{Connected}
+use Rattle.sh_syntax.specs.declared.tree.Name.{Name}
 use Rattle.sh_syntax.specs.declared.tree.Pipeline.{Pipeline}
 use Rattle.sh_syntax.specs.declared.tree.Redirect.{Redirect}
 use Rattle.sh_syntax.specs.declared.tree.SimpleItem.{SimpleItem}
-use Rattle.sh_laws.specs.Beginnings.{ListBegins, begins_list, more_items, AndOrBegins, joined, ConnectedBegin, PipelineBegins, staged, CommandsBegin, no_commands, more_commands, CommandBegins, by_words, by_form, FormBegins, in_group, in_subshell, in_if, in_loop, in_for, in_for_parameters, in_case}
+use Rattle.sh_laws.specs.Beginnings.{ListBegins, begins_list, more_items, AndOrBegins, joined, ConnectedBegin, PipelineBegins, staged, CommandsBegin, no_commands, more_commands, CommandBegins, by_words, by_form, by_definition, FormBegins, in_group, in_subshell, in_if, in_loop, in_for, in_for_parameters, in_case}
 use Rattle.sh_laws.specs.BeforeAction.{RunStands}
 use Rattle.sh_laws.proofs.CommandTurns.{first_holds}
 
@@ -26,6 +27,9 @@ is_simple x items e = sym (view.roll-out-Command x) ∙ ap view.roll-Command e �
 
 pub is_compound : (x : Command) (inner : Compound) → view.out-Command x ≡ layer.Compound inner → x ≡ command.Compound inner
 is_compound x inner e = sym (view.roll-out-Command x) ∙ ap view.roll-Command e ∙ command.rolls-Compound inner
+
+pub is_definition : (x : Command) (name : Name) (body : Compound) → view.out-Command x ≡ layer.Function name body → x ≡ command.Function name body
+is_definition x name body e = sym (view.roll-out-Command x) ∙ ap view.roll-Command e ∙ command.rolls-Function name body
 
 -- ---- the parts of a pipeline, and of an AND-OR list
 pub others_stand : (others : List Connected) (run : Run) → ConnectedBegin others → RunStands run → RunStands (with_others others run)
@@ -71,6 +75,8 @@ mutual
       (subst RunStands (sym (compound_entered inner whole ∙ compound_is inner whole))
       (unless_stands (is_subshell (view.out-CompoundForm (view.out-Compound inner).form)) (view.out-Compound inner).redirects (form_entry (view.out-Compound inner).form whole) whole w
       (form_stands (view.out-Compound inner).form b whole w)))
+  command_stands x (by_definition _ name body e b r) whole w =
+      subst (λ z. RunStands (command_entry z whole)) (sym (is_definition x name body e)) (subst RunStands (sym (function_entered name body whole)) w)
 
   pub form_stands : (x : CompoundForm) → FormBegins x → (whole : Command) → CommandBegins whole → RunStands (form_entry x whole)
   form_stands x (in_group _ body e b) whole w =

@@ -5,7 +5,7 @@ use Rattle.sh_exec_forms.specs.Bodies.{body_of, own_entry, own_form, sole_and_or
 use Rattle.sh_exec_actions.specs.Statuses.{unexcused}
 use Rattle.sh_exec_forms.specs.Entering.{command_run, items_run}
 use Rattle.sh_exec_forms.proofs.Entered.{entered_with, trees_beside}
-use Rattle.sh_exec_forms.proofs.Alone.{and_or_is, body_as, body_is, case_alone, compound_command_alone, compound_is, for_alone, for_parameters_alone, group_alone, if_alone, item_is, loop_alone, of_alone, of_negated, of_stages, simple_alone, subshell_alone}
+use Rattle.sh_exec_forms.proofs.Alone.{and_or_is, body_as, body_is, case_alone, compound_command_alone, compound_is, for_alone, for_parameters_alone, function_alone, group_alone, if_alone, item_is, loop_alone, of_alone, of_negated, of_stages, simple_alone, subshell_alone}
 use Rattle.sh_syntax.specs.declared.tree.AndOr.{AndOr}
 use Rattle.sh_syntax.specs.declared.tree.Command.{Command}
 use Rattle.sh_syntax.specs.declared.tree.Command.TheViews as view
@@ -15,10 +15,10 @@ use Rattle.sh_syntax.specs.declared.tree.CompoundList.{CompoundList}
 use Rattle.sh_syntax.specs.declared.tree.Connected.{Connected}
 use Rattle.sh_syntax.specs.declared.tree.ListItem.{ListItem}
 use Rattle.sh_syntax.specs.declared.tree.Pipeline.{Pipeline}
-use Rattle.sh_laws.specs.Beginnings.{ListBegins, begins_list, ItemsBegin, no_items, more_items, AndOrBegins, joined, PipelineBegins, staged, CommandBegins, by_words, by_form, FormBegins, in_group, in_subshell, in_if, in_loop, in_for, in_for_parameters, in_case}
+use Rattle.sh_laws.specs.Beginnings.{ListBegins, begins_list, ItemsBegin, no_items, more_items, AndOrBegins, joined, PipelineBegins, staged, CommandBegins, by_words, by_form, by_definition, FormBegins, in_group, in_subshell, in_if, in_loop, in_for, in_for_parameters, in_case}
 use Rattle.sh_laws.specs.BeforeAction.{RunStands}
 use Rattle.sh_laws.proofs.CommandTurns.{first_holds}
-use Rattle.sh_laws.proofs.BegunCommands.{and_or_stands, command_stands, is_compound, is_simple, redirected_stands}
+use Rattle.sh_laws.proofs.BegunCommands.{and_or_stands, command_stands, is_compound, is_definition, is_simple, redirected_stands}
 
 abbrev SoleStands : Option Run → Type 0
 SoleStands None = Unit {0}
@@ -67,6 +67,9 @@ mutual
       subst (λ z. RunStands (own_entry z whole)) (sym (is_compound x inner e))
       (subst RunStands (sym (compound_command_alone inner whole ∙ compound_is inner whole))
       (redirected_stands (view.out-Compound inner).redirects (own_form (view.out-Compound inner).form whole) whole w (own_form_stands (view.out-Compound inner).form b whole w)))
+  own_stands x (by_definition _ name body e b r) whole w =
+      subst (λ z. RunStands (own_entry z whole)) (sym (is_definition x name body e))
+      (subst RunStands (sym (function_alone name body whole)) (command_stands whole w whole w))
 
   own_form_stands : (x : CompoundForm) → FormBegins x → (whole : Command) → CommandBegins whole → RunStands (own_form x whole)
   own_form_stands x (in_subshell _ body e b) whole w =

@@ -1,7 +1,7 @@
 -- What a command's turns leave holds only what begins with an action.
 use Rattle.std.proofs.Common.{◌≡◌, ℕ, zero, suc, List, [], ◌∷◌, ◌++◌, length, map, Option, Some, None, Bool, true, false, ◌||◌, refl, sym, subst, option_map}
 use Rattle.std.specs.Prelude.{Result, Ok, Err, if◌then◌else◌}
-use Rattle.std.specs.List.{list_any}
+use Rattle.std.specs.List.{find, list_any}
 use Rattle.std.specs.Option.{unwrap_or}
 use Rattle.sh_exec_command.specs.Answers.{Fails, Needs, Pattern, Patterned, expansion_with, pattern_of, pattern_with, resumption, single, words_after, words_with}
 use Rattle.sh_exec_command.specs.Assigning.{Step, assign_turn, assigned_by, assigned_one, assignments_turn, behind, may_set, text_of, value_of, value_step, value_wanted}
@@ -16,7 +16,7 @@ use Rattle.sh_exec_command.specs.declared.found.Found.{Found}
 use Rattle.sh_exec_actions.specs.Statuses.{unexcused}
 use Rattle.sh_exec_actions.specs.declared.status.CommandStatus.{CommandStatus}
 use Rattle.sh_exec_actions.specs.declared.action.Active.{Active}
-use Rattle.sh_exec_actions.specs.declared.action.Active.TheVariants.{Acting, Next, Done, Leaving}
+use Rattle.sh_exec_actions.specs.declared.action.Active.TheVariants.{Acting, Calling, Evaluating, Next, Done, Leaving}
 use Rattle.sh_exec_actions.specs.declared.action.Expanded.{Expanded}
 use Rattle.sh_exec_actions.specs.declared.action.Expanded.TheVariants as expanded
 use Rattle.sh_exec_actions.specs.declared.action.Move.{Move}
@@ -34,7 +34,8 @@ use Rattle.sh_exec_command.specs.declared.series.Round.{Round}
 use Rattle.sh_exec_command.specs.declared.series.Round.TheVariants as round
 use Rattle.sh_exec_parts.specs.Messages.{read_only}
 use Rattle.sh_exec_actions.specs.Served.{serves}
-use Rattle.sh_builtin.specs.Builtins.{builtin_of}
+use Rattle.sh_builtin.specs.Builtins.{builtin_of, is_special}
+use Rattle.sh_builtin.specs.Functions.{Named, body_of, has_name}
 use Rattle.sh_builtin.specs.declared.builtin.Builtin.{Builtin}
 use Rattle.sh_exec_parts.specs.Simple.{Opened, assignment_in, assignments_of, before, compound_redirects, compound_redirects_in, is_redirect, is_word, items_in, items_of, redirect_wanted, redirects_of, to_assign, word_fields}
 use Rattle.sh_exec_parts.specs.Wants.{wanted_of}
@@ -65,14 +66,16 @@ use Rattle.sh_syntax.specs.declared.tree.SimpleItem.{SimpleItem}
 use Rattle.sh_syntax.specs.declared.tree.Word.{Word}
 use Rattle.sh_vars.specs.Environment.{Environment, with_value}
 use Rattle.sh_laws.proofs.NeededPrograms.{ItsItems, OutcomeBegins, ResultBegins, WantedBegin, expansion_begins, result_begins, target_begins, wanted_begin}
-use Rattle.sh_laws.specs.Beginnings.{CaseItemsBegin, CommandBegins, FormBegins, ItemsBegin, ListBegins, PartsBegin, RedirectsBegin, SeriesBegin, WordsBegin, begins_list, by_form, by_words, in_case, in_for, in_for_parameters, in_group, in_if, in_loop, in_subshell, item_parts, more_case_items, more_redirects, more_series, more_words, no_case_items, no_redirects, no_series, no_words, word_parts}
-use Rattle.sh_laws.specs.BeforeAction.{AssignmentsHold, BranchesHold, FoundBegins, PlaceHolds, RoleHolds, WantsHold}
+use Rattle.sh_laws.specs.Beginnings.{CaseItemsBegin, CommandBegins, FormBegins, ItemsBegin, ListBegins, PartsBegin, RedirectsBegin, SeriesBegin, WordsBegin, begins_list, by_definition, by_form, by_words, in_case, in_for, in_for_parameters, in_group, in_if, in_loop, in_subshell, item_parts, more_case_items, more_redirects, more_series, more_words, no_case_items, no_redirects, no_series, no_words, word_parts}
+use Rattle.sh_laws.specs.BeforeAction.{AssignmentsHold, BranchesHold, FoundBegins, FunctionsHold, PlaceHolds, RoleHolds, WantsHold}
 use Rattle.sh_laws.proofs.ServedReadings.{AnswerFits, reading_fits}
 
 -- ---- what is held at a place, by a move, by what an expansion comes to
 abbrev pub ActiveHolds : Active → Type 0
 ActiveHolds (Next place) = PlaceHolds place
 ActiveHolds (Acting builtin fields) = Unit {0}
+ActiveHolds (Calling body fields) = CommandBegins body
+ActiveHolds (Evaluating text) = Unit {0}
 ActiveHolds (Done status) = Unit {0}
 ActiveHolds (Leaving leave) = Unit {0}
 
@@ -94,6 +97,7 @@ TurnHolds t = ExpandedHolds t.outcome
 pub items_begin : (command : Command) → CommandBegins command → WordsBegin (items_of command)
 items_begin command (by_words _ items e b) = subst (λ (z : Opened layer.Command-F). WordsBegin (unwrap_or (items_in z) [])) (sym e) b
 items_begin command (by_form _ inner e b r) = subst (λ (z : Opened layer.Command-F). WordsBegin (unwrap_or (items_in z) [])) (sym e) no_words
+items_begin command (by_definition _ name body e b r) = subst (λ (z : Opened layer.Command-F). WordsBegin (unwrap_or (items_in z) [])) (sym e) no_words
 
 assigned_begins : (z : Opened layer.SimpleItem-F) (others : List Assignment) → PartsBegin (item_parts z) → AssignmentsHold others → AssignmentsHold (before (option_map to_assign (assignment_in z)) others)
 assigned_begins (layer.Assignment name value source) others b h = (b, h)
@@ -119,6 +123,7 @@ first_holds in_place command c = wants_hold (list_any is_word (items_of command)
 performed_holds : (p : ExpandedCommand) (r : Role) → RoleHolds r → MoveHolds (performed_by p r)
 performed_holds p role.NoCommandName b = tt
 performed_holds p (role.Builtin builtin) b = tt
+performed_holds p (role.Function body) b = b
 performed_holds p role.Program b = tt
 performed_holds p (role.Compound command) b = b
 performed_holds p (role.Subshell list) b = b
@@ -142,6 +147,7 @@ ahead_holds p h = ahead_by_holds p p.redirections p.assignments h
 first_by_holds : (in_place : Bool) (p : ExpandedCommand) (r : Role) → p.role ≡ r → CommandHolds p → MoveHolds (if forks r in_place then move.At (Next (Forking p)) else ahead p)
 first_by_holds in_place p role.NoCommandName e h = ahead_holds p h
 first_by_holds in_place p (role.Builtin builtin) e h = ahead_holds p h
+first_by_holds in_place p (role.Function body) e h = ahead_holds p h
 first_by_holds true p role.Program e h = ahead_holds p h
 first_by_holds false p role.Program e h = (e, h.1)
 first_by_holds in_place p (role.Compound command) e h = ahead_holds p h
@@ -190,30 +196,52 @@ unfolding pattern_with
 pattern_begins ws env answers b = pattern_of_begins (words_with ws env answers) (outcome_begins ws env answers b)
 
 -- ---- the turn of its words
-role_by_holds : (o : Option Builtin) → RoleHolds (role_by o)
-role_by_holds None = tt
-role_by_holds (Some builtin) = tt
+abbrev BodyBegins : Option Command → Type 0
+BodyBegins None = Unit {0}
+BodyBegins (Some body) = CommandBegins body
 
-role_holds : (words : List (List ℕ)) → RoleHolds (role_of words)
-role_holds [] = tt
-role_holds (name ∷ arguments) = role_by_holds (builtin_of name)
+role_of_special : (b : Bool) (builtin : Builtin) (body : Command) → CommandBegins body → RoleHolds (if b then role.Builtin builtin else role.Function body)
+role_of_special true builtin body f = tt
+role_of_special false builtin body f = f
 
-prepared_holds : (env : Environment) (items : List SimpleItem) (fields : List (List ℕ)) (status : ℕ) → WordsBegin items → CommandHolds (prepared_of env items fields status)
+role_by_holds : (o : Option Builtin) (body : Option Command) → BodyBegins body → RoleHolds (role_by o body)
+role_by_holds None None f = tt
+role_by_holds None (Some body) f = f
+role_by_holds (Some builtin) None f = tt
+role_by_holds (Some builtin) (Some body) f = role_of_special (is_special builtin) builtin body f
+
+-- the function of a name
+found_begins : (b : Bool) (function : Named) (rest : Option Named) → CommandBegins function.1 → BodyBegins (option_map (λ f. f.1) rest)
+    → BodyBegins (option_map (λ f. f.1) (if b then Some function else rest))
+found_begins true function rest h r = h
+found_begins false function rest h r = r
+
+body_begins : (functions : List Named) (name : List ℕ) → FunctionsHold functions → BodyBegins (body_of functions name)
+body_begins [] name h = tt
+body_begins (function ∷ others) name h = found_begins (has_name name function) function (find (has_name name) others) h.0 (body_begins others name h.1)
+
+role_holds : (functions : List Named) (words : List (List ℕ)) → FunctionsHold functions → RoleHolds (role_of functions words)
+role_holds functions [] h = tt
+role_holds functions (name ∷ arguments) h = role_by_holds (builtin_of name) (body_of functions name) (body_begins functions name h)
+
+prepared_holds : (env : Environment) (functions : List Named) (items : List SimpleItem) (fields : List (List ℕ)) (status : ℕ) → FunctionsHold functions → WordsBegin items
+    → CommandHolds (prepared_of env functions items fields status)
 unfolding prepared_of
-prepared_holds env items fields status b = (role_holds (word_fields fields (length (redirects_of items))), assignments_hold items b)
+prepared_holds env functions items fields status h b = (role_holds functions (word_fields fields (length (redirects_of items))) h, assignments_hold items b)
 
-words_by_hold : (command : Command) (in_place : Bool) (status : ℕ) (pending : Pending) (r : expanding.Result) → CommandBegins command → ResultBegins r → TurnHolds (words_by command in_place status pending r)
-words_by_hold command in_place status pending (expanding.Need program env) c b = (b, c)
-words_by_hold command in_place status pending (expanding.Fields fields env) c b =
-    first_move_holds in_place (prepared_of env (items_of command) fields status) (prepared_holds env (items_of command) fields status (items_begin command c))
-words_by_hold command in_place status pending (expanding.Stops fault env) c b = tt
+words_by_hold : (functions : List Named) (command : Command) (in_place : Bool) (status : ℕ) (pending : Pending) (r : expanding.Result) → FunctionsHold functions → CommandBegins command
+    → ResultBegins r → TurnHolds (words_by functions command in_place status pending r)
+words_by_hold functions command in_place status pending (expanding.Need program env) h c b = (b, c)
+words_by_hold functions command in_place status pending (expanding.Fields fields env) h c b =
+    first_move_holds in_place (prepared_of env functions (items_of command) fields status) (prepared_holds env functions (items_of command) fields status h (items_begin command c))
+words_by_hold functions command in_place status pending (expanding.Stops fault env) h c b = tt
 
-pub words_hold : (files : FileMap) (env : Environment) (command : Command) (in_place : Bool) (status : ℕ) (pending : Option Pending) → CommandBegins command
-    → TurnHolds (words_turn files env command in_place status pending)
+pub words_hold : (files : FileMap) (env : Environment) (functions : List Named) (command : Command) (in_place : Bool) (status : ℕ) (pending : Option Pending) → FunctionsHold functions
+    → CommandBegins command → TurnHolds (words_turn files env functions command in_place status pending)
 unfolding words_turn
-words_hold files env command in_place status pending c =
+words_hold files env functions command in_place status pending h c =
     let p = start_of env pending in
-    words_by_hold command in_place status p (expansion_with files (wanted_of (items_of command)) p.start p.answers) c
+    words_by_hold functions command in_place status p (expansion_with files (wanted_of (items_of command)) p.start p.answers) h c
     (answers_begin files (wanted_of (items_of command)) p.start p.answers (wanted_begin (items_of command) (items_begin command c)))
 
 -- ---- one of two
@@ -264,6 +292,7 @@ redirect_wants_begin _ (more_redirects redirect others b r) = (target_begins (vi
 compound_redirects_begin : (command : Command) → CommandBegins command → RedirectsBegin (compound_redirects command)
 compound_redirects_begin command (by_words _ items e b) = subst (λ (z : Opened layer.Command-F). RedirectsBegin (compound_redirects_in z)) (sym e) no_redirects
 compound_redirects_begin command (by_form _ inner e b r) = subst (λ (z : Opened layer.Command-F). RedirectsBegin (compound_redirects_in z)) (sym e) r
+compound_redirects_begin command (by_definition _ name body e b r) = subst (λ (z : Opened layer.Command-F). RedirectsBegin (compound_redirects_in z)) (sym e) no_redirects
 
 listed : (x : CompoundList) → ListBegins x → ItemsBegin (view.out-CompoundList x).items
 listed x (begins_list _ item others e b) = subst ItemsBegin (sym e) b
@@ -280,6 +309,7 @@ form_role_holds command x c (in_case _ word items e w i) = subst (λ z. RoleHold
 role_of_command_holds : (command : Command) → CommandBegins command → CommandBegins command → RoleHolds (role_of_command command (view.out-Command command))
 role_of_command_holds command c (by_words _ items e b) = subst (λ z. RoleHolds (role_of_command command z)) (sym e) tt
 role_of_command_holds command c (by_form _ inner e b r) = subst (λ z. RoleHolds (role_of_command command z)) (sym e) (form_role_holds command (view.out-Compound inner).form c b)
+role_of_command_holds command c (by_definition _ name body e b r) = subst (λ z. RoleHolds (role_of_command command z)) (sym e) tt
 
 redirected_holds : (env : Environment) (command : Command) (fields : List (List ℕ)) → CommandBegins command → CommandHolds (redirected env command fields)
 unfolding redirected compound_role
@@ -342,6 +372,7 @@ module _ (files : FileMap) (env : Environment) (command : Command) (pending : Op
   header_holds : CommandBegins command → HeaderTurn (view.out-Command command)
   header_holds (by_words _ items e b) = subst HeaderTurn (sym e) tt
   header_holds (by_form _ inner e b r) = subst HeaderTurn (sym e) (form_holds (view.out-Compound inner).form b)
+  header_holds (by_definition _ name body e b r) = subst HeaderTurn (sym e) tt
 
   pub series_hold : TurnHolds (series_turn files env command pending)
   unfolding series_turn header_of
@@ -394,6 +425,7 @@ module _ (files : FileMap) (env : Environment) (command : Command) (pending : Op
   case_header_holds : CommandBegins command → CaseTurn (view.out-Command command)
   case_header_holds (by_words _ items e b) = subst CaseTurn (sym e) tt
   case_header_holds (by_form _ inner e b r) = subst CaseTurn (sym e) (case_form_holds (view.out-Compound inner).form b)
+  case_header_holds (by_definition _ name body e b r) = subst CaseTurn (sym e) tt
 
   pub case_holds : TurnHolds (case_turn files env command pending)
   unfolding case_turn cases.header_of

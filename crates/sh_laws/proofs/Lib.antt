@@ -41,6 +41,7 @@ pub mod ServedReadings
 pub mod NeededPrograms
 pub mod CommandTurns
 pub mod SettledForms
+pub mod FunctionTurns
 pub mod ShellTurns
 pub mod ProcessTurns
 pub mod StandingRuns

@@ -30,11 +30,11 @@ use Rattle.sh_syntax.specs.declared.tree.Target.TheVariants as target
 use Rattle.sh_syntax.specs.declared.tree.Word.{Word}
 use Rattle.sh_parse_actions.specs.Forms.{and_or, case_item, compound_list, compound, connected_pipeline, else_if, list_item, pipeline, redirect}
 use Rattle.sh_parse_actions.specs.declared.value.ItemBody.{ItemBody}
-use Rattle.sh_exec_actions.specs.Served.{serves, serves_and_or, serves_case_item, serves_command, serves_connected, serves_else_if, serves_form, serves_item, serves_list_item, serves_parts, serves_pipeline, serves_redirect, serves_target, serves_word, waits}
+use Rattle.sh_exec_actions.specs.Served.{serves, serves_and_or, serves_case_item, serves_command, serves_compound, serves_connected, serves_else_if, serves_form, serves_item, serves_list_item, serves_parts, serves_pipeline, serves_redirect, serves_target, serves_word, waits}
 use Rattle.sh_exec_actions.proofs.Serving.{and_or_is, assignment_is, case_is, case_item_is, compound_form_is, compound_is, compound_list_is, connected_is, else_if_is, for_is, for_parameters_is, function_is, group_is, here_is, if_is, item_redirect_is, item_word_is, list_item_is, loop_is, named_is, pipeline_is, redirect_is, serves_otherwise, simple_is, subshell_is, word_is}
 use Rattle.sh_exec_parts.specs.Simple.{Opened}
 use Rattle.sh_expand.specs.Parts.{parts_of}
-use Rattle.sh_laws.specs.Beginnings.{AndOrBegins, CaseItemsBegin, CommandBegins, CommandsBegin, ConnectedBegin, ElseBegins, ElseIfsBegin, FormBegins, ItemsBegin, ListBegins, PartsBegin, PipelineBegins, RedirectsBegin, SeriesBegin, WordsBegin, begins_list, by_form, by_words, in_case, in_for, in_for_parameters, in_group, in_if, in_loop, in_subshell, joined, more_case_items, more_commands, more_connected, more_else_ifs, more_items, more_redirects, more_series, more_words, item_parts, parts_in_item, redirect_parts, staged, target_parts, with_else, word_parts}
+use Rattle.sh_laws.specs.Beginnings.{AndOrBegins, CaseItemsBegin, CommandBegins, CommandsBegin, ConnectedBegin, ElseBegins, ElseIfsBegin, FormBegins, ItemsBegin, ListBegins, PartsBegin, PipelineBegins, RedirectsBegin, SeriesBegin, WordsBegin, begins_list, by_definition, by_form, by_words, in_case, in_for, in_for_parameters, in_group, in_if, in_loop, in_subshell, joined, more_case_items, more_commands, more_connected, more_else_ifs, more_items, more_redirects, more_series, more_words, item_parts, parts_in_item, redirect_parts, staged, target_parts, with_else, word_parts}
 
 -- ---- what is claimed of each form
 abbrev pub IsServed : Bool → Type 0
@@ -60,6 +60,9 @@ CommandsFit xs = IsServed (list_all serves_command xs) → CommandsBegin xs
 
 abbrev pub CommandFits : Command → Type 0
 CommandFits x = IsServed (serves_command x) → CommandBegins x
+
+abbrev pub BodyFits : Compound → Type 0
+BodyFits x = IsServed (serves_compound x) → FormBegins (view.out-Compound x).form × RedirectsBegin (view.out-Compound x).redirects
 
 abbrev pub FormFits : CompoundForm → Type 0
 FormFits x = IsServed (serves_form x) → FormBegins x
@@ -166,20 +169,25 @@ pub simple_fits : (items : List SimpleItem) → WordsFit items → CommandFits (
 simple_fits items f h =
     by_words (command.Simple items) items (ap view.out-Command (sym (command.rolls-Simple items)) ∙ view.out-roll-Command (layer.Simple items)) (f (sym (simple_is items) ∙ h))
 
+pub body_fits : (x : CompoundForm) (redirects : List Redirect) → FormFits x → RedirectsFit redirects → BodyFits (compound x redirects)
+body_fits x redirects f g h =
+    let c = compound x redirects in
+    let is = view.out-roll-Compound (record { form = x; redirects = redirects }) in
+    let own = sym (compound_form_is c) ∙ h in (
+      subst (λ (z : Opened layer.Compound-F). FormFits z.form) (sym is) f (and_left (serves_form (view.out-Compound c).form) (list_all serves_redirect (view.out-Compound c).redirects) own),
+      subst (λ (z : Opened layer.Compound-F). RedirectsFit z.redirects) (sym is) g (and_right (serves_form (view.out-Compound c).form) (list_all serves_redirect (view.out-Compound c).redirects) own),
+    )
+
 pub compound_fits : (x : CompoundForm) (redirects : List Redirect) → FormFits x → RedirectsFit redirects → CommandFits (command.Compound (compound x redirects))
 compound_fits x redirects f g h =
     let c = compound x redirects in
-    let is = view.out-roll-Compound (record { form = x; redirects = redirects }) in
-    let own = sym (compound_form_is c) ∙ sym (compound_is c) ∙ h in
-    by_form (command.Compound c) c (ap view.out-Command (sym (command.rolls-Compound c)) ∙ view.out-roll-Command (layer.Compound c))
-    (subst (λ (z : Opened layer.Compound-F). FormFits z.form) (sym is) f (and_left (serves_form (view.out-Compound c).form) (list_all serves_redirect (view.out-Compound c).redirects) own))
-    (subst (λ (z : Opened layer.Compound-F). RedirectsFit z.redirects) (sym is) g (and_right (serves_form (view.out-Compound c).form) (list_all serves_redirect (view.out-Compound c).redirects) own))
+    let begins = body_fits x redirects f g (sym (compound_is c) ∙ h) in
+    by_form (command.Compound c) c (ap view.out-Command (sym (command.rolls-Compound c)) ∙ view.out-roll-Command (layer.Compound c)) begins.0 begins.1
 
-untrue : (b : Bool) → b ≡ false → b ≡ true → ⊥
-untrue b e h = absurd (cc)
-
-pub function_fits : (name : Name) (body : Compound) → CommandFits (command.Function name body)
-function_fits name body h = absurd (untrue (serves_command (command.Function name body)) (function_is name body) h)
+pub function_fits : (name : Name) (body : Compound) → BodyFits body → CommandFits (command.Function name body)
+function_fits name body f h =
+    let begins = f (sym (function_is name body) ∙ h) in
+    by_definition (command.Function name body) name body (ap view.out-Command (sym (command.rolls-Function name body)) ∙ view.out-roll-Command (layer.Function name body)) begins.0 begins.1
 
 -- ---- compound commands
 pub group_fits : (body : CompoundList) → ListFits body → FormFits (form.Group body)

@@ -33,7 +33,7 @@ use Rattle.sh_syntax.specs.declared.tree.Compound.{Compound}
 use Rattle.sh_syntax.specs.declared.tree.Name.{Name}
 use Rattle.sh_syntax.specs.declared.tree.Word.{Word}
 use Rattle.sh_laws.specs.Beginnings.{no_case_items, no_commands, no_else, no_else_ifs, no_items, no_more, no_redirects, no_series, no_words}
-use Rattle.sh_laws.proofs.ServedSyntax.{AndOrFits, CaseItemsFit, CommandFits, CommandsFit, ConnectedFit, ElseFits, ElseIfsFit, FormFits, ItemFits, ItemsFit, ListFits, PartsFit, PipelineFits, ProgramFits, RedirectFits, RedirectsFit, SeriesFit, TargetFits, WordFits, WordsFit, and_or_fits, assignment_fits, case_fits, case_items_fit, commands_fit, compound_fits, connected_fit, else_fits, else_ifs_fit, for_fits, for_parameters_fits, function_fits, group_fits, here_fits, if_fits, item_redirect_fits, item_word_fits, items_fit, list_fits, loop_fits, named_fits, pipeline_fits, redirect_fits, redirects_fit, series_fit, simple_fits, subshell_fits, whole_fits, words_fit}
+use Rattle.sh_laws.proofs.ServedSyntax.{AndOrFits, BodyFits, CaseItemsFit, CommandFits, CommandsFit, ConnectedFit, ElseFits, ElseIfsFit, FormFits, ItemFits, ItemsFit, ListFits, PartsFit, PipelineFits, ProgramFits, RedirectFits, RedirectsFit, SeriesFit, TargetFits, WordFits, WordsFit, and_or_fits, assignment_fits, body_fits, case_fits, case_items_fit, commands_fit, compound_fits, connected_fit, else_fits, else_ifs_fit, for_fits, for_parameters_fits, function_fits, group_fits, here_fits, if_fits, item_redirect_fits, item_word_fits, items_fit, list_fits, loop_fits, named_fits, pipeline_fits, redirect_fits, redirects_fit, series_fit, simple_fits, subshell_fits, whole_fits, words_fit}
 
 -- ---- of what is there
 abbrev pub Where : {A : Type 0} → (A → Type 0) → Option A → Type 0
@@ -119,7 +119,7 @@ ValueFits (value.Token class l) = LeafFits l
 ValueFits (value.Redirect x) = RedirectFits x
 ValueFits (value.Redirects xs) = RedirectsFit xs
 ValueFits (value.Items xs) = WordsFit xs
-ValueFits (value.Body x) = Unit {0}
+ValueFits (value.Body x) = BodyFits x
 ValueFits (value.Command x) = CommandFits x
 ValueFits (value.Commands xs) = CommandsFit xs
 ValueFits (value.Pipeline x) = PipelineFits x
@@ -230,6 +230,11 @@ tail_in_fits value.Nothing f = λ h. no_items
 tail_in_fits (value.Tail x) f = f
 tail_in_fits v f = tt
 
+body_in_fits : (v : Value) → ValueFits v → Where BodyFits (body_in v)
+unfolding body_in
+body_in_fits (value.Body x) f = f
+body_in_fits v f = tt
+
 redirects_in_fits : (v : Value) → ValueFits v → Where RedirectsFit (redirects_in v)
 unfolding redirects_in
 redirects_in_fits value.Nothing f = λ h. no_redirects
@@ -295,9 +300,9 @@ made_simple_fits : (k : Item) (a b : Value) → ValueFits a → ValueFits b → 
 made_simple_fits k a b f g =
     paired ItemFits WordsFit _ (item_in k a) (items_in b) (λ x y h i. simple_fits (x ∷ y) (words_fit x y h i)) (item_in_fits k a f) (items_in_fits b g)
 
-made_named_fits : (body : Option Compound) (a b : Value) → ValueFits a → ValueFits b → Where ValueFits (made_named body a b)
-made_named_fits (Some body) a b f g = mapped Any ValueFits _ (name_in a) (λ name h. function_fits name body) (any (name_in a))
-made_named_fits None a b f g = made_simple_fits kind.Word a b f g
+made_named_fits : (body : Option Compound) (a b : Value) → Where BodyFits body → ValueFits a → ValueFits b → Where ValueFits (made_named body a b)
+made_named_fits (Some body) a b i f g = mapped Any ValueFits _ (name_in a) (λ name h. function_fits name body i) (any (name_in a))
+made_named_fits None a b i f g = made_simple_fits kind.Word a b f g
 
 made_for_fits : (p : Option Parameters) (v : Option Values) (name : Name) → Where ParametersFit p → Where ValuesFit v → Where ValueFits (made_for p v name)
 made_for_fits (Some p) v name f g = for_parameters_fits name p.is_separated p.body f
@@ -318,8 +323,8 @@ made_two_fits (two.Pipeline is_negated) a b f g =
     paired CommandFits CommandsFit _ (command_in a) (commands_in b) (pipeline_fits is_negated) (command_in_fits a f) (commands_in_fits b g)
 made_two_fits two.Piped a b f g = paired CommandFits CommandsFit _ (command_in a) (commands_in b) commands_fit (command_in_fits a f) (commands_in_fits b g)
 made_two_fits two.Compound a b f g = paired FormFits RedirectsFit _ (form_in a) (redirects_in b) compound_fits (form_in_fits a f) (redirects_in_fits b g)
-made_two_fits two.Body a b f g = paired Any Any _ (form_in a) (redirects_in b) (λ x y h i. tt) (any (form_in a)) (any (redirects_in b))
-made_two_fits two.Named a b f g = made_named_fits (body_in b) a b f g
+made_two_fits two.Body a b f g = paired FormFits RedirectsFit _ (form_in a) (redirects_in b) body_fits (form_in_fits a f) (redirects_in_fits b g)
+made_two_fits two.Named a b f g = made_named_fits (body_in b) a b (body_in_fits b g) f g
 made_two_fits (two.Simple k) a b f g = made_simple_fits k a b f g
 made_two_fits (two.Items k) a b f g = paired ItemFits WordsFit _ (item_in k a) (items_in b) words_fit (item_in_fits k a f) (items_in_fits b g)
 made_two_fits two.Redirects a b f g = paired RedirectFits RedirectsFit _ (redirect_in a) (redirects_in b) redirects_fit (redirect_in_fits a f) (redirects_in_fits b g)

@@ -13,29 +13,30 @@ use Rattle.sh_exec_command.specs.Series.{given_by, rest_of_series}
 use Rattle.sh_exec_actions.specs.Statuses.{unexcused}
 use Rattle.sh_exec_actions.specs.declared.status.CommandStatus.{CommandStatus}
 use Rattle.sh_exec_actions.specs.declared.action.Active.{Active}
-use Rattle.sh_exec_actions.specs.declared.action.Active.TheVariants.{Acting, Next, Done, Leaving}
+use Rattle.sh_exec_actions.specs.declared.action.Active.TheVariants.{Acting, Calling, Evaluating, Next, Done, Leaving}
 use Rattle.sh_exec_actions.specs.declared.action.ForLoop.{ForLoop}
 use Rattle.sh_exec_actions.specs.declared.action.Report.{Report}
 use Rattle.sh_exec_actions.specs.declared.action.Undo.{Undo}
 use Rattle.sh_exec_forms.proofs.Entered.{entered_with}
-use Rattle.sh_exec_forms.specs.Builtins.{at_completion, behind, builtin_effect, effect_at, output_of, reported, said}
+use Rattle.sh_exec_forms.specs.Builtins.{at_completion, behind, builtin_effect, call, effect_at, evaluation, output_of, performed, reported, said}
 use Rattle.sh_exec_forms.specs.Entering.{items_run, list_run, pipeline_run, with_others}
-use Rattle.sh_exec_forms.specs.Forms.{Acted, after, after_by, after_leave, after_status, at_action, behind_condition, branch, condition_run, connected_run, goes_on, loop_left, onward, otherwise, runs, undone, ended_within, is_failure, left_within, within, within_run}
-use Rattle.sh_exec_forms.specs.Frames.{has_loop, is_failure_ignored}
+use Rattle.sh_exec_forms.specs.Forms.{Acted, after, after_by, after_call, after_leave, after_status, at_action, behind_condition, branch, condition_run, connected_run, goes_on, loop_left, onward, otherwise, returned, runs, undone, ended_within, exits_on_error, is_failure, left_within, within, within_run}
+use Rattle.sh_exec_forms.specs.Frames.{has_call, has_loop, is_failure_ignored, levels_left}
 use Rattle.sh_exec_forms.specs.Running.{Run, At, In}
 use Rattle.sh_exec_actions.specs.declared.form.Branches.{Branches}
 use Rattle.sh_exec_actions.specs.declared.form.Form.{Form}
-use Rattle.sh_exec_actions.specs.declared.form.Form.TheVariants.{Text, Commands, Joined, Negated, Restoring, If, Condition, Body, ForBody, FailuresIgnored}
+use Rattle.sh_exec_actions.specs.declared.form.Form.TheVariants.{Text, Commands, Joined, Negated, Restoring, If, Condition, Body, ForBody, Call, Evaluation, FailuresIgnored}
 use Rattle.sh_exec_actions.specs.declared.form.Loop.{Loop}
 use Rattle.sh_kernel.specs.State.{KernelState}
+use Rattle.sh_syntax.specs.declared.tree.Command.{Command}
 use Rattle.sh_syntax.specs.declared.tree.Command.TheViews as view
 use Rattle.sh_syntax.specs.declared.tree.CompoundList.{CompoundList}
 use Rattle.sh_syntax.specs.declared.tree.Connected.{Connected}
 use Rattle.sh_syntax.specs.declared.tree.ElseIf.{ElseIf}
 use Rattle.sh_syntax.specs.declared.tree.ListItem.{ListItem}
 use Rattle.sh_laws.specs.BeforeAction.{ActiveStands, FormHolds, LoopHolds, PlaceHolds, RunStands}
-use Rattle.sh_laws.specs.Beginnings.{ConnectedBegin, ElseBegins, ElseIfsBegin, ItemsBegin, ListBegins, more_connected, more_else_ifs, more_items, no_else, no_else_ifs, no_items, no_more, with_else}
-use Rattle.sh_laws.proofs.BegunCommands.{and_or_stands, list_stands, others_stand, pipeline_stands}
+use Rattle.sh_laws.specs.Beginnings.{CommandBegins, ConnectedBegin, ElseBegins, ElseIfsBegin, ItemsBegin, ListBegins, more_connected, more_else_ifs, more_items, no_else, no_else_ifs, no_items, no_more, with_else}
+use Rattle.sh_laws.proofs.BegunCommands.{and_or_stands, command_stands, list_stands, others_stand, pipeline_stands}
 use Rattle.sh_laws.proofs.CommandTurns.{ActiveHolds, choose}
 
 -- ---- what runs holds only what begins with an action
@@ -47,6 +48,8 @@ Holds (In form run) = FormHolds form × Holds run
 abbrev pub ActiveSettled : Active → Type 0
 ActiveSettled (Next place) = PlaceHolds place
 ActiveSettled (Acting builtin fields) = ⊥
+ActiveSettled (Calling body fields) = ⊥
+ActiveSettled (Evaluating text) = ⊥
 ActiveSettled (Done status) = Unit {0}
 ActiveSettled (Leaving leave) = Unit {0}
 
@@ -57,6 +60,8 @@ Settled (In form run) = FormHolds form × RunStands run
 stands_active : (active : Active) → ActiveStands active → ActiveSettled active
 stands_active (Next place) s = s
 stands_active (Acting builtin fields) s = s
+stands_active (Calling body fields) s = s
+stands_active (Evaluating text) s = s
 stands_active (Done status) s = tt
 stands_active (Leaving leave) s = tt
 
@@ -67,6 +72,8 @@ stands_settled (In form run) s = s
 active_holds : (active : Active) → ActiveStands active → ActiveHolds active
 active_holds (Next place) s = s
 active_holds (Acting builtin fields) s = tt
+active_holds (Calling body fields) s = absurd s
+active_holds (Evaluating text) s = tt
 active_holds (Done status) s = tt
 active_holds (Leaving leave) s = tt
 
@@ -77,6 +84,8 @@ stands_holds (In form run) s = (s.0, stands_holds run s.1)
 pub settled_active : (active : Active) → ActiveSettled active → ActiveHolds active
 settled_active (Next place) s = s
 settled_active (Acting builtin fields) s = tt
+settled_active (Calling body fields) s = absurd s
+settled_active (Evaluating text) s = tt
 settled_active (Done status) s = tt
 settled_active (Leaving leave) s = tt
 
@@ -126,6 +135,7 @@ given_by_settled series (value ∷ left) status b = b
 left_settled : (looped : Bool) (l : Leave) (s : KernelState) (shell : Shell) (next : Run) → Settled next → ActedSettled (loop_left s shell next (onward looped l))
 left_settled looped (leave.Exit status) s shell next p = tt
 left_settled looped (leave.Fault status) s shell next p = tt
+left_settled looped (leave.Return status) s shell next p = tt
 left_settled looped (leave.Break zero) s shell next p = tt
 left_settled false (leave.Break (suc inside)) s shell next p = tt
 left_settled true (leave.Break (suc inside)) s shell next p = tt
@@ -133,41 +143,96 @@ left_settled looped (leave.Continue zero) s shell next p = p
 left_settled false (leave.Continue (suc inside)) s shell next p = p
 left_settled true (leave.Continue (suc inside)) s shell next p = tt
 
--- ---- what follows a built-in
-completion_settled : (status : Completion) → ActiveSettled (at_completion status)
-completion_settled (completion.Done status) = tt
-completion_settled (completion.Left l) = tt
+-- ---- what follows a built-in: the next action, a text that is to be run, or all is done or left
+abbrev pub ActiveFollows : Active → Type 0
+ActiveFollows (Next place) = PlaceHolds place
+ActiveFollows (Acting builtin fields) = ⊥
+ActiveFollows (Calling body fields) = ⊥
+ActiveFollows (Evaluating text) = Unit {0}
+ActiveFollows (Done status) = Unit {0}
+ActiveFollows (Leaving leave) = Unit {0}
 
-said_settled : (messages : List (List ℕ)) (status : Completion) → ActiveSettled (said messages status)
-said_settled [] status = completion_settled status
-said_settled (message ∷ messages) status = tt
+completion_follows : (status : Completion) → ActiveFollows (at_completion status)
+completion_follows (completion.Done status) = tt
+completion_follows (completion.Left l) = tt
+completion_follows (completion.Runs text) = tt
 
-pub reported_settled : (report : Report) → ActiveSettled (reported report)
-reported_settled report = said_settled report.messages report.status
+said_follows : (messages : List (List ℕ)) (status : Completion) → ActiveFollows (said messages status)
+said_follows [] status = completion_follows status
+said_follows (message ∷ messages) status = tt
 
-output_settled : (builtin : Builtin) (bytes : List ℕ) (report : Report) → ActiveSettled (output_of builtin bytes report)
-output_settled builtin [] report = reported_settled report
-output_settled builtin (byte ∷ bytes) report = tt
+reported_follows : (report : Report) → ActiveFollows (reported report)
+reported_follows report = said_follows report.messages report.status
 
-behind_settled : (builtin : Builtin) (outcome : Outcome) → ActiveSettled (behind builtin outcome)
-behind_settled builtin outcome = output_settled builtin outcome.out _
+output_follows : (builtin : Builtin) (bytes : List ℕ) (report : Report) → ActiveFollows (output_of builtin bytes report)
+output_follows builtin [] report = reported_follows report
+output_follows builtin (byte ∷ bytes) report = tt
+
+behind_follows : (builtin : Builtin) (outcome : Outcome) → ActiveFollows (behind builtin outcome)
+behind_follows builtin outcome = output_follows builtin outcome.out _
+
+follows_holds : (active : Active) → ActiveFollows active → ActiveHolds active
+follows_holds (Next place) f = f
+follows_holds (Acting builtin fields) f = tt
+follows_holds (Calling body fields) f = absurd f
+follows_holds (Evaluating text) f = tt
+follows_holds (Done status) f = tt
+follows_holds (Leaving leave) f = tt
+
+pub reported_holds : (report : Report) → ActiveHolds (reported report)
+reported_holds report = follows_holds (reported report) (reported_follows report)
+
+-- a text or a function is entered
+evaluation_settled : (levels : ℕ) (shell : Shell) (text : List ℕ) → Settled (evaluation levels shell text).run
+evaluation_settled zero shell text = tt
+evaluation_settled (suc levels) shell text = (tt, tt)
+
+call_settled : (levels : ℕ) (shell : Shell) (body : Command) (arguments : List (List ℕ)) → CommandBegins body → Settled (call levels shell body arguments).run
+call_settled zero shell body arguments b = tt
+call_settled (suc levels) shell body arguments b = (tt, command_stands body b body b)
+
+performed_settled : (levels : ℕ) (shell : Shell) (active : Active) → ActiveFollows active → Settled (performed levels shell active).run
+performed_settled levels shell (Next place) f = f
+performed_settled levels shell (Acting builtin fields) f = f
+performed_settled levels shell (Calling body fields) f = absurd f
+performed_settled levels shell (Evaluating text) f = evaluation_settled levels shell text
+performed_settled levels shell (Done status) f = tt
+performed_settled levels shell (Leaving leave) f = tt
 
 -- ---- a form after what is in it
 undone_settled : (undo : Undo) (s : KernelState) (shell : Shell) (run : Run) → Settled run → ActedSettled (undone undo s shell run)
 unfolding undone
 undone_settled undo s shell run p = p
 
-status_settled : (form : Form) (s : KernelState) (shell : Shell) (status : CommandStatus) → FormHolds form → ActedSettled (after_status form s shell status)
-status_settled (Text rest) s shell status h = tt
-status_settled (Commands items) s shell status h = items_settled items status h
-status_settled (Joined others) s shell status h = connected_settled others status h
-status_settled Negated s shell status h = tt
-status_settled (Restoring undo) s shell status h = undone_settled undo s shell (At (Done status)) tt
-status_settled (If branches) s shell status h = branch_settled branches status.status h
-status_settled (Condition loop last) s shell status h = body_settled loop last status.status h
-status_settled (Body loop) s shell status h = condition_settled loop status h
-status_settled (ForBody series) s shell status h = given_by_settled series series.values status h
-status_settled FailuresIgnored s shell status h = tt
+ended_within_settled : (errexit ignored : Bool) (ended : CommandStatus) → ActiveSettled (ended_within errexit ignored ended)
+ended_within_settled errexit true ended = tt
+ended_within_settled false false ended = tt
+ended_within_settled true false ended =
+    choose ActiveSettled (is_failure ended && not ended.excused) (Leaving (leave.Exit ended.status)) (Done ended) (λ e. tt) (λ e. tt)
+
+returned_settled : (around : List Form) (shell : Shell) (status : ℕ) → ActiveSettled (returned around shell status)
+returned_settled around shell status = ended_within_settled (exits_on_error shell) (is_failure_ignored around) (unexcused status)
+
+call_left_settled : (around : List Form) (l : Leave) (shell : Shell) → ActiveSettled (after_call around l shell)
+call_left_settled around (leave.Exit status) shell = tt
+call_left_settled around (leave.Fault status) shell = tt
+call_left_settled around (leave.Return status) shell = returned_settled around shell status
+call_left_settled around (leave.Break inside) shell = tt
+call_left_settled around (leave.Continue inside) shell = tt
+
+status_settled : (around : List Form) (form : Form) (s : KernelState) (shell : Shell) (status : CommandStatus) → FormHolds form → ActedSettled (after_status around form s shell status)
+status_settled around (Text rest) s shell status h = tt
+status_settled around (Commands items) s shell status h = items_settled items status h
+status_settled around (Joined others) s shell status h = connected_settled others status h
+status_settled around Negated s shell status h = tt
+status_settled around (Restoring undo) s shell status h = undone_settled undo s shell (At (Done status)) tt
+status_settled around (If branches) s shell status h = branch_settled branches status.status h
+status_settled around (Condition loop last) s shell status h = body_settled loop last status.status h
+status_settled around (Body loop) s shell status h = condition_settled loop status h
+status_settled around (ForBody series) s shell status h = given_by_settled series series.values status h
+status_settled around (Call positional) s shell status h = returned_settled around shell status.status
+status_settled around Evaluation s shell status h = tt
+status_settled around FailuresIgnored s shell status h = tt
 
 leave_settled : (around : List Form) (form : Form) (s : KernelState) (shell : Shell) (l : Leave) → FormHolds form → ActedSettled (after_leave around form s shell l)
 leave_settled around (Text rest) s shell l h = tt
@@ -179,12 +244,16 @@ leave_settled around (If branches) s shell l h = tt
 leave_settled around (Condition loop last) s shell l h = left_settled (has_loop around) l s shell (condition_run loop last) (condition_settled loop last h)
 leave_settled around (Body loop) s shell l h = left_settled (has_loop around) l s shell (condition_run loop (unexcused 0)) (condition_settled loop (unexcused 0) h)
 leave_settled around (ForBody series) s shell l h = left_settled (has_loop around) l s shell (At (rest_of_series series (unexcused 0))) (given_by_settled series series.values (unexcused 0) h)
+leave_settled around (Call positional) s shell l h = call_left_settled around l shell
+leave_settled around Evaluation s shell l h = tt
 leave_settled around FailuresIgnored s shell l h = tt
 
 after_by_settled : (around : List Form) (form : Form) (s : KernelState) (shell : Shell) (run : Run) → FormHolds form → Settled run → ActedSettled (after_by around form s shell run)
-after_by_settled around form s shell (At (Done status)) h p = status_settled form s shell status h
+after_by_settled around form s shell (At (Done status)) h p = status_settled around form s shell status h
 after_by_settled around form s shell (At (Leaving l)) h p = leave_settled around form s shell l h
 after_by_settled around form s shell (At (Acting builtin fields)) h p = absurd p
+after_by_settled around form s shell (At (Calling body fields)) h p = absurd p
+after_by_settled around form s shell (At (Evaluating text)) h p = absurd p
 after_by_settled around form s shell (At (Next place)) h p = (h, p)
 after_by_settled around form s shell (In inner run) h p = (h, p)
 
@@ -193,37 +262,40 @@ unfolding after
 after_settled around form a h p = after_by_settled around form a.machine a.shell a.run h p
 
 -- ---- a built-in acts
-effect_settled : (s : KernelState) (shell : Shell) (active : Active) → ActiveHolds active → Settled (effect_at s shell active).run
+effect_settled : (levels : ℕ) (s : KernelState) (shell : Shell) (active : Active) → ActiveHolds active → Settled (effect_at levels s shell active).run
 unfolding builtin_effect
-effect_settled s shell (Acting builtin fields) h = behind_settled builtin (built_in s.machine shell builtin (drop 1 fields)).outcome
-effect_settled s shell (Next place) h = h
-effect_settled s shell (Done status) h = tt
-effect_settled s shell (Leaving l) h = tt
+effect_settled levels s shell (Acting builtin fields) h =
+    let outcome = (built_in s.machine shell builtin (drop 1 fields)).outcome in
+    performed_settled levels (built_in s.machine shell builtin (drop 1 fields)).shell (behind builtin outcome) (behind_follows builtin outcome)
+effect_settled levels s shell (Calling body fields) h = call_settled levels shell body (drop 1 fields) h
+effect_settled levels s shell (Evaluating text) h = evaluation_settled levels shell text
+effect_settled levels s shell (Next place) h = h
+effect_settled levels s shell (Done status) h = tt
+effect_settled levels s shell (Leaving l) h = tt
 
-left_within_settled : (looped : Bool) (l : Leave) → ActiveSettled (left_within looped l)
-left_within_settled looped (leave.Exit status) = tt
-left_within_settled looped (leave.Fault status) = tt
-left_within_settled true (leave.Break inside) = tt
-left_within_settled false (leave.Break inside) = tt
-left_within_settled true (leave.Continue inside) = tt
-left_within_settled false (leave.Continue inside) = tt
-
-ended_within_settled : (errexit ignored : Bool) (ended : CommandStatus) → ActiveSettled (ended_within errexit ignored ended)
-ended_within_settled errexit true ended = tt
-ended_within_settled false false ended = tt
-ended_within_settled true false ended =
-    choose ActiveSettled (is_failure ended && not ended.excused) (Leaving (leave.Exit ended.status)) (Done ended) (λ e. tt) (λ e. tt)
+left_within_settled : (called looped : Bool) (l : Leave) → ActiveSettled (left_within called looped l)
+left_within_settled called looped (leave.Exit status) = tt
+left_within_settled called looped (leave.Fault status) = tt
+left_within_settled true looped (leave.Return status) = tt
+left_within_settled false looped (leave.Return status) = tt
+left_within_settled called true (leave.Break inside) = tt
+left_within_settled called false (leave.Break inside) = tt
+left_within_settled called true (leave.Continue inside) = tt
+left_within_settled called false (leave.Continue inside) = tt
 
 within_settled : (errexit : Bool) (around : List Form) (active : Active) → ActiveSettled active → ActiveSettled (within errexit around active)
 within_settled errexit around (Acting builtin fields) p = p
+within_settled errexit around (Calling body fields) p = p
+within_settled errexit around (Evaluating text) p = p
 within_settled errexit around (Next place) p = p
 within_settled errexit around (Done ended) p = ended_within_settled errexit (is_failure_ignored around) ended
-within_settled errexit around (Leaving l) p = left_within_settled (has_loop around) l
+within_settled errexit around (Leaving l) p = left_within_settled (has_call around) (has_loop around) l
 
 within_run_settled : (errexit : Bool) (around : List Form) (run : Run) → Settled run → Settled (within_run errexit around run)
 within_run_settled errexit around (At active) p = within_settled errexit around active p
 within_run_settled errexit around (In form run) p = p
 
 pub at_action_settled : (around : List Form) (s : KernelState) (shell : Shell) (run : Run) → Holds run → ActedSettled (at_action around s shell run)
-at_action_settled around s shell (At active) h = within_run_settled _ around (effect_at s shell active).run (effect_settled s shell active h)
+at_action_settled around s shell (At active) h =
+    let levels = levels_left around in within_run_settled _ around (effect_at levels s shell active).run (effect_settled levels s shell active h)
 at_action_settled around s shell (In form run) h = after_settled around form (at_action _ s shell run) h.0 (at_action_settled _ s shell run h.1)

@@ -2,6 +2,7 @@
 use Rattle.std.proofs.Common.{◌≡◌, ℕ, List, [], ◌∷◌, ◌++◌, length, Option, Some, None, Bool, true, false, sym, subst}
 use Rattle.std.specs.Prelude.{Result, Ok, Err, nat_eq}
 use Rattle.sh_builtin.specs.declared.outcome.Leave.TheVariants as leave
+use Rattle.sh_builtin.specs.Functions.{Named}
 use Rattle.sh_builtin.specs.declared.shell.Shell.{Shell}
 use Rattle.sh_exec_actions.specs.Preparing.{ahead, ahead_by, final_move, performed_by}
 use Rattle.sh_exec_command.specs.Reading.{next_command}
@@ -10,19 +11,17 @@ use Rattle.sh_exec_command.specs.declared.found.Found.{Found}
 use Rattle.sh_exec_command.specs.declared.found.Found.TheVariants as found
 use Rattle.sh_exec_actions.specs.Statuses.{unexcused}
 use Rattle.sh_exec_actions.specs.declared.action.Active.{Active}
-use Rattle.sh_exec_actions.specs.declared.action.Active.TheVariants.{Acting, Next, Done, Leaving}
+use Rattle.sh_exec_actions.specs.declared.action.Active.TheVariants.{Acting, Calling, Evaluating, Next, Done, Leaving}
 use Rattle.sh_exec_actions.specs.declared.action.Expanded.{Expanded}
 use Rattle.sh_exec_actions.specs.declared.action.Expanded.TheVariants as expanded
 use Rattle.sh_exec_actions.specs.declared.action.Finish.{Finish}
-use Rattle.sh_exec_actions.specs.declared.action.Report.{Report}
 use Rattle.sh_exec_forms.specs.Bodies.{body_of}
-use Rattle.sh_exec_forms.specs.Builtins.{reported}
 use Rattle.sh_exec_actions.specs.declared.action.Finish.TheVariants.{Status, Fault, Messages, Output}
 use Rattle.sh_exec_actions.specs.declared.action.Move.{Move}
 use Rattle.sh_exec_actions.specs.declared.action.Move.TheVariants as move
 use Rattle.sh_exec_actions.specs.declared.action.Pending.{Pending}
 use Rattle.sh_exec_actions.specs.declared.action.Action.{Action}
-use Rattle.sh_exec_actions.specs.declared.action.Action.TheVariants.{Reading, Expanding, ReadSubstitution, WaitSubstitution, Redirecting, Forking, Starting, ForkStage, AssignLoopVariable, Waiting, Writing, Ending}
+use Rattle.sh_exec_actions.specs.declared.action.Action.TheVariants.{Reading, Expanding, ReadSubstitution, WaitSubstitution, Redirecting, Forking, Starting, ForkStage, AssignLoopVariable, Defining, Waiting, Writing, Ending}
 use Rattle.sh_exec_actions.specs.declared.action.ExpandedCommand.{ExpandedCommand}
 use Rattle.sh_exec_actions.specs.declared.action.Role.TheVariants.{Program}
 use Rattle.sh_exec_actions.specs.declared.action.Stages.{Stages}
@@ -61,13 +60,14 @@ use Rattle.sh_syntax.specs.declared.tree.Command.{Command}
 use Rattle.sh_syntax.specs.declared.tree.Command.TheViews as view
 use Rattle.sh_syntax.specs.declared.tree.CompoundList.{CompoundList}
 use Rattle.sh_vars.specs.Environment.{Environment}
+use Rattle.sh_laws.proofs.FunctionTurns.{functions_hold}
 use Rattle.sh_laws.proofs.NeededPrograms.{ItsItems}
-use Rattle.sh_laws.specs.BeforeAction.{ActiveStands, AssignmentsHold, ChildStands, FoundBegins, PlaceHolds, RoleHolds, RunStands, WantsHold}
-use Rattle.sh_laws.specs.Beginnings.{CommandBegins, CommandsBegin, by_form, by_words, more_commands, no_commands}
+use Rattle.sh_laws.specs.BeforeAction.{ActedStands, ActiveStands, AssignmentsHold, ChildStands, FoundBegins, FunctionsHold, InterpreterStands, PlaceHolds, RoleHolds, RunStands, WantsHold}
+use Rattle.sh_laws.specs.Beginnings.{CommandBegins, CommandsBegin, by_definition, by_form, by_words, more_commands, no_commands}
 use Rattle.sh_laws.proofs.BegunCommands.{form_stands, list_stands}
 use Rattle.sh_laws.proofs.BegunProcesses.{body_stands, stage_stands}
 use Rattle.sh_laws.proofs.CommandTurns.{ActiveHolds, CommandHolds, ExpandedHolds, MoveHolds, RoundHolds, TurnHolds, ahead_holds, assign_holds, case_holds, choose, give_holds, next_holds, not_done_holds, pattern_holds, redirects_hold, series_hold, words_hold}
-use Rattle.sh_laws.proofs.SettledForms.{Holds, Settled, after_settled, at_action_settled, items_settled, reported_settled, settled_active, settled_holds, stands_holds}
+use Rattle.sh_laws.proofs.SettledForms.{Holds, Settled, after_settled, at_action_settled, items_settled, reported_holds, settled_holds, stands_holds}
 
 -- what an action leaves, before it is settled
 abbrev pub ActedHolds : Acted → Type 0
@@ -79,6 +79,7 @@ TurnedHolds t = Holds t.left.run × ChildStands t.child
 form_run_holds : (command : Command) → CommandBegins command → CommandBegins command → Holds (form_run command)
 unfolding form_run
 form_run_holds command c (by_words _ items e b) = subst (λ z. Holds (form_of_command z command)) (sym e) tt
+form_run_holds command c (by_definition _ name body e b r) = subst (λ z. Holds (form_of_command z command)) (sym e) tt
 form_run_holds command c (by_form _ inner e b r) =
     subst (λ z. Holds (form_of_command z command)) (sym e)
     (stands_holds (form_entry (view.out-Compound inner).form command) (form_stands (view.out-Compound inner).form b command c))
@@ -99,13 +100,14 @@ read_holds env status (found.Command tree rest) h =
     (tt, settled_holds (items_run items (unexcused env.special.status)) (items_settled items (unexcused env.special.status) h))
 read_holds env status (found.Fault refusal) h = tt
 
-expand_holds : (files : FileMap) (env : Environment) (wants : ToExpand) (pending : Option Pending) → WantsHold wants → TurnHolds (expand_turn files env wants pending)
-expand_holds files env (Words command in_place status) pending h = words_hold files env command in_place status pending h
-expand_holds files env (Values p) pending h = assign_holds files env p pending h
-expand_holds files env (Redirects command) pending h = redirects_hold files env command pending h
-expand_holds files env (ForWords command) pending h = series_hold files env command pending h
-expand_holds files env (CaseWord command) pending h = case_holds files env command pending h
-expand_holds files env (CasePattern case) pending h = pattern_holds env case pending h
+expand_holds : (files : FileMap) (env : Environment) (functions : List Named) (wants : ToExpand) (pending : Option Pending) → FunctionsHold functions → WantsHold wants
+    → TurnHolds (expand_turn files env functions wants pending)
+expand_holds files env functions (Words command in_place status) pending f h = words_hold files env functions command in_place status pending f h
+expand_holds files env functions (Values p) pending f h = assign_holds files env p pending h
+expand_holds files env functions (Redirects command) pending f h = redirects_hold files env command pending h
+expand_holds files env functions (ForWords command) pending f h = series_hold files env command pending h
+expand_holds files env functions (CaseWord command) pending f h = case_holds files env command pending h
+expand_holds files env functions (CasePattern case) pending f h = pattern_holds env case pending h
 
 -- ---- a program's process begins with its redirections, its assignments or its start
 program_stands : (p : ExpandedCommand) → p.role ≡ Program → RunStands (move_run (performed_by p p.role))
@@ -181,9 +183,6 @@ unfolding redirect_turn
 redirect_holds s shell p h = redirect_from_holds s shell p p.redirections h
 
 -- ---- a write, a round, and the end
-reported_holds : (report : Report) → ActiveHolds (reported report)
-reported_holds report = settled_active (reported report) (reported_settled report)
-
 after_writing_holds : (finish : Finish) → ActiveHolds (after_writing finish)
 after_writing_holds (Status status) = tt
 after_writing_holds (Fault status) = tt
@@ -215,36 +214,37 @@ end_holds : (s : KernelState) (shell : Shell) (status : ℕ) → ActedHolds (end
 unfolding end_turn
 end_holds s shell status = tt
 
--- ---- processes that are made
-program_holds : (s : KernelState) (shell : Shell) (p : ExpandedCommand) (o : Option ℕ) → PlaceHolds (Forking p) → TurnedHolds (program_by s shell p o)
+-- ---- processes that are made, each with the shell's functions
+program_holds : (s : KernelState) (shell : Shell) (p : ExpandedCommand) (o : Option ℕ) → FunctionsHold shell.functions → PlaceHolds (Forking p) → TurnedHolds (program_by s shell p o)
 unfolding ahead
-program_holds s shell p None h = (tt, tt)
-program_holds s shell p (Some child) h = (tt, ahead_stands p p.redirections p.assignments h.0 h.1)
+program_holds s shell p None f h = (tt, tt)
+program_holds s shell p (Some child) f h = (tt, (ahead_stands p p.redirections p.assignments h.0 h.1, f))
 
-fork_holds : (s : KernelState) (shell : Shell) (p : ExpandedCommand) → PlaceHolds (Forking p) → TurnedHolds (fork_turn s shell p)
+fork_holds : (s : KernelState) (shell : Shell) (p : ExpandedCommand) → FunctionsHold shell.functions → PlaceHolds (Forking p) → TurnedHolds (fork_turn s shell p)
 unfolding fork_turn
-fork_holds s shell p h = let f = fork_of s shell.pid None false in program_holds f.after shell p f.child h
+fork_holds s shell p f h = let forked = fork_of s shell.pid None false in program_holds forked.after shell p forked.child f h
 
 stage_place_holds : (commands : List Command) (aside : Option ℕ) (children : List ℕ) → CommandsBegin commands → PlaceHolds (stage_place commands aside children)
 stage_place_holds [] aside children b = tt
 stage_place_holds (command ∷ commands) aside children b = b
 
-stage_by_holds : (s : KernelState) (shell : Shell) (command : Command) (stages : Stages) (o : Option ℕ) → CommandBegins command → CommandsBegin stages.commands
-    → TurnedHolds (stage_by s shell command stages o)
-stage_by_holds s shell command stages None c b = (tt, tt)
-stage_by_holds s shell command stages (Some child) c b =
-    (stage_place_holds stages.commands stages.aside (stages.children ++ child ∷ []) b, stage_stands command c)
+stage_by_holds : (s : KernelState) (shell : Shell) (command : Command) (stages : Stages) (o : Option ℕ) → FunctionsHold shell.functions → CommandBegins command
+    → CommandsBegin stages.commands → TurnedHolds (stage_by s shell command stages o)
+stage_by_holds s shell command stages None f c b = (tt, tt)
+stage_by_holds s shell command stages (Some child) f c b =
+    (stage_place_holds stages.commands stages.aside (stages.children ++ child ∷ []) b, (stage_stands command c, f))
 
-stage_from_holds : (s : KernelState) (shell : Shell) (stages : Stages) (commands : List Command) → CommandsBegin commands → TurnedHolds (stage_from s shell stages commands)
+stage_from_holds : (s : KernelState) (shell : Shell) (stages : Stages) (commands : List Command) → FunctionsHold shell.functions → CommandsBegin commands
+    → TurnedHolds (stage_from s shell stages commands)
 unfolding stage_one
-stage_from_holds s shell stages _ no_commands = (tt, tt)
-stage_from_holds s shell stages _ (more_commands command commands c b) =
-    let f = fork_of s shell.pid stages.aside (is_more commands) in
-    stage_by_holds f.after shell command (record stages { commands = commands; aside = f.aside }) f.child c b
+stage_from_holds s shell stages _ f no_commands = (tt, tt)
+stage_from_holds s shell stages _ f (more_commands command commands c b) =
+    let forked = fork_of s shell.pid stages.aside (is_more commands) in
+    stage_by_holds forked.after shell command (record stages { commands = commands; aside = forked.aside }) forked.child f c b
 
-stage_holds : (s : KernelState) (shell : Shell) (stages : Stages) → CommandsBegin stages.commands → TurnedHolds (stage_turn s shell stages)
+stage_holds : (s : KernelState) (shell : Shell) (stages : Stages) → FunctionsHold shell.functions → CommandsBegin stages.commands → TurnedHolds (stage_turn s shell stages)
 unfolding stage_turn
-stage_holds s shell stages b = stage_from_holds s shell stages stages.commands b
+stage_holds s shell stages f b = stage_from_holds s shell stages stages.commands f b
 
 failure_holds : (wants : ToExpand) → MoveHolds (fork_failure wants)
 failure_holds (Words command in_place status) = tt
@@ -254,69 +254,78 @@ failure_holds (ForWords command) = tt
 failure_holds (CaseWord command) = tt
 failure_holds (CasePattern case) = tt
 
-substitution_holds : (s : KernelState) (shell : Shell) (program : CompoundList) (substitution : Substitution) (o : Option ℕ) → ItsItems program → WantsHold substitution.wants
-    → TurnedHolds (substitution_by s shell program substitution o)
-substitution_holds s shell program substitution None b h = (move_holds (fork_failure substitution.wants) (failure_holds substitution.wants), tt)
-substitution_holds s shell program substitution (Some child) b h = (h, body_stands program b)
+substitution_holds : (s : KernelState) (shell : Shell) (program : CompoundList) (substitution : Substitution) (o : Option ℕ) → FunctionsHold shell.functions → ItsItems program
+    → WantsHold substitution.wants → TurnedHolds (substitution_by s shell program substitution o)
+substitution_holds s shell program substitution None f b h = (move_holds (fork_failure substitution.wants) (failure_holds substitution.wants), tt)
+substitution_holds s shell program substitution (Some child) f b h = (h, (body_stands program b, f))
 
-substitute_holds : (s : KernelState) (shell : Shell) (program : CompoundList) (wants : ToExpand) (pending : Pending) → ItsItems program → WantsHold wants
-    → TurnedHolds (substitute_turn s shell program wants pending)
+substitute_holds : (s : KernelState) (shell : Shell) (program : CompoundList) (wants : ToExpand) (pending : Pending) → FunctionsHold shell.functions → ItsItems program
+    → WantsHold wants → TurnedHolds (substitute_turn s shell program wants pending)
 unfolding substitute_turn
-substitute_holds s shell program wants pending b h =
-    let f = fork_of s shell.pid None true in substitution_holds f.after shell program (begun_substitution wants pending f.aside) f.child b h
+substitute_holds s shell program wants pending f b h =
+    let forked = fork_of s shell.pid None true in
+    substitution_holds forked.after shell program (begun_substitution wants pending forked.aside) forked.child f b h
 
-expanded_holds : (s : KernelState) (shell : Shell) (e : Expanded) → ExpandedHolds e → TurnedHolds (expanded_by s shell e)
-expanded_holds s shell (expanded.Need program wants pending) h = substitute_holds s shell program wants pending h.0 h.1
-expanded_holds s shell (expanded.Go m) h = (move_holds m h, tt)
+expanded_holds : (s : KernelState) (shell : Shell) (e : Expanded) → FunctionsHold shell.functions → ExpandedHolds e → TurnedHolds (expanded_by s shell e)
+expanded_holds s shell (expanded.Need program wants pending) f h = substitute_holds s shell program wants pending f h.0 h.1
+expanded_holds s shell (expanded.Go m) f h = (move_holds m h, tt)
 
 -- ---- the turn
-place_holds : (s : KernelState) (shell : Shell) (place : Action) → PlaceHolds place → TurnedHolds (act_place s shell place)
-place_holds s shell (Reading rest status) h = (read_holds shell.vars status (next_command rest) (next_holds rest), tt)
-place_holds s shell (Expanding wants pending) h =
-    let t = expand_turn s.machine.files shell.vars wants pending in expanded_holds s (record shell { vars = t.environment }) t.outcome (expand_holds s.machine.files shell.vars wants pending h)
-place_holds s shell (ReadSubstitution substitution) h = (collect_holds s shell substitution h, tt)
-place_holds s shell (WaitSubstitution substitution) h = (answer_holds s shell.pid substitution h, tt)
-place_holds s shell (Redirecting p) h = (redirect_holds s shell p h, tt)
-place_holds s shell (Forking p) h = fork_holds s shell p h
-place_holds s shell (Starting fields) h = (tt, tt)
-place_holds s shell (ForkStage stages) h = stage_holds s shell stages h
-place_holds s shell (AssignLoopVariable series) h = (round_holds (give_turn shell.vars series).round (give_holds shell.vars series h), tt)
-place_holds s shell (Waiting children) h = (wait_holds s shell.pid children, tt)
-place_holds s shell (Writing piece finish) h = (write_holds s shell piece finish, tt)
-place_holds s shell (Ending status) h = (end_holds s shell status, tt)
+place_holds : (s : KernelState) (shell : Shell) (place : Action) → FunctionsHold shell.functions → PlaceHolds place → TurnedHolds (act_place s shell place)
+place_holds s shell (Reading rest status) f h = (read_holds shell.vars status (next_command rest) (next_holds rest), tt)
+place_holds s shell (Expanding wants pending) f h =
+    let t = expand_turn s.machine.files shell.vars shell.functions wants pending in
+    expanded_holds s (record shell { vars = t.environment }) t.outcome f (expand_holds s.machine.files shell.vars shell.functions wants pending f h)
+place_holds s shell (ReadSubstitution substitution) f h = (collect_holds s shell substitution h, tt)
+place_holds s shell (WaitSubstitution substitution) f h = (answer_holds s shell.pid substitution h, tt)
+place_holds s shell (Redirecting p) f h = (redirect_holds s shell p h, tt)
+place_holds s shell (Forking p) f h = fork_holds s shell p f h
+place_holds s shell (Starting fields) f h = (tt, tt)
+place_holds s shell (ForkStage stages) f h = stage_holds s shell stages f h
+place_holds s shell (AssignLoopVariable series) f h = (round_holds (give_turn shell.vars series).round (give_holds shell.vars series h), tt)
+place_holds s shell (Defining definition) f h = (tt, tt)
+place_holds s shell (Waiting children) f h = (wait_holds s shell.pid children, tt)
+place_holds s shell (Writing piece finish) f h = (write_holds s shell piece finish, tt)
+place_holds s shell (Ending status) f h = (end_holds s shell status, tt)
 
-active_holds : (s : KernelState) (shell : Shell) (active : Active) → ActiveStands active → TurnedHolds (act_at s shell active)
-active_holds s shell (Acting builtin fields) h = absurd h
-active_holds s shell (Next place) h = place_holds s shell place h
-active_holds s shell (Done status) h = absurd h
-active_holds s shell (Leaving l) h = absurd h
+active_holds : (s : KernelState) (shell : Shell) (active : Active) → FunctionsHold shell.functions → ActiveStands active → TurnedHolds (act_at s shell active)
+active_holds s shell (Acting builtin fields) f h = absurd h
+active_holds s shell (Calling body fields) f h = absurd h
+active_holds s shell (Evaluating text) f h = absurd h
+active_holds s shell (Next place) f h = place_holds s shell place f h
+active_holds s shell (Done status) f h = absurd h
+active_holds s shell (Leaving l) f h = absurd h
 
 inherited_stands : (ignored : Bool) (child : Option InterpreterState) → ChildStands child → ChildStands (inherited ignored child)
 inherited_stands ignored None h = tt
-inherited_stands true (Some child) h = (tt, h)
+inherited_stands true (Some child) h = ((tt, h.0), h.1)
 inherited_stands false (Some child) h = h
 
-reduce_settled : (s : KernelState) (shell : Shell) (around : List Form) (run : Run) → RunStands run → let t = reduce s shell around run in Settled t.left.run × ChildStands t.child
-reduce_settled s shell around (At active) h =
+reduce_settled : (s : KernelState) (shell : Shell) (around : List Form) (run : Run) → FunctionsHold shell.functions → RunStands run
+    → let t = reduce s shell around run in Settled t.left.run × ChildStands t.child
+reduce_settled s shell around (At active) f h =
     let t = act_at s shell active in
-    let holds = active_holds s shell active h in
+    let holds = active_holds s shell active f h in
     (at_action_settled around t.left.machine t.left.shell t.left.run holds.0, inherited_stands (is_failure_ignored around) t.child holds.1)
-reduce_settled s shell around (In form run) h =
-    let settled = reduce_settled s shell _ run h.1 in
+reduce_settled s shell around (In form run) f h =
+    let settled = reduce_settled s shell _ run f h.1 in
     (after_settled around form (reduce s shell _ run).left h.0 settled.0, settled.1)
 
 root_stands : (run : Run) → Settled run → RunStands (at_root run)
 root_stands (At (Leaving (leave.Exit status))) p = tt
 root_stands (At (Leaving (leave.Fault status))) p = tt
+root_stands (At (Leaving (leave.Return status))) p = tt
 root_stands (At (Leaving (leave.Break inside))) p = tt
 root_stands (At (Leaving (leave.Continue inside))) p = tt
 root_stands (At (Done status)) p = tt
 root_stands (At (Acting builtin fields)) p = p
+root_stands (At (Calling body fields)) p = p
+root_stands (At (Evaluating text)) p = p
 root_stands (At (Next place)) p = p
 root_stands (In form run) p = p
 
-pub shell_stands : (s : KernelState) (interpreter : InterpreterState) → RunStands interpreter.run → let t = shell_turn s interpreter in RunStands t.left.run × ChildStands t.child
+pub shell_stands : (s : KernelState) (interpreter : InterpreterState) → InterpreterStands interpreter → let t = shell_turn s interpreter in ActedStands t.left × ChildStands t.child
 unfolding shell_turn
 shell_stands s interpreter h =
-    let settled = reduce_settled s interpreter.shell [] interpreter.run h in
-    (root_stands (reduce s interpreter.shell [] interpreter.run).left.run settled.0, settled.1)
+    let settled = reduce_settled s interpreter.shell [] interpreter.run h.1 h.0 in
+    ((root_stands (reduce s interpreter.shell [] interpreter.run).left.run settled.0, functions_hold s interpreter.shell [] interpreter.run h.0 h.1), settled.1)

@@ -38,7 +38,7 @@ first_holds image (Text bytes) = tt
 first_holds image (Script path) = place_holds path (node_of_path image (codes "/") path)
 
 pub start_stands : (S : Type 0) (image : FileMap) (settings : Settings) → TasksStand (start {S = S} image settings).tasks
-start_stands S image settings = (first_holds image settings.source, tt)
+start_stands S image settings = ((first_holds image settings.source, tt), tt)
 
 -- ---- an event
 module _ {S : Type 0} (m : Meaning S) where

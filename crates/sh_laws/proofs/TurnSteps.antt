@@ -13,13 +13,13 @@ use Rattle.sh_exec_command.specs.Series.{rest_of_series}
 use Rattle.sh_exec_actions.specs.Statuses.{unexcused}
 use Rattle.sh_exec_actions.specs.declared.status.CommandStatus.{CommandStatus}
 use Rattle.sh_exec_actions.specs.declared.action.Active.{Active}
-use Rattle.sh_exec_actions.specs.declared.action.Active.TheVariants.{Acting, Next, Done, Leaving}
+use Rattle.sh_exec_actions.specs.declared.action.Active.TheVariants.{Acting, Calling, Evaluating, Next, Done, Leaving}
 use Rattle.sh_exec_actions.specs.declared.action.Expanded.{Expanded}
 use Rattle.sh_exec_actions.specs.declared.action.Expanded.TheVariants as expanded
 use Rattle.sh_exec_actions.specs.declared.action.Finish.{Finish}
 use Rattle.sh_exec_actions.specs.declared.action.Pending.{Pending}
 use Rattle.sh_exec_actions.specs.declared.action.Action.{Action}
-use Rattle.sh_exec_actions.specs.declared.action.Action.TheVariants.{Reading, Expanding, ReadSubstitution, WaitSubstitution, Redirecting, Forking, Starting, ForkStage, AssignLoopVariable, Waiting, Writing, Ending}
+use Rattle.sh_exec_actions.specs.declared.action.Action.TheVariants.{Reading, Expanding, ReadSubstitution, WaitSubstitution, Redirecting, Forking, Starting, ForkStage, AssignLoopVariable, Defining, Waiting, Writing, Ending}
 use Rattle.sh_exec_actions.specs.declared.action.ExpandedCommand.{ExpandedCommand}
 use Rattle.sh_exec_actions.specs.declared.action.Stages.{Stages}
 use Rattle.sh_exec_actions.specs.declared.action.Substitution.{Substitution}
@@ -31,13 +31,13 @@ use Rattle.sh_exec_machine.specs.declared.transfer.ReadOutcome.{ReadOutcome}
 use Rattle.sh_exec_machine.specs.declared.transfer.ReadOutcome.TheVariants as taken
 use Rattle.sh_exec_shell.specs.Acting.{collect_by, collect_end, collect_from, collect_turn, after_collection, end_turn, expand_turn, keeps, next, redirect_from, redirect_one, redirect_turn, with_written, write_turn}
 use Rattle.sh_exec_shell.specs.Forks.{Turned, begun_substitution, fork_turn, inherited, is_more, program_by, stage_by, stage_from, stage_one, stage_turn, substitute_turn, substitution_by}
-use Rattle.sh_exec_forms.specs.Builtins.{builtin_effect, effect_at}
+use Rattle.sh_exec_forms.specs.Builtins.{behind, builtin_effect, call, effect_at, evaluation, performed}
 use Rattle.sh_exec_forms.specs.Forms.{Acted, with_run, after, after_by, after_status, after_leave, loop_left, onward, condition_run, at_action, undone}
-use Rattle.sh_exec_forms.specs.Frames.{has_loop, is_failure_ignored}
+use Rattle.sh_exec_forms.specs.Frames.{has_loop, is_failure_ignored, levels_left}
 use Rattle.sh_exec_shell.specs.Reduction.{act_at, act_place, expanded_by, reduce, shell_turn}
 use Rattle.sh_exec_forms.specs.Running.{InterpreterState, Run, At, In}
 use Rattle.sh_exec_actions.specs.declared.form.Form.{Form}
-use Rattle.sh_exec_actions.specs.declared.form.Form.TheVariants.{Text, Commands, Joined, Negated, Restoring, If, Condition, Body, ForBody, FailuresIgnored}
+use Rattle.sh_exec_actions.specs.declared.form.Form.TheVariants.{Text, Commands, Joined, Negated, Restoring, If, Condition, Body, ForBody, Call, Evaluation, FailuresIgnored}
 use Rattle.sh_kernel_descriptors.specs.Machine.{MachineState}
 use Rattle.sh_kernel_descriptors.specs.declared.descriptor.DescriptorRef.TheVariants.{Aside}
 use Rattle.sh_kernel.specs.Requests.{Close, End}
@@ -56,23 +56,45 @@ built_in_number machine shell builtin.Cd arguments = refl
 built_in_number machine shell builtin.Colon arguments = refl
 built_in_number machine shell builtin.Continue arguments = refl
 built_in_number machine shell builtin.Echo arguments = refl
+built_in_number machine shell builtin.Eval arguments = refl
 built_in_number machine shell builtin.Exit arguments = refl
 built_in_number machine shell builtin.Export arguments = refl
 built_in_number machine shell builtin.False arguments = refl
 built_in_number machine shell builtin.Pwd arguments = refl
 built_in_number machine shell builtin.ReadOnly arguments = refl
+built_in_number machine shell builtin.Return arguments = refl
 built_in_number machine shell builtin.Set arguments = refl
 built_in_number machine shell builtin.Shift arguments = refl
 built_in_number machine shell builtin.Test arguments = refl
 built_in_number machine shell builtin.True arguments = refl
 built_in_number machine shell builtin.Unset arguments = refl
 
-effect_number : (s : KernelState) (shell : Shell) (active : Active) → (effect_at s shell active).shell.pid ≡ shell.pid
+evaluation_number : (levels : ℕ) (shell : Shell) (text : List ℕ) → (evaluation levels shell text).shell.pid ≡ shell.pid
+evaluation_number zero shell text = refl
+evaluation_number (suc levels) shell text = refl
+
+call_number : (levels : ℕ) (shell : Shell) (body : Command) (arguments : List (List ℕ)) → (call levels shell body arguments).shell.pid ≡ shell.pid
+call_number zero shell body arguments = refl
+call_number (suc levels) shell body arguments = refl
+
+performed_number : (levels : ℕ) (shell : Shell) (active : Active) → (performed levels shell active).shell.pid ≡ shell.pid
+performed_number levels shell (Acting b fields) = refl
+performed_number levels shell (Calling body fields) = call_number levels shell body (drop 1 fields)
+performed_number levels shell (Evaluating text) = evaluation_number levels shell text
+performed_number levels shell (Next place) = refl
+performed_number levels shell (Done status) = refl
+performed_number levels shell (Leaving leave) = refl
+
+effect_number : (levels : ℕ) (s : KernelState) (shell : Shell) (active : Active) → (effect_at levels s shell active).shell.pid ≡ shell.pid
 unfolding builtin_effect
-effect_number s shell (Acting b fields) = built_in_number s.machine shell b (drop 1 fields)
-effect_number s shell (Next place) = refl
-effect_number s shell (Done status) = refl
-effect_number s shell (Leaving leave) = refl
+effect_number levels s shell (Acting b fields) =
+    let d = built_in s.machine shell b (drop 1 fields) in
+    performed_number levels d.shell (behind b d.outcome) ∙ built_in_number s.machine shell b (drop 1 fields)
+effect_number levels s shell (Calling body fields) = call_number levels shell body (drop 1 fields)
+effect_number levels s shell (Evaluating text) = evaluation_number levels shell text
+effect_number levels s shell (Next place) = refl
+effect_number levels s shell (Done status) = refl
+effect_number levels s shell (Leaving leave) = refl
 
 -- a process has the same number where failures are ignored
 inherited_number : (ignored : Bool) (child : Option InterpreterState) → made_number child ≡ made_number (inherited ignored child)
@@ -92,21 +114,24 @@ module _ (directory : List ℕ) (pid : ℕ) (P : KernelState → Type 0) (kept :
   unfolding undone
   undone_keeps undo s shell run e p = (e, undo_keeps directory shell.pid P (own shell e) undo.descriptors s p)
 
-  ended_keeps : (form : Form) (s : KernelState) (shell : Shell) (status : CommandStatus) → shell.pid ≡ pid → P s → Keeps (after_status form s shell status)
-  ended_keeps (Text rest) s shell status e p = (e, p)
-  ended_keeps (Commands items) s shell status e p = (e, p)
-  ended_keeps (Joined others) s shell status e p = (e, p)
-  ended_keeps Negated s shell status e p = (e, p)
-  ended_keeps (Restoring undo) s shell status e p = undone_keeps undo s shell (At (Done status)) e p
-  ended_keeps (If branches) s shell status e p = (e, p)
-  ended_keeps (Condition loop last) s shell status e p = (e, p)
-  ended_keeps (Body loop) s shell status e p = (e, p)
-  ended_keeps (ForBody series) s shell status e p = (e, p)
-  ended_keeps FailuresIgnored s shell status e p = (e, p)
+  ended_keeps : (around : List Form) (form : Form) (s : KernelState) (shell : Shell) (status : CommandStatus) → shell.pid ≡ pid → P s → Keeps (after_status around form s shell status)
+  ended_keeps around (Text rest) s shell status e p = (e, p)
+  ended_keeps around (Commands items) s shell status e p = (e, p)
+  ended_keeps around (Joined others) s shell status e p = (e, p)
+  ended_keeps around Negated s shell status e p = (e, p)
+  ended_keeps around (Restoring undo) s shell status e p = undone_keeps undo s shell (At (Done status)) e p
+  ended_keeps around (If branches) s shell status e p = (e, p)
+  ended_keeps around (Condition loop last) s shell status e p = (e, p)
+  ended_keeps around (Body loop) s shell status e p = (e, p)
+  ended_keeps around (ForBody series) s shell status e p = (e, p)
+  ended_keeps around (Call positional) s shell status e p = (e, p)
+  ended_keeps around Evaluation s shell status e p = (e, p)
+  ended_keeps around FailuresIgnored s shell status e p = (e, p)
 
   loop_left_keeps : (looped : Bool) (leave : Leave) (s : KernelState) (shell : Shell) (next : Run) → shell.pid ≡ pid → P s → Keeps (loop_left s shell next (onward looped leave))
   loop_left_keeps looped (leave.Exit status) s shell next e p = (e, p)
   loop_left_keeps looped (leave.Fault status) s shell next e p = (e, p)
+  loop_left_keeps looped (leave.Return status) s shell next e p = (e, p)
   loop_left_keeps looped (leave.Break zero) s shell next e p = (e, p)
   loop_left_keeps false (leave.Break (suc inside)) s shell next e p = (e, p)
   loop_left_keeps true (leave.Break (suc inside)) s shell next e p = (e, p)
@@ -124,12 +149,16 @@ module _ (directory : List ℕ) (pid : ℕ) (P : KernelState → Type 0) (kept :
   left_keeps around (Condition loop last) s shell leave e p = loop_left_keeps (has_loop around) leave s shell (condition_run loop last) e p
   left_keeps around (Body loop) s shell leave e p = loop_left_keeps (has_loop around) leave s shell (condition_run loop (unexcused 0)) e p
   left_keeps around (ForBody series) s shell leave e p = loop_left_keeps (has_loop around) leave s shell (At (rest_of_series series (unexcused 0))) e p
+  left_keeps around (Call positional) s shell leave e p = (e, p)
+  left_keeps around Evaluation s shell leave e p = (e, p)
   left_keeps around FailuresIgnored s shell leave e p = (e, p)
 
   after_by_keeps : (around : List Form) (form : Form) (s : KernelState) (shell : Shell) (run : Run) → shell.pid ≡ pid → P s → Keeps (after_by around form s shell run)
-  after_by_keeps around form s shell (At (Done status)) e p = ended_keeps form s shell status e p
+  after_by_keeps around form s shell (At (Done status)) e p = ended_keeps around form s shell status e p
   after_by_keeps around form s shell (At (Leaving leave)) e p = left_keeps around form s shell leave e p
   after_by_keeps around form s shell (At (Acting b fields)) e p = (e, p)
+  after_by_keeps around form s shell (At (Calling body fields)) e p = (e, p)
+  after_by_keeps around form s shell (At (Evaluating text)) e p = (e, p)
   after_by_keeps around form s shell (At (Next place)) e p = (e, p)
   after_by_keeps around form s shell (In inner run) e p = (e, p)
 
@@ -138,7 +167,7 @@ module _ (directory : List ℕ) (pid : ℕ) (P : KernelState → Type 0) (kept :
   after_keeps around form a k = after_by_keeps around form a.machine a.shell a.run k.0 k.1
 
   settled_keeps : (around : List Form) (s : KernelState) (shell : Shell) (run : Run) → shell.pid ≡ pid → P s → Keeps (at_action around s shell run)
-  settled_keeps around s shell (At active) e p = (effect_number s shell active ∙ e, p)
+  settled_keeps around s shell (At active) e p = (effect_number (levels_left around) s shell active ∙ e, p)
   settled_keeps around s shell (In form run) e p =
       after_keeps around form (at_action (form ∷ around) s shell run) (settled_keeps (form ∷ around) s shell run e p)
 
@@ -237,7 +266,7 @@ module _ (directory : List ℕ) (pid : ℕ) (P : Option ℕ → KernelState → 
   place_keeps : (s : KernelState) (shell : Shell) (place : Action) → shell.pid ≡ pid → shell.vars.directory ≡ directory → P None s → Leaves (act_place s shell place)
   place_keeps s shell (Reading rest status) e d p = (e, p)
   place_keeps s shell (Expanding wants pending) e d p =
-      let t = expand_turn s.machine.files shell.vars wants pending in expanded_keeps s (record shell { vars = t.environment }) t.outcome e p
+      let t = expand_turn s.machine.files shell.vars shell.functions wants pending in expanded_keeps s (record shell { vars = t.environment }) t.outcome e p
   place_keeps s shell (ReadSubstitution substitution) e d p = collect_keeps directory pid (P None) (kept None) s shell substitution e p
   place_keeps s shell (WaitSubstitution substitution) e d p = (e, p)
   place_keeps s shell (Redirecting prepared) e d p = redirect_turn_keeps directory pid (P None) (kept None) s shell prepared e d p
@@ -245,12 +274,15 @@ module _ (directory : List ℕ) (pid : ℕ) (P : Option ℕ → KernelState → 
   place_keeps s shell (Starting fields) e d p = (e, p)
   place_keeps s shell (ForkStage stages) e d p = stage_turn_keeps s shell stages e p
   place_keeps s shell (AssignLoopVariable series) e d p = (e, p)
+  place_keeps s shell (Defining definition) e d p = (e, p)
   place_keeps s shell (Waiting children) e d p = (e, p)
   place_keeps s shell (Writing piece finish) e d p = write_keeps directory pid (P None) (kept None) s shell piece finish e p
   place_keeps s shell (Ending status) e d p = end_keeps directory pid (P None) (kept None) s shell status e p
 
   active_keeps : (s : KernelState) (shell : Shell) (active : Active) → shell.pid ≡ pid → shell.vars.directory ≡ directory → P None s → Leaves (act_at s shell active)
   active_keeps s shell (Acting b fields) e d p = (e, p)
+  active_keeps s shell (Calling body fields) e d p = (e, p)
+  active_keeps s shell (Evaluating text) e d p = (e, p)
   active_keeps s shell (Next place) e d p = place_keeps s shell place e d p
   active_keeps s shell (Done status) e d p = (e, p)
   active_keeps s shell (Leaving leave) e d p = (e, p)

@@ -1,23 +1,25 @@
 -- A process that stands before its next action: a program that asks for something, or a shell at whose place an action is next. The laws
--- keep more of a shell than that: all of the syntax that it holds begins with an action wherever it is entered (`Beginnings.antt`), so that
+-- keep more of a shell than that: all of the syntax that it holds, its functions too, begins with an action wherever it is entered (`Beginnings.antt`), so that
 -- it stands before an action after its next turn too.
 use Rattle.std.specs.Prelude.{◌≡◌, List, [], ◌∷◌, Option, Some, None}
+use Rattle.sh_builtin.specs.Functions.{Named}
 use Rattle.sh_exec.specs.declared.task.Task.{Task}
 use Rattle.sh_exec.specs.declared.task.Task.TheVariants.{Runs, Asks}
 use Rattle.sh_exec_command.specs.declared.found.Found.{Found}
 use Rattle.sh_exec_command.specs.declared.found.Found.TheVariants as found
 use Rattle.sh_exec_actions.specs.declared.action.Active.{Active}
-use Rattle.sh_exec_actions.specs.declared.action.Active.TheVariants.{Acting, Next, Done, Leaving}
+use Rattle.sh_exec_actions.specs.declared.action.Active.TheVariants.{Acting, Calling, Evaluating, Next, Done, Leaving}
 use Rattle.sh_exec_actions.specs.declared.action.Action.{Action}
-use Rattle.sh_exec_actions.specs.declared.action.Action.TheVariants.{Reading, Expanding, ReadSubstitution, WaitSubstitution, Redirecting, Forking, Starting, ForkStage, AssignLoopVariable, Waiting, Writing, Ending}
+use Rattle.sh_exec_actions.specs.declared.action.Action.TheVariants.{Reading, Expanding, ReadSubstitution, WaitSubstitution, Redirecting, Forking, Starting, ForkStage, AssignLoopVariable, Defining, Waiting, Writing, Ending}
 use Rattle.sh_exec_actions.specs.declared.action.Role.{Role}
-use Rattle.sh_exec_actions.specs.declared.action.Role.TheVariants.{NoCommandName, Builtin, Program, Compound, Subshell}
+use Rattle.sh_exec_actions.specs.declared.action.Role.TheVariants.{NoCommandName, Builtin, Function, Program, Compound, Subshell}
 use Rattle.sh_exec_actions.specs.declared.action.CaseBranch.{CaseBranch}
 use Rattle.sh_exec_actions.specs.declared.action.ToExpand.{ToExpand}
 use Rattle.sh_exec_actions.specs.declared.action.ToExpand.TheVariants.{Words, Values, Redirects, ForWords, CaseWord, CasePattern}
+use Rattle.sh_exec_forms.specs.Forms.{Acted}
 use Rattle.sh_exec_forms.specs.Running.{InterpreterState, Run, At, In, active_of}
 use Rattle.sh_exec_actions.specs.declared.form.Form.{Form}
-use Rattle.sh_exec_actions.specs.declared.form.Form.TheVariants.{Text, Commands, Joined, Negated, Restoring, If, Condition, Body, ForBody, FailuresIgnored}
+use Rattle.sh_exec_actions.specs.declared.form.Form.TheVariants.{Text, Commands, Joined, Negated, Restoring, If, Condition, Body, ForBody, Call, Evaluation, FailuresIgnored}
 use Rattle.sh_exec_actions.specs.declared.form.Loop.{Loop}
 use Rattle.sh_exec_parts.specs.declared.simple.Assignment.{Assignment}
 use Rattle.sh_expand.specs.Parts.{parts_of}
@@ -28,6 +30,8 @@ use Rattle.sh_syntax.specs.declared.tree.Command.TheViews as view
 abbrev pub IsNext : Active → Type 0
 IsNext (Next place) = Unit {0}
 IsNext (Acting builtin fields) = ⊥
+IsNext (Calling body fields) = ⊥
+IsNext (Evaluating text) = ⊥
 IsNext (Done status) = ⊥
 IsNext (Leaving leave) = ⊥
 
@@ -47,6 +51,7 @@ AssignmentsHold (assignment ∷ others) = PartsBegin (parts_of assignment.value)
 abbrev pub RoleHolds : Role → Type 0
 RoleHolds NoCommandName = Unit {0}
 RoleHolds (Builtin builtin) = Unit {0}
+RoleHolds (Function body) = CommandBegins body
 RoleHolds Program = Unit {0}
 RoleHolds (Compound command) = CommandBegins command
 RoleHolds (Subshell list) = ItemsBegin (view.out-CompoundList list).items
@@ -75,6 +80,7 @@ PlaceHolds (Forking p) = (p.role ≡ Program) × AssignmentsHold p.assignments
 PlaceHolds (Starting fields) = Unit {0}
 PlaceHolds (ForkStage stages) = CommandsBegin stages.commands
 PlaceHolds (AssignLoopVariable series) = ListBegins series.body
+PlaceHolds (Defining definition) = CommandBegins definition
 PlaceHolds (Waiting children) = Unit {0}
 PlaceHolds (Writing piece finish) = Unit {0}
 PlaceHolds (Ending status) = Unit {0}
@@ -93,12 +99,16 @@ FormHolds (If branches) = ListBegins branches.body × ElseIfsBegin branches.else
 FormHolds (Condition loop last) = LoopHolds loop
 FormHolds (Body loop) = LoopHolds loop
 FormHolds (ForBody series) = ListBegins series.body
+FormHolds (Call positional) = Unit {0}
+FormHolds Evaluation = Unit {0}
 FormHolds FailuresIgnored = Unit {0}
 
 -- ---- what runs has an action next, and holds only such syntax
 abbrev pub ActiveStands : Active → Type 0
 ActiveStands (Next place) = PlaceHolds place
 ActiveStands (Acting builtin fields) = ⊥
+ActiveStands (Calling body fields) = ⊥
+ActiveStands (Evaluating text) = ⊥
 ActiveStands (Done status) = ⊥
 ActiveStands (Leaving leave) = ⊥
 
@@ -106,12 +116,23 @@ abbrev pub RunStands : Run → Type 0
 RunStands (At active) = ActiveStands active
 RunStands (In form run) = FormHolds form × RunStands run
 
+-- ---- and so do a shell's functions
+abbrev pub FunctionsHold : List Named → Type 0
+FunctionsHold [] = Unit {0}
+FunctionsHold (function ∷ others) = CommandBegins function.1 × FunctionsHold others
+
+abbrev pub InterpreterStands : InterpreterState → Type 0
+InterpreterStands interpreter = RunStands interpreter.run × FunctionsHold interpreter.shell.functions
+
+abbrev pub ActedStands : Acted → Type 0
+ActedStands a = RunStands a.run × FunctionsHold a.shell.functions
+
 abbrev pub ChildStands : Option InterpreterState → Type 0
 ChildStands None = Unit {0}
-ChildStands (Some child) = RunStands child.run
+ChildStands (Some child) = InterpreterStands child
 
 abbrev pub TaskStands : {S : Type 0} → Task S → Type 0
-TaskStands (Runs interpreter) = RunStands interpreter.run
+TaskStands (Runs interpreter) = InterpreterStands interpreter
 TaskStands (Asks pid ask program) = Unit {0}
 
 abbrev pub MadeStands : {S : Type 0} → Option (Task S) → Type 0

@@ -1,6 +1,5 @@
 -- Syntax that begins with an action wherever it is entered: each list of commands has one at least, other than the list of a command
--- substitution or of an item of a `case`, and no command is a function definition, which isn't run yet. What is expanded in it has such
--- commands in its substitutions.
+-- substitution or of an item of a `case`. What is expanded in it has such commands in its substitutions.
 use Rattle.std.specs.Prelude.{◌≡◌, List, [], ◌∷◌, Option, Some, None, Bool}
 use Rattle.sh_exec_parts.specs.Simple.{Opened}
 use Rattle.sh_expand.specs.Parts.{inside, parts_of, program_of}
@@ -67,11 +66,13 @@ mutual
     no_commands : CommandsBegin []
     more_commands : (command : Command) (others : List Command) → CommandBegins command → CommandsBegin others → CommandsBegin (command ∷ others)
 
-  -- ---- commands (2.9.1, 2.9.4)
+  -- ---- commands (2.9.1, 2.9.4, 2.9.5)
   pub data CommandBegins : Command → Type 0 where
     by_words : (x : Command) (items : List SimpleItem) → view.out-Command x ≡ layer.Simple items → WordsBegin items → CommandBegins x
     by_form : (x : Command) (inner : Compound) → view.out-Command x ≡ layer.Compound inner → FormBegins (view.out-Compound inner).form
         → RedirectsBegin (view.out-Compound inner).redirects → CommandBegins x
+    by_definition : (x : Command) (name : Name) (body : Compound) → view.out-Command x ≡ layer.Function name body → FormBegins (view.out-Compound body).form
+        → RedirectsBegin (view.out-Compound body).redirects → CommandBegins x
 
   pub data RedirectsBegin : List Redirect → Type 0 where
     no_redirects : RedirectsBegin []

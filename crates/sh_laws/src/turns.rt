@@ -6,7 +6,7 @@ ghost use Rattle.sh_exec.specs.declared.task.Task.{Task};
 ghost use Rattle.sh_exec_forms.specs.Running.{InterpreterState};
 ghost use Rattle.sh_exec_shell.specs.Reduction.{shell_turn};
 ghost use Rattle.sh_files.specs.Nodes.{FileMap};
-ghost use Rattle.sh_laws.specs.BeforeAction.{AreBeforeActions, ChildStands, IsBeforeAction, MadeStands, RunStands, TaskStands, TasksStand};
+ghost use Rattle.sh_laws.specs.BeforeAction.{ActedStands, AreBeforeActions, ChildStands, InterpreterStands, IsBeforeAction, MadeStands, TaskStands, TasksStand};
 ghost use Rattle.sh_laws.specs.Forking.{UnmadeReachNothing};
 ghost use Rattle.sh_kernel_descriptors.specs.Processes.{next_pid};
 ghost use Rattle.sh_kernel.specs.Laws.{OnlyGrows};
@@ -64,8 +64,8 @@ pub fn runs_only_grow<S: Stock>()
 /// action is also to hold only commands that begin with one wherever they are entered; otherwise an empty
 /// list, which no text has, would be done at once.
 pub fn turns_end_before_actions<S: Stock>()
-    ensures shell { (s : KernelState) (interpreter : InterpreterState) → RunStands interpreter.run
-        → let t = shell_turn s interpreter in RunStands t.left.run × ChildStands t.child }
+    ensures shell { (s : KernelState) (interpreter : InterpreterState) → InterpreterStands interpreter
+        → let t = shell_turn s interpreter in ActedStands t.left × ChildStands t.child }
     ensures process { (s : KernelState) (task : Task S) → TaskStands task
         → let t = turn S.meaning s task in TaskStands t.task × MadeStands t.child }
     ensures next { (task : Task S) → TaskStands task → IsBeforeAction task }

@@ -1,7 +1,7 @@
 use Rattle.std.proofs.Common.{arith, refl, rules}
 use Rattle.std.proofs.lemmas.Grind.{common_steps}
 use Rattle.sh_exec_forms.proofs.Entered.{and_or_is, case_entered, compound_entered, compound_of_subshell, compound_plain, compound_redirected, for_entered, for_parameters_entered, function_entered, group_entered, if_entered, list_is, loop_entered, several, several_long, simple_entered, subshell_entered}
-use Rattle.sh_exec_forms.proofs.Inside.{begun, list_inside, negated, over, step_inside, unnegated}
+use Rattle.sh_exec_forms.proofs.Inside.{begun, list_inside, negated, step_inside, unnegated}
 use Rattle.sh_exec_forms.proofs.entering.+entering.Goals as goal
 
 pub enter_and_or-returns : goal.enter_and_or-returns
@@ -13,8 +13,8 @@ enter_command-returns-in_ok-place-in-Simple t c = search (rules, begun, simple_e
 pub enter_command-returns-in-Compound : goal.enter_command-returns-in-Compound
 enter_command-returns-in-Compound t c = grind (arith, common_steps, compound_entered c.in-Compound.compound c.args.command.now)
 
-pub enter_command-returns-in-Function : goal.enter_command-returns-in-Function
-enter_command-returns-in-Function t c = search (rules, over, function_entered c.in-Function.name c.in-Function.body c.args.command.now)
+pub enter_command-returns-in_ok-definition-in-Function : goal.enter_command-returns-in_ok-definition-in-Function
+enter_command-returns-in_ok-definition-in-Function t c = search (rules, begun, function_entered c.in-Function.name c.in-Function.body c.args.command.now)
 
 pub enter_commands-returns-in-len1-up : goal.enter_commands-returns-in-len1-up
 enter_commands-returns-in-len1-up t c = search (rules, begun, several_long c.args.pipeline.now, several c.args.pipeline.now)

@@ -1,5 +1,5 @@
 use Rattle.std.proofs.Common.{rules, refl}
-use Rattle.sh_exec_actions.specs.declared.action.Active.TheVariants.{Acting, Done, Leaving, Next}
+use Rattle.sh_exec_actions.specs.declared.action.Active.TheVariants.{Acting, Calling, Done, Evaluating, Leaving, Next}
 use Rattle.sh_exec_forms.proofs.Outward.{alone_on_way, stays_on_way}
 use Rattle.sh_exec_forms.proofs.forms.go_outward.Goals as goal
 
@@ -10,6 +10,14 @@ returns-in-Next-clause-state c = λ s k.
 pub returns-in-Acting-clause-state : goal.returns-in-Acting-clause-state
 returns-in-Acting-clause-state c = λ s k.
     stays_on_way c.args.kernel.now c.args.shell.now c.args.frames.now s c.args.active (Acting c.in-Acting.builtin c.in-Acting.fields) c.in-Acting.is k refl
+
+pub returns-in-Calling-clause-state : goal.returns-in-Calling-clause-state
+returns-in-Calling-clause-state c = λ s k.
+    stays_on_way c.args.kernel.now c.args.shell.now c.args.frames.now s c.args.active (Calling c.in-Calling.body c.in-Calling.fields) c.in-Calling.is k refl
+
+pub returns-in-Evaluating-clause-state : goal.returns-in-Evaluating-clause-state
+returns-in-Evaluating-clause-state c = λ s k.
+    stays_on_way c.args.kernel.now c.args.shell.now c.args.frames.now s c.args.active (Evaluating c.in-Evaluating.text) c.in-Evaluating.is k refl
 
 pub returns-in-None-clause-state : goal.returns-in-None-clause-state
 returns-in-None-clause-state c = λ s k.

@@ -1,9 +1,9 @@
-use Rattle.std.proofs.Common.{◌≡◌, length}
+use Rattle.std.proofs.Common.{◌≡◌, length, reverse}
 use Rattle.sh_exec_forms.specs.Frames.{forms_in, has_loop}
 use Rattle.sh_exec_forms.proofs.frames.is_loop_among.Given as goal
 
-abbrev pub invariant-loop-frame : goal.invariant-loop-frame
-invariant-loop-frame l = has_loop (forms_in l.rest) ≡ has_loop (forms_in l.frames)
+abbrev pub invariant-frames : goal.invariant-frames
+invariant-frames l = has_loop (forms_in (reverse l.rest)) ≡ has_loop (forms_in (reverse l.frames))
 
-abbrev pub decreases-loop-frame : goal.decreases-loop-frame
-decreases-loop-frame l = length l.rest
+abbrev pub decreases-frames : goal.decreases-frames
+decreases-frames l = length l.rest

@@ -1,0 +1,317 @@
+-- The functions of a shell begin with an action after its turn where they did before it.
+use Rattle.std.proofs.Common.{◌≡◌, ℕ, zero, suc, List, [], ◌∷◌, ◌++◌, length, Bool, true, false, Option, Some, None, refl, sym, ap, subst, ◌∙◌}
+use Rattle.std.specs.Prelude.{cond, drop, nat_eq, not}
+use Rattle.sh_base.specs.Names.{is_name}
+use Rattle.sh_builtin.specs.Functions.{Named, defined, has_name, unset_by, without, without_all}
+use Rattle.sh_builtin.specs.Running.{built_in}
+use Rattle.sh_builtin.specs.declared.builtin.Builtin.{Builtin}
+use Rattle.sh_builtin.specs.declared.builtin.Builtin.TheVariants as builtin
+use Rattle.sh_builtin.specs.declared.outcome.Leave.{Leave}
+use Rattle.sh_builtin.specs.declared.outcome.Leave.TheVariants as leave
+use Rattle.sh_builtin.specs.declared.shell.Shell.{Shell}
+use Rattle.sh_builtin_environment.specs.Unsetting.{functions_to_unset}
+use Rattle.sh_exec_actions.specs.Statuses.{unexcused}
+use Rattle.sh_exec_actions.specs.declared.action.Action.{Action}
+use Rattle.sh_exec_actions.specs.declared.action.Action.TheVariants.{Reading, Expanding, ReadSubstitution, WaitSubstitution, Redirecting, Forking, Starting, ForkStage, AssignLoopVariable, Defining, Waiting, Writing, Ending}
+use Rattle.sh_exec_actions.specs.declared.action.Active.{Active}
+use Rattle.sh_exec_actions.specs.declared.action.Active.TheVariants.{Acting, Calling, Evaluating, Next, Done, Leaving}
+use Rattle.sh_exec_actions.specs.declared.action.Expanded.{Expanded}
+use Rattle.sh_exec_actions.specs.declared.action.Expanded.TheVariants as expanded
+use Rattle.sh_exec_actions.specs.declared.action.ExpandedCommand.{ExpandedCommand}
+use Rattle.sh_exec_actions.specs.declared.action.Finish.{Finish}
+use Rattle.sh_exec_actions.specs.declared.action.Pending.{Pending}
+use Rattle.sh_exec_actions.specs.declared.action.Stages.{Stages}
+use Rattle.sh_exec_actions.specs.declared.action.Substitution.{Substitution}
+use Rattle.sh_exec_actions.specs.declared.action.ToExpand.{ToExpand}
+use Rattle.sh_exec_actions.specs.declared.action.Undo.{Undo}
+use Rattle.sh_exec_actions.specs.declared.form.Form.{Form}
+use Rattle.sh_exec_actions.specs.declared.form.Form.TheVariants.{Text, Commands, Joined, Negated, Restoring, If, Condition, Body, ForBody, Call, Evaluation, FailuresIgnored}
+use Rattle.sh_exec_actions.specs.declared.status.CommandStatus.{CommandStatus}
+use Rattle.sh_exec_command.specs.Defining.{define_by, define_turn}
+use Rattle.sh_exec_command.specs.Series.{rest_of_series}
+use Rattle.sh_exec_forms.specs.Builtins.{behind, builtin_effect, call, effect_at, evaluation, performed}
+use Rattle.sh_exec_forms.specs.Forms.{Acted, after, after_by, after_leave, after_status, at_action, condition_run, loop_left, onward, undone, with_run}
+use Rattle.sh_exec_forms.specs.Frames.{has_loop, levels_left}
+use Rattle.sh_exec_forms.specs.Running.{Run, At, In}
+use Rattle.sh_exec_machine.specs.Forking.{fork_of}
+use Rattle.sh_exec_machine.specs.Transfers.{take_bytes}
+use Rattle.sh_exec_machine.specs.declared.transfer.ReadOutcome.{ReadOutcome}
+use Rattle.sh_exec_machine.specs.declared.transfer.ReadOutcome.TheVariants as taken
+use Rattle.sh_exec_parts.specs.Simple.{Opened}
+use Rattle.sh_exec_parts.specs.declared.message.Piece.{Piece}
+use Rattle.sh_exec_parts.specs.declared.redirection.Redirection.{Redirection}
+use Rattle.sh_exec_shell.specs.Acting.{after_collection, collect_by, collect_end, collect_from, collect_turn, end_turn, expand_turn, next, redirect_from, redirect_one, redirect_turn, with_written, write_turn}
+use Rattle.sh_exec_shell.specs.Forks.{begun_substitution, fork_turn, is_more, program_by, stage_by, stage_from, stage_one, stage_turn, substitute_turn, substitution_by}
+use Rattle.sh_exec_shell.specs.Reduction.{act_at, act_place, expanded_by, reduce}
+use Rattle.sh_kernel.specs.State.{KernelState}
+use Rattle.sh_kernel_descriptors.specs.declared.descriptor.DescriptorRef.TheVariants.{Aside}
+use Rattle.sh_syntax.specs.declared.tree.Command.{Command}
+use Rattle.sh_syntax.specs.declared.tree.Command.TheOpen as layer
+use Rattle.sh_syntax.specs.declared.tree.Command.TheVariants as command
+use Rattle.sh_syntax.specs.declared.tree.Command.TheViews as view
+use Rattle.sh_syntax.specs.declared.tree.Compound.{Compound}
+use Rattle.sh_syntax.specs.declared.tree.CompoundList.{CompoundList}
+use Rattle.sh_laws.proofs.CommandTurns.{choose}
+use Rattle.sh_laws.specs.BeforeAction.{ActiveStands, FunctionsHold, PlaceHolds, RunStands}
+use Rattle.sh_laws.specs.Beginnings.{CommandBegins, FormBegins, RedirectsBegin, by_definition, by_form, by_words}
+
+-- ---- some functions less, and one more
+without_hold : (functions : List Named) (name : List ℕ) → FunctionsHold functions → FunctionsHold (without functions name)
+without_hold [] name h = tt
+without_hold (function ∷ others) name h =
+    let rest = without_hold others name h.1 in
+    elim (not (has_name name function)) as (λ b. FunctionsHold (cond b (function ∷ without others name) (without others name))) [ true ↦ (h.0, rest) | false ↦ rest ]
+
+behind_hold : (functions : List Named) (function : Named) → FunctionsHold functions → CommandBegins function.1 → FunctionsHold (functions ++ function ∷ [])
+behind_hold [] function h b = (b, tt)
+behind_hold (other ∷ others) function h b = (h.0, behind_hold others function h.1 b)
+
+body_command : (body : Compound) → FormBegins (view.out-Compound body).form → RedirectsBegin (view.out-Compound body).redirects → CommandBegins (command.Compound body)
+body_command body b r = by_form (command.Compound body) body (ap view.out-Command (sym (command.rolls-Compound body)) ∙ view.out-roll-Command (layer.Compound body)) b r
+
+define_hold : (functions : List Named) (definition : Command) → FunctionsHold functions → CommandBegins definition → FunctionsHold (define_turn functions definition)
+unfolding define_turn
+define_hold functions definition h (by_words _ items e b) = subst (λ (z : Opened layer.Command-F). FunctionsHold (define_by functions z)) (sym e) h
+define_hold functions definition h (by_form _ inner e b r) = subst (λ (z : Opened layer.Command-F). FunctionsHold (define_by functions z)) (sym e) h
+define_hold functions definition h (by_definition _ name body e b r) =
+    subst (λ (z : Opened layer.Command-F). FunctionsHold (define_by functions z)) (sym e)
+    (behind_hold (without functions name.name) (name.name, command.Compound body) (without_hold functions name.name h) (body_command body b r))
+
+-- ---- unset
+without_all_hold : (functions : List Named) (names : List (List ℕ)) → FunctionsHold functions → FunctionsHold (without_all functions names)
+without_all_hold functions [] h = h
+without_all_hold functions (name ∷ names) h =
+    choose FunctionsHold (is_name name) (without_all (without functions name) names) functions
+    (λ e. without_all_hold (without functions name) names (without_hold functions name h)) (λ e. h)
+
+unset_hold : (functions : List Named) (names : Option (List (List ℕ))) → FunctionsHold functions → FunctionsHold (unset_by functions names)
+unset_hold functions None h = h
+unset_hold functions (Some names) h = without_all_hold functions names h
+
+-- ---- built-ins, and what is entered
+abbrev Keeps : Shell → Type 0
+Keeps shell = FunctionsHold shell.functions
+
+built_in_keeps : (s : KernelState) (shell : Shell) (b : Builtin) (arguments : List (List ℕ)) → Keeps shell → Keeps (built_in s.machine shell b arguments).shell
+unfolding built_in
+built_in_keeps s shell builtin.Bracket arguments f = f
+built_in_keeps s shell builtin.Break arguments f = f
+built_in_keeps s shell builtin.Cd arguments f = f
+built_in_keeps s shell builtin.Colon arguments f = f
+built_in_keeps s shell builtin.Continue arguments f = f
+built_in_keeps s shell builtin.Echo arguments f = f
+built_in_keeps s shell builtin.Eval arguments f = f
+built_in_keeps s shell builtin.Exit arguments f = f
+built_in_keeps s shell builtin.Export arguments f = f
+built_in_keeps s shell builtin.False arguments f = f
+built_in_keeps s shell builtin.Pwd arguments f = f
+built_in_keeps s shell builtin.ReadOnly arguments f = f
+built_in_keeps s shell builtin.Return arguments f = f
+built_in_keeps s shell builtin.Set arguments f = f
+built_in_keeps s shell builtin.Shift arguments f = f
+built_in_keeps s shell builtin.Test arguments f = f
+built_in_keeps s shell builtin.True arguments f = f
+built_in_keeps s shell builtin.Unset arguments f = unset_hold shell.functions (functions_to_unset arguments) f
+
+evaluation_keeps : (levels : ℕ) (shell : Shell) (text : List ℕ) → Keeps shell → Keeps (evaluation levels shell text).shell
+evaluation_keeps zero shell text f = f
+evaluation_keeps (suc levels) shell text f = f
+
+call_keeps : (levels : ℕ) (shell : Shell) (body : Command) (arguments : List (List ℕ)) → Keeps shell → Keeps (call levels shell body arguments).shell
+call_keeps zero shell body arguments f = f
+call_keeps (suc levels) shell body arguments f = f
+
+performed_keeps : (levels : ℕ) (shell : Shell) (active : Active) → Keeps shell → Keeps (performed levels shell active).shell
+performed_keeps levels shell (Acting b fields) f = f
+performed_keeps levels shell (Calling body fields) f = call_keeps levels shell body (drop 1 fields) f
+performed_keeps levels shell (Evaluating text) f = evaluation_keeps levels shell text f
+performed_keeps levels shell (Next place) f = f
+performed_keeps levels shell (Done status) f = f
+performed_keeps levels shell (Leaving l) f = f
+
+effect_keeps : (levels : ℕ) (s : KernelState) (shell : Shell) (active : Active) → Keeps shell → Keeps (effect_at levels s shell active).shell
+unfolding builtin_effect
+effect_keeps levels s shell (Acting b fields) f =
+    let d = built_in s.machine shell b (drop 1 fields) in
+    performed_keeps levels d.shell (behind b d.outcome) (built_in_keeps s shell b (drop 1 fields) f)
+effect_keeps levels s shell (Calling body fields) f = call_keeps levels shell body (drop 1 fields) f
+effect_keeps levels s shell (Evaluating text) f = evaluation_keeps levels shell text f
+effect_keeps levels s shell (Next place) f = f
+effect_keeps levels s shell (Done status) f = f
+effect_keeps levels s shell (Leaving l) f = f
+
+-- ---- forms
+undone_keeps : (undo : Undo) (s : KernelState) (shell : Shell) (run : Run) → Keeps shell → Keeps (undone undo s shell run).shell
+unfolding undone
+undone_keeps undo s shell run f = f
+
+ended_keeps : (around : List Form) (form : Form) (s : KernelState) (shell : Shell) (status : CommandStatus) → Keeps shell → Keeps (after_status around form s shell status).shell
+ended_keeps around (Text rest) s shell status f = f
+ended_keeps around (Commands items) s shell status f = f
+ended_keeps around (Joined others) s shell status f = f
+ended_keeps around Negated s shell status f = f
+ended_keeps around (Restoring undo) s shell status f = undone_keeps undo s shell (At (Done status)) f
+ended_keeps around (If branches) s shell status f = f
+ended_keeps around (Condition loop last) s shell status f = f
+ended_keeps around (Body loop) s shell status f = f
+ended_keeps around (ForBody series) s shell status f = f
+ended_keeps around (Call positional) s shell status f = f
+ended_keeps around Evaluation s shell status f = f
+ended_keeps around FailuresIgnored s shell status f = f
+
+loop_left_keeps : (looped : Bool) (l : Leave) (s : KernelState) (shell : Shell) (next : Run) → Keeps shell → Keeps (loop_left s shell next (onward looped l)).shell
+loop_left_keeps looped (leave.Exit status) s shell next f = f
+loop_left_keeps looped (leave.Fault status) s shell next f = f
+loop_left_keeps looped (leave.Return status) s shell next f = f
+loop_left_keeps looped (leave.Break zero) s shell next f = f
+loop_left_keeps false (leave.Break (suc inside)) s shell next f = f
+loop_left_keeps true (leave.Break (suc inside)) s shell next f = f
+loop_left_keeps looped (leave.Continue zero) s shell next f = f
+loop_left_keeps false (leave.Continue (suc inside)) s shell next f = f
+loop_left_keeps true (leave.Continue (suc inside)) s shell next f = f
+
+left_keeps : (around : List Form) (form : Form) (s : KernelState) (shell : Shell) (l : Leave) → Keeps shell → Keeps (after_leave around form s shell l).shell
+left_keeps around (Text rest) s shell l f = f
+left_keeps around (Commands items) s shell l f = f
+left_keeps around (Joined others) s shell l f = f
+left_keeps around Negated s shell l f = f
+left_keeps around (Restoring undo) s shell l f = undone_keeps undo s shell (At (Leaving l)) f
+left_keeps around (If branches) s shell l f = f
+left_keeps around (Condition loop last) s shell l f = loop_left_keeps (has_loop around) l s shell (condition_run loop last) f
+left_keeps around (Body loop) s shell l f = loop_left_keeps (has_loop around) l s shell (condition_run loop (unexcused 0)) f
+left_keeps around (ForBody series) s shell l f = loop_left_keeps (has_loop around) l s shell (At (rest_of_series series (unexcused 0))) f
+left_keeps around (Call positional) s shell l f = f
+left_keeps around Evaluation s shell l f = f
+left_keeps around FailuresIgnored s shell l f = f
+
+after_by_keeps : (around : List Form) (form : Form) (s : KernelState) (shell : Shell) (run : Run) → Keeps shell → Keeps (after_by around form s shell run).shell
+after_by_keeps around form s shell (At (Done status)) f = ended_keeps around form s shell status f
+after_by_keeps around form s shell (At (Leaving l)) f = left_keeps around form s shell l f
+after_by_keeps around form s shell (At (Acting b fields)) f = f
+after_by_keeps around form s shell (At (Calling body fields)) f = f
+after_by_keeps around form s shell (At (Evaluating text)) f = f
+after_by_keeps around form s shell (At (Next place)) f = f
+after_by_keeps around form s shell (In inner run) f = f
+
+after_keeps : (around : List Form) (form : Form) (a : Acted) → Keeps a.shell → Keeps (after around form a).shell
+unfolding after
+after_keeps around form a f = after_by_keeps around form a.machine a.shell a.run f
+
+settled_keeps : (around : List Form) (s : KernelState) (shell : Shell) (run : Run) → Keeps shell → Keeps (at_action around s shell run).shell
+settled_keeps around s shell (At active) f = effect_keeps (levels_left around) s shell active f
+settled_keeps around s shell (In form run) f = after_keeps around form (at_action (form ∷ around) s shell run) (settled_keeps (form ∷ around) s shell run f)
+
+-- ---- what a substitution's process writes
+collected_keeps : (s : KernelState) (shell : Shell) (substitution : Substitution) (aside : ℕ) → Keeps shell → Keeps (after_collection s shell substitution aside).shell
+unfolding after_collection
+collected_keeps s shell substitution aside f = f
+
+abbrev ActedKeeps : Acted → Type 0
+ActedKeeps a = Keeps a.shell
+
+collect_by_keeps : (s : KernelState) (shell : Shell) (substitution : Substitution) (aside : ℕ) (told : ReadOutcome) → Keeps shell → ActedKeeps (collect_by s shell substitution aside told)
+collect_by_keeps s shell substitution aside (taken.Bytes bytes) f =
+    choose ActedKeeps (nat_eq (length bytes) 0) (after_collection s shell substitution aside) (with_run s shell (next (ReadSubstitution (with_written substitution bytes))))
+    (λ e. collected_keeps s shell substitution aside f) (λ e. f)
+collect_by_keeps s shell substitution aside taken.Wait f = f
+collect_by_keeps s shell substitution aside taken.Failed f = collected_keeps s shell substitution aside f
+
+collect_end_keeps : (s : KernelState) (shell : Shell) (substitution : Substitution) (o : Option ℕ) → Keeps shell → ActedKeeps (collect_end s shell substitution o)
+unfolding collect_from
+collect_end_keeps s shell substitution None f = f
+collect_end_keeps s shell substitution (Some aside) f =
+    let t = take_bytes s shell.pid (Aside aside) 1024 in collect_by_keeps t.after shell substitution aside t.told f
+
+collect_keeps : (s : KernelState) (shell : Shell) (substitution : Substitution) → Keeps shell → ActedKeeps (collect_turn s shell substitution)
+unfolding collect_turn
+collect_keeps s shell substitution f = collect_end_keeps s shell substitution substitution.aside f
+
+-- ---- redirections, writes, and the end
+redirect_from_keeps : (s : KernelState) (shell : Shell) (p : ExpandedCommand) (redirections : List Redirection) → Keeps shell → ActedKeeps (redirect_from s shell p redirections)
+unfolding redirect_one
+redirect_from_keeps s shell p [] f = f
+redirect_from_keeps s shell p (redirection ∷ redirections) f = f
+
+redirect_keeps : (s : KernelState) (shell : Shell) (p : ExpandedCommand) → Keeps shell → ActedKeeps (redirect_turn s shell p)
+unfolding redirect_turn
+redirect_keeps s shell p f = redirect_from_keeps s shell p p.redirections f
+
+write_keeps : (s : KernelState) (shell : Shell) (piece : Piece) (finish : Finish) → Keeps shell → ActedKeeps (write_turn s shell piece finish)
+unfolding write_turn
+write_keeps s shell piece finish f = f
+
+end_keeps : (s : KernelState) (shell : Shell) (status : ℕ) → Keeps shell → ActedKeeps (end_turn s shell status)
+unfolding end_turn
+end_keeps s shell status f = f
+
+-- ---- processes that are made
+program_keeps : (s : KernelState) (shell : Shell) (p : ExpandedCommand) (o : Option ℕ) → Keeps shell → ActedKeeps (program_by s shell p o).left
+program_keeps s shell p None f = f
+program_keeps s shell p (Some child) f = f
+
+fork_keeps : (s : KernelState) (shell : Shell) (p : ExpandedCommand) → Keeps shell → ActedKeeps (fork_turn s shell p).left
+unfolding fork_turn
+fork_keeps s shell p f = let forked = fork_of s shell.pid None false in program_keeps forked.after shell p forked.child f
+
+stage_by_keeps : (s : KernelState) (shell : Shell) (command : Command) (stages : Stages) (o : Option ℕ) → Keeps shell → ActedKeeps (stage_by s shell command stages o).left
+stage_by_keeps s shell command stages None f = f
+stage_by_keeps s shell command stages (Some child) f = f
+
+stage_from_keeps : (s : KernelState) (shell : Shell) (stages : Stages) (commands : List Command) → Keeps shell → ActedKeeps (stage_from s shell stages commands).left
+unfolding stage_one
+stage_from_keeps s shell stages [] f = f
+stage_from_keeps s shell stages (command ∷ commands) f =
+    let forked = fork_of s shell.pid stages.aside (is_more commands) in
+    stage_by_keeps forked.after shell command (record stages { commands = commands; aside = forked.aside }) forked.child f
+
+stage_keeps : (s : KernelState) (shell : Shell) (stages : Stages) → Keeps shell → ActedKeeps (stage_turn s shell stages).left
+unfolding stage_turn
+stage_keeps s shell stages f = stage_from_keeps s shell stages stages.commands f
+
+substitution_keeps : (s : KernelState) (shell : Shell) (program : CompoundList) (substitution : Substitution) (o : Option ℕ) → Keeps shell
+    → ActedKeeps (substitution_by s shell program substitution o).left
+substitution_keeps s shell program substitution None f = f
+substitution_keeps s shell program substitution (Some child) f = f
+
+substitute_keeps : (s : KernelState) (shell : Shell) (program : CompoundList) (wants : ToExpand) (pending : Pending) → Keeps shell
+    → ActedKeeps (substitute_turn s shell program wants pending).left
+unfolding substitute_turn
+substitute_keeps s shell program wants pending f =
+    let forked = fork_of s shell.pid None true in
+    substitution_keeps forked.after shell program (begun_substitution wants pending forked.aside) forked.child f
+
+expanded_keeps : (s : KernelState) (shell : Shell) (x : Expanded) → Keeps shell → ActedKeeps (expanded_by s shell x).left
+expanded_keeps s shell (expanded.Need program wants pending) f = substitute_keeps s shell program wants pending f
+expanded_keeps s shell (expanded.Go move) f = f
+
+-- ---- the turn
+place_keeps : (s : KernelState) (shell : Shell) (place : Action) → PlaceHolds place → Keeps shell → ActedKeeps (act_place s shell place).left
+place_keeps s shell (Reading rest status) h f = f
+place_keeps s shell (Expanding wants pending) h f =
+    let t = expand_turn s.machine.files shell.vars shell.functions wants pending in expanded_keeps s (record shell { vars = t.environment }) t.outcome f
+place_keeps s shell (ReadSubstitution substitution) h f = collect_keeps s shell substitution f
+place_keeps s shell (WaitSubstitution substitution) h f = f
+place_keeps s shell (Redirecting p) h f = redirect_keeps s shell p f
+place_keeps s shell (Forking p) h f = fork_keeps s shell p f
+place_keeps s shell (Starting fields) h f = f
+place_keeps s shell (ForkStage stages) h f = stage_keeps s shell stages f
+place_keeps s shell (AssignLoopVariable series) h f = f
+place_keeps s shell (Defining definition) h f = define_hold shell.functions definition f h
+place_keeps s shell (Waiting children) h f = f
+place_keeps s shell (Writing piece finish) h f = write_keeps s shell piece finish f
+place_keeps s shell (Ending status) h f = end_keeps s shell status f
+
+active_keeps : (s : KernelState) (shell : Shell) (active : Active) → ActiveStands active → Keeps shell → ActedKeeps (act_at s shell active).left
+active_keeps s shell (Acting b fields) h f = f
+active_keeps s shell (Calling body fields) h f = f
+active_keeps s shell (Evaluating text) h f = f
+active_keeps s shell (Next place) h f = place_keeps s shell place h f
+active_keeps s shell (Done status) h f = f
+active_keeps s shell (Leaving l) h f = f
+
+pub functions_hold : (s : KernelState) (shell : Shell) (around : List Form) (run : Run) → RunStands run → FunctionsHold shell.functions
+    → FunctionsHold (reduce s shell around run).left.shell.functions
+functions_hold s shell around (At active) h f =
+    let t = act_at s shell active in settled_keeps around t.left.machine t.left.shell t.left.run (active_keeps s shell active h f)
+functions_hold s shell around (In form run) h f =
+    after_keeps around form (reduce s shell (form ∷ around) run).left (functions_hold s shell (form ∷ around) run h.1 f)
