@@ -1,7 +1,7 @@
 #!/usr/bin/env python3
 """Runs scripts made at random by psh and by real shells, and shows those in which psh stands alone.
 
-usage: compare_shells.py words|documents|processes|lists|errexit|case|builtins [COUNT [SEED]]
+usage: compare_shells.py words|documents|processes|lists|errexit|case|builtins|functions [COUNT [SEED]]
 
 `words` expands words of every form, nested, with several IFS and positional parameters, into the fields that a program
 then shows. `documents` does so in bodies of here-documents and in assignments. `processes` runs pipelines, redirections,
@@ -9,8 +9,9 @@ here-documents, assignments and command substitutions over a few files, and show
 commands in AND-OR lists, groups, subshells, conditions and loops, some of which are left by break and continue. `errexit` does
 so under `set -e`. `case` adds commands of that name, whose words and patterns are quoted, expanded and change variables.
 In all of these every fourth compound command has redirections, and commands in it may read what it is given.
-`builtins` adds built-ins that act on variables, options, parameters and the directory, and conditions. Scripts do nothing
-whose result depends on the order of turns.
+`builtins` adds built-ins that act on variables, options, parameters and the directory, and conditions. `functions` defines
+functions with bodies of every form, calls and unsets them, and has `return` and `eval`, some of it under `set -e`. Scripts do
+nothing whose result depends on the order of turns.
 
 Shown is a script where no real shell gives what psh gives, and one where four or more agree with one another and not with
 psh; diagnostics are left out, since their texts differ. The shells are those of dash, bash, yash, mksh and busybox that are
@@ -409,6 +410,80 @@ class Builtins(Lists):
         return "(exit 4)" if "<<" in text else text
 
 
+class Functions(Cases):
+    """Functions, `return` and `eval` in such lists, some under `set -e`."""
+
+    names = ["h", "g", "f"]
+    operands = [[], ["a", "b c"], ["ab"]]
+    arguments = ["", "", " a", ' "$x" b', ' "$@"', " $*", " '' c", " $y", " $(echo p q)"]
+    texts = ["echo $x", 'echo "$y" $#', "x=e; y=\\$x", "y=$x; false", "false", "true && false", "! true", "", "# c",
+             "if true; then echo in; fi", "for j in 1 2; do echo $j; done", "echo a | cat", "echo a\necho b", "cat <<E\nx$x\nE",
+             'eval "echo \\$x"', "case $x in a*) echo $x;; esac", "(exit 3)", "(false || exit 4)", "echo $?"]
+
+    def __init__(self, seed):
+        super().__init__(seed)
+        # The functions that may be called here: those that are defined before this one, so that none calls itself.
+        self.callable, self.is_function = [], False
+
+    def call(self):
+        before = self.pick(["", "", "", "x=1 ", "y=$x "])
+        return before + self.pick(self.callable) + self.pick(self.arguments) + (self.redirection() if self.chance() < 0.15 else "")
+
+    def evaluation(self, loops):
+        text = self.pick(self.texts)
+        if loops and self.chance() < 0.2:
+            text += self.pick(["\nbreak", "\ncontinue", "\n(break)"])
+        if self.is_function and self.chance() < 0.2:
+            text += self.pick(["\nreturn", "\nreturn 5"])
+        if self.callable and self.chance() < 0.2:
+            text += "\n" + self.call()
+        quoted = text.replace("'", "'\\''")
+        return f"eval '{quoted}'"
+
+    def simple(self, loops):
+        kind = self.chance()
+        if self.callable and kind < 0.25:
+            return self.call()
+        if self.is_function and kind < 0.35:
+            return self.pick(["return", "return 3", "return 0", "return $#", "false || return", "return $(echo 4)", "(return 6)"])
+        if kind < 0.5:
+            return self.evaluation(loops)
+        if kind < 0.6:
+            return self.pick(['echo "$#" "$1" "$2"', "[ $# -gt 0 ] && shift", "set -- p 'q r'", "break", "continue", "echo $?"])
+        return super().simple(loops)
+
+    def definition(self, name):
+        """A function, which calls only those before it."""
+        outside = self.callable, self.is_function
+        self.callable, self.is_function = self.names[: self.names.index(name)], True
+        body = self.compound(self.pick([0, 1, 1, 2]), 0)
+        while body[0] not in "{(" and body[:2] not in ("if", "fo", "ca"):
+            body = self.compound(1, 0)
+        self.callable, self.is_function = outside
+        return f"{name}() {{ {body}\n}}" if "\n" in body.partition(" ")[0] or body.count("<<") else f"{name}() {body}"
+
+    def compound(self, depth, loops):
+        if self.is_function and self.chance() < 0.6:
+            return Lists.compound(self, depth, loops)
+        return super().compound(depth, loops)
+
+    def script(self):
+        lines = ["HOME=/h"]
+        for name in self.names:
+            lines.append(self.definition(name))
+            self.callable.append(name)
+        for _ in range(self.pick([1, 2, 3])):
+            text = self.pick([self.call(), self.and_or(2, 0), f"{self.call()} || echo no", f"if {self.call()}; then echo yes; fi"])
+            if self.chance() < 0.3:
+                text = self.redirected(lambda: f"( set -e\n{self.list(2, None)}\necho end )")
+                text += self.pick(["", " || echo no", " && echo yes", " | cat"])
+            if self.chance() < 0.1:
+                text = f"unset -f {self.pick(self.names)}\n{text}"
+            lines += [text, 'echo $? "$x" "$y" $# "$1" $i']
+        self.callable = []
+        return "\n".join([*lines, *(f"echo {file}: ; cat <{file}" for file in self.made), ""])
+
+
 def image():
     """The image of files for psh."""
     entries = [(f"/bin/{name}", "r-x", f"#!stock {name}\n") for name in STOCK]
@@ -454,7 +529,7 @@ def by_shell(room, shell, script, operands):
 
 
 SOURCES = {"words": Words, "documents": Documents, "processes": Processes, "lists": Lists, "errexit": Errexit, "case": Cases,
-           "builtins": Builtins}
+           "builtins": Builtins, "functions": Functions}
 
 
 def main(kind, count=200, seed=1):
