@@ -2,8 +2,8 @@
 """Instructions for each round of a loop in the built program, beside dash's, and how they grow.
 
 Runs `while [ $i -lt N ]; do i=$((i+1)); done` under valgrind's callgrind, with two numbers of rounds, and prints the
-instructions for one round between the two; then the same inside 200 groups, the memory after 1,000 and 100,000 rounds, and
-what some commands add to a round. The last line is the greatest ratio of growth. Needs valgrind, dash, and psh built
+instructions for one round between the two; then the same inside 200 groups, the memory after 1,000 and 100,000 rounds,
+what some commands add to a round, and a call of a function inside 1 call and inside 900. The last line is the greatest ratio of growth. Needs valgrind, dash, and psh built
 (./build), or a path to it as the only word.
 """
 
@@ -18,7 +18,7 @@ PROGRAM = f"{TOP}/out/psh"
 # What a round runs more, how many turns that takes, and whether dash does it in one process, so that its instructions are counted.
 COMMANDS = [
     ("echo $a $b >/dev/null", 3, True), ("{ :; } >/dev/null", 3, True), ("[ -f f ] && :", 2, True), ("case $a in b|c) ;; ?) :;; esac", 5, True),
-    ("x=$(echo a)", 7, False),
+    ("f", 2, True), ("eval :", 4, True), ("x=$(echo a)", 7, False),
 ]
 
 
@@ -27,15 +27,18 @@ def events_of(folder, turns):
     return measuring.write_events(f"{folder}/events", turns)
 
 
-def loop(limit, more="", groups=0):
-    """The script: a loop of so many rounds, inside so many groups."""
-    return f"i=0 a=1 b=2; {'{ ' * groups}while [ $i -lt {limit} ]; do {more}{'; ' if more else ''}i=$((i+1)); done{'; }' * groups}"
+def loop(limit, more="", groups=0, calls=0):
+    """The script: a loop of so many rounds, inside so many groups or calls of functions."""
+    text = f"{'{ ' * groups}while [ $i -lt {limit} ]; do {more}{'; ' if more else ''}i=$((i+1)); done{'; }' * groups}"
+    if calls:
+        text = f"g() {{ if [ $1 -gt 1 ]; then g $(($1-1)); else {text}; fi; }}; g {calls}"
+    return f"i=0 a=1 b=2; f() {{ :; }}; {text}"
 
 
-def psh_round(folder, image, turns=2, more="", groups=0):
+def psh_round(folder, image, turns=2, more="", groups=0, calls=0):
     """The instructions for one round, which takes so many turns."""
-    script = loop(100_000, more, groups)
-    few, many = (measuring.instructions(folder, [PROGRAM, "-c", script, image, events_of(folder, rounds * turns + 10)]) for rounds in (200, 700))
+    script, first = loop(100_000, more, groups, calls), 20 + 2 * calls
+    few, many = (measuring.instructions(folder, [PROGRAM, "-c", script, image, events_of(folder, rounds * turns + first)]) for rounds in (200, 700))
     return (many - few) / 500
 
 
@@ -67,7 +70,9 @@ def main():
             if is_counted:
                 theirs = dash_round(folder, more) - dash
                 print(f"  in dash {theirs:.0f}, {ours / theirs:.1f} times that")
-        print(f"greatest ratio {max(inside / base, many / few):.2f}")
+        shallow, deep = (psh_round(folder, image, 4, "f", calls=calls) for calls in (1, 900))
+        print(f"a round with a call, inside 1 call: {shallow:.0f} instructions, inside 900: {deep:.0f}, ratio {deep / shallow:.2f}")
+        print(f"greatest ratio {max(inside / base, many / few, deep / shallow):.2f}")
 
 
 if len(sys.argv) == 2:

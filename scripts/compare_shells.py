@@ -260,7 +260,7 @@ class Lists(Processes):
         if self.is_given and self.chance() < 0.25:
             return self.pick(["cat", "cat", "having p", "count", "sub", "x=$(cat)", "cat | having p"])
         text = self.simple(loops)
-        return f"! {text}" if self.chance() < 0.1 and text[:5] not in ("break", "conti", "x=1 &", "false") and text[0] != "!" else text
+        return f"! {text}" if self.chance() < 0.1 and text[:5] not in ("break", "conti", "retur", "x=1 &", "false") and text[0] != "!" else text
 
     def and_or(self, depth, loops):
         text = self.piece(depth, loops)
@@ -426,8 +426,9 @@ class Functions(Cases):
         self.callable, self.is_function = [], False
 
     def call(self):
-        before = self.pick(["", "", "", "x=1 ", "y=$x "])
-        return before + self.pick(self.callable) + self.pick(self.arguments) + (self.redirection() if self.chance() < 0.15 else "")
+        # (to no file: what the body writes there would be read in it, by a cat that writes to it)
+        before, to = self.pick(["", "", "", "x=1 ", "y=$x "]), ["", "", "", "", " >/dev/null", " 2>/dev/null", " <in", " 3>&1"]
+        return before + self.pick(self.callable) + self.pick(self.arguments) + self.pick(to)
 
     def evaluation(self, loops):
         text = self.pick(self.texts)
@@ -435,14 +436,14 @@ class Functions(Cases):
             text += self.pick(["\nbreak", "\ncontinue", "\n(break)"])
         if self.is_function and self.chance() < 0.2:
             text += self.pick(["\nreturn", "\nreturn 5"])
-        if self.callable and self.chance() < 0.2:
+        if self.callable and not self.written and self.chance() < 0.2:
             text += "\n" + self.call()
         quoted = text.replace("'", "'\\''")
         return f"eval '{quoted}'"
 
     def simple(self, loops):
         kind = self.chance()
-        if self.callable and kind < 0.25:
+        if self.callable and not self.written and kind < 0.25:
             return self.call()
         if self.is_function and kind < 0.35:
             return self.pick(["return", "return 3", "return 0", "return $#", "false || return", "return $(echo 4)", "(return 6)"])
@@ -477,9 +478,10 @@ class Functions(Cases):
             if self.chance() < 0.3:
                 text = self.redirected(lambda: f"( set -e\n{self.list(2, None)}\necho end )")
                 text += self.pick(["", " || echo no", " && echo yes", " | cat"])
-            if self.chance() < 0.1:
-                text = f"unset -f {self.pick(self.names)}\n{text}"
             lines += [text, 'echo $? "$x" "$y" $# "$1" $i']
+        if self.chance() < 0.3:
+            # (what is said of a function that isn't there any more differs)
+            lines += [f"unset -f {self.pick(self.names)}", *(f"{it} a 2>/dev/null\necho $?" for it in self.names)]
         self.callable = []
         return "\n".join([*lines, *(f"echo {file}: ; cat <{file}" for file in self.made), ""])
 
