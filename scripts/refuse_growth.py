@@ -61,6 +61,8 @@ ROWS = [
     ("case $(echo a) in b|\"$(echo c)\") echo no;; ${x:=a}*) (echo $x; exit 3) >f;; esac; cat <f", 60),
     ("for i in a b; do case $i in [!b]) (cat; echo $i) <in 2>&1; continue;; esac; break; done >f 3<<E 2>&3\n$i\nE\ncat <f", 60),
     ("export x=1 y='a b' z; readonly v=$y; export -p; readonly v=2; echo no", 20),
+    ("f() { shift; echo \"$*\"; return 3; } >&2; x=1 f a 'b c' || echo $?; f() (g() { echo c; }; g); f | cat; unset -f f; f", 70),
+    ("x=1; for i in a b; do eval 'eval \"echo $x\"' b $i 2>&1; eval break; done >f; cat <f; eval 'echo c\nfi'", 50),
 ]
 
 # scripts of the image that the shell runs, and their turns
