@@ -3,7 +3,7 @@ use Rattle.std.specs.Prelude.{ℕ, List, [], ◌∷◌, Bool, true, false, Optio
 use Rattle.std.specs.List.{find}
 use Rattle.std.specs.Str.{bytes_eq}
 use Rattle.sh_builtin.specs.declared.builtin.Builtin.{Builtin}
-use Rattle.sh_builtin.specs.declared.builtin.Builtin.TheVariants.{Bracket, Break, Cd, Colon, Continue, Echo, Eval, Exit, Export, False, Pwd, ReadOnly, Return, Set, Shift, Test, True, Unset}
+use Rattle.sh_builtin.specs.declared.builtin.Builtin.TheVariants.{Bracket, Break, Cd, Colon, Continue, Echo, Eval, Exit, Export, False, Pwd, ReadOnly, Return, Set, Shift, Test, Trap, True, Unset}
 use Rattle.sh_builtin.specs.declared.builtin.Row.{Row}
 
 -- a row of the table: a name, and whether the built-in is special (2.15): then an error in it ends a shell that
@@ -36,12 +36,13 @@ row_of Return = special (codes "return")
 row_of Set = special (codes "set")
 row_of Shift = special (codes "shift")
 row_of Test = regular (codes "test")
+row_of Trap = special (codes "trap")
 row_of True = regular (codes "true")
 row_of Unset = special (codes "unset")
 
 abbrev pub builtins : List Builtin
 builtins =
-    Bracket ∷ Break ∷ Cd ∷ Colon ∷ Continue ∷ Echo ∷ Eval ∷ Exit ∷ Export ∷ False ∷ Pwd ∷ ReadOnly ∷ Return ∷ Set ∷ Shift ∷ Test ∷ True ∷ Unset ∷ []
+    Bracket ∷ Break ∷ Cd ∷ Colon ∷ Continue ∷ Echo ∷ Eval ∷ Exit ∷ Export ∷ False ∷ Pwd ∷ ReadOnly ∷ Return ∷ Set ∷ Shift ∷ Test ∷ Trap ∷ True ∷ Unset ∷ []
 
 -- ---- what is read from it
 abbrev pub name_of : Builtin → List ℕ

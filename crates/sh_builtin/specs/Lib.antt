@@ -4,5 +4,6 @@ pub mod Messages
 pub mod Outcomes
 pub mod Loops
 pub mod Running
+pub mod Shells
 pub mod Conditional
 pub mod Integers

@@ -29,6 +29,14 @@ left leave = outcome [] [] (Left leave)
 abbrev pub running : List ℕ → Outcome
 running text = outcome [] [] (Runs text)
 
+-- the status of a shell that is left so; break and continue leave no shell
+abbrev pub shell_status : Leave → ℕ
+shell_status (leave.Exit status) = status
+shell_status (leave.Fault status) = status
+shell_status (leave.Return status) = status
+shell_status (leave.Break inside) = 0
+shell_status (leave.Continue inside) = 0
+
 -- an error in a special built-in ends a shell that isn't interactive (2.8.1)
 abbrev pub failure : (is_special : Bool) → ℕ → Completion
 failure true status = Left (leave.Fault 2)

@@ -7,7 +7,7 @@ use Rattle.sh_builtin.specs.Functions.{unset_by}
 use Rattle.sh_builtin.specs.Loops.{leave_with, loop_with, operands_of}
 use Rattle.sh_builtin.specs.Outcomes.{done, misuse, outcome_of, output, running}
 use Rattle.sh_builtin.specs.declared.builtin.Builtin.{Builtin}
-use Rattle.sh_builtin.specs.declared.builtin.Builtin.TheVariants.{Bracket, Break, Cd, Colon, Continue, Echo, Eval, Exit, Export, False, Pwd, ReadOnly, Return, Set, Shift, Test, True, Unset}
+use Rattle.sh_builtin.specs.declared.builtin.Builtin.TheVariants.{Bracket, Break, Cd, Colon, Continue, Echo, Eval, Exit, Export, False, Pwd, ReadOnly, Return, Set, Shift, Test, Trap, True, Unset}
 use Rattle.sh_builtin.specs.declared.conditional.Verdict.{Verdict}
 use Rattle.sh_builtin.specs.declared.conditional.Verdict.TheVariants as verdict
 use Rattle.sh_builtin.specs.declared.outcome.Leave.TheVariants as leave
@@ -18,6 +18,7 @@ use Rattle.sh_builtin_environment.specs.Marking.{mark_ran}
 use Rattle.sh_builtin_environment.specs.Outcomes.{Ran}
 use Rattle.sh_builtin_environment.specs.Setting.{set_ran}
 use Rattle.sh_builtin_environment.specs.Shifting.{shift_ran}
+use Rattle.sh_builtin_environment.specs.Trapping.{Trapped, trap_ran}
 use Rattle.sh_builtin_environment.specs.Unsetting.{functions_to_unset, unset_ran}
 use Rattle.sh_builtin_environment.specs.declared.attribute.Attribute.TheVariants as attribute
 use Rattle.sh_kernel_descriptors.specs.Machine.{MachineState}
@@ -40,6 +41,10 @@ with_vars shell env = record shell { vars = env }
 -- of what a built-in leaves that acts on the variables
 abbrev pub ran : Builtin → Shell → Ran → BuiltIn
 ran builtin shell r = with_outcome (with_vars shell r.environment) (outcome_of builtin r.outcome)
+
+-- of what trap leaves
+abbrev pub trapped : Shell → Trapped → BuiltIn
+trapped shell t = with_outcome (record shell { traps = t.traps }) (outcome_of Trap t.outcome)
 
 -- ---- unset -f removes functions
 abbrev pub without_functions : Shell → List (List ℕ) → Shell
@@ -92,23 +97,25 @@ abbrev pub bracket_outcome : MachineState → Shell → Option (List (List ℕ))
 bracket_outcome machine shell None = misuse Bracket
 bracket_outcome machine shell (Some operands) = test_outcome machine shell Bracket operands
 
--- ---- a built-in with its arguments, in a shell's process on this machine
-unfoldable pub built_in : MachineState → Shell → Builtin → List (List ℕ) → BuiltIn
-built_in machine shell Bracket arguments = with_outcome shell (bracket_outcome machine shell (prefix arguments))
-built_in machine shell Break arguments = with_outcome shell (loop_with Break leave.Break (operands_of arguments))
-built_in machine shell Cd arguments = ran Cd shell (cd_ran machine.files shell.vars arguments)
-built_in machine shell Colon arguments = with_outcome shell (done 0)
-built_in machine shell Continue arguments = with_outcome shell (loop_with Continue leave.Continue (operands_of arguments))
-built_in machine shell Echo arguments = with_outcome shell (echo_outcome arguments)
-built_in machine shell Eval arguments = with_outcome shell (eval_outcome arguments)
-built_in machine shell Exit arguments = with_outcome shell (leave_with Exit leave.Exit shell.vars.special.status (operands_of arguments))
-built_in machine shell Export arguments = ran Export shell (mark_ran attribute.Export shell.vars arguments)
-built_in machine shell False arguments = with_outcome shell (done 1)
-built_in machine shell Pwd arguments = with_outcome shell (outcome_of Pwd (pwd_outcome shell.vars arguments))
-built_in machine shell ReadOnly arguments = ran ReadOnly shell (mark_ran attribute.ReadOnly shell.vars arguments)
-built_in machine shell Return arguments = with_outcome shell (leave_with Return leave.Return shell.vars.special.status (operands_of arguments))
-built_in machine shell Set arguments = ran Set shell (set_ran shell.vars arguments)
-built_in machine shell Shift arguments = ran Shift shell (shift_ran shell.vars arguments)
-built_in machine shell Test arguments = with_outcome shell (test_outcome machine shell Test arguments)
-built_in machine shell True arguments = with_outcome shell (done 0)
-built_in machine shell Unset arguments = ran Unset (without_functions shell arguments) (unset_ran shell.vars arguments)
+-- ---- a built-in with its arguments, in a shell's process on this machine; `last` is the status with which exit and return leave where
+-- they have no operand
+unfoldable pub built_in : MachineState → Shell → (last : ℕ) → Builtin → List (List ℕ) → BuiltIn
+built_in machine shell last Bracket arguments = with_outcome shell (bracket_outcome machine shell (prefix arguments))
+built_in machine shell last Break arguments = with_outcome shell (loop_with Break leave.Break (operands_of arguments))
+built_in machine shell last Cd arguments = ran Cd shell (cd_ran machine.files shell.vars arguments)
+built_in machine shell last Colon arguments = with_outcome shell (done 0)
+built_in machine shell last Continue arguments = with_outcome shell (loop_with Continue leave.Continue (operands_of arguments))
+built_in machine shell last Echo arguments = with_outcome shell (echo_outcome arguments)
+built_in machine shell last Eval arguments = with_outcome shell (eval_outcome arguments)
+built_in machine shell last Exit arguments = with_outcome shell (leave_with Exit leave.Exit last (operands_of arguments))
+built_in machine shell last Export arguments = ran Export shell (mark_ran attribute.Export shell.vars arguments)
+built_in machine shell last False arguments = with_outcome shell (done 1)
+built_in machine shell last Pwd arguments = with_outcome shell (outcome_of Pwd (pwd_outcome shell.vars arguments))
+built_in machine shell last ReadOnly arguments = ran ReadOnly shell (mark_ran attribute.ReadOnly shell.vars arguments)
+built_in machine shell last Return arguments = with_outcome shell (leave_with Return leave.Return last (operands_of arguments))
+built_in machine shell last Set arguments = ran Set shell (set_ran shell.vars arguments)
+built_in machine shell last Shift arguments = ran Shift shell (shift_ran shell.vars arguments)
+built_in machine shell last Test arguments = with_outcome shell (test_outcome machine shell Test arguments)
+built_in machine shell last Trap arguments = trapped shell (trap_ran shell.traps arguments)
+built_in machine shell last True arguments = with_outcome shell (done 0)
+built_in machine shell last Unset arguments = ran Unset (without_functions shell arguments) (unset_ran shell.vars arguments)

@@ -10,7 +10,9 @@ use crate::shell::Shell;
 use crate::testing::{bracket, test};
 use sh_base::NoMemory;
 use sh_base::sequence::{Sequence, Text};
-use sh_builtin_environment::{Attribute, cd, functions_to_unset, mark, pwd, set, shift, unset};
+use sh_builtin_environment::{
+    Attribute, cd, functions_to_unset, mark, pwd, set, shift, trap, unset,
+};
 use sh_kernel::Kernel;
 use std::alloc::Global;
 
@@ -35,6 +37,7 @@ pub enum Builtin {
     Set,
     Shift,
     Test,
+    Trap,
     True,
     Unset,
 }
@@ -69,7 +72,7 @@ impl Row {
 }
 
 /// All of them.
-const BUILTINS: [Builtin; 18] = [
+const BUILTINS: [Builtin; 19] = [
     Builtin::Bracket,
     Builtin::Break,
     Builtin::Cd,
@@ -86,6 +89,7 @@ const BUILTINS: [Builtin; 18] = [
     Builtin::Set,
     Builtin::Shift,
     Builtin::Test,
+    Builtin::Trap,
     Builtin::True,
     Builtin::Unset,
 ];
@@ -112,6 +116,7 @@ impl Builtin {
             Builtin::Set => Row::special(b"set"),
             Builtin::Shift => Row::special(b"shift"),
             Builtin::Test => Row::regular(b"test"),
+            Builtin::Trap => Row::special(b"trap"),
             Builtin::True => Row::regular(b"true"),
             Builtin::Unset => Row::special(b"unset"),
         }
@@ -143,18 +148,20 @@ impl Builtin {
         self.row().is_special
     }
 
-    /// What it does with its arguments to a shell, in the shell's process of a kernel, and what it comes to. The only error is
-    /// want of memory; what the shell is then is left open.
+    /// What it does with its arguments to a shell, in the shell's process of a kernel, and what it comes to. `exit` and `return` leave with
+    /// `last` where they have no operand: that is `$?`, or in the action of a trap what it was before. The only error is want of memory;
+    /// what the shell is then is left open.
     #[tactic(auto, unfolding(crate::specs::Running::built_in))]
     pub fn run(
         self,
         alloc: Global,
         kernel: &Kernel,
         shell: &mut Shell,
+        last: u8,
         arguments: &[Text],
     ) -> Result<Outcome, NoMemory>
         ensures { (s : KernelState) → StandsAt kernel.now s → IfOk result (λ outcome.
-            with_outcome shell.new outcome ≡ built_in s.machine shell.old self arguments.now) }
+            with_outcome shell.new outcome ≡ built_in s.machine shell.old last self arguments.now) }
     {
         match self {
             Builtin::Bracket => bracket(alloc, kernel, shell, arguments),
@@ -167,7 +174,7 @@ impl Builtin {
             Builtin::Continue => continue_with(alloc, operands_of(arguments)),
             Builtin::Echo => echo(alloc, arguments),
             Builtin::Eval => eval(alloc, arguments),
-            Builtin::Exit => exit_with(alloc, shell.vars.status(), operands_of(arguments)),
+            Builtin::Exit => exit_with(alloc, last, operands_of(arguments)),
             Builtin::Export => {
                 let answer = mark(alloc, Attribute::Export, &mut shell.vars, arguments)?;
                 Outcome::of(alloc, Builtin::Export, answer)
@@ -181,13 +188,17 @@ impl Builtin {
                 let answer = mark(alloc, Attribute::ReadOnly, &mut shell.vars, arguments)?;
                 Outcome::of(alloc, Builtin::ReadOnly, answer)
             },
-            Builtin::Return => return_with(alloc, shell.vars.status(), operands_of(arguments)),
+            Builtin::Return => return_with(alloc, last, operands_of(arguments)),
             Builtin::Set => {
                 let answer = set(alloc, &mut shell.vars, arguments)?;
                 Outcome::of(alloc, Builtin::Set, answer)
             },
             Builtin::Shift => Outcome::of(alloc, Builtin::Shift, shift(&mut shell.vars, arguments)),
             Builtin::Test => test(alloc, kernel, shell, Builtin::Test, arguments),
+            Builtin::Trap => {
+                let answer = trap(alloc, &mut shell.traps, arguments)?;
+                Outcome::of(alloc, Builtin::Trap, answer)
+            },
             Builtin::True => Ok(Outcome::done(alloc, 0)),
             Builtin::Unset => {
                 remove_functions(shell, arguments);

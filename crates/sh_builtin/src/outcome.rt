@@ -1,6 +1,6 @@
 //! What built-ins come to.
 ghost use Rattle.std.specs.Prelude.{◌≡◌, IfOk};
-ghost use Rattle.sh_builtin.specs.Outcomes.{done, failure, left, misuse, output, outcome_of, refusal, running};
+ghost use Rattle.sh_builtin.specs.Outcomes.{done, failure, left, misuse, output, outcome_of, refusal, running, shell_status};
 
 use crate::builtin::Builtin;
 use crate::message::{fault_line, status_of};
@@ -22,6 +22,21 @@ pub enum Leave {
     Break(u64),
     /// A run of a loop's body is left, and the loop goes on: the one with so many other loops inside it.
     Continue(u64),
+}
+
+impl Leave {
+    /// The status of a shell that is left so; 0 for break and continue, which leave no shell. Takes no memory.
+    pub fn shell_status(self) -> u8
+        ensures { result ≡ shell_status self }
+    {
+        match self {
+            Leave::Exit(status) => status,
+            Leave::Fault(status) => status,
+            Leave::Return(status) => status,
+            Leave::Break(_) => 0,
+            Leave::Continue(_) => 0,
+        }
+    }
 }
 
 /// How a built-in ends.

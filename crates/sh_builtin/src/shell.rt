@@ -1,9 +1,11 @@
 //! Shells.
 ghost use Rattle.std.specs.Prelude.{◌≡◌, IfOk};
+ghost use Rattle.sh_builtin.specs.Shells.{forked_shell};
 ghost use Rattle.sh_builtin.specs.declared.shell.Shell.{Shell};
 
 use crate::functions::Functions;
 use sh_base::NoMemory;
+use sh_builtin_environment::Traps;
 use sh_vars::Vars;
 use std::alloc::Global;
 
@@ -16,6 +18,8 @@ pub struct Shell {
     pub vars: Vars,
     /// Its functions.
     pub functions: Functions,
+    /// What it does on conditions.
+    pub traps: Traps,
 }
 
 impl Shell {
@@ -23,20 +27,44 @@ impl Shell {
     pub fn copy(&self, alloc: Global) -> Result<Shell, NoMemory>
         ensures { IfOk result (λ shell. shell ≡ self.now) }
     {
-        self.fork(alloc, self.pid)
+        let traps = self.traps.copy(alloc)?;
+        self.with(alloc, self.pid, traps)
     }
 
-    /// A shell with the same environment in a process that this one made (XCU 2.13). The only error is want of memory.
+    /// A shell with the same environment in a process that this one made; of the traps it has those that ignore signals (XCU 2.13). The
+    /// only error is want of memory.
     pub fn fork(&self, alloc: Global, pid: u32) -> Result<Shell, NoMemory>
-        ensures { IfOk result (λ shell. shell ≡ record self.now { pid = pid }) }
+        ensures { IfOk result (λ shell. shell ≡ forked_shell pid self.now) }
     {
-        let functions = self.functions.copy(alloc)?;
-        match self.vars.copy() {
-            Ok(vars) => Ok(Shell {
+        let traps = self.traps.for_subshell(alloc)?;
+        self.with(alloc, pid, traps)
+    }
+
+    /// The same environment in a process, with these traps.
+    fn with(&self, alloc: Global, pid: u32, traps: Traps) -> Result<Shell, NoMemory>
+        ensures { IfOk result (λ shell. shell ≡ record self.now { pid = pid; traps = traps }) }
+    {
+        match self.variables_and_functions(alloc) {
+            Ok((vars, functions)) => Ok(Shell {
                 pid,
                 vars,
                 functions,
+                traps,
             }),
+            Err(error) => {
+                drop(traps);
+                Err(error)
+            },
+        }
+    }
+
+    /// Copies of the variables and the functions.
+    fn variables_and_functions(&self, alloc: Global) -> Result<(Vars, Functions), NoMemory>
+        ensures { IfOk result (λ copies. (copies.0 ≡ self.now.vars) × (copies.1 ≡ self.now.functions)) }
+    {
+        let functions = self.functions.copy(alloc)?;
+        match self.vars.copy() {
+            Ok(vars) => Ok((vars, functions)),
             Err(error) => {
                 drop(functions);
                 Err(NoMemory::from(error))

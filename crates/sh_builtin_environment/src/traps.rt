@@ -106,6 +106,30 @@ fn put_line(text: &mut Text, condition: Condition, action: Option<&[u8]>) -> Res
     }
 }
 
+/// The same action.
+fn same(alloc: Global, action: &Option<Text>) -> Result<Option<Text>, NoMemory>
+    ensures { IfOk result (λ same. same ≡ action.now) }
+{
+    match action {
+        Some(action) => {
+            let action = Text::copy_of(alloc, action.as_slice())?;
+            Ok(Some(action))
+        },
+        None => Ok(None),
+    }
+}
+
+/// Copies of actions.
+fn copies(alloc: Global, actions: &[Option<Text>]) -> Result<Vec<Option<Text>>, NoMemory>
+    ensures { IfOk result (λ copies. copies.items ≡ actions.now) }
+{
+    let mut copies = Vec::with_capacity(alloc, actions.len())?;
+    for action in actions {
+        copies.push(same(alloc, action)?)?;
+    }
+    Ok(copies)
+}
+
 impl Traps {
     /// No traps: the default is done on each condition. The only error is want of memory.
     pub fn new(alloc: Global) -> Result<Traps, NoMemory>
@@ -133,6 +157,14 @@ impl Traps {
         if let Some(place) = self.actions.get_mut(usize::from(condition.number())) {
             *place = action;
         }
+    }
+
+    /// A copy, which is equal. The only error is want of memory.
+    pub fn copy(&self, alloc: Global) -> Result<Traps, NoMemory>
+        ensures { IfOk result (λ traps. traps ≡ self.now) }
+    {
+        let actions = copies(alloc, self.actions.as_slice())?;
+        Ok(Traps { actions })
     }
 
     /// The traps of a subshell of this shell (XCU 2.13): what is ignored, and no other. The only error is want of memory.

@@ -5,7 +5,7 @@ use Rattle.sh_exec.specs.declared.task.Task.TheVariants.{Runs, Asks}
 use Rattle.sh_exec_actions.specs.declared.action.Active.{Active}
 use Rattle.sh_exec_actions.specs.declared.action.Active.TheVariants.{Acting, Calling, Evaluating, Next, Done, Leaving}
 use Rattle.sh_exec_actions.specs.declared.action.Action.{Action}
-use Rattle.sh_exec_actions.specs.declared.action.Action.TheVariants.{Reading, Expanding, ReadSubstitution, WaitSubstitution, Redirecting, Forking, Starting, ForkStage, AssignLoopVariable, Defining, Waiting, Writing, Ending}
+use Rattle.sh_exec_actions.specs.declared.action.Action.TheVariants.{Reading, Expanding, ReadSubstitution, WaitSubstitution, Redirecting, Forking, Starting, ForkStage, AssignLoopVariable, Defining, Waiting, Writing, Trapping, Ending}
 use Rattle.sh_exec_forms.specs.Running.{active_of}
 use Rattle.sh_kernel.specs.Turns.{Action as Asked, Acts, ReadsBy, WaitsFor, WritesBy}
 use Rattle.sh_kernel_descriptors.specs.declared.descriptor.DescriptorRef.TheVariants.{Aside, Number}
@@ -30,6 +30,7 @@ action_at (AssignLoopVariable series) = Acts
 action_at (Defining definition) = Acts
 action_at (Waiting children) = WaitsFor children
 action_at (Writing piece finish) = WritesBy piece.descriptor (length piece.bytes)
+action_at (Trapping status) = Acts
 action_at (Ending status) = Acts
 
 abbrev pub action_in : Active → Asked

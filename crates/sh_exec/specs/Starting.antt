@@ -2,6 +2,7 @@
 use Rattle.std.specs.Prelude.{ℕ, List, [], ◌∷◌, Option, Some, None, unwrap_or}
 use Rattle.sh_exec_actions.specs.Statuses as statuses
 use Rattle.sh_builtin.specs.declared.shell.Shell.{Shell}
+use Rattle.sh_builtin_environment.specs.TrapMaps.{none_set}
 use Rattle.sh_exec.specs.Programs.{Left, ProgramState, asking, with_next}
 use Rattle.sh_exec.specs.declared.task.Task.{Task}
 use Rattle.sh_exec.specs.declared.task.Task.TheVariants.{Asks, Runs}
@@ -14,7 +15,7 @@ use Rattle.sh_exec_actions.specs.declared.action.Active.{Active}
 use Rattle.sh_exec_actions.specs.declared.action.Active.TheVariants.{Acting, Calling, Evaluating, Next, Done, Leaving}
 use Rattle.sh_exec_actions.specs.declared.action.Finish.TheVariants.{Fault}
 use Rattle.sh_exec_actions.specs.declared.action.Action.{Action}
-use Rattle.sh_exec_actions.specs.declared.action.Action.TheVariants.{Reading, Expanding, ReadSubstitution, WaitSubstitution, Redirecting, Forking, Starting, ForkStage, AssignLoopVariable, Defining, Waiting, Writing, Ending}
+use Rattle.sh_exec_actions.specs.declared.action.Action.TheVariants.{Reading, Expanding, ReadSubstitution, WaitSubstitution, Redirecting, Forking, Starting, ForkStage, AssignLoopVariable, Defining, Waiting, Writing, Trapping, Ending}
 use Rattle.sh_exec_forms.specs.Running.{At}
 use Rattle.sh_kernel.specs.Calls.{start_call}
 use Rattle.sh_kernel.specs.State.{KernelState}
@@ -48,10 +49,10 @@ stock_start m s shell name None = failure s shell (cannot_execute name) statuses
 abbrev pub parent_of : KernelState → ℕ → ℕ
 parent_of s pid = unwrap_or (parent_at s.machine.processes pid) 1
 
--- a script is run by a new shell in this process, which has no functions
+-- a script is run by a new shell in this process, which has no functions and no traps
 abbrev pub script_shell : KernelState → Shell → List ℕ → List (List ℕ) → Shell
 script_shell s shell path operands =
-    record { pid = shell.pid; vars = script_environment shell.vars path operands shell.pid (parent_of s shell.pid); functions = [] }
+    record { pid = shell.pid; vars = script_environment shell.vars path operands shell.pid (parent_of s shell.pid); functions = []; traps = none_set }
 
 abbrev pub script_start : {S : Type 0} → KernelState → Shell → List ℕ → List ℕ → List (List ℕ) → Left (Task S)
 script_start s shell path text operands =
@@ -87,6 +88,7 @@ starting_at (AssignLoopVariable series) = None
 starting_at (Defining definition) = None
 starting_at (Waiting children) = None
 starting_at (Writing piece finish) = None
+starting_at (Trapping status) = None
 starting_at (Ending status) = None
 
 abbrev pub starting_in : Active → Option (List (List ℕ))

@@ -1,5 +1,6 @@
 -- Processes: their numbers, the first shell, and the running forms of a shell.
 use Rattle.std.specs.Prelude.{ℕ, List, []}
+use Rattle.sh_builtin_environment.specs.TrapMaps.{none_set}
 use Rattle.sh_exec.specs.Scripts.{script_place}
 use Rattle.sh_exec.specs.declared.settings.Settings.{Settings}
 use Rattle.sh_exec.specs.declared.settings.Source.{Source}
@@ -9,7 +10,7 @@ use Rattle.sh_exec.specs.declared.task.Task.TheVariants.{Runs, Asks}
 use Rattle.sh_exec_actions.specs.declared.action.Active.TheVariants.{Next}
 use Rattle.sh_exec_actions.specs.declared.action.Action.{Action}
 use Rattle.sh_exec_actions.specs.declared.action.Action.TheVariants.{Reading}
-use Rattle.sh_exec_forms.specs.Frames as shell
+use Rattle.sh_exec_forms.specs.Stacks as shell
 use Rattle.sh_exec_forms.specs.Running.{At}
 use Rattle.sh_exec_actions.specs.declared.form.Frame.{Frame}
 use Rattle.sh_files.specs.Nodes.{FileMap}
@@ -37,7 +38,7 @@ first_place image (Script path) = script_place image path
 -- it is before its first action
 abbrev pub first_task : {S : Type 0} → FileMap → Settings → Task S
 first_task image settings = Runs (record {
-  shell = record { pid = first_pid; vars = environment_of settings; functions = [] };
+  shell = record { pid = first_pid; vars = environment_of settings; functions = []; traps = none_set };
   run = At (Next (first_place image settings.source));
 })
 

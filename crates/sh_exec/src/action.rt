@@ -34,6 +34,7 @@ fn action_at(place: &Action) -> Next<'_>
         Action::Defining(_) => Next::Other,
         Action::Waiting(children) => Next::Wait(children.as_slice()),
         Action::Writing(piece, _) => Next::Write(piece.descriptor, piece.bytes.len()),
+        Action::Trapping(_) => Next::Other,
         Action::Ending(_) => Next::Other,
     }
 }

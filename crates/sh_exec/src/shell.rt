@@ -24,6 +24,7 @@ fn starting_at(place: &Action) -> Option<&Sequence<Text>>
         Action::Defining(_) => None,
         Action::Waiting(_) => None,
         Action::Writing(_, _) => None,
+        Action::Trapping(_) => None,
         Action::Ending(_) => None,
     }
 }

@@ -13,6 +13,7 @@ use crate::{Located, locate};
 use sh_base::NoMemory;
 use sh_base::sequence::{Sequence, Text};
 use sh_builtin::{Functions, Shell};
+use sh_builtin_environment::Traps;
 use sh_exec_actions::status::{CANNOT_EXECUTE, NOT_FOUND};
 use sh_exec_actions::{Action, Finish};
 use sh_exec_parts::message::{Piece, cannot_execute, not_found};
@@ -121,11 +122,13 @@ fn start_script<S: Stock>(
     let pid = shell.pid;
     let parent = parent_of(kernel, pid);
     let vars = script_environment(alloc, &shell.vars, path, operands, pid, parent)?;
+    let traps = Traps::new(alloc)?;
     close_aside(kernel, pid);
     let shell = Shell {
         pid,
         vars,
         functions: Functions::new(alloc),
+        traps,
     };
     Ok(Task::Runs(Interpreter::reading(alloc, shell, text)))
 }

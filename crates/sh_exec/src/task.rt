@@ -20,6 +20,7 @@ use crate::start::start_turn;
 use sh_base::NoMemory;
 use sh_base::sequence::{Sequence, Text};
 use sh_builtin::{Functions, Shell};
+use sh_builtin_environment::Traps;
 use sh_exec_actions::{Action, Frame};
 use sh_exec_parts::Rest;
 use sh_exec_shell::Interpreter;
@@ -115,11 +116,13 @@ impl<S: Stock> Task<S> {
         vars.set_zero(zero);
         vars.set_positional(args.into_vec());
         vars.set_options(options);
+        let traps = Traps::new(alloc)?;
         let place = first_place(alloc, image, source)?;
         let shell = Shell {
             pid: FIRST_PID,
             vars,
             functions: Functions::new(alloc),
+            traps,
         };
         Ok(Task::Runs(Interpreter::at(alloc, shell, place)))
     }

@@ -1,7 +1,7 @@
 -- What holds of a running form by its kind.
-use Rattle.std.specs.Prelude.{ℕ, ◌-◌, Bool, true, false}
+use Rattle.std.specs.Prelude.{ℕ, ◌-◌, Bool, true, false, Option, Some, None}
 use Rattle.sh_exec_actions.specs.declared.form.Form.{Form}
-use Rattle.sh_exec_actions.specs.declared.form.Form.TheVariants.{Text, Commands, Joined, Negated, Restoring, If, Condition, Body, ForBody, Call, Evaluation, FailuresIgnored}
+use Rattle.sh_exec_actions.specs.declared.form.Form.TheVariants.{Text, Commands, Joined, Negated, Restoring, If, Condition, Body, ForBody, Call, Evaluation, Trapped, FailuresIgnored}
 
 -- ---- loops (2.9.4), and the bodies of functions (2.9.5)
 abbrev pub is_loop : Form → Bool
@@ -16,6 +16,7 @@ is_loop (Body loop) = true
 is_loop (ForBody series) = true
 is_loop (Call positional) = false
 is_loop Evaluation = false
+is_loop (Trapped status) = false
 is_loop FailuresIgnored = false
 
 abbrev pub is_call : Form → Bool
@@ -30,6 +31,7 @@ is_call (Body loop) = false
 is_call (ForBody series) = false
 is_call (Call positional) = true
 is_call Evaluation = false
+is_call (Trapped status) = false
 is_call FailuresIgnored = false
 
 -- ---- whether `set -e` takes no notice of a failure inside a form, whatever is around it (2.15, set): in a condition, in a pipeline of an
@@ -46,9 +48,10 @@ ignores_failure (Body loop) = false
 ignores_failure (ForBody series) = false
 ignores_failure (Call positional) = false
 ignores_failure Evaluation = false
+ignores_failure (Trapped status) = false
 ignores_failure FailuresIgnored = true
 
--- ---- calls of functions, and texts that are run inside one another (2.15 eval): with none around there may be so many
+-- ---- calls of functions, texts that are run (2.15 eval), and actions of traps, inside one another: with none around there may be so many
 abbrev pub most_levels : ℕ
 most_levels = 1000
 
@@ -65,4 +68,21 @@ levels_inside (Body loop) levels = levels
 levels_inside (ForBody series) levels = levels
 levels_inside (Call positional) levels = levels - 1
 levels_inside Evaluation levels = levels - 1
+levels_inside (Trapped status) levels = levels - 1
 levels_inside FailuresIgnored levels = levels
+
+-- ---- the action of a trap: what `$?` was before it (2.15 trap)
+abbrev pub before_trap : Form → Option ℕ
+before_trap (Text rest) = None
+before_trap (Commands items) = None
+before_trap (Joined others) = None
+before_trap Negated = None
+before_trap (Restoring undo) = None
+before_trap (If branches) = None
+before_trap (Condition loop last) = None
+before_trap (Body loop) = None
+before_trap (ForBody series) = None
+before_trap (Call positional) = None
+before_trap Evaluation = None
+before_trap (Trapped status) = Some status
+before_trap FailuresIgnored = None

@@ -191,6 +191,8 @@ pub enum Action {
     Waiting(Sequence<u32>),
     /// Write.
     Writing(Piece, Finish),
+    /// The shell is to end with this status: take its trap on EXIT before that (2.15 trap), and read its action.
+    Trapping(u8),
     /// End the process with a status.
     Ending(u8),
 }

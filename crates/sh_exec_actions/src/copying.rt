@@ -341,6 +341,7 @@ impl Copying for Action {
                 Ok(Action::Waiting(children))
             },
             Action::Writing(piece, finish) => copy_writing(alloc, piece, finish),
+            Action::Trapping(status) => Ok(Action::Trapping(*status)),
             Action::Ending(status) => Ok(Action::Ending(*status)),
         }
     }

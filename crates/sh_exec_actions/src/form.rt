@@ -109,6 +109,8 @@ pub enum Form {
     Call(Sequence<Text>),
     /// A text that `eval` runs (2.15).
     Evaluation,
+    /// The action of a trap on EXIT (2.15 trap), in a shell that ends with this status after it.
+    Trapped(u8),
     /// All of a process that was made where failures are ignored: they are ignored there too (2.15, set -e).
     FailuresIgnored,
 }
@@ -131,6 +133,7 @@ impl Copying for Form {
                 Ok(Form::Call(Sequence::from_vec(copies_of(alloc, positional.as_slice())?)))
             },
             Form::Evaluation => Ok(Form::Evaluation),
+            Form::Trapped(status) => Ok(Form::Trapped(*status)),
             Form::FailuresIgnored => Ok(Form::FailuresIgnored),
         }
     }

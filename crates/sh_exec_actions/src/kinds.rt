@@ -1,12 +1,12 @@
 //! What holds of running forms by their kind.
 use crate::form::Form;
 
-/// How many calls of functions, and texts that `eval` runs (XCU 2.15), there may be, one in another.
+/// How many calls of functions, texts that `eval` runs (XCU 2.15), and actions of traps there may be, one in another.
 pub const MOST_LEVELS: u16 = 1000;
 
 impl Form {
     ghost use Rattle.std.specs.Prelude.{◌≡◌};
-    ghost use Rattle.sh_exec_actions.specs.Kinds.{ignores_failure, is_call, is_loop, levels_inside};
+    ghost use Rattle.sh_exec_actions.specs.Kinds.{before_trap, ignores_failure, is_call, is_loop, levels_inside};
 
     /// Whether it is the body of a function. Takes no memory.
     pub fn is_call(&self) -> bool
@@ -24,6 +24,7 @@ impl Form {
             Form::ForBody(_) => false,
             Form::Call(_) => true,
             Form::Evaluation => false,
+            Form::Trapped(_) => false,
             Form::FailuresIgnored => false,
         }
     }
@@ -44,6 +45,7 @@ impl Form {
             Form::ForBody(_) => true,
             Form::Call(_) => false,
             Form::Evaluation => false,
+            Form::Trapped(_) => false,
             Form::FailuresIgnored => false,
         }
     }
@@ -64,6 +66,7 @@ impl Form {
             Form::ForBody(_) => false,
             Form::Call(_) => false,
             Form::Evaluation => false,
+            Form::Trapped(_) => false,
             Form::FailuresIgnored => true,
         }
     }
@@ -84,7 +87,28 @@ impl Form {
             Form::ForBody(_) => levels,
             Form::Call(_) => levels.saturating_sub(1),
             Form::Evaluation => levels.saturating_sub(1),
+            Form::Trapped(_) => levels.saturating_sub(1),
             Form::FailuresIgnored => levels,
+        }
+    }
+    /// What `$?` was before the action of a trap (2.15 trap), if it is one. Takes no memory.
+    pub fn before_trap(&self) -> Option<u8>
+        ensures { result ≡ before_trap self.now }
+    {
+        match self {
+            Form::Text(_) => None,
+            Form::Commands(_) => None,
+            Form::Joined(_) => None,
+            Form::Negated => None,
+            Form::Restoring(_) => None,
+            Form::If(_) => None,
+            Form::Condition(_, _) => None,
+            Form::Body(_) => None,
+            Form::ForBody(_) => None,
+            Form::Call(_) => None,
+            Form::Evaluation => None,
+            Form::Trapped(status) => Some(*status),
+            Form::FailuresIgnored => None,
         }
     }
 }

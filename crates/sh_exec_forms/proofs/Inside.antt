@@ -5,7 +5,7 @@ use Rattle.sh_exec_actions.specs.declared.status.CommandStatus.{CommandStatus}
 use Rattle.sh_exec_forms.proofs.Entered.{entered_with, list_with, pipeline_is}
 use Rattle.sh_exec_forms.proofs.Outward.{goes_runs}
 use Rattle.sh_exec_forms.specs.Entering.{and_or_run, commands_run, items_run, list_run, pipeline_run, with_negation}
-use Rattle.sh_exec_forms.specs.Frames.{Goes, active_in, is_over, run_in}
+use Rattle.sh_exec_forms.specs.Stacks.{Goes, active_in, is_over, run_in}
 use Rattle.sh_exec_forms.specs.Running.{Run, At, In}
 use Rattle.sh_exec_actions.specs.declared.form.Form.{Form}
 use Rattle.sh_exec_actions.specs.declared.form.Form.TheVariants.{Commands, Negated}

@@ -1,5 +1,4 @@
 pub mod Alone
 pub mod Entered
-pub mod Framed
 pub mod Inside
 pub mod Outward

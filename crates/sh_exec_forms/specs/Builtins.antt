@@ -13,9 +13,11 @@ use Rattle.sh_exec_actions.specs.declared.action.Active.TheVariants.{Acting, Cal
 use Rattle.sh_exec_actions.specs.declared.action.Finish.TheVariants.{Messages, Output}
 use Rattle.sh_exec_actions.specs.declared.action.Action.TheVariants.{Reading, Writing}
 use Rattle.sh_exec_actions.specs.declared.action.Report.{Report}
+use Rattle.sh_exec_actions.specs.declared.form.Form.{Form}
 use Rattle.sh_exec_actions.specs.declared.form.Form.TheVariants.{Call, Evaluation}
 use Rattle.sh_exec_command.specs.Expanding.{fatal}
 use Rattle.sh_exec_forms.specs.Entering.{command_run}
+use Rattle.sh_exec_frames.specs.Frames.{last_for, levels_left}
 use Rattle.sh_exec_forms.specs.Running.{Run, At, In}
 use Rattle.sh_exec_parts.specs.Messages.{refusal_text}
 use Rattle.sh_exec_parts.specs.declared.message.Refusal.TheVariants as refusal
@@ -79,14 +81,16 @@ performed levels shell (Next place) = with_active shell (Next place)
 performed levels shell (Done ended) = with_active shell (Done ended)
 performed levels shell (Leaving leave) = with_active shell (Leaving leave)
 
-unfoldable pub builtin_effect : (levels : ℕ) → KernelState → Shell → Builtin → List (List ℕ) → Performed
-builtin_effect levels s shell builtin fields =
-    let d = built_in s.machine shell builtin (drop 1 fields) in performed levels d.shell (behind builtin d.outcome)
+-- ---- a built-in acts inside some forms, the innermost first
+unfoldable pub builtin_effect : (around : List Form) → KernelState → Shell → Builtin → List (List ℕ) → Performed
+builtin_effect around s shell builtin fields =
+    let d = built_in s.machine shell (last_for around builtin shell.vars.special.status) builtin (drop 1 fields) in
+    performed (levels_left around) d.shell (behind builtin d.outcome)
 
-abbrev pub effect_at : (levels : ℕ) → KernelState → Shell → Active → Performed
-effect_at levels s shell (Acting builtin fields) = builtin_effect levels s shell builtin fields
-effect_at levels s shell (Calling body fields) = performed levels shell (Calling body fields)
-effect_at levels s shell (Evaluating text) = performed levels shell (Evaluating text)
-effect_at levels s shell (Next place) = performed levels shell (Next place)
-effect_at levels s shell (Done ended) = performed levels shell (Done ended)
-effect_at levels s shell (Leaving leave) = performed levels shell (Leaving leave)
+abbrev pub effect_at : (around : List Form) → KernelState → Shell → Active → Performed
+effect_at around s shell (Acting builtin fields) = builtin_effect around s shell builtin fields
+effect_at around s shell (Calling body fields) = performed (levels_left around) shell (Calling body fields)
+effect_at around s shell (Evaluating text) = performed (levels_left around) shell (Evaluating text)
+effect_at around s shell (Next place) = performed (levels_left around) shell (Next place)
+effect_at around s shell (Done ended) = performed (levels_left around) shell (Done ended)
+effect_at around s shell (Leaving leave) = performed (levels_left around) shell (Leaving leave)

@@ -1,5 +1,6 @@
 -- What a form becomes when what runs inside it is done, or leaves it.
 use Rattle.std.specs.Prelude.{◌≡◌, ℕ, zero, suc, List, [], ◌∷◌, ◌||◌, ◌&&◌, Bool, true, false, nat_eq, not, Option, Some, None, if◌then◌else◌}
+use Rattle.sh_builtin.specs.Outcomes.{shell_status}
 use Rattle.sh_builtin.specs.declared.outcome.Leave.{Leave}
 use Rattle.sh_builtin.specs.declared.shell.Shell.{Shell}
 use Rattle.sh_builtin.specs.declared.outcome.Leave.TheVariants as leave
@@ -8,17 +9,18 @@ use Rattle.sh_exec_command.specs.Undoing as variables
 use Rattle.sh_exec_actions.specs.Statuses.{unexcused}
 use Rattle.sh_exec_actions.specs.declared.action.Active.{Active}
 use Rattle.sh_exec_actions.specs.declared.action.Active.TheVariants.{Acting, Calling, Evaluating, Next, Done, Leaving}
-use Rattle.sh_exec_actions.specs.declared.action.Action.TheVariants.{Reading}
+use Rattle.sh_exec_actions.specs.declared.action.Action.TheVariants.{Ending, Reading}
 use Rattle.sh_exec_actions.specs.declared.action.Undo.{Undo}
 use Rattle.sh_exec_actions.specs.declared.status.CommandStatus.{CommandStatus}
 use Rattle.sh_exec_machine.specs.Undoing as descriptors
 use Rattle.sh_exec_forms.specs.Builtins.{Performed, effect_at, with_parameters}
 use Rattle.sh_exec_forms.specs.Entering.{items_run, with_others, list_run, pipeline_run}
-use Rattle.sh_exec_forms.specs.Frames.{Goes, has_call, has_loop, is_failure_ignored, levels_left, run_of}
+use Rattle.sh_exec_forms.specs.Stacks.{Goes, run_of}
+use Rattle.sh_exec_frames.specs.Frames.{ends_action, has_call, has_loop, is_failure_ignored}
 use Rattle.sh_exec_forms.specs.Running.{Run, At, In}
 use Rattle.sh_exec_actions.specs.declared.form.Branches.{Branches}
 use Rattle.sh_exec_actions.specs.declared.form.Form.{Form}
-use Rattle.sh_exec_actions.specs.declared.form.Form.TheVariants.{Text, Commands, Joined, Negated, Restoring, If, Condition, Body, ForBody, Call, Evaluation, FailuresIgnored}
+use Rattle.sh_exec_actions.specs.declared.form.Form.TheVariants.{Text, Commands, Joined, Negated, Restoring, If, Condition, Body, ForBody, Call, Evaluation, Trapped, FailuresIgnored}
 use Rattle.sh_exec_actions.specs.declared.form.Loop.{Loop}
 use Rattle.sh_exec_forms.specs.declared.step.Step.{Step}
 use Rattle.sh_exec_forms.specs.declared.step.Step.TheVariants.{Outward, Inward}
@@ -112,13 +114,13 @@ left_within called false (leave.Break inside) = Done (unexcused 0)
 left_within called true (leave.Continue inside) = Leaving (leave.Continue inside)
 left_within called false (leave.Continue inside) = Done (unexcused 0)
 
--- what a place comes to inside the forms round it, the innermost first
+-- what a place comes to inside the forms round it, the innermost first; `set -e` judges commands, and a trap's action isn't one
 abbrev pub within : (errexit : Bool) → (around : List Form) → Active → Active
 within errexit around (Acting builtin fields) = Acting builtin fields
 within errexit around (Calling body fields) = Calling body fields
 within errexit around (Evaluating text) = Evaluating text
 within errexit around (Next place) = Next place
-within errexit around (Done ended) = ended_within errexit (is_failure_ignored around) ended
+within errexit around (Done ended) = ended_within errexit (is_failure_ignored around || ends_action around) ended
 within errexit around (Leaving leave) = left_within (has_call around) (has_loop around) leave
 
 -- the same of what a built-in leaves; forms that it entered have their own
@@ -170,7 +172,8 @@ after_call around (leave.Return status) shell = returned around shell status
 after_call around (leave.Break inside) shell = Leaving (leave.Break inside)
 after_call around (leave.Continue inside) shell = Leaving (leave.Continue inside)
 
--- the next command of a text is read, behind this status; `$?` is the status of the command before (2.5.2)
+-- the next command of a text is read, behind this status; `$?` is the status of the command before (2.5.2). Behind the action of a trap on
+-- EXIT the shell ends with the status that it was to have, unless the action leaves the shell (2.15 trap)
 -- around: the forms round this one, the innermost first
 abbrev pub after_status : (around : List Form) → Form → KernelState → Shell → CommandStatus → Acted
 after_status around (Text rest) s shell ended = with_run s shell (At (Next (Reading rest ended.status)))
@@ -184,6 +187,7 @@ after_status around (Body loop) s shell ended = with_run s (behind_status shell 
 after_status around (ForBody series) s shell ended = with_run s (behind_status shell ended.status) (At (rest_of_series series ended))
 after_status around (Call positional) s shell ended = with_run s (with_parameters shell positional) (At (returned around shell ended.status))
 after_status around Evaluation s shell ended = with_run s shell (At (Done ended))
+after_status around (Trapped status) s shell ended = with_run s shell (At (Next (Ending status)))
 after_status around FailuresIgnored s shell ended = with_run s shell (At (Done ended))
 
 abbrev pub after_leave : (around : List Form) → Form → KernelState → Shell → Leave → Acted
@@ -199,6 +203,7 @@ after_leave around (ForBody series) s shell leave =
     loop_left s shell (At (rest_of_series series (unexcused 0))) (onward (has_loop around) leave)
 after_leave around (Call positional) s shell leave = with_run s (with_parameters shell positional) (At (after_call around leave shell))
 after_leave around Evaluation s shell leave = with_run s shell (At (Leaving leave))
+after_leave around (Trapped status) s shell leave = with_run s shell (At (Next (Ending (shell_status leave))))
 after_leave around FailuresIgnored s shell leave = with_run s shell (At (Leaving leave))
 
 abbrev pub after_by : (around : List Form) → Form → KernelState → Shell → Run → Acted
@@ -217,7 +222,7 @@ after around form a = after_by around form a.machine a.shell a.run
 -- a built-in acts, a text is entered, and statuses go outward until the place is an action
 abbrev pub at_action : (around : List Form) → KernelState → Shell → Run → Acted
 at_action around s shell (At active) =
-    let p = effect_at (levels_left around) s shell active in with_run s p.shell (within_run (exits_on_error p.shell) around p.run)
+    let p = effect_at around s shell active in with_run s p.shell (within_run (exits_on_error p.shell) around p.run)
 at_action around s shell (In form run) = after around form (at_action (form ∷ around) s shell run)
 
 -- a shell goes on at a step behind what a built-in did, inside the forms that there were before

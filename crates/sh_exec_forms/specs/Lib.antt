@@ -5,4 +5,4 @@ pub mod Entering
 pub mod Forms
 pub mod Moves
 pub mod Running
-pub mod Frames
+pub mod Stacks

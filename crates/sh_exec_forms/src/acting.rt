@@ -3,13 +3,12 @@ ghost use Rattle.std.specs.Prelude.{◌≡◌, ◌∷◌, IfOk, OnOk, drop};
 ghost use Rattle.sh_exec_command.specs.Expanding.{fatal};
 ghost use Rattle.sh_exec_forms.specs.Builtins.{at_completion, behind, builtin_effect, call, effect_at, evaluation, output_of, performed, reported, with_parameters};
 ghost use Rattle.sh_exec_forms.specs.Forms.{HasPerformed};
-ghost use Rattle.sh_exec_forms.specs.Frames.{levels_left};
+ghost use Rattle.sh_exec_frames.specs.Frames.{last_for, levels_left};
 ghost use Rattle.sh_exec_parts.specs.Messages.{refusal_text};
 ghost use Rattle.sh_exec_parts.specs.declared.message.Refusal.TheVariants as refusal;
 ghost use Rattle.sh_kernel.specs.State.{KernelState, StandsAt};
 
 use crate::entering::enter_command;
-use crate::frames::Frames;
 use crate::step::Step;
 use sh_base::NoMemory;
 use sh_base::sequence::{Sequence, Text, copies_of};
@@ -17,6 +16,7 @@ use sh_base::shared::Shared;
 use sh_builtin::{Builtin, Completion, Outcome, Shell};
 use sh_exec_actions::{Action, Active, CommandStatus, Finish, Form, Report};
 use sh_exec_command::fatal_message;
+use sh_exec_frames::Frames;
 use sh_exec_parts::message::{Piece, Refusal, refused};
 use sh_exec_parts::{Queue, Rest};
 use sh_kernel::Kernel;
@@ -204,9 +204,10 @@ fn build(
 ) -> Result<Step, NoMemory>
     ensures { (s : KernelState) → StandsAt kernel.now s → IfOk result (λ step.
         HasPerformed shell.new frames.new frames.old step
-        (builtin_effect (levels_left frames.old) s shell.old builtin fields.now)) }
+        (builtin_effect frames.old s shell.old builtin fields.now)) }
 {
-    let outcome = builtin.run(alloc, kernel, shell, arguments_of(fields))?;
+    let last = frames.last_for(builtin, shell.vars.status());
+    let outcome = builtin.run(alloc, kernel, shell, last, arguments_of(fields))?;
     let step = step_at(alloc, shell, frames, behind(builtin, outcome))?;
     Ok(step)
 }
@@ -221,7 +222,7 @@ pub(crate) fn perform(
 ) -> Result<Step, NoMemory>
     ensures { (s : KernelState) → StandsAt kernel.now s → IfOk result (λ step.
         HasPerformed shell.new frames.new frames.old step
-        (effect_at (levels_left frames.old) s shell.old active)) }
+        (effect_at frames.old s shell.old active)) }
 {
     match active {
         Active::Acting(builtin, fields) => {

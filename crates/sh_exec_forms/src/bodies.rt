@@ -3,13 +3,13 @@ ghost use Rattle.std.specs.Prelude.{◌≡◌, IfOk, None, option_map};
 ghost use Rattle.sh_exec_actions.specs.Statuses.{unexcused};
 ghost use Rattle.sh_exec_forms.specs.Bodies.{body_of, own_compound, own_form, sole_and_or, sole_item, sole_pipeline, stage_run};
 ghost use Rattle.sh_exec_forms.specs.Entering.{command_run, items_run};
-ghost use Rattle.sh_exec_forms.specs.Frames.{run_in, run_of};
+ghost use Rattle.sh_exec_forms.specs.Stacks.{run_in, run_of};
 
 use crate::entering::{enter, enter_command, redirected};
-use crate::frames::Frames;
 use sh_base::NoMemory;
 use sh_base::shared::Shared;
 use sh_exec_actions::{Action, Active, CommandStatus, first_place};
+use sh_exec_frames::Frames;
 use sh_exec_parts::{Queue, is_negated};
 use sh_syntax::tree::{AndOr, Command, Compound, CompoundForm, CompoundList, ListItem, Pipeline};
 use std::alloc::Global;

@@ -4,10 +4,9 @@ ghost use Rattle.sh_exec_parts.specs.Pipelines.{commands_of};
 ghost use Rattle.sh_exec_actions.specs.Statuses.{unexcused};
 ghost use Rattle.sh_exec_forms.specs.Entering.{and_or_run, command_run, commands_run, compound_entry, form_entry, form_run, is_subshell, items_run, list_run, pipeline_run, staging, with_others};
 ghost use Rattle.sh_exec_forms.specs.Running.{Run};
-ghost use Rattle.sh_exec_forms.specs.Frames.{Goes};
+ghost use Rattle.sh_exec_forms.specs.Stacks.{Goes};
 ghost use Rattle.sh_syntax.specs.declared.tree.Command.TheViews as view;
 
-use crate::frames::Frames;
 use crate::step::Step;
 use sh_base::NoMemory;
 use sh_base::sequence::Sequence;
@@ -15,6 +14,7 @@ use sh_base::shared::Shared;
 use sh_exec_actions::{
     Action, Active, Branches, CommandStatus, Form, Loop, Stages, ToExpand, first_place,
 };
+use sh_exec_frames::Frames;
 use sh_exec_parts::{Queue, commands_of, is_negated};
 use sh_syntax::tree::{
     AndOr, Command, Compound, CompoundForm, CompoundList, Connected, ElseIf, ListItem, LoopKind,

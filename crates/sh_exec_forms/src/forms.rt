@@ -4,12 +4,12 @@ ghost use Rattle.sh_kernel.specs.State.{KernelState, StandsAt};
 ghost use Rattle.sh_syntax.specs.declared.tree.Command.TheViews as view;
 ghost use Rattle.sh_exec_forms.specs.Entering.{list_run, pipeline_run, with_others};
 ghost use Rattle.sh_exec_forms.specs.Forms.{Acted, Follows, HasGone, IsActed, IsOnWay, after_call, after_leave, after_status, at_action, branch, connected_run, goes_on, negation, otherwise, outward, undone, with_run};
-ghost use Rattle.sh_exec_forms.specs.Frames.{Goes, IsFewer, Leaves, has_loop, run_of};
+ghost use Rattle.sh_exec_forms.specs.Stacks.{Goes, IsFewer, Leaves, run_of};
+ghost use Rattle.sh_exec_frames.specs.Frames.{has_loop};
 ghost use Rattle.sh_exec_forms.specs.Running.{Run};
 
 use crate::acting::perform;
 use crate::entering::{enter, enter_inside, enter_joined, enter_list};
-use crate::frames::Frames;
 use crate::loops::{end_within, leave_loop, leave_series, next_value, repeat, test, within};
 use crate::step::Step;
 use sh_base::NoMemory;
@@ -17,6 +17,7 @@ use sh_base::shared::Shared;
 use sh_builtin::{Leave, Shell};
 use sh_exec_actions::{Action, Active, Branches, CommandStatus, Form, Undo};
 use sh_exec_command::restore_variables;
+use sh_exec_frames::Frames;
 use sh_exec_machine::restore_all;
 use sh_exec_parts::Queue;
 use sh_kernel::Kernel;
@@ -233,6 +234,7 @@ fn end_form(
             Ok(Step::Outward(end_within(frames, errexit, ended)))
         },
         Form::Evaluation => Ok(Step::Outward(Active::Done(ended))),
+        Form::Trapped(status) => Ok(Step::Inward(Active::Next(Action::Ending(status)))),
         Form::FailuresIgnored => Ok(Step::Outward(Active::Done(ended))),
     }
 }
@@ -285,6 +287,9 @@ fn leave_form(
             Ok(Step::Outward(active))
         },
         Form::Evaluation => Ok(Step::Outward(Active::Leaving(leave))),
+        Form::Trapped(_) => {
+            Ok(Step::Inward(Active::Next(Action::Ending(leave.shell_status()))))
+        },
         Form::FailuresIgnored => Ok(Step::Outward(Active::Leaving(leave))),
     }
 }

@@ -4,17 +4,18 @@ ghost use Rattle.sh_exec_actions.specs.declared.form.Form.{Form};
 ghost use Rattle.sh_exec_actions.specs.Statuses.{unexcused};
 ghost use Rattle.sh_exec_command.specs.Series.{rest_of_series};
 ghost use Rattle.sh_exec_forms.specs.Forms.{Acted, Follows, behind_condition, beyond, condition_run, ended_within, left_within, loop_left, onward, onward_by, runs, within};
-ghost use Rattle.sh_exec_forms.specs.Frames.{Goes, Leaves, has_call, has_loop, is_failure_ignored};
+ghost use Rattle.sh_exec_forms.specs.Stacks.{Goes, Leaves};
+ghost use Rattle.sh_exec_frames.specs.Frames.{ends_action, has_call, has_loop, is_failure_ignored};
 ghost use Rattle.sh_exec_forms.specs.Running.{Run};
 ghost use Rattle.sh_kernel.specs.State.{KernelState};
 
 use crate::entering::enter_inside;
-use crate::frames::Frames;
 use crate::step::Step;
 use sh_base::NoMemory;
 use sh_builtin::{Leave, Shell};
 use sh_exec_actions::{Active, CommandStatus, ForLoop, Form, Loop};
 use sh_exec_command::rest_of_series;
+use sh_exec_frames::Frames;
 use sh_syntax::tree::LoopKind;
 use std::alloc::Global;
 
@@ -30,13 +31,13 @@ pub(crate) enum Onward {
 
 /// A command that ended: a failure is excused where failures are ignored, and else ends the shell if `set -e` says so (XCU 2.15,
 /// set).
-pub(crate) fn end_within(frames: &Frames, errexit: bool, ended: CommandStatus) -> Active
-    ensures { result ≡ ended_within errexit (is_failure_ignored frames.now) ended }
+fn end_where(ignored: bool, errexit: bool, ended: CommandStatus) -> Active
+    ensures { result ≡ ended_within errexit ignored ended }
 {
     if ended.status == 0 {
         return Active::Done(ended);
     }
-    if frames.is_failure_ignored() {
+    if ignored {
         return Active::Done(CommandStatus {
             status: ended.status,
             excused: true,
@@ -46,6 +47,13 @@ pub(crate) fn end_within(frames: &Frames, errexit: bool, ended: CommandStatus) -
         return Active::Leaving(Leave::Exit(ended.status));
     }
     Active::Done(ended)
+}
+
+/// A command that ended inside forms.
+pub(crate) fn end_within(frames: &Frames, errexit: bool, ended: CommandStatus) -> Active
+    ensures { result ≡ ended_within errexit (is_failure_ignored frames.now) ended }
+{
+    end_where(frames.is_failure_ignored(), errexit, ended)
 }
 
 /// break and continue do nothing where no loop is around, and return is exit where no function is.
@@ -85,7 +93,10 @@ pub(crate) fn within(frames: &Frames, errexit: bool, active: Active) -> Active
         Active::Calling(body, fields) => Active::Calling(body, fields),
         Active::Evaluating(text) => Active::Evaluating(text),
         Active::Next(place) => Active::Next(place),
-        Active::Done(ended) => end_within(frames, errexit, ended),
+        Active::Done(ended) => {
+            let ignored = frames.is_failure_ignored() || frames.ends_action();
+            end_where(ignored, errexit, ended)
+        },
         Active::Leaving(leave) => leave_within(frames, leave),
     }
 }

@@ -1,13 +1,13 @@
 //! Where a command goes on.
 ghost use Rattle.std.specs.Prelude.{◌≡◌, IfOk};
-ghost use Rattle.sh_exec_forms.specs.Frames.{run_in, run_of};
+ghost use Rattle.sh_exec_forms.specs.Stacks.{run_in, run_of};
 ghost use Rattle.sh_exec_forms.specs.Moves.{move_run};
 
 use crate::bodies::body_of;
 use crate::entering::{enter_list, enter_redirected};
-use crate::frames::Frames;
 use sh_base::NoMemory;
 use sh_exec_actions::{Active, Form, Move};
+use sh_exec_frames::Frames;
 use std::alloc::Global;
 
 /// Where a command goes on. The only error is want of memory.

@@ -13,7 +13,7 @@ pub enum Step {
 }
 
 impl Step {
-    ghost use Rattle.sh_exec_forms.specs.Frames.{active_in};
+    ghost use Rattle.sh_exec_forms.specs.Stacks.{active_in};
 
     /// The active place.
     pub fn into_active(self) -> Active

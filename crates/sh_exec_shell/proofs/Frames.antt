@@ -4,7 +4,8 @@ use Rattle.std.proofs.lemmas.List.{length-reverse}
 use Rattle.sh_builtin.specs.declared.shell.Shell.{Shell}
 use Rattle.sh_exec_actions.specs.declared.action.Active.{Active}
 use Rattle.sh_exec_forms.specs.Forms.{Acted, IsActed, at_action, outward}
-use Rattle.sh_exec_forms.specs.Frames.{forms_round, framed, is_failure_ignored, path_of, run_in, run_of}
+use Rattle.sh_exec_forms.specs.Stacks.{forms_round, path_of, run_in, run_of}
+use Rattle.sh_exec_frames.specs.Frames.{framed, is_failure_ignored}
 use Rattle.sh_exec_forms.specs.Running.{InterpreterState, Run, At, In, active_of}
 use Rattle.sh_exec_actions.specs.declared.form.Form.{Form}
 use Rattle.sh_exec_forms.proofs.Outward.{by_forms}
@@ -28,19 +29,19 @@ pub path_within : (forms : List Form) (active : Active) → path_of (run_of form
 path_within forms active = path_in forms (At active)
 
 -- with a form round it nothing is at the root
-rooted : (form : Form) (forms : List Form) (run : Run) → at_root (run_in forms (In form run)) ≡ run_in forms (In form run)
-rooted form [] run = refl
-rooted form (outer ∷ forms) run = rooted outer forms (In form run)
+rooted : (shell : Shell) (form : Form) (forms : List Form) (run : Run) → at_root shell (run_in forms (In form run)) ≡ run_in forms (In form run)
+rooted shell form [] run = refl
+rooted shell form (outer ∷ forms) run = rooted shell outer forms (In form run)
 
-pub rooted_within : (forms : List Form) (active : Active) → 1 ≤ length (reverse (framed forms)) → at_root (run_of forms active) ≡ run_of forms active
-rooted_within [] active h = absurd (omega (arith, h))
-rooted_within (form ∷ forms) active h = rooted form forms (At active)
+pub rooted_within : (shell : Shell) (forms : List Form) (active : Active) → 1 ≤ length (reverse (framed forms)) → at_root shell (run_of forms active) ≡ run_of forms active
+rooted_within shell [] active h = absurd (omega (arith, h))
+rooted_within shell (form ∷ forms) active h = rooted shell form forms (At active)
 
 -- with none round it all is at the root
-pub alone : (forms : List Form) (active rooted : Active) → length (reverse (framed forms)) < 1 → At rooted ≡ at_root (At active)
-    → run_of forms rooted ≡ at_root (run_of forms active)
-alone [] active rooted h e = e
-alone (form ∷ forms) active rooted h e = absurd (omega (arith, length-reverse (framed (form ∷ forms)), h))
+pub alone : (shell : Shell) (forms : List Form) (active rooted : Active) → length (reverse (framed forms)) < 1 → At rooted ≡ at_root shell (At active)
+    → run_of forms rooted ≡ at_root shell (run_of forms active)
+alone shell [] active rooted h e = e
+alone shell (form ∷ forms) active rooted h e = absurd (omega (arith, length-reverse (framed (form ∷ forms)), h))
 
 -- a turn goes outward form by form
 turned_by_forms : (s : KernelState) (shell : Shell) (forms : List Form) (run : Run)
@@ -91,15 +92,20 @@ turned s shell forms active kernel shell' later run ran child e r made a =
 
 -- at the root what is left is the end of the process
 at_its_root : (kernel : KernelKept) (shell : Shell) (ran rooted : Run) (child : Option InterpreterState) (t : Turned)
-    → IsTurned kernel shell ran child t → rooted ≡ at_root ran → IsTurned kernel shell rooted child (with_root t)
+    → IsTurned kernel shell ran child t → rooted ≡ at_root shell ran → IsTurned kernel shell rooted child (with_root t)
 at_its_root kernel shell ran rooted child t i e =
-    record { state = i.state; shell_is = i.shell_is; run = e ∙ ap at_root i.run; child = i.child }
+    record {
+      state = i.state;
+      shell_is = i.shell_is;
+      run = e ∙ ap (λ this. at_root this ran) i.shell_is ∙ ap (at_root t.left.shell) i.run;
+      child = i.child;
+    }
 
 -- the turn of a shell that runs this
 pub shell_turned : (s : KernelState) (interpreter : InterpreterState) (shell : Shell) (run : Run)
     (kernel : KernelKept) (later : Shell) (ran rooted : Run) (child : Option InterpreterState)
     → interpreter ≡ record { shell = shell; run = run }
-    → IsTurned kernel later ran child (reduce s shell [] run) → rooted ≡ at_root ran
+    → IsTurned kernel later ran child (reduce s shell [] run) → rooted ≡ at_root later ran
     → IsTurned kernel later rooted child (shell_turn s interpreter)
 unfolding shell_turn
 shell_turned s interpreter shell run kernel later ran rooted child is i e =

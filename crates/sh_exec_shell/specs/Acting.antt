@@ -6,6 +6,8 @@ use Rattle.sh_exec_parts.specs.Messages.{message, refusal_text, write_error}
 use Rattle.sh_builtin.specs.declared.outcome.Completion.TheVariants as completion
 use Rattle.sh_builtin.specs.declared.outcome.Leave.TheVariants as leave
 use Rattle.sh_builtin.specs.declared.shell.Shell.{Shell}
+use Rattle.sh_builtin_environment.specs.TrapMaps.{action_of, with_action}
+use Rattle.sh_builtin_environment.specs.declared.condition.Condition.TheVariants.{Exit}
 use Rattle.sh_exec_parts.specs.declared.message.Piece.{Piece}
 use Rattle.sh_exec_parts.specs.declared.redirection.Redirection.{Redirection}
 use Rattle.sh_exec_command.specs.Assigning.{assign_turn}
@@ -16,6 +18,7 @@ use Rattle.sh_exec_actions.specs.Preparing.{ahead, not_done}
 use Rattle.sh_exec_command.specs.Redirects.{redirects_turn}
 use Rattle.sh_exec_command.specs.Series as series
 use Rattle.sh_exec_command.specs.Series.{series_turn}
+use Rattle.sh_exec_command.specs.Reading.{next_command}
 use Rattle.sh_exec_command.specs.declared.found.Found.{Found}
 use Rattle.sh_exec_command.specs.declared.found.Found.TheVariants as found
 use Rattle.sh_exec_actions.specs.Statuses.{unexcused}
@@ -25,7 +28,7 @@ use Rattle.sh_exec_actions.specs.declared.action.Finish.{Finish}
 use Rattle.sh_exec_actions.specs.declared.action.Finish.TheVariants.{Status, Fault, Messages, Output}
 use Rattle.sh_exec_actions.specs.declared.action.Pending.{Pending}
 use Rattle.sh_exec_actions.specs.declared.action.Action.{Action}
-use Rattle.sh_exec_actions.specs.declared.action.Action.TheVariants.{WaitSubstitution, ReadSubstitution, Ending, Expanding, Waiting, Writing}
+use Rattle.sh_exec_actions.specs.declared.action.Action.TheVariants.{WaitSubstitution, ReadSubstitution, Ending, Expanding, Trapping, Waiting, Writing}
 use Rattle.sh_exec_actions.specs.declared.action.ExpandedCommand.{ExpandedCommand}
 use Rattle.sh_exec_actions.specs.declared.action.Role.{Role}
 use Rattle.sh_exec_actions.specs.declared.action.Role.TheVariants as role
@@ -42,14 +45,14 @@ use Rattle.sh_exec_machine.specs.declared.transfer.ReadOutcome.{ReadOutcome}
 use Rattle.sh_exec_machine.specs.declared.transfer.ReadOutcome.TheVariants as taken
 use Rattle.sh_exec_machine.specs.declared.undone.Undone.{Undone}
 use Rattle.sh_exec_forms.specs.Builtins.{reported}
-use Rattle.sh_exec_forms.specs.Forms.{Acted, with_run}
+use Rattle.sh_exec_forms.specs.Forms.{Acted, behind_status, with_run}
 use Rattle.sh_exec_forms.specs.Entering.{items_run, list_run}
 use Rattle.sh_exec_forms.specs.Moves.{move_run}
-use Rattle.sh_exec_forms.specs.Frames.{run_in}
+use Rattle.sh_exec_forms.specs.Stacks.{run_in}
 use Rattle.sh_exec_forms.specs.Running.{Run, At, In}
 use Rattle.sh_exec_shell.specs.Waits.{wait_status}
 use Rattle.sh_exec_actions.specs.declared.form.Form.{Form}
-use Rattle.sh_exec_actions.specs.declared.form.Form.TheVariants.{Text, ForBody}
+use Rattle.sh_exec_actions.specs.declared.form.Form.TheVariants.{Text, ForBody, Trapped}
 use Rattle.sh_files.specs.Nodes.{FileMap}
 use Rattle.sh_kernel.specs.Calls.{close_call, end_call}
 use Rattle.sh_kernel.specs.State.{KernelState}
@@ -201,6 +204,30 @@ given_round s shell g = with_run s (record shell { vars = g.environment }) (roun
 -- ---- a function is defined (2.9.5)
 abbrev pub defined : KernelState → Shell → Command → Acted
 defined s shell definition = with_run s (record shell { functions = define_turn shell.functions definition }) (At (Done (unexcused 0)))
+
+-- ---- the trap on EXIT (2.15 trap) is taken where a shell is to end: if it has an action, and that isn't empty
+abbrev pub ending_by : Option (List ℕ) → (status : ℕ) → Action
+ending_by None status = Ending status
+ending_by (Some []) status = Ending status
+ending_by (Some (byte ∷ bytes)) status = Trapping status
+
+abbrev pub ending : Shell → (status : ℕ) → Action
+ending shell status = ending_by (action_of shell.traps Exit) status
+
+-- it is taken once
+abbrev pub without_trap : Shell → Shell
+without_trap shell = record shell { traps = with_action shell.traps Exit None }
+
+-- `$?` is the status with which the shell is to end, and the action's first command is read
+abbrev pub trap_action : KernelState → Shell → (status : ℕ) → List ℕ → Acted
+trap_action s shell status text = with_run s shell (In (Trapped status) (read_turn shell.vars 0 (next_command text)))
+
+abbrev pub trap_by : KernelState → Shell → (status : ℕ) → Option (List ℕ) → Acted
+trap_by s shell status None = with_run s shell (next (Ending status))
+trap_by s shell status (Some text) = trap_action s (behind_status (without_trap shell) status) status text
+
+unfoldable pub trap_turn : KernelState → Shell → (status : ℕ) → Acted
+trap_turn s shell status = trap_by s shell status (action_of shell.traps Exit)
 
 -- ---- the end of the process
 unfoldable pub end_turn : KernelState → Shell → ℕ → Acted

@@ -1,5 +1,6 @@
 -- The actions of a shell that make a process: of a program, of a stage of a pipeline, of a command substitution.
 use Rattle.std.specs.Prelude.{◌≡◌, ℕ, List, [], ◌∷◌, ◌++◌, Bool, true, false, length, nat_eq, not, Option, Some, None}
+use Rattle.sh_builtin.specs.Shells.{forked_shell}
 use Rattle.sh_builtin.specs.declared.shell.Shell.{Shell}
 use Rattle.sh_exec_parts.specs.Messages.{cannot_fork}
 use Rattle.sh_exec_command.specs.Expanding.{fatal}
@@ -21,7 +22,8 @@ use Rattle.sh_exec_shell.specs.Acting.{in_forms}
 use Rattle.sh_exec_actions.specs.declared.form.Form.{Form}
 use Rattle.sh_exec_forms.specs.Bodies.{body_of, stage_run}
 use Rattle.sh_exec_forms.specs.Moves.{move_run}
-use Rattle.sh_exec_forms.specs.Frames.{root_forms, run_in}
+use Rattle.sh_exec_forms.specs.Stacks.{run_in}
+use Rattle.sh_exec_frames.specs.Frames.{root_forms}
 use Rattle.sh_exec_forms.specs.Running.{InterpreterState, Run, At}
 use Rattle.sh_kernel.specs.State.{KernelKept, KernelState, StandsAt}
 use Rattle.sh_syntax.specs.declared.tree.Command.{Command}
@@ -38,10 +40,6 @@ with_child s shell run child = record { left = with_run s shell run; child = chi
 -- the same inside the forms round its place
 abbrev pub inside : List Form → Turned → Turned
 inside forms t = record { left = in_forms forms t.left; child = t.child }
-
--- a process that a shell makes has a shell with the same environment (2.13)
-abbrev pub forked_shell : ℕ → Shell → Shell
-forked_shell pid shell = record shell { pid = pid }
 
 abbrev pub child_of : ℕ → Shell → Run → Option InterpreterState
 child_of pid shell run = Some (record { shell = forked_shell pid shell; run = run })

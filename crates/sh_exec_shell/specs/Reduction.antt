@@ -1,7 +1,7 @@
 -- One turn of a shell: inward to its active place, the action there, and outward again.
 use Rattle.std.specs.Prelude.{List, [], ◌∷◌, None}
 use Rattle.sh_exec_command.specs.Expanding.{Turn}
-use Rattle.sh_builtin.specs.declared.outcome.Leave.TheVariants as leave
+use Rattle.sh_builtin.specs.Outcomes.{shell_status}
 use Rattle.sh_builtin.specs.declared.shell.Shell.{Shell}
 use Rattle.sh_exec_command.specs.Reading.{next_command}
 use Rattle.sh_exec_command.specs.Series.{give_turn}
@@ -10,12 +10,12 @@ use Rattle.sh_exec_actions.specs.declared.action.Active.TheVariants.{Acting, Cal
 use Rattle.sh_exec_actions.specs.declared.action.Expanded.{Expanded}
 use Rattle.sh_exec_actions.specs.declared.action.Expanded.TheVariants as expanded
 use Rattle.sh_exec_actions.specs.declared.action.Action.{Action}
-use Rattle.sh_exec_actions.specs.declared.action.Action.TheVariants.{Reading, Expanding, ReadSubstitution, WaitSubstitution, Redirecting, Forking, Starting, ForkStage, AssignLoopVariable, Defining, Waiting, Writing, Ending}
-use Rattle.sh_exec_shell.specs.Acting.{answer_turn, collect_turn, defined, end_turn, expand_turn, given_round, next, read_turn, redirect_turn, wait_turn, write_turn}
+use Rattle.sh_exec_actions.specs.declared.action.Action.TheVariants.{Reading, Expanding, ReadSubstitution, WaitSubstitution, Redirecting, Forking, Starting, ForkStage, AssignLoopVariable, Defining, Waiting, Writing, Trapping, Ending}
+use Rattle.sh_exec_shell.specs.Acting.{answer_turn, collect_turn, defined, end_turn, ending, expand_turn, given_round, next, read_turn, redirect_turn, trap_turn, wait_turn, write_turn}
 use Rattle.sh_exec_shell.specs.Forks.{Turned, fork_turn, inheriting, stage_turn, substitute_turn}
 use Rattle.sh_exec_forms.specs.Forms.{Acted, with_run, after, at_action}
 use Rattle.sh_exec_forms.specs.Moves.{move_run}
-use Rattle.sh_exec_forms.specs.Frames.{is_failure_ignored}
+use Rattle.sh_exec_frames.specs.Frames.{is_failure_ignored}
 use Rattle.sh_exec_actions.specs.declared.form.Form.{Form}
 use Rattle.sh_exec_forms.specs.Running.{Run, At, In, InterpreterState}
 use Rattle.sh_kernel.specs.State.{KernelState}
@@ -45,6 +45,7 @@ act_place s shell (AssignLoopVariable series) = plain (given_round s shell (give
 act_place s shell (Defining definition) = plain (defined s shell definition)
 act_place s shell (Waiting children) = plain (with_run s shell (At (wait_turn s shell.pid children)))
 act_place s shell (Writing piece finish) = plain (write_turn s shell piece finish)
+act_place s shell (Trapping status) = plain (trap_turn s shell status)
 act_place s shell (Ending status) = plain (end_turn s shell status)
 
 abbrev pub act_at : KernelState → Shell → Active → Turned
@@ -64,22 +65,18 @@ reduce s shell around (At active) = settled_turn around (inheriting (is_failure_
 reduce s shell around (In form run) =
     let t = reduce s shell (form ∷ around) run in record { left = after around form t.left; child = t.child }
 
--- at the root what leaves the shell, or is done, becomes the end of the process
-abbrev pub at_root : Run → Run
-at_root (At (Leaving (leave.Exit status))) = At (Next (Ending status))
-at_root (At (Leaving (leave.Fault status))) = At (Next (Ending status))
-at_root (At (Leaving (leave.Return status))) = At (Next (Ending status))
-at_root (At (Leaving (leave.Break inside))) = At (Next (Ending 0))
-at_root (At (Leaving (leave.Continue inside))) = At (Next (Ending 0))
-at_root (At (Done ended)) = At (Next (Ending ended.status))
-at_root (At (Acting builtin fields)) = At (Acting builtin fields)
-at_root (At (Calling body fields)) = At (Calling body fields)
-at_root (At (Evaluating text)) = At (Evaluating text)
-at_root (At (Next place)) = At (Next place)
-at_root (In form run) = In form run
+-- at the root what leaves the shell, or is done, becomes its end
+abbrev pub at_root : Shell → Run → Run
+at_root shell (At (Leaving leave)) = At (Next (ending shell (shell_status leave)))
+at_root shell (At (Done ended)) = At (Next (ending shell ended.status))
+at_root shell (At (Acting builtin fields)) = At (Acting builtin fields)
+at_root shell (At (Calling body fields)) = At (Calling body fields)
+at_root shell (At (Evaluating text)) = At (Evaluating text)
+at_root shell (At (Next place)) = At (Next place)
+at_root shell (In form run) = In form run
 
 abbrev pub with_root : Turned → Turned
-with_root t = record { left = with_run t.left.machine t.left.shell (at_root t.left.run); child = t.child }
+with_root t = record { left = with_run t.left.machine t.left.shell (at_root t.left.shell t.left.run); child = t.child }
 
 unfoldable pub shell_turn : KernelState → InterpreterState → Turned
 shell_turn s interpreter = with_root (reduce s interpreter.shell [] interpreter.run)

@@ -1,15 +1,17 @@
 //! The turns of a shell that make a process.
 ghost use Rattle.std.specs.Prelude.{◌≡◌, ◌++◌, ◌∷◌, [], IfOk, true};
 ghost use Rattle.sh_kernel.specs.State.{KernelState, StandsAt};
+ghost use Rattle.sh_builtin.specs.Shells.{forked_shell};
 ghost use Rattle.sh_exec_parts.specs.Messages as messages;
 ghost use Rattle.sh_exec_command.specs.Expanding as expanding;
 ghost use Rattle.sh_exec_actions.specs.Preparing.{ahead};
 ghost use Rattle.sh_exec_machine.specs.Forking.{HasForked};
-ghost use Rattle.sh_exec_shell.specs.Forks.{IsTurned, begun_substitution, child_of, fork_turn, forked_shell, in_process, inherited, inheriting, inside, is_more, program_by, stage_by, stage_from, stage_one, stage_turn, stage_place, substitute_turn, substitution_by, with_child, fork_failure};
+ghost use Rattle.sh_exec_shell.specs.Forks.{IsTurned, begun_substitution, child_of, fork_turn, in_process, inherited, inheriting, inside, is_more, program_by, stage_by, stage_from, stage_one, stage_turn, stage_place, substitute_turn, substitution_by, with_child, fork_failure};
 ghost use Rattle.sh_exec_forms.specs.Bodies.{body_of, stage_run};
 ghost use Rattle.sh_exec_forms.specs.Moves.{move_run};
 ghost use Rattle.sh_exec_forms.specs.Running.{Run};
-ghost use Rattle.sh_exec_forms.specs.Frames.{is_failure_ignored, root_forms, run_in, run_of};
+ghost use Rattle.sh_exec_forms.specs.Stacks.{run_in, run_of};
+ghost use Rattle.sh_exec_frames.specs.Frames.{is_failure_ignored, root_forms};
 
 use crate::interpreter::{Interpreter, interpreter_of};
 use sh_base::NoMemory;
@@ -20,7 +22,8 @@ use sh_exec_actions::{
     Action, Active, ExpandedCommand, Move, Pending, Stages, Substitution, ToExpand, go_ahead,
 };
 use sh_exec_command::fatal_message;
-use sh_exec_forms::{Frames, body_of, go_to, stage};
+use sh_exec_forms::{body_of, go_to, stage};
+use sh_exec_frames::Frames;
 use sh_exec_machine::{Forked, fork_process};
 use sh_exec_parts::Queue;
 use sh_exec_parts::message::cannot_fork;

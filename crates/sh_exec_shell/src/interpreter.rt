@@ -2,17 +2,20 @@
 ghost use Rattle.std.specs.Prelude.{◌≡◌, IfOk, OnOk};
 ghost use Rattle.sh_kernel.specs.State.{KernelState, StandsAt};
 ghost use Rattle.sh_tty.specs.Terminal.{Extends};
+ghost use Rattle.sh_exec_shell.specs.Acting.{ending};
 ghost use Rattle.sh_exec_shell.specs.Forks.{IsTurned};
 ghost use Rattle.sh_exec_shell.specs.Reduction.{at_root, reduce, shell_turn, with_root};
-ghost use Rattle.sh_exec_forms.specs.Frames.{framed, frames_of, path_of, run_of};
+ghost use Rattle.sh_exec_forms.specs.Stacks.{frames_of, path_of, run_of};
+ghost use Rattle.sh_exec_frames.specs.Frames.{framed};
 ghost use Rattle.sh_exec_forms.specs.Running.{Run, active_of};
 
 use crate::turn::reduce;
 use sh_base::NoMemory;
 use sh_base::sequence::Text;
-use sh_builtin::{Leave, Shell};
+use sh_builtin::Shell;
+use sh_builtin_environment::Condition;
 use sh_exec_actions::{Action, Active, CommandStatus, Frame};
-use sh_exec_forms::Frames;
+use sh_exec_frames::Frames;
 use sh_exec_parts::{Copying, Rest};
 use sh_kernel::Kernel;
 use std::alloc::Global;
@@ -32,7 +35,7 @@ impl Model for Interpreter {
     ghost use Rattle.sh_vars.specs.Codes.{map_code};
     ghost use Rattle.sh_exec_forms.specs.Codes.{run_code};
     ghost use Rattle.sh_exec_forms.specs.Running.{InterpreterState};
-    ghost use Rattle.sh_exec_forms.specs.Frames.{run_of};
+    ghost use Rattle.sh_exec_forms.specs.Stacks.{run_of};
     ghost use Rattle.sh_syntax.specs.contracts.tree.Command as command_row;
 
     ghost Value = { InterpreterState };
@@ -42,26 +45,24 @@ impl Model for Interpreter {
     ghost view = { λ t. record { shell = t.shell; run = run_of t.frames t.active } };
 }
 
-/// The status of a shell that is left.
-fn status_of(leave: Leave) -> u8
-    ensures { at_root (Run.At (Active.Leaving leave)) ≡ Run.At (Active.Next (Action.Ending result)) }
+/// What a shell does where it is to end with a status: its trap on EXIT comes first, if it has an action (XCU 2.15 trap).
+fn ending(shell: &Shell, status: u8) -> Action
+    ensures { result ≡ ending shell.now status }
 {
-    match leave {
-        Leave::Exit(status) => status,
-        Leave::Fault(status) => status,
-        Leave::Return(status) => status,
-        Leave::Break(_) => 0,
-        Leave::Continue(_) => 0,
+    match shell.traps.action(Condition::Exit) {
+        Some([_, ..]) => Action::Trapping(status),
+        Some([]) => Action::Ending(status),
+        None => Action::Ending(status),
     }
 }
 
-/// With no form around it what leaves the shell, or is done, becomes the end of the process.
-fn ending(active: Active) -> Active
-    ensures { Run.At result ≡ at_root (Run.At active) }
+/// With no form around it what leaves the shell, or is done, becomes its end.
+fn at_end(shell: &Shell, active: Active) -> Active
+    ensures { Run.At result ≡ at_root shell.now (Run.At active) }
 {
     match active {
-        Active::Leaving(leave) => Active::Next(Action::Ending(status_of(leave))),
-        Active::Done(ended) => Active::Next(Action::Ending(ended.status)),
+        Active::Leaving(leave) => Active::Next(ending(shell, leave.shell_status())),
+        Active::Done(ended) => Active::Next(ending(shell, ended.status)),
         Active::Next(place) => Active::Next(place),
         Active::Acting(builtin, fields) => Active::Acting(builtin, fields),
         Active::Calling(body, fields) => Active::Calling(body, fields),
@@ -69,12 +70,12 @@ fn ending(active: Active) -> Active
     }
 }
 
-/// At the root what leaves the shell becomes the end of the process.
-fn root(frames: &Frames, active: Active) -> Active
-    ensures { run_of frames.now result ≡ at_root (run_of frames.now active) }
+/// At the root what leaves the shell becomes its end.
+fn root(shell: &Shell, frames: &Frames, active: Active) -> Active
+    ensures { run_of frames.now result ≡ at_root shell.now (run_of frames.now active) }
 {
     match frames.as_slice() {
-        [] => ending(active),
+        [] => at_end(shell, active),
         [_, ..] => active,
     }
 }
@@ -164,7 +165,7 @@ impl Interpreter {
     {
         let active = mem::replace(&mut self.active, Active::Done(CommandStatus::unexcused(0)));
         let (next, child) = reduce(alloc, kernel, &mut self.shell, &mut self.frames, active)?;
-        drop(mem::replace(&mut self.active, root(&self.frames, next)));
+        drop(mem::replace(&mut self.active, root(&self.shell, &self.frames, next)));
         Ok(child)
     }
 }

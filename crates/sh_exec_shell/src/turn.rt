@@ -4,13 +4,15 @@ ghost use Rattle.sh_kernel.specs.State.{KernelState, StandsAt};
 ghost use Rattle.sh_tty.specs.Terminal.{Extends};
 ghost use Rattle.sh_exec_command.specs.Expanding as expanding;
 ghost use Rattle.sh_exec_command.specs.Reading.{next_command};
-ghost use Rattle.sh_exec_forms.specs.Forms.{IsActed};
+ghost use Rattle.sh_exec_forms.specs.Forms.{IsActed, behind_status};
 ghost use Rattle.sh_exec_command.specs.Series.{give_turn};
-ghost use Rattle.sh_exec_shell.specs.Acting.{defined, expand_turn, given_round, in_forms, read_turn, round_run};
+ghost use Rattle.sh_builtin_environment.specs.TrapMaps.{action_of};
+ghost use Rattle.sh_exec_shell.specs.Acting.{defined, expand_turn, given_round, in_forms, read_turn, round_run, trap_turn, without_trap};
 ghost use Rattle.sh_exec_shell.specs.Forks.{IsTurned, inheriting, inside};
 ghost use Rattle.sh_exec_shell.specs.Reduction.{act_at, act_place, expanded_by, expansion, plain, reduce};
 ghost use Rattle.sh_exec_forms.specs.Running.{Run};
-ghost use Rattle.sh_exec_forms.specs.Frames.{is_failure_ignored, run_in, run_of};
+ghost use Rattle.sh_exec_forms.specs.Stacks.{run_in, run_of};
+ghost use Rattle.sh_exec_frames.specs.Frames.{is_failure_ignored};
 
 use crate::forks::{fork_turn, stage_turn, substitute_turn};
 use crate::input::collect_turn;
@@ -19,14 +21,17 @@ use crate::output::{end_turn, write_turn};
 use crate::redirecting::redirect_turn;
 use crate::waits::{answer_turn, wait_turn};
 use sh_base::NoMemory;
+use sh_base::sequence::Text;
 use sh_base::shared::Shared;
 use sh_builtin::{Functions, Shell};
+use sh_builtin_environment::Condition;
 use sh_exec_actions::{Action, Active, CommandStatus, Expanded, ForLoop, Form, Pending, ToExpand};
 use sh_exec_command::{
     Found, Round, assign_turn, case_turn, define_turn, fatal_message, find_command, give_turn,
     pattern_turn, redirects_turn, series_turn, words_turn,
 };
-use sh_exec_forms::{Frames, enter, enter_list, go_to, settle};
+use sh_exec_forms::{enter, enter_list, go_to, settle};
+use sh_exec_frames::Frames;
 use sh_exec_parts::message::refused;
 use sh_exec_parts::{Queue, Rest};
 use sh_files::Files;
@@ -212,6 +217,55 @@ fn define(
     Ok(Active::Done(CommandStatus::unexcused(0)))
 }
 
+/// A shell's trap on EXIT is taken, and `$?` is the status with which the shell is to end.
+fn take_trap(shell: &mut Shell, status: u8)
+    ensures { shell.new ≡ behind_status (without_trap shell.old) status }
+{
+    shell.traps.set(Condition::Exit, None);
+    shell.vars.set_status(status);
+}
+
+/// A copy of the action on EXIT, if there is one.
+fn exit_action(alloc: Global, shell: &Shell) -> Result<Option<Text>, NoMemory>
+    ensures { IfOk result (λ action. action ≡ action_of shell.now.traps Condition.Exit) }
+{
+    match shell.traps.action(Condition::Exit) {
+        Some(action) => {
+            let action = Text::copy_of(alloc, action)?;
+            Ok(Some(action))
+        },
+        None => Ok(None),
+    }
+}
+
+/// The turn in which a shell that is to end reads the first command of its action on EXIT (XCU 2.15 trap).
+#[tactic(auto, unfolding(crate::specs::Acting::trap_turn))]
+fn trap(
+    alloc: Global,
+    kernel: &Kernel,
+    shell: &mut Shell,
+    frames: &mut Frames,
+    status: u8,
+) -> Result<Active, NoMemory>
+    ensures { (s : KernelState) → StandsAt kernel.now s → IfOk result (λ active.
+        IsActed kernel.now shell.new (run_of frames.new active)
+        (in_forms frames.old (trap_turn s shell.old status))) }
+{
+    let Some(text) = exit_action(alloc, shell)? else {
+        return Ok(Active::Next(Action::Ending(status)));
+    };
+    match frames.push(Form::Trapped(status)) {
+        Ok(()) => {},
+        Err(lack) => {
+            drop(text);
+            return Err(lack);
+        },
+    }
+    take_trap(shell, status);
+    let active = read(alloc, frames, Rest::new(text), 0, &shell.vars)?;
+    Ok(active)
+}
+
 /// The action at a place.
 fn act_place(
     alloc: Global,
@@ -279,6 +333,10 @@ fn act_place(
         Action::Waiting(children) => Ok((wait_turn(kernel, shell.pid, children), None)),
         Action::Writing(piece, finish) => {
             let active = write_turn(alloc, kernel, shell, piece, finish)?;
+            Ok((active, None))
+        },
+        Action::Trapping(status) => {
+            let active = trap(alloc, kernel, shell, frames, status)?;
             Ok((active, None))
         },
         Action::Ending(status) => Ok((end_turn(kernel, shell, status), None)),

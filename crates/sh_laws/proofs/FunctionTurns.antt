@@ -12,7 +12,7 @@ use Rattle.sh_builtin.specs.declared.shell.Shell.{Shell}
 use Rattle.sh_builtin_environment.specs.Unsetting.{functions_to_unset}
 use Rattle.sh_exec_actions.specs.Statuses.{unexcused}
 use Rattle.sh_exec_actions.specs.declared.action.Action.{Action}
-use Rattle.sh_exec_actions.specs.declared.action.Action.TheVariants.{Reading, Expanding, ReadSubstitution, WaitSubstitution, Redirecting, Forking, Starting, ForkStage, AssignLoopVariable, Defining, Waiting, Writing, Ending}
+use Rattle.sh_exec_actions.specs.declared.action.Action.TheVariants.{Reading, Expanding, ReadSubstitution, WaitSubstitution, Redirecting, Forking, Starting, ForkStage, AssignLoopVariable, Defining, Waiting, Writing, Trapping, Ending}
 use Rattle.sh_exec_actions.specs.declared.action.Active.{Active}
 use Rattle.sh_exec_actions.specs.declared.action.Active.TheVariants.{Acting, Calling, Evaluating, Next, Done, Leaving}
 use Rattle.sh_exec_actions.specs.declared.action.Expanded.{Expanded}
@@ -25,13 +25,15 @@ use Rattle.sh_exec_actions.specs.declared.action.Substitution.{Substitution}
 use Rattle.sh_exec_actions.specs.declared.action.ToExpand.{ToExpand}
 use Rattle.sh_exec_actions.specs.declared.action.Undo.{Undo}
 use Rattle.sh_exec_actions.specs.declared.form.Form.{Form}
-use Rattle.sh_exec_actions.specs.declared.form.Form.TheVariants.{Text, Commands, Joined, Negated, Restoring, If, Condition, Body, ForBody, Call, Evaluation, FailuresIgnored}
+use Rattle.sh_exec_actions.specs.declared.form.Form.TheVariants.{Text, Commands, Joined, Negated, Restoring, If, Condition, Body, ForBody, Call, Evaluation, Trapped, FailuresIgnored}
 use Rattle.sh_exec_actions.specs.declared.status.CommandStatus.{CommandStatus}
 use Rattle.sh_exec_command.specs.Defining.{define_by, define_turn}
 use Rattle.sh_exec_command.specs.Series.{rest_of_series}
 use Rattle.sh_exec_forms.specs.Builtins.{behind, builtin_effect, call, effect_at, evaluation, performed}
 use Rattle.sh_exec_forms.specs.Forms.{Acted, after, after_by, after_leave, after_status, at_action, condition_run, loop_left, onward, undone, with_run}
-use Rattle.sh_exec_forms.specs.Frames.{has_loop, levels_left}
+use Rattle.sh_builtin_environment.specs.TrapMaps.{action_of}
+use Rattle.sh_builtin_environment.specs.declared.condition.Condition.TheVariants.{Exit}
+use Rattle.sh_exec_frames.specs.Frames.{has_loop, last_for, levels_left}
 use Rattle.sh_exec_forms.specs.Running.{Run, At, In}
 use Rattle.sh_exec_machine.specs.Forking.{fork_of}
 use Rattle.sh_exec_machine.specs.Transfers.{take_bytes}
@@ -40,7 +42,7 @@ use Rattle.sh_exec_machine.specs.declared.transfer.ReadOutcome.TheVariants as ta
 use Rattle.sh_exec_parts.specs.Simple.{Opened}
 use Rattle.sh_exec_parts.specs.declared.message.Piece.{Piece}
 use Rattle.sh_exec_parts.specs.declared.redirection.Redirection.{Redirection}
-use Rattle.sh_exec_shell.specs.Acting.{after_collection, collect_by, collect_end, collect_from, collect_turn, end_turn, expand_turn, next, redirect_from, redirect_one, redirect_turn, with_written, write_turn}
+use Rattle.sh_exec_shell.specs.Acting.{after_collection, collect_by, collect_end, collect_from, collect_turn, end_turn, expand_turn, next, redirect_from, redirect_one, redirect_turn, trap_by, trap_turn, with_written, write_turn}
 use Rattle.sh_exec_shell.specs.Forks.{begun_substitution, fork_turn, is_more, program_by, stage_by, stage_from, stage_one, stage_turn, substitute_turn, substitution_by}
 use Rattle.sh_exec_shell.specs.Reduction.{act_at, act_place, expanded_by, reduce}
 use Rattle.sh_kernel.specs.State.{KernelState}
@@ -92,26 +94,27 @@ unset_hold functions (Some names) h = without_all_hold functions names h
 abbrev Keeps : Shell → Type 0
 Keeps shell = FunctionsHold shell.functions
 
-built_in_keeps : (s : KernelState) (shell : Shell) (b : Builtin) (arguments : List (List ℕ)) → Keeps shell → Keeps (built_in s.machine shell b arguments).shell
+built_in_keeps : (s : KernelState) (shell : Shell) (last : ℕ) (b : Builtin) (arguments : List (List ℕ)) → Keeps shell → Keeps (built_in s.machine shell last b arguments).shell
 unfolding built_in
-built_in_keeps s shell builtin.Bracket arguments f = f
-built_in_keeps s shell builtin.Break arguments f = f
-built_in_keeps s shell builtin.Cd arguments f = f
-built_in_keeps s shell builtin.Colon arguments f = f
-built_in_keeps s shell builtin.Continue arguments f = f
-built_in_keeps s shell builtin.Echo arguments f = f
-built_in_keeps s shell builtin.Eval arguments f = f
-built_in_keeps s shell builtin.Exit arguments f = f
-built_in_keeps s shell builtin.Export arguments f = f
-built_in_keeps s shell builtin.False arguments f = f
-built_in_keeps s shell builtin.Pwd arguments f = f
-built_in_keeps s shell builtin.ReadOnly arguments f = f
-built_in_keeps s shell builtin.Return arguments f = f
-built_in_keeps s shell builtin.Set arguments f = f
-built_in_keeps s shell builtin.Shift arguments f = f
-built_in_keeps s shell builtin.Test arguments f = f
-built_in_keeps s shell builtin.True arguments f = f
-built_in_keeps s shell builtin.Unset arguments f = unset_hold shell.functions (functions_to_unset arguments) f
+built_in_keeps s shell last builtin.Bracket arguments f = f
+built_in_keeps s shell last builtin.Break arguments f = f
+built_in_keeps s shell last builtin.Cd arguments f = f
+built_in_keeps s shell last builtin.Colon arguments f = f
+built_in_keeps s shell last builtin.Continue arguments f = f
+built_in_keeps s shell last builtin.Echo arguments f = f
+built_in_keeps s shell last builtin.Eval arguments f = f
+built_in_keeps s shell last builtin.Exit arguments f = f
+built_in_keeps s shell last builtin.Export arguments f = f
+built_in_keeps s shell last builtin.False arguments f = f
+built_in_keeps s shell last builtin.Pwd arguments f = f
+built_in_keeps s shell last builtin.ReadOnly arguments f = f
+built_in_keeps s shell last builtin.Return arguments f = f
+built_in_keeps s shell last builtin.Set arguments f = f
+built_in_keeps s shell last builtin.Shift arguments f = f
+built_in_keeps s shell last builtin.Test arguments f = f
+built_in_keeps s shell last builtin.Trap arguments f = f
+built_in_keeps s shell last builtin.True arguments f = f
+built_in_keeps s shell last builtin.Unset arguments f = unset_hold shell.functions (functions_to_unset arguments) f
 
 evaluation_keeps : (levels : ℕ) (shell : Shell) (text : List ℕ) → Keeps shell → Keeps (evaluation levels shell text).shell
 evaluation_keeps zero shell text f = f
@@ -129,16 +132,17 @@ performed_keeps levels shell (Next place) f = f
 performed_keeps levels shell (Done status) f = f
 performed_keeps levels shell (Leaving l) f = f
 
-effect_keeps : (levels : ℕ) (s : KernelState) (shell : Shell) (active : Active) → Keeps shell → Keeps (effect_at levels s shell active).shell
+effect_keeps : (around : List Form) (s : KernelState) (shell : Shell) (active : Active) → Keeps shell → Keeps (effect_at around s shell active).shell
 unfolding builtin_effect
-effect_keeps levels s shell (Acting b fields) f =
-    let d = built_in s.machine shell b (drop 1 fields) in
-    performed_keeps levels d.shell (behind b d.outcome) (built_in_keeps s shell b (drop 1 fields) f)
-effect_keeps levels s shell (Calling body fields) f = call_keeps levels shell body (drop 1 fields) f
-effect_keeps levels s shell (Evaluating text) f = evaluation_keeps levels shell text f
-effect_keeps levels s shell (Next place) f = f
-effect_keeps levels s shell (Done status) f = f
-effect_keeps levels s shell (Leaving l) f = f
+effect_keeps around s shell (Acting b fields) f =
+    let last = last_for around b shell.vars.special.status in
+    let d = built_in s.machine shell last b (drop 1 fields) in
+    performed_keeps (levels_left around) d.shell (behind b d.outcome) (built_in_keeps s shell last b (drop 1 fields) f)
+effect_keeps around s shell (Calling body fields) f = call_keeps (levels_left around) shell body (drop 1 fields) f
+effect_keeps around s shell (Evaluating text) f = evaluation_keeps (levels_left around) shell text f
+effect_keeps around s shell (Next place) f = f
+effect_keeps around s shell (Done status) f = f
+effect_keeps around s shell (Leaving l) f = f
 
 -- ---- forms
 undone_keeps : (undo : Undo) (s : KernelState) (shell : Shell) (run : Run) → Keeps shell → Keeps (undone undo s shell run).shell
@@ -157,6 +161,7 @@ ended_keeps around (Body loop) s shell status f = f
 ended_keeps around (ForBody series) s shell status f = f
 ended_keeps around (Call positional) s shell status f = f
 ended_keeps around Evaluation s shell status f = f
+ended_keeps around (Trapped before) s shell status f = f
 ended_keeps around FailuresIgnored s shell status f = f
 
 loop_left_keeps : (looped : Bool) (l : Leave) (s : KernelState) (shell : Shell) (next : Run) → Keeps shell → Keeps (loop_left s shell next (onward looped l)).shell
@@ -182,6 +187,7 @@ left_keeps around (Body loop) s shell l f = loop_left_keeps (has_loop around) l 
 left_keeps around (ForBody series) s shell l f = loop_left_keeps (has_loop around) l s shell (At (rest_of_series series (unexcused 0))) f
 left_keeps around (Call positional) s shell l f = f
 left_keeps around Evaluation s shell l f = f
+left_keeps around (Trapped before) s shell l f = f
 left_keeps around FailuresIgnored s shell l f = f
 
 after_by_keeps : (around : List Form) (form : Form) (s : KernelState) (shell : Shell) (run : Run) → Keeps shell → Keeps (after_by around form s shell run).shell
@@ -198,7 +204,7 @@ unfolding after
 after_keeps around form a f = after_by_keeps around form a.machine a.shell a.run f
 
 settled_keeps : (around : List Form) (s : KernelState) (shell : Shell) (run : Run) → Keeps shell → Keeps (at_action around s shell run).shell
-settled_keeps around s shell (At active) f = effect_keeps (levels_left around) s shell active f
+settled_keeps around s shell (At active) f = effect_keeps around s shell active f
 settled_keeps around s shell (In form run) f = after_keeps around form (at_action (form ∷ around) s shell run) (settled_keeps (form ∷ around) s shell run f)
 
 -- ---- what a substitution's process writes
@@ -243,6 +249,15 @@ write_keeps s shell piece finish f = f
 end_keeps : (s : KernelState) (shell : Shell) (status : ℕ) → Keeps shell → ActedKeeps (end_turn s shell status)
 unfolding end_turn
 end_keeps s shell status f = f
+
+-- ---- the trap on EXIT
+trap_by_keeps : (s : KernelState) (shell : Shell) (status : ℕ) (action : Option (List ℕ)) → Keeps shell → ActedKeeps (trap_by s shell status action)
+trap_by_keeps s shell status None f = f
+trap_by_keeps s shell status (Some text) f = f
+
+trap_keeps : (s : KernelState) (shell : Shell) (status : ℕ) → Keeps shell → ActedKeeps (trap_turn s shell status)
+unfolding trap_turn
+trap_keeps s shell status f = trap_by_keeps s shell status (action_of shell.traps Exit) f
 
 -- ---- processes that are made
 program_keeps : (s : KernelState) (shell : Shell) (p : ExpandedCommand) (o : Option ℕ) → Keeps shell → ActedKeeps (program_by s shell p o).left
@@ -299,6 +314,7 @@ place_keeps s shell (AssignLoopVariable series) h f = f
 place_keeps s shell (Defining definition) h f = define_hold shell.functions definition f h
 place_keeps s shell (Waiting children) h f = f
 place_keeps s shell (Writing piece finish) h f = write_keeps s shell piece finish f
+place_keeps s shell (Trapping status) h f = trap_keeps s shell status f
 place_keeps s shell (Ending status) h f = end_keeps s shell status f
 
 active_keeps : (s : KernelState) (shell : Shell) (active : Active) → ActiveStands active → Keeps shell → ActedKeeps (act_at s shell active).left

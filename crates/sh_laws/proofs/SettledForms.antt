@@ -1,6 +1,6 @@
 -- Forms are settled to an action, where all that they hold begins with one.
 use Rattle.std.proofs.Common.{ℕ, zero, suc, List, [], ◌∷◌, Option, Bool, true, false, refl, sym, subst}
-use Rattle.std.specs.Prelude.{drop, not, ◌&&◌}
+use Rattle.std.specs.Prelude.{drop, not, ◌&&◌, ◌||◌}
 use Rattle.sh_builtin.specs.Running.{built_in}
 use Rattle.sh_builtin.specs.declared.shell.Shell.{Shell}
 use Rattle.sh_builtin.specs.declared.outcome.Completion.{Completion}
@@ -21,11 +21,11 @@ use Rattle.sh_exec_forms.proofs.Entered.{entered_with}
 use Rattle.sh_exec_forms.specs.Builtins.{at_completion, behind, builtin_effect, call, effect_at, evaluation, output_of, performed, reported, said}
 use Rattle.sh_exec_forms.specs.Entering.{items_run, list_run, pipeline_run, with_others}
 use Rattle.sh_exec_forms.specs.Forms.{Acted, after, after_by, after_call, after_leave, after_status, at_action, behind_condition, branch, condition_run, connected_run, goes_on, loop_left, onward, otherwise, returned, runs, undone, ended_within, exits_on_error, is_failure, left_within, within, within_run}
-use Rattle.sh_exec_forms.specs.Frames.{has_call, has_loop, is_failure_ignored, levels_left}
+use Rattle.sh_exec_frames.specs.Frames.{ends_action, has_call, has_loop, is_failure_ignored, last_for, levels_left}
 use Rattle.sh_exec_forms.specs.Running.{Run, At, In}
 use Rattle.sh_exec_actions.specs.declared.form.Branches.{Branches}
 use Rattle.sh_exec_actions.specs.declared.form.Form.{Form}
-use Rattle.sh_exec_actions.specs.declared.form.Form.TheVariants.{Text, Commands, Joined, Negated, Restoring, If, Condition, Body, ForBody, Call, Evaluation, FailuresIgnored}
+use Rattle.sh_exec_actions.specs.declared.form.Form.TheVariants.{Text, Commands, Joined, Negated, Restoring, If, Condition, Body, ForBody, Call, Evaluation, Trapped, FailuresIgnored}
 use Rattle.sh_exec_actions.specs.declared.form.Loop.{Loop}
 use Rattle.sh_kernel.specs.State.{KernelState}
 use Rattle.sh_syntax.specs.declared.tree.Command.{Command}
@@ -232,6 +232,7 @@ status_settled around (Body loop) s shell status h = condition_settled loop stat
 status_settled around (ForBody series) s shell status h = given_by_settled series series.values status h
 status_settled around (Call positional) s shell status h = returned_settled around shell status.status
 status_settled around Evaluation s shell status h = tt
+status_settled around (Trapped before) s shell status h = tt
 status_settled around FailuresIgnored s shell status h = tt
 
 leave_settled : (around : List Form) (form : Form) (s : KernelState) (shell : Shell) (l : Leave) → FormHolds form → ActedSettled (after_leave around form s shell l)
@@ -246,6 +247,7 @@ leave_settled around (Body loop) s shell l h = left_settled (has_loop around) l 
 leave_settled around (ForBody series) s shell l h = left_settled (has_loop around) l s shell (At (rest_of_series series (unexcused 0))) (given_by_settled series series.values (unexcused 0) h)
 leave_settled around (Call positional) s shell l h = call_left_settled around l shell
 leave_settled around Evaluation s shell l h = tt
+leave_settled around (Trapped before) s shell l h = tt
 leave_settled around FailuresIgnored s shell l h = tt
 
 after_by_settled : (around : List Form) (form : Form) (s : KernelState) (shell : Shell) (run : Run) → FormHolds form → Settled run → ActedSettled (after_by around form s shell run)
@@ -262,16 +264,16 @@ unfolding after
 after_settled around form a h p = after_by_settled around form a.machine a.shell a.run h p
 
 -- ---- a built-in acts
-effect_settled : (levels : ℕ) (s : KernelState) (shell : Shell) (active : Active) → ActiveHolds active → Settled (effect_at levels s shell active).run
+effect_settled : (around : List Form) (s : KernelState) (shell : Shell) (active : Active) → ActiveHolds active → Settled (effect_at around s shell active).run
 unfolding builtin_effect
-effect_settled levels s shell (Acting builtin fields) h =
-    let outcome = (built_in s.machine shell builtin (drop 1 fields)).outcome in
-    performed_settled levels (built_in s.machine shell builtin (drop 1 fields)).shell (behind builtin outcome) (behind_follows builtin outcome)
-effect_settled levels s shell (Calling body fields) h = call_settled levels shell body (drop 1 fields) h
-effect_settled levels s shell (Evaluating text) h = evaluation_settled levels shell text
-effect_settled levels s shell (Next place) h = h
-effect_settled levels s shell (Done status) h = tt
-effect_settled levels s shell (Leaving l) h = tt
+effect_settled around s shell (Acting builtin fields) h =
+    let acted = built_in s.machine shell (last_for around builtin shell.vars.special.status) builtin (drop 1 fields) in
+    performed_settled (levels_left around) acted.shell (behind builtin acted.outcome) (behind_follows builtin acted.outcome)
+effect_settled around s shell (Calling body fields) h = call_settled (levels_left around) shell body (drop 1 fields) h
+effect_settled around s shell (Evaluating text) h = evaluation_settled (levels_left around) shell text
+effect_settled around s shell (Next place) h = h
+effect_settled around s shell (Done status) h = tt
+effect_settled around s shell (Leaving l) h = tt
 
 left_within_settled : (called looped : Bool) (l : Leave) → ActiveSettled (left_within called looped l)
 left_within_settled called looped (leave.Exit status) = tt
@@ -288,7 +290,7 @@ within_settled errexit around (Acting builtin fields) p = p
 within_settled errexit around (Calling body fields) p = p
 within_settled errexit around (Evaluating text) p = p
 within_settled errexit around (Next place) p = p
-within_settled errexit around (Done ended) p = ended_within_settled errexit (is_failure_ignored around) ended
+within_settled errexit around (Done ended) p = ended_within_settled errexit (is_failure_ignored around || ends_action around) ended
 within_settled errexit around (Leaving l) p = left_within_settled (has_call around) (has_loop around) l
 
 within_run_settled : (errexit : Bool) (around : List Form) (run : Run) → Settled run → Settled (within_run errexit around run)
@@ -297,5 +299,5 @@ within_run_settled errexit around (In form run) p = p
 
 pub at_action_settled : (around : List Form) (s : KernelState) (shell : Shell) (run : Run) → Holds run → ActedSettled (at_action around s shell run)
 at_action_settled around s shell (At active) h =
-    let levels = levels_left around in within_run_settled _ around (effect_at levels s shell active).run (effect_settled levels s shell active h)
+    within_run_settled _ around (effect_at around s shell active).run (effect_settled around s shell active h)
 at_action_settled around s shell (In form run) h = after_settled around form (at_action _ s shell run) h.0 (at_action_settled _ s shell run h.1)

@@ -1,8 +1,10 @@
 -- A turn of a shell that stands before an action leaves it before one, and so does the shell that it makes.
 use Rattle.std.proofs.Common.{◌≡◌, ℕ, List, [], ◌∷◌, ◌++◌, length, Option, Some, None, Bool, true, false, sym, subst}
 use Rattle.std.specs.Prelude.{Result, Ok, Err, nat_eq}
-use Rattle.sh_builtin.specs.declared.outcome.Leave.TheVariants as leave
 use Rattle.sh_builtin.specs.Functions.{Named}
+use Rattle.sh_builtin.specs.Outcomes.{shell_status}
+use Rattle.sh_builtin_environment.specs.TrapMaps.{action_of}
+use Rattle.sh_builtin_environment.specs.declared.condition.Condition.TheVariants.{Exit}
 use Rattle.sh_builtin.specs.declared.shell.Shell.{Shell}
 use Rattle.sh_exec_actions.specs.Preparing.{ahead, ahead_by, final_move, performed_by}
 use Rattle.sh_exec_command.specs.Reading.{next_command}
@@ -21,7 +23,7 @@ use Rattle.sh_exec_actions.specs.declared.action.Move.{Move}
 use Rattle.sh_exec_actions.specs.declared.action.Move.TheVariants as move
 use Rattle.sh_exec_actions.specs.declared.action.Pending.{Pending}
 use Rattle.sh_exec_actions.specs.declared.action.Action.{Action}
-use Rattle.sh_exec_actions.specs.declared.action.Action.TheVariants.{Reading, Expanding, ReadSubstitution, WaitSubstitution, Redirecting, Forking, Starting, ForkStage, AssignLoopVariable, Defining, Waiting, Writing, Ending}
+use Rattle.sh_exec_actions.specs.declared.action.Action.TheVariants.{Reading, Expanding, ReadSubstitution, WaitSubstitution, Redirecting, Forking, Starting, ForkStage, AssignLoopVariable, Defining, Waiting, Writing, Trapping, Ending}
 use Rattle.sh_exec_actions.specs.declared.action.ExpandedCommand.{ExpandedCommand}
 use Rattle.sh_exec_actions.specs.declared.action.Role.TheVariants.{Program}
 use Rattle.sh_exec_actions.specs.declared.action.Stages.{Stages}
@@ -33,8 +35,8 @@ use Rattle.sh_exec_command.specs.declared.series.Round.TheVariants as round
 use Rattle.sh_exec_forms.specs.Entering.{form_entry, form_of_command, form_run, items_run, list_run}
 use Rattle.sh_exec_forms.specs.Moves.{move_run}
 use Rattle.sh_exec_forms.proofs.Entered.{list_is}
-use Rattle.sh_exec_forms.specs.Forms.{Acted, with_run}
-use Rattle.sh_exec_forms.specs.Frames.{is_failure_ignored}
+use Rattle.sh_exec_forms.specs.Forms.{Acted, behind_status, with_run}
+use Rattle.sh_exec_frames.specs.Frames.{is_failure_ignored}
 use Rattle.sh_exec_actions.specs.declared.form.Form.{Form}
 use Rattle.sh_exec_forms.specs.Running.{Run, At, In, InterpreterState}
 use Rattle.sh_exec_machine.specs.Forking.{fork_of}
@@ -48,7 +50,7 @@ use Rattle.sh_exec_machine.specs.declared.undone.Undone.{Undone}
 use Rattle.sh_exec_parts.specs.declared.message.Piece.{Piece}
 use Rattle.sh_exec_parts.specs.declared.redirection.Redirection.{Redirection}
 use Rattle.sh_exec_parts.specs.declared.simple.Assignment.{Assignment}
-use Rattle.sh_exec_shell.specs.Acting.{after_collection, after_writing, answer_by, answer_turn, collect_by, collect_end, collect_from, collect_turn, end_turn, expand_turn, keeps, next, read_turn, redirect_by, redirect_from, redirect_one, redirect_turn, round_run, unwritten, wait_by, wait_turn, with_substitution, with_undo, with_written, write_turn, written_by}
+use Rattle.sh_exec_shell.specs.Acting.{after_collection, after_writing, answer_by, answer_turn, collect_by, collect_end, collect_from, collect_turn, end_turn, ending_by, expand_turn, keeps, next, read_turn, redirect_by, redirect_from, redirect_one, redirect_turn, round_run, trap_by, trap_turn, unwritten, wait_by, wait_turn, with_substitution, with_undo, with_written, without_trap, write_turn, written_by}
 use Rattle.sh_exec_shell.specs.Forks.{begun_substitution, Turned, fork_failure, fork_turn, inherited, is_more, program_by, stage_by, stage_from, stage_one, stage_place, stage_turn, substitute_turn, substitution_by}
 use Rattle.sh_exec_shell.specs.Reduction.{act_at, act_place, at_root, expanded_by, reduce, shell_turn}
 use Rattle.sh_exec_shell.specs.Waits.{wait_status}
@@ -214,6 +216,16 @@ end_holds : (s : KernelState) (shell : Shell) (status : ℕ) → ActedHolds (end
 unfolding end_turn
 end_holds s shell status = tt
 
+-- ---- the trap on EXIT: what its action's first command holds begins with an action
+trap_by_holds : (s : KernelState) (shell : Shell) (status : ℕ) (action : Option (List ℕ)) → ActedHolds (trap_by s shell status action)
+trap_by_holds s shell status None = tt
+trap_by_holds s shell status (Some text) =
+    let begun = behind_status (without_trap shell) status in (tt, read_holds begun.vars 0 (next_command text) (next_holds text))
+
+trap_holds : (s : KernelState) (shell : Shell) (status : ℕ) → ActedHolds (trap_turn s shell status)
+unfolding trap_turn
+trap_holds s shell status = trap_by_holds s shell status (action_of shell.traps Exit)
+
 -- ---- processes that are made, each with the shell's functions
 program_holds : (s : KernelState) (shell : Shell) (p : ExpandedCommand) (o : Option ℕ) → FunctionsHold shell.functions → PlaceHolds (Forking p) → TurnedHolds (program_by s shell p o)
 unfolding ahead
@@ -286,6 +298,7 @@ place_holds s shell (AssignLoopVariable series) f h = (round_holds (give_turn sh
 place_holds s shell (Defining definition) f h = (tt, tt)
 place_holds s shell (Waiting children) f h = (wait_holds s shell.pid children, tt)
 place_holds s shell (Writing piece finish) f h = (write_holds s shell piece finish, tt)
+place_holds s shell (Trapping status) f h = (trap_holds s shell status, tt)
 place_holds s shell (Ending status) f h = (end_holds s shell status, tt)
 
 active_holds : (s : KernelState) (shell : Shell) (active : Active) → FunctionsHold shell.functions → ActiveStands active → TurnedHolds (act_at s shell active)
@@ -311,21 +324,23 @@ reduce_settled s shell around (In form run) f h =
     let settled = reduce_settled s shell _ run f h.1 in
     (after_settled around form (reduce s shell _ run).left h.0 settled.0, settled.1)
 
-root_stands : (run : Run) → Settled run → RunStands (at_root run)
-root_stands (At (Leaving (leave.Exit status))) p = tt
-root_stands (At (Leaving (leave.Fault status))) p = tt
-root_stands (At (Leaving (leave.Return status))) p = tt
-root_stands (At (Leaving (leave.Break inside))) p = tt
-root_stands (At (Leaving (leave.Continue inside))) p = tt
-root_stands (At (Done status)) p = tt
-root_stands (At (Acting builtin fields)) p = p
-root_stands (At (Calling body fields)) p = p
-root_stands (At (Evaluating text)) p = p
-root_stands (At (Next place)) p = p
-root_stands (In form run) p = p
+ending_stands : (status : ℕ) (action : Option (List ℕ)) → PlaceHolds (ending_by action status)
+ending_stands status None = tt
+ending_stands status (Some []) = tt
+ending_stands status (Some (byte ∷ bytes)) = tt
+
+root_stands : (shell : Shell) (run : Run) → Settled run → RunStands (at_root shell run)
+root_stands shell (At (Leaving l)) p = ending_stands (shell_status l) (action_of shell.traps Exit)
+root_stands shell (At (Done ended)) p = ending_stands ended.status (action_of shell.traps Exit)
+root_stands shell (At (Acting builtin fields)) p = p
+root_stands shell (At (Calling body fields)) p = p
+root_stands shell (At (Evaluating text)) p = p
+root_stands shell (At (Next place)) p = p
+root_stands shell (In form run) p = p
 
 pub shell_stands : (s : KernelState) (interpreter : InterpreterState) → InterpreterStands interpreter → let t = shell_turn s interpreter in ActedStands t.left × ChildStands t.child
 unfolding shell_turn
 shell_stands s interpreter h =
     let settled = reduce_settled s interpreter.shell [] interpreter.run h.1 h.0 in
-    ((root_stands (reduce s interpreter.shell [] interpreter.run).left.run settled.0, functions_hold s interpreter.shell [] interpreter.run h.0 h.1), settled.1)
+    let left = (reduce s interpreter.shell [] interpreter.run).left in
+    ((root_stands left.shell left.run settled.0, functions_hold s interpreter.shell [] interpreter.run h.0 h.1), settled.1)

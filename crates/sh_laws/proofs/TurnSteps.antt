@@ -19,7 +19,7 @@ use Rattle.sh_exec_actions.specs.declared.action.Expanded.TheVariants as expande
 use Rattle.sh_exec_actions.specs.declared.action.Finish.{Finish}
 use Rattle.sh_exec_actions.specs.declared.action.Pending.{Pending}
 use Rattle.sh_exec_actions.specs.declared.action.Action.{Action}
-use Rattle.sh_exec_actions.specs.declared.action.Action.TheVariants.{Reading, Expanding, ReadSubstitution, WaitSubstitution, Redirecting, Forking, Starting, ForkStage, AssignLoopVariable, Defining, Waiting, Writing, Ending}
+use Rattle.sh_exec_actions.specs.declared.action.Action.TheVariants.{Reading, Expanding, ReadSubstitution, WaitSubstitution, Redirecting, Forking, Starting, ForkStage, AssignLoopVariable, Defining, Waiting, Writing, Trapping, Ending}
 use Rattle.sh_exec_actions.specs.declared.action.ExpandedCommand.{ExpandedCommand}
 use Rattle.sh_exec_actions.specs.declared.action.Stages.{Stages}
 use Rattle.sh_exec_actions.specs.declared.action.Substitution.{Substitution}
@@ -29,15 +29,17 @@ use Rattle.sh_exec_machine.specs.Forking.{fork_of}
 use Rattle.sh_exec_machine.specs.Transfers.{take_bytes}
 use Rattle.sh_exec_machine.specs.declared.transfer.ReadOutcome.{ReadOutcome}
 use Rattle.sh_exec_machine.specs.declared.transfer.ReadOutcome.TheVariants as taken
-use Rattle.sh_exec_shell.specs.Acting.{collect_by, collect_end, collect_from, collect_turn, after_collection, end_turn, expand_turn, keeps, next, redirect_from, redirect_one, redirect_turn, with_written, write_turn}
+use Rattle.sh_exec_shell.specs.Acting.{collect_by, collect_end, collect_from, collect_turn, after_collection, end_turn, expand_turn, keeps, next, redirect_from, redirect_one, redirect_turn, trap_by, trap_turn, with_written, write_turn}
 use Rattle.sh_exec_shell.specs.Forks.{Turned, begun_substitution, fork_turn, inherited, is_more, program_by, stage_by, stage_from, stage_one, stage_turn, substitute_turn, substitution_by}
 use Rattle.sh_exec_forms.specs.Builtins.{behind, builtin_effect, call, effect_at, evaluation, performed}
 use Rattle.sh_exec_forms.specs.Forms.{Acted, with_run, after, after_by, after_status, after_leave, loop_left, onward, condition_run, at_action, undone}
-use Rattle.sh_exec_forms.specs.Frames.{has_loop, is_failure_ignored, levels_left}
+use Rattle.sh_builtin_environment.specs.TrapMaps.{action_of}
+use Rattle.sh_builtin_environment.specs.declared.condition.Condition.TheVariants.{Exit}
+use Rattle.sh_exec_frames.specs.Frames.{has_loop, is_failure_ignored, last_for, levels_left}
 use Rattle.sh_exec_shell.specs.Reduction.{act_at, act_place, expanded_by, reduce, shell_turn}
 use Rattle.sh_exec_forms.specs.Running.{InterpreterState, Run, At, In}
 use Rattle.sh_exec_actions.specs.declared.form.Form.{Form}
-use Rattle.sh_exec_actions.specs.declared.form.Form.TheVariants.{Text, Commands, Joined, Negated, Restoring, If, Condition, Body, ForBody, Call, Evaluation, FailuresIgnored}
+use Rattle.sh_exec_actions.specs.declared.form.Form.TheVariants.{Text, Commands, Joined, Negated, Restoring, If, Condition, Body, ForBody, Call, Evaluation, Trapped, FailuresIgnored}
 use Rattle.sh_kernel_descriptors.specs.Machine.{MachineState}
 use Rattle.sh_kernel_descriptors.specs.declared.descriptor.DescriptorRef.TheVariants.{Aside}
 use Rattle.sh_kernel.specs.Requests.{Close, End}
@@ -48,26 +50,27 @@ use Rattle.sh_laws.specs.Requests.{made_number}
 use Rattle.sh_laws.proofs.TurnRequests.{IsForked, IsKept, give_keeps, redirect_keeps, take_keeps, undo_keeps}
 
 -- ---- a built-in acts in its shell's process
-built_in_number : (machine : MachineState) (shell : Shell) (b : Builtin) (arguments : List (List ℕ)) → (built_in machine shell b arguments).shell.pid ≡ shell.pid
+built_in_number : (machine : MachineState) (shell : Shell) (last : ℕ) (b : Builtin) (arguments : List (List ℕ)) → (built_in machine shell last b arguments).shell.pid ≡ shell.pid
 unfolding built_in
-built_in_number machine shell builtin.Bracket arguments = refl
-built_in_number machine shell builtin.Break arguments = refl
-built_in_number machine shell builtin.Cd arguments = refl
-built_in_number machine shell builtin.Colon arguments = refl
-built_in_number machine shell builtin.Continue arguments = refl
-built_in_number machine shell builtin.Echo arguments = refl
-built_in_number machine shell builtin.Eval arguments = refl
-built_in_number machine shell builtin.Exit arguments = refl
-built_in_number machine shell builtin.Export arguments = refl
-built_in_number machine shell builtin.False arguments = refl
-built_in_number machine shell builtin.Pwd arguments = refl
-built_in_number machine shell builtin.ReadOnly arguments = refl
-built_in_number machine shell builtin.Return arguments = refl
-built_in_number machine shell builtin.Set arguments = refl
-built_in_number machine shell builtin.Shift arguments = refl
-built_in_number machine shell builtin.Test arguments = refl
-built_in_number machine shell builtin.True arguments = refl
-built_in_number machine shell builtin.Unset arguments = refl
+built_in_number machine shell last builtin.Bracket arguments = refl
+built_in_number machine shell last builtin.Break arguments = refl
+built_in_number machine shell last builtin.Cd arguments = refl
+built_in_number machine shell last builtin.Colon arguments = refl
+built_in_number machine shell last builtin.Continue arguments = refl
+built_in_number machine shell last builtin.Echo arguments = refl
+built_in_number machine shell last builtin.Eval arguments = refl
+built_in_number machine shell last builtin.Exit arguments = refl
+built_in_number machine shell last builtin.Export arguments = refl
+built_in_number machine shell last builtin.False arguments = refl
+built_in_number machine shell last builtin.Pwd arguments = refl
+built_in_number machine shell last builtin.ReadOnly arguments = refl
+built_in_number machine shell last builtin.Return arguments = refl
+built_in_number machine shell last builtin.Set arguments = refl
+built_in_number machine shell last builtin.Shift arguments = refl
+built_in_number machine shell last builtin.Test arguments = refl
+built_in_number machine shell last builtin.Trap arguments = refl
+built_in_number machine shell last builtin.True arguments = refl
+built_in_number machine shell last builtin.Unset arguments = refl
 
 evaluation_number : (levels : ℕ) (shell : Shell) (text : List ℕ) → (evaluation levels shell text).shell.pid ≡ shell.pid
 evaluation_number zero shell text = refl
@@ -85,16 +88,17 @@ performed_number levels shell (Next place) = refl
 performed_number levels shell (Done status) = refl
 performed_number levels shell (Leaving leave) = refl
 
-effect_number : (levels : ℕ) (s : KernelState) (shell : Shell) (active : Active) → (effect_at levels s shell active).shell.pid ≡ shell.pid
+effect_number : (around : List Form) (s : KernelState) (shell : Shell) (active : Active) → (effect_at around s shell active).shell.pid ≡ shell.pid
 unfolding builtin_effect
-effect_number levels s shell (Acting b fields) =
-    let d = built_in s.machine shell b (drop 1 fields) in
-    performed_number levels d.shell (behind b d.outcome) ∙ built_in_number s.machine shell b (drop 1 fields)
-effect_number levels s shell (Calling body fields) = call_number levels shell body (drop 1 fields)
-effect_number levels s shell (Evaluating text) = evaluation_number levels shell text
-effect_number levels s shell (Next place) = refl
-effect_number levels s shell (Done status) = refl
-effect_number levels s shell (Leaving leave) = refl
+effect_number around s shell (Acting b fields) =
+    let last = last_for around b shell.vars.special.status in
+    let d = built_in s.machine shell last b (drop 1 fields) in
+    performed_number (levels_left around) d.shell (behind b d.outcome) ∙ built_in_number s.machine shell last b (drop 1 fields)
+effect_number around s shell (Calling body fields) = call_number (levels_left around) shell body (drop 1 fields)
+effect_number around s shell (Evaluating text) = evaluation_number (levels_left around) shell text
+effect_number around s shell (Next place) = refl
+effect_number around s shell (Done status) = refl
+effect_number around s shell (Leaving leave) = refl
 
 -- a process has the same number where failures are ignored
 inherited_number : (ignored : Bool) (child : Option InterpreterState) → made_number child ≡ made_number (inherited ignored child)
@@ -126,6 +130,7 @@ module _ (directory : List ℕ) (pid : ℕ) (P : KernelState → Type 0) (kept :
   ended_keeps around (ForBody series) s shell status e p = (e, p)
   ended_keeps around (Call positional) s shell status e p = (e, p)
   ended_keeps around Evaluation s shell status e p = (e, p)
+  ended_keeps around (Trapped before) s shell status e p = (e, p)
   ended_keeps around FailuresIgnored s shell status e p = (e, p)
 
   loop_left_keeps : (looped : Bool) (leave : Leave) (s : KernelState) (shell : Shell) (next : Run) → shell.pid ≡ pid → P s → Keeps (loop_left s shell next (onward looped leave))
@@ -151,6 +156,7 @@ module _ (directory : List ℕ) (pid : ℕ) (P : KernelState → Type 0) (kept :
   left_keeps around (ForBody series) s shell leave e p = loop_left_keeps (has_loop around) leave s shell (At (rest_of_series series (unexcused 0))) e p
   left_keeps around (Call positional) s shell leave e p = (e, p)
   left_keeps around Evaluation s shell leave e p = (e, p)
+  left_keeps around (Trapped before) s shell leave e p = (e, p)
   left_keeps around FailuresIgnored s shell leave e p = (e, p)
 
   after_by_keeps : (around : List Form) (form : Form) (s : KernelState) (shell : Shell) (run : Run) → shell.pid ≡ pid → P s → Keeps (after_by around form s shell run)
@@ -167,7 +173,7 @@ module _ (directory : List ℕ) (pid : ℕ) (P : KernelState → Type 0) (kept :
   after_keeps around form a k = after_by_keeps around form a.machine a.shell a.run k.0 k.1
 
   settled_keeps : (around : List Form) (s : KernelState) (shell : Shell) (run : Run) → shell.pid ≡ pid → P s → Keeps (at_action around s shell run)
-  settled_keeps around s shell (At active) e p = (effect_number (levels_left around) s shell active ∙ e, p)
+  settled_keeps around s shell (At active) e p = (effect_number around s shell active ∙ e, p)
   settled_keeps around s shell (In form run) e p =
       after_keeps around form (at_action (form ∷ around) s shell run) (settled_keeps (form ∷ around) s shell run e p)
 
@@ -215,6 +221,15 @@ module _ (directory : List ℕ) (pid : ℕ) (P : KernelState → Type 0) (kept :
   end_keeps : (s : KernelState) (shell : Shell) (status : ℕ) → shell.pid ≡ pid → P s → Keeps (end_turn s shell status)
   unfolding end_turn
   end_keeps s shell status e p = (e, own shell e s (End status) tt p)
+
+  -- ---- the trap on EXIT
+  trap_by_keeps : (s : KernelState) (shell : Shell) (status : ℕ) (action : Option (List ℕ)) → shell.pid ≡ pid → P s → Keeps (trap_by s shell status action)
+  trap_by_keeps s shell status None e p = (e, p)
+  trap_by_keeps s shell status (Some text) e p = (e, p)
+
+  trap_keeps : (s : KernelState) (shell : Shell) (status : ℕ) → shell.pid ≡ pid → P s → Keeps (trap_turn s shell status)
+  unfolding trap_turn
+  trap_keeps s shell status e p = trap_by_keeps s shell status (action_of shell.traps Exit) e p
 
 -- ---- processes that are made
 module _ (directory : List ℕ) (pid : ℕ) (P : Option ℕ → KernelState → Type 0) (kept : (made : Option ℕ) → IsKept directory pid (P made)) (forks : IsForked pid P) where
@@ -277,6 +292,7 @@ module _ (directory : List ℕ) (pid : ℕ) (P : Option ℕ → KernelState → 
   place_keeps s shell (Defining definition) e d p = (e, p)
   place_keeps s shell (Waiting children) e d p = (e, p)
   place_keeps s shell (Writing piece finish) e d p = write_keeps directory pid (P None) (kept None) s shell piece finish e p
+  place_keeps s shell (Trapping status) e d p = trap_keeps directory pid (P None) (kept None) s shell status e p
   place_keeps s shell (Ending status) e d p = end_keeps directory pid (P None) (kept None) s shell status e p
 
   active_keeps : (s : KernelState) (shell : Shell) (active : Active) → shell.pid ≡ pid → shell.vars.directory ≡ directory → P None s → Leaves (act_at s shell active)

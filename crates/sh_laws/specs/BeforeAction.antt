@@ -10,7 +10,7 @@ use Rattle.sh_exec_command.specs.declared.found.Found.TheVariants as found
 use Rattle.sh_exec_actions.specs.declared.action.Active.{Active}
 use Rattle.sh_exec_actions.specs.declared.action.Active.TheVariants.{Acting, Calling, Evaluating, Next, Done, Leaving}
 use Rattle.sh_exec_actions.specs.declared.action.Action.{Action}
-use Rattle.sh_exec_actions.specs.declared.action.Action.TheVariants.{Reading, Expanding, ReadSubstitution, WaitSubstitution, Redirecting, Forking, Starting, ForkStage, AssignLoopVariable, Defining, Waiting, Writing, Ending}
+use Rattle.sh_exec_actions.specs.declared.action.Action.TheVariants.{Reading, Expanding, ReadSubstitution, WaitSubstitution, Redirecting, Forking, Starting, ForkStage, AssignLoopVariable, Defining, Waiting, Writing, Trapping, Ending}
 use Rattle.sh_exec_actions.specs.declared.action.Role.{Role}
 use Rattle.sh_exec_actions.specs.declared.action.Role.TheVariants.{NoCommandName, Builtin, Function, Program, Compound, Subshell}
 use Rattle.sh_exec_actions.specs.declared.action.CaseBranch.{CaseBranch}
@@ -19,7 +19,7 @@ use Rattle.sh_exec_actions.specs.declared.action.ToExpand.TheVariants.{Words, Va
 use Rattle.sh_exec_forms.specs.Forms.{Acted}
 use Rattle.sh_exec_forms.specs.Running.{InterpreterState, Run, At, In, active_of}
 use Rattle.sh_exec_actions.specs.declared.form.Form.{Form}
-use Rattle.sh_exec_actions.specs.declared.form.Form.TheVariants.{Text, Commands, Joined, Negated, Restoring, If, Condition, Body, ForBody, Call, Evaluation, FailuresIgnored}
+use Rattle.sh_exec_actions.specs.declared.form.Form.TheVariants.{Text, Commands, Joined, Negated, Restoring, If, Condition, Body, ForBody, Call, Evaluation, Trapped, FailuresIgnored}
 use Rattle.sh_exec_actions.specs.declared.form.Loop.{Loop}
 use Rattle.sh_exec_parts.specs.declared.simple.Assignment.{Assignment}
 use Rattle.sh_expand.specs.Parts.{parts_of}
@@ -83,6 +83,7 @@ PlaceHolds (AssignLoopVariable series) = ListBegins series.body
 PlaceHolds (Defining definition) = CommandBegins definition
 PlaceHolds (Waiting children) = Unit {0}
 PlaceHolds (Writing piece finish) = Unit {0}
+PlaceHolds (Trapping status) = Unit {0}
 PlaceHolds (Ending status) = Unit {0}
 
 -- ---- and so does what a form holds
@@ -101,6 +102,7 @@ FormHolds (Body loop) = LoopHolds loop
 FormHolds (ForBody series) = ListBegins series.body
 FormHolds (Call positional) = Unit {0}
 FormHolds Evaluation = Unit {0}
+FormHolds (Trapped status) = Unit {0}
 FormHolds FailuresIgnored = Unit {0}
 
 -- ---- what runs has an action next, and holds only such syntax

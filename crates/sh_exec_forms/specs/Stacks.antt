@@ -1,14 +1,13 @@
--- The forms round the place where a shell acts, as a list with the innermost first.
-use Rattle.std.specs.Prelude.{◌≡◌, ℕ, List, [], ◌∷◌, map, reverse, ◌||◌, ◌&&◌, not, Bool, true, false, length, ◌<◌, ⊤}
+-- A tree, and the list of the forms round its place, the innermost first.
+use Rattle.std.specs.Prelude.{◌≡◌, List, [], ◌∷◌, reverse, Bool, true, false, length, ◌<◌, ⊤}
 use Rattle.sh_exec_actions.specs.declared.action.Active.{Active}
 use Rattle.sh_exec_actions.specs.declared.action.Active.TheVariants.{Acting, Calling, Evaluating, Next, Done, Leaving}
-use Rattle.sh_exec_forms.specs.Running.{Run, At, In}
 use Rattle.sh_exec_actions.specs.declared.form.Form.{Form}
-use Rattle.sh_exec_actions.specs.declared.form.Form.TheVariants.{FailuresIgnored}
 use Rattle.sh_exec_actions.specs.declared.form.Frame.{Frame}
-use Rattle.sh_exec_actions.specs.Kinds.{ignores_failure, is_call, is_loop, levels_inside, most_levels}
+use Rattle.sh_exec_forms.specs.Running.{Run, At, In}
 use Rattle.sh_exec_forms.specs.declared.step.Step.{Step}
 use Rattle.sh_exec_forms.specs.declared.step.Step.TheVariants.{Outward, Inward}
+use Rattle.sh_exec_frames.specs.Frames.{framed}
 
 -- what runs inside some forms
 abbrev pub run_in : List Form → Run → Run
@@ -17,40 +16,6 @@ run_in (form ∷ forms) run = run_in forms (In form run)
 
 abbrev pub run_of : List Form → Active → Run
 run_of forms active = run_in forms (At active)
-
--- whether the body of a function is among some forms
-abbrev pub has_call : List Form → Bool
-has_call [] = false
-has_call (form ∷ forms) = is_call form || has_call forms
-
--- whether a loop is among some forms; a function doesn't see the loops of its caller
-abbrev pub has_loop : List Form → Bool
-has_loop [] = false
-has_loop (form ∷ forms) = is_loop form || (not (is_call form) && has_loop forms)
-
--- whether `set -e` takes no notice of a failure inside some forms (2.15, set)
-abbrev pub is_failure_ignored : List Form → Bool
-is_failure_ignored [] = false
-is_failure_ignored (form ∷ around) = ignores_failure form || is_failure_ignored around
-
--- how many more calls of functions, and texts that `eval` runs (2.15), there may be inside some forms, one in another
-abbrev pub levels_left : List Form → ℕ
-levels_left [] = most_levels
-levels_left (form ∷ around) = levels_inside form (levels_left around)
-
--- the forms with which a process begins
-abbrev pub root_forms : (ignored : Bool) → List Form
-root_forms true = FailuresIgnored ∷ []
-root_forms false = []
-
--- forms, each with what holds inside it
-abbrev pub framed : List Form → List Frame
-framed [] = []
-framed (form ∷ around) =
-    record { form = form; ignores_failure = is_failure_ignored (form ∷ around); levels_left = levels_left (form ∷ around) } ∷ framed around
-
-abbrev pub forms_in : List Frame → List Form
-forms_in frames = map (λ frame. frame.form) frames
 
 -- the forms round the place of a tree that stands inside some forms, and of a whole tree
 abbrev pub forms_round : (around : List Form) → Run → List Form

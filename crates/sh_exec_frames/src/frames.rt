@@ -1,8 +1,9 @@
 //! The running forms of a shell.
 ghost use Rattle.std.specs.Prelude.{◌≡◌, ◌∷◌, [], IfOk, MatchOption, OnOk, reverse};
-ghost use Rattle.sh_exec_forms.specs.Frames.{forms_in, framed, has_call, has_loop, is_failure_ignored, levels_left, root_forms};
+ghost use Rattle.sh_exec_frames.specs.Frames.{before_action, before_own_action, ends_action, forms_in, framed, has_call, has_loop, is_failure_ignored, last_for, levels_left, root_forms};
 
 use sh_base::NoMemory;
+use sh_builtin::Builtin;
 use sh_exec_actions::{Form, Frame, MOST_LEVELS};
 use sh_exec_parts::copy_all;
 use std::alloc::Global;
@@ -17,8 +18,8 @@ pub struct Frames {
 impl Model for Frames {
     ghost use Rattle.std.specs.Prelude.{◌≡◌, List, reverse};
     ghost use Rattle.std.specs.Coded.{codes};
-    ghost use Rattle.sh_exec_forms.specs.Codes.{forms_code};
-    ghost use Rattle.sh_exec_forms.specs.Frames.{forms_in, framed};
+    ghost use Rattle.sh_exec_frames.specs.Codes.{forms_code};
+    ghost use Rattle.sh_exec_frames.specs.Frames.{forms_in, framed};
     ghost use Rattle.sh_exec_actions.specs.declared.form.Form.{Form};
 
     ghost Value = { List Form };
@@ -117,6 +118,41 @@ impl Frames {
         }
     }
 
+    /// The status with which a built-in leaves inside them where it has no operand (2.15 exit, return): `$?`, which is `last`, but in the
+    /// action of a trap what `$?` was before it. `return` in a function that the action calls is a return from that.
+    pub fn last_for(&self, builtin: Builtin, last: u8) -> u8
+        ensures { result ≡ last_for self.now builtin last }
+    {
+        match builtin {
+            Builtin::Bracket => last,
+            Builtin::Break => last,
+            Builtin::Cd => last,
+            Builtin::Colon => last,
+            Builtin::Continue => last,
+            Builtin::Echo => last,
+            Builtin::Eval => last,
+            Builtin::Exit => before_action(self.frames.as_slice()).unwrap_or(last),
+            Builtin::Export => last,
+            Builtin::False => last,
+            Builtin::Pwd => last,
+            Builtin::ReadOnly => last,
+            Builtin::Return => before_own_action(self.frames.as_slice()).unwrap_or(last),
+            Builtin::Set => last,
+            Builtin::Shift => last,
+            Builtin::Test => last,
+            Builtin::Trap => last,
+            Builtin::True => last,
+            Builtin::Unset => last,
+        }
+    }
+
+    /// Whether what is done right inside them is the action of a trap as a whole. Looks at the innermost one only.
+    pub fn ends_action(&self) -> bool
+        ensures { result ≡ ends_action self.now }
+    {
+        ends_action(self.frames.as_slice())
+    }
+
     /// How many more texts and calls of functions there may be inside them, one in another. Looks at the innermost one only.
     pub fn levels_left(&self) -> u16
         ensures { result ≡ levels_left self.now }
@@ -159,4 +195,48 @@ fn is_call_among(frames: &[Frame]) -> bool
         rest = others;
     }
     false
+}
+
+/// What `$?` was before the innermost action of a trap among some forms, of which the last is the innermost.
+#[tactic(auto, using(crate::proofs::Framed::innermost))]
+fn before_action(frames: &[Frame]) -> Option<u8>
+    ensures { result ≡ before_action (forms_in (reverse frames.now)) }
+{
+    let mut rest = frames;
+    'frames: while let Some((frame, others)) = rest.split_last() {
+        if let Some(status) = frame.form.before_trap() {
+            return Some(status);
+        }
+        rest = others;
+    }
+    None
+}
+
+/// The same of the action that no function is inside of.
+#[tactic(auto, using(crate::proofs::Framed::innermost))]
+fn before_own_action(frames: &[Frame]) -> Option<u8>
+    ensures { result ≡ before_own_action (forms_in (reverse frames.now)) }
+{
+    let mut rest = frames;
+    'frames: while let Some((frame, others)) = rest.split_last() {
+        if frame.form.is_call() {
+            return None;
+        }
+        if let Some(status) = frame.form.before_trap() {
+            return Some(status);
+        }
+        rest = others;
+    }
+    None
+}
+
+/// Whether the innermost of some forms, which is the last, is the action of a trap.
+#[tactic(auto, using(crate::proofs::Framed::innermost))]
+fn ends_action(frames: &[Frame]) -> bool
+    ensures { result ≡ ends_action (forms_in (reverse frames.now)) }
+{
+    match frames.split_last() {
+        Some((frame, _)) => frame.form.before_trap().is_some(),
+        None => false,
+    }
 }

@@ -1,7 +1,7 @@
 -- Frames, and the forms in them.
 use Rattle.std.proofs.Common.{◌≡◌, List, [], ◌∷◌, ◌++◌, reverse, ap, ◌∙◌}
 use Rattle.std.proofs.lemmas.List.{reverse-append}
-use Rattle.sh_exec_forms.specs.Frames.{forms_in}
+use Rattle.sh_exec_frames.specs.Frames.{forms_in}
 use Rattle.sh_exec_actions.specs.declared.form.Frame.{Frame}
 
 -- the last frame has the innermost form

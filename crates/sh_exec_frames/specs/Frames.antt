@@ -1,0 +1,91 @@
+-- The forms round the place where a shell acts, as a list with the innermost first, and what holds inside them.
+use Rattle.std.specs.Prelude.{ℕ, List, [], ◌∷◌, map, ◌||◌, ◌&&◌, not, Bool, true, false, Option, Some, None, if◌then◌else◌}
+use Rattle.sh_builtin.specs.declared.builtin.Builtin.{Builtin}
+use Rattle.sh_builtin.specs.declared.builtin.Builtin.TheVariants.{Bracket, Break, Cd, Colon, Continue, Echo, Eval, Exit, Export, False, Pwd, ReadOnly, Return, Set, Shift, Test, Trap, True, Unset}
+use Rattle.sh_exec_actions.specs.Kinds.{before_trap, ignores_failure, is_call, is_loop, levels_inside, most_levels}
+use Rattle.sh_exec_actions.specs.declared.form.Form.{Form}
+use Rattle.sh_exec_actions.specs.declared.form.Form.TheVariants.{FailuresIgnored}
+use Rattle.sh_exec_actions.specs.declared.form.Frame.{Frame}
+
+-- whether the body of a function is among some forms
+abbrev pub has_call : List Form → Bool
+has_call [] = false
+has_call (form ∷ forms) = is_call form || has_call forms
+
+-- whether a loop is among some forms; a function doesn't see the loops of its caller
+abbrev pub has_loop : List Form → Bool
+has_loop [] = false
+has_loop (form ∷ forms) = is_loop form || (not (is_call form) && has_loop forms)
+
+-- whether `set -e` takes no notice of a failure inside some forms (2.15, set)
+abbrev pub is_failure_ignored : List Form → Bool
+is_failure_ignored [] = false
+is_failure_ignored (form ∷ around) = ignores_failure form || is_failure_ignored around
+
+-- how many more calls of functions, texts that `eval` runs (2.15), and actions of traps there may be inside some forms, one in another
+abbrev pub levels_left : List Form → ℕ
+levels_left [] = most_levels
+levels_left (form ∷ around) = levels_inside form (levels_left around)
+
+-- ---- the actions of traps (2.15 trap): what `$?` was before the innermost one among some forms, and before the one that no function is
+-- inside of
+abbrev pub nearest : Option ℕ → Option ℕ → Option ℕ
+nearest None outer = outer
+nearest (Some status) outer = Some status
+
+abbrev pub before_action : List Form → Option ℕ
+before_action [] = None
+before_action (form ∷ around) = nearest (before_trap form) (before_action around)
+
+abbrev pub before_own_action : List Form → Option ℕ
+before_own_action [] = None
+before_own_action (form ∷ around) = if is_call form then None else nearest (before_trap form) (before_own_action around)
+
+abbrev pub or_last : Option ℕ → ℕ → ℕ
+or_last None last = last
+or_last (Some status) last = status
+
+-- the status with which exit and return leave inside some forms where they have no operand (2.15)
+abbrev pub last_for : List Form → Builtin → (last : ℕ) → ℕ
+last_for around Bracket last = last
+last_for around Break last = last
+last_for around Cd last = last
+last_for around Colon last = last
+last_for around Continue last = last
+last_for around Echo last = last
+last_for around Eval last = last
+last_for around Exit last = or_last (before_action around) last
+last_for around Export last = last
+last_for around False last = last
+last_for around Pwd last = last
+last_for around ReadOnly last = last
+last_for around Return last = or_last (before_own_action around) last
+last_for around Set last = last
+last_for around Shift last = last
+last_for around Test last = last
+last_for around Trap last = last
+last_for around True last = last
+last_for around Unset last = last
+
+-- whether what is done right inside some forms is a trap's action as a whole, which is no command
+abbrev pub is_there : Option ℕ → Bool
+is_there None = false
+is_there (Some status) = true
+
+abbrev pub ends_action : List Form → Bool
+ends_action [] = false
+ends_action (form ∷ around) = is_there (before_trap form)
+
+-- the forms with which a process begins
+abbrev pub root_forms : (ignored : Bool) → List Form
+root_forms true = FailuresIgnored ∷ []
+root_forms false = []
+
+-- forms, each with what holds inside it
+abbrev pub framed : List Form → List Frame
+framed [] = []
+framed (form ∷ around) =
+    record { form = form; ignores_failure = is_failure_ignored (form ∷ around); levels_left = levels_left (form ∷ around) } ∷ framed around
+
+abbrev pub forms_in : List Frame → List Form
+forms_in frames = map (λ frame. frame.form) frames
