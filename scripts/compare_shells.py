@@ -1,7 +1,7 @@
 #!/usr/bin/env python3
 """Runs scripts made at random by psh and by real shells, and shows those in which psh stands alone.
 
-usage: compare_shells.py words|documents|processes|lists|errexit|case|builtins|functions [COUNT [SEED]]
+usage: compare_shells.py words|documents|processes|lists|errexit|case|builtins|functions|traps [COUNT [SEED]]
 
 `words` expands words of every form, nested, with several IFS and positional parameters, into the fields that a program
 then shows. `documents` does so in bodies of here-documents and in assignments. `processes` runs pipelines, redirections,
@@ -10,8 +10,9 @@ commands in AND-OR lists, groups, subshells, conditions and loops, some of which
 so under `set -e`. `case` adds commands of that name, whose words and patterns are quoted, expanded and change variables.
 In all of these every fourth compound command has redirections, and commands in it may read what it is given.
 `builtins` adds built-ins that act on variables, options, parameters and the directory, and conditions. `functions` defines
-functions with bodies of every form, calls and unsets them, and has `return` and `eval`, some of it under `set -e`. Scripts do
-nothing whose result depends on the order of turns.
+functions with bodies of every form, calls and unsets them, and has `return` and `eval`, some of it under `set -e`. `traps` sets
+traps on the exit of the shell, of subshells, substitutions and stages, and leaves these in every way, some under `set -e`. Scripts
+do nothing whose result depends on the order of turns.
 
 Shown is a script where no real shell gives what psh gives, and one where four or more agree with one another and not with
 psh; diagnostics are left out, since their texts differ. The shells are those of dash, bash, yash, mksh and busybox that are
@@ -486,6 +487,133 @@ class Functions(Cases):
         return "\n".join([*lines, *(f"echo {file}: ; cat <{file}" for file in self.made), ""])
 
 
+class Traps(Functions):
+    """Traps on the exit of the shell, of subshells, of substitutions and of stages, in such lists, some under `set -e`.
+
+    Left out is what real shells do in several ways:
+    - `exit`, or a failure under `set -e`, inside redirected commands, and inside functions that are called with redirections, with
+      assignments or with parameters that the action shows: some shells leave these before the action, some don't.
+    - In the action: `return` of its own, `exit` without operand in a process that the action makes, `return` without operand in a
+      function, `break` and `continue` without a loop, faults, texts outside the grammar, a trap on the exit, the list of traps.
+    - The list of traps in a subshell, of actions with quotes or newlines, and of actions of one word; wrong usage and bad conditions;
+      assignments before `trap`, which are exported by some; an ignored PIPE.
+    - Faults and refused redirections before the action, whose statuses differ.
+    - `set -e` in a substitution, or in a process around one: whether a place that ignores failures reaches into it differs.
+    """
+
+    # (with a blank in each, so that all shells quote it in their lists; no single quotes, no newlines)
+    actions = ["echo t $?", "echo t $x", 'echo t "$x" "$y"', "echo t >/dev/null", "x=t; echo $x", "false; echo $?", "(exit 4); echo t $?",
+               "echo t; exit 5", "echo t; exit 0", "echo t; exit", "false; exit", "echo t | cat", "echo $(echo t $?)", "cat <a",
+               "for j in 1 2; do echo t$j; done", "case $x in a*) echo t;; *) echo u;; esac", "if false; then :; else echo t $?; fi",
+               "while :; do echo t; break; done", "{ echo t; } >/dev/null; echo u", "y=$(echo t; exit 3); echo $y $?", "t a; echo $?",
+               "t; exit", "eval echo t; false", "eval exit 3", "set -e; false; echo no", "set +e; false; echo t", "false && :; echo t $?",
+               "! :; echo $?", "echo t | having z; echo $?", "(echo t; exit 6) && echo no", ": $x", "# none", "st7; echo $?"]
+    names = ["g", "f"]
+    signals = ["trap ': a' HUP", "trap ': b' INT TERM", "trap '' HUP INT", "trap - HUP", "trap - INT HUP TERM", "trap 1 2",
+               "trap 'echo no' TERM"]
+
+    def __init__(self, seed):
+        super().__init__(seed)
+        # Whether the exit of the shell that runs this may have an action, whether `set -e` is on, and whether it is a substitution's.
+        self.is_trapped, self.is_errexit, self.is_answer = False, False, False
+
+    def action(self):
+        text = self.pick(self.actions)
+        return "echo t" if self.is_answer and "set -e" in text else text
+
+    def setting(self):
+        """Sets the action of the exit, or takes it away."""
+        trap = f"trap '{self.action()}' {self.pick(['EXIT', '0', 'EXIT', 'EXIT HUP'])}"
+        quoted = trap.replace("'", '"').replace("$", "\\$")
+        evaluated = trap if '"' in trap else f"eval '{quoted}'"
+        return self.pick([trap, trap, trap, trap, evaluated, "trap - EXIT", "trap '' EXIT", "trap 0", "s", "s"])
+
+    def redirected(self, make):
+        return make() if self.is_trapped else super().redirected(make)
+
+    def call(self):
+        if not self.is_trapped:
+            return super().call()
+        return self.pick(self.callable) + self.pick(self.arguments)
+
+    def simple(self, loops):
+        if self.chance() < 0.12:
+            return self.pick(self.signals)
+        if not self.is_trapped or self.is_function:
+            return super().simple(loops)
+        kind = self.chance()
+        if kind < 0.15:
+            return self.setting()
+        if kind < 0.2 and loops is None:
+            return self.pick(["exit", "exit 3", "false || exit", "exit $?", "exit 0", "eval 'exit 4'", "e 6", "e 0"])
+        text = super().simple(loops)
+        # (what a program's refused redirection comes to differs)
+        return "(exit 4)" if "none" in text and "<" in text else text
+
+    def within(self, depth, is_answer=False):
+        """A list in a process of its own, with an action for its exit."""
+        outside = self.is_trapped, self.is_errexit, self.is_answer, self.is_given
+        self.is_trapped, self.is_answer, self.is_given = True, self.is_answer or is_answer, False
+        text = self.trapped(depth)
+        self.is_trapped, self.is_errexit, self.is_answer, self.is_given = outside
+        return text
+
+    def trapped(self, depth):
+        lines = []
+        if not self.is_answer and self.chance() < 0.3:
+            lines.append("set -e")
+            self.is_errexit = True
+        lines.insert(self.pick([0, len(lines)]), f"trap '{self.action()}' EXIT" if self.chance() < 0.8 else self.setting())
+        lines.append(self.list(depth, None))
+        if self.chance() < 0.4:
+            lines.append(self.pick(["exit", "exit 3", "false", "(exit 4)", "e 5", "false || exit", "e 0", "return 3"]))
+        return "\n".join(lines)
+
+    def definition(self, name):
+        """A small function."""
+        outside = self.callable, self.is_function
+        self.callable, self.is_function = self.names[: self.names.index(name)], True
+        body = self.list(self.pick([0, 0, 0, 1]), 0)
+        self.callable, self.is_function = outside
+        return f"{name}() {{ {body}\n}}"
+
+    def compound(self, depth, loops):
+        kind = self.chance()
+        if self.is_function or kind < 0.35:
+            text = super().compound(depth, loops)
+            return "(exit 4)" if self.is_errexit and "=$(case" in text else text
+        if kind < 0.5 and not self.is_errexit:
+            return f"{self.pick('xy')}=$({self.within(depth, True)}\n)"
+        if kind < 0.8:
+            return self.redirected(lambda: f"( {self.within(depth)} )")
+        if kind < 0.93:
+            return f"{{ {self.within(depth)}\n}} | {self.pick(['cat', 'having t', 'count', 'sub'])}"
+        # (what the stage before it writes is little, so that it doesn't matter which of the two comes first)
+        return f"echo {self.pick(self.values)} | {{ {self.within(depth)}\n}}"
+
+    def script(self):
+        lines = ["HOME=/h", 't() { echo "t$1"; return 4; }', "e() { exit $1; }"]
+        self.is_trapped = True
+        for name in self.names:
+            lines.append(self.definition(name))
+            self.callable.append(name)
+        action = self.pick([it for it in self.actions if "set -e" not in it])
+        lines.append(f"s() {{ trap '{action}' {self.pick(['EXIT', '0'])}; }}")
+        self.is_trapped = False
+        for _ in range(self.pick([1, 2, 3])):
+            text = self.compound(self.pick([1, 2, 2]), 0)
+            text += self.pick(["", "", "", " || echo no", " && echo yes"])
+            lines += [text, 'echo $? "$x" "$y" $i']
+        lines += [f"echo {file}: ; cat <{file}" for file in self.made]
+        # the exit of the shell itself
+        self.is_trapped = True
+        lines += [self.and_or(1, None) if self.chance() < 0.3 else self.setting() for _ in range(self.pick([1, 1, 2]))]
+        lines += self.pick([[], [], ["trap"], ["set -e"]])
+        lines += self.pick([[], [], [self.and_or(1, None), "echo $?"], ["exit 3"], ["false"], ["e 4"]])
+        self.is_trapped, self.callable = False, []
+        return "\n".join([*lines, ""])
+
+
 def image():
     """The image of files for psh."""
     entries = [(f"/bin/{name}", "r-x", f"#!stock {name}\n") for name in STOCK]
@@ -531,7 +659,7 @@ def by_shell(room, shell, script, operands):
 
 
 SOURCES = {"words": Words, "documents": Documents, "processes": Processes, "lists": Lists, "errexit": Errexit, "case": Cases,
-           "builtins": Builtins, "functions": Functions}
+           "builtins": Builtins, "functions": Functions, "traps": Traps}
 
 
 def main(kind, count=200, seed=1):

@@ -63,6 +63,9 @@ ROWS = [
     ("export x=1 y='a b' z; readonly v=$y; export -p; readonly v=2; echo no", 20),
     ("f() { shift; echo \"$*\"; return 3; } >&2; x=1 f a 'b c' || echo $?; f() (g() { echo c; }; g); f | cat; unset -f f; f", 70),
     ("x=1; for i in a b; do eval 'eval \"echo $x\"' b $i 2>&1; eval break; done >f; cat <f; eval 'echo c\nfi'", 50),
+    ("trap 'echo t $?; trap; trap - INT HUP; exit 4' 0; trap \"it's\" INT; trap '' HUP; trap >f; cat <f; (trap); exit 3", 30),
+    ("f() { trap \"echo $1 \\$?\" EXIT; exit $2; } >g; (f a 3) || x=$(trap 'cat <g; false; exit' EXIT; exit 5) || echo $? $x; echo b | { trap 'cat' EXIT; return 6; }", 54),
+    ("set -e; trap 'eval \"f $?\"\nfalse; echo no' EXIT; f() { cat <<E; }\n$1 $#\nE\nset a b; { trap : KILL none; } 2>f", 27),
 ]
 
 # scripts of the image that the shell runs, and their turns
