@@ -17,7 +17,7 @@ LISTED = {
     # A count of open substitutions that has no place in a usize: the pieces that it counts would not fit into memory.
     ("sh_parse_words/src/build.rt", "return Err(AllocError);"),
     # A count of open levels, of which the same holds.
-    ("sh_token/src/state.rt", "return Err(AllocError);"),
+    ("sh_token_scanner/src/state.rt", "return Err(AllocError);"),
 }
 # Lines that make a refusal up, and lines that hand one on or name a type: each run looks whether they are told apart.
 MADE = ["return Err(AllocError);", "Err(_) => Err(NoMemory::from(AllocError)),", "x.ok_or(AllocError)?", "let it = AllocError;", "Err(AllocError {})"]

@@ -21,7 +21,7 @@ use Rattle.sh_token_pieces.specs.Pieces.{levels, with_token}
 use Rattle.sh_token_pieces.specs.Nested.{open_in}
 use Rattle.sh_token_pieces.specs.Taken.{followed_by, token_of}
 use Rattle.sh_token_pieces.specs.TokenClasses.{Told, class_of}
-use Rattle.sh_token.proofs.Tests.{and_true}
+use Rattle.sh_token_scanner.proofs.Tests.{and_true}
 
 abbrev times : ℕ → List Symbol → ℕ
 times m symbols = count_by (is_nonterminal m) symbols

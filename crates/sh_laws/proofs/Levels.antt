@@ -25,12 +25,12 @@ use Rattle.sh_token.specs.Body.{TooDeepAt, IsBodyTooDeep}
 use Rattle.sh_token.specs.FirstToken.{DeepAt, IsFirst}
 use Rattle.sh_token.specs.Found.{first_token, pieces_of_body}
 use Rattle.sh_token.specs.Tokens.{IsTooDeep, OpensLevel, braces, parenthesis, backquote, Exceeds, OpensTooMany, form, operator, word}
-use Rattle.sh_token.proofs.Between.{Made, one_byte, two_bytes, three_bytes, made, between_no_word}
+use Rattle.sh_token_scanner.proofs.Between.{Made, one_byte, two_bytes, three_bytes, made, between_no_word}
 use Rattle.sh_token.proofs.BodyLaws.{body_law}
-use Rattle.sh_token.proofs.Bytes.{levels_parenthesized}
+use Rattle.sh_token_scanner.proofs.Bytes.{levels_parenthesized}
 use Rattle.sh_token.proofs.Gaps.{behind_open}
 use Rattle.sh_token.proofs.Laws.{is_first, joined_length, reads_length, written_length}
-use Rattle.sh_token.proofs.Tests.{and_true, not_true, levels_opened}
+use Rattle.sh_token_scanner.proofs.Tests.{and_true, not_true, levels_opened}
 use Rattle.sh_token.proofs.WordStarts.{begins_bytes, begins_some, byte_of}
 use Rattle.sh_laws.proofs.Growth.{levels_grow}
 

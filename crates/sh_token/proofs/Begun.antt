@@ -3,7 +3,7 @@ use Rattle.std.proofs.Common.{◌≡◌, inl, ℕ, suc, Bool, true, false, ◌&&
 use Rattle.std.specs.List.{list_all}
 use Rattle.std.proofs.lemmas.List.{append-nil}
 use Rattle.sh_base.specs.Names.{is_name, begins_name, continues_name}
-use Rattle.sh_token.proofs.Bodies.{Stands, Further, on, over, further, some_dropped}
+use Rattle.sh_token_scanner.proofs.Bodies.{Stands, Further, on, over, further, some_dropped}
 use Rattle.sh_token_pieces.specs.Here.{lines, are_bodies}
 use Rattle.sh_token_pieces.specs.declared.character.Character.{Character}
 use Rattle.sh_token_pieces.specs.declared.character.Character.TheVariants.{Plain, Quoted, Raw}
@@ -25,13 +25,13 @@ use Rattle.sh_token_pieces.specs.Pieces.{stands, IsPiece, behind, ends_token, in
 use Rattle.sh_token_pieces.specs.TokenClasses.{OfOperator, OfBodies, class_of_operator}
 use Rattle.sh_token_grammar.specs.Levels.{begins_compound}
 use Rattle.sh_token.specs.Tokens.{OpensLevel, braces, parenthesis}
-use Rattle.sh_token.specs.Machine.{State, Stepped, On, Before, TooDeep, opens, at_dollar, grow_to, then_act, act, plain_byte, quoted_byte, form_byte, after_dollar, after_parenthesis, in_name, head_byte, in_head, in_single, in_backquotes, in_escape, at_parenthesis, in_operator, in_comment, step, operator_out, same, into, out_level, level_over, in_body, bodies_out}
-use Rattle.sh_token.proofs.Running.{begin_of, is_raw_character}
-use Rattle.sh_token.proofs.Tests.{and_both, and_left, not_false, text_token, levels_taken, levels_opened, more_none}
-use Rattle.sh_token.proofs.Leads.{begun, kept, settled}
-use Rattle.sh_token.proofs.Pieces.{before, arithmetic_level}
+use Rattle.sh_token_scanner.specs.Machine.{State, Stepped, On, Before, TooDeep, opens, at_dollar, grow_to, then_act, act, plain_byte, quoted_byte, form_byte, after_dollar, after_parenthesis, in_name, head_byte, in_head, in_single, in_backquotes, in_escape, at_parenthesis, in_operator, in_comment, step, operator_out, same, into, out_level, level_over, in_body, bodies_out}
+use Rattle.sh_token_scanner.proofs.Running.{begin_of, is_raw_character}
+use Rattle.sh_token_scanner.proofs.Tests.{and_both, and_left, not_false, text_token, levels_taken, levels_opened, more_none}
+use Rattle.sh_token_scanner.proofs.Leads.{begun, kept, settled}
+use Rattle.sh_token_scanner.proofs.Pieces.{before, arithmetic_level}
 use Rattle.sh_token.proofs.Paths.{Subject, IsBlank, Path, DeepHere, deep_here, Going, either, no_join_at, pending_levels, Held, Preceded, preceded_more}
-use Rattle.sh_token.proofs.Growing.{growing_begins_none, grown_text, growing_no_right, grown_no_right, growing_no_newline, grown_no_newline}
+use Rattle.sh_token_scanner.proofs.Growing.{growing_begins_none, grown_text, growing_no_right, grown_no_right, growing_no_newline, grown_no_newline}
 use Rattle.sh_token.proofs.Steps.{written_snoc, plain_snoc, raw_snoc, all_snoc, name_snoc, head_snoc, no_more, plain_sound, quoted_sound, then_sound}
 use Rattle.sh_token.proofs.Sound.{ahead_plain, ahead_quoted, plain_at, ends_piece, begins_piece, grow_sound}
 

@@ -6,15 +6,15 @@ use Rattle.sh_token_pieces.specs.declared.piece.Piece.{Piece}
 use Rattle.sh_token_pieces.specs.declared.piece.Piece.TheVariants.{Byte, Escaped, Backslash, SingleQuoted, DoubleQuotesOpen, DoubleQuotesClose, Dollar, Variable, Parameter, BraceOpen, BraceClose, ArithmeticOpen, ArithmeticClose, CommandsOpen, CommandsClose, Backquoted, WordOpen, WordClose, Blank, Comment, Bodies}
 use Rattle.sh_token_pieces.specs.Pieces.{ArePieces, behind, contexts_behind, ends_token, ends_none, is_text, top_of}
 use Rattle.sh_token.specs.Body.{IsPrefix, IsBodyTooDeep}
-use Rattle.sh_token.specs.Machine.{State}
-use Rattle.sh_token.specs.Run.{Ended, Deep, Open, Places, run, scanned_in}
-use Rattle.sh_token.proofs.Running.{placed, joins_run}
-use Rattle.sh_token.proofs.Tests.{and_true, and_both, not_true, not_false, nested, nested_behind}
-use Rattle.sh_token.proofs.Grounds.{free, free_behind, never_text}
-use Rattle.sh_token.proofs.Leads.{settled}
-use Rattle.sh_token.proofs.Inner.{Inside, inside_behind, inside_all, inner_all}
+use Rattle.sh_token_scanner.specs.Machine.{State}
+use Rattle.sh_token_scanner.specs.Run.{Ended, Deep, Open, Places, run, scanned_in}
+use Rattle.sh_token_scanner.proofs.Running.{placed, joins_run}
+use Rattle.sh_token_scanner.proofs.Tests.{and_true, and_both, not_true, not_false, nested, nested_behind}
+use Rattle.sh_token_scanner.proofs.Grounds.{free, free_behind, never_text}
+use Rattle.sh_token_scanner.proofs.Leads.{settled}
+use Rattle.sh_token_scanner.proofs.Inner.{Inside, inside_behind, inside_all, inner_all}
 use Rattle.sh_token.proofs.Deep.{in_deep}
-use Rattle.sh_token.proofs.Loose.{loose_run}
+use Rattle.sh_token_scanner.proofs.Loose.{loose_run}
 
 -- no piece ends a token where the text itself is not below
 no_end : (m : Piece) (ys : List Context) → is_text (top_of ys) ≡ false → ends_token m ys ≡ false

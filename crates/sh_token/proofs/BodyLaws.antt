@@ -5,8 +5,8 @@ use Rattle.sh_token_pieces.specs.declared.piece.Piece.{Piece}
 use Rattle.sh_token_pieces.specs.declared.character.Character.TheVariants.{Plain}
 use Rattle.sh_token.specs.Tokens.{OpensLevel, braces, parenthesis, backquote}
 use Rattle.sh_token.specs.Body.{IsPrefix, IsBodyTooDeep, IsBodyOpen, BodyPieces, AllOf, OpenAt, TooDeepAt, IsBody}
-use Rattle.sh_token.specs.Machine.{State}
-use Rattle.sh_token.specs.Run.{Scanned, Ended, Deep, Open, scanned_in}
+use Rattle.sh_token_scanner.specs.Machine.{State}
+use Rattle.sh_token_scanner.specs.Run.{Scanned, Ended, Deep, Open, scanned_in}
 use Rattle.sh_token.specs.Found.{of_body, pieces_of_body}
 use Rattle.sh_token.proofs.Laws.{reads_length, pieces_length, joined_length}
 use Rattle.sh_token.proofs.BodyComplete.{body_complete, body_deep, form_behind}

@@ -16,17 +16,17 @@ use Rattle.sh_token_pieces.specs.Pieces.{fits, exceeds, is_text, is_body, is_wor
 use Rattle.sh_token_pieces.specs.TokenClasses.{Told, OfWord}
 use Rattle.sh_token.specs.Tokens.{Joined, OpensLevel, braces, parenthesis, backquote}
 use Rattle.sh_token.specs.Body.{IsPrefix, IsBodyTooDeep}
-use Rattle.sh_token.specs.Machine.{State, Stepped, On, Before, After, TooDeep, DollarTooDeep, WordTooDeep, step, is_top, is_over_full, word_out, operator_out}
-use Rattle.sh_token.specs.Run.{Scanned, Ended, Deep, Open, Places, with_next_prefix, after_character, begins_in, begins_form, begins_word as word_begun, is_gap_state, EndsIn, EndsDeep, EndsNot, last_token, last_places, word_end, word_ended, ended_in, run, start, scanned_in}
-use Rattle.sh_token.proofs.Running.{placed, after, begin_of, is_raw_character, character_run}
-use Rattle.sh_token.proofs.Tests.{and_true, and_both, and_false, and_left, and_right, not_false, body_alone, text_token, levels_taken}
-use Rattle.sh_token.proofs.Grounds.{free, free_contexts, never_text, no_token_over}
-use Rattle.sh_token.proofs.Leads.{begun, settled}
-use Rattle.sh_token.proofs.Between.{between_no_word, between_no_body}
+use Rattle.sh_token_scanner.specs.Machine.{State, Stepped, On, Before, After, TooDeep, DollarTooDeep, WordTooDeep, step, is_top, is_over_full, word_out, operator_out}
+use Rattle.sh_token_scanner.specs.Run.{Scanned, Ended, Deep, Open, Places, with_next_prefix, after_character, begins_in, begins_form, begins_word as word_begun, is_gap_state, EndsIn, EndsDeep, EndsNot, last_token, last_places, word_end, word_ended, ended_in, run, start, scanned_in}
+use Rattle.sh_token_scanner.proofs.Running.{placed, after, begin_of, is_raw_character, character_run}
+use Rattle.sh_token_scanner.proofs.Tests.{and_true, and_both, and_false, and_left, and_right, not_false, body_alone, text_token, levels_taken}
+use Rattle.sh_token_scanner.proofs.Grounds.{free, free_contexts, never_text, no_token_over}
+use Rattle.sh_token_scanner.proofs.Leads.{begun, settled}
+use Rattle.sh_token_scanner.proofs.Between.{between_no_word, between_no_body}
 use Rattle.sh_token.proofs.Paths.{WholeBody, Path, At, Held, Preceded, pending_levels, path_on, DeepHere, word_here, Going, no_join_at}
 use Rattle.sh_token.proofs.Begun.{step_sound, dollar_piece, name_piece}
 use Rattle.sh_token.proofs.Whole.{NextCharacter, got, over, cut, next_character, over_run, end_ahead}
-use Rattle.sh_token.proofs.Loose.{is_loose_in, is_loose, Tame, step_tame, IsOpening, DollarTame, dollar_tame}
+use Rattle.sh_token_scanner.proofs.Loose.{is_loose_in, is_loose, Tame, step_tame, IsOpening, DollarTame, dollar_tame}
 use Rattle.sh_token.proofs.Sound.{plain_at}
 
 -- a prefix of a body behind which a form begins

@@ -17,14 +17,14 @@ use Rattle.sh_token_pieces.specs.Pieces.{is_gap, IsPiece, ArePieces, contexts_be
 use Rattle.sh_token_pieces.specs.TokenClasses.{OfWord}
 use Rattle.sh_token.specs.declared.token.TokenKind.{TokenKind}
 use Rattle.sh_token.specs.Tokens.{begins_join, Joined, IsToken, ending, operator, word, HasToken}
-use Rattle.sh_token.specs.Machine.{State, On, Before, After, step, grow, grow_to, end_word, in_operator, operator_out, word_out}
-use Rattle.sh_token.specs.Run.{Ended, EndsIn, Takes, Places, with_next_prefix, with_prefix, after_character, last_step, run, scan_of}
+use Rattle.sh_token_scanner.specs.Machine.{State, On, Before, After, step, grow, grow_to, end_word, in_operator, operator_out, word_out}
+use Rattle.sh_token_scanner.specs.Run.{Ended, EndsIn, Takes, Places, with_next_prefix, with_prefix, after_character, last_step, run, scan_of}
 use Rattle.sh_token.specs.Found.{kind_of}
-use Rattle.sh_token.proofs.Running.{placed, after, follow, fed_backslash, fed_byte, fed_quoted, joins_run, character_run, Stops, stops}
-use Rattle.sh_token.proofs.Tests.{and_true, not_true, and_left, and_false, text_token}
-use Rattle.sh_token.proofs.Leads.{begun, settled}
-use Rattle.sh_token.proofs.Between.{First, Made, one_byte, two_bytes, three_bytes, made, no_longer, word_plain, word_quoted, first_byte, next_byte, growing, closing_word, same_is}
-use Rattle.sh_token.proofs.Inner.{Inside, inside_all, inner_all}
+use Rattle.sh_token_scanner.proofs.Running.{placed, after, follow, fed_backslash, fed_byte, fed_quoted, joins_run, character_run, Stops, stops}
+use Rattle.sh_token_scanner.proofs.Tests.{and_true, not_true, and_left, and_false, text_token}
+use Rattle.sh_token_scanner.proofs.Leads.{begun, settled}
+use Rattle.sh_token_scanner.proofs.Between.{First, Made, one_byte, two_bytes, three_bytes, made, no_longer, word_plain, word_quoted, first_byte, next_byte, growing, closing_word, same_is}
+use Rattle.sh_token_scanner.proofs.Inner.{Inside, inside_all, inner_all}
 use Rattle.sh_token.proofs.Gaps.{gap_pieces, gap_kind, kind_last, word_kind_of}
 
 pub no_joins : (n : ℕ) (prefix ys : List ℕ) → begins_join prefix ≡ false → prefix ≡ joins n ++ ys → prefix ≡ ys

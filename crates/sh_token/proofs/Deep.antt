@@ -17,14 +17,14 @@ use Rattle.sh_token_pieces.specs.Characters.{joins, Reads, Ahead, Next, Unknown,
 use Rattle.sh_token_pieces.specs.Pieces.{stands, in_word, is_text, between_tokens, begins_word, ends_word, same_as, ends_operator, is_more, behind_byte, with_token, top_of, levels, word_begins, ArePieces, contexts_behind}
 use Rattle.sh_token_pieces.specs.TokenClasses.{Told, OfOperator, OfWord, is_byte, class_of_word, class_of_operator}
 use Rattle.sh_token.specs.Tokens.{Joined, OpensLevel, braces, parenthesis, backquote, Exceeds, OpensTooMany, form, operator, word, IsTooDeep}
-use Rattle.sh_token.specs.Machine.{State, On, DollarTooDeep, TooDeep, WordTooDeep, step, opens, grow, after_dollar, end_word, operator_out, word_out, is_over_full}
-use Rattle.sh_token.specs.Run.{begins_form, begins_word as word_begun, Deep, EndsDeep, Places, with_next_prefix, with_prefix, after_character, run, scan_of, word_end, word_ended, last_token}
-use Rattle.sh_token.proofs.Running.{placed, after, character_run}
-use Rattle.sh_token.proofs.Tests.{and_true, and_false, word_no_text, text_token, levels_taken}
-use Rattle.sh_token.proofs.Leads.{begun, kept, settled}
-use Rattle.sh_token.proofs.Bytes.{dollar_in, stood, byte_stood, inner_on}
-use Rattle.sh_token.proofs.Pieces.{backquote_in}
-use Rattle.sh_token.proofs.Between.{word_plain, first_byte, closing_word, same_is}
+use Rattle.sh_token_scanner.specs.Machine.{State, On, DollarTooDeep, TooDeep, WordTooDeep, step, opens, grow, after_dollar, end_word, operator_out, word_out, is_over_full}
+use Rattle.sh_token_scanner.specs.Run.{begins_form, begins_word as word_begun, Deep, EndsDeep, Places, with_next_prefix, with_prefix, after_character, run, scan_of, word_end, word_ended, last_token}
+use Rattle.sh_token_scanner.proofs.Running.{placed, after, character_run}
+use Rattle.sh_token_scanner.proofs.Tests.{and_true, and_false, word_no_text, text_token, levels_taken}
+use Rattle.sh_token_scanner.proofs.Leads.{begun, kept, settled}
+use Rattle.sh_token_scanner.proofs.Bytes.{dollar_in, stood, byte_stood, inner_on}
+use Rattle.sh_token_scanner.proofs.Pieces.{backquote_in}
+use Rattle.sh_token_scanner.proofs.Between.{word_plain, first_byte, closing_word, same_is}
 use Rattle.sh_token.proofs.Complete.{no_joins, reached, within_word}
 use Rattle.sh_token.proofs.Gaps.{behind_open}
 use Rattle.sh_token.proofs.WordStarts.{ahead_joins, begins_by, byte_of, begins_bytes, begins_some}

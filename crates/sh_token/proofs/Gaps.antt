@@ -12,9 +12,9 @@ use Rattle.sh_token_pieces.specs.Pieces.{IsPiece, ArePieces, behind, is_gap, end
 use Rattle.sh_token.specs.declared.token.TokenKind.{TokenKind}
 use Rattle.sh_token.specs.Tokens.{word_kind}
 use Rattle.sh_token.specs.Found.{is_of_token, place_or, gap_length, kind_by, kind_from, kind_of}
-use Rattle.sh_token.proofs.Tests.{and_true, and_both}
-use Rattle.sh_token.proofs.Leads.{settled, Leads, stay, joined}
-use Rattle.sh_token.proofs.Between.{blank_leads, comment_leads}
+use Rattle.sh_token_scanner.proofs.Tests.{and_true, and_both}
+use Rattle.sh_token_scanner.proofs.Leads.{settled, Leads, stay, joined}
+use Rattle.sh_token_scanner.proofs.Between.{blank_leads, comment_leads}
 
 gap_piece : (e : Bool) (limit : ℕ) (done : List Piece) (m : Piece) (bytes after : List ℕ) → is_gap m ≡ true → IsPiece e limit done Top [] m bytes after
     → Leads false e (settled limit done (Top ∷ [])) bytes (settled limit (done ++ m ∷ []) (Top ∷ [])) after × (behind done Top [] m ≡ Top ∷ [])

@@ -12,8 +12,8 @@ use Rattle.sh_token_pieces.specs.Pieces.{ArePieces, behind}
 use Rattle.sh_token_pieces.specs.Spelling.{spell_piece}
 use Rattle.sh_token.specs.declared.token.TokenKind.{TokenKind}
 use Rattle.sh_token.specs.Tokens.{Joined, IsToken, ending, operator, word, HasToken, IsTooDeep}
-use Rattle.sh_token.specs.Machine.{State}
-use Rattle.sh_token.specs.Run.{Scanned, Ended, Deep, Open, scan_of}
+use Rattle.sh_token_scanner.specs.Machine.{State}
+use Rattle.sh_token_scanner.specs.Run.{Scanned, Ended, Deep, Open, scan_of}
 use Rattle.sh_token.specs.FirstToken.{FirstToken, Found, Unfinished, DeepAt, IsFirst}
 use Rattle.sh_token.specs.Found.{kind_of, token_of, first_token}
 use Rattle.sh_token.proofs.Complete.{complete}

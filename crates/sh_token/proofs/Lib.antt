@@ -1,12 +1,3 @@
-pub mod Running
-pub mod Tests
-pub mod Grounds
-pub mod Leads
-pub mod Bodies
-pub mod Bytes
-pub mod Pieces
-pub mod Between
-pub mod Inner
 pub mod Gaps
 pub mod Complete
 pub mod Deep
@@ -14,13 +5,11 @@ pub mod WordStarts
 pub mod Paths
 pub mod Sound
 pub mod Steps
-pub mod Growing
 pub mod Begun
 pub mod Whole
 pub mod Texts
 pub mod Laws
 pub mod Places
-pub mod Loose
 pub mod BodyComplete
 pub mod BodySound
 pub mod BodyLaws

@@ -20,14 +20,14 @@ use Rattle.sh_token_pieces.specs.Pieces.{IsPiece, ArePieces, behind, contexts_be
 use Rattle.sh_token_pieces.specs.TokenClasses.{Told, OfOperator, OfWord, OfBodies, class_of_word}
 use Rattle.sh_token_grammar.specs.Levels.{begins_compound}
 use Rattle.sh_token.specs.Tokens.{begins_join, Joined, IsToken, word, OpensLevel, Exceeds, OpensTooMany, form, operator}
-use Rattle.sh_token.specs.Machine.{State, Stepped, On, Before, After, TooDeep, DollarTooDeep, WordTooDeep}
-use Rattle.sh_token.specs.Run.{Scanned, Ended, Deep, Open}
+use Rattle.sh_token_scanner.specs.Machine.{State, Stepped, On, Before, After, TooDeep, DollarTooDeep, WordTooDeep}
+use Rattle.sh_token_scanner.specs.Run.{Scanned, Ended, Deep, Open}
 use Rattle.sh_token.specs.Found.{kind_of}
-use Rattle.sh_token.proofs.Bodies.{Stands}
-use Rattle.sh_token.proofs.Tests.{and_true, and_both, not_false}
-use Rattle.sh_token.proofs.Grounds.{free, free_contexts, never_text, never_body, no_token_over}
-use Rattle.sh_token.proofs.Leads.{begun, settled}
-use Rattle.sh_token.proofs.Inner.{Inside, inside_behind}
+use Rattle.sh_token_scanner.proofs.Bodies.{Stands}
+use Rattle.sh_token_scanner.proofs.Tests.{and_true, and_both, not_false}
+use Rattle.sh_token_scanner.proofs.Grounds.{free, free_contexts, never_text, never_body, no_token_over}
+use Rattle.sh_token_scanner.proofs.Leads.{begun, settled}
+use Rattle.sh_token_scanner.proofs.Inner.{Inside, inside_behind}
 use Rattle.sh_token.proofs.Gaps.{behind_open, word_kind_of}
 use Rattle.sh_token.proofs.WordStarts.{parts, contexts_parts, ends_prefix, word_placed}
 

@@ -15,12 +15,12 @@ use Rattle.sh_token_pieces.specs.Spelling.{spell_piece}
 use Rattle.sh_token_pieces.specs.Pieces.{ArePieces, behind, is_word, begins_word, ends_word, same_as}
 use Rattle.sh_token.specs.declared.token.TokenKind.{TokenKind}
 use Rattle.sh_token.specs.Tokens.{IsToken, ending, operator, word, HasToken}
-use Rattle.sh_token.specs.Machine.{State}
-use Rattle.sh_token.specs.Run.{Ended, scan_of}
+use Rattle.sh_token_scanner.specs.Machine.{State}
+use Rattle.sh_token_scanner.specs.Run.{Ended, scan_of}
 use Rattle.sh_token.specs.Found.{kind_of}
 use Rattle.sh_token.specs.Placed.{IsPlaced}
-use Rattle.sh_token.proofs.Tests.{and_true, not_true}
-use Rattle.sh_token.proofs.Between.{Made, one_byte, two_bytes, three_bytes, made}
+use Rattle.sh_token_scanner.proofs.Tests.{and_true, not_true}
+use Rattle.sh_token_scanner.proofs.Between.{Made, one_byte, two_bytes, three_bytes, made}
 use Rattle.sh_token.proofs.Texts.{Answered, sound}
 use Rattle.sh_token.proofs.Laws.{reads_length, written_length, token_ordered}
 

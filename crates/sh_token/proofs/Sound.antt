@@ -18,11 +18,11 @@ use Rattle.sh_token_pieces.specs.Pieces.{stands, quotes, fits, exceeds, IsPiece,
 use Rattle.sh_token_pieces.specs.TokenClasses.{OfOperator, class_of_operator}
 use Rattle.sh_token_grammar.specs.Levels.{begins_compound}
 use Rattle.sh_token.specs.Tokens.{Joined, OpensLevel, backquote}
-use Rattle.sh_token.specs.Machine.{State, On, After, TooDeep, is_over_full, over, grow, opens, inner_byte, word_byte, escape, operator_out, same, into, out, out_level}
-use Rattle.sh_token.proofs.Tests.{and_true, and_both, not_false, text_token, levels_taken}
-use Rattle.sh_token.proofs.Leads.{begun, kept, settled}
-use Rattle.sh_token.proofs.Bytes.{inner_on, inner_parenthesis, levels_parenthesized}
-use Rattle.sh_token.proofs.Pieces.{quotes_level, brace_level}
+use Rattle.sh_token_scanner.specs.Machine.{State, On, After, TooDeep, is_over_full, over, grow, opens, inner_byte, word_byte, escape, operator_out, same, into, out, out_level}
+use Rattle.sh_token_scanner.proofs.Tests.{and_true, and_both, not_false, text_token, levels_taken}
+use Rattle.sh_token_scanner.proofs.Leads.{begun, kept, settled}
+use Rattle.sh_token_scanner.proofs.Bytes.{inner_on, inner_parenthesis, levels_parenthesized}
+use Rattle.sh_token_scanner.proofs.Pieces.{quotes_level, brace_level}
 use Rattle.sh_token.proofs.WordStarts.{ahead_joins, begins_by, parenthesis_from}
 use Rattle.sh_token.proofs.Paths.{Subject, IsBlank, Path, path_on, DeepSome, deep_here, operator_here, Going, either, settled_at, no_join_at, pending_levels, Held, Preceded}
 

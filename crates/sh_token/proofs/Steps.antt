@@ -3,7 +3,7 @@ use Rattle.std.proofs.Common.{◌≡◌, ℕ, suc, Bool, true, false, ◌&&◌, 
 use Rattle.std.specs.List.{list_all}
 use Rattle.std.proofs.lemmas.List.Folds.{list_all-append}
 use Rattle.sh_base.specs.Names.{is_name, begins_name, continues_name}
-use Rattle.sh_token.proofs.Bodies.{at_first}
+use Rattle.sh_token_scanner.proofs.Bodies.{at_first}
 use Rattle.sh_token_pieces.specs.declared.character.Character.{Character}
 use Rattle.sh_token_pieces.specs.declared.character.Character.TheVariants.{Plain, Quoted, Raw}
 use Rattle.sh_token_pieces.specs.declared.head.Head.{Head}
@@ -18,11 +18,11 @@ use Rattle.sh_token_pieces.specs.Growth.{operator_of}
 use Rattle.sh_token_pieces.specs.Heads.{grown_head, head_step, head_from, is_some_head, grows_head}
 use Rattle.sh_token_pieces.specs.Pieces.{fits, exceeds, word_begins, IsPiece, behind, ends_token, in_word, is_text, top_of, between_tokens, is_word, may_close, levels, begins_word, ends_word, same_as, is_right_parenthesis, with_class, with_token, is_newline, is_more, has_due, due_in}
 use Rattle.sh_token_pieces.specs.TokenClasses.{Told, OfWord}
-use Rattle.sh_token.specs.Machine.{State, is_top, is_over_full, act, between, end_word, plain_byte, quoted_byte, word_out, same, out_level}
-use Rattle.sh_token.proofs.Running.{begin_of, is_raw_character}
-use Rattle.sh_token.proofs.Tests.{and_true, and_both, and_left, below, below_word, text_token, between_token, text_serves, levels_taken, or_none}
-use Rattle.sh_token.proofs.Leads.{kept, settled}
-use Rattle.sh_token.proofs.Between.{closes_level}
+use Rattle.sh_token_scanner.specs.Machine.{State, is_top, is_over_full, act, between, end_word, plain_byte, quoted_byte, word_out, same, out_level}
+use Rattle.sh_token_scanner.proofs.Running.{begin_of, is_raw_character}
+use Rattle.sh_token_scanner.proofs.Tests.{and_true, and_both, and_left, below, below_word, text_token, between_token, text_serves, levels_taken, or_none}
+use Rattle.sh_token_scanner.proofs.Leads.{kept, settled}
+use Rattle.sh_token_scanner.proofs.Between.{closes_level}
 use Rattle.sh_token.proofs.Paths.{Subject, IsBlank, Path, path_on, word_here, final_word, Going, either}
 use Rattle.sh_token.proofs.Sound.{ahead_plain, ahead_quoted, plain_at, one_of, operator_of_text, right_parenthesis_byte, ends_piece, begins_piece, word_byte_sound, escape_sound, grow_sound, newline_byte}
 

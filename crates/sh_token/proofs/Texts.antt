@@ -13,13 +13,13 @@ use Rattle.sh_token_pieces.specs.Characters.{joins, Reads, Written, plain, raw, 
 use Rattle.sh_token_pieces.specs.Growth.{operator_of}
 use Rattle.sh_token_pieces.specs.Pieces.{IsPiece, ArePieces, behind, contexts_behind, is_gap, begins_word, ends_comment}
 use Rattle.sh_token.specs.Tokens.{begins_join, Joined, ending, HasToken, IsTooDeep}
-use Rattle.sh_token.specs.Machine.{State, Stepped, On, grow, plain_byte, quoted_byte, between, escape, in_comment, word_byte}
-use Rattle.sh_token.specs.Run.{Scanned, Ended, Deep, Open, Places, with_next_prefix, after_character, run, scan_of}
+use Rattle.sh_token_scanner.specs.Machine.{State, Stepped, On, grow, plain_byte, quoted_byte, between, escape, in_comment, word_byte}
+use Rattle.sh_token_scanner.specs.Run.{Scanned, Ended, Deep, Open, Places, with_next_prefix, after_character, run, scan_of}
 use Rattle.sh_token.specs.Found.{kind_of}
-use Rattle.sh_token.proofs.Running.{placed, after, character_run}
-use Rattle.sh_token.proofs.Tests.{and_true, and_both, and_false, not_false}
-use Rattle.sh_token.proofs.Leads.{begun, settled}
-use Rattle.sh_token.proofs.Between.{plain_between, between_blank, between_hash, between_operator, between_word}
+use Rattle.sh_token_scanner.proofs.Running.{placed, after, character_run}
+use Rattle.sh_token_scanner.proofs.Tests.{and_true, and_both, and_false, not_false}
+use Rattle.sh_token_scanner.proofs.Leads.{begun, settled}
+use Rattle.sh_token_scanner.proofs.Between.{plain_between, between_blank, between_hash, between_operator, between_word}
 use Rattle.sh_token.proofs.Gaps.{gap_kind}
 use Rattle.sh_token.proofs.Paths.{WordBehind, Path, Going, Shown, are_pieces_snoc, no_join_at}
 use Rattle.sh_token.proofs.Sound.{ahead_plain, ahead_quoted, operator_of_text, plain_at, one_of, word_byte_sound, escape_sound}

@@ -20,15 +20,15 @@ use Rattle.sh_token_pieces.specs.Pieces.{fits, IsPiece, is_text, top_of, is_word
 use Rattle.sh_token_pieces.specs.TokenClasses.{Told, OfWord, OfOperator, class_of_operator}
 use Rattle.sh_token_grammar.specs.Levels.{begins_compound}
 use Rattle.sh_token.specs.Tokens.{IsToken, operator}
-use Rattle.sh_token.specs.Machine.{State, Stepped, On, Before, After, TooDeep, DollarTooDeep, WordTooDeep, step, is_top, is_over_full, grow, grow_to, in_operator, operator_out, word_out}
-use Rattle.sh_token.specs.Run.{Open, Places, with_next_prefix, with_prefix, after_character, begins_form, begins_word as word_begun, is_gap_state, Ending, EndsIn, EndsDeep, EndsNot, last_token, last_places, word_end, word_ended, ended_in, run}
+use Rattle.sh_token_scanner.specs.Machine.{State, Stepped, On, Before, After, TooDeep, DollarTooDeep, WordTooDeep, step, is_top, is_over_full, grow, grow_to, in_operator, operator_out, word_out}
+use Rattle.sh_token_scanner.specs.Run.{Open, Places, with_next_prefix, with_prefix, after_character, begins_form, begins_word as word_begun, is_gap_state, Ending, EndsIn, EndsDeep, EndsNot, last_token, last_places, word_end, word_ended, ended_in, run}
 use Rattle.sh_token.specs.Found.{kind_of}
-use Rattle.sh_token.proofs.Running.{placed, after, follow, fed_backslash, joins_run, begin_of, is_raw_character, character_run}
-use Rattle.sh_token.proofs.Tests.{and_both, and_false, and_right, not_false, below, text_token, text_serves, levels_taken}
-use Rattle.sh_token.proofs.Leads.{begun, settled}
-use Rattle.sh_token.proofs.Between.{between_no_word, between_no_body}
+use Rattle.sh_token_scanner.proofs.Running.{placed, after, follow, fed_backslash, joins_run, begin_of, is_raw_character, character_run}
+use Rattle.sh_token_scanner.proofs.Tests.{and_both, and_false, and_right, not_false, below, text_token, text_serves, levels_taken}
+use Rattle.sh_token_scanner.proofs.Leads.{begun, settled}
+use Rattle.sh_token_scanner.proofs.Between.{between_no_word, between_no_body}
 use Rattle.sh_token.proofs.Gaps.{kind_last}
-use Rattle.sh_token.proofs.Growing.{grown_text}
+use Rattle.sh_token_scanner.proofs.Growing.{grown_text}
 use Rattle.sh_token.proofs.Paths.{WordBehind, Path, At, Held, Preceded, pending_levels, final_word, word_here, no_body, Going, Shown, path_on}
 use Rattle.sh_token.proofs.WordStarts.{ahead_joins}
 use Rattle.sh_token.proofs.Sound.{ahead_plain, ahead_quoted, whole_operator}

@@ -15,7 +15,7 @@ use Rattle.sh_token_pieces.specs.Operators.{operator_text}
 use Rattle.sh_token_pieces.specs.Pieces.{ArePieces, behind, contexts_behind, ends_token, ends_none, between_tokens, begins_word}
 use Rattle.sh_token_pieces.specs.TokenClasses.{is_byte, assigns, literal_prefix, class_of_literal, class_of_word, class_of_operator}
 use Rattle.sh_token.specs.Tokens.{begins_join, Joined, Exceeds, OpensTooMany, word}
-use Rattle.sh_token.proofs.Tests.{and_true, and_both}
+use Rattle.sh_token_scanner.proofs.Tests.{and_true, and_both}
 
 pub ahead_joins : (e : Bool) (n : ℕ) (ys : List ℕ) → ahead e (joins n ++ ys) ≡ ahead e ys
 ahead_joins e zero ys = refl

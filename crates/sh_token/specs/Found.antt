@@ -7,7 +7,7 @@ use Rattle.sh_token.specs.Tokens.{word_kind}
 use Rattle.sh_token.specs.FirstToken.{FirstToken, Found, Unfinished, DeepAt}
 use Rattle.sh_token_pieces.specs.declared.context.Context.TheVariants.{Body}
 use Rattle.sh_token.specs.Body.{BodyPieces, AllOf, OpenAt, TooDeepAt}
-use Rattle.sh_token.specs.Run.{Scanned, Ended, Deep, Open, scan_of, scanned_in}
+use Rattle.sh_token_scanner.specs.Run.{Scanned, Ended, Deep, Open, scan_of, scanned_in}
 
 abbrev pub is_of_token : Piece → Bool
 is_of_token m = not (is_gap m)

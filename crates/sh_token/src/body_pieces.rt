@@ -5,11 +5,11 @@ ghost use Rattle.sh_token_pieces.specs.declared.context.Context.TheVariants.{Bod
 ghost use Rattle.sh_token.specs.Body.{BodyPieces, IsBody, body_answer, GivesPieces};
 ghost use Rattle.sh_token.specs.Found.{pieces_of_body};
 
-use crate::scanner::{Outcome, scan};
 use sh_base::NoMemory;
 use sh_base::sequence::Sequence;
 use sh_token_pieces::context::Context;
 use sh_token_pieces::piece::Piece;
+use sh_token_scanner::scanner::{Outcome, scan};
 use std::alloc::{AllocError, Global};
 use thiserror::Error;
 

@@ -6,13 +6,13 @@ ghost use Rattle.sh_token.specs.FirstToken.{FirstToken, IsFirst, answer_at, Give
 ghost use Rattle.sh_token.specs.Placed.{IsPlaced};
 
 use crate::kind::kind;
-use crate::scanner::{Outcome, scan};
 use sh_base::NoMemory;
 use sh_base::sequence::Sequence;
 use sh_base::span::Span;
 use sh_token_pieces::context::Context;
 use sh_token_pieces::operator::Operator;
 use sh_token_pieces::piece::Piece;
+use sh_token_scanner::scanner::{Outcome, scan};
 use std::alloc::{AllocError, Global};
 use thiserror::Error;
 

@@ -1,5 +1,5 @@
 use Rattle.std.proofs.Common.{rules, ◌≡◌}
-use Rattle.sh_token.specs.Run.{Ended, scan_of}
+use Rattle.sh_token_scanner.specs.Run.{Ended, scan_of}
 use Rattle.sh_token.specs.Found.{kind_of}
 use Rattle.sh_token.proofs.Places.{placed_shown}
 use Rattle.sh_token.proofs.token.next_token_within.Goals as goal

@@ -12,10 +12,10 @@ use Rattle.sh_token_pieces.specs.Characters.{Reads, Written, plain, raw}
 use Rattle.sh_token_pieces.specs.Pendings.{is_raw, is_gap_pending}
 use Rattle.sh_token_pieces.specs.Pieces.{levels, is_text, top_of, is_backquoted}
 use Rattle.sh_token_pieces.specs.Heads.{grown_head, head_from}
-use Rattle.sh_token.specs.Machine.{State, On, step, head_byte, in_head, in_backquotes}
-use Rattle.sh_token.specs.Run.{is_gap_state, begins_form, begins_word, Places, with_next_prefix, with_prefix, after_character, run}
-use Rattle.sh_token.proofs.Running.{placed, after, begin_of, is_raw_character, character_run, Alike, Cooked, alike}
-use Rattle.sh_token.proofs.Tests.{and_true, not_true}
+use Rattle.sh_token_scanner.specs.Machine.{State, On, step, head_byte, in_head, in_backquotes}
+use Rattle.sh_token_scanner.specs.Run.{is_gap_state, begins_form, begins_word, Places, with_next_prefix, with_prefix, after_character, run}
+use Rattle.sh_token_scanner.proofs.Running.{placed, after, begin_of, is_raw_character, character_run, Alike, Cooked, alike}
+use Rattle.sh_token_scanner.proofs.Tests.{and_true, not_true}
 
 -- a state with a piece that has begun, and one with none
 abbrev pub begun : ℕ → List Context → List Piece → ℕ → Pending → List ℕ → State

@@ -1,7 +1,7 @@
 -- The byte-wise growth of an operator is that of its text.
 use Rattle.std.proofs.Common.{◌≡◌, ℕ, Bool, true, false, nat_eq, [], ◌∷◌, ◌++◌, Some, None, refl, sym, ap, ◌∙◌, cond, eqb-true}
 use Rattle.std.specs.Str.{bytes_eq}
-use Rattle.sh_token.proofs.Tests.{and_false}
+use Rattle.sh_token_scanner.proofs.Tests.{and_false}
 use Rattle.sh_token_pieces.specs.declared.operator.Operator.{Operator}
 use Rattle.sh_token_pieces.specs.declared.operator.Operator.TheVariants.{And, Semicolon, Pipe, Less, Great, LeftParenthesis, RightParenthesis, Newline, AndIf, OrIf, DoubleSemicolon, DoubleLess, DoubleGreat, LessAnd, GreatAnd, LessGreat, DoubleLessDash, Clobber}
 use Rattle.sh_token_pieces.specs.Operators.{operator_text}

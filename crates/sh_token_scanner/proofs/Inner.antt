@@ -14,10 +14,10 @@ use Rattle.sh_token_pieces.specs.Characters.{ahead, next_is}
 use Rattle.sh_token_pieces.specs.Heads.{head_of}
 use Rattle.sh_token_pieces.specs.Pieces.{fits, quotes, IsPiece, ArePieces, behind, contexts_behind, ends_token, ends_none, in_word, is_text, top_of, between_tokens, is_quotes, is_braces, is_arithmetic, is_parenthesis, has_single_quotes, is_quoted, may_close, is_backquoted, is_head, braces_of, levels, begins_word, ends_word, same_as, ends_comment, ends_operator, with_token, is_more, has_due, due_in}
 use Rattle.sh_token_pieces.specs.TokenClasses.{OfWord, OfBodies}
-use Rattle.sh_token.proofs.Tests.{and_true, not_true, nested, nested_behind, below_word, word_no_text, text_token}
-use Rattle.sh_token.proofs.Leads.{settled, Leads, stay, joined}
-use Rattle.sh_token.proofs.Pieces.{level_open, byte_leads, escaped_leads, backslash_leads, single_leads, open_leads, close_leads, brace_leads, dollar_leads, variable_leads, parameter_leads, head_leads, arithmetic_leads, commands_leads, arithmetic_over, backquoted_leads}
-use Rattle.sh_token.proofs.Between.{blank_leads, comment_leads, commands_over, word_leads, operator_leads, word_over_leads, bodies_leads}
+use Rattle.sh_token_scanner.proofs.Tests.{and_true, not_true, nested, nested_behind, below_word, word_no_text, text_token}
+use Rattle.sh_token_scanner.proofs.Leads.{settled, Leads, stay, joined}
+use Rattle.sh_token_scanner.proofs.Pieces.{level_open, byte_leads, escaped_leads, backslash_leads, single_leads, open_leads, close_leads, brace_leads, dollar_leads, variable_leads, parameter_leads, head_leads, arithmetic_leads, commands_leads, arithmetic_over, backquoted_leads}
+use Rattle.sh_token_scanner.proofs.Between.{blank_leads, comment_leads, commands_over, word_leads, operator_leads, word_over_leads, bodies_leads}
 
 -- what is left stands in a word
 quotes_popped : (x : Context) (xs : List Context) → nested (x ∷ xs) ≡ true → is_quotes x ≡ true → is_text (top_of xs) ≡ false

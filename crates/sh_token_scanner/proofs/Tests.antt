@@ -14,7 +14,7 @@ use Rattle.sh_token_pieces.specs.Pieces.{stands, ends_word, same_as, fits, behin
 use Rattle.sh_token_pieces.specs.Nested.{open_in}
 use Rattle.sh_token_pieces.specs.TokenClasses.{Told, OfOperator, OfWord, OfBodies, with_told}
 use Rattle.sh_token_grammar.specs.Shell.{substitution}
-use Rattle.sh_token.specs.Machine.{in_place}
+use Rattle.sh_token_scanner.specs.Machine.{in_place}
 
 pub not_or : (c d : Bool) → not (c || d) ≡ true → (c ≡ false) × (d ≡ false)
 not_or true d h = absurd (cc)

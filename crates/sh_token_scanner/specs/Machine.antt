@@ -19,7 +19,7 @@ use Rattle.sh_token_grammar.specs.Levels.{begins_compound}
 use Rattle.sh_token_pieces.specs.TokenClasses.{OfOperator, OfBodies, class_of_operator}
 use Rattle.sh_token_pieces.specs.Nested.{none_yet}
 use Rattle.sh_token_pieces.specs.declared.here.Delimiter.{Delimiter}
-use Rattle.sh_token.specs.declared.body.LineEnd.{LineEnd}
+use Rattle.sh_token_scanner.specs.declared.body.LineEnd.{LineEnd}
 use Rattle.sh_token_pieces.specs.Here.{is_end_line, joins_next}
 
 pub record State : Type 0 where

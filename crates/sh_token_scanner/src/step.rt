@@ -4,8 +4,8 @@ ghost use Rattle.sh_token_pieces.specs.Growth.{operator_of, may_grow};
 ghost use Rattle.std.specs.Prelude.{◌≡◌, IfOk, Option, Some, None};
 ghost use Rattle.sh_token_pieces.specs.Growth.{longer_operator};
 ghost use Rattle.sh_token_pieces.specs.Heads.{grown_head};
-ghost use Rattle.sh_token.specs.Machine.{inner_byte, word_byte, grow, between, after_word, end_word, plain_byte, escape, quoted_byte, act, form_byte, after_dollar, after_parenthesis, in_name, head_byte, in_head, in_single, in_backquotes, in_escape, at_parenthesis, then_act, grow_to, in_operator, in_comment, step_in, step, opens, at_dollar, over};
-ghost use Rattle.sh_token.specs.Steps.{with_state};
+ghost use Rattle.sh_token_scanner.specs.Machine.{inner_byte, word_byte, grow, between, after_word, end_word, plain_byte, escape, quoted_byte, act, form_byte, after_dollar, after_parenthesis, in_name, head_byte, in_head, in_single, in_backquotes, in_escape, at_parenthesis, then_act, grow_to, in_operator, in_comment, step_in, step, opens, at_dollar, over};
+ghost use Rattle.sh_token_scanner.specs.Steps.{with_state};
 
 use crate::body::take_in_body;
 use crate::state::State;

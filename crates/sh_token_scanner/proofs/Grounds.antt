@@ -9,7 +9,7 @@ use Rattle.sh_token_pieces.specs.Heads.{head_of, reads_bare}
 use Rattle.sh_token_pieces.specs.Nested.{Nested, none_yet}
 use Rattle.sh_token_pieces.specs.Pieces.{behind, contexts_behind, with_token, word_over, behind_byte, braces_of, is_text, is_body, is_word, is_arithmetic, is_parenthesis, is_quoted, top_of}
 use Rattle.sh_token_pieces.specs.TokenClasses.{Told, OfOperator, OfWord, OfBodies, with_told}
-use Rattle.sh_token.proofs.Tests.{and_true, and_both, not_false, nested}
+use Rattle.sh_token_scanner.proofs.Tests.{and_true, and_both, not_false, nested}
 
 -- the test holds for no context that is gone into
 pub record Never (f : Context → Bool) : Type 0 where

@@ -1,7 +1,7 @@
 -- Each piece between tokens is run to its end.
 use Rattle.std.proofs.Common.{◌≡◌, ℕ, suc, Bool, true, false, ◌||◌, ◌&&◌, not, nat_eq, nat_lt, List, [], ◌∷◌, ◌++◌, ◌-◌, length, drop, Option, Some, None, refl, sym, ap, ◌∙◌, subst, eqb-true}
 use Rattle.std.specs.List.{list_all}
-use Rattle.sh_token.proofs.Bodies.{at_first, within, ended_at, bodies_keep}
+use Rattle.sh_token_scanner.proofs.Bodies.{at_first, within, ended_at, bodies_keep}
 use Rattle.sh_token_pieces.specs.Here.{lines, are_bodies}
 use Rattle.sh_token_pieces.specs.declared.character.Character.TheVariants.{Plain, Quoted, Raw}
 use Rattle.sh_token_pieces.specs.declared.operator.Operator.{Operator}
@@ -20,13 +20,13 @@ use Rattle.sh_token_pieces.specs.Pieces.{is_text, is_body, top_of, between_token
 use Rattle.sh_token_pieces.specs.Nested.{open_in}
 use Rattle.sh_token_pieces.specs.TokenClasses.{Told, OfOperator, OfWord, OfBodies, class_of_operator}
 use Rattle.sh_token_grammar.specs.Levels.{begins_compound}
-use Rattle.sh_token.specs.Machine.{State, On, step, is_top, is_over_full, in_place, grow, grow_to, word_byte, between, after_word, end_word, plain_byte, quoted_byte, in_operator, in_comment, word_out, operator_out, same, pend, into, out_level}
-use Rattle.sh_token.specs.Run.{is_gap_state, byte_step, run, word_end}
-use Rattle.sh_token.proofs.Running.{Alike}
-use Rattle.sh_token.proofs.Tests.{and_true, not_true, or_false, and_left, text_token, between_token, levels_taken, levels_left}
-use Rattle.sh_token.proofs.Leads.{begun, kept, settled, Leads, joined, goes, same_ahead, raw_keeps}
-use Rattle.sh_token.proofs.Bytes.{byte_in}
-use Rattle.sh_token.proofs.Pieces.{one}
+use Rattle.sh_token_scanner.specs.Machine.{State, On, step, is_top, is_over_full, in_place, grow, grow_to, word_byte, between, after_word, end_word, plain_byte, quoted_byte, in_operator, in_comment, word_out, operator_out, same, pend, into, out_level}
+use Rattle.sh_token_scanner.specs.Run.{is_gap_state, byte_step, run, word_end}
+use Rattle.sh_token_scanner.proofs.Running.{Alike}
+use Rattle.sh_token_scanner.proofs.Tests.{and_true, not_true, or_false, and_left, text_token, between_token, levels_taken, levels_left}
+use Rattle.sh_token_scanner.proofs.Leads.{begun, kept, settled, Leads, joined, goes, same_ahead, raw_keeps}
+use Rattle.sh_token_scanner.proofs.Bytes.{byte_in}
+use Rattle.sh_token_scanner.proofs.Pieces.{one}
 
 pub closes_between : (x : Context) → may_close x ≡ true → between_tokens x ≡ true
 closes_between Top h = absurd (cc)

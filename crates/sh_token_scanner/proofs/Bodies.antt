@@ -12,8 +12,8 @@ use Rattle.sh_token_pieces.specs.Characters.{Written, raw}
 use Rattle.sh_token_pieces.specs.Here.{lines, is_end_line, joins_next, is_nothing, are_bodies}
 use Rattle.sh_token_pieces.specs.TokenClasses.{OfBodies}
 use Rattle.sh_token_pieces.specs.Pieces.{due_in, are_some, top_of, with_token}
-use Rattle.sh_token.specs.Machine.{State, On, in_place, in_body, line_end, line_over, line_of, bodies_out}
-use Rattle.sh_token.proofs.Leads.{begun, kept, Leads, stay, joined, goes}
+use Rattle.sh_token_scanner.specs.Machine.{State, On, in_place, in_body, line_end, line_over, line_of, bodies_out}
+use Rattle.sh_token_scanner.proofs.Leads.{begun, kept, Leads, stay, joined, goes}
 
 drop_next : (n : ℕ) (due others : List Delimiter) (d : Delimiter) → drop n due ≡ d ∷ others → drop (suc n) due ≡ others
 drop_next zero [] others d h = absurd (cc)

@@ -12,11 +12,11 @@ use Rattle.sh_token_pieces.specs.Bytes.{is_short_parameter}
 use Rattle.sh_base.specs.Names.{begins_name, continues_name}
 use Rattle.sh_token_pieces.specs.Pendings.{is_raw}
 use Rattle.sh_token_pieces.specs.Pieces.{is_body, top_of}
-use Rattle.sh_token.specs.Machine.{State, Stepped, On, Before, After, TooDeep, DollarTooDeep, WordTooDeep, step, plain_byte, quoted_byte, word_byte, inner_byte, in_name, after_dollar, at_dollar, opens, pend, same}
-use Rattle.sh_token.specs.Run.{Fed, Waits, Takes, byte_step, Open, Places, is_gap_state, begins_form, begins_word as word_begun, Ending, EndsIn, EndsDeep, EndsNot, ended_in, last_token, with_next_prefix, with_prefix, after_character, after_wait, last_places, last_step, last, run}
-use Rattle.sh_token.proofs.Running.{follow, is_raw_character}
-use Rattle.sh_token.proofs.Tests.{and_false}
-use Rattle.sh_token.proofs.Leads.{begun}
+use Rattle.sh_token_scanner.specs.Machine.{State, Stepped, On, Before, After, TooDeep, DollarTooDeep, WordTooDeep, step, plain_byte, quoted_byte, word_byte, inner_byte, in_name, after_dollar, at_dollar, opens, pend, same}
+use Rattle.sh_token_scanner.specs.Run.{Fed, Waits, Takes, byte_step, Open, Places, is_gap_state, begins_form, begins_word as word_begun, Ending, EndsIn, EndsDeep, EndsNot, ended_in, last_token, with_next_prefix, with_prefix, after_character, after_wait, last_places, last_step, last, run}
+use Rattle.sh_token_scanner.proofs.Running.{follow, is_raw_character}
+use Rattle.sh_token_scanner.proofs.Tests.{and_false}
+use Rattle.sh_token_scanner.proofs.Leads.{begun}
 
 -- in a body, no form has begun, nor a `$`
 abbrev pub is_loose_in : Pending → Bool

@@ -6,9 +6,9 @@ ghost use Rattle.sh_token_pieces.specs.declared.pending.Pending.{Pending};
 ghost use Rattle.sh_token_pieces.specs.declared.piece.Piece.TheVariants.{WordOpen, CommandsOpen, Variable, BraceOpen};
 ghost use Rattle.sh_token_pieces.specs.Pieces.{between_tokens, is_word, is_quotes, is_braces, is_arithmetic, is_parenthesis, quotes, has_single_quotes, has_double_quotes, is_quoted, may_close, braces_of, compounds_in, word_begins};
 ghost use Rattle.sh_token_pieces.specs.Nested.{none_yet};
-ghost use Rattle.sh_token.specs.Steps.{with_state};
-ghost use Rattle.sh_token.specs.Run.{start, begins_in, begins_word};
-ghost use Rattle.sh_token.specs.Machine.{same, into, out, pend, keep, opens, out_level, level_over, word_out, operator_out, bodies_out, line_of, is_over_full};
+ghost use Rattle.sh_token_scanner.specs.Steps.{with_state};
+ghost use Rattle.sh_token_scanner.specs.Run.{start, begins_in, begins_word};
+ghost use Rattle.sh_token_scanner.specs.Machine.{same, into, out, pend, keep, opens, out_level, level_over, word_out, operator_out, bodies_out, line_of, is_over_full};
 
 use crate::step::Step;
 use sh_base::sequence::{Sequence, Text};
@@ -22,10 +22,11 @@ use std::alloc::{AllocError, Global};
 use std::marker::Model;
 use std::mem;
 
-/// The open contexts, the pieces so far, a piece that has begun and its bytes; how many levels are open, and
-/// how many may be open.
+/// What a scanner knows between two characters: the open contexts, the pieces so far, a piece that has begun and
+/// its bytes; how many levels are open, and how many may be open. A caller gets one from `scan`, and takes the
+/// pieces out of it.
 #[derive(Drop)]
-pub(crate) struct State {
+pub struct State {
     alloc: Global,
     contexts: Contexts,
     done: Vec<Piece>,
@@ -36,7 +37,7 @@ pub(crate) struct State {
 }
 
 impl Model for State {
-    ghost use Rattle.sh_token.specs.Machine.{State};
+    ghost use Rattle.sh_token_scanner.specs.Machine.{State};
 
     ghost Value = { State };
 
@@ -310,8 +311,9 @@ impl State {
         self.into(Context::Braces(quoted), Piece::BraceOpen(bytes))
     }
 
-    /// The pieces.
-    pub(crate) fn into_pieces(self) -> Vec<Piece>
+    /// The pieces that were found, in the order of the text; joined lines are left out. For a token (XCU 2.3) they
+    /// are the blanks and comments before it, and then its own pieces.
+    pub fn into_pieces(self) -> Vec<Piece>
         ensures { result.items ≡ self.done }
     {
         let State { done, .. } = self;

@@ -1,9 +1,9 @@
 //! A scanner for one token, which is fed byte by byte.
 ghost use Rattle.sh_token_pieces.specs.Pieces.{top_of};
 ghost use Rattle.std.specs.Prelude.{◌≡◌, IfOk, Option, Some, None, length};
-ghost use Rattle.sh_token.specs.Machine.{step, same, word_out, operator_out};
-ghost use Rattle.sh_token.specs.Run.{Places, Scanned, Ended, Deep, Open, byte_step, is_gap_state, begins_in, begins_form, word_ended, gap_ended, ended_in, word_end, last_token, last_places, last_step, with_next_prefix, with_prefix, last, after_character, after_wait, run, start, scanned_in};
-ghost use Rattle.sh_token.specs.Steps.{with_state, event, outcome, places, ending};
+ghost use Rattle.sh_token_scanner.specs.Machine.{step, same, word_out, operator_out};
+ghost use Rattle.sh_token_scanner.specs.Run.{Places, Scanned, Ended, Deep, Open, byte_step, is_gap_state, begins_in, begins_form, word_ended, gap_ended, ended_in, word_end, last_token, last_places, last_step, with_next_prefix, with_prefix, last, after_character, after_wait, run, start, scanned_in};
+ghost use Rattle.sh_token_scanner.specs.Steps.{with_state, event, outcome, places, ending};
 
 use crate::state::State;
 use crate::step::{Step, take};
@@ -33,14 +33,17 @@ pub(crate) enum Ending {
     Open,
 }
 
-/// What a scan of a text finds.
+/// What a scan of a text finds: a token or a body, or why there is none. A place in the text is given by the rest
+/// of the text from there on.
 #[derive(Drop)]
-pub(crate) enum Outcome<'a> {
-    /// A token, with the text from its first byte on and the text after it.
+pub enum Outcome<'a> {
+    /// A token or a body: the state at its end, the text from its first byte on, and the text after it. The end
+    /// of the input, which has no bytes, is found too.
     Ended(State, &'a [u8], &'a [u8]),
     /// The text from the place where a level too many opens.
     Deep(&'a [u8]),
-    /// No token: the text from the place where a form of a body began last.
+    /// No token or body, since the text ends first. The text from the place where a form of a body began last;
+    /// of a token this place says nothing.
     Open(&'a [u8]),
 }
 
@@ -272,9 +275,13 @@ impl<'a> Marked<'a> {
     }
 }
 
-/// Scans a text that begins in this context, up to the end of its first token. At most `limit` levels may be
-/// open.
-pub(crate) fn scan<'a>(
+/// Scans a text byte by byte, up to the end of what begins in the context `ground`: the first token in
+/// `Context::Top` (XCU 2.3), the body of a here-document in `Context::Body` (XCU 2.7.4). `at_end`: the end of the
+/// text is the end of the input; else the token may go on after the text, and nothing ends there. At most `limit`
+/// levels may be open: `${`, `$(`, `$((`, backquotes, and the compound commands inside a `$(`. Each byte is read
+/// once. An `AllocError` says that an allocator refused memory; then nothing is left of the scan, and the text is
+/// as it was.
+pub fn scan<'a>(
     alloc: Global,
     ground: Context,
     text: &'a [u8],

@@ -18,12 +18,12 @@ use Rattle.sh_token_pieces.specs.Pendings.{is_raw}
 use Rattle.sh_token_pieces.specs.Heads.{head_of, grown_head, is_some_head, grows_head, reads_bare}
 use Rattle.sh_token_pieces.specs.Nested.{none_yet}
 use Rattle.sh_token_pieces.specs.Pieces.{stands, quotes, in_word, is_text, is_body, is_word, is_quotes, is_braces, is_arithmetic, has_single_quotes, has_double_quotes, is_quoted, is_backquoted, is_head, braces_of, behind_byte, levels, compounds_in}
-use Rattle.sh_token.specs.Machine.{State, On, step, opens, inner_byte, word_byte, plain_byte, form_byte, after_dollar, after_parenthesis, in_name, head_byte, in_head, in_single, in_backquotes, at_parenthesis, same}
-use Rattle.sh_token.specs.Run.{is_gap_state}
-use Rattle.sh_token.proofs.Running.{is_raw_character, Alike}
-use Rattle.sh_token.proofs.Tests.{and_true, not_true, or_false, stands_in_word, word_no_text, single_in_word, double_in_word, quotes_left, braces_left, arithmetic_left, levels_opened}
-use Rattle.sh_token.proofs.Leads.{begun, kept, settled, Leads, stay, joined, goes, same_ahead, raw_keeps, plain_keeps, head_keeps, back_keeps}
-use Rattle.sh_token.proofs.Bytes.{Stood, stood, byte_stood, inner_on, inner_parenthesis, levels_parenthesized, escaped_in, backslash_in, single_opens, double_opens, double_closes, brace_closes, dollar_in}
+use Rattle.sh_token_scanner.specs.Machine.{State, On, step, opens, inner_byte, word_byte, plain_byte, form_byte, after_dollar, after_parenthesis, in_name, head_byte, in_head, in_single, in_backquotes, at_parenthesis, same}
+use Rattle.sh_token_scanner.specs.Run.{is_gap_state}
+use Rattle.sh_token_scanner.proofs.Running.{is_raw_character, Alike}
+use Rattle.sh_token_scanner.proofs.Tests.{and_true, not_true, or_false, stands_in_word, word_no_text, single_in_word, double_in_word, quotes_left, braces_left, arithmetic_left, levels_opened}
+use Rattle.sh_token_scanner.proofs.Leads.{begun, kept, settled, Leads, stay, joined, goes, same_ahead, raw_keeps, plain_keeps, head_keeps, back_keeps}
+use Rattle.sh_token_scanner.proofs.Bytes.{Stood, stood, byte_stood, inner_on, inner_parenthesis, levels_parenthesized, escaped_in, backslash_in, single_opens, double_opens, double_closes, brace_closes, dollar_in}
 
 -- forms behind a dollar
 no_form : (b : ℕ) → is_form b ≡ false → (begins_name b ≡ false) × (is_short_parameter b ≡ false) × (nat_eq b 123 ≡ false) × (nat_eq b 40 ≡ false)

@@ -7,7 +7,7 @@ use Rattle.sh_token_pieces.specs.declared.piece.Piece.TheVariants.{Variable, Dol
 use Rattle.sh_token_pieces.specs.declared.pending.Pending.{Pending}
 use Rattle.sh_token_pieces.specs.Pieces.{is_text, is_body, is_word, word_begins, word_place, top_of}
 use Rattle.sh_token_pieces.specs.Pendings.{is_raw, is_gap_pending}
-use Rattle.sh_token.specs.Machine.{State, Stepped, On, Before, After, TooDeep, DollarTooDeep, WordTooDeep, step, is_top, is_over_full, same, word_out, operator_out}
+use Rattle.sh_token_scanner.specs.Machine.{State, Stepped, On, Before, After, TooDeep, DollarTooDeep, WordTooDeep, step, is_top, is_over_full, same, word_out, operator_out}
 
 -- a scanner between two bytes; held: a backslash came, and not yet the byte after it
 pub record Scan : Type 0 where

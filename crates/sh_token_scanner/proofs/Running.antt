@@ -4,8 +4,8 @@ use Rattle.sh_token_pieces.specs.declared.character.Character.{Character}
 use Rattle.sh_token_pieces.specs.declared.character.Character.TheVariants.{Plain, Quoted, Raw}
 use Rattle.sh_token_pieces.specs.Characters.{joins, Reads, Next, InputEnd, Unknown, ahead_behind}
 use Rattle.sh_token_pieces.specs.Pendings.{is_raw}
-use Rattle.sh_token.specs.Machine.{State, Stepped, On, Before, After, TooDeep, DollarTooDeep, WordTooDeep, step}
-use Rattle.sh_token.specs.Run.{Fed, Waits, Takes, byte_step, Scanned, Ended, Deep, Open, EndsIn, is_gap_state, begins_form, begins_word, ended_in, last_token, Places, with_next_prefix, with_prefix, after_character, after_wait, last_places, last_step, last, on, run}
+use Rattle.sh_token_scanner.specs.Machine.{State, Stepped, On, Before, After, TooDeep, DollarTooDeep, WordTooDeep, step}
+use Rattle.sh_token_scanner.specs.Run.{Fed, Waits, Takes, byte_step, Scanned, Ended, Deep, Open, EndsIn, is_gap_state, begins_form, begins_word, ended_in, last_token, Places, with_next_prefix, with_prefix, after_character, after_wait, last_places, last_step, last, on, run}
 
 abbrev pub placed : List ℕ → Places → Places
 placed z p = record { prefix = p.prefix; previous = p.previous; behind = p.behind; next = z; form = p.form; word = p.word }

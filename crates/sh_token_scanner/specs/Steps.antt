@@ -1,11 +1,11 @@
 -- What the scanner's calls answer, against the machine.
-use Rattle.sh_token.specs.declared.step.Step.{Step}
-use Rattle.sh_token.specs.declared.scanner.Event.{Event}
-use Rattle.sh_token.specs.declared.scanner.Outcome.{Outcome}
-use Rattle.sh_token.specs.declared.scanner.Ending.{Ending as Told}
-use Rattle.sh_token.specs.declared.scanner.Marked.{Marked}
-use Rattle.sh_token.specs.Machine.{State, Stepped, On, Before, After, TooDeep, DollarTooDeep, WordTooDeep}
-use Rattle.sh_token.specs.Run.{Fed, Waits, Takes, Scanned, Ended, Deep, Open, Places, Ending, EndsIn, EndsDeep, EndsNot}
+use Rattle.sh_token_scanner.specs.declared.step.Step.{Step}
+use Rattle.sh_token_scanner.specs.declared.scanner.Event.{Event}
+use Rattle.sh_token_scanner.specs.declared.scanner.Outcome.{Outcome}
+use Rattle.sh_token_scanner.specs.declared.scanner.Ending.{Ending as Told}
+use Rattle.sh_token_scanner.specs.declared.scanner.Marked.{Marked}
+use Rattle.sh_token_scanner.specs.Machine.{State, Stepped, On, Before, After, TooDeep, DollarTooDeep, WordTooDeep}
+use Rattle.sh_token_scanner.specs.Run.{Fed, Waits, Takes, Scanned, Ended, Deep, Open, Places, Ending, EndsIn, EndsDeep, EndsNot}
 
 abbrev pub with_state : Step → State → Stepped
 with_state Step.On s = On s

@@ -1,8 +1,8 @@
 //! The bodies of here-documents of a substitution (XCU 2.7.4), byte by byte.
 ghost use Rattle.sh_token_pieces.specs.Pieces.{top_of, due_in};
 ghost use Rattle.std.specs.Prelude.{◌≡◌, IfOk, drop};
-ghost use Rattle.sh_token.specs.Machine.{body_end, line_at, line_over, line_of, in_body};
-ghost use Rattle.sh_token.specs.Steps.{with_state};
+ghost use Rattle.sh_token_scanner.specs.Machine.{body_end, line_at, line_over, line_of, in_body};
+ghost use Rattle.sh_token_scanner.specs.Steps.{with_state};
 
 use crate::state::State;
 use crate::step::Step;

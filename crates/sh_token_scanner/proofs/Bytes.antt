@@ -8,9 +8,9 @@ use Rattle.sh_token_pieces.specs.declared.pending.Pending.{Pending}
 use Rattle.sh_token_pieces.specs.Bytes.{is_end}
 use Rattle.sh_token_pieces.specs.Characters.{Ahead, next_is}
 use Rattle.sh_token_pieces.specs.Pieces.{stands, quotes, in_word, between_tokens, is_word, is_quotes, is_braces, is_arithmetic, is_parenthesis, has_single_quotes, has_double_quotes, behind_byte, levels}
-use Rattle.sh_token.specs.Machine.{State, On, inner_byte, word_byte, plain_byte, quoted_byte, pend, same, into, out, out_level}
-use Rattle.sh_token.proofs.Tests.{and_true, not_true, not_or, or_false, and_false, and_left, word_no_gap}
-use Rattle.sh_token.proofs.Leads.{begun, kept}
+use Rattle.sh_token_scanner.specs.Machine.{State, On, inner_byte, word_byte, plain_byte, quoted_byte, pend, same, into, out, out_level}
+use Rattle.sh_token_scanner.proofs.Tests.{and_true, not_true, not_or, or_false, and_false, and_left, word_no_gap}
+use Rattle.sh_token_scanner.proofs.Leads.{begun, kept}
 
 -- what a byte that stands for itself is not
 pub record Stood (x : Context) (b : ℕ) : Type 0 where

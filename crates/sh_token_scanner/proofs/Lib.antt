@@ -1,0 +1,11 @@
+pub mod Running
+pub mod Tests
+pub mod Grounds
+pub mod Leads
+pub mod Bodies
+pub mod Bytes
+pub mod Pieces
+pub mod Between
+pub mod Inner
+pub mod Growing
+pub mod Loose
