@@ -3,7 +3,7 @@ use Rattle.std.specs.Prelude.{ℕ, List, [], ◌∷◌, Bool, true, false, Optio
 use Rattle.std.specs.List.{find}
 use Rattle.std.specs.Str.{bytes_eq}
 use Rattle.sh_builtin.specs.declared.builtin.Builtin.{Builtin}
-use Rattle.sh_builtin.specs.declared.builtin.Builtin.TheVariants.{Bracket, Break, Cd, Colon, Continue, Echo, Eval, Exit, Export, False, Pwd, ReadOnly, Return, Set, Shift, Test, Trap, True, Unset}
+use Rattle.sh_builtin.specs.declared.builtin.Builtin.TheVariants.{Bracket, Break, Cd, Colon, Continue, Dot, Echo, Eval, Exec, Exit, Export, False, Pwd, ReadOnly, Return, Set, Shift, Test, Trap, True, Unset}
 use Rattle.sh_builtin.specs.declared.builtin.Row.{Row}
 
 -- a row of the table: a name, and whether the built-in is special (2.15): then an error in it ends a shell that
@@ -25,8 +25,10 @@ row_of Break = special (codes "break")
 row_of Cd = regular (codes "cd")
 row_of Colon = special (codes ":")
 row_of Continue = special (codes "continue")
+row_of Dot = special (codes ".")
 row_of Echo = regular (codes "echo")
 row_of Eval = special (codes "eval")
+row_of Exec = special (codes "exec")
 row_of Exit = special (codes "exit")
 row_of Export = special (codes "export")
 row_of False = regular (codes "false")
@@ -42,7 +44,7 @@ row_of Unset = special (codes "unset")
 
 abbrev pub builtins : List Builtin
 builtins =
-    Bracket ∷ Break ∷ Cd ∷ Colon ∷ Continue ∷ Echo ∷ Eval ∷ Exit ∷ Export ∷ False ∷ Pwd ∷ ReadOnly ∷ Return ∷ Set ∷ Shift ∷ Test ∷ Trap ∷ True ∷ Unset ∷ []
+    Bracket ∷ Break ∷ Cd ∷ Colon ∷ Continue ∷ Dot ∷ Echo ∷ Eval ∷ Exec ∷ Exit ∷ Export ∷ False ∷ Pwd ∷ ReadOnly ∷ Return ∷ Set ∷ Shift ∷ Test ∷ Trap ∷ True ∷ Unset ∷ []
 
 -- ---- what is read from it
 abbrev pub name_of : Builtin → List ℕ

@@ -8,6 +8,7 @@ use Rattle.sh_builtin.specs.declared.outcome.Completion.TheVariants.{Done, Left,
 use Rattle.sh_builtin.specs.declared.outcome.Leave.{Leave}
 use Rattle.sh_builtin.specs.declared.outcome.Leave.TheVariants as leave
 use Rattle.sh_builtin.specs.declared.outcome.Outcome.{Outcome}
+use Rattle.sh_builtin.specs.declared.outcome.TextOrigin.{TextOrigin}
 use Rattle.sh_builtin_environment.specs.declared.outcome.BuiltinFault.{BuiltinFault}
 use Rattle.sh_builtin_environment.specs.declared.outcome.BuiltinFault.TheVariants as fault
 use Rattle.sh_builtin_environment.specs.declared.outcome.Outcome.{Outcome as Answer}
@@ -26,8 +27,8 @@ output text = outcome text [] (Done 0)
 abbrev pub left : Leave → Outcome
 left leave = outcome [] [] (Left leave)
 
-abbrev pub running : List ℕ → Outcome
-running text = outcome [] [] (Runs text)
+abbrev pub running : TextOrigin → List ℕ → Outcome
+running origin text = outcome [] [] (Runs origin text)
 
 -- the status of a shell that is left so; break and continue leave no shell
 abbrev pub shell_status : Leave → ℕ

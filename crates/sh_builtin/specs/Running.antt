@@ -5,26 +5,31 @@ use Rattle.std.specs.Str.{bytes_eq}
 use Rattle.sh_builtin.specs.Conditional.{verdict_of}
 use Rattle.sh_builtin.specs.Functions.{unset_by}
 use Rattle.sh_builtin.specs.Loops.{leave_with, loop_with, operands_of}
-use Rattle.sh_builtin.specs.Outcomes.{done, misuse, outcome_of, output, running}
+use Rattle.sh_builtin.specs.Outcomes.{done, misuse, outcome_of, output, refusal, running}
 use Rattle.sh_builtin.specs.declared.builtin.Builtin.{Builtin}
-use Rattle.sh_builtin.specs.declared.builtin.Builtin.TheVariants.{Bracket, Break, Cd, Colon, Continue, Echo, Eval, Exit, Export, False, Pwd, ReadOnly, Return, Set, Shift, Test, Trap, True, Unset}
+use Rattle.sh_builtin.specs.declared.builtin.Builtin.TheVariants.{Bracket, Break, Cd, Colon, Continue, Dot, Echo, Eval, Exec, Exit, Export, False, Pwd, ReadOnly, Return, Set, Shift, Test, Trap, True, Unset}
 use Rattle.sh_builtin.specs.declared.conditional.Verdict.{Verdict}
 use Rattle.sh_builtin.specs.declared.conditional.Verdict.TheVariants as verdict
 use Rattle.sh_builtin.specs.declared.outcome.Leave.TheVariants as leave
 use Rattle.sh_builtin.specs.declared.outcome.Outcome.{Outcome}
+use Rattle.sh_builtin.specs.declared.outcome.TextOrigin.TheVariants as origin
 use Rattle.sh_builtin.specs.declared.shell.Shell.{Shell}
 use Rattle.sh_builtin_environment.specs.Directories.{cd_ran, pwd_outcome}
 use Rattle.sh_builtin_environment.specs.Marking.{mark_ran}
+use Rattle.sh_builtin_environment.specs.Options.{Parsed, options_and_operands}
 use Rattle.sh_builtin_environment.specs.Outcomes.{Ran}
 use Rattle.sh_builtin_environment.specs.Setting.{set_ran}
 use Rattle.sh_builtin_environment.specs.Shifting.{shift_ran}
 use Rattle.sh_builtin_environment.specs.Trapping.{Trapped, trap_ran}
 use Rattle.sh_builtin_environment.specs.Unsetting.{functions_to_unset, unset_ran}
 use Rattle.sh_builtin_environment.specs.declared.attribute.Attribute.TheVariants as attribute
+use Rattle.sh_builtin_environment.specs.declared.outcome.BuiltinFault.TheVariants as fault
+use Rattle.sh_files.specs.Nodes.{FileMap}
+use Rattle.sh_files.specs.Search.{dot_script}
 use Rattle.sh_kernel_descriptors.specs.Machine.{MachineState}
 use Rattle.sh_kernel_descriptors.specs.Terminals.{is_terminal}
 use Rattle.sh_kernel_descriptors.specs.declared.descriptor.DescriptorRef.TheVariants.{Number}
-use Rattle.sh_vars.specs.Environment.{Environment}
+use Rattle.sh_vars.specs.Environment.{Environment, value_of}
 
 -- the shell after a built-in, and what that comes to
 pub record BuiltIn : Type 0 where
@@ -58,7 +63,24 @@ abbrev pub echo_outcome : List (List ℕ) → Outcome
 echo_outcome arguments = output (joined arguments ++ 10 ∷ [])
 
 abbrev pub eval_outcome : List (List ℕ) → Outcome
-eval_outcome arguments = running (joined arguments)
+eval_outcome arguments = running origin.Eval (joined arguments)
+
+-- ---- `.` runs the text of the file that its one operand leads to (2.15 dot)
+abbrev pub dot_by : List ℕ → Option (List ℕ) → Outcome
+dot_by name None = refusal Dot (fault.CannotOpen name)
+dot_by name (Some text) = running origin.DotScript text
+
+abbrev pub dot_named : FileMap → Environment → List ℕ → Outcome
+dot_named files env name = dot_by name (dot_script files env.directory (value_of env (codes "PATH")) name)
+
+abbrev pub dot_with : FileMap → Environment → List (List ℕ) → Outcome
+dot_with files env [] = misuse Dot
+dot_with files env (name ∷ []) = dot_named files env name
+dot_with files env (name ∷ next ∷ others) = misuse Dot
+
+abbrev pub dot_outcome : FileMap → Environment → Option Parsed → Outcome
+dot_outcome files env None = misuse Dot
+dot_outcome files env (Some parsed) = dot_with files env parsed.1
 
 -- ---- test: 0 where the condition holds, else 1; descriptors go from 0 to 31
 abbrev pub truth : Bool → ℕ
@@ -98,15 +120,17 @@ bracket_outcome machine shell None = misuse Bracket
 bracket_outcome machine shell (Some operands) = test_outcome machine shell Bracket operands
 
 -- ---- a built-in with its arguments, in a shell's process on this machine; `last` is the status with which exit and return leave where
--- they have no operand
+-- they have no operand; exec comes here with wrong options alone
 unfoldable pub built_in : MachineState → Shell → (last : ℕ) → Builtin → List (List ℕ) → BuiltIn
 built_in machine shell last Bracket arguments = with_outcome shell (bracket_outcome machine shell (prefix arguments))
 built_in machine shell last Break arguments = with_outcome shell (loop_with Break leave.Break (operands_of arguments))
 built_in machine shell last Cd arguments = ran Cd shell (cd_ran machine.files shell.vars arguments)
 built_in machine shell last Colon arguments = with_outcome shell (done 0)
 built_in machine shell last Continue arguments = with_outcome shell (loop_with Continue leave.Continue (operands_of arguments))
+built_in machine shell last Dot arguments = with_outcome shell (dot_outcome machine.files shell.vars (options_and_operands [] arguments))
 built_in machine shell last Echo arguments = with_outcome shell (echo_outcome arguments)
 built_in machine shell last Eval arguments = with_outcome shell (eval_outcome arguments)
+built_in machine shell last Exec arguments = with_outcome shell (misuse Exec)
 built_in machine shell last Exit arguments = with_outcome shell (leave_with Exit leave.Exit last (operands_of arguments))
 built_in machine shell last Export arguments = ran Export shell (mark_ran attribute.Export shell.vars arguments)
 built_in machine shell last False arguments = with_outcome shell (done 1)

@@ -4,8 +4,9 @@ ghost use Rattle.sh_builtin.specs.Builtins.{builtin_of, is_special, name_of, row
 ghost use Rattle.sh_builtin.specs.Running.{built_in, echo_outcome, eval_outcome, joined, with_outcome, without_functions};
 ghost use Rattle.sh_kernel.specs.State.{KernelState, StandsAt};
 
+use crate::dot::dot;
 use crate::leaving::{break_with, continue_with, exit_with, operands_of, return_with};
-use crate::outcome::Outcome;
+use crate::outcome::{Outcome, TextOrigin};
 use crate::shell::Shell;
 use crate::testing::{bracket, test};
 use sh_base::NoMemory;
@@ -26,8 +27,11 @@ pub enum Builtin {
     /// `:`
     Colon,
     Continue,
+    /// `.`
+    Dot,
     Echo,
     Eval,
+    Exec,
     Exit,
     Export,
     False,
@@ -72,14 +76,16 @@ impl Row {
 }
 
 /// All of them.
-const BUILTINS: [Builtin; 19] = [
+const BUILTINS: [Builtin; 21] = [
     Builtin::Bracket,
     Builtin::Break,
     Builtin::Cd,
     Builtin::Colon,
     Builtin::Continue,
+    Builtin::Dot,
     Builtin::Echo,
     Builtin::Eval,
+    Builtin::Exec,
     Builtin::Exit,
     Builtin::Export,
     Builtin::False,
@@ -105,8 +111,10 @@ impl Builtin {
             Builtin::Cd => Row::regular(b"cd"),
             Builtin::Colon => Row::special(b":"),
             Builtin::Continue => Row::special(b"continue"),
+            Builtin::Dot => Row::special(b"."),
             Builtin::Echo => Row::regular(b"echo"),
             Builtin::Eval => Row::special(b"eval"),
+            Builtin::Exec => Row::special(b"exec"),
             Builtin::Exit => Row::special(b"exit"),
             Builtin::Export => Row::special(b"export"),
             Builtin::False => Row::regular(b"false"),
@@ -172,8 +180,10 @@ impl Builtin {
             },
             Builtin::Colon => Ok(Outcome::done(alloc, 0)),
             Builtin::Continue => continue_with(alloc, operands_of(arguments)),
+            Builtin::Dot => dot(alloc, kernel.files(), &shell.vars, arguments),
             Builtin::Echo => echo(alloc, arguments),
             Builtin::Eval => eval(alloc, arguments),
+            Builtin::Exec => Outcome::misuse(alloc, Builtin::Exec),
             Builtin::Exit => exit_with(alloc, last, operands_of(arguments)),
             Builtin::Export => {
                 let answer = mark(alloc, Attribute::Export, &mut shell.vars, arguments)?;
@@ -232,7 +242,7 @@ fn eval(alloc: Global, arguments: &[Text]) -> Result<Outcome, NoMemory>
     ensures { IfOk result (λ outcome. outcome ≡ eval_outcome arguments.now) }
 {
     let text = joined(alloc, arguments)?;
-    Ok(Outcome::running(alloc, text))
+    Ok(Outcome::running(alloc, TextOrigin::Eval, text))
 }
 
 /// Arguments with a space between them.

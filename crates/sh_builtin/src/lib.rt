@@ -3,6 +3,7 @@
 
 mod builtin;
 mod conditional;
+mod dot;
 mod functions;
 mod leaving;
 pub mod message;
@@ -14,5 +15,5 @@ mod testing;
 pub use builtin::Builtin;
 pub use conditional::{Verdict, evaluate};
 pub use functions::Functions;
-pub use outcome::{Completion, Leave, Outcome};
+pub use outcome::{Completion, Leave, Outcome, TextOrigin};
 pub use shell::Shell;

@@ -39,6 +39,15 @@ impl Leave {
     }
 }
 
+/// Where a text comes from that a built-in has run.
+#[derive(Clone, Copy, Debug, PartialEq, Eq)]
+pub enum TextOrigin {
+    /// The operands of `eval` (XCU 2.15).
+    Eval,
+    /// The file of a dot script, which `return` ends (XCU 2.15 dot, return).
+    DotScript,
+}
+
 /// How a built-in ends.
 #[derive(Debug, Drop)]
 pub enum Completion {
@@ -46,8 +55,8 @@ pub enum Completion {
     Done(u8),
     /// Commands are left.
     Left(Leave),
-    /// This text is run in its place, and the built-in has the status of the text's last command (XCU 2.15 eval).
-    Runs(Text),
+    /// This text is run in its place, and the built-in has the status of the text's last command (XCU 2.15 dot, eval).
+    Runs(TextOrigin, Text),
 }
 
 /// What a built-in comes to, beside what it changes of the shell. In this order it writes `out`, writes each message of `err`, and
@@ -97,13 +106,13 @@ impl Outcome {
     }
 
     /// Has a text run in its place.
-    pub(crate) fn running(alloc: Global, text: Text) -> Outcome
-        ensures { result ≡ running text }
+    pub(crate) fn running(alloc: Global, origin: TextOrigin, text: Text) -> Outcome
+        ensures { result ≡ running origin text }
     {
         Outcome {
             out: Sequence::new(alloc),
             err: Sequence::new(alloc),
-            status: Completion::Runs(text),
+            status: Completion::Runs(origin, text),
         }
     }
 

@@ -7,6 +7,5 @@ pub mod Setting
 pub mod Shifting
 pub mod Unsetting
 pub mod Walks
-pub mod Conditions
 pub mod TrapMaps
 pub mod Trapping

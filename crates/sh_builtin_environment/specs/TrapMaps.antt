@@ -1,8 +1,8 @@
 -- The traps of a shell (XCU 2.15 trap): an action for conditions.
 use Rattle.std.specs.Prelude.{ℕ, List, [], ◌∷◌, ◌++◌, Option, Some, None, codes, map, replicate, set, slice_get}
 use Rattle.std.specs.Option.{option_and_then}
-use Rattle.sh_builtin_environment.specs.Conditions.{conditions, name_of, place_of}
-use Rattle.sh_builtin_environment.specs.declared.condition.Condition.{Condition}
+use Rattle.sh_signal.specs.Conditions.{conditions, name_of, place_of}
+use Rattle.sh_signal.specs.declared.condition.Condition.{Condition}
 use Rattle.sh_builtin_environment.specs.Listing.{in_quotes}
 
 -- by the conditions' numbers, from 0 to 22; where there is no action, the default is done; an empty action

@@ -2,9 +2,9 @@
 use Rattle.std.specs.Prelude.{ℕ, List, [], ◌∷◌, Option, Some, None, codes, if◌then◌else◌}
 use Rattle.std.specs.Str.{bytes_eq}
 use Rattle.sh_base.specs.Decimals.{number_of}
-use Rattle.sh_builtin_environment.specs.Conditions.{condition_of}
+use Rattle.sh_signal.specs.Conditions.{condition_of}
 use Rattle.sh_builtin_environment.specs.TrapMaps.{TrapMap, trap_listing, with_action}
-use Rattle.sh_builtin_environment.specs.declared.condition.Condition.{Condition}
+use Rattle.sh_signal.specs.declared.condition.Condition.{Condition}
 use Rattle.sh_builtin_environment.specs.Options.{Parsed, options_and_operands}
 use Rattle.sh_builtin_environment.specs.declared.outcome.BuiltinFault.TheVariants as fault
 use Rattle.sh_builtin_environment.specs.declared.outcome.Outcome.{Outcome}

@@ -3,7 +3,6 @@
 #![tactic(auto)]
 
 mod attribute;
-mod condition;
 mod directory;
 mod listing;
 mod marking;
@@ -17,7 +16,6 @@ mod unsetting;
 mod variables;
 
 pub use attribute::Attribute;
-pub use condition::Condition;
 pub use directory::{cd, pwd};
 pub use listing::put_quoted;
 pub use marking::mark;
@@ -26,5 +24,5 @@ pub use outcome::{BuiltinFault, Outcome};
 pub use setting::set;
 pub use shifting::shift;
 pub use trapping::trap;
-pub use traps::Traps;
+pub use traps::{Traps, copy_of_action};
 pub use unsetting::{functions_to_unset, unset};

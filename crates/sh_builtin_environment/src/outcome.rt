@@ -11,7 +11,7 @@ pub enum BuiltinFault {
     BadName(Text),
     /// The variable of this name is read-only.
     ReadOnly(Text),
-    /// This word doesn't lead to a directory.
+    /// This word doesn't lead to what is needed: of `cd` a directory, of `.` a file that can be read.
     CannotOpen(Text),
 }
 

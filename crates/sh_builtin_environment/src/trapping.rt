@@ -2,27 +2,14 @@
 ghost use Rattle.std.specs.Prelude.{◌≡◌, IfOk, option_map};
 ghost use Rattle.sh_builtin_environment.specs.Trapping.{action_in, set_all, set_behind, trap_ran, trap_with, with_outcome};
 
-use crate::condition::Condition;
 use crate::options::parse_options;
 use crate::outcome::{BuiltinFault, Outcome};
-use crate::traps::Traps;
+use crate::traps::{Traps, copy_of_action};
 use sh_base::NoMemory;
 use sh_base::decimal::number_of;
 use sh_base::sequence::{Sequence, Text};
+use sh_signal::Condition;
 use std::alloc::Global;
-
-/// A copy of an action, if there is one.
-fn copy_action(alloc: Global, action: Option<&[u8]>) -> Result<Option<Text>, NoMemory>
-    ensures { IfOk result (λ copy. copy ≡ option_map (λ action. action.now) action.entry) }
-{
-    match action {
-        Some(action) => {
-            let copy = Text::copy_of(alloc, action)?;
-            Ok(Some(copy))
-        },
-        None => Ok(None),
-    }
-}
 
 /// Gives conditions an action, or the default, up to a word that is no condition.
 fn set_all(
@@ -41,7 +28,7 @@ fn set_all(
             let word = Text::copy_of(alloc, word.as_slice())?;
             return Ok(Outcome::Fault(BuiltinFault::BadName(word)));
         };
-        let copy = copy_action(alloc, action)?;
+        let copy = copy_of_action(alloc, action)?;
         traps.set(condition, copy);
         rest = others;
     }

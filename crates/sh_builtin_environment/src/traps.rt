@@ -1,13 +1,12 @@
 //! The traps of a shell.
 ghost use Rattle.std.specs.Prelude.{◌≡◌, ◌++◌, IfOk, OnOk, None, option_map, replicate};
 ghost use Rattle.sh_builtin_environment.specs.TrapMaps.{action_of, subshell_action, in_subshell, line, lines, trap_listing, none_set, with_action};
-ghost use Rattle.sh_builtin_environment.specs.Conditions.{conditions};
+ghost use Rattle.sh_signal.specs.Conditions.{conditions};
 
-use crate::condition::Condition;
 use crate::listing::put_quoted;
 use sh_base::NoMemory;
 use sh_base::sequence::{Sequence, Text};
-use sh_signal::Signal;
+use sh_signal::{Condition, Signal};
 use std::alloc::Global;
 use std::marker::Model;
 
@@ -106,14 +105,14 @@ fn put_line(text: &mut Text, condition: Condition, action: Option<&[u8]>) -> Res
     }
 }
 
-/// The same action.
-fn same(alloc: Global, action: &Option<Text>) -> Result<Option<Text>, NoMemory>
-    ensures { IfOk result (λ same. same ≡ action.now) }
+/// A copy of an action, which is equal. The only error is want of memory.
+pub fn copy_of_action(alloc: Global, action: Option<&[u8]>) -> Result<Option<Text>, NoMemory>
+    ensures { IfOk result (λ copy. copy ≡ option_map (λ action. action.now) action.entry) }
 {
     match action {
         Some(action) => {
-            let action = Text::copy_of(alloc, action.as_slice())?;
-            Ok(Some(action))
+            let copy = Text::copy_of(alloc, action)?;
+            Ok(Some(copy))
         },
         None => Ok(None),
     }
@@ -125,7 +124,11 @@ fn copies(alloc: Global, actions: &[Option<Text>]) -> Result<Vec<Option<Text>>, 
 {
     let mut copies = Vec::with_capacity(alloc, actions.len())?;
     for action in actions {
-        copies.push(same(alloc, action)?)?;
+        let copy = match action {
+            Some(action) => copy_of_action(alloc, Some(action.as_slice()))?,
+            None => None,
+        };
+        copies.push(copy)?;
     }
     Ok(copies)
 }

@@ -1,4 +1,3 @@
 pub mod Extending
-mod Elements
 pub mod Rising
 pub mod Runs

@@ -37,7 +37,7 @@ abbrev pub action_in : Active → Asked
 action_in (Next place) = action_at place
 action_in (Acting builtin fields) = Acts
 action_in (Calling body fields) = Acts
-action_in (Evaluating text) = Acts
+action_in (Evaluating origin text) = Acts
 action_in (Done ended) = Acts
 action_in (Leaving status) = Acts
 

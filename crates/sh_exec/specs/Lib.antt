@@ -4,7 +4,6 @@ pub mod Order
 pub mod Processes
 pub mod Programs
 pub mod Scripts
-pub mod Search
 pub mod Starting
 pub mod State
 pub mod Tasks

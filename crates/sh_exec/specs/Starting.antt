@@ -1,16 +1,19 @@
 -- A program's start in the process of a shell (XCU 2.9.1.4, 2.9.1.6): the search, and what the process then is.
-use Rattle.std.specs.Prelude.{ℕ, List, [], ◌∷◌, Option, Some, None, unwrap_or}
+use Rattle.std.specs.Prelude.{ℕ, List, [], ◌∷◌, Option, Some, None, codes, unwrap_or}
 use Rattle.sh_exec_actions.specs.Statuses as statuses
 use Rattle.sh_builtin.specs.declared.shell.Shell.{Shell}
 use Rattle.sh_builtin_environment.specs.TrapMaps.{none_set}
 use Rattle.sh_exec.specs.Programs.{Left, ProgramState, asking, with_next}
+use Rattle.sh_exec.specs.declared.start.Started.{Started}
+use Rattle.sh_exec.specs.declared.start.Started.TheVariants.{Becomes, Refused}
 use Rattle.sh_exec.specs.declared.task.Task.{Task}
 use Rattle.sh_exec.specs.declared.task.Task.TheVariants.{Asks, Runs}
 use Rattle.sh_exec_parts.specs.Messages.{cannot_execute, message, not_found}
 use Rattle.sh_exec_parts.specs.Scripts.{script_environment}
-use Rattle.sh_exec.specs.Search.{located_of}
-use Rattle.sh_exec.specs.declared.search.Located.{Located}
-use Rattle.sh_exec.specs.declared.search.Located.TheVariants as located
+use Rattle.sh_files.specs.Nodes.{FileMap}
+use Rattle.sh_files.specs.Search.{located_of}
+use Rattle.sh_files.specs.declared.search.Located.{Located}
+use Rattle.sh_files.specs.declared.search.Located.TheVariants as located
 use Rattle.sh_exec_actions.specs.declared.action.Active.{Active}
 use Rattle.sh_exec_actions.specs.declared.action.Active.TheVariants.{Acting, Calling, Evaluating, Next, Done, Leaving}
 use Rattle.sh_exec_actions.specs.declared.action.Finish.TheVariants.{Fault}
@@ -22,6 +25,7 @@ use Rattle.sh_kernel.specs.State.{KernelState}
 use Rattle.sh_kernel_descriptors.specs.Processes.{parent_at}
 use Rattle.sh_stock.specs.Asking.{Meaning}
 use Rattle.sh_stock.specs.declared.asking.Answer.TheVariants as answer
+use Rattle.sh_vars.specs.Environment.{Environment, value_of}
 
 -- a shell that does this alone
 abbrev pub shell_at : {S : Type 0} → Shell → Action → Task S
@@ -36,15 +40,15 @@ pub record Invocation : Type 0 where
   pub name : List ℕ
   pub operands : List (List ℕ)
 
--- the process says why there is no program, and ends with this status
-abbrev pub failure : {S : Type 0} → KernelState → Shell → List ℕ → ℕ → Left (Task S)
-failure s shell text code = with_next s (shell_at shell (Writing (message text) (Fault code)))
+-- the shell says why there is no program, and is left with this status
+abbrev pub failure : {S : Type 0} → KernelState → List ℕ → ℕ → Left (Started S)
+failure s text code = with_next s (Refused (Writing (message text) (Fault code)))
 
 -- a program of the stock takes its first turn; what the shell had set aside is closed
-abbrev pub stock_start : {S : Type 0} → Meaning S → KernelState → Shell → List ℕ → Option S → Left (Task S)
+abbrev pub stock_start : {S : Type 0} → Meaning S → KernelState → Shell → List ℕ → Option S → Left (Started S)
 stock_start m s shell name (Some program) =
-    with_next (start_call s shell.pid).after (program_in shell.pid (asking m program answer.Started))
-stock_start m s shell name None = failure s shell (cannot_execute name) statuses.cannot_execute
+    with_next (start_call s shell.pid).after (Becomes (program_in shell.pid (asking m program answer.Started)))
+stock_start m s shell name None = failure s (cannot_execute name) statuses.cannot_execute
 
 abbrev pub parent_of : KernelState → ℕ → ℕ
 parent_of s pid = unwrap_or (parent_at s.machine.processes pid) 1
@@ -54,24 +58,28 @@ abbrev pub script_shell : KernelState → Shell → List ℕ → List (List ℕ)
 script_shell s shell path operands =
     record { pid = shell.pid; vars = script_environment shell.vars path operands shell.pid (parent_of s shell.pid); functions = []; traps = none_set }
 
-abbrev pub script_start : {S : Type 0} → KernelState → Shell → List ℕ → List ℕ → List (List ℕ) → Left (Task S)
+abbrev pub script_start : {S : Type 0} → KernelState → Shell → List ℕ → List ℕ → List (List ℕ) → Left (Started S)
 script_start s shell path text operands =
-    with_next (start_call s shell.pid).after (shell_at (script_shell s shell path operands) (Reading text 0))
+    with_next (start_call s shell.pid).after (Becomes (shell_at (script_shell s shell path operands) (Reading text 0)))
 
-abbrev pub started_by : {S : Type 0} → Meaning S → KernelState → Shell → Invocation → Located → Left (Task S)
-started_by m s shell invocation located.Missing = failure s shell (not_found invocation.name) statuses.not_found
-started_by m s shell invocation located.Unfit = failure s shell (cannot_execute invocation.name) statuses.cannot_execute
+abbrev pub started_by : {S : Type 0} → Meaning S → KernelState → Shell → Invocation → Located → Left (Started S)
+started_by m s shell invocation located.Missing = failure s (not_found invocation.name) statuses.not_found
+started_by m s shell invocation located.Unfit = failure s (cannot_execute invocation.name) statuses.cannot_execute
 started_by m s shell invocation (located.Stock program) =
     stock_start m s shell invocation.name (m.start program invocation.operands)
 started_by m s shell invocation (located.Script path text) = script_start s shell path text invocation.operands
 
--- the program of a command name
-unfoldable pub start_named : {S : Type 0} → Meaning S → KernelState → Shell → Invocation → Left (Task S)
-start_named m s shell invocation =
-    started_by m s shell invocation (located_of s.machine.files shell.vars invocation.name)
+-- where a name leads from the shell's directory, by its PATH
+abbrev pub located_for : FileMap → Environment → List ℕ → Located
+located_for files env name = located_of files env.directory (value_of env (codes "PATH")) name
 
-abbrev pub start_turn : {S : Type 0} → Meaning S → KernelState → Shell → List (List ℕ) → Left (Task S)
-start_turn m s shell [] = with_next s (shell_at shell (Starting []))
+-- the program of a command name
+unfoldable pub start_named : {S : Type 0} → Meaning S → KernelState → Shell → Invocation → Left (Started S)
+start_named m s shell invocation =
+    started_by m s shell invocation (located_for s.machine.files shell.vars invocation.name)
+
+abbrev pub start_turn : {S : Type 0} → Meaning S → KernelState → Shell → List (List ℕ) → Left (Started S)
+start_turn m s shell [] = with_next s (Refused (Starting []))
 start_turn m s shell (name ∷ operands) = start_named m s shell (record { name = name; operands = operands })
 
 -- what a shell is about to start
@@ -95,6 +103,6 @@ abbrev pub starting_in : Active → Option (List (List ℕ))
 starting_in (Next place) = starting_at place
 starting_in (Acting builtin fields) = None
 starting_in (Calling body fields) = None
-starting_in (Evaluating text) = None
+starting_in (Evaluating origin text) = None
 starting_in (Done ended) = None
 starting_in (Leaving status) = None

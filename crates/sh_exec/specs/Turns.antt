@@ -2,11 +2,14 @@
 use Rattle.std.specs.Prelude.{◌≡◌, ℕ, List, Option, Some, None, option_map}
 use Rattle.sh_exec.specs.Programs.{Left, ProgramState, ask_turn}
 use Rattle.sh_exec.specs.Starting.{program_in, start_turn, starting_in}
+use Rattle.sh_exec.specs.declared.start.Started.{Started}
+use Rattle.sh_exec.specs.declared.start.Started.TheVariants.{Becomes, Refused}
 use Rattle.sh_exec.specs.declared.task.Task.{Task}
+use Rattle.sh_exec_actions.specs.declared.action.Active.TheVariants.{Next}
 use Rattle.sh_exec.specs.declared.task.Task.TheVariants.{Runs, Asks}
 use Rattle.sh_exec_shell.specs.Forks as shell
 use Rattle.sh_exec_shell.specs.Reduction.{shell_turn}
-use Rattle.sh_exec_forms.specs.Running.{InterpreterState, active_of}
+use Rattle.sh_exec_forms.specs.Running.{InterpreterState, active_of, with_active}
 use Rattle.sh_kernel.specs.State.{KernelKept, KernelState, StandsAt}
 use Rattle.sh_stock.specs.Asking.{Meaning}
 
@@ -16,8 +19,18 @@ pub record Turned (S : Type 0) : Type 0 where
   pub task : Task S
   pub child : Option (Task S)
 
-abbrev pub alone : {S : Type 0} → Left (Task S) → Turned S
-alone l = record { machine = l.machine; task = l.next; child = None }
+abbrev pub alone : {S : Type 0} → KernelState → Task S → Turned S
+alone s task = record { machine = s; task = task; child = None }
+
+-- a start that is refused leaves the shell inside its forms
+abbrev pub started_in : {S : Type 0} → KernelState → InterpreterState → Started S → Turned S
+started_in s interpreter (Becomes task) = alone s task
+started_in s interpreter (Refused place) = alone s (Runs (record interpreter { run = with_active interpreter.run (Next place) }))
+
+-- what is in a shell's process then
+abbrev pub task_behind : {S : Type 0} → InterpreterState → Option (Task S) → Task S
+task_behind interpreter None = Runs interpreter
+task_behind interpreter (Some task) = task
 
 -- a process that a shell made is a shell
 abbrev pub made_task : {S : Type 0} → InterpreterState → Task S
@@ -34,7 +47,7 @@ abbrev pub by_program : {S : Type 0} → ℕ → Left (ProgramState S) → Turne
 by_program pid l = record { machine = l.machine; task = program_in pid l.next; child = None }
 
 abbrev pub runs_by : {S : Type 0} → Meaning S → KernelState → InterpreterState → Option (List (List ℕ)) → Turned S
-runs_by m s interpreter (Some fields) = alone (start_turn m s interpreter.shell fields)
+runs_by m s interpreter (Some fields) = let l = start_turn m s interpreter.shell fields in started_in l.machine interpreter l.next
 runs_by m s interpreter None = by_shell (shell_turn s interpreter)
 
 abbrev pub turn : {S : Type 0} → Meaning S → KernelState → Task S → Turned S

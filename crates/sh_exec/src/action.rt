@@ -47,7 +47,7 @@ pub(crate) fn action_in(active: &Active) -> Next<'_>
         Active::Next(place) => action_at(place),
         Active::Acting(_, _) => Next::Other,
         Active::Calling(_, _) => Next::Other,
-        Active::Evaluating(_) => Next::Other,
+        Active::Evaluating(_, _) => Next::Other,
         Active::Done(_) => Next::Other,
         Active::Leaving(_) => Next::Other,
     }

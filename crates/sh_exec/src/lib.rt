@@ -8,7 +8,6 @@ mod jobs;
 pub mod laws;
 mod program;
 mod script;
-mod search;
 mod settings;
 mod shell;
 mod start;
@@ -16,6 +15,6 @@ mod task;
 
 pub use event::Event;
 pub use jobs::Jobs;
-pub use search::{Located, MAX_SCRIPT, locate};
 pub use settings::{Settings, Source};
+pub use start::Started;
 pub use task::Task;

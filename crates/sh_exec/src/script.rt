@@ -3,14 +3,13 @@ ghost use Rattle.std.specs.Prelude.{◌≡◌, IfOk, Some, option_map};
 ghost use Rattle.sh_files_image.specs.declared.node.Node.TheVariants as node;
 ghost use Rattle.sh_exec.specs.Scripts.{missing, place_by, script_place, unreadable};
 
-use crate::MAX_SCRIPT;
 use sh_base::NoMemory;
 use sh_base::sequence::Text;
 use sh_exec_actions::status::{CANNOT_EXECUTE, NOT_FOUND};
 use sh_exec_actions::{Action, Finish};
 use sh_exec_parts::Rest;
 use sh_exec_parts::message::{cannot_execute, not_found};
-use sh_files::{File, Files, Node};
+use sh_files::{File, Files, MAX_SCRIPT, Node};
 use std::alloc::Global;
 
 /// The first place of a shell whose script isn't there.

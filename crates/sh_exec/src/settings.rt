@@ -22,6 +22,6 @@ pub struct Settings {
     pub zero: Text,
     /// The positional parameters from `$1` on.
     pub args: Sequence<Text>,
-    /// The options that are on (XCU 2.15 `set`): `-a`, `-f` and `-u` act so far.
+    /// The options that are on (XCU 2.15 `set`). `-m` has no effect yet.
     pub options: Options,
 }

@@ -37,7 +37,7 @@ fn starting_in(active: &Active) -> Option<&Sequence<Text>>
         Active::Next(place) => starting_at(place),
         Active::Acting(_, _) => None,
         Active::Calling(_, _) => None,
-        Active::Evaluating(_) => None,
+        Active::Evaluating(_, _) => None,
         Active::Done(_) => None,
         Active::Leaving(_) => None,
     }

@@ -5,50 +5,50 @@ ghost use Rattle.sh_kernel.specs.Calls.{start_call};
 ghost use Rattle.sh_kernel.specs.State.{KernelState, StandsAt};
 ghost use Rattle.sh_exec_parts.specs.Messages as messages;
 ghost use Rattle.sh_exec.specs.Programs.{HasLeft, asking};
-ghost use Rattle.sh_exec.specs.Starting.{parent_of, program_in, script_shell, script_start, shell_at, start_named, start_turn, started_by, stock_start};
+ghost use Rattle.sh_exec.specs.Starting.{located_for, parent_of, program_in, script_shell, script_start, start_named, start_turn, started_by, stock_start};
 
 use crate::program::asking;
 use crate::task::Task;
-use crate::{Located, locate};
 use sh_base::NoMemory;
 use sh_base::sequence::{Sequence, Text};
 use sh_builtin::{Functions, Shell};
 use sh_builtin_environment::Traps;
 use sh_exec_actions::status::{CANNOT_EXECUTE, NOT_FOUND};
 use sh_exec_actions::{Action, Finish};
-use sh_exec_parts::message::{Piece, cannot_execute, not_found};
+use sh_exec_parts::message::{cannot_execute, not_found};
 use sh_exec_parts::script_environment;
 use sh_exec_shell::Interpreter;
+use sh_files::{Files, Located, locate};
 use sh_kernel::Kernel;
 use sh_stock::{Answer, Stock};
+use sh_vars::Vars;
 use std::alloc::Global;
 
-/// The process says why there is no program, and ends with a status.
-fn failed<S: Stock>(alloc: Global, shell: Shell, piece: Piece, status: u8) -> Task<S>
-    ensures { result ≡ shell_at shell (Action.Writing piece (Finish.Fault status)) }
-{
-    let place = Action::Writing(piece, Finish::Fault(status));
-    Task::Runs(Interpreter::at(alloc, shell, place))
+/// What comes of a program's start in the process of a shell.
+#[derive(Drop)]
+pub enum Started<S: Stock> {
+    /// This takes the place of the shell in its process.
+    Becomes(Task<S>),
+    /// There is no program: the shell does this next.
+    Refused(Action),
 }
 
 /// No program has this name.
-fn missing<S: Stock>(alloc: Global, shell: Shell, name: &[u8]) -> Result<Task<S>, NoMemory>
-    ensures { IfOk result (λ task.
-        task ≡ shell_at shell
-        (Action.Writing (messages.message (messages.not_found name.now)) (Finish.Fault statuses.not_found))) }
+fn missing(alloc: Global, name: &[u8]) -> Result<Action, NoMemory>
+    ensures { IfOk result (λ place.
+        place ≡ Action.Writing (messages.message (messages.not_found name.now)) (Finish.Fault statuses.not_found)) }
 {
     let piece = not_found(alloc, name)?;
-    Ok(failed(alloc, shell, piece, NOT_FOUND))
+    Ok(Action::Writing(piece, Finish::Fault(NOT_FOUND)))
 }
 
 /// It can't be run.
-fn unfit<S: Stock>(alloc: Global, shell: Shell, name: &[u8]) -> Result<Task<S>, NoMemory>
-    ensures { IfOk result (λ task.
-        task ≡ shell_at shell
-        (Action.Writing (messages.message (messages.cannot_execute name.now)) (Finish.Fault statuses.cannot_execute))) }
+fn unfit(alloc: Global, name: &[u8]) -> Result<Action, NoMemory>
+    ensures { IfOk result (λ place.
+        place ≡ Action.Writing (messages.message (messages.cannot_execute name.now)) (Finish.Fault statuses.cannot_execute)) }
 {
     let piece = cannot_execute(alloc, name)?;
-    Ok(failed(alloc, shell, piece, CANNOT_EXECUTE))
+    Ok(Action::Writing(piece, Finish::Fault(CANNOT_EXECUTE)))
 }
 
 /// What the shell had set aside is closed.
@@ -73,25 +73,23 @@ fn begin<S: Stock>(alloc: Global, pid: u32, program: S) -> Result<Task<S>, NoMem
 fn start_stock<S: Stock>(
     alloc: Global,
     kernel: &mut Kernel,
-    shell: Shell,
+    pid: u32,
     name: &[u8],
     program: Option<S>,
-) -> Result<Task<S>, NoMemory>
-    ensures state { (s : KernelState) → StandsAt kernel.old s → IfOk result (λ task.
-        HasLeft kernel.new task (stock_start S.meaning s shell name.now program)) }
+) -> Result<Started<S>, NoMemory>
+    ensures state { (s : KernelState) → StandsAt kernel.old s → (shell : Shell) → shell.pid ≡ pid → IfOk result (λ started.
+        HasLeft kernel.new started (stock_start S.meaning s shell name.now program)) }
     ensures terminal { kernel.new.terminal ≡ kernel.old.terminal }
 {
     match program {
         Some(program) => {
-            let pid = shell.pid;
-            drop(shell);
             let task = begin(alloc, pid, program)?;
             close_aside(kernel, pid);
-            Ok(task)
+            Ok(Started::Becomes(task))
         },
         None => {
-            let refused = unfit(alloc, shell, name)?;
-            Ok(refused)
+            let place = unfit(alloc, name)?;
+            Ok(Started::Refused(place))
         },
     }
 }
@@ -114,9 +112,9 @@ fn start_script<S: Stock>(
     path: &[u8],
     text: Text,
     operands: &[Text],
-) -> Result<Task<S>, NoMemory>
-    ensures state { (s : KernelState) → StandsAt kernel.old s → IfOk result (λ task.
-        HasLeft kernel.new task (script_start s shell.now path.now text operands.now)) }
+) -> Result<Started<S>, NoMemory>
+    ensures state { (s : KernelState) → StandsAt kernel.old s → IfOk result (λ started.
+        HasLeft kernel.new started (script_start s shell.now path.now text operands.now)) }
     ensures terminal { kernel.new.terminal ≡ kernel.old.terminal }
 {
     let pid = shell.pid;
@@ -130,42 +128,49 @@ fn start_script<S: Stock>(
         functions: Functions::new(alloc),
         traps,
     };
-    Ok(Task::Runs(Interpreter::reading(alloc, shell, text)))
+    Ok(Started::Becomes(Task::Runs(Interpreter::reading(alloc, shell, text))))
 }
 
 /// What was found is started.
 fn start_located<S: Stock>(
     alloc: Global,
     kernel: &mut Kernel,
-    shell: Shell,
+    shell: &Shell,
     name: &[u8],
     operands: &[Text],
     located: Located,
-) -> Result<Task<S>, NoMemory>
-    ensures state { (s : KernelState) → StandsAt kernel.old s → IfOk result (λ task.
-        HasLeft kernel.new task
-        (started_by S.meaning s shell (record { name = name.now; operands = operands.now }) located)) }
+) -> Result<Started<S>, NoMemory>
+    ensures state { (s : KernelState) → StandsAt kernel.old s → IfOk result (λ started.
+        HasLeft kernel.new started
+        (started_by S.meaning s shell.now (record { name = name.now; operands = operands.now }) located)) }
     ensures terminal { kernel.new.terminal ≡ kernel.old.terminal }
 {
     match located {
         Located::Missing => {
-            let task = missing(alloc, shell, name)?;
-            Ok(task)
+            let place = missing(alloc, name)?;
+            Ok(Started::Refused(place))
         },
         Located::Unfit => {
-            let task = unfit(alloc, shell, name)?;
-            Ok(task)
+            let place = unfit(alloc, name)?;
+            Ok(Started::Refused(place))
         },
         Located::Stock(program) => {
             let program = S::start(alloc, program.as_slice(), operands)?;
-            let task = start_stock(alloc, kernel, shell, name, program)?;
-            Ok(task)
+            let started = start_stock(alloc, kernel, shell.pid, name, program)?;
+            Ok(started)
         },
         Located::Script { path, text } => {
-            let task = start_script(alloc, kernel, &shell, path.as_slice(), text, operands)?;
-            Ok(task)
+            let started = start_script(alloc, kernel, shell, path.as_slice(), text, operands)?;
+            Ok(started)
         },
     }
+}
+
+/// What a command's name leads to, where these are the files and the variables.
+fn find_program(alloc: Global, files: &Files, vars: &Vars, name: &[u8]) -> Result<Located, NoMemory>
+    ensures { IfOk result (λ located. located ≡ located_for files.now vars.now name.now) }
+{
+    locate(alloc, files, vars.directory(), vars.get(b"PATH"), name)
 }
 
 /// The program of a command name.
@@ -173,33 +178,33 @@ fn start_located<S: Stock>(
 fn start_named<S: Stock>(
     alloc: Global,
     kernel: &mut Kernel,
-    shell: Shell,
+    shell: &Shell,
     name: &[u8],
     operands: &[Text],
-) -> Result<Task<S>, NoMemory>
-    ensures state { (s : KernelState) → StandsAt kernel.old s → IfOk result (λ task.
-        HasLeft kernel.new task (start_named S.meaning s shell (record { name = name.now; operands = operands.now }))) }
+) -> Result<Started<S>, NoMemory>
+    ensures state { (s : KernelState) → StandsAt kernel.old s → IfOk result (λ started.
+        HasLeft kernel.new started (start_named S.meaning s shell.now (record { name = name.now; operands = operands.now }))) }
     ensures terminal { kernel.new.terminal ≡ kernel.old.terminal }
 {
-    let located = locate(alloc, kernel.files(), &shell.vars, name)?;
-    let task = start_located(alloc, kernel, shell, name, operands, located)?;
-    Ok(task)
+    let located = find_program(alloc, kernel.files(), &shell.vars, name)?;
+    let started = start_located(alloc, kernel, shell, name, operands, located)?;
+    Ok(started)
 }
 
 /// The turn in which a shell's process starts a program (XCU 2.9.1.4, 2.9.1.6).
 pub(crate) fn start_turn<S: Stock>(
     alloc: Global,
     kernel: &mut Kernel,
-    shell: Shell,
+    shell: &Shell,
     fields: Sequence<Text>,
-) -> Result<Task<S>, NoMemory>
-    ensures state { (s : KernelState) → StandsAt kernel.old s → IfOk result (λ task.
-        HasLeft kernel.new task (start_turn S.meaning s shell fields)) }
+) -> Result<Started<S>, NoMemory>
+    ensures state { (s : KernelState) → StandsAt kernel.old s → IfOk result (λ started.
+        HasLeft kernel.new started (start_turn S.meaning s shell.now fields)) }
     ensures terminal { kernel.new.terminal ≡ kernel.old.terminal }
 {
     let Some((name, operands)) = fields.as_slice().split_first() else {
-        return Ok(Task::Runs(Interpreter::at(alloc, shell, Action::Starting(fields))));
+        return Ok(Started::Refused(Action::Starting(fields)));
     };
-    let task = start_named(alloc, kernel, shell, name.as_slice(), operands)?;
-    Ok(task)
+    let started = start_named(alloc, kernel, shell, name.as_slice(), operands)?;
+    Ok(started)
 }

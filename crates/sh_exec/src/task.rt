@@ -1,22 +1,20 @@
 //! Processes.
-ghost use Rattle.std.specs.Prelude.{◌≡◌, IfOk, option_map};
+ghost use Rattle.std.specs.Prelude.{◌≡◌, IfOk, None, Some, option_map};
 ghost use Rattle.sh_kernel.specs.State.{KernelState, StandsAt};
 ghost use Rattle.sh_kernel.specs.Turns as next;
 ghost use Rattle.sh_kernel.specs.Turns.{can_do};
 ghost use Rattle.sh_tty.specs.Terminal.{Extends};
 ghost use Rattle.sh_exec_shell.specs.Reduction.{shell_turn};
 ghost use Rattle.sh_exec.specs.Actions.{action_of};
-ghost use Rattle.sh_exec.specs.Programs.{HasLeft};
-ghost use Rattle.sh_exec.specs.Starting.{start_turn};
 ghost use Rattle.sh_exec.specs.Tasks.{first_place, first_task, frames_of, pid_of};
-ghost use Rattle.sh_exec.specs.Turns.{IsTurned, by_shell, made_task, turn};
+ghost use Rattle.sh_exec.specs.Turns.{IsTurned, by_shell, made_task, runs_by, task_behind, turn};
 
 use crate::action::{action_in, asked};
 use crate::program::ask_turn;
 use crate::script::script_place;
 use crate::settings::{Settings, Source};
 use crate::shell::starting_of;
-use crate::start::start_turn;
+use crate::start::{Started, start_turn};
 use sh_base::NoMemory;
 use sh_base::sequence::{Sequence, Text};
 use sh_builtin::{Functions, Shell};
@@ -80,22 +78,24 @@ fn shell_turn<S: Stock>(
     Ok(made(child))
 }
 
-/// The turn in which a shell's process starts what these fields name, with a copy of its environment.
-fn start_from<S: Stock>(
+/// The turn in which a shell's process starts what these fields name: what takes the shell's place, if that can be started; else the shell
+/// goes on with a message, inside its forms.
+fn start_in<S: Stock>(
     alloc: Global,
     kernel: &mut Kernel,
-    interpreter: &Interpreter,
+    interpreter: &mut Interpreter,
     fields: Sequence<Text>,
-) -> Result<Task<S>, NoMemory>
-    ensures state { (s : KernelState) → StandsAt kernel.old s → IfOk result (λ task.
-        HasLeft kernel.new task (start_turn S.meaning s interpreter.now.shell fields)) }
+) -> Result<Option<Task<S>>, NoMemory>
+    ensures state { (s : KernelState) → StandsAt kernel.old s → IfOk result (λ next.
+        IsTurned kernel.new (task_behind interpreter.new next) None
+        (runs_by S.meaning s interpreter.old (Some fields))) }
     ensures terminal { kernel.new.terminal ≡ kernel.old.terminal }
 {
-    match interpreter.shell().copy(alloc) {
-        Ok(shell) => start_turn(alloc, kernel, shell, fields),
-        Err(lack) => {
-            drop(fields);
-            Err(lack)
+    match start_turn(alloc, kernel, interpreter.shell(), fields)? {
+        Started::Becomes(task) => Ok(Some(task)),
+        Started::Refused(place) => {
+            interpreter.go_to(place);
+            Ok(None)
         },
     }
 }
@@ -148,8 +148,9 @@ impl<S: Stock> Task<S> {
         match self {
             Task::Runs(interpreter) => match starting_of(alloc, interpreter.active())? {
                 Some(fields) => {
-                    let next = start_from(alloc, kernel, interpreter, fields)?;
-                    drop(mem::replace(self, next));
+                    if let Some(next) = start_in(alloc, kernel, interpreter, fields)? {
+                        drop(mem::replace(self, next));
+                    }
                     Ok(None)
                 },
                 None => {

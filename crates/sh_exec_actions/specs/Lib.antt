@@ -1,4 +1,3 @@
-pub mod Kinds
 pub mod Preparing
 pub mod Served
 pub mod Statuses

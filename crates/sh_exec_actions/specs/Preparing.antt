@@ -1,10 +1,13 @@
 -- A simple command (XCU 2.9.1) from its tree to the place of its first action, and from its expanded words to what it does.
-use Rattle.std.specs.Prelude.{ℕ, List, [], ◌∷◌, ◌||◌, not, Bool, true, false, Option, Some, None, length, if◌then◌else◌}
+use Rattle.std.specs.Prelude.{ℕ, List, [], ◌∷◌, ◌||◌, not, Bool, true, false, Option, Some, None, codes, length, if◌then◌else◌}
 use Rattle.sh_exec_actions.specs.Statuses as statuses
 use Rattle.std.specs.List.{list_any}
+use Rattle.std.specs.Str.{bytes_eq}
 use Rattle.sh_builtin.specs.Builtins.{builtin_of, is_special}
 use Rattle.sh_builtin.specs.Functions.{Named, body_of}
 use Rattle.sh_builtin.specs.declared.builtin.Builtin.{Builtin}
+use Rattle.sh_builtin.specs.declared.builtin.Builtin.TheVariants.{Exec}
+use Rattle.sh_builtin_environment.specs.Options.{Parsed, options_and_operands}
 use Rattle.sh_exec_parts.specs.Messages.{message, not_redirected}
 use Rattle.sh_exec_parts.specs.Redirections.{redirections_of}
 use Rattle.sh_exec_parts.specs.Simple.{assignments_of, is_redirect, is_word, items_of, redirect_fields, redirects_of, word_fields}
@@ -58,16 +61,36 @@ role_by (Some builtin) (Some body) = if is_special builtin then role.Builtin bui
 role_by None None = role.Program
 role_by None (Some body) = role.Function body
 
+-- exec with wrong options is refused as a built-in; with a command it starts that in place of the shell (2.15)
+abbrev pub exec_role : Option Parsed → Role
+exec_role None = role.Builtin Exec
+exec_role (Some (last, [])) = role.Exec false
+exec_role (Some (last, command ∷ arguments)) = role.Exec true
+
+abbrev pub is_exec : List ℕ → Bool
+is_exec name = bytes_eq name (codes "exec")
+
 abbrev pub role_of : List Named → List (List ℕ) → Role
 role_of functions [] = role.NoCommandName
-role_of functions (name ∷ arguments) = role_by (builtin_of name) (body_of functions name)
+role_of functions (name ∷ arguments) =
+    if is_exec name then exec_role (options_and_operands [] arguments) else role_by (builtin_of name) (body_of functions name)
+
+-- the name of the command that is run, and its arguments
+abbrev pub operands_in : List (List ℕ) → Option Parsed → List (List ℕ)
+operands_in words None = words
+operands_in words (Some (last, operands)) = operands
+
+abbrev pub fields_of : List (List ℕ) → List (List ℕ)
+fields_of [] = []
+fields_of (name ∷ arguments) =
+    if is_exec name then operands_in (name ∷ arguments) (options_and_operands [] arguments) else name ∷ arguments
 
 unfoldable pub prepared_of : Environment → List Named → List SimpleItem → List (List ℕ) → ℕ → ExpandedCommand
 prepared_of env functions items fields status =
     let count = length (redirects_of items) in
     record {
       role = role_of functions (word_fields fields count);
-      fields = word_fields fields count;
+      fields = fields_of (word_fields fields count);
       redirections = redirections_of env.options.no_clobber (redirects_of items) (redirect_fields fields count);
       assignments = assignments_of items;
       undo = no_undo;
@@ -85,6 +108,7 @@ failing_of role.NoCommandName = Status statuses.error
 failing_of (role.Builtin builtin) = failing (is_special builtin)
 failing_of (role.Function body) = Status statuses.error
 failing_of role.Program = Fault statuses.error
+failing_of (role.Exec is_command) = Fault statuses.error
 failing_of (role.Compound command) = Status statuses.error
 failing_of (role.Subshell list) = Status statuses.error
 
@@ -93,6 +117,8 @@ performed_by p role.NoCommandName = Held p.undo (Done (statuses.unexcused p.stat
 performed_by p (role.Builtin builtin) = Held p.undo (Acting builtin p.fields)
 performed_by p (role.Function body) = Held p.undo (Calling body p.fields)
 performed_by p role.Program = At (Next (Starting p.fields))
+performed_by p (role.Exec true) = At (Next (Starting p.fields))
+performed_by p (role.Exec false) = At (Done (statuses.unexcused 0))
 performed_by p (role.Compound command) = Compound p.undo command
 performed_by p (role.Subshell list) = Subshell list
 
@@ -116,6 +142,7 @@ forks role.NoCommandName in_place = false
 forks (role.Builtin builtin) in_place = false
 forks (role.Function body) in_place = false
 forks role.Program in_place = not in_place
+forks (role.Exec is_command) in_place = false
 forks (role.Compound command) in_place = false
 forks (role.Subshell list) in_place = false
 

@@ -2,7 +2,7 @@
 use crate::status::CommandStatus;
 use sh_base::sequence::{Sequence, Text};
 use sh_base::shared::Shared;
-use sh_builtin::{Builtin, Completion, Leave};
+use sh_builtin::{Builtin, Completion, Leave, TextOrigin};
 use sh_exec_machine::Undone;
 use sh_exec_parts::message::Piece;
 use sh_exec_parts::redirection::Redirection;
@@ -22,6 +22,8 @@ pub enum Role {
     Function(Shared<Command>),
     /// A program.
     Program,
+    /// `exec` (2.15): whether it has a command, which takes the place of the shell in its process.
+    Exec { is_command: bool },
     /// The shell, in which it is entered: it is this compound command (2.9.4).
     Compound(Shared<Command>),
     /// A process of its own, in which this list of a subshell (2.9.4.1) is entered.
@@ -207,8 +209,8 @@ pub enum Active {
     /// A function is called (2.9.5): its body, and its name with its arguments. In the same turn it is entered, or refused where it is
     /// nested too deep.
     Calling(Shared<Command>, Sequence<Text>),
-    /// A text is to be run here (2.15 eval). In the same turn it is entered, or refused where it is nested too deep.
-    Evaluating(Text),
+    /// A text is to be run here (2.15 dot, eval). In the same turn it is entered, or refused where it is nested too deep.
+    Evaluating(TextOrigin, Text),
     /// What ran here is done, and ended so.
     Done(CommandStatus),
     /// What ran here is left before its end.

@@ -28,6 +28,9 @@ impl Copying for Role {
             Role::Builtin(builtin) => Ok(Role::Builtin(*builtin)),
             Role::Function(body) => Ok(Role::Function(body.copy(alloc)?)),
             Role::Program => Ok(Role::Program),
+            Role::Exec { is_command } => Ok(Role::Exec {
+                is_command: *is_command,
+            }),
             Role::Compound(command) => Ok(Role::Compound(command.copy(alloc)?)),
             Role::Subshell(list) => Ok(Role::Subshell(list.copy(alloc)?)),
         }
@@ -255,7 +258,7 @@ fn copy_completion(alloc: Global, status: &Completion) -> Result<Completion, NoM
     match status {
         Completion::Done(status) => Ok(Completion::Done(*status)),
         Completion::Left(leave) => Ok(Completion::Left(*leave)),
-        Completion::Runs(text) => Ok(Completion::Runs(text.copy(alloc)?)),
+        Completion::Runs(origin, text) => Ok(Completion::Runs(*origin, text.copy(alloc)?)),
     }
 }
 
@@ -365,7 +368,7 @@ impl Copying for Active {
                     },
                 }
             },
-            Active::Evaluating(text) => Ok(Active::Evaluating(text.copy(alloc)?)),
+            Active::Evaluating(origin, text) => Ok(Active::Evaluating(*origin, text.copy(alloc)?)),
             Active::Done(status) => Ok(Active::Done(*status)),
             Active::Leaving(leave) => Ok(Active::Leaving(*leave)),
         }

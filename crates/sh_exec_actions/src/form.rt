@@ -6,6 +6,7 @@ use crate::status::CommandStatus;
 use sh_base::NoMemory;
 use sh_base::sequence::{Sequence, Text, copies_of};
 use sh_base::shared::Shared;
+use sh_builtin::TextOrigin;
 use sh_exec_parts::{Copying, Queue, Rest};
 use sh_syntax::tree::{CompoundList, Connected, ElseIf, ListItem, LoopKind};
 use std::alloc::Global;
@@ -107,8 +108,8 @@ pub enum Form {
     ForBody(ForLoop),
     /// The body of a function (2.9.5), with the positional parameters of its caller.
     Call(Sequence<Text>),
-    /// A text that `eval` runs (2.15).
-    Evaluation,
+    /// A text that `eval` or `.` runs (2.15).
+    Evaluation(TextOrigin),
     /// The action of a trap on EXIT (2.15 trap), in a shell that ends with this status after it.
     Trapped(u8),
     /// All of a process that was made where failures are ignored: they are ignored there too (2.15, set -e).
@@ -132,7 +133,7 @@ impl Copying for Form {
             Form::Call(positional) => {
                 Ok(Form::Call(Sequence::from_vec(copies_of(alloc, positional.as_slice())?)))
             },
-            Form::Evaluation => Ok(Form::Evaluation),
+            Form::Evaluation(origin) => Ok(Form::Evaluation(*origin)),
             Form::Trapped(status) => Ok(Form::Trapped(*status)),
             Form::FailuresIgnored => Ok(Form::FailuresIgnored),
         }

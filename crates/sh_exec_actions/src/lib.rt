@@ -5,7 +5,6 @@
 mod action;
 mod copying;
 mod form;
-mod kinds;
 mod preparing;
 mod served;
 pub mod status;
@@ -15,7 +14,6 @@ pub use action::{
     Report, Role, Saved, Stages, Substitution, ToExpand, Undo,
 };
 pub use form::{Branches, Form, Frame, Loop};
-pub use kinds::MOST_LEVELS;
 pub use preparing::{begin_command, first_place, go_ahead, no_undo, not_done, perform, prepare};
 pub use served::is_served;
 pub use status::CommandStatus;

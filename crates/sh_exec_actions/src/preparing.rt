@@ -1,6 +1,7 @@
 //! A simple command from its tree to its first place, and from its expanded words to what it does.
-ghost use Rattle.std.specs.Prelude.{◌≡◌, IfOk, option_map};
-ghost use Rattle.sh_exec_actions.specs.Preparing.{ahead, first_move, failing, failing_of, first_place, forks, nameless, no_undo, not_done, final_move, prepared_of, role_by, role_of, wants_of};
+ghost use Rattle.std.specs.Prelude.{◌≡◌, IfOk, [], option_map};
+ghost use Rattle.sh_builtin_environment.specs.Options.{options_and_operands};
+ghost use Rattle.sh_exec_actions.specs.Preparing.{ahead, exec_role, fields_of, first_move, failing, failing_of, first_place, forks, is_exec, nameless, no_undo, not_done, final_move, prepared_of, role_by, role_of, wants_of};
 
 use crate::action::{Action, Active, ExpandedCommand, Finish, Move, Role, ToExpand, Undo};
 use crate::status::{CommandStatus, ERROR};
@@ -8,6 +9,7 @@ use sh_base::NoMemory;
 use sh_base::sequence::{Sequence, Text, copies_of};
 use sh_base::shared::Shared;
 use sh_builtin::{Builtin, Functions};
+use sh_builtin_environment::parse_options;
 use sh_exec_parts::Queue;
 use sh_exec_parts::message::not_redirected;
 use sh_exec_parts::redirection::prepared_redirections;
@@ -95,15 +97,57 @@ fn role_by(builtin: Option<Builtin>, body: Option<&Shared<Command>>) -> Result<R
     }
 }
 
+/// What runs `exec` with these arguments.
+fn exec_role(arguments: &[Text]) -> Role
+    ensures { result ≡ exec_role (options_and_operands [] arguments.now) }
+{
+    match parse_options(b"", arguments) {
+        Some((_, operands)) => Role::Exec {
+            is_command: !operands.is_empty(),
+        },
+        None => Role::Builtin(Builtin::Exec),
+    }
+}
+
+/// Whether this is the name of `exec`.
+fn is_exec(name: &[u8]) -> bool
+    ensures { result ≡ is_exec name.now }
+{
+    name == b"exec".as_slice()
+}
+
+/// The name of the command that is run, and its arguments.
+fn fields_of(words: &[Text]) -> &[Text]
+    ensures { result.now ≡ fields_of words.now }
+{
+    match words.split_first() {
+        Some((name, arguments)) => {
+            if !is_exec(name.as_slice()) {
+                return words;
+            }
+            match parse_options(b"", arguments) {
+                Some((_, operands)) => operands,
+                None => words,
+            }
+        },
+        None => words,
+    }
+}
+
 /// What runs the command of these fields.
 fn role_of(functions: &Functions, fields: &[Text]) -> Result<Role, NoMemory>
     ensures { IfOk result (λ role. role ≡ role_of functions.now fields.now) }
 {
     match fields.split_first() {
-        Some((name, _)) => role_by(
-            Builtin::of(name.as_slice()),
-            functions.body(name.as_slice()),
-        ),
+        Some((name, arguments)) => {
+            if is_exec(name.as_slice()) {
+                return Ok(exec_role(arguments));
+            }
+            role_by(
+                Builtin::of(name.as_slice()),
+                functions.body(name.as_slice()),
+            )
+        },
         None => Ok(Role::NoCommandName),
     }
 }
@@ -127,7 +171,7 @@ pub fn prepare(
     let role = role_of(functions, words)?;
     Ok(ExpandedCommand {
         role,
-        fields: Sequence::from_vec(copies_of(alloc, words)?),
+        fields: Sequence::from_vec(copies_of(alloc, fields_of(words))?),
         redirections,
         assignments: Queue::new(assignments),
         undo: no_undo(alloc),
@@ -154,6 +198,7 @@ fn failing_of(role: Role) -> Finish
         Role::Builtin(builtin) => failing(builtin.is_special()),
         Role::Function(_) => Finish::Status(ERROR),
         Role::Program => Finish::Fault(ERROR),
+        Role::Exec { .. } => Finish::Fault(ERROR),
         Role::Compound(_) => Finish::Status(ERROR),
         Role::Subshell(_) => Finish::Status(ERROR),
     }
@@ -176,6 +221,8 @@ pub fn perform(prepared: ExpandedCommand) -> Move
         Role::Builtin(builtin) => Move::Held(undo, Active::Acting(builtin, fields)),
         Role::Function(body) => Move::Held(undo, Active::Calling(body, fields)),
         Role::Program => Move::At(Active::Next(Action::Starting(fields))),
+        Role::Exec { is_command: true } => Move::At(Active::Next(Action::Starting(fields))),
+        Role::Exec { is_command: false } => Move::At(Active::Done(CommandStatus::unexcused(0))),
         Role::Compound(command) => Move::Compound(undo, command),
         Role::Subshell(list) => Move::Subshell(list),
     }
@@ -206,6 +253,7 @@ fn forks(role: &Role, in_place: bool) -> bool
         Role::Builtin(_) => false,
         Role::Function(_) => false,
         Role::Program => !in_place,
+        Role::Exec { .. } => false,
         Role::Compound(_) => false,
         Role::Subshell(_) => false,
     }

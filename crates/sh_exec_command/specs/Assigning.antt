@@ -25,13 +25,14 @@ use Rattle.sh_syntax.specs.declared.tree.Parts.{Parts}
 use Rattle.sh_vars.specs.Environment.{Environment, is_read_only, with_export, with_value}
 use Rattle.sh_base.specs.Names.{is_name}
 
--- before a function, a built-in that isn't special and a program the variable is exported while that runs; before a special built-in,
+-- before a function, a built-in that isn't special and a program, also behind exec, the variable is exported while that runs; before a special built-in,
 -- and without a command name, it is set and stays (2.9.1.2, 2.15); a compound command has no assignments
 abbrev pub is_passing : Role → Bool
 is_passing role.NoCommandName = false
 is_passing (role.Builtin builtin) = not (is_special builtin)
 is_passing (role.Function body) = true
 is_passing role.Program = true
+is_passing (role.Exec is_command) = is_command
 is_passing (role.Compound command) = false
 is_passing (role.Subshell list) = false
 
@@ -44,6 +45,7 @@ is_undone role.NoCommandName = false
 is_undone (role.Builtin builtin) = not (is_special builtin)
 is_undone (role.Function body) = true
 is_undone role.Program = false
+is_undone (role.Exec is_command) = false
 is_undone (role.Compound command) = false
 is_undone (role.Subshell list) = false
 

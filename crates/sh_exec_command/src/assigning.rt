@@ -42,6 +42,7 @@ fn is_passing(role: &Role) -> bool
         Role::Builtin(builtin) => !builtin.is_special(),
         Role::Function(_) => true,
         Role::Program => true,
+        Role::Exec { is_command } => *is_command,
         Role::Compound(_) => false,
         Role::Subshell(_) => false,
     }
@@ -56,6 +57,7 @@ fn is_undone(role: &Role) -> bool
         Role::Builtin(builtin) => !builtin.is_special(),
         Role::Function(_) => true,
         Role::Program => false,
+        Role::Exec { .. } => false,
         Role::Compound(_) => false,
         Role::Subshell(_) => false,
     }

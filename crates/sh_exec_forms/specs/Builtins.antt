@@ -1,11 +1,12 @@
 -- A built-in acts or a function is called, in the turn of the last of what comes before it (2.9.1.4), and a text that is to be run is
--- entered (2.15 eval).
+-- entered (2.15 dot, eval).
 use Rattle.std.specs.Prelude.{ℕ, zero, suc, List, [], ◌∷◌, drop}
 use Rattle.sh_builtin.specs.Running.{built_in}
 use Rattle.sh_builtin.specs.declared.builtin.Builtin.{Builtin}
 use Rattle.sh_builtin.specs.declared.outcome.Completion.{Completion}
 use Rattle.sh_builtin.specs.declared.outcome.Completion.TheVariants as completion
 use Rattle.sh_builtin.specs.declared.outcome.Outcome.{Outcome}
+use Rattle.sh_builtin.specs.declared.outcome.TextOrigin.{TextOrigin}
 use Rattle.sh_builtin.specs.declared.shell.Shell.{Shell}
 use Rattle.sh_exec_actions.specs.Statuses.{unexcused}
 use Rattle.sh_exec_actions.specs.declared.action.Active.{Active}
@@ -28,7 +29,7 @@ use Rattle.sh_vars.specs.Environment.{with_positional}
 abbrev pub at_completion : Completion → Active
 at_completion (completion.Done status) = Done (unexcused status)
 at_completion (completion.Left leave) = Leaving leave
-at_completion (completion.Runs text) = Evaluating text
+at_completion (completion.Runs origin text) = Evaluating origin text
 
 -- ---- its messages are written to descriptor 2, each in a turn of its own, and then it ends
 abbrev pub said : List (List ℕ) → Completion → Active
@@ -60,9 +61,9 @@ with_active shell active = record { shell = shell; run = At active }
 abbrev pub too_deep : Shell → Performed
 too_deep shell = with_active shell (fatal (refusal_text refusal.TooDeep))
 
-abbrev pub evaluation : (levels : ℕ) → Shell → List ℕ → Performed
-evaluation zero shell text = too_deep shell
-evaluation (suc levels) shell text = record { shell = shell; run = In Evaluation (At (Next (Reading text 0))) }
+abbrev pub evaluation : (levels : ℕ) → Shell → TextOrigin → List ℕ → Performed
+evaluation zero shell origin text = too_deep shell
+evaluation (suc levels) shell origin text = record { shell = shell; run = In (Evaluation origin) (At (Next (Reading text 0))) }
 
 -- a function's arguments are the positional parameters in its body; those of the caller come back after it (2.9.5)
 abbrev pub with_parameters : Shell → List (List ℕ) → Shell
@@ -76,7 +77,7 @@ call (suc levels) shell body arguments = record { shell = with_parameters shell 
 abbrev pub performed : (levels : ℕ) → Shell → Active → Performed
 performed levels shell (Acting builtin fields) = with_active shell (Acting builtin fields)
 performed levels shell (Calling body fields) = call levels shell body (drop 1 fields)
-performed levels shell (Evaluating text) = evaluation levels shell text
+performed levels shell (Evaluating origin text) = evaluation levels shell origin text
 performed levels shell (Next place) = with_active shell (Next place)
 performed levels shell (Done ended) = with_active shell (Done ended)
 performed levels shell (Leaving leave) = with_active shell (Leaving leave)
@@ -90,7 +91,7 @@ builtin_effect around s shell builtin fields =
 abbrev pub effect_at : (around : List Form) → KernelState → Shell → Active → Performed
 effect_at around s shell (Acting builtin fields) = builtin_effect around s shell builtin fields
 effect_at around s shell (Calling body fields) = performed (levels_left around) shell (Calling body fields)
-effect_at around s shell (Evaluating text) = performed (levels_left around) shell (Evaluating text)
+effect_at around s shell (Evaluating origin text) = performed (levels_left around) shell (Evaluating origin text)
 effect_at around s shell (Next place) = performed (levels_left around) shell (Next place)
 effect_at around s shell (Done ended) = performed (levels_left around) shell (Done ended)
 effect_at around s shell (Leaving leave) = performed (levels_left around) shell (Leaving leave)

@@ -2,6 +2,8 @@
 use Rattle.std.specs.Prelude.{◌≡◌, ℕ, zero, suc, List, [], ◌∷◌, ◌||◌, ◌&&◌, Bool, true, false, nat_eq, not, Option, Some, None, if◌then◌else◌}
 use Rattle.sh_builtin.specs.Outcomes.{shell_status}
 use Rattle.sh_builtin.specs.declared.outcome.Leave.{Leave}
+use Rattle.sh_builtin.specs.declared.outcome.TextOrigin.{TextOrigin}
+use Rattle.sh_builtin.specs.declared.outcome.TextOrigin.TheVariants as origin
 use Rattle.sh_builtin.specs.declared.shell.Shell.{Shell}
 use Rattle.sh_builtin.specs.declared.outcome.Leave.TheVariants as leave
 use Rattle.sh_exec_command.specs.Series.{rest_of_series}
@@ -16,7 +18,7 @@ use Rattle.sh_exec_machine.specs.Undoing as descriptors
 use Rattle.sh_exec_forms.specs.Builtins.{Performed, effect_at, with_parameters}
 use Rattle.sh_exec_forms.specs.Entering.{items_run, with_others, list_run, pipeline_run}
 use Rattle.sh_exec_forms.specs.Stacks.{Goes, run_of}
-use Rattle.sh_exec_frames.specs.Frames.{ends_action, has_call, has_loop, is_failure_ignored}
+use Rattle.sh_exec_frames.specs.Frames.{ends_action, may_return, has_loop, is_failure_ignored}
 use Rattle.sh_exec_forms.specs.Running.{Run, At, In}
 use Rattle.sh_exec_actions.specs.declared.form.Branches.{Branches}
 use Rattle.sh_exec_actions.specs.declared.form.Form.{Form}
@@ -103,7 +105,8 @@ ended_within errexit true ended = Done (record ended { excused = ended.excused |
 ended_within false false ended = Done ended
 ended_within true false ended = if is_failure ended && not ended.excused then Leaving (leave.Exit ended.status) else Done ended
 
--- ---- break and continue (2.15) are done with 0, and do nothing where no loop stands around; return is exit where no function does
+-- ---- break and continue (2.15) are done with 0, and do nothing where no loop stands around; return is exit where neither a function nor
+-- a dot script does
 abbrev pub left_within : (called looped : Bool) → Leave → Active
 left_within called looped (leave.Exit status) = Leaving (leave.Exit status)
 left_within called looped (leave.Fault status) = Leaving (leave.Fault status)
@@ -118,10 +121,10 @@ left_within called false (leave.Continue inside) = Done (unexcused 0)
 abbrev pub within : (errexit : Bool) → (around : List Form) → Active → Active
 within errexit around (Acting builtin fields) = Acting builtin fields
 within errexit around (Calling body fields) = Calling body fields
-within errexit around (Evaluating text) = Evaluating text
+within errexit around (Evaluating origin text) = Evaluating origin text
 within errexit around (Next place) = Next place
 within errexit around (Done ended) = ended_within errexit (is_failure_ignored around || ends_action around) ended
-within errexit around (Leaving leave) = left_within (has_call around) (has_loop around) leave
+within errexit around (Leaving leave) = left_within (may_return around) (has_loop around) leave
 
 -- the same of what a built-in leaves; forms that it entered have their own
 abbrev pub within_run : (errexit : Bool) → (around : List Form) → Run → Run
@@ -172,6 +175,11 @@ after_call around (leave.Return status) shell = returned around shell status
 after_call around (leave.Break inside) shell = Leaving (leave.Break inside)
 after_call around (leave.Continue inside) shell = Leaving (leave.Continue inside)
 
+-- ---- a text that is left; `return` ends a dot script as a function's body (2.15 return)
+abbrev pub after_text : (around : List Form) → TextOrigin → Leave → Shell → Active
+after_text around origin.Eval leave shell = Leaving leave
+after_text around origin.DotScript leave shell = after_call around leave shell
+
 -- the next command of a text is read, behind this status; `$?` is the status of the command before (2.5.2). Behind the action of a trap on
 -- EXIT the shell ends with the status that it was to have, unless the action leaves the shell (2.15 trap)
 -- around: the forms round this one, the innermost first
@@ -186,7 +194,7 @@ after_status around (Condition loop last) s shell ended = with_run s (behind_sta
 after_status around (Body loop) s shell ended = with_run s (behind_status shell ended.status) (condition_run loop ended)
 after_status around (ForBody series) s shell ended = with_run s (behind_status shell ended.status) (At (rest_of_series series ended))
 after_status around (Call positional) s shell ended = with_run s (with_parameters shell positional) (At (returned around shell ended.status))
-after_status around Evaluation s shell ended = with_run s shell (At (Done ended))
+after_status around (Evaluation origin) s shell ended = with_run s shell (At (Done ended))
 after_status around (Trapped status) s shell ended = with_run s shell (At (Next (Ending status)))
 after_status around FailuresIgnored s shell ended = with_run s shell (At (Done ended))
 
@@ -202,7 +210,7 @@ after_leave around (Body loop) s shell leave = loop_left s shell (condition_run 
 after_leave around (ForBody series) s shell leave =
     loop_left s shell (At (rest_of_series series (unexcused 0))) (onward (has_loop around) leave)
 after_leave around (Call positional) s shell leave = with_run s (with_parameters shell positional) (At (after_call around leave shell))
-after_leave around Evaluation s shell leave = with_run s shell (At (Leaving leave))
+after_leave around (Evaluation origin) s shell leave = with_run s shell (At (after_text around origin leave shell))
 after_leave around (Trapped status) s shell leave = with_run s shell (At (Next (Ending (shell_status leave))))
 after_leave around FailuresIgnored s shell leave = with_run s shell (At (Leaving leave))
 
@@ -211,7 +219,7 @@ after_by around form s shell (At (Done ended)) = after_status around form s shel
 after_by around form s shell (At (Leaving leave)) = after_leave around form s shell leave
 after_by around form s shell (At (Acting builtin fields)) = with_run s shell (In form (At (Acting builtin fields)))
 after_by around form s shell (At (Calling body fields)) = with_run s shell (In form (At (Calling body fields)))
-after_by around form s shell (At (Evaluating text)) = with_run s shell (In form (At (Evaluating text)))
+after_by around form s shell (At (Evaluating origin text)) = with_run s shell (In form (At (Evaluating origin text)))
 after_by around form s shell (At (Next place)) = with_run s shell (In form (At (Next place)))
 after_by around form s shell (In inner run) = with_run s shell (In form (In inner run))
 

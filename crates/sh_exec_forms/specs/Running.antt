@@ -17,3 +17,8 @@ pub record InterpreterState : Type 0 where
 abbrev pub active_of : Run → Active
 active_of (At active) = active
 active_of (In form run) = active_of run
+
+-- the same forms round another place
+abbrev pub with_active : Run → Active → Run
+with_active (At active) next = At next
+with_active (In form run) next = In form (with_active run next)

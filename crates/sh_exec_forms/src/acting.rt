@@ -13,7 +13,7 @@ use crate::step::Step;
 use sh_base::NoMemory;
 use sh_base::sequence::{Sequence, Text, copies_of};
 use sh_base::shared::Shared;
-use sh_builtin::{Builtin, Completion, Outcome, Shell};
+use sh_builtin::{Builtin, Completion, Outcome, Shell, TextOrigin};
 use sh_exec_actions::{Action, Active, CommandStatus, Finish, Form, Report};
 use sh_exec_command::fatal_message;
 use sh_exec_frames::Frames;
@@ -30,7 +30,7 @@ fn at_completion(status: Completion) -> Active
     match status {
         Completion::Done(status) => Active::Done(CommandStatus::unexcused(status)),
         Completion::Left(leave) => Active::Leaving(leave),
-        Completion::Runs(text) => Active::Evaluating(text),
+        Completion::Runs(origin, text) => Active::Evaluating(origin, text),
     }
 }
 
@@ -99,15 +99,21 @@ fn too_deep(alloc: Global) -> Result<Step, NoMemory>
 }
 
 /// A text is entered, unless it is nested too deep.
-fn evaluate(alloc: Global, shell: &Shell, frames: &mut Frames, text: Text) -> Result<Step, NoMemory>
+fn evaluate(
+    alloc: Global,
+    shell: &Shell,
+    frames: &mut Frames,
+    origin: TextOrigin,
+    text: Text,
+) -> Result<Step, NoMemory>
     ensures { IfOk result (λ step. HasPerformed shell.now frames.new frames.old step
-        (evaluation (levels_left frames.old) shell.now text)) }
+        (evaluation (levels_left frames.old) shell.now origin text)) }
 {
     if frames.levels_left() == 0 {
         drop(text);
         return too_deep(alloc);
     }
-    match frames.push(Form::Evaluation) {
+    match frames.push(Form::Evaluation(origin)) {
         Ok(()) => Ok(Step::Inward(Active::Next(Action::Reading(Rest::new(text), 0)))),
         Err(lack) => {
             drop(text);
@@ -182,10 +188,7 @@ fn step_at(
             let step = call(alloc, shell, frames, &body, arguments)?;
             Ok(step)
         },
-        Active::Evaluating(text) => {
-            let step = evaluate(alloc, shell, frames, text)?;
-            Ok(step)
-        },
+        Active::Evaluating(origin, text) => evaluate(alloc, shell, frames, origin, text),
         Active::Next(place) => Ok(Step::Inward(Active::Next(place))),
         Active::Done(ended) => Ok(Step::Outward(Active::Done(ended))),
         Active::Leaving(leave) => Ok(Step::Outward(Active::Leaving(leave))),

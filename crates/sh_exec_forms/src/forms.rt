@@ -3,7 +3,7 @@ ghost use Rattle.std.specs.Prelude.{◌≡◌, [], IfOk};
 ghost use Rattle.sh_kernel.specs.State.{KernelState, StandsAt};
 ghost use Rattle.sh_syntax.specs.declared.tree.Command.TheViews as view;
 ghost use Rattle.sh_exec_forms.specs.Entering.{list_run, pipeline_run, with_others};
-ghost use Rattle.sh_exec_forms.specs.Forms.{Acted, Follows, HasGone, IsActed, IsOnWay, after_call, after_leave, after_status, at_action, branch, connected_run, goes_on, negation, otherwise, outward, undone, with_run};
+ghost use Rattle.sh_exec_forms.specs.Forms.{Acted, Follows, HasGone, IsActed, IsOnWay, after_call, after_leave, after_status, after_text, at_action, branch, connected_run, goes_on, negation, otherwise, outward, undone, with_run};
 ghost use Rattle.sh_exec_forms.specs.Stacks.{Goes, IsFewer, Leaves, run_of};
 ghost use Rattle.sh_exec_frames.specs.Frames.{has_loop};
 ghost use Rattle.sh_exec_forms.specs.Running.{Run};
@@ -14,7 +14,7 @@ use crate::loops::{end_within, leave_loop, leave_series, next_value, repeat, tes
 use crate::step::Step;
 use sh_base::NoMemory;
 use sh_base::shared::Shared;
-use sh_builtin::{Leave, Shell};
+use sh_builtin::{Leave, Shell, TextOrigin};
 use sh_exec_actions::{Action, Active, Branches, CommandStatus, Form, Undo};
 use sh_exec_command::restore_variables;
 use sh_exec_frames::Frames;
@@ -175,6 +175,16 @@ fn leave_call(frames: &Frames, shell: &Shell, leave: Leave) -> Active
     }
 }
 
+/// What a text comes to that is left: a dot script is ended by `return`.
+fn leave_text(frames: &Frames, shell: &Shell, origin: TextOrigin, leave: Leave) -> Active
+    ensures { result ≡ after_text frames.now origin leave shell.now }
+{
+    match origin {
+        TextOrigin::Eval => Active::Leaving(leave),
+        TextOrigin::DotScript => leave_call(frames, shell, leave),
+    }
+}
+
 /// A form in which all is done.
 #[tactic(auto, using(crate::proofs::Outward::leaves))]
 fn end_form(
@@ -233,7 +243,7 @@ fn end_form(
             let ended = CommandStatus::unexcused(ended.status);
             Ok(Step::Outward(end_within(frames, errexit, ended)))
         },
-        Form::Evaluation => Ok(Step::Outward(Active::Done(ended))),
+        Form::Evaluation(_) => Ok(Step::Outward(Active::Done(ended))),
         Form::Trapped(status) => Ok(Step::Inward(Active::Next(Action::Ending(status)))),
         Form::FailuresIgnored => Ok(Step::Outward(Active::Done(ended))),
     }
@@ -270,14 +280,8 @@ fn leave_form(
             Ok(step)
         },
         Form::Body(looping) => {
-            let step = leave_loop(
-                alloc,
-                shell,
-                frames,
-                looping,
-                CommandStatus::unexcused(0),
-                leave,
-            )?;
+            let ended = CommandStatus::unexcused(0);
+            let step = leave_loop(alloc, shell, frames, looping, ended, leave)?;
             Ok(step)
         },
         Form::ForBody(series) => Ok(leave_series(shell, frames, series, leave)),
@@ -286,7 +290,7 @@ fn leave_form(
             shell.vars.set_positional(positional.into_vec());
             Ok(Step::Outward(active))
         },
-        Form::Evaluation => Ok(Step::Outward(Active::Leaving(leave))),
+        Form::Evaluation(origin) => Ok(Step::Outward(leave_text(frames, shell, origin, leave))),
         Form::Trapped(_) => {
             Ok(Step::Inward(Active::Next(Action::Ending(leave.shell_status()))))
         },
@@ -313,7 +317,7 @@ fn go_outward(
         Active::Next(place) => Ok(Step::Inward(Active::Next(place))),
         Active::Acting(builtin, fields) => Ok(Step::Inward(Active::Acting(builtin, fields))),
         Active::Calling(body, fields) => Ok(Step::Inward(Active::Calling(body, fields))),
-        Active::Evaluating(text) => Ok(Step::Inward(Active::Evaluating(text))),
+        Active::Evaluating(origin, text) => Ok(Step::Inward(Active::Evaluating(origin, text))),
         Active::Done(ended) => match frames.pop() {
             Some(form) => end_form(alloc, kernel, shell, frames, form, ended),
             None => Ok(Step::Inward(Active::Done(ended))),

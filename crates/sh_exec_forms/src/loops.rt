@@ -5,7 +5,7 @@ ghost use Rattle.sh_exec_actions.specs.Statuses.{unexcused};
 ghost use Rattle.sh_exec_command.specs.Series.{rest_of_series};
 ghost use Rattle.sh_exec_forms.specs.Forms.{Acted, Follows, behind_condition, beyond, condition_run, ended_within, left_within, loop_left, onward, onward_by, runs, within};
 ghost use Rattle.sh_exec_forms.specs.Stacks.{Goes, Leaves};
-ghost use Rattle.sh_exec_frames.specs.Frames.{ends_action, has_call, has_loop, is_failure_ignored};
+ghost use Rattle.sh_exec_frames.specs.Frames.{ends_action, has_loop, is_failure_ignored, may_return};
 ghost use Rattle.sh_exec_forms.specs.Running.{Run};
 ghost use Rattle.sh_kernel.specs.State.{KernelState};
 
@@ -56,15 +56,15 @@ pub(crate) fn end_within(frames: &Frames, errexit: bool, ended: CommandStatus) -
     end_where(frames.is_failure_ignored(), errexit, ended)
 }
 
-/// break and continue do nothing where no loop is around, and return is exit where no function is.
+/// break and continue do nothing where no loop is around, and return is exit where neither a function nor a dot script is.
 fn leave_within(frames: &Frames, leave: Leave) -> Active
-    ensures { result ≡ left_within (has_call frames.now) (has_loop frames.now) leave }
+    ensures { result ≡ left_within (may_return frames.now) (has_loop frames.now) leave }
 {
     match leave {
         Leave::Exit(status) => Active::Leaving(Leave::Exit(status)),
         Leave::Fault(status) => Active::Leaving(Leave::Fault(status)),
         Leave::Return(status) => {
-            if frames.has_call() {
+            if frames.may_return() {
                 return Active::Leaving(Leave::Return(status));
             }
             Active::Leaving(Leave::Exit(status))
@@ -91,7 +91,7 @@ pub(crate) fn within(frames: &Frames, errexit: bool, active: Active) -> Active
     match active {
         Active::Acting(builtin, fields) => Active::Acting(builtin, fields),
         Active::Calling(body, fields) => Active::Calling(body, fields),
-        Active::Evaluating(text) => Active::Evaluating(text),
+        Active::Evaluating(origin, text) => Active::Evaluating(origin, text),
         Active::Next(place) => Active::Next(place),
         Active::Done(ended) => {
             let ignored = frames.is_failure_ignored() || frames.ends_action();

@@ -1,16 +1,17 @@
 -- The forms round the place where a shell acts, as a list with the innermost first, and what holds inside them.
+use Rattle.std.specs.Option.{is_some, option_or, unwrap_or}
 use Rattle.std.specs.Prelude.{ℕ, List, [], ◌∷◌, map, ◌||◌, ◌&&◌, not, Bool, true, false, Option, Some, None, if◌then◌else◌}
 use Rattle.sh_builtin.specs.declared.builtin.Builtin.{Builtin}
-use Rattle.sh_builtin.specs.declared.builtin.Builtin.TheVariants.{Bracket, Break, Cd, Colon, Continue, Echo, Eval, Exit, Export, False, Pwd, ReadOnly, Return, Set, Shift, Test, Trap, True, Unset}
-use Rattle.sh_exec_actions.specs.Kinds.{before_trap, ignores_failure, is_call, is_loop, levels_inside, most_levels}
+use Rattle.sh_builtin.specs.declared.builtin.Builtin.TheVariants.{Bracket, Break, Cd, Colon, Continue, Dot, Echo, Eval, Exec, Exit, Export, False, Pwd, ReadOnly, Return, Set, Shift, Test, Trap, True, Unset}
+use Rattle.sh_exec_frames.specs.Kinds.{before_trap, ignores_failure, is_call, is_loop, levels_inside, most_levels, takes_return}
 use Rattle.sh_exec_actions.specs.declared.form.Form.{Form}
 use Rattle.sh_exec_actions.specs.declared.form.Form.TheVariants.{FailuresIgnored}
 use Rattle.sh_exec_actions.specs.declared.form.Frame.{Frame}
 
--- whether the body of a function is among some forms
-abbrev pub has_call : List Form → Bool
-has_call [] = false
-has_call (form ∷ forms) = is_call form || has_call forms
+-- whether the body of a function or a dot script is among some forms
+abbrev pub may_return : List Form → Bool
+may_return [] = false
+may_return (form ∷ forms) = takes_return form || may_return forms
 
 -- whether a loop is among some forms; a function doesn't see the loops of its caller
 abbrev pub has_loop : List Form → Bool
@@ -22,28 +23,17 @@ abbrev pub is_failure_ignored : List Form → Bool
 is_failure_ignored [] = false
 is_failure_ignored (form ∷ around) = ignores_failure form || is_failure_ignored around
 
--- how many more calls of functions, texts that `eval` runs (2.15), and actions of traps there may be inside some forms, one in another
+-- how many more calls of functions, texts that `eval` and `.` run (2.15), and actions of traps there may be inside some forms, one in another
 abbrev pub levels_left : List Form → ℕ
 levels_left [] = most_levels
 levels_left (form ∷ around) = levels_inside form (levels_left around)
 
--- ---- the actions of traps (2.15 trap): what `$?` was before the innermost one among some forms, and before the one that no function is
--- inside of
-abbrev pub nearest : Option ℕ → Option ℕ → Option ℕ
-nearest None outer = outer
-nearest (Some status) outer = Some status
-
-abbrev pub before_action : List Form → Option ℕ
-before_action [] = None
-before_action (form ∷ around) = nearest (before_trap form) (before_action around)
-
-abbrev pub before_own_action : List Form → Option ℕ
-before_own_action [] = None
-before_own_action (form ∷ around) = if is_call form then None else nearest (before_trap form) (before_own_action around)
-
-abbrev pub or_last : Option ℕ → ℕ → ℕ
-or_last None last = last
-or_last (Some status) last = status
+-- ---- the actions of traps (2.15 trap): what `$?` was before the innermost one among some forms; a call or a dot script
+-- hides those around it, where only its own ones count
+abbrev pub before_action : (own : Bool) → List Form → Option ℕ
+before_action own [] = None
+before_action own (form ∷ around) =
+    if own && takes_return form then None else option_or (before_trap form) (before_action own around)
 
 -- the status with which exit and return leave inside some forms where they have no operand (2.15)
 abbrev pub last_for : List Form → Builtin → (last : ℕ) → ℕ
@@ -52,14 +42,16 @@ last_for around Break last = last
 last_for around Cd last = last
 last_for around Colon last = last
 last_for around Continue last = last
+last_for around Dot last = last
 last_for around Echo last = last
 last_for around Eval last = last
-last_for around Exit last = or_last (before_action around) last
+last_for around Exec last = last
+last_for around Exit last = unwrap_or (before_action false around) last
 last_for around Export last = last
 last_for around False last = last
 last_for around Pwd last = last
 last_for around ReadOnly last = last
-last_for around Return last = or_last (before_own_action around) last
+last_for around Return last = unwrap_or (before_action true around) last
 last_for around Set last = last
 last_for around Shift last = last
 last_for around Test last = last
@@ -68,13 +60,9 @@ last_for around True last = last
 last_for around Unset last = last
 
 -- whether what is done right inside some forms is a trap's action as a whole, which is no command
-abbrev pub is_there : Option ℕ → Bool
-is_there None = false
-is_there (Some status) = true
-
 abbrev pub ends_action : List Form → Bool
 ends_action [] = false
-ends_action (form ∷ around) = is_there (before_trap form)
+ends_action (form ∷ around) = is_some (before_trap form)
 
 -- the forms with which a process begins
 abbrev pub root_forms : (ignored : Bool) → List Form

@@ -1,10 +1,13 @@
 //! The running forms of a shell.
 ghost use Rattle.std.specs.Prelude.{◌≡◌, ◌∷◌, [], IfOk, MatchOption, OnOk, reverse};
-ghost use Rattle.sh_exec_frames.specs.Frames.{before_action, before_own_action, ends_action, forms_in, framed, has_call, has_loop, is_failure_ignored, last_for, levels_left, root_forms};
+ghost use Rattle.sh_exec_frames.specs.Frames.{before_action, ends_action, forms_in, framed, has_loop, is_failure_ignored, last_for, levels_left, may_return, root_forms};
 
+use crate::kinds::{
+    MOST_LEVELS, before_trap, ignores_failure, is_call, is_loop, levels_inside, takes_return,
+};
 use sh_base::NoMemory;
 use sh_builtin::Builtin;
-use sh_exec_actions::{Form, Frame, MOST_LEVELS};
+use sh_exec_actions::{Form, Frame};
 use sh_exec_parts::copy_all;
 use std::alloc::Global;
 use std::marker::Model;
@@ -57,8 +60,8 @@ impl Frames {
     pub fn push(&mut self, form: Form) -> Result<(), NoMemory>
         ensures { OnOk result (self.new ≡ form ∷ self.old) }
     {
-        let ignores_failure = form.ignores_failure() || self.is_failure_ignored();
-        let levels_left = form.levels_inside(self.levels_left());
+        let ignores_failure = ignores_failure(&form) || self.is_failure_ignored();
+        let levels_left = levels_inside(&form, self.levels_left());
         self.frames.push(Frame {
             form,
             ignores_failure,
@@ -101,11 +104,11 @@ impl Frames {
         is_loop_among(self.frames.as_slice())
     }
 
-    /// Whether the body of a function is among them.
-    pub fn has_call(&self) -> bool
-        ensures { result ≡ has_call self.now }
+    /// Whether the body of a function or a dot script is among them, which `return` may end (2.15 return).
+    pub fn may_return(&self) -> bool
+        ensures { result ≡ may_return self.now }
     {
-        is_call_among(self.frames.as_slice())
+        may_return_from(self.frames.as_slice())
     }
 
     /// Whether `set -e` takes no notice of a failure inside them. Looks at the innermost one only.
@@ -119,7 +122,7 @@ impl Frames {
     }
 
     /// The status with which a built-in leaves inside them where it has no operand (2.15 exit, return): `$?`, which is `last`, but in the
-    /// action of a trap what `$?` was before it. `return` in a function that the action calls is a return from that.
+    /// action of a trap what `$?` was before it. `return` in a function that the action calls, or in a dot script of it, is a return from that.
     pub fn last_for(&self, builtin: Builtin, last: u8) -> u8
         ensures { result ≡ last_for self.now builtin last }
     {
@@ -129,14 +132,16 @@ impl Frames {
             Builtin::Cd => last,
             Builtin::Colon => last,
             Builtin::Continue => last,
+            Builtin::Dot => last,
             Builtin::Echo => last,
             Builtin::Eval => last,
-            Builtin::Exit => before_action(self.frames.as_slice()).unwrap_or(last),
+            Builtin::Exec => last,
+            Builtin::Exit => before_action(self.frames.as_slice(), false).unwrap_or(last),
             Builtin::Export => last,
             Builtin::False => last,
             Builtin::Pwd => last,
             Builtin::ReadOnly => last,
-            Builtin::Return => before_own_action(self.frames.as_slice()).unwrap_or(last),
+            Builtin::Return => before_action(self.frames.as_slice(), true).unwrap_or(last),
             Builtin::Set => last,
             Builtin::Shift => last,
             Builtin::Test => last,
@@ -171,10 +176,10 @@ fn is_loop_among(frames: &[Frame]) -> bool
 {
     let mut rest = frames;
     'frames: while let Some((frame, others)) = rest.split_last() {
-        if frame.form.is_loop() {
+        if is_loop(&frame.form) {
             return true;
         }
-        if frame.form.is_call() {
+        if is_call(&frame.form) {
             return false;
         }
         rest = others;
@@ -182,14 +187,14 @@ fn is_loop_among(frames: &[Frame]) -> bool
     false
 }
 
-/// Whether the body of a function is among some forms, of which the last is the innermost.
+/// Whether the body of a function or a dot script is among some forms, of which the last is the innermost.
 #[tactic(auto, using(crate::proofs::Framed::innermost))]
-fn is_call_among(frames: &[Frame]) -> bool
-    ensures { result ≡ has_call (forms_in (reverse frames.now)) }
+fn may_return_from(frames: &[Frame]) -> bool
+    ensures { result ≡ may_return (forms_in (reverse frames.now)) }
 {
     let mut rest = frames;
     'frames: while let Some((frame, others)) = rest.split_last() {
-        if frame.form.is_call() {
+        if takes_return(&frame.form) {
             return true;
         }
         rest = others;
@@ -197,32 +202,18 @@ fn is_call_among(frames: &[Frame]) -> bool
     false
 }
 
-/// What `$?` was before the innermost action of a trap among some forms, of which the last is the innermost.
+/// What `$?` was before the innermost action of a trap among some forms, of which the last is the innermost. Where only its `own` ones
+/// count, a call or a dot script hides those around it.
 #[tactic(auto, using(crate::proofs::Framed::innermost))]
-fn before_action(frames: &[Frame]) -> Option<u8>
-    ensures { result ≡ before_action (forms_in (reverse frames.now)) }
+fn before_action(frames: &[Frame], own: bool) -> Option<u8>
+    ensures { result ≡ before_action own (forms_in (reverse frames.now)) }
 {
     let mut rest = frames;
     'frames: while let Some((frame, others)) = rest.split_last() {
-        if let Some(status) = frame.form.before_trap() {
-            return Some(status);
-        }
-        rest = others;
-    }
-    None
-}
-
-/// The same of the action that no function is inside of.
-#[tactic(auto, using(crate::proofs::Framed::innermost))]
-fn before_own_action(frames: &[Frame]) -> Option<u8>
-    ensures { result ≡ before_own_action (forms_in (reverse frames.now)) }
-{
-    let mut rest = frames;
-    'frames: while let Some((frame, others)) = rest.split_last() {
-        if frame.form.is_call() {
+        if own && takes_return(&frame.form) {
             return None;
         }
-        if let Some(status) = frame.form.before_trap() {
+        if let Some(status) = before_trap(&frame.form) {
             return Some(status);
         }
         rest = others;
@@ -236,7 +227,7 @@ fn ends_action(frames: &[Frame]) -> bool
     ensures { result ≡ ends_action (forms_in (reverse frames.now)) }
 {
     match frames.split_last() {
-        Some((frame, _)) => frame.form.before_trap().is_some(),
+        Some((frame, _)) => before_trap(&frame.form).is_some(),
         None => false,
     }
 }

@@ -2,5 +2,7 @@
 #![tactic(auto)]
 
 mod frames;
+mod kinds;
 
 pub use frames::Frames;
+pub use kinds::MOST_LEVELS;

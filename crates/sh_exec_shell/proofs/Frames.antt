@@ -6,7 +6,7 @@ use Rattle.sh_exec_actions.specs.declared.action.Active.{Active}
 use Rattle.sh_exec_forms.specs.Forms.{Acted, IsActed, at_action, outward}
 use Rattle.sh_exec_forms.specs.Stacks.{forms_round, path_of, run_in, run_of}
 use Rattle.sh_exec_frames.specs.Frames.{framed, is_failure_ignored}
-use Rattle.sh_exec_forms.specs.Running.{InterpreterState, Run, At, In, active_of}
+use Rattle.sh_exec_forms.specs.Running.{InterpreterState, Run, At, In, active_of, with_active}
 use Rattle.sh_exec_actions.specs.declared.form.Form.{Form}
 use Rattle.sh_exec_forms.proofs.Outward.{by_forms}
 use Rattle.sh_exec_shell.specs.Forks.{IsTurned, Turned, inherited}
@@ -19,6 +19,14 @@ active_in (form ∷ forms) run = active_in forms (In form run)
 
 pub active_within : (forms : List Form) (active : Active) → active_of (run_of forms active) ≡ active
 active_within forms active = active_in forms (At active)
+
+-- another place in the same forms
+placed_in : (forms : List Form) (run : Run) (next : Active) → with_active (run_in forms run) next ≡ run_in forms (with_active run next)
+placed_in [] run next = refl
+placed_in (form ∷ forms) run next = placed_in forms (In form run) next
+
+pub placed_within : (forms : List Form) (active next : Active) → with_active (run_of forms active) next ≡ run_of forms next
+placed_within forms active next = placed_in forms (At active) next
 
 -- the forms round the place of a tree that these forms are round
 path_in : (forms : List Form) (run : Run) → path_of (run_in forms run) ≡ forms_round forms run

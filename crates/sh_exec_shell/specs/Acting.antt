@@ -7,7 +7,7 @@ use Rattle.sh_builtin.specs.declared.outcome.Completion.TheVariants as completio
 use Rattle.sh_builtin.specs.declared.outcome.Leave.TheVariants as leave
 use Rattle.sh_builtin.specs.declared.shell.Shell.{Shell}
 use Rattle.sh_builtin_environment.specs.TrapMaps.{action_of, with_action}
-use Rattle.sh_builtin_environment.specs.declared.condition.Condition.TheVariants.{Exit}
+use Rattle.sh_signal.specs.declared.condition.Condition.TheVariants.{Exit}
 use Rattle.sh_exec_parts.specs.declared.message.Piece.{Piece}
 use Rattle.sh_exec_parts.specs.declared.redirection.Redirection.{Redirection}
 use Rattle.sh_exec_command.specs.Assigning.{assign_turn}
@@ -134,12 +134,13 @@ wait_by children (Some status) = Done (unexcused status)
 unfoldable pub wait_turn : KernelState → ℕ → List ℕ → Active
 wait_turn s pid children = wait_by children (wait_status s pid children)
 
--- ---- redirection (2.7); what the process of a program or of a subshell changes is never undone
+-- ---- redirection (2.7); what the process of a program or of a subshell changes is never undone, nor what exec changes (2.15)
 abbrev pub keeps : Role → Bool
 keeps role.NoCommandName = true
 keeps (role.Builtin builtin) = true
 keeps (role.Function body) = true
 keeps role.Program = false
+keeps (role.Exec is_command) = false
 keeps (role.Compound command) = true
 keeps (role.Subshell list) = false
 

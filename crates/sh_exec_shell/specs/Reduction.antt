@@ -51,7 +51,7 @@ act_place s shell (Ending status) = plain (end_turn s shell status)
 abbrev pub act_at : KernelState → Shell → Active → Turned
 act_at s shell (Acting builtin fields) = plain (with_run s shell (At (Acting builtin fields)))
 act_at s shell (Calling body fields) = plain (with_run s shell (At (Calling body fields)))
-act_at s shell (Evaluating text) = plain (with_run s shell (At (Evaluating text)))
+act_at s shell (Evaluating origin text) = plain (with_run s shell (At (Evaluating origin text)))
 act_at s shell (Next place) = act_place s shell place
 act_at s shell (Done ended) = plain (with_run s shell (At (Done ended)))
 act_at s shell (Leaving leave) = plain (with_run s shell (At (Leaving leave)))
@@ -71,7 +71,7 @@ at_root shell (At (Leaving leave)) = At (Next (ending shell (shell_status leave)
 at_root shell (At (Done ended)) = At (Next (ending shell ended.status))
 at_root shell (At (Acting builtin fields)) = At (Acting builtin fields)
 at_root shell (At (Calling body fields)) = At (Calling body fields)
-at_root shell (At (Evaluating text)) = At (Evaluating text)
+at_root shell (At (Evaluating origin text)) = At (Evaluating origin text)
 at_root shell (At (Next place)) = At (Next place)
 at_root shell (In form run) = In form run
 

@@ -7,17 +7,17 @@ ghost use Rattle.sh_exec_shell.specs.Forks.{IsTurned};
 ghost use Rattle.sh_exec_shell.specs.Reduction.{at_root, reduce, shell_turn, with_root};
 ghost use Rattle.sh_exec_forms.specs.Stacks.{frames_of, path_of, run_of};
 ghost use Rattle.sh_exec_frames.specs.Frames.{framed};
-ghost use Rattle.sh_exec_forms.specs.Running.{Run, active_of};
+ghost use Rattle.sh_exec_forms.specs.Running.{Run, active_of, with_active};
 
 use crate::turn::reduce;
 use sh_base::NoMemory;
 use sh_base::sequence::Text;
 use sh_builtin::Shell;
-use sh_builtin_environment::Condition;
 use sh_exec_actions::{Action, Active, CommandStatus, Frame};
 use sh_exec_frames::Frames;
 use sh_exec_parts::{Copying, Rest};
 use sh_kernel::Kernel;
+use sh_signal::Condition;
 use std::alloc::Global;
 use std::marker::Model;
 use std::mem;
@@ -66,7 +66,7 @@ fn at_end(shell: &Shell, active: Active) -> Active
         Active::Next(place) => Active::Next(place),
         Active::Acting(builtin, fields) => Active::Acting(builtin, fields),
         Active::Calling(body, fields) => Active::Calling(body, fields),
-        Active::Evaluating(text) => Active::Evaluating(text),
+        Active::Evaluating(origin, text) => Active::Evaluating(origin, text),
     }
 }
 
@@ -128,6 +128,14 @@ impl Interpreter {
         ensures { result.now ≡ frames_of self.now.run }
     {
         self.frames.as_slice()
+    }
+
+    /// It goes on at this action, inside the forms that it is in.
+    #[tactic(auto, using(crate::proofs::Frames::placed_within))]
+    pub fn go_to(&mut self, place: Action)
+        ensures { self.new ≡ record self.old { run = with_active self.old.run (Active.Next place) } }
+    {
+        drop(mem::replace(&mut self.active, Active::Next(place)));
     }
 
     /// A copy, which is equal: the same shell at the same place of the same tree. The only error is want of memory.

@@ -24,6 +24,7 @@ fn keeps(role: &Role) -> bool
         Role::Builtin(_) => true,
         Role::Function(_) => true,
         Role::Program => false,
+        Role::Exec { .. } => false,
         Role::Compound(_) => true,
         Role::Subshell(_) => false,
     }

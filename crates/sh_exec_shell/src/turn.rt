@@ -6,7 +6,6 @@ ghost use Rattle.sh_exec_command.specs.Expanding as expanding;
 ghost use Rattle.sh_exec_command.specs.Reading.{next_command};
 ghost use Rattle.sh_exec_forms.specs.Forms.{IsActed, behind_status};
 ghost use Rattle.sh_exec_command.specs.Series.{give_turn};
-ghost use Rattle.sh_builtin_environment.specs.TrapMaps.{action_of};
 ghost use Rattle.sh_exec_shell.specs.Acting.{defined, expand_turn, given_round, in_forms, read_turn, round_run, trap_turn, without_trap};
 ghost use Rattle.sh_exec_shell.specs.Forks.{IsTurned, inheriting, inside};
 ghost use Rattle.sh_exec_shell.specs.Reduction.{act_at, act_place, expanded_by, expansion, plain, reduce};
@@ -21,10 +20,9 @@ use crate::output::{end_turn, write_turn};
 use crate::redirecting::redirect_turn;
 use crate::waits::{answer_turn, wait_turn};
 use sh_base::NoMemory;
-use sh_base::sequence::Text;
 use sh_base::shared::Shared;
 use sh_builtin::{Functions, Shell};
-use sh_builtin_environment::Condition;
+use sh_builtin_environment::copy_of_action;
 use sh_exec_actions::{Action, Active, CommandStatus, Expanded, ForLoop, Form, Pending, ToExpand};
 use sh_exec_command::{
     Found, Round, assign_turn, case_turn, define_turn, fatal_message, find_command, give_turn,
@@ -36,6 +34,7 @@ use sh_exec_parts::message::refused;
 use sh_exec_parts::{Queue, Rest};
 use sh_files::Files;
 use sh_kernel::Kernel;
+use sh_signal::Condition;
 use sh_syntax::tree::Command;
 use sh_vars::Vars;
 use std::alloc::Global;
@@ -225,19 +224,6 @@ fn take_trap(shell: &mut Shell, status: u8)
     shell.vars.set_status(status);
 }
 
-/// A copy of the action on EXIT, if there is one.
-fn exit_action(alloc: Global, shell: &Shell) -> Result<Option<Text>, NoMemory>
-    ensures { IfOk result (λ action. action ≡ action_of shell.now.traps Condition.Exit) }
-{
-    match shell.traps.action(Condition::Exit) {
-        Some(action) => {
-            let action = Text::copy_of(alloc, action)?;
-            Ok(Some(action))
-        },
-        None => Ok(None),
-    }
-}
-
 /// The turn in which a shell that is to end reads the first command of its action on EXIT (XCU 2.15 trap).
 #[tactic(auto, unfolding(crate::specs::Acting::trap_turn))]
 fn trap(
@@ -251,7 +237,7 @@ fn trap(
         IsActed kernel.now shell.new (run_of frames.new active)
         (in_forms frames.old (trap_turn s shell.old status))) }
 {
-    let Some(text) = exit_action(alloc, shell)? else {
+    let Some(text) = copy_of_action(alloc, shell.traps.action(Condition::Exit))? else {
         return Ok(Active::Next(Action::Ending(status)));
     };
     match frames.push(Form::Trapped(status)) {
@@ -364,7 +350,7 @@ fn act(
         },
         Active::Acting(builtin, fields) => Ok((Active::Acting(builtin, fields), None)),
         Active::Calling(body, fields) => Ok((Active::Calling(body, fields), None)),
-        Active::Evaluating(text) => Ok((Active::Evaluating(text), None)),
+        Active::Evaluating(origin, text) => Ok((Active::Evaluating(origin, text), None)),
         Active::Done(ended) => Ok((Active::Done(ended), None)),
         Active::Leaving(leave) => Ok((Active::Leaving(leave), None)),
     }

@@ -7,3 +7,4 @@ pub mod Kept
 pub mod Sizes
 pub mod Changed
 pub mod Nameless
+mod Elements

@@ -1,4 +1,5 @@
 pub mod Image
 pub mod Nodes
+pub mod Search
 pub mod Writing
 pub mod Whole

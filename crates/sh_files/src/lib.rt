@@ -7,12 +7,14 @@ mod image;
 mod laws;
 mod listing;
 mod opening;
+mod search;
 mod writing;
 
 pub use fault::FileFault;
 pub use files::Files;
 pub use laws::{changed_files_stay_whole, names_rise, read_files_are_whole, written_image_is_read};
 pub use opening::Opening;
+pub use search::{Located, MAX_SCRIPT, dot_script, locate};
 pub use sh_files_image::{
     FaultKind, File, Flags, ImageFault, MAX_IMAGE, MAX_LENGTH, MAX_NAME, MAX_PATH, Node,
 };

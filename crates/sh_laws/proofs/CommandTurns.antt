@@ -8,7 +8,7 @@ use Rattle.sh_exec_command.specs.Assigning.{Step, assign_turn, assigned_by, assi
 use Rattle.sh_exec_command.specs.Cases as cases
 use Rattle.sh_exec_command.specs.Cases.{branch_of, branch_turn, branches_of, case_turn, item_branches, next_branch, pattern_by, pattern_turn, tried, word_by}
 use Rattle.sh_exec_command.specs.Expanding.{Turn, fatal, start_of, words_by, words_turn}
-use Rattle.sh_exec_actions.specs.Preparing.{ahead, ahead_by, final_move, first_move, first_place, forks, nameless, not_done, performed_by, prepared_of, role_by, role_of}
+use Rattle.sh_exec_actions.specs.Preparing.{ahead, ahead_by, exec_role, final_move, first_move, first_place, forks, is_exec, nameless, not_done, performed_by, prepared_of, role_by, role_of}
 use Rattle.sh_exec_command.specs.Redirects.{compound_role, redirected, redirects_by, redirects_turn, role_in, role_of_command}
 use Rattle.sh_exec_command.specs.Reading.{answer_of, found_behind, found_by, next_command}
 use Rattle.sh_exec_command.specs.Series.{Given, give_by, give_turn, given_by, header_in, header_of, header_of_command, header_turn, rest_of_series, series_by, series_turn, word_of_series}
@@ -37,6 +37,7 @@ use Rattle.sh_exec_actions.specs.Served.{serves}
 use Rattle.sh_builtin.specs.Builtins.{builtin_of, is_special}
 use Rattle.sh_builtin.specs.Functions.{Named, body_of, has_name}
 use Rattle.sh_builtin.specs.declared.builtin.Builtin.{Builtin}
+use Rattle.sh_builtin_environment.specs.Options.{Parsed, options_and_operands}
 use Rattle.sh_exec_parts.specs.Simple.{Opened, assignment_in, assignments_of, before, compound_redirects, compound_redirects_in, is_redirect, is_word, items_in, items_of, redirect_wanted, redirects_of, to_assign, word_fields}
 use Rattle.sh_exec_parts.specs.Wants.{wanted_of}
 use Rattle.sh_exec_parts.specs.declared.redirection.Redirection.{Redirection}
@@ -75,7 +76,7 @@ abbrev pub ActiveHolds : Active → Type 0
 ActiveHolds (Next place) = PlaceHolds place
 ActiveHolds (Acting builtin fields) = Unit {0}
 ActiveHolds (Calling body fields) = CommandBegins body
-ActiveHolds (Evaluating text) = Unit {0}
+ActiveHolds (Evaluating origin text) = Unit {0}
 ActiveHolds (Done status) = Unit {0}
 ActiveHolds (Leaving leave) = Unit {0}
 
@@ -125,6 +126,8 @@ performed_holds p role.NoCommandName b = tt
 performed_holds p (role.Builtin builtin) b = tt
 performed_holds p (role.Function body) b = b
 performed_holds p role.Program b = tt
+performed_holds p (role.Exec true) b = tt
+performed_holds p (role.Exec false) b = tt
 performed_holds p (role.Compound command) b = b
 performed_holds p (role.Subshell list) b = b
 
@@ -150,6 +153,7 @@ first_by_holds in_place p (role.Builtin builtin) e h = ahead_holds p h
 first_by_holds in_place p (role.Function body) e h = ahead_holds p h
 first_by_holds true p role.Program e h = ahead_holds p h
 first_by_holds false p role.Program e h = (e, h.1)
+first_by_holds in_place p (role.Exec is_command) e h = ahead_holds p h
 first_by_holds in_place p (role.Compound command) e h = ahead_holds p h
 first_by_holds in_place p (role.Subshell list) e h = ahead_holds p h
 
@@ -210,6 +214,11 @@ role_by_holds None (Some body) f = f
 role_by_holds (Some builtin) None f = tt
 role_by_holds (Some builtin) (Some body) f = role_of_special (is_special builtin) builtin body f
 
+exec_holds : (o : Option Parsed) → RoleHolds (exec_role o)
+exec_holds None = tt
+exec_holds (Some (last, [])) = tt
+exec_holds (Some (last, command ∷ arguments)) = tt
+
 -- the function of a name
 found_begins : (b : Bool) (function : Named) (rest : Option Named) → CommandBegins function.1 → BodyBegins (option_map (λ f. f.1) rest)
     → BodyBegins (option_map (λ f. f.1) (if b then Some function else rest))
@@ -220,9 +229,15 @@ body_begins : (functions : List Named) (name : List ℕ) → FunctionsHold funct
 body_begins [] name h = tt
 body_begins (function ∷ others) name h = found_begins (has_name name function) function (find (has_name name) others) h.0 (body_begins others name h.1)
 
+role_for_holds : (b : Bool) (functions : List Named) (name : List ℕ) (arguments : List (List ℕ)) → FunctionsHold functions
+    → RoleHolds (if b then exec_role (options_and_operands [] arguments) else role_by (builtin_of name) (body_of functions name))
+role_for_holds true functions name arguments h = exec_holds (options_and_operands [] arguments)
+role_for_holds false functions name arguments h = role_by_holds (builtin_of name) (body_of functions name) (body_begins functions name h)
+
 role_holds : (functions : List Named) (words : List (List ℕ)) → FunctionsHold functions → RoleHolds (role_of functions words)
 role_holds functions [] h = tt
-role_holds functions (name ∷ arguments) h = role_by_holds (builtin_of name) (body_of functions name) (body_begins functions name h)
+role_holds functions (name ∷ arguments) h =
+    role_for_holds (is_exec name) functions name arguments h
 
 prepared_holds : (env : Environment) (functions : List Named) (items : List SimpleItem) (fields : List (List ℕ)) (status : ℕ) → FunctionsHold functions → WordsBegin items
     → CommandHolds (prepared_of env functions items fields status)

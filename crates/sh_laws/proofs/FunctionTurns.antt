@@ -4,6 +4,7 @@ use Rattle.std.specs.Prelude.{cond, drop, nat_eq, not}
 use Rattle.sh_base.specs.Names.{is_name}
 use Rattle.sh_builtin.specs.Functions.{Named, defined, has_name, unset_by, without, without_all}
 use Rattle.sh_builtin.specs.Running.{built_in}
+use Rattle.sh_builtin.specs.declared.outcome.TextOrigin.{TextOrigin}
 use Rattle.sh_builtin.specs.declared.builtin.Builtin.{Builtin}
 use Rattle.sh_builtin.specs.declared.builtin.Builtin.TheVariants as builtin
 use Rattle.sh_builtin.specs.declared.outcome.Leave.{Leave}
@@ -32,7 +33,7 @@ use Rattle.sh_exec_command.specs.Series.{rest_of_series}
 use Rattle.sh_exec_forms.specs.Builtins.{behind, builtin_effect, call, effect_at, evaluation, performed}
 use Rattle.sh_exec_forms.specs.Forms.{Acted, after, after_by, after_leave, after_status, at_action, condition_run, loop_left, onward, undone, with_run}
 use Rattle.sh_builtin_environment.specs.TrapMaps.{action_of}
-use Rattle.sh_builtin_environment.specs.declared.condition.Condition.TheVariants.{Exit}
+use Rattle.sh_signal.specs.declared.condition.Condition.TheVariants.{Exit}
 use Rattle.sh_exec_frames.specs.Frames.{has_loop, last_for, levels_left}
 use Rattle.sh_exec_forms.specs.Running.{Run, At, In}
 use Rattle.sh_exec_machine.specs.Forking.{fork_of}
@@ -101,8 +102,10 @@ built_in_keeps s shell last builtin.Break arguments f = f
 built_in_keeps s shell last builtin.Cd arguments f = f
 built_in_keeps s shell last builtin.Colon arguments f = f
 built_in_keeps s shell last builtin.Continue arguments f = f
+built_in_keeps s shell last builtin.Dot arguments f = f
 built_in_keeps s shell last builtin.Echo arguments f = f
 built_in_keeps s shell last builtin.Eval arguments f = f
+built_in_keeps s shell last builtin.Exec arguments f = f
 built_in_keeps s shell last builtin.Exit arguments f = f
 built_in_keeps s shell last builtin.Export arguments f = f
 built_in_keeps s shell last builtin.False arguments f = f
@@ -116,9 +119,9 @@ built_in_keeps s shell last builtin.Trap arguments f = f
 built_in_keeps s shell last builtin.True arguments f = f
 built_in_keeps s shell last builtin.Unset arguments f = unset_hold shell.functions (functions_to_unset arguments) f
 
-evaluation_keeps : (levels : ℕ) (shell : Shell) (text : List ℕ) → Keeps shell → Keeps (evaluation levels shell text).shell
-evaluation_keeps zero shell text f = f
-evaluation_keeps (suc levels) shell text f = f
+evaluation_keeps : (levels : ℕ) (shell : Shell) (origin : TextOrigin) (text : List ℕ) → Keeps shell → Keeps (evaluation levels shell origin text).shell
+evaluation_keeps zero shell origin text f = f
+evaluation_keeps (suc levels) shell origin text f = f
 
 call_keeps : (levels : ℕ) (shell : Shell) (body : Command) (arguments : List (List ℕ)) → Keeps shell → Keeps (call levels shell body arguments).shell
 call_keeps zero shell body arguments f = f
@@ -127,7 +130,7 @@ call_keeps (suc levels) shell body arguments f = f
 performed_keeps : (levels : ℕ) (shell : Shell) (active : Active) → Keeps shell → Keeps (performed levels shell active).shell
 performed_keeps levels shell (Acting b fields) f = f
 performed_keeps levels shell (Calling body fields) f = call_keeps levels shell body (drop 1 fields) f
-performed_keeps levels shell (Evaluating text) f = evaluation_keeps levels shell text f
+performed_keeps levels shell (Evaluating origin text) f = evaluation_keeps levels shell origin text f
 performed_keeps levels shell (Next place) f = f
 performed_keeps levels shell (Done status) f = f
 performed_keeps levels shell (Leaving l) f = f
@@ -139,7 +142,7 @@ effect_keeps around s shell (Acting b fields) f =
     let d = built_in s.machine shell last b (drop 1 fields) in
     performed_keeps (levels_left around) d.shell (behind b d.outcome) (built_in_keeps s shell last b (drop 1 fields) f)
 effect_keeps around s shell (Calling body fields) f = call_keeps (levels_left around) shell body (drop 1 fields) f
-effect_keeps around s shell (Evaluating text) f = evaluation_keeps (levels_left around) shell text f
+effect_keeps around s shell (Evaluating origin text) f = evaluation_keeps (levels_left around) shell origin text f
 effect_keeps around s shell (Next place) f = f
 effect_keeps around s shell (Done status) f = f
 effect_keeps around s shell (Leaving l) f = f
@@ -160,7 +163,7 @@ ended_keeps around (Condition loop last) s shell status f = f
 ended_keeps around (Body loop) s shell status f = f
 ended_keeps around (ForBody series) s shell status f = f
 ended_keeps around (Call positional) s shell status f = f
-ended_keeps around Evaluation s shell status f = f
+ended_keeps around (Evaluation origin) s shell status f = f
 ended_keeps around (Trapped before) s shell status f = f
 ended_keeps around FailuresIgnored s shell status f = f
 
@@ -186,7 +189,7 @@ left_keeps around (Condition loop last) s shell l f = loop_left_keeps (has_loop 
 left_keeps around (Body loop) s shell l f = loop_left_keeps (has_loop around) l s shell (condition_run loop (unexcused 0)) f
 left_keeps around (ForBody series) s shell l f = loop_left_keeps (has_loop around) l s shell (At (rest_of_series series (unexcused 0))) f
 left_keeps around (Call positional) s shell l f = f
-left_keeps around Evaluation s shell l f = f
+left_keeps around (Evaluation origin) s shell l f = f
 left_keeps around (Trapped before) s shell l f = f
 left_keeps around FailuresIgnored s shell l f = f
 
@@ -195,7 +198,7 @@ after_by_keeps around form s shell (At (Done status)) f = ended_keeps around for
 after_by_keeps around form s shell (At (Leaving l)) f = left_keeps around form s shell l f
 after_by_keeps around form s shell (At (Acting b fields)) f = f
 after_by_keeps around form s shell (At (Calling body fields)) f = f
-after_by_keeps around form s shell (At (Evaluating text)) f = f
+after_by_keeps around form s shell (At (Evaluating origin text)) f = f
 after_by_keeps around form s shell (At (Next place)) f = f
 after_by_keeps around form s shell (In inner run) f = f
 
@@ -320,7 +323,7 @@ place_keeps s shell (Ending status) h f = end_keeps s shell status f
 active_keeps : (s : KernelState) (shell : Shell) (active : Active) → ActiveStands active → Keeps shell → ActedKeeps (act_at s shell active).left
 active_keeps s shell (Acting b fields) h f = f
 active_keeps s shell (Calling body fields) h f = f
-active_keeps s shell (Evaluating text) h f = f
+active_keeps s shell (Evaluating origin text) h f = f
 active_keeps s shell (Next place) h f = place_keeps s shell place h f
 active_keeps s shell (Done status) h f = f
 active_keeps s shell (Leaving l) h f = f

@@ -1,20 +1,22 @@
 -- A turn of a process that stands before an action leaves it before one.
 use Rattle.std.proofs.Common.{ℕ, List, [], ◌∷◌, Option, Some, None, option_map}
-use Rattle.sh_exec.specs.Search.{located_of}
-use Rattle.sh_exec.specs.Starting.{Invocation, start_named, start_turn, started_by, starting_in, stock_start}
-use Rattle.sh_exec.specs.Turns.{Turned, made_task, runs_by, turn}
+use Rattle.sh_exec.specs.Starting.{Invocation, located_for, start_named, start_turn, started_by, starting_in, stock_start}
+use Rattle.sh_exec.specs.Turns.{Turned, made_task, runs_by, started_in, turn}
+use Rattle.sh_exec.specs.declared.start.Started.{Started}
+use Rattle.sh_exec.specs.declared.start.Started.TheVariants.{Becomes, Refused}
 use Rattle.sh_exec.specs.declared.task.Task.{Task}
 use Rattle.sh_exec.specs.declared.task.Task.TheVariants.{Runs, Asks}
 use Rattle.sh_builtin.specs.declared.shell.Shell.{Shell}
-use Rattle.sh_exec.specs.declared.search.Located.{Located}
-use Rattle.sh_exec.specs.declared.search.Located.TheVariants as located
+use Rattle.sh_files.specs.declared.search.Located.{Located}
+use Rattle.sh_files.specs.declared.search.Located.TheVariants as located
+use Rattle.sh_exec_actions.specs.declared.action.Action.{Action}
 use Rattle.sh_exec_actions.specs.declared.action.Active.{Active}
 use Rattle.sh_exec_actions.specs.declared.action.Active.TheVariants.{Acting, Calling, Evaluating, Next, Done, Leaving}
-use Rattle.sh_exec_forms.specs.Running.{Run, At, In, InterpreterState, active_of}
+use Rattle.sh_exec_forms.specs.Running.{Run, At, In, InterpreterState, active_of, with_active}
 use Rattle.sh_kernel.specs.State.{KernelState}
 use Rattle.sh_exec_shell.specs.Reduction.{shell_turn}
 use Rattle.sh_laws.proofs.ShellTurns.{shell_stands}
-use Rattle.sh_laws.specs.BeforeAction.{ActiveStands, ChildStands, FunctionsHold, InterpreterStands, IsBeforeAction, IsNext, MadeStands, RunStands, TaskStands}
+use Rattle.sh_laws.specs.BeforeAction.{ActiveStands, ChildStands, FunctionsHold, InterpreterStands, IsBeforeAction, IsNext, MadeStands, PlaceHolds, RunStands, TaskStands}
 use Rattle.sh_stock.specs.Asking.{Meaning}
 
 -- ---- an action is next
@@ -22,7 +24,7 @@ active_next : (active : Active) → ActiveStands active → IsNext active
 active_next (Next place) s = tt
 active_next (Acting builtin fields) s = s
 active_next (Calling body fields) s = s
-active_next (Evaluating text) s = s
+active_next (Evaluating origin text) s = s
 active_next (Done status) s = s
 active_next (Leaving leave) s = s
 
@@ -39,30 +41,43 @@ made_stands S None c = c
 made_stands S (Some interpreter) c = c
 
 module _ {S : Type 0} (m : Meaning S) where
-  -- ---- a program is started
-  stocked_stands : (s : KernelState) (shell : Shell) (name : List ℕ) (o : Option S) → FunctionsHold shell.functions → TaskStands (stock_start m s shell name o).next
-  stocked_stands s shell name None f = (tt, f)
-  stocked_stands s shell name (Some program) f = tt
+  -- ---- a program is started, or the shell goes on inside its forms
+  placed_stands : (run : Run) (place : Action) → RunStands run → PlaceHolds place → RunStands (with_active run (Next place))
+  placed_stands (At active) place h p = p
+  placed_stands (In form run) place h p = (h.0, placed_stands run place h.1 p)
 
-  started_stands : (s : KernelState) (shell : Shell) (invocation : Invocation) (l : Located) → FunctionsHold shell.functions → TaskStands (started_by m s shell invocation l).next
-  started_stands s shell invocation located.Missing f = (tt, f)
-  started_stands s shell invocation located.Unfit f = (tt, f)
-  started_stands s shell invocation (located.Stock program) f = stocked_stands s shell invocation.name (m.start program invocation.operands) f
-  started_stands s shell invocation (located.Script path text) f = (tt, tt)
+  abbrev StartedStands : Started S → Type 0
+  StartedStands (Becomes task) = TaskStands task
+  StartedStands (Refused place) = PlaceHolds place
 
-  start_stands : (s : KernelState) (shell : Shell) (fields : List (List ℕ)) → FunctionsHold shell.functions → TaskStands (start_turn m s shell fields).next
+  stocked_stands : (s : KernelState) (shell : Shell) (name : List ℕ) (o : Option S) → StartedStands (stock_start m s shell name o).next
+  stocked_stands s shell name None = tt
+  stocked_stands s shell name (Some program) = tt
+
+  started_stands : (s : KernelState) (shell : Shell) (invocation : Invocation) (l : Located) → StartedStands (started_by m s shell invocation l).next
+  started_stands s shell invocation located.Missing = tt
+  started_stands s shell invocation located.Unfit = tt
+  started_stands s shell invocation (located.Stock program) = stocked_stands s shell invocation.name (m.start program invocation.operands)
+  started_stands s shell invocation (located.Script path text) = (tt, tt)
+
+  start_stands : (s : KernelState) (shell : Shell) (fields : List (List ℕ)) → StartedStands (start_turn m s shell fields).next
   unfolding start_named
-  start_stands s shell [] f = (tt, f)
-  start_stands s shell (name ∷ operands) f =
-      started_stands s shell (record { name = name; operands = operands }) (located_of s.machine.files shell.vars name) f
+  start_stands s shell [] = tt
+  start_stands s shell (name ∷ operands) =
+      started_stands s shell (record { name = name; operands = operands }) (located_for s.machine.files shell.vars name)
 
   abbrev TurnedStands : Turned S → Type 0
   TurnedStands t = TaskStands t.task × MadeStands t.child
 
+  started_in_stands : (s : KernelState) (interpreter : InterpreterState) (x : Started S) → InterpreterStands interpreter → StartedStands x → TurnedStands (started_in s interpreter x)
+  started_in_stands s interpreter (Becomes task) h t = (t, tt)
+  started_in_stands s interpreter (Refused place) h p = ((placed_stands interpreter.run place h.0 p, h.1), tt)
+
   runs_stand : (s : KernelState) (interpreter : InterpreterState) (o : Option (List (List ℕ))) → InterpreterStands interpreter → TurnedStands (runs_by m s interpreter o)
   runs_stand s interpreter None h =
       let stands = shell_stands s interpreter h in (stands.0, made_stands S (shell_turn s interpreter).child stands.1)
-  runs_stand s interpreter (Some fields) h = (start_stands s interpreter.shell fields h.1, tt)
+  runs_stand s interpreter (Some fields) h =
+      let l = start_turn m s interpreter.shell fields in started_in_stands l.machine interpreter l.next h (start_stands s interpreter.shell fields)
 
   pub turn_stands : (s : KernelState) (task : Task S) → TaskStands task → TurnedStands (turn m s task)
   turn_stands s (Runs interpreter) h = runs_stand s interpreter (starting_in (active_of interpreter.run)) h

@@ -1,15 +1,16 @@
 -- Turns of processes, shells and programs.
 use Rattle.std.proofs.Common.{◌≡◌, ℕ, List, [], ◌∷◌, Option, Some, None, option_map, refl, sym, subst}
 use Rattle.sh_exec.specs.Programs.{ask_turn, end_turn, read_turn, write_turn}
-use Rattle.sh_exec.specs.Starting.{Invocation, start_named, start_turn, started_by, starting_in, stock_start}
-use Rattle.sh_exec.specs.Turns.{Turned, by_shell, made_task, runs_by, turn}
+use Rattle.sh_exec.specs.Starting.{Invocation, located_for, start_named, start_turn, started_by, starting_in, stock_start}
+use Rattle.sh_exec.specs.Turns.{Turned, by_shell, made_task, runs_by, started_in, turn}
+use Rattle.sh_exec.specs.declared.start.Started.{Started}
+use Rattle.sh_exec.specs.declared.start.Started.TheVariants.{Becomes, Refused}
 use Rattle.sh_exec.specs.Tasks.{pid_of}
 use Rattle.sh_exec.specs.declared.task.Task.{Task}
 use Rattle.sh_exec.specs.declared.task.Task.TheVariants.{Runs, Asks}
 use Rattle.sh_builtin.specs.declared.shell.Shell.{Shell}
-use Rattle.sh_exec.specs.Search.{located_of}
-use Rattle.sh_exec.specs.declared.search.Located.{Located}
-use Rattle.sh_exec.specs.declared.search.Located.TheVariants as located
+use Rattle.sh_files.specs.declared.search.Located.{Located}
+use Rattle.sh_files.specs.declared.search.Located.TheVariants as located
 use Rattle.sh_exec_forms.specs.Running.{InterpreterState, active_of}
 use Rattle.sh_kernel_descriptors.specs.declared.descriptor.DescriptorRef.TheVariants.{Number}
 use Rattle.sh_kernel.specs.Requests.{End, StartProgram}
@@ -46,7 +47,7 @@ module _ {S : Type 0} (m : Meaning S) (directory : List ℕ) (pid : ℕ) (P : Op
   unfolding start_named
   start_keeps s shell [] e p = p
   start_keeps s shell (name ∷ operands) e p =
-      started_keeps s shell (record { name = name; operands = operands }) (located_of s.machine.files shell.vars name) e p
+      started_keeps s shell (record { name = name; operands = operands }) (located_for s.machine.files shell.vars name) e p
 
   ask_keeps : (s : KernelState) (n : ℕ) (a : Ask) (program : S) → n ≡ pid → P None s → P None (ask_turn m s n a program).machine
   unfolding read_turn write_turn end_turn
@@ -62,9 +63,14 @@ module _ {S : Type 0} (m : Meaning S) (directory : List ℕ) (pid : ℕ) (P : Op
   by_shell_keeps : (t : shell.Turned) → P (made_number t.child) t.left.machine → Leaves (by_shell t)
   by_shell_keeps t p = subst (λ made. P made t.left.machine) (numbers_same S t.child) p
 
+  started_in_keeps : (s : KernelState) (interpreter : InterpreterState) (x : Started S) → P None s → Leaves (started_in s interpreter x)
+  started_in_keeps s interpreter (Becomes task) p = p
+  started_in_keeps s interpreter (Refused place) p = p
+
   runs_keeps : (s : KernelState) (interpreter : InterpreterState) (o : Option (List (List ℕ))) → interpreter.shell.pid ≡ pid → interpreter.shell.vars.directory ≡ directory → P None s → Leaves (runs_by m s interpreter o)
   runs_keeps s interpreter None e d p = by_shell_keeps (shell_turn s interpreter) (shell_keeps directory pid P kept forks s interpreter e d p).1
-  runs_keeps s interpreter (Some fields) e d p = start_keeps s interpreter.shell fields e p
+  runs_keeps s interpreter (Some fields) e d p =
+      let l = start_turn m s interpreter.shell fields in started_in_keeps l.machine interpreter l.next (start_keeps s interpreter.shell fields e p)
 
   pub turn_keeps : (s : KernelState) (task : Task S) → pid_of task ≡ pid → directory_of task ≡ directory → P None s → Leaves (turn m s task)
   turn_keeps s (Runs interpreter) e d p = runs_keeps s interpreter (starting_in (active_of interpreter.run)) e d p
@@ -72,26 +78,36 @@ module _ {S : Type 0} (m : Meaning S) (directory : List ℕ) (pid : ℕ) (P : Op
 
 -- ---- a process keeps its number
 module _ {S : Type 0} (m : Meaning S) where
-  stocked_number : (s : KernelState) (shell : Shell) (name : List ℕ) (o : Option S) → pid_of (stock_start m s shell name o).next ≡ shell.pid
-  stocked_number s shell name None = refl
+  -- what takes the shell's place has its number
+  abbrev Numbered : Shell → Started S → Type 0
+  Numbered shell (Becomes task) = pid_of task ≡ shell.pid
+  Numbered shell (Refused place) = Unit {0}
+
+  stocked_number : (s : KernelState) (shell : Shell) (name : List ℕ) (o : Option S) → Numbered shell (stock_start m s shell name o).next
+  stocked_number s shell name None = tt
   stocked_number s shell name (Some program) = refl
 
-  started_number : (s : KernelState) (shell : Shell) (invocation : Invocation) (l : Located) → pid_of (started_by m s shell invocation l).next ≡ shell.pid
-  started_number s shell invocation located.Missing = refl
-  started_number s shell invocation located.Unfit = refl
+  started_number : (s : KernelState) (shell : Shell) (invocation : Invocation) (l : Located) → Numbered shell (started_by m s shell invocation l).next
+  started_number s shell invocation located.Missing = tt
+  started_number s shell invocation located.Unfit = tt
   started_number s shell invocation (located.Stock program) = stocked_number s shell invocation.name (m.start program invocation.operands)
   started_number s shell invocation (located.Script path text) = refl
 
-  start_number : (s : KernelState) (shell : Shell) (fields : List (List ℕ)) → pid_of (start_turn m s shell fields).next ≡ shell.pid
+  start_number : (s : KernelState) (shell : Shell) (fields : List (List ℕ)) → Numbered shell (start_turn m s shell fields).next
   unfolding start_named
-  start_number s shell [] = refl
+  start_number s shell [] = tt
   start_number s shell (name ∷ operands) =
-      started_number s shell (record { name = name; operands = operands }) (located_of s.machine.files shell.vars name)
+      started_number s shell (record { name = name; operands = operands }) (located_for s.machine.files shell.vars name)
+
+  started_in_number : (s : KernelState) (interpreter : InterpreterState) (x : Started S) → Numbered interpreter.shell x → pid_of (started_in s interpreter x).task ≡ interpreter.shell.pid
+  started_in_number s interpreter (Becomes task) e = e
+  started_in_number s interpreter (Refused place) e = refl
 
   runs_number : (s : KernelState) (interpreter : InterpreterState) (o : Option (List (List ℕ))) → pid_of (runs_by m s interpreter o).task ≡ interpreter.shell.pid
   runs_number s interpreter None =
       (shell_keeps interpreter.shell.vars.directory interpreter.shell.pid (λ made t. Unit {0}) (λ made t r from p. tt) (λ t before writes p. tt) s interpreter refl refl tt).0
-  runs_number s interpreter (Some fields) = start_number s interpreter.shell fields
+  runs_number s interpreter (Some fields) =
+      let l = start_turn m s interpreter.shell fields in started_in_number l.machine interpreter l.next (start_number s interpreter.shell fields)
 
   pub turn_number : (s : KernelState) (task : Task S) → pid_of (turn m s task).task ≡ pid_of task
   turn_number s (Runs interpreter) = runs_number s interpreter (starting_in (active_of interpreter.run))

@@ -4,7 +4,7 @@ use Rattle.std.specs.Prelude.{Result, Ok, Err, nat_eq}
 use Rattle.sh_builtin.specs.Functions.{Named}
 use Rattle.sh_builtin.specs.Outcomes.{shell_status}
 use Rattle.sh_builtin_environment.specs.TrapMaps.{action_of}
-use Rattle.sh_builtin_environment.specs.declared.condition.Condition.TheVariants.{Exit}
+use Rattle.sh_signal.specs.declared.condition.Condition.TheVariants.{Exit}
 use Rattle.sh_builtin.specs.declared.shell.Shell.{Shell}
 use Rattle.sh_exec_actions.specs.Preparing.{ahead, ahead_by, final_move, performed_by}
 use Rattle.sh_exec_command.specs.Reading.{next_command}
@@ -304,7 +304,7 @@ place_holds s shell (Ending status) f h = (end_holds s shell status, tt)
 active_holds : (s : KernelState) (shell : Shell) (active : Active) → FunctionsHold shell.functions → ActiveStands active → TurnedHolds (act_at s shell active)
 active_holds s shell (Acting builtin fields) f h = absurd h
 active_holds s shell (Calling body fields) f h = absurd h
-active_holds s shell (Evaluating text) f h = absurd h
+active_holds s shell (Evaluating origin text) f h = absurd h
 active_holds s shell (Next place) f h = place_holds s shell place f h
 active_holds s shell (Done status) f h = absurd h
 active_holds s shell (Leaving l) f h = absurd h
@@ -334,7 +334,7 @@ root_stands shell (At (Leaving l)) p = ending_stands (shell_status l) (action_of
 root_stands shell (At (Done ended)) p = ending_stands ended.status (action_of shell.traps Exit)
 root_stands shell (At (Acting builtin fields)) p = p
 root_stands shell (At (Calling body fields)) p = p
-root_stands shell (At (Evaluating text)) p = p
+root_stands shell (At (Evaluating origin text)) p = p
 root_stands shell (At (Next place)) p = p
 root_stands shell (In form run) p = p
 

@@ -3,6 +3,7 @@ use Rattle.std.proofs.Common.{◌≡◌, ℕ, zero, suc, List, [], ◌∷◌, Bo
 use Rattle.std.specs.Prelude.{drop, nat_eq, if◌then◌else◌}
 use Rattle.sh_exec_parts.specs.declared.message.Piece.{Piece}
 use Rattle.sh_exec_parts.specs.declared.redirection.Redirection.{Redirection}
+use Rattle.sh_builtin.specs.declared.outcome.TextOrigin.{TextOrigin}
 use Rattle.sh_builtin.specs.declared.outcome.Leave.{Leave}
 use Rattle.sh_builtin.specs.declared.outcome.Leave.TheVariants as leave
 use Rattle.sh_builtin.specs.Running.{built_in}
@@ -34,7 +35,7 @@ use Rattle.sh_exec_shell.specs.Forks.{Turned, begun_substitution, fork_turn, inh
 use Rattle.sh_exec_forms.specs.Builtins.{behind, builtin_effect, call, effect_at, evaluation, performed}
 use Rattle.sh_exec_forms.specs.Forms.{Acted, with_run, after, after_by, after_status, after_leave, loop_left, onward, condition_run, at_action, undone}
 use Rattle.sh_builtin_environment.specs.TrapMaps.{action_of}
-use Rattle.sh_builtin_environment.specs.declared.condition.Condition.TheVariants.{Exit}
+use Rattle.sh_signal.specs.declared.condition.Condition.TheVariants.{Exit}
 use Rattle.sh_exec_frames.specs.Frames.{has_loop, is_failure_ignored, last_for, levels_left}
 use Rattle.sh_exec_shell.specs.Reduction.{act_at, act_place, expanded_by, reduce, shell_turn}
 use Rattle.sh_exec_forms.specs.Running.{InterpreterState, Run, At, In}
@@ -57,8 +58,10 @@ built_in_number machine shell last builtin.Break arguments = refl
 built_in_number machine shell last builtin.Cd arguments = refl
 built_in_number machine shell last builtin.Colon arguments = refl
 built_in_number machine shell last builtin.Continue arguments = refl
+built_in_number machine shell last builtin.Dot arguments = refl
 built_in_number machine shell last builtin.Echo arguments = refl
 built_in_number machine shell last builtin.Eval arguments = refl
+built_in_number machine shell last builtin.Exec arguments = refl
 built_in_number machine shell last builtin.Exit arguments = refl
 built_in_number machine shell last builtin.Export arguments = refl
 built_in_number machine shell last builtin.False arguments = refl
@@ -72,9 +75,9 @@ built_in_number machine shell last builtin.Trap arguments = refl
 built_in_number machine shell last builtin.True arguments = refl
 built_in_number machine shell last builtin.Unset arguments = refl
 
-evaluation_number : (levels : ℕ) (shell : Shell) (text : List ℕ) → (evaluation levels shell text).shell.pid ≡ shell.pid
-evaluation_number zero shell text = refl
-evaluation_number (suc levels) shell text = refl
+evaluation_number : (levels : ℕ) (shell : Shell) (origin : TextOrigin) (text : List ℕ) → (evaluation levels shell origin text).shell.pid ≡ shell.pid
+evaluation_number zero shell origin text = refl
+evaluation_number (suc levels) shell origin text = refl
 
 call_number : (levels : ℕ) (shell : Shell) (body : Command) (arguments : List (List ℕ)) → (call levels shell body arguments).shell.pid ≡ shell.pid
 call_number zero shell body arguments = refl
@@ -83,7 +86,7 @@ call_number (suc levels) shell body arguments = refl
 performed_number : (levels : ℕ) (shell : Shell) (active : Active) → (performed levels shell active).shell.pid ≡ shell.pid
 performed_number levels shell (Acting b fields) = refl
 performed_number levels shell (Calling body fields) = call_number levels shell body (drop 1 fields)
-performed_number levels shell (Evaluating text) = evaluation_number levels shell text
+performed_number levels shell (Evaluating origin text) = evaluation_number levels shell origin text
 performed_number levels shell (Next place) = refl
 performed_number levels shell (Done status) = refl
 performed_number levels shell (Leaving leave) = refl
@@ -95,7 +98,7 @@ effect_number around s shell (Acting b fields) =
     let d = built_in s.machine shell last b (drop 1 fields) in
     performed_number (levels_left around) d.shell (behind b d.outcome) ∙ built_in_number s.machine shell last b (drop 1 fields)
 effect_number around s shell (Calling body fields) = call_number (levels_left around) shell body (drop 1 fields)
-effect_number around s shell (Evaluating text) = evaluation_number (levels_left around) shell text
+effect_number around s shell (Evaluating origin text) = evaluation_number (levels_left around) shell origin text
 effect_number around s shell (Next place) = refl
 effect_number around s shell (Done status) = refl
 effect_number around s shell (Leaving leave) = refl
@@ -129,7 +132,7 @@ module _ (directory : List ℕ) (pid : ℕ) (P : KernelState → Type 0) (kept :
   ended_keeps around (Body loop) s shell status e p = (e, p)
   ended_keeps around (ForBody series) s shell status e p = (e, p)
   ended_keeps around (Call positional) s shell status e p = (e, p)
-  ended_keeps around Evaluation s shell status e p = (e, p)
+  ended_keeps around (Evaluation origin) s shell status e p = (e, p)
   ended_keeps around (Trapped before) s shell status e p = (e, p)
   ended_keeps around FailuresIgnored s shell status e p = (e, p)
 
@@ -155,7 +158,7 @@ module _ (directory : List ℕ) (pid : ℕ) (P : KernelState → Type 0) (kept :
   left_keeps around (Body loop) s shell leave e p = loop_left_keeps (has_loop around) leave s shell (condition_run loop (unexcused 0)) e p
   left_keeps around (ForBody series) s shell leave e p = loop_left_keeps (has_loop around) leave s shell (At (rest_of_series series (unexcused 0))) e p
   left_keeps around (Call positional) s shell leave e p = (e, p)
-  left_keeps around Evaluation s shell leave e p = (e, p)
+  left_keeps around (Evaluation origin) s shell leave e p = (e, p)
   left_keeps around (Trapped before) s shell leave e p = (e, p)
   left_keeps around FailuresIgnored s shell leave e p = (e, p)
 
@@ -164,7 +167,7 @@ module _ (directory : List ℕ) (pid : ℕ) (P : KernelState → Type 0) (kept :
   after_by_keeps around form s shell (At (Leaving leave)) e p = left_keeps around form s shell leave e p
   after_by_keeps around form s shell (At (Acting b fields)) e p = (e, p)
   after_by_keeps around form s shell (At (Calling body fields)) e p = (e, p)
-  after_by_keeps around form s shell (At (Evaluating text)) e p = (e, p)
+  after_by_keeps around form s shell (At (Evaluating origin text)) e p = (e, p)
   after_by_keeps around form s shell (At (Next place)) e p = (e, p)
   after_by_keeps around form s shell (In inner run) e p = (e, p)
 
@@ -298,7 +301,7 @@ module _ (directory : List ℕ) (pid : ℕ) (P : Option ℕ → KernelState → 
   active_keeps : (s : KernelState) (shell : Shell) (active : Active) → shell.pid ≡ pid → shell.vars.directory ≡ directory → P None s → Leaves (act_at s shell active)
   active_keeps s shell (Acting b fields) e d p = (e, p)
   active_keeps s shell (Calling body fields) e d p = (e, p)
-  active_keeps s shell (Evaluating text) e d p = (e, p)
+  active_keeps s shell (Evaluating origin text) e d p = (e, p)
   active_keeps s shell (Next place) e d p = place_keeps s shell place e d p
   active_keeps s shell (Done status) e d p = (e, p)
   active_keeps s shell (Leaving leave) e d p = (e, p)

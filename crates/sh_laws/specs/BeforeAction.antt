@@ -12,7 +12,7 @@ use Rattle.sh_exec_actions.specs.declared.action.Active.TheVariants.{Acting, Cal
 use Rattle.sh_exec_actions.specs.declared.action.Action.{Action}
 use Rattle.sh_exec_actions.specs.declared.action.Action.TheVariants.{Reading, Expanding, ReadSubstitution, WaitSubstitution, Redirecting, Forking, Starting, ForkStage, AssignLoopVariable, Defining, Waiting, Writing, Trapping, Ending}
 use Rattle.sh_exec_actions.specs.declared.action.Role.{Role}
-use Rattle.sh_exec_actions.specs.declared.action.Role.TheVariants.{NoCommandName, Builtin, Function, Program, Compound, Subshell}
+use Rattle.sh_exec_actions.specs.declared.action.Role.TheVariants.{NoCommandName, Builtin, Function, Program, Exec, Compound, Subshell}
 use Rattle.sh_exec_actions.specs.declared.action.CaseBranch.{CaseBranch}
 use Rattle.sh_exec_actions.specs.declared.action.ToExpand.{ToExpand}
 use Rattle.sh_exec_actions.specs.declared.action.ToExpand.TheVariants.{Words, Values, Redirects, ForWords, CaseWord, CasePattern}
@@ -31,7 +31,7 @@ abbrev pub IsNext : Active → Type 0
 IsNext (Next place) = Unit {0}
 IsNext (Acting builtin fields) = ⊥
 IsNext (Calling body fields) = ⊥
-IsNext (Evaluating text) = ⊥
+IsNext (Evaluating origin text) = ⊥
 IsNext (Done status) = ⊥
 IsNext (Leaving leave) = ⊥
 
@@ -53,6 +53,7 @@ RoleHolds NoCommandName = Unit {0}
 RoleHolds (Builtin builtin) = Unit {0}
 RoleHolds (Function body) = CommandBegins body
 RoleHolds Program = Unit {0}
+RoleHolds (Exec is_command) = Unit {0}
 RoleHolds (Compound command) = CommandBegins command
 RoleHolds (Subshell list) = ItemsBegin (view.out-CompoundList list).items
 
@@ -101,7 +102,7 @@ FormHolds (Condition loop last) = LoopHolds loop
 FormHolds (Body loop) = LoopHolds loop
 FormHolds (ForBody series) = ListBegins series.body
 FormHolds (Call positional) = Unit {0}
-FormHolds Evaluation = Unit {0}
+FormHolds (Evaluation origin) = Unit {0}
 FormHolds (Trapped status) = Unit {0}
 FormHolds FailuresIgnored = Unit {0}
 
@@ -110,7 +111,7 @@ abbrev pub ActiveStands : Active → Type 0
 ActiveStands (Next place) = PlaceHolds place
 ActiveStands (Acting builtin fields) = ⊥
 ActiveStands (Calling body fields) = ⊥
-ActiveStands (Evaluating text) = ⊥
+ActiveStands (Evaluating origin text) = ⊥
 ActiveStands (Done status) = ⊥
 ActiveStands (Leaving leave) = ⊥
 

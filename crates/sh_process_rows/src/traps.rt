@@ -3,9 +3,9 @@
 use crate::outcomes::{put_next, words_of};
 use sh_base::NoMemory;
 use sh_base::sequence::{Sequence, Text};
-use sh_builtin_environment::{Condition, Outcome, Traps, trap};
+use sh_builtin_environment::{Outcome, Traps, trap};
 use sh_rows::RowFault;
-use sh_signal::{DefaultAction, Signal};
+use sh_signal::{Condition, DefaultAction, Signal};
 use std::alloc::Global;
 
 /// The action of the condition that a word names.

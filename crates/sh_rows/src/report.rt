@@ -59,8 +59,12 @@ fn count_wrong(
     Ok(wrong)
 }
 
-/// Judges a file, and prints how many rows it has. Answers whether all are well.
-fn judge_file(rt: &HostRuntime, judge: &impl Judge, file: &str) -> Result<bool, RowFault> {
+/// Judges the rows of a file, and prints which are wrong, and how many rows it has. Answers whether all are well.
+///
+/// # Errors
+///
+/// [`RowFault::NoFile`] where the file can't be read, [`RowFault::NoRow`] where a line is no row, and [`RowFault::NoMemory`].
+pub fn judge_file(rt: &HostRuntime, judge: &impl Judge, file: &str) -> Result<bool, RowFault> {
     let Ok(bytes) = fs::read(rt, file) else {
         return Err(RowFault::NoFile);
     };
@@ -74,7 +78,11 @@ fn judge_file(rt: &HostRuntime, judge: &impl Judge, file: &str) -> Result<bool, 
 }
 
 /// The words of the command line after the program's name.
-fn words(rt: &HostRuntime) -> io::Result<Vec<String>> {
+///
+/// # Errors
+///
+/// That no memory was found.
+pub fn words(rt: &HostRuntime) -> io::Result<Vec<String>> {
     let mut words = Vec::new(rt.alloc());
     for word in env::args(rt)?.skip(1) {
         words.push(word)?;
