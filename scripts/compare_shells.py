@@ -1,7 +1,7 @@
 #!/usr/bin/env python3
 """Runs scripts made at random by psh and by real shells, and shows those in which psh stands alone.
 
-usage: compare_shells.py words|documents|processes|lists|errexit|case|builtins|functions|traps [COUNT [SEED]]
+usage: compare_shells.py words|documents|processes|lists|errexit|case|builtins|functions|traps|texts [COUNT [SEED]]
 
 `words` expands words of every form, nested, with several IFS and positional parameters, into the fields that a program
 then shows. `documents` does so in bodies of here-documents and in assignments. `processes` runs pipelines, redirections,
@@ -11,8 +11,8 @@ so under `set -e`. `case` adds commands of that name, whose words and patterns a
 In all of these every fourth compound command has redirections, and commands in it may read what it is given.
 `builtins` adds built-ins that act on variables, options, parameters and the directory, and conditions. `functions` defines
 functions with bodies of every form, calls and unsets them, and has `return` and `eval`, some of it under `set -e`. `traps` sets
-traps on the exit of the shell, of subshells, substitutions and stages, and leaves these in every way, some under `set -e`. Scripts
-do nothing whose result depends on the order of turns.
+traps on the exit of the shell, of subshells, substitutions and stages, and leaves these in every way, some under `set -e`. `texts` writes
+dot scripts and runs them, and has `exec`. Scripts do nothing whose result depends on the order of turns.
 
 Shown is a script where no real shell gives what psh gives, and one where four or more agree with one another and not with
 psh; diagnostics are left out, since their texts differ. The shells are those of dash, bash, yash, mksh and busybox that are
@@ -27,7 +27,7 @@ import sys
 import tempfile
 
 TOP = os.path.dirname(os.path.dirname(os.path.abspath(__file__)))
-PSH = f"{TOP}/out/psh"
+PSH = os.environ.get("PSH", f"{TOP}/out/psh")
 SHELLS = [["dash"], ["bash", "--posix"], ["yash", "-o", "posixly-correct"], ["mksh"], ["busybox", "ash"]]
 # (another user runs the shells as itself)
 NOBODY = [] if os.geteuid() else ["setpriv", "--reuid=65534", "--regid=65534", "--clear-groups", "--no-new-privs"]
@@ -614,6 +614,91 @@ class Traps(Functions):
         return "\n".join([*lines, ""])
 
 
+class Texts(Functions):
+    """Dot scripts and `exec` in such lists.
+
+    Left out is what real shells do in several ways: whether a dot script sees the loops around it, and a place around it that ignores
+    failures under `set -e`; operands of a dot script, and assignments before one; what a dot script that can't be read, or a redirection of `exec` that fails, comes to.
+    """
+
+    programs = ["echo x $x", "show $x z", "two 2>/dev/null", "cat <a", "vars", "x=1 y=2 exec vars", "st7", "head -n 1 <in", "nosuch",
+                "-- cat <in", "true", "sub <in", "having p <in"]
+
+    def __init__(self, seed):
+        super().__init__(seed)
+        # The dot scripts that are there already.
+        self.readable = []
+
+    def dot(self):
+        return f". ./{self.pick(self.readable)}{self.pick(['', '', '', ' >/dev/null', ' <in', ' 2>/dev/null', ' 3>&1'])}"
+
+    def program(self):
+        text = self.pick(self.programs)
+        return text if "exec" in text else f"exec {text}"
+
+    def execution(self):
+        """`exec` in a process that is made for it, or with descriptors that are closed again."""
+        kind = self.chance()
+        if kind < 0.25:
+            return f"( {self.list(0, None)}\n{self.program()}\necho no )"
+        if kind < 0.35:
+            return f"{self.pick('xy')}=$({self.program()})"
+        if kind < 0.45:
+            return f"echo {self.pick(self.values)} | exec {self.pick(['cat', 'having p', 'count', 'sub'])}"
+        if kind < 0.6:
+            return f"( exec {self.pick(['<in', '<a', '4<in <&4', '2>/dev/null <in'])}\n{self.pick(['cat', 'x=$(cat); echo $x', 'sub'])} )"
+        if kind < 0.7 or not self.free() or len(self.written) > 1:
+            return self.pick(["exec 5>&1; echo a >&5; exec 5>&-", "exec 4<in; cat <&4; exec 4<&-", "exec; echo $?", "exec 2>&2; echo $?",
+                              "(exit 3); x=$(exit 4) exec; echo $?"])
+        file = self.pick(self.free())
+        self.written.append(file)
+        text = f"( exec {self.pick(['>', '>>', '>|', '5>&1 >'])}{file}\n{self.list(0, None)} )"
+        self.written.remove(file)
+        return text
+
+    def simple(self, loops):
+        kind = self.chance()
+        if self.readable and not self.written and kind < 0.2:
+            return self.dot()
+        if kind < 0.35:
+            text = self.execution()
+            return "(exit 4)" if "<<" in text else text
+        return super().simple(loops)
+
+    def dot_script(self, name):
+        """Makes a dot script, which runs only those before it."""
+        outside, self.is_function = self.is_function, True
+        body = "break"
+        while re.search("break|continue|END", body):
+            body = self.list(self.pick([0, 1, 1, 2]), None)
+        self.is_function = outside
+        body += self.pick(["", "", "\nreturn 3", "\nfalse", "\nk() { echo k$1; }", "\nset -- d e"])
+        return f"cat <<'END' >{name}\n{body}\nEND"
+
+    def script(self):
+        lines = ["HOME=/h", "k() { :; }"]
+        for name in self.names:
+            lines.append(self.definition(name))
+            self.callable.append(name)
+        for name in ("d1", "d2"):
+            lines.append(self.dot_script(name))
+            self.readable.append(name)
+        for _ in range(self.pick([1, 2, 3])):
+            text = self.pick([self.dot(), self.and_or(2, 0), f"{self.dot()} || echo no", f"if {self.dot()}; then echo yes; fi",
+                              self.execution(), f"( {self.dot()} ) | cat"])
+            if self.chance() < 0.3:
+                # (whether a place that ignores failures reaches into a dot script differs)
+                readable, self.readable = self.readable, []
+                text = self.redirected(lambda: f"( set -e\n{self.list(2, None)}\necho end )")
+                self.readable = readable
+                text += self.pick(["", " || echo no", " && echo yes", " | cat"])
+            lines += [text, 'echo $? "$x" "$y" $# "$1" $i', "k a"]
+        lines += [f"echo {file}: ; cat <{file}" for file in self.made]
+        lines += self.pick([[], [], [self.program(), "echo no"]])
+        self.callable, self.readable = [], []
+        return "\n".join([*lines, ""])
+
+
 def image():
     """The image of files for psh."""
     entries = [(f"/bin/{name}", "r-x", f"#!stock {name}\n") for name in STOCK]
@@ -659,7 +744,7 @@ def by_shell(room, shell, script, operands):
 
 
 SOURCES = {"words": Words, "documents": Documents, "processes": Processes, "lists": Lists, "errexit": Errexit, "case": Cases,
-           "builtins": Builtins, "functions": Functions, "traps": Traps}
+           "builtins": Builtins, "functions": Functions, "traps": Traps, "texts": Texts}
 
 
 def main(kind, count=200, seed=1):

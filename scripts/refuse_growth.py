@@ -66,6 +66,8 @@ ROWS = [
     ("trap 'echo t $?; trap; trap - INT HUP; exit 4' 0; trap \"it's\" INT; trap '' HUP; trap >f; cat <f; (trap); exit 3", 30),
     ("f() { trap \"echo $1 \\$?\" EXIT; exit $2; } >g; (f a 3) || x=$(trap 'cat <g; false; exit' EXIT; exit 5) || echo $? $x; echo b | { trap 'cat' EXIT; return 6; }", 54),
     ("set -e; trap 'eval \"f $?\"\nfalse; echo no' EXIT; f() { cat <<E; }\n$1 $#\nE\nset a b; { trap : KILL none; } 2>f", 27),
+    ("set a 'b c'; . two; f() { . /tabs; . two; return 3; }; f || x=$(. two) || . none; echo no", 60),
+    ("exec 3>f 4<in; (exec cat <&4) | exec having b >&3; exec 3>&-; cat <f; trap 'echo t' EXIT; (x=1 exec two c); x=1 exec none 2>&1", 70),
 ]
 
 # scripts of the image that the shell runs, and their turns
