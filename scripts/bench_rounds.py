@@ -18,7 +18,7 @@ PROGRAM = f"{TOP}/out/psh"
 # What a round runs more, how many turns that takes, and whether dash does it in one process, so that its instructions are counted.
 COMMANDS = [
     ("echo $a $b >/dev/null", 3, True), ("{ :; } >/dev/null", 3, True), ("[ -f f ] && :", 2, True), ("case $a in b|c) ;; ?) :;; esac", 5, True),
-    ("f", 2, True), ("eval :", 4, True), (". /dev/null", 2, True), ("exec 3>&1", 2, True), ("x=$(echo a)", 7, False),
+    ("f", 2, True), ("eval :", 4, True), (". /dev/null", 2, True), ("exec 3>&1", 2, True), ("command :", 1, True), ("read x </dev/null", 3, True), ("x=$(echo a)", 7, False),
 ]
 
 

@@ -67,6 +67,8 @@ ROWS = [
     ("f() { trap \"echo $1 \\$?\" EXIT; exit $2; } >g; (f a 3) || x=$(trap 'cat <g; false; exit' EXIT; exit 5) || echo $? $x; echo b | { trap 'cat' EXIT; return 6; }", 54),
     ("set -e; trap 'eval \"f $?\"\nfalse; echo no' EXIT; f() { cat <<E; }\n$1 $#\nE\nset a b; { trap : KILL none; } 2>f", 27),
     ("set a 'b c'; . two; f() { . /tabs; . two; return 3; }; f || x=$(. two) || . none; echo no", 60),
+    ("IFS=:; while read -r x y; do echo \"[$x] [$y]\"; done <<E\na\\b:c:d\n e\nE\ncommand export v=1 w; command -v cat ./two; x=1 command eval fi; x=1 command exec 3>f; { exec 4>g; } 2>h; command exec none; echo $?", 110),
+    ("read a b; readonly r; read x r; command -v ./two; command -v echo; command . none; command exec echo b$a", 60),
     ("exec 3>f 4<in; (exec cat <&4) | exec having b >&3; exec 3>&-; cat <f; trap 'echo t' EXIT; (x=1 exec two c); x=1 exec none 2>&1", 70),
 ]
 

@@ -3,7 +3,7 @@ use Rattle.std.specs.Prelude.{ℕ, List, [], ◌∷◌, Bool, true, false, Optio
 use Rattle.std.specs.List.{find}
 use Rattle.std.specs.Str.{bytes_eq}
 use Rattle.sh_builtin.specs.declared.builtin.Builtin.{Builtin}
-use Rattle.sh_builtin.specs.declared.builtin.Builtin.TheVariants.{Bracket, Break, Cd, Colon, Continue, Dot, Echo, Eval, Exec, Exit, Export, False, Pwd, ReadOnly, Return, Set, Shift, Test, Trap, True, Unset}
+use Rattle.sh_builtin.specs.declared.builtin.Builtin.TheVariants.{Bracket, Break, Cd, Colon, Command, Continue, Dot, Echo, Eval, Exec, Exit, Export, False, Pwd, Read, ReadOnly, Return, Set, Shift, Test, Trap, True, Unset}
 use Rattle.sh_builtin.specs.declared.builtin.Row.{Row}
 
 -- a row of the table: a name, and whether the built-in is special (2.15): then an error in it ends a shell that
@@ -24,6 +24,7 @@ row_of Bracket = regular (codes "[")
 row_of Break = special (codes "break")
 row_of Cd = regular (codes "cd")
 row_of Colon = special (codes ":")
+row_of Command = regular (codes "command")
 row_of Continue = special (codes "continue")
 row_of Dot = special (codes ".")
 row_of Echo = regular (codes "echo")
@@ -33,6 +34,7 @@ row_of Exit = special (codes "exit")
 row_of Export = special (codes "export")
 row_of False = regular (codes "false")
 row_of Pwd = regular (codes "pwd")
+row_of Read = regular (codes "read")
 row_of ReadOnly = special (codes "readonly")
 row_of Return = special (codes "return")
 row_of Set = special (codes "set")
@@ -44,7 +46,7 @@ row_of Unset = special (codes "unset")
 
 abbrev pub builtins : List Builtin
 builtins =
-    Bracket ∷ Break ∷ Cd ∷ Colon ∷ Continue ∷ Dot ∷ Echo ∷ Eval ∷ Exec ∷ Exit ∷ Export ∷ False ∷ Pwd ∷ ReadOnly ∷ Return ∷ Set ∷ Shift ∷ Test ∷ Trap ∷ True ∷ Unset ∷ []
+    Bracket ∷ Break ∷ Cd ∷ Colon ∷ Command ∷ Continue ∷ Dot ∷ Echo ∷ Eval ∷ Exec ∷ Exit ∷ Export ∷ False ∷ Pwd ∷ Read ∷ ReadOnly ∷ Return ∷ Set ∷ Shift ∷ Test ∷ Trap ∷ True ∷ Unset ∷ []
 
 -- ---- what is read from it
 abbrev pub name_of : Builtin → List ℕ
@@ -52,6 +54,9 @@ name_of builtin = (row_of builtin).name
 
 abbrev pub is_special : Builtin → Bool
 is_special builtin = (row_of builtin).is_special
+
+abbrev pub is_named : Builtin → List ℕ → Bool
+is_named builtin name = bytes_eq name (name_of builtin)
 
 -- the built-in of a name
 abbrev pub builtin_of : List ℕ → Option Builtin

@@ -4,7 +4,7 @@ use Rattle.sh_builtin.specs.Builtins.{is_special, name_of}
 use Rattle.sh_builtin.specs.Messages.{fault_text, line_of, status_of}
 use Rattle.sh_builtin.specs.declared.builtin.Builtin.{Builtin}
 use Rattle.sh_builtin.specs.declared.outcome.Completion.{Completion}
-use Rattle.sh_builtin.specs.declared.outcome.Completion.TheVariants.{Done, Left, Runs}
+use Rattle.sh_builtin.specs.declared.outcome.Completion.TheVariants.{Done, Left, Reads, Runs}
 use Rattle.sh_builtin.specs.declared.outcome.Leave.{Leave}
 use Rattle.sh_builtin.specs.declared.outcome.Leave.TheVariants as leave
 use Rattle.sh_builtin.specs.declared.outcome.Outcome.{Outcome}
@@ -13,6 +13,7 @@ use Rattle.sh_builtin_environment.specs.declared.outcome.BuiltinFault.{BuiltinFa
 use Rattle.sh_builtin_environment.specs.declared.outcome.BuiltinFault.TheVariants as fault
 use Rattle.sh_builtin_environment.specs.declared.outcome.Outcome.{Outcome as Answer}
 use Rattle.sh_builtin_environment.specs.declared.outcome.Outcome.TheVariants as answer
+use Rattle.sh_builtin_regular.specs.declared.reader.LineReader.{LineReader}
 
 -- its output, its messages, and how it ends
 abbrev pub outcome : List ℕ → List (List ℕ) → Completion → Outcome
@@ -28,7 +29,10 @@ abbrev pub left : Leave → Outcome
 left leave = outcome [] [] (Left leave)
 
 abbrev pub running : TextOrigin → List ℕ → Outcome
-running origin text = outcome [] [] (Runs origin text)
+running origin text = outcome [] [] (Runs (record { origin = origin; is_special = true }) text)
+
+abbrev pub reading : LineReader → Outcome
+reading reader = outcome [] [] (Reads reader)
 
 -- the status of a shell that is left so; break and continue leave no shell
 abbrev pub shell_status : Leave → ℕ

@@ -1,15 +1,12 @@
 -- What each built-in does with its arguments.
-use Rattle.std.specs.Prelude.{ℕ, List, [], ◌∷◌, ◌++◌, Bool, true, false, not, Option, Some, None, codes, nat_le, if◌then◌else◌}
+use Rattle.std.specs.Prelude.{ℕ, List, [], ◌∷◌, ◌++◌, Bool, true, false, not, Option, Some, None, Result, Ok, Err, codes, nat_le, if◌then◌else◌}
 use Rattle.std.specs.List.{join_with_byte}
-use Rattle.std.specs.Str.{bytes_eq}
-use Rattle.sh_builtin.specs.Conditional.{verdict_of}
+use Rattle.sh_builtin.specs.Commands.{command_outcome}
 use Rattle.sh_builtin.specs.Functions.{unset_by}
 use Rattle.sh_builtin.specs.Loops.{leave_with, loop_with, operands_of}
-use Rattle.sh_builtin.specs.Outcomes.{done, misuse, outcome_of, output, refusal, running}
+use Rattle.sh_builtin.specs.Outcomes.{done, misuse, outcome_of, output, reading, refusal, running}
 use Rattle.sh_builtin.specs.declared.builtin.Builtin.{Builtin}
-use Rattle.sh_builtin.specs.declared.builtin.Builtin.TheVariants.{Bracket, Break, Cd, Colon, Continue, Dot, Echo, Eval, Exec, Exit, Export, False, Pwd, ReadOnly, Return, Set, Shift, Test, Trap, True, Unset}
-use Rattle.sh_builtin.specs.declared.conditional.Verdict.{Verdict}
-use Rattle.sh_builtin.specs.declared.conditional.Verdict.TheVariants as verdict
+use Rattle.sh_builtin.specs.declared.builtin.Builtin.TheVariants.{Bracket, Break, Cd, Colon, Command, Continue, Dot, Echo, Eval, Exec, Exit, Export, False, Pwd, Read, ReadOnly, Return, Set, Shift, Test, Trap, True, Unset}
 use Rattle.sh_builtin.specs.declared.outcome.Leave.TheVariants as leave
 use Rattle.sh_builtin.specs.declared.outcome.Outcome.{Outcome}
 use Rattle.sh_builtin.specs.declared.outcome.TextOrigin.TheVariants as origin
@@ -23,7 +20,14 @@ use Rattle.sh_builtin_environment.specs.Shifting.{shift_ran}
 use Rattle.sh_builtin_environment.specs.Trapping.{Trapped, trap_ran}
 use Rattle.sh_builtin_environment.specs.Unsetting.{functions_to_unset, unset_ran}
 use Rattle.sh_builtin_environment.specs.declared.attribute.Attribute.TheVariants as attribute
+use Rattle.sh_builtin_environment.specs.declared.outcome.BuiltinFault.{BuiltinFault}
 use Rattle.sh_builtin_environment.specs.declared.outcome.BuiltinFault.TheVariants as fault
+use Rattle.sh_builtin_regular.specs.Brackets.{bracket_operands}
+use Rattle.sh_builtin_regular.specs.Conditional.{verdict_of}
+use Rattle.sh_builtin_regular.specs.declared.conditional.Verdict.{Verdict}
+use Rattle.sh_builtin_regular.specs.declared.conditional.Verdict.TheVariants as verdict
+use Rattle.sh_builtin_regular.specs.Operands.{reader_of}
+use Rattle.sh_builtin_regular.specs.declared.reader.LineReader.{LineReader}
 use Rattle.sh_files.specs.Nodes.{FileMap}
 use Rattle.sh_files.specs.Search.{dot_script}
 use Rattle.sh_kernel_descriptors.specs.Machine.{MachineState}
@@ -82,6 +86,11 @@ abbrev pub dot_outcome : FileMap → Environment → Option Parsed → Outcome
 dot_outcome files env None = misuse Dot
 dot_outcome files env (Some parsed) = dot_with files env parsed.1
 
+-- ---- read has the line read that its arguments ask for
+abbrev pub read_outcome : Result LineReader BuiltinFault → Outcome
+read_outcome (Ok reader) = reading reader
+read_outcome (Err why) = refusal Read why
+
 -- ---- test: 0 where the condition holds, else 1; descriptors go from 0 to 31
 abbrev pub truth : Bool → ℕ
 truth true = 0
@@ -106,26 +115,18 @@ test_outcome machine shell builtin arguments =
     verdict_outcome machine shell.pid builtin (verdict_of machine.files shell.vars.directory arguments)
 
 -- `[` needs `]` after its operands
-abbrev pub prefix_behind : List ℕ → Option (List (List ℕ)) → Option (List (List ℕ))
-prefix_behind word None = None
-prefix_behind word (Some words) = Some (word ∷ words)
-
-abbrev pub prefix : List (List ℕ) → Option (List (List ℕ))
-prefix [] = None
-prefix (word ∷ []) = if bytes_eq word (codes "]") then Some [] else None
-prefix (word ∷ next ∷ words) = prefix_behind word (prefix (next ∷ words))
-
 abbrev pub bracket_outcome : MachineState → Shell → Option (List (List ℕ)) → Outcome
 bracket_outcome machine shell None = misuse Bracket
 bracket_outcome machine shell (Some operands) = test_outcome machine shell Bracket operands
 
 -- ---- a built-in with its arguments, in a shell's process on this machine; `last` is the status with which exit and return leave where
--- they have no operand; exec comes here with wrong options alone
+-- they have no operand; exec comes here with wrong options alone, and command where it runs no other command
 unfoldable pub built_in : MachineState → Shell → (last : ℕ) → Builtin → List (List ℕ) → BuiltIn
-built_in machine shell last Bracket arguments = with_outcome shell (bracket_outcome machine shell (prefix arguments))
+built_in machine shell last Bracket arguments = with_outcome shell (bracket_outcome machine shell (bracket_operands arguments))
 built_in machine shell last Break arguments = with_outcome shell (loop_with Break leave.Break (operands_of arguments))
 built_in machine shell last Cd arguments = ran Cd shell (cd_ran machine.files shell.vars arguments)
 built_in machine shell last Colon arguments = with_outcome shell (done 0)
+built_in machine shell last Command arguments = with_outcome shell (command_outcome machine.files shell (options_and_operands (codes "v") arguments))
 built_in machine shell last Continue arguments = with_outcome shell (loop_with Continue leave.Continue (operands_of arguments))
 built_in machine shell last Dot arguments = with_outcome shell (dot_outcome machine.files shell.vars (options_and_operands [] arguments))
 built_in machine shell last Echo arguments = with_outcome shell (echo_outcome arguments)
@@ -135,6 +136,7 @@ built_in machine shell last Exit arguments = with_outcome shell (leave_with Exit
 built_in machine shell last Export arguments = ran Export shell (mark_ran attribute.Export shell.vars arguments)
 built_in machine shell last False arguments = with_outcome shell (done 1)
 built_in machine shell last Pwd arguments = with_outcome shell (outcome_of Pwd (pwd_outcome shell.vars arguments))
+built_in machine shell last Read arguments = with_outcome shell (read_outcome (reader_of arguments))
 built_in machine shell last ReadOnly arguments = ran ReadOnly shell (mark_ran attribute.ReadOnly shell.vars arguments)
 built_in machine shell last Return arguments = with_outcome shell (leave_with Return leave.Return last (operands_of arguments))
 built_in machine shell last Set arguments = ran Set shell (set_ran shell.vars arguments)

@@ -1,12 +1,14 @@
 //! Built-in utilities.
 ghost use Rattle.std.specs.Prelude.{◌≡◌, ◌++◌, IfOk};
-ghost use Rattle.sh_builtin.specs.Builtins.{builtin_of, is_special, name_of, row_of, row_seen, regular, special};
+ghost use Rattle.sh_builtin.specs.Builtins.{builtin_of, is_named, is_special, name_of, row_of, row_seen, regular, special};
 ghost use Rattle.sh_builtin.specs.Running.{built_in, echo_outcome, eval_outcome, joined, with_outcome, without_functions};
 ghost use Rattle.sh_kernel.specs.State.{KernelState, StandsAt};
 
+use crate::command::command;
 use crate::dot::dot;
 use crate::leaving::{break_with, continue_with, exit_with, operands_of, return_with};
 use crate::outcome::{Outcome, TextOrigin};
+use crate::reading::read;
 use crate::shell::Shell;
 use crate::testing::{bracket, test};
 use sh_base::NoMemory;
@@ -26,6 +28,7 @@ pub enum Builtin {
     Cd,
     /// `:`
     Colon,
+    Command,
     Continue,
     /// `.`
     Dot,
@@ -36,6 +39,7 @@ pub enum Builtin {
     Export,
     False,
     Pwd,
+    Read,
     ReadOnly,
     Return,
     Set,
@@ -76,11 +80,12 @@ impl Row {
 }
 
 /// All of them.
-const BUILTINS: [Builtin; 21] = [
+const BUILTINS: [Builtin; 23] = [
     Builtin::Bracket,
     Builtin::Break,
     Builtin::Cd,
     Builtin::Colon,
+    Builtin::Command,
     Builtin::Continue,
     Builtin::Dot,
     Builtin::Echo,
@@ -90,6 +95,7 @@ const BUILTINS: [Builtin; 21] = [
     Builtin::Export,
     Builtin::False,
     Builtin::Pwd,
+    Builtin::Read,
     Builtin::ReadOnly,
     Builtin::Return,
     Builtin::Set,
@@ -110,6 +116,7 @@ impl Builtin {
             Builtin::Break => Row::special(b"break"),
             Builtin::Cd => Row::regular(b"cd"),
             Builtin::Colon => Row::special(b":"),
+            Builtin::Command => Row::regular(b"command"),
             Builtin::Continue => Row::special(b"continue"),
             Builtin::Dot => Row::special(b"."),
             Builtin::Echo => Row::regular(b"echo"),
@@ -119,6 +126,7 @@ impl Builtin {
             Builtin::Export => Row::special(b"export"),
             Builtin::False => Row::regular(b"false"),
             Builtin::Pwd => Row::regular(b"pwd"),
+            Builtin::Read => Row::regular(b"read"),
             Builtin::ReadOnly => Row::special(b"readonly"),
             Builtin::Return => Row::special(b"return"),
             Builtin::Set => Row::special(b"set"),
@@ -146,6 +154,13 @@ impl Builtin {
         ensures found { builtin_of result.now ≡ Some self }
     {
         self.row().name
+    }
+
+    /// Whether this is its name. Takes no memory.
+    pub fn is_named(self, name: &[u8]) -> bool
+        ensures { result ≡ is_named self name.now }
+    {
+        name == self.name()
     }
 
     /// Whether it is a special built-in (XCU 2.15): an error in it ends a shell that isn't interactive, and
@@ -179,6 +194,7 @@ impl Builtin {
                 Outcome::of(alloc, Builtin::Cd, answer)
             },
             Builtin::Colon => Ok(Outcome::done(alloc, 0)),
+            Builtin::Command => command(alloc, kernel.files(), shell, arguments),
             Builtin::Continue => continue_with(alloc, operands_of(arguments)),
             Builtin::Dot => dot(alloc, kernel.files(), &shell.vars, arguments),
             Builtin::Echo => echo(alloc, arguments),
@@ -194,6 +210,7 @@ impl Builtin {
                 let answer = pwd(alloc, &shell.vars, arguments)?;
                 Outcome::of(alloc, Builtin::Pwd, answer)
             },
+            Builtin::Read => read(alloc, arguments),
             Builtin::ReadOnly => {
                 let answer = mark(alloc, Attribute::ReadOnly, &mut shell.vars, arguments)?;
                 Outcome::of(alloc, Builtin::ReadOnly, answer)

@@ -2,18 +2,20 @@
 #![tactic(auto)]
 
 mod builtin;
-mod conditional;
+mod command;
 mod dot;
 mod functions;
+mod invocation;
 mod leaving;
 pub mod message;
-mod number;
 mod outcome;
+mod reading;
 mod shell;
 mod testing;
 
 pub use builtin::Builtin;
-pub use conditional::{Verdict, evaluate};
+pub use command::behind_command;
 pub use functions::Functions;
-pub use outcome::{Completion, Leave, Outcome, TextOrigin};
+pub use invocation::Invocation;
+pub use outcome::{Completion, Leave, Outcome, TextOrigin, TextRun};
 pub use shell::Shell;

@@ -1,12 +1,13 @@
 //! What built-ins come to.
 ghost use Rattle.std.specs.Prelude.{◌≡◌, IfOk};
-ghost use Rattle.sh_builtin.specs.Outcomes.{done, failure, left, misuse, output, outcome_of, refusal, running, shell_status};
+ghost use Rattle.sh_builtin.specs.Outcomes.{done, failure, left, misuse, output, outcome_of, reading, refusal, running, shell_status};
 
 use crate::builtin::Builtin;
 use crate::message::{fault_line, status_of};
 use sh_base::NoMemory;
 use sh_base::sequence::{Sequence, Text};
 use sh_builtin_environment::BuiltinFault;
+use sh_builtin_regular::LineReader;
 use std::alloc::Global;
 
 /// How commands are left before their end.
@@ -48,6 +49,15 @@ pub enum TextOrigin {
     DotScript,
 }
 
+/// How a text is run that a built-in has run in its place.
+#[derive(Clone, Copy, Debug, PartialEq, Eq)]
+pub struct TextRun {
+    /// Where it comes from.
+    pub origin: TextOrigin,
+    /// Whether a text that is refused ends a shell that isn't interactive (XCU 2.8.1): not where `command` runs the built-in.
+    pub is_special: bool,
+}
+
 /// How a built-in ends.
 #[derive(Debug, Drop)]
 pub enum Completion {
@@ -56,7 +66,9 @@ pub enum Completion {
     /// Commands are left.
     Left(Leave),
     /// This text is run in its place, and the built-in has the status of the text's last command (XCU 2.15 dot, eval).
-    Runs(TextOrigin, Text),
+    Runs(TextRun, Text),
+    /// This line is read first, and the variables that it is for have its fields (XCU read).
+    Reads(LineReader),
 }
 
 /// What a built-in comes to, beside what it changes of the shell. In this order it writes `out`, writes each message of `err`, and
@@ -112,7 +124,24 @@ impl Outcome {
         Outcome {
             out: Sequence::new(alloc),
             err: Sequence::new(alloc),
-            status: Completion::Runs(origin, text),
+            status: Completion::Runs(
+                TextRun {
+                    origin,
+                    is_special: true,
+                },
+                text,
+            ),
+        }
+    }
+
+    /// Has a line read first.
+    pub(crate) fn reading(alloc: Global, reader: LineReader) -> Outcome
+        ensures { result ≡ reading reader }
+    {
+        Outcome {
+            out: Sequence::new(alloc),
+            err: Sequence::new(alloc),
+            status: Completion::Reads(reader),
         }
     }
 

@@ -1,14 +1,15 @@
 //! The built-ins test and `[` (XCU test).
-ghost use Rattle.std.specs.Prelude.{◌≡◌, IfOk, option_map};
-ghost use Rattle.sh_builtin.specs.Running.{bracket_outcome, prefix, inverted_by, verdict_outcome, terminal_at, test_outcome, truth};
+ghost use Rattle.std.specs.Prelude.{◌≡◌, IfOk};
+ghost use Rattle.sh_builtin.specs.Running.{bracket_outcome, inverted_by, verdict_outcome, terminal_at, test_outcome, truth};
+ghost use Rattle.sh_builtin_regular.specs.Brackets.{bracket_operands};
 ghost use Rattle.sh_kernel.specs.State.{KernelState, StandsAt};
 
 use crate::builtin::Builtin;
 use crate::outcome::Outcome;
 use crate::shell::Shell;
-use crate::{Verdict, evaluate};
 use sh_base::NoMemory;
 use sh_base::sequence::Text;
+use sh_builtin_regular::{Verdict, bracket_operands, evaluate};
 use sh_kernel::Kernel;
 use std::alloc::Global;
 
@@ -84,21 +85,6 @@ pub(crate) fn test(
     Ok(outcome)
 }
 
-/// The operands of `[`, before its `]`.
-fn prefix(arguments: &[Text]) -> Option<&[Text]>
-    ensures { option_map (λ operands. operands.now) result ≡ prefix arguments.now }
-{
-    match arguments.split_last() {
-        Some((last, operands)) => {
-            if last.as_slice() == b"]".as_slice() {
-                return Some(operands);
-            }
-            None
-        },
-        None => None,
-    }
-}
-
 /// `[` with its arguments.
 pub(crate) fn bracket(
     alloc: Global,
@@ -107,9 +93,9 @@ pub(crate) fn bracket(
     arguments: &[Text],
 ) -> Result<Outcome, NoMemory>
     ensures { (s : KernelState) → StandsAt kernel.now s → IfOk result (λ outcome.
-        outcome ≡ bracket_outcome s.machine shell.now (prefix arguments.now)) }
+        outcome ≡ bracket_outcome s.machine shell.now (bracket_operands arguments.now)) }
 {
-    let Some(operands) = prefix(arguments) else {
+    let Some(operands) = bracket_operands(arguments) else {
         return Outcome::misuse(alloc, Builtin::Bracket);
     };
     let outcome = test(alloc, kernel, shell, Builtin::Bracket, operands)?;

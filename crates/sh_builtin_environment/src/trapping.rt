@@ -7,7 +7,7 @@ use crate::outcome::{BuiltinFault, Outcome};
 use crate::traps::{Traps, copy_of_action};
 use sh_base::NoMemory;
 use sh_base::decimal::number_of;
-use sh_base::sequence::{Sequence, Text};
+use sh_base::sequence::Text;
 use sh_signal::Condition;
 use std::alloc::Global;
 

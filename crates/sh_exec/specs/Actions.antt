@@ -5,7 +5,7 @@ use Rattle.sh_exec.specs.declared.task.Task.TheVariants.{Runs, Asks}
 use Rattle.sh_exec_actions.specs.declared.action.Active.{Active}
 use Rattle.sh_exec_actions.specs.declared.action.Active.TheVariants.{Acting, Calling, Evaluating, Next, Done, Leaving}
 use Rattle.sh_exec_actions.specs.declared.action.Action.{Action}
-use Rattle.sh_exec_actions.specs.declared.action.Action.TheVariants.{Reading, Expanding, ReadSubstitution, WaitSubstitution, Redirecting, Forking, Starting, ForkStage, AssignLoopVariable, Defining, Waiting, Writing, Trapping, Ending}
+use Rattle.sh_exec_actions.specs.declared.action.Action.TheVariants.{Reading, Expanding, ReadSubstitution, WaitSubstitution, ReadLine, Redirecting, Forking, Starting, ForkStage, AssignLoopVariable, Defining, Waiting, Writing, Trapping, Ending}
 use Rattle.sh_exec_forms.specs.Running.{active_of}
 use Rattle.sh_kernel.specs.Turns.{Action as Asked, Acts, ReadsBy, WaitsFor, WritesBy}
 use Rattle.sh_kernel_descriptors.specs.declared.descriptor.DescriptorRef.TheVariants.{Aside, Number}
@@ -22,9 +22,10 @@ action_at (Reading rest status) = Acts
 action_at (Expanding wants pending) = Acts
 action_at (ReadSubstitution substitution) = collecting substitution.aside
 action_at (WaitSubstitution substitution) = WaitsFor substitution.children
+action_at (ReadLine reader) = ReadsBy (Number 0)
 action_at (Redirecting p) = Acts
 action_at (Forking p) = Acts
-action_at (Starting fields) = Acts
+action_at (Starting start) = Acts
 action_at (ForkStage stages) = Acts
 action_at (AssignLoopVariable series) = Acts
 action_at (Defining definition) = Acts
@@ -35,9 +36,9 @@ action_at (Ending status) = Acts
 
 abbrev pub action_in : Active → Asked
 action_in (Next place) = action_at place
-action_in (Acting builtin fields) = Acts
+action_in (Acting invocation fields) = Acts
 action_in (Calling body fields) = Acts
-action_in (Evaluating origin text) = Acts
+action_in (Evaluating how text) = Acts
 action_in (Done ended) = Acts
 action_in (Leaving status) = Acts
 

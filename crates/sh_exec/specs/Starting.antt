@@ -1,5 +1,5 @@
 -- A program's start in the process of a shell (XCU 2.9.1.4, 2.9.1.6): the search, and what the process then is.
-use Rattle.std.specs.Prelude.{ℕ, List, [], ◌∷◌, Option, Some, None, codes, unwrap_or}
+use Rattle.std.specs.Prelude.{ℕ, Bool, true, false, List, [], ◌∷◌, Option, Some, None, codes, unwrap_or}
 use Rattle.sh_exec_actions.specs.Statuses as statuses
 use Rattle.sh_builtin.specs.declared.shell.Shell.{Shell}
 use Rattle.sh_builtin_environment.specs.TrapMaps.{none_set}
@@ -16,9 +16,11 @@ use Rattle.sh_files.specs.declared.search.Located.{Located}
 use Rattle.sh_files.specs.declared.search.Located.TheVariants as located
 use Rattle.sh_exec_actions.specs.declared.action.Active.{Active}
 use Rattle.sh_exec_actions.specs.declared.action.Active.TheVariants.{Acting, Calling, Evaluating, Next, Done, Leaving}
-use Rattle.sh_exec_actions.specs.declared.action.Finish.TheVariants.{Fault}
+use Rattle.sh_exec_actions.specs.declared.action.Finish.{Finish}
+use Rattle.sh_exec_actions.specs.declared.action.Finish.TheVariants.{Fault, Status}
+use Rattle.sh_exec_actions.specs.declared.action.ProgramStart.{ProgramStart}
 use Rattle.sh_exec_actions.specs.declared.action.Action.{Action}
-use Rattle.sh_exec_actions.specs.declared.action.Action.TheVariants.{Reading, Expanding, ReadSubstitution, WaitSubstitution, Redirecting, Forking, Starting, ForkStage, AssignLoopVariable, Defining, Waiting, Writing, Trapping, Ending}
+use Rattle.sh_exec_actions.specs.declared.action.Action.TheVariants.{Reading, Expanding, ReadSubstitution, WaitSubstitution, ReadLine, Redirecting, Forking, Starting, ForkStage, AssignLoopVariable, Defining, Waiting, Writing, Trapping, Ending}
 use Rattle.sh_exec_forms.specs.Running.{At}
 use Rattle.sh_kernel.specs.Calls.{start_call}
 use Rattle.sh_kernel.specs.State.{KernelState}
@@ -35,20 +37,25 @@ shell_at shell place = Runs (record { shell = shell; run = At (Next place) })
 abbrev pub program_in : {S : Type 0} → ℕ → ProgramState S → Task S
 program_in pid p = Asks pid p.ask p.program
 
--- the name of a command and its arguments
+-- the name of a command and its arguments, and whether the shell ends where it can't be started
 pub record Invocation : Type 0 where
   pub name : List ℕ
   pub operands : List (List ℕ)
+  pub ends_shell : Bool
 
--- the shell says why there is no program, and is left with this status
-abbrev pub failure : {S : Type 0} → KernelState → List ℕ → ℕ → Left (Started S)
-failure s text code = with_next s (Refused (Writing (message text) (Fault code)))
+-- the shell says why there is no program, and ends with this status, or the command has it
+abbrev pub failing : (ends_shell : Bool) → ℕ → Finish
+failing true status = Fault status
+failing false status = Status status
+
+abbrev pub failure : {S : Type 0} → KernelState → (ends_shell : Bool) → List ℕ → ℕ → Left (Started S)
+failure s ends_shell text status = with_next s (Refused (Writing (message text) (failing ends_shell status)))
 
 -- a program of the stock takes its first turn; what the shell had set aside is closed
-abbrev pub stock_start : {S : Type 0} → Meaning S → KernelState → Shell → List ℕ → Option S → Left (Started S)
-stock_start m s shell name (Some program) =
+abbrev pub stock_start : {S : Type 0} → Meaning S → KernelState → Shell → Invocation → Option S → Left (Started S)
+stock_start m s shell invocation (Some program) =
     with_next (start_call s shell.pid).after (Becomes (program_in shell.pid (asking m program answer.Started)))
-stock_start m s shell name None = failure s (cannot_execute name) statuses.cannot_execute
+stock_start m s shell invocation None = failure s invocation.ends_shell (cannot_execute invocation.name) statuses.cannot_execute
 
 abbrev pub parent_of : KernelState → ℕ → ℕ
 parent_of s pid = unwrap_or (parent_at s.machine.processes pid) 1
@@ -63,10 +70,10 @@ script_start s shell path text operands =
     with_next (start_call s shell.pid).after (Becomes (shell_at (script_shell s shell path operands) (Reading text 0)))
 
 abbrev pub started_by : {S : Type 0} → Meaning S → KernelState → Shell → Invocation → Located → Left (Started S)
-started_by m s shell invocation located.Missing = failure s (not_found invocation.name) statuses.not_found
-started_by m s shell invocation located.Unfit = failure s (cannot_execute invocation.name) statuses.cannot_execute
+started_by m s shell invocation located.Missing = failure s invocation.ends_shell (not_found invocation.name) statuses.not_found
+started_by m s shell invocation located.Unfit = failure s invocation.ends_shell (cannot_execute invocation.name) statuses.cannot_execute
 started_by m s shell invocation (located.Stock program) =
-    stock_start m s shell invocation.name (m.start program invocation.operands)
+    stock_start m s shell invocation (m.start program invocation.operands)
 started_by m s shell invocation (located.Script path text) = script_start s shell path text invocation.operands
 
 -- where a name leads from the shell's directory, by its PATH
@@ -78,19 +85,23 @@ unfoldable pub start_named : {S : Type 0} → Meaning S → KernelState → Shel
 start_named m s shell invocation =
     started_by m s shell invocation (located_for s.machine.files shell.vars invocation.name)
 
-abbrev pub start_turn : {S : Type 0} → Meaning S → KernelState → Shell → List (List ℕ) → Left (Started S)
-start_turn m s shell [] = with_next s (Refused (Starting []))
-start_turn m s shell (name ∷ operands) = start_named m s shell (record { name = name; operands = operands })
+abbrev pub start_by : {S : Type 0} → Meaning S → KernelState → Shell → ProgramStart → List (List ℕ) → Left (Started S)
+start_by m s shell start [] = with_next s (Refused (Starting start))
+start_by m s shell start (name ∷ operands) = start_named m s shell (record { name = name; operands = operands; ends_shell = start.ends_shell })
+
+abbrev pub start_turn : {S : Type 0} → Meaning S → KernelState → Shell → ProgramStart → Left (Started S)
+start_turn m s shell start = start_by m s shell start start.fields
 
 -- what a shell is about to start
-abbrev pub starting_at : Action → Option (List (List ℕ))
+abbrev pub starting_at : Action → Option ProgramStart
 starting_at (Reading rest status) = None
 starting_at (Expanding wants pending) = None
 starting_at (ReadSubstitution substitution) = None
 starting_at (WaitSubstitution substitution) = None
+starting_at (ReadLine reader) = None
 starting_at (Redirecting p) = None
 starting_at (Forking p) = None
-starting_at (Starting fields) = Some fields
+starting_at (Starting start) = Some start
 starting_at (ForkStage stages) = None
 starting_at (AssignLoopVariable series) = None
 starting_at (Defining definition) = None
@@ -99,10 +110,10 @@ starting_at (Writing piece finish) = None
 starting_at (Trapping status) = None
 starting_at (Ending status) = None
 
-abbrev pub starting_in : Active → Option (List (List ℕ))
+abbrev pub starting_in : Active → Option ProgramStart
 starting_in (Next place) = starting_at place
-starting_in (Acting builtin fields) = None
+starting_in (Acting invocation fields) = None
 starting_in (Calling body fields) = None
-starting_in (Evaluating origin text) = None
+starting_in (Evaluating how text) = None
 starting_in (Done ended) = None
 starting_in (Leaving status) = None

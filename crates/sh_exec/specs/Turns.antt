@@ -6,6 +6,7 @@ use Rattle.sh_exec.specs.declared.start.Started.{Started}
 use Rattle.sh_exec.specs.declared.start.Started.TheVariants.{Becomes, Refused}
 use Rattle.sh_exec.specs.declared.task.Task.{Task}
 use Rattle.sh_exec_actions.specs.declared.action.Active.TheVariants.{Next}
+use Rattle.sh_exec_actions.specs.declared.action.ProgramStart.{ProgramStart}
 use Rattle.sh_exec.specs.declared.task.Task.TheVariants.{Runs, Asks}
 use Rattle.sh_exec_shell.specs.Forks as shell
 use Rattle.sh_exec_shell.specs.Reduction.{shell_turn}
@@ -46,8 +47,8 @@ by_shell t = record {
 abbrev pub by_program : {S : Type 0} → ℕ → Left (ProgramState S) → Turned S
 by_program pid l = record { machine = l.machine; task = program_in pid l.next; child = None }
 
-abbrev pub runs_by : {S : Type 0} → Meaning S → KernelState → InterpreterState → Option (List (List ℕ)) → Turned S
-runs_by m s interpreter (Some fields) = let l = start_turn m s interpreter.shell fields in started_in l.machine interpreter l.next
+abbrev pub runs_by : {S : Type 0} → Meaning S → KernelState → InterpreterState → Option ProgramStart → Turned S
+runs_by m s interpreter (Some start) = let l = start_turn m s interpreter.shell start in started_in l.machine interpreter l.next
 runs_by m s interpreter None = by_shell (shell_turn s interpreter)
 
 abbrev pub turn : {S : Type 0} → Meaning S → KernelState → Task S → Turned S

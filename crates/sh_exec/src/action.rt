@@ -26,6 +26,7 @@ fn action_at(place: &Action) -> Next<'_>
         Action::Expanding(_, _) => Next::Other,
         Action::ReadSubstitution(substitution) => collecting(substitution.aside),
         Action::WaitSubstitution(substitution) => Next::Wait(substitution.children.as_slice()),
+        Action::ReadLine(_) => Next::Read(DescriptorRef::Number(0)),
         Action::Redirecting(_) => Next::Other,
         Action::Forking(_) => Next::Other,
         Action::Starting(_) => Next::Other,

@@ -9,7 +9,7 @@ use sh_exec_actions::status::{CANNOT_EXECUTE, NOT_FOUND};
 use sh_exec_actions::{Action, Finish};
 use sh_exec_parts::Rest;
 use sh_exec_parts::message::{cannot_execute, not_found};
-use sh_files::{File, Files, MAX_SCRIPT, Node};
+use sh_files::{File, Files, Node, may_be_read};
 use std::alloc::Global;
 
 /// The first place of a shell whose script isn't there.
@@ -41,7 +41,7 @@ fn reading(alloc: Global, bytes: &[u8]) -> Result<Action, NoMemory>
 fn file_place(alloc: Global, path: &[u8], file: &File) -> Result<Action, NoMemory>
     ensures { IfOk result (λ place. place ≡ place_by path.now (Some (node.File file.now))) }
 {
-    if file.flags().read && file.bytes().len() <= MAX_SCRIPT {
+    if may_be_read(file) {
         return reading(alloc, file.bytes());
     }
     unreadable(alloc, path)

@@ -3,22 +3,23 @@ ghost use Rattle.std.specs.Prelude.{◌≡◌, IfOk, option_map};
 ghost use Rattle.sh_exec.specs.Starting.{starting_at, starting_in};
 
 use sh_base::NoMemory;
-use sh_base::sequence::{Sequence, Text, copies_of};
-use sh_exec_actions::{Action, Active};
+use sh_exec_actions::{Action, Active, ProgramStart};
+use sh_exec_parts::Copying;
 use std::alloc::Global;
 
 /// What is started at a place.
-fn starting_at(place: &Action) -> Option<&Sequence<Text>>
-    ensures { option_map (λ fields. fields.now) result ≡ starting_at place.now }
+fn starting_at(place: &Action) -> Option<&ProgramStart>
+    ensures { option_map (λ start. start.now) result ≡ starting_at place.now }
 {
     match place {
         Action::Reading(_, _) => None,
         Action::Expanding(_, _) => None,
         Action::ReadSubstitution(_) => None,
         Action::WaitSubstitution(_) => None,
+        Action::ReadLine(_) => None,
         Action::Redirecting(_) => None,
         Action::Forking(_) => None,
-        Action::Starting(fields) => Some(fields),
+        Action::Starting(start) => Some(start),
         Action::ForkStage(_) => None,
         Action::AssignLoopVariable(_) => None,
         Action::Defining(_) => None,
@@ -30,8 +31,8 @@ fn starting_at(place: &Action) -> Option<&Sequence<Text>>
 }
 
 /// What is started at an active place.
-fn starting_in(active: &Active) -> Option<&Sequence<Text>>
-    ensures { option_map (λ fields. fields.now) result ≡ starting_in active.now }
+fn starting_in(active: &Active) -> Option<&ProgramStart>
+    ensures { option_map (λ start. start.now) result ≡ starting_in active.now }
 {
     match active {
         Active::Next(place) => starting_at(place),
@@ -44,16 +45,13 @@ fn starting_in(active: &Active) -> Option<&Sequence<Text>>
 }
 
 /// A copy of what is started at an active place.
-pub(crate) fn starting_of(
-    alloc: Global,
-    active: &Active,
-) -> Result<Option<Sequence<Text>>, NoMemory>
-    ensures { IfOk result (λ fields. fields ≡ starting_in active.now) }
+pub(crate) fn starting_of(alloc: Global, active: &Active) -> Result<Option<ProgramStart>, NoMemory>
+    ensures { IfOk result (λ start. start ≡ starting_in active.now) }
 {
     match starting_in(active) {
-        Some(fields) => {
-            let copies = Sequence::from_vec(copies_of(alloc, fields.as_slice())?);
-            Ok(Some(copies))
+        Some(start) => {
+            let copy = start.copy(alloc)?;
+            Ok(Some(copy))
         },
         None => Ok(None),
     }

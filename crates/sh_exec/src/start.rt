@@ -1,20 +1,20 @@
 //! A program's start in the process of a shell.
-ghost use Rattle.std.specs.Prelude.{◌≡◌, IfOk};
+ghost use Rattle.std.specs.Prelude.{◌≡◌, ℕ, IfOk, List};
 ghost use Rattle.sh_exec_actions.specs.Statuses as statuses;
 ghost use Rattle.sh_kernel.specs.Calls.{start_call};
 ghost use Rattle.sh_kernel.specs.State.{KernelState, StandsAt};
 ghost use Rattle.sh_exec_parts.specs.Messages as messages;
 ghost use Rattle.sh_exec.specs.Programs.{HasLeft, asking};
-ghost use Rattle.sh_exec.specs.Starting.{located_for, parent_of, program_in, script_shell, script_start, start_named, start_turn, started_by, stock_start};
+ghost use Rattle.sh_exec.specs.Starting.{failing, located_for, parent_of, program_in, script_shell, script_start, start_named, start_turn, started_by, stock_start};
 
 use crate::program::asking;
 use crate::task::Task;
 use sh_base::NoMemory;
-use sh_base::sequence::{Sequence, Text};
+use sh_base::sequence::Text;
 use sh_builtin::{Functions, Shell};
 use sh_builtin_environment::Traps;
 use sh_exec_actions::status::{CANNOT_EXECUTE, NOT_FOUND};
-use sh_exec_actions::{Action, Finish};
+use sh_exec_actions::{Action, Finish, ProgramStart};
 use sh_exec_parts::message::{cannot_execute, not_found};
 use sh_exec_parts::script_environment;
 use sh_exec_shell::Interpreter;
@@ -33,22 +33,32 @@ pub enum Started<S: Stock> {
     Refused(Action),
 }
 
+/// What follows the message that says why there is no program.
+fn failing(ends_shell: bool, status: u8) -> Finish
+    ensures { result ≡ failing ends_shell status }
+{
+    if ends_shell {
+        return Finish::Fault(status);
+    }
+    Finish::Status(status)
+}
+
 /// No program has this name.
-fn missing(alloc: Global, name: &[u8]) -> Result<Action, NoMemory>
+fn missing(alloc: Global, name: &[u8], ends_shell: bool) -> Result<Action, NoMemory>
     ensures { IfOk result (λ place.
-        place ≡ Action.Writing (messages.message (messages.not_found name.now)) (Finish.Fault statuses.not_found)) }
+        place ≡ Action.Writing (messages.message (messages.not_found name.now)) (failing ends_shell statuses.not_found)) }
 {
     let piece = not_found(alloc, name)?;
-    Ok(Action::Writing(piece, Finish::Fault(NOT_FOUND)))
+    Ok(Action::Writing(piece, failing(ends_shell, NOT_FOUND)))
 }
 
 /// It can't be run.
-fn unfit(alloc: Global, name: &[u8]) -> Result<Action, NoMemory>
+fn unfit(alloc: Global, name: &[u8], ends_shell: bool) -> Result<Action, NoMemory>
     ensures { IfOk result (λ place.
-        place ≡ Action.Writing (messages.message (messages.cannot_execute name.now)) (Finish.Fault statuses.cannot_execute)) }
+        place ≡ Action.Writing (messages.message (messages.cannot_execute name.now)) (failing ends_shell statuses.cannot_execute)) }
 {
     let piece = cannot_execute(alloc, name)?;
-    Ok(Action::Writing(piece, Finish::Fault(CANNOT_EXECUTE)))
+    Ok(Action::Writing(piece, failing(ends_shell, CANNOT_EXECUTE)))
 }
 
 /// What the shell had set aside is closed.
@@ -75,10 +85,11 @@ fn start_stock<S: Stock>(
     kernel: &mut Kernel,
     pid: u32,
     name: &[u8],
+    ends_shell: bool,
     program: Option<S>,
 ) -> Result<Started<S>, NoMemory>
-    ensures state { (s : KernelState) → StandsAt kernel.old s → (shell : Shell) → shell.pid ≡ pid → IfOk result (λ started.
-        HasLeft kernel.new started (stock_start S.meaning s shell name.now program)) }
+    ensures state { (s : KernelState) → StandsAt kernel.old s → (shell : Shell) → shell.pid ≡ pid → (operands : List (List ℕ)) → IfOk result (λ started.
+        HasLeft kernel.new started (stock_start S.meaning s shell (record { name = name.now; operands = operands; ends_shell = ends_shell }) program)) }
     ensures terminal { kernel.new.terminal ≡ kernel.old.terminal }
 {
     match program {
@@ -88,7 +99,7 @@ fn start_stock<S: Stock>(
             Ok(Started::Becomes(task))
         },
         None => {
-            let place = unfit(alloc, name)?;
+            let place = unfit(alloc, name, ends_shell)?;
             Ok(Started::Refused(place))
         },
     }
@@ -138,25 +149,26 @@ fn start_located<S: Stock>(
     shell: &Shell,
     name: &[u8],
     operands: &[Text],
+    ends_shell: bool,
     located: Located,
 ) -> Result<Started<S>, NoMemory>
     ensures state { (s : KernelState) → StandsAt kernel.old s → IfOk result (λ started.
         HasLeft kernel.new started
-        (started_by S.meaning s shell.now (record { name = name.now; operands = operands.now }) located)) }
+        (started_by S.meaning s shell.now (record { name = name.now; operands = operands.now; ends_shell = ends_shell }) located)) }
     ensures terminal { kernel.new.terminal ≡ kernel.old.terminal }
 {
     match located {
         Located::Missing => {
-            let place = missing(alloc, name)?;
+            let place = missing(alloc, name, ends_shell)?;
             Ok(Started::Refused(place))
         },
         Located::Unfit => {
-            let place = unfit(alloc, name)?;
+            let place = unfit(alloc, name, ends_shell)?;
             Ok(Started::Refused(place))
         },
         Located::Stock(program) => {
             let program = S::start(alloc, program.as_slice(), operands)?;
-            let started = start_stock(alloc, kernel, shell.pid, name, program)?;
+            let started = start_stock(alloc, kernel, shell.pid, name, ends_shell, program)?;
             Ok(started)
         },
         Located::Script { path, text } => {
@@ -181,13 +193,14 @@ fn start_named<S: Stock>(
     shell: &Shell,
     name: &[u8],
     operands: &[Text],
+    ends_shell: bool,
 ) -> Result<Started<S>, NoMemory>
     ensures state { (s : KernelState) → StandsAt kernel.old s → IfOk result (λ started.
-        HasLeft kernel.new started (start_named S.meaning s shell.now (record { name = name.now; operands = operands.now }))) }
+        HasLeft kernel.new started (start_named S.meaning s shell.now (record { name = name.now; operands = operands.now; ends_shell = ends_shell }))) }
     ensures terminal { kernel.new.terminal ≡ kernel.old.terminal }
 {
     let located = find_program(alloc, kernel.files(), &shell.vars, name)?;
-    let started = start_located(alloc, kernel, shell, name, operands, located)?;
+    let started = start_located(alloc, kernel, shell, name, operands, ends_shell, located)?;
     Ok(started)
 }
 
@@ -196,15 +209,16 @@ pub(crate) fn start_turn<S: Stock>(
     alloc: Global,
     kernel: &mut Kernel,
     shell: &Shell,
-    fields: Sequence<Text>,
+    start: ProgramStart,
 ) -> Result<Started<S>, NoMemory>
     ensures state { (s : KernelState) → StandsAt kernel.old s → IfOk result (λ started.
-        HasLeft kernel.new started (start_turn S.meaning s shell.now fields)) }
+        HasLeft kernel.new started (start_turn S.meaning s shell.now start)) }
     ensures terminal { kernel.new.terminal ≡ kernel.old.terminal }
 {
-    let Some((name, operands)) = fields.as_slice().split_first() else {
-        return Ok(Started::Refused(Action::Starting(fields)));
+    let Some((name, operands)) = start.fields.as_slice().split_first() else {
+        return Ok(Started::Refused(Action::Starting(start)));
     };
-    let started = start_named(alloc, kernel, shell, name.as_slice(), operands)?;
+    let ends_shell = start.ends_shell;
+    let started = start_named(alloc, kernel, shell, name.as_slice(), operands, ends_shell)?;
     Ok(started)
 }

@@ -19,7 +19,7 @@ use sh_base::NoMemory;
 use sh_base::sequence::{Sequence, Text};
 use sh_builtin::{Functions, Shell};
 use sh_builtin_environment::Traps;
-use sh_exec_actions::{Action, Frame};
+use sh_exec_actions::{Action, Frame, ProgramStart};
 use sh_exec_parts::Rest;
 use sh_exec_shell::Interpreter;
 use sh_files::Files;
@@ -78,20 +78,20 @@ fn shell_turn<S: Stock>(
     Ok(made(child))
 }
 
-/// The turn in which a shell's process starts what these fields name: what takes the shell's place, if that can be started; else the shell
+/// The turn in which a shell's process starts a program: what takes the shell's place, if that can be started; else the shell
 /// goes on with a message, inside its forms.
 fn start_in<S: Stock>(
     alloc: Global,
     kernel: &mut Kernel,
     interpreter: &mut Interpreter,
-    fields: Sequence<Text>,
+    start: ProgramStart,
 ) -> Result<Option<Task<S>>, NoMemory>
     ensures state { (s : KernelState) → StandsAt kernel.old s → IfOk result (λ next.
         IsTurned kernel.new (task_behind interpreter.new next) None
-        (runs_by S.meaning s interpreter.old (Some fields))) }
+        (runs_by S.meaning s interpreter.old (Some start))) }
     ensures terminal { kernel.new.terminal ≡ kernel.old.terminal }
 {
-    match start_turn(alloc, kernel, interpreter.shell(), fields)? {
+    match start_turn(alloc, kernel, interpreter.shell(), start)? {
         Started::Becomes(task) => Ok(Some(task)),
         Started::Refused(place) => {
             interpreter.go_to(place);
@@ -147,8 +147,8 @@ impl<S: Stock> Task<S> {
     {
         match self {
             Task::Runs(interpreter) => match starting_of(alloc, interpreter.active())? {
-                Some(fields) => {
-                    if let Some(next) = start_in(alloc, kernel, interpreter, fields)? {
+                Some(start) => {
+                    if let Some(next) = start_in(alloc, kernel, interpreter, start)? {
                         drop(mem::replace(self, next));
                     }
                     Ok(None)

@@ -14,10 +14,6 @@ error = 2
 abbrev pub cannot_execute : ℕ
 cannot_execute = 126
 
--- a command isn't found, or a process isn't known
+-- a command isn't found
 abbrev pub not_found : ℕ
 not_found = 127
-
--- a process that a signal ended has this and the signal's number
-abbrev pub signaled : ℕ
-signaled = 128

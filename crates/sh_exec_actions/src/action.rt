@@ -2,7 +2,8 @@
 use crate::status::CommandStatus;
 use sh_base::sequence::{Sequence, Text};
 use sh_base::shared::Shared;
-use sh_builtin::{Builtin, Completion, Leave, TextOrigin};
+use sh_builtin::{Builtin, Completion, Invocation, Leave, TextRun};
+use sh_builtin_regular::LineReader;
 use sh_exec_machine::Undone;
 use sh_exec_parts::message::Piece;
 use sh_exec_parts::redirection::Redirection;
@@ -17,13 +18,14 @@ pub enum Role {
     /// Nothing: it is a simple command (XCU 2.9.1) without a command name.
     NoCommandName,
     /// A built-in utility.
-    Builtin(Builtin),
+    Builtin(Invocation),
     /// A function: its body, a compound command (2.9.5).
     Function(Shared<Command>),
     /// A program.
     Program,
-    /// `exec` (2.15): whether it has a command, which takes the place of the shell in its process.
-    Exec { is_command: bool },
+    /// `exec` (2.15): whether it has a command, which takes the place of the shell in its process, and whether it is run as a special
+    /// built-in, which `command` doesn't do.
+    Exec { is_command: bool, is_special: bool },
     /// The shell, in which it is entered: it is this compound command (2.9.4).
     Compound(Shared<Command>),
     /// A process of its own, in which this list of a subshell (2.9.4.1) is entered.
@@ -45,6 +47,8 @@ pub enum Saved {
 pub struct Undo {
     pub descriptors: Sequence<Undone>,
     pub variables: Sequence<Saved>,
+    /// Whether the redirections stay, as those of `exec` (2.15): then what they had set aside is closed.
+    pub redirections_stay: bool,
 }
 
 /// A simple command whose words are expanded, or a compound command of whose redirections they are.
@@ -131,6 +135,15 @@ pub struct Substitution {
     pub children: Sequence<u32>,
 }
 
+/// A program that is started in the shell's process.
+#[derive(Drop)]
+pub struct ProgramStart {
+    /// The command name, and its arguments.
+    pub fields: Sequence<Text>,
+    /// Whether the shell ends where the program can't be started: not where `command` runs `exec`.
+    pub ends_shell: bool,
+}
+
 /// A pipeline of several commands (2.9.2) whose processes are being made.
 #[derive(Drop)]
 pub struct Stages {
@@ -177,12 +190,14 @@ pub enum Action {
     ReadSubstitution(Substitution),
     /// Wait for the end of that process.
     WaitSubstitution(Substitution),
+    /// Read by descriptor 0 for the built-in `read` (XCU read): the line so far.
+    ReadLine(LineReader),
     /// Do the next redirection of a command (2.7).
     Redirecting(ExpandedCommand),
     /// Make the process that runs a program.
     Forking(ExpandedCommand),
     /// Search for a program, and start it in this process (2.9.1.4).
-    Starting(Sequence<Text>),
+    Starting(ProgramStart),
     /// Make the process of the next command of a pipeline.
     ForkStage(Stages),
     /// Give the variable of a `for` its next value.
@@ -205,12 +220,12 @@ pub enum Active {
     /// An action comes next.
     Next(Action),
     /// A built-in acts, in the same turn; its name and arguments.
-    Acting(Builtin, Sequence<Text>),
+    Acting(Invocation, Sequence<Text>),
     /// A function is called (2.9.5): its body, and its name with its arguments. In the same turn it is entered, or refused where it is
     /// nested too deep.
     Calling(Shared<Command>, Sequence<Text>),
     /// A text is to be run here (2.15 dot, eval). In the same turn it is entered, or refused where it is nested too deep.
-    Evaluating(TextOrigin, Text),
+    Evaluating(TextRun, Text),
     /// What ran here is done, and ended so.
     Done(CommandStatus),
     /// What ran here is left before its end.

@@ -2,8 +2,8 @@
 ghost use Rattle.std.specs.Prelude.{◌≡◌, IfOk};
 
 use crate::action::{
-    Action, Active, Case, CaseBranch, ExpandedCommand, Finish, ForLoop, Pending, Report, Role,
-    Saved, Stages, Substitution, ToExpand, Undo,
+    Action, Active, Case, CaseBranch, ExpandedCommand, Finish, ForLoop, Pending, ProgramStart,
+    Report, Role, Saved, Stages, Substitution, ToExpand, Undo,
 };
 use sh_base::NoMemory;
 use sh_base::sequence::{Sequence, Text, copies_of};
@@ -25,11 +25,15 @@ impl Copying for Role {
     fn copy(&self, alloc: Global) -> Result<Role, NoMemory> {
         match self {
             Role::NoCommandName => Ok(Role::NoCommandName),
-            Role::Builtin(builtin) => Ok(Role::Builtin(*builtin)),
+            Role::Builtin(invocation) => Ok(Role::Builtin(*invocation)),
             Role::Function(body) => Ok(Role::Function(body.copy(alloc)?)),
             Role::Program => Ok(Role::Program),
-            Role::Exec { is_command } => Ok(Role::Exec {
+            Role::Exec {
+                is_command,
+                is_special,
+            } => Ok(Role::Exec {
                 is_command: *is_command,
+                is_special: *is_special,
             }),
             Role::Compound(command) => Ok(Role::Compound(command.copy(alloc)?)),
             Role::Subshell(list) => Ok(Role::Subshell(list.copy(alloc)?)),
@@ -44,6 +48,7 @@ impl Copying for Undo {
             Ok(variables) => Ok(Undo {
                 descriptors,
                 variables: Sequence::from_vec(variables),
+                redirections_stay: self.redirections_stay,
             }),
             Err(lack) => {
                 drop(descriptors);
@@ -58,6 +63,16 @@ fn copy_texts(alloc: Global, texts: &[Text]) -> Result<Sequence<Text>, NoMemory>
     ensures { IfOk result (λ copies. copies ≡ texts.now) }
 {
     Ok(Sequence::from_vec(copies_of(alloc, texts)?))
+}
+
+impl Copying for ProgramStart {
+    fn copy(&self, alloc: Global) -> Result<ProgramStart, NoMemory> {
+        let fields = copy_texts(alloc, self.fields.as_slice())?;
+        Ok(ProgramStart {
+            fields,
+            ends_shell: self.ends_shell,
+        })
+    }
 }
 
 impl Copying for ExpandedCommand {
@@ -259,6 +274,7 @@ fn copy_completion(alloc: Global, status: &Completion) -> Result<Completion, NoM
         Completion::Done(status) => Ok(Completion::Done(*status)),
         Completion::Left(leave) => Ok(Completion::Left(*leave)),
         Completion::Runs(origin, text) => Ok(Completion::Runs(*origin, text.copy(alloc)?)),
+        Completion::Reads(reader) => Ok(Completion::Reads(reader.copy(alloc)?)),
     }
 }
 
@@ -329,11 +345,10 @@ impl Copying for Action {
             Action::WaitSubstitution(substitution) => {
                 Ok(Action::WaitSubstitution(substitution.copy(alloc)?))
             },
+            Action::ReadLine(reader) => Ok(Action::ReadLine(reader.copy(alloc)?)),
             Action::Redirecting(command) => Ok(Action::Redirecting(command.copy(alloc)?)),
             Action::Forking(command) => Ok(Action::Forking(command.copy(alloc)?)),
-            Action::Starting(fields) => {
-                Ok(Action::Starting(copy_texts(alloc, fields.as_slice())?))
-            },
+            Action::Starting(start) => { Ok(Action::Starting(start.copy(alloc)?)) },
             Action::ForkStage(stages) => Ok(Action::ForkStage(stages.copy(alloc)?)),
             Action::AssignLoopVariable(series) => {
                 Ok(Action::AssignLoopVariable(series.copy(alloc)?))
@@ -368,7 +383,7 @@ impl Copying for Active {
                     },
                 }
             },
-            Active::Evaluating(origin, text) => Ok(Active::Evaluating(*origin, text.copy(alloc)?)),
+            Active::Evaluating(how, text) => Ok(Active::Evaluating(*how, text.copy(alloc)?)),
             Active::Done(status) => Ok(Active::Done(*status)),
             Active::Leaving(leave) => Ok(Active::Leaving(*leave)),
         }

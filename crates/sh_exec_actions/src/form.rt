@@ -6,7 +6,7 @@ use crate::status::CommandStatus;
 use sh_base::NoMemory;
 use sh_base::sequence::{Sequence, Text, copies_of};
 use sh_base::shared::Shared;
-use sh_builtin::TextOrigin;
+use sh_builtin::TextRun;
 use sh_exec_parts::{Copying, Queue, Rest};
 use sh_syntax::tree::{CompoundList, Connected, ElseIf, ListItem, LoopKind};
 use std::alloc::Global;
@@ -109,7 +109,7 @@ pub enum Form {
     /// The body of a function (2.9.5), with the positional parameters of its caller.
     Call(Sequence<Text>),
     /// A text that `eval` or `.` runs (2.15).
-    Evaluation(TextOrigin),
+    Evaluation(TextRun),
     /// The action of a trap on EXIT (2.15 trap), in a shell that ends with this status after it.
     Trapped(u8),
     /// All of a process that was made where failures are ignored: they are ignored there too (2.15, set -e).
@@ -133,7 +133,7 @@ impl Copying for Form {
             Form::Call(positional) => {
                 Ok(Form::Call(Sequence::from_vec(copies_of(alloc, positional.as_slice())?)))
             },
-            Form::Evaluation(origin) => Ok(Form::Evaluation(*origin)),
+            Form::Evaluation(how) => Ok(Form::Evaluation(*how)),
             Form::Trapped(status) => Ok(Form::Trapped(*status)),
             Form::FailuresIgnored => Ok(Form::FailuresIgnored),
         }

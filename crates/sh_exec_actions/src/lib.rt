@@ -11,9 +11,11 @@ pub mod status;
 
 pub use action::{
     Action, Active, Case, CaseBranch, Expanded, ExpandedCommand, Finish, ForLoop, Move, Pending,
-    Report, Role, Saved, Stages, Substitution, ToExpand, Undo,
+    ProgramStart, Report, Role, Saved, Stages, Substitution, ToExpand, Undo,
 };
 pub use form::{Branches, Form, Frame, Loop};
-pub use preparing::{begin_command, first_place, go_ahead, no_undo, not_done, perform, prepare};
+pub use preparing::{
+    begin_command, failing, first_place, go_ahead, no_undo, not_done, perform, prepare,
+};
 pub use served::is_served;
 pub use status::CommandStatus;

@@ -1,14 +1,16 @@
 //! A simple command from its tree to its first place, and from its expanded words to what it does.
 ghost use Rattle.std.specs.Prelude.{◌≡◌, IfOk, [], option_map};
 ghost use Rattle.sh_builtin_environment.specs.Options.{options_and_operands};
-ghost use Rattle.sh_exec_actions.specs.Preparing.{ahead, exec_role, fields_of, first_move, failing, failing_of, first_place, forks, is_exec, nameless, no_undo, not_done, final_move, prepared_of, role_by, role_of, wants_of};
+ghost use Rattle.sh_exec_actions.specs.Preparing.{ahead, command_role, exec_role, fields_of, fields_run, first_move, failing, failing_of, first_place, forks, nameless, no_undo, not_done, final_move, prepared_of, role_behind, role_by, role_run, role_of, staying, wants_of};
 
-use crate::action::{Action, Active, ExpandedCommand, Finish, Move, Role, ToExpand, Undo};
+use crate::action::{
+    Action, Active, ExpandedCommand, Finish, Move, ProgramStart, Role, ToExpand, Undo,
+};
 use crate::status::{CommandStatus, ERROR};
 use sh_base::NoMemory;
 use sh_base::sequence::{Sequence, Text, copies_of};
 use sh_base::shared::Shared;
-use sh_builtin::{Builtin, Functions};
+use sh_builtin::{Builtin, Functions, Invocation, behind_command};
 use sh_builtin_environment::parse_options;
 use sh_exec_parts::Queue;
 use sh_exec_parts::message::not_redirected;
@@ -28,7 +30,17 @@ pub fn no_undo(alloc: Global) -> Undo
     Undo {
         descriptors: Sequence::new(alloc),
         variables: Sequence::new(alloc),
+        redirections_stay: false,
     }
+}
+
+/// What `exec` changed, whose redirections stay.
+fn staying(undo: Undo) -> Undo
+    ensures { result ≡ staying undo }
+{
+    let mut undo = undo;
+    undo.redirections_stay = true;
+    undo
 }
 
 /// A command of assignments alone.
@@ -84,11 +96,11 @@ fn role_by(builtin: Option<Builtin>, body: Option<&Shared<Command>>) -> Result<R
         Some(builtin) => match body {
             Some(body) => {
                 if builtin.is_special() {
-                    return Ok(Role::Builtin(builtin));
+                    return Ok(Role::Builtin(Invocation::by_name(builtin)));
                 }
                 Ok(Role::Function(body.share()?))
             },
-            None => Ok(Role::Builtin(builtin)),
+            None => Ok(Role::Builtin(Invocation::by_name(builtin))),
         },
         None => match body {
             Some(body) => Ok(Role::Function(body.share()?)),
@@ -97,23 +109,27 @@ fn role_by(builtin: Option<Builtin>, body: Option<&Shared<Command>>) -> Result<R
     }
 }
 
+/// What runs the command of a name behind `command`.
+fn command_role(builtin: Option<Builtin>) -> Role
+    ensures { result ≡ command_role builtin }
+{
+    match builtin {
+        Some(builtin) => Role::Builtin(Invocation::by_command(builtin)),
+        None => Role::Program,
+    }
+}
+
 /// What runs `exec` with these arguments.
-fn exec_role(arguments: &[Text]) -> Role
-    ensures { result ≡ exec_role (options_and_operands [] arguments.now) }
+fn exec_role(exec: Invocation, arguments: &[Text]) -> Role
+    ensures { result ≡ exec_role exec (options_and_operands [] arguments.now) }
 {
     match parse_options(b"", arguments) {
         Some((_, operands)) => Role::Exec {
             is_command: !operands.is_empty(),
+            is_special: exec.is_special,
         },
-        None => Role::Builtin(Builtin::Exec),
+        None => Role::Builtin(exec),
     }
-}
-
-/// Whether this is the name of `exec`.
-fn is_exec(name: &[u8]) -> bool
-    ensures { result ≡ is_exec name.now }
-{
-    name == b"exec".as_slice()
 }
 
 /// The name of the command that is run, and its arguments.
@@ -122,7 +138,7 @@ fn fields_of(words: &[Text]) -> &[Text]
 {
     match words.split_first() {
         Some((name, arguments)) => {
-            if !is_exec(name.as_slice()) {
+            if !Builtin::Exec.is_named(name.as_slice()) {
                 return words;
             }
             match parse_options(b"", arguments) {
@@ -140,8 +156,8 @@ fn role_of(functions: &Functions, fields: &[Text]) -> Result<Role, NoMemory>
 {
     match fields.split_first() {
         Some((name, arguments)) => {
-            if is_exec(name.as_slice()) {
-                return Ok(exec_role(arguments));
+            if Builtin::Exec.is_named(name.as_slice()) {
+                return Ok(exec_role(Invocation::by_name(Builtin::Exec), arguments));
             }
             role_by(
                 Builtin::of(name.as_slice()),
@@ -149,6 +165,46 @@ fn role_of(functions: &Functions, fields: &[Text]) -> Result<Role, NoMemory>
             )
         },
         None => Ok(Role::NoCommandName),
+    }
+}
+
+/// What runs the command of these fields behind `command`.
+fn role_behind(fields: &[Text]) -> Role
+    ensures { result ≡ role_behind fields.now }
+{
+    match fields.split_first() {
+        Some((name, arguments)) => {
+            if Builtin::Exec.is_named(name.as_slice()) {
+                return exec_role(Invocation::by_command(Builtin::Exec), arguments);
+            }
+            command_role(Builtin::of(name.as_slice()))
+        },
+        None => Role::NoCommandName,
+    }
+}
+
+/// What runs the words of a simple command, where `command` is before those behind it.
+fn role_run(
+    functions: &Functions,
+    words: &[Text],
+    behind: Option<&[Text]>,
+) -> Result<Role, NoMemory>
+    ensures { IfOk result (λ role.
+        role ≡ role_run functions.now words.now (option_map (λ words. words.now) behind.entry)) }
+{
+    match behind {
+        Some(behind) => Ok(role_behind(behind)),
+        None => role_of(functions, words),
+    }
+}
+
+/// The fields of the command that is run.
+fn fields_run<'a>(words: &'a [Text], behind: Option<&'a [Text]>) -> &'a [Text]
+    ensures { result.now ≡ fields_run words.now (option_map (λ words. words.now) behind.entry) }
+{
+    match behind {
+        Some(behind) => fields_of(behind),
+        None => fields_of(words),
     }
 }
 
@@ -168,10 +224,11 @@ pub fn prepare(
     let (words, redirects) = split_fields(fields, redirect_count(items));
     let redirections = prepared_redirections(alloc, items, redirects, vars.options().no_clobber)?;
     let assignments = assignments_of(alloc, items)?;
-    let role = role_of(functions, words)?;
+    let behind = behind_command(functions, words);
+    let role = role_run(functions, words, behind)?;
     Ok(ExpandedCommand {
         role,
-        fields: Sequence::from_vec(copies_of(alloc, fields_of(words))?),
+        fields: Sequence::from_vec(copies_of(alloc, fields_run(words, behind))?),
         redirections,
         assignments: Queue::new(assignments),
         undo: no_undo(alloc),
@@ -179,8 +236,8 @@ pub fn prepare(
     })
 }
 
-/// What follows the message of an error.
-fn failing(is_special: bool) -> Finish
+/// What follows the message of an error (XCU 2.8.1): the shell ends, or the command is done, with the status 2. Takes no memory.
+pub fn failing(is_special: bool) -> Finish
     ensures { result ≡ failing is_special }
 {
     if is_special {
@@ -195,13 +252,20 @@ fn failing_of(role: Role) -> Finish
 {
     match role {
         Role::NoCommandName => Finish::Status(ERROR),
-        Role::Builtin(builtin) => failing(builtin.is_special()),
+        Role::Builtin(invocation) => failing(invocation.is_special),
         Role::Function(_) => Finish::Status(ERROR),
         Role::Program => Finish::Fault(ERROR),
-        Role::Exec { .. } => Finish::Fault(ERROR),
+        Role::Exec { is_special, .. } => failing(is_special),
         Role::Compound(_) => Finish::Status(ERROR),
         Role::Subshell(_) => Finish::Status(ERROR),
     }
+}
+
+/// A program is started next.
+fn starting(fields: Sequence<Text>, ends_shell: bool) -> Active
+    ensures { result ≡ Active.Next (Action.Starting (record { fields = fields; ends_shell = ends_shell })) }
+{
+    Active::Next(Action::Starting(ProgramStart { fields, ends_shell }))
 }
 
 /// What a command does, once all else is done.
@@ -218,11 +282,20 @@ pub fn perform(prepared: ExpandedCommand) -> Move
     } = prepared;
     match role {
         Role::NoCommandName => Move::Held(undo, Active::Done(CommandStatus::unexcused(status))),
-        Role::Builtin(builtin) => Move::Held(undo, Active::Acting(builtin, fields)),
+        Role::Builtin(invocation) => Move::Held(undo, Active::Acting(invocation, fields)),
         Role::Function(body) => Move::Held(undo, Active::Calling(body, fields)),
-        Role::Program => Move::At(Active::Next(Action::Starting(fields))),
-        Role::Exec { is_command: true } => Move::At(Active::Next(Action::Starting(fields))),
-        Role::Exec { is_command: false } => Move::At(Active::Done(CommandStatus::unexcused(0))),
+        Role::Program => Move::At(starting(fields, true)),
+        Role::Exec {
+            is_command: true,
+            is_special,
+        } => Move::Held(staying(undo), starting(fields, is_special)),
+        Role::Exec {
+            is_command: false,
+            ..
+        } => {
+            let done = Active::Done(CommandStatus::unexcused(0));
+            Move::Held(staying(undo), done)
+        },
         Role::Compound(command) => Move::Compound(undo, command),
         Role::Subshell(list) => Move::Subshell(list),
     }

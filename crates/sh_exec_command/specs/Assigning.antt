@@ -1,6 +1,5 @@
 -- The assignments of a simple command (XCU 2.9.1.2), from left to right, each seeing those before it.
-use Rattle.std.specs.Prelude.{ℕ, List, [], ◌∷◌, ◌++◌, not, ◌&&◌, Bool, true, false, Option, None, slice_get, unwrap_or, if◌then◌else◌}
-use Rattle.sh_builtin.specs.Builtins.{is_special}
+use Rattle.std.specs.Prelude.{ℕ, List, [], ◌∷◌, ◌++◌, not, ◌&&◌, ◌||◌, Bool, true, false, Option, None, slice_get, unwrap_or, if◌then◌else◌}
 use Rattle.sh_exec_parts.specs.Messages.{fault_text, read_only}
 use Rattle.sh_exec_parts.specs.declared.simple.Assignment.{Assignment}
 use Rattle.sh_exec_command.specs.Answers.{expansion_with}
@@ -25,14 +24,14 @@ use Rattle.sh_syntax.specs.declared.tree.Parts.{Parts}
 use Rattle.sh_vars.specs.Environment.{Environment, is_read_only, with_export, with_value}
 use Rattle.sh_base.specs.Names.{is_name}
 
--- before a function, a built-in that isn't special and a program, also behind exec, the variable is exported while that runs; before a special built-in,
--- and without a command name, it is set and stays (2.9.1.2, 2.15); a compound command has no assignments
+-- before a function, a built-in that isn't run as a special one, and a program, also behind exec, the variable is exported while that runs;
+-- before a special built-in, and without a command name, it is set and stays (2.9.1.2, 2.15); a compound command has no assignments
 abbrev pub is_passing : Role → Bool
 is_passing role.NoCommandName = false
-is_passing (role.Builtin builtin) = not (is_special builtin)
+is_passing (role.Builtin invocation) = not invocation.is_special
 is_passing (role.Function body) = true
 is_passing role.Program = true
-is_passing (role.Exec is_command) = is_command
+is_passing (role.Exec is_command is_special) = is_command || not is_special
 is_passing (role.Compound command) = false
 is_passing (role.Subshell list) = false
 
@@ -42,10 +41,10 @@ with_assigned r env name value = if is_passing r then with_export (with_value en
 -- how it is undone: a program's process keeps it
 abbrev pub is_undone : Role → Bool
 is_undone role.NoCommandName = false
-is_undone (role.Builtin builtin) = not (is_special builtin)
+is_undone (role.Builtin invocation) = not invocation.is_special
 is_undone (role.Function body) = true
 is_undone role.Program = false
-is_undone (role.Exec is_command) = false
+is_undone (role.Exec is_command is_special) = not is_special
 is_undone (role.Compound command) = false
 is_undone (role.Subshell list) = false
 

@@ -39,10 +39,13 @@ fn is_passing(role: &Role) -> bool
 {
     match role {
         Role::NoCommandName => false,
-        Role::Builtin(builtin) => !builtin.is_special(),
+        Role::Builtin(invocation) => !invocation.is_special,
         Role::Function(_) => true,
         Role::Program => true,
-        Role::Exec { is_command } => *is_command,
+        Role::Exec {
+            is_command,
+            is_special,
+        } => *is_command || !*is_special,
         Role::Compound(_) => false,
         Role::Subshell(_) => false,
     }
@@ -54,10 +57,10 @@ fn is_undone(role: &Role) -> bool
 {
     match role {
         Role::NoCommandName => false,
-        Role::Builtin(builtin) => !builtin.is_special(),
+        Role::Builtin(invocation) => !invocation.is_special,
         Role::Function(_) => true,
         Role::Program => false,
-        Role::Exec { .. } => false,
+        Role::Exec { is_special, .. } => !*is_special,
         Role::Compound(_) => false,
         Role::Subshell(_) => false,
     }

@@ -26,7 +26,7 @@ over_stays : (around : List Form) (form : Form) (s : KernelState) (shell : Shell
 unfolding after
 over_stays around form s shell (At (Acting builtin fields)) h = refl
 over_stays around form s shell (At (Calling body fields)) h = refl
-over_stays around form s shell (At (Evaluating origin text)) h = refl
+over_stays around form s shell (At (Evaluating how text)) h = refl
 over_stays around form s shell (At (Next place)) h = refl
 over_stays around form s shell (At (Done status)) h = absurd (cc h)
 over_stays around form s shell (At (Leaving leave)) h = absurd (cc h)
@@ -117,7 +117,7 @@ onward kernel shell forms active later shell' forms' step a g h = subst (IsOnWay
 within_stays : (errexit : Bool) (around : List Form) (run : Run) → is_over run ≡ false → within_run errexit around run ≡ run
 within_stays errexit around (At (Acting builtin fields)) h = refl
 within_stays errexit around (At (Calling body fields)) h = refl
-within_stays errexit around (At (Evaluating origin text)) h = refl
+within_stays errexit around (At (Evaluating how text)) h = refl
 within_stays errexit around (At (Next place)) h = refl
 within_stays errexit around (At (Done status)) h = absurd (cc h)
 within_stays errexit around (At (Leaving leave)) h = absurd (cc h)

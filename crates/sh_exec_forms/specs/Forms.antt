@@ -121,7 +121,7 @@ left_within called false (leave.Continue inside) = Done (unexcused 0)
 abbrev pub within : (errexit : Bool) → (around : List Form) → Active → Active
 within errexit around (Acting builtin fields) = Acting builtin fields
 within errexit around (Calling body fields) = Calling body fields
-within errexit around (Evaluating origin text) = Evaluating origin text
+within errexit around (Evaluating how text) = Evaluating how text
 within errexit around (Next place) = Next place
 within errexit around (Done ended) = ended_within errexit (is_failure_ignored around || ends_action around) ended
 within errexit around (Leaving leave) = left_within (may_return around) (has_loop around) leave
@@ -158,10 +158,10 @@ loop_left s shell next (Left leave) = with_run s shell (At (Leaving leave))
 loop_left s shell next Over = with_run s shell (At (Done (unexcused 0)))
 loop_left s shell next On = with_run s (behind_status shell 0) next
 
--- what a command changed is undone (2.9.1): its redirections, and then its assignments
+-- what a command changed is undone (2.9.1): its redirections, unless they stay (2.15 exec), and then its assignments
 unfoldable pub undone : Undo → KernelState → Shell → Run → Acted
 undone undo s shell run =
-    with_run (descriptors.all_restored shell.pid undo.descriptors s)
+    with_run (descriptors.after_redirections undo.redirections_stay shell.pid undo.descriptors s)
     (record shell { vars = variables.all_restored undo.variables shell.vars }) run
 
 -- ---- after a function's body (2.9.5): the positional parameters are the caller's again, and its status is that of a command there
@@ -194,7 +194,7 @@ after_status around (Condition loop last) s shell ended = with_run s (behind_sta
 after_status around (Body loop) s shell ended = with_run s (behind_status shell ended.status) (condition_run loop ended)
 after_status around (ForBody series) s shell ended = with_run s (behind_status shell ended.status) (At (rest_of_series series ended))
 after_status around (Call positional) s shell ended = with_run s (with_parameters shell positional) (At (returned around shell ended.status))
-after_status around (Evaluation origin) s shell ended = with_run s shell (At (Done ended))
+after_status around (Evaluation how) s shell ended = with_run s shell (At (Done ended))
 after_status around (Trapped status) s shell ended = with_run s shell (At (Next (Ending status)))
 after_status around FailuresIgnored s shell ended = with_run s shell (At (Done ended))
 
@@ -210,7 +210,7 @@ after_leave around (Body loop) s shell leave = loop_left s shell (condition_run 
 after_leave around (ForBody series) s shell leave =
     loop_left s shell (At (rest_of_series series (unexcused 0))) (onward (has_loop around) leave)
 after_leave around (Call positional) s shell leave = with_run s (with_parameters shell positional) (At (after_call around leave shell))
-after_leave around (Evaluation origin) s shell leave = with_run s shell (At (after_text around origin leave shell))
+after_leave around (Evaluation how) s shell leave = with_run s shell (At (after_text around how.origin leave shell))
 after_leave around (Trapped status) s shell leave = with_run s shell (At (Next (Ending (shell_status leave))))
 after_leave around FailuresIgnored s shell leave = with_run s shell (At (Leaving leave))
 
@@ -219,7 +219,7 @@ after_by around form s shell (At (Done ended)) = after_status around form s shel
 after_by around form s shell (At (Leaving leave)) = after_leave around form s shell leave
 after_by around form s shell (At (Acting builtin fields)) = with_run s shell (In form (At (Acting builtin fields)))
 after_by around form s shell (At (Calling body fields)) = with_run s shell (In form (At (Calling body fields)))
-after_by around form s shell (At (Evaluating origin text)) = with_run s shell (In form (At (Evaluating origin text)))
+after_by around form s shell (At (Evaluating how text)) = with_run s shell (In form (At (Evaluating how text)))
 after_by around form s shell (At (Next place)) = with_run s shell (In form (At (Next place)))
 after_by around form s shell (In inner run) = with_run s shell (In form (In inner run))
 

@@ -33,7 +33,7 @@ frames_of run = reverse (framed (path_of run))
 abbrev pub is_over : Run → Bool
 is_over (At (Acting builtin fields)) = false
 is_over (At (Calling body fields)) = false
-is_over (At (Evaluating origin text)) = false
+is_over (At (Evaluating how text)) = false
 is_over (At (Next place)) = false
 is_over (At (Done status)) = true
 is_over (At (Leaving leave)) = true

@@ -1,9 +1,10 @@
 //! Built-ins act, and functions and texts are entered.
 ghost use Rattle.std.specs.Prelude.{◌≡◌, ◌∷◌, IfOk, OnOk, drop};
 ghost use Rattle.sh_exec_command.specs.Expanding.{fatal};
-ghost use Rattle.sh_exec_forms.specs.Builtins.{at_completion, behind, builtin_effect, call, effect_at, evaluation, output_of, performed, reported, with_parameters};
+ghost use Rattle.sh_exec_forms.specs.Builtins.{builtin_effect, call, effect_at, evaluation, performed, with_parameters};
 ghost use Rattle.sh_exec_forms.specs.Forms.{HasPerformed};
 ghost use Rattle.sh_exec_frames.specs.Frames.{last_for, levels_left};
+ghost use Rattle.sh_exec_frames.specs.Reporting.{behind};
 ghost use Rattle.sh_exec_parts.specs.Messages.{refusal_text};
 ghost use Rattle.sh_exec_parts.specs.declared.message.Refusal.TheVariants as refusal;
 ghost use Rattle.sh_kernel.specs.State.{KernelState, StandsAt};
@@ -13,71 +14,15 @@ use crate::step::Step;
 use sh_base::NoMemory;
 use sh_base::sequence::{Sequence, Text, copies_of};
 use sh_base::shared::Shared;
-use sh_builtin::{Builtin, Completion, Outcome, Shell, TextOrigin};
-use sh_exec_actions::{Action, Active, CommandStatus, Finish, Form, Report};
+use sh_builtin::{Invocation, Shell, TextRun};
+use sh_exec_actions::{Action, Active, Form};
 use sh_exec_command::fatal_message;
-use sh_exec_frames::Frames;
-use sh_exec_parts::message::{Piece, Refusal, refused};
-use sh_exec_parts::{Queue, Rest};
+use sh_exec_frames::{Frames, behind};
+use sh_exec_parts::Rest;
+use sh_exec_parts::message::{Refusal, refused};
 use sh_kernel::Kernel;
 use sh_syntax::tree::Command;
 use std::alloc::Global;
-
-/// How a built-in ends.
-fn at_completion(status: Completion) -> Active
-    ensures { result ≡ at_completion status }
-{
-    match status {
-        Completion::Done(status) => Active::Done(CommandStatus::unexcused(status)),
-        Completion::Left(leave) => Active::Leaving(leave),
-        Completion::Runs(origin, text) => Active::Evaluating(origin, text),
-    }
-}
-
-/// What follows where a built-in has still to say something: the next of its messages is written, or it ends. Takes no memory.
-pub fn reported(report: Report) -> Active
-    ensures { result ≡ reported report }
-{
-    let Report {
-        mut messages,
-        status,
-    } = report;
-    match messages.take() {
-        Some(bytes) => {
-            let piece = Piece {
-                descriptor: 2,
-                bytes,
-            };
-            Active::Next(Action::Writing(piece, Finish::Messages(Report { messages, status })))
-        },
-        None => at_completion(status),
-    }
-}
-
-/// What follows when a built-in has output to write: where that is empty, what it has still to say.
-fn written(builtin: Builtin, bytes: Text, report: Report) -> Active
-    ensures { result ≡ output_of builtin bytes report }
-{
-    if bytes.is_empty() {
-        return reported(report);
-    }
-    let piece = Piece {
-        descriptor: 1,
-        bytes,
-    };
-    Active::Next(Action::Writing(piece, Finish::Output(builtin, report)))
-}
-
-/// What follows when a built-in has acted.
-fn behind(builtin: Builtin, outcome: Outcome) -> Active
-    ensures { result ≡ behind builtin outcome }
-{
-    let report = Report {
-        messages: Queue::new(outcome.err),
-        status: outcome.status,
-    };
-    written(builtin, outcome.out, report)
-}
 
 /// The arguments after a built-in's name.
 fn arguments_of(fields: &[Text]) -> &[Text]
@@ -103,17 +48,17 @@ fn evaluate(
     alloc: Global,
     shell: &Shell,
     frames: &mut Frames,
-    origin: TextOrigin,
+    how: TextRun,
     text: Text,
 ) -> Result<Step, NoMemory>
     ensures { IfOk result (λ step. HasPerformed shell.now frames.new frames.old step
-        (evaluation (levels_left frames.old) shell.now origin text)) }
+        (evaluation (levels_left frames.old) shell.now how text)) }
 {
     if frames.levels_left() == 0 {
         drop(text);
         return too_deep(alloc);
     }
-    match frames.push(Form::Evaluation(origin)) {
+    match frames.push(Form::Evaluation(how)) {
         Ok(()) => Ok(Step::Inward(Active::Next(Action::Reading(Rest::new(text), 0)))),
         Err(lack) => {
             drop(text);
@@ -182,13 +127,15 @@ fn step_at(
         (performed (levels_left frames.old) shell.old active)) }
 {
     match active {
-        Active::Acting(builtin, fields) => Ok(Step::Inward(Active::Acting(builtin, fields))),
+        Active::Acting(invocation, fields) => {
+            Ok(Step::Inward(Active::Acting(invocation, fields)))
+        },
         Active::Calling(body, fields) => {
             let arguments = arguments_of(fields.as_slice());
             let step = call(alloc, shell, frames, &body, arguments)?;
             Ok(step)
         },
-        Active::Evaluating(origin, text) => evaluate(alloc, shell, frames, origin, text),
+        Active::Evaluating(how, text) => evaluate(alloc, shell, frames, how, text),
         Active::Next(place) => Ok(Step::Inward(Active::Next(place))),
         Active::Done(ended) => Ok(Step::Outward(Active::Done(ended))),
         Active::Leaving(leave) => Ok(Step::Outward(Active::Leaving(leave))),
@@ -202,16 +149,16 @@ fn build(
     kernel: &Kernel,
     shell: &mut Shell,
     frames: &mut Frames,
-    builtin: Builtin,
+    invocation: Invocation,
     fields: &[Text],
 ) -> Result<Step, NoMemory>
     ensures { (s : KernelState) → StandsAt kernel.now s → IfOk result (λ step.
         HasPerformed shell.new frames.new frames.old step
-        (builtin_effect frames.old s shell.old builtin fields.now)) }
+        (builtin_effect frames.old s shell.old invocation fields.now)) }
 {
-    let last = frames.last_for(builtin, shell.vars.status());
-    let outcome = builtin.run(alloc, kernel, shell, last, arguments_of(fields))?;
-    let step = step_at(alloc, shell, frames, behind(builtin, outcome))?;
+    let last = frames.last_for(invocation.builtin, shell.vars.status());
+    let outcome = invocation.run(alloc, kernel, shell, last, arguments_of(fields))?;
+    let step = step_at(alloc, shell, frames, behind(invocation.builtin, outcome))?;
     Ok(step)
 }
 
@@ -228,8 +175,8 @@ pub(crate) fn perform(
         (effect_at frames.old s shell.old active)) }
 {
     match active {
-        Active::Acting(builtin, fields) => {
-            let step = build(alloc, kernel, shell, frames, builtin, fields.as_slice())?;
+        Active::Acting(invocation, fields) => {
+            let step = build(alloc, kernel, shell, frames, invocation, fields.as_slice())?;
             Ok(step)
         },
         other => {

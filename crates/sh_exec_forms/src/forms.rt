@@ -18,7 +18,7 @@ use sh_builtin::{Leave, Shell, TextOrigin};
 use sh_exec_actions::{Action, Active, Branches, CommandStatus, Form, Undo};
 use sh_exec_command::restore_variables;
 use sh_exec_frames::Frames;
-use sh_exec_machine::restore_all;
+use sh_exec_machine::end_redirections;
 use sh_exec_parts::Queue;
 use sh_kernel::Kernel;
 use sh_syntax::tree::{CompoundList, Connected, Connector, ElseIf};
@@ -148,8 +148,9 @@ fn undo(
     let Undo {
         descriptors,
         variables,
+        redirections_stay,
     } = undo;
-    restore_all(kernel, shell.pid, descriptors);
+    end_redirections(kernel, shell.pid, descriptors, redirections_stay);
     match restore_variables(&mut shell.vars, variables) {
         Ok(()) => Ok(active),
         Err(refusal) => {
@@ -290,7 +291,9 @@ fn leave_form(
             shell.vars.set_positional(positional.into_vec());
             Ok(Step::Outward(active))
         },
-        Form::Evaluation(origin) => Ok(Step::Outward(leave_text(frames, shell, origin, leave))),
+        Form::Evaluation(how) => {
+            Ok(Step::Outward(leave_text(frames, shell, how.origin, leave)))
+        },
         Form::Trapped(_) => {
             Ok(Step::Inward(Active::Next(Action::Ending(leave.shell_status()))))
         },
@@ -317,7 +320,7 @@ fn go_outward(
         Active::Next(place) => Ok(Step::Inward(Active::Next(place))),
         Active::Acting(builtin, fields) => Ok(Step::Inward(Active::Acting(builtin, fields))),
         Active::Calling(body, fields) => Ok(Step::Inward(Active::Calling(body, fields))),
-        Active::Evaluating(origin, text) => Ok(Step::Inward(Active::Evaluating(origin, text))),
+        Active::Evaluating(how, text) => Ok(Step::Inward(Active::Evaluating(how, text))),
         Active::Done(ended) => match frames.pop() {
             Some(form) => end_form(alloc, kernel, shell, frames, form, ended),
             None => Ok(Step::Inward(Active::Done(ended))),
@@ -353,8 +356,8 @@ fn settle_outward(
     }
 }
 
-/// A built-in acts where one is to, a text that it runs is entered, and statuses go outward until the place is an action. The only error is want of memory, after
-/// which the shell is given up.
+/// A built-in acts where one is to, a text that it runs is entered, and statuses go outward until the place is an action. The only error
+/// is want of memory, after which the shell is given up.
 pub fn settle(
     alloc: Global,
     kernel: &mut Kernel,

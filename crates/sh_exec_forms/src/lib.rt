@@ -10,7 +10,6 @@ mod loops;
 mod moves;
 mod step;
 
-pub use acting::reported;
 pub use bodies::{body_of, stage};
 pub use entering::{enter, enter_list};
 pub use forms::settle;

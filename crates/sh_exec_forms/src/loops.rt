@@ -91,7 +91,7 @@ pub(crate) fn within(frames: &Frames, errexit: bool, active: Active) -> Active
     match active {
         Active::Acting(builtin, fields) => Active::Acting(builtin, fields),
         Active::Calling(body, fields) => Active::Calling(body, fields),
-        Active::Evaluating(origin, text) => Active::Evaluating(origin, text),
+        Active::Evaluating(how, text) => Active::Evaluating(how, text),
         Active::Next(place) => Active::Next(place),
         Active::Done(ended) => {
             let ignored = frames.is_failure_ignored() || frames.ends_action();

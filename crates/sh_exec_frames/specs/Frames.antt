@@ -2,8 +2,8 @@
 use Rattle.std.specs.Option.{is_some, option_or, unwrap_or}
 use Rattle.std.specs.Prelude.{ℕ, List, [], ◌∷◌, map, ◌||◌, ◌&&◌, not, Bool, true, false, Option, Some, None, if◌then◌else◌}
 use Rattle.sh_builtin.specs.declared.builtin.Builtin.{Builtin}
-use Rattle.sh_builtin.specs.declared.builtin.Builtin.TheVariants.{Bracket, Break, Cd, Colon, Continue, Dot, Echo, Eval, Exec, Exit, Export, False, Pwd, ReadOnly, Return, Set, Shift, Test, Trap, True, Unset}
-use Rattle.sh_exec_frames.specs.Kinds.{before_trap, ignores_failure, is_call, is_loop, levels_inside, most_levels, takes_return}
+use Rattle.sh_builtin.specs.declared.builtin.Builtin.TheVariants.{Bracket, Break, Cd, Colon, Command, Continue, Dot, Echo, Eval, Exec, Exit, Export, False, Pwd, Read, ReadOnly, Return, Set, Shift, Test, Trap, True, Unset}
+use Rattle.sh_exec_frames.specs.Kinds.{before_trap, ignores_failure, is_call, is_loop, levels_inside, most_levels, refusal_ends, takes_return}
 use Rattle.sh_exec_actions.specs.declared.form.Form.{Form}
 use Rattle.sh_exec_actions.specs.declared.form.Form.TheVariants.{FailuresIgnored}
 use Rattle.sh_exec_actions.specs.declared.form.Frame.{Frame}
@@ -23,7 +23,8 @@ abbrev pub is_failure_ignored : List Form → Bool
 is_failure_ignored [] = false
 is_failure_ignored (form ∷ around) = ignores_failure form || is_failure_ignored around
 
--- how many more calls of functions, texts that `eval` and `.` run (2.15), and actions of traps there may be inside some forms, one in another
+-- how many more calls of functions, texts that `eval` and `.` run (2.15), and actions of traps there may be inside some forms, one in
+-- another
 abbrev pub levels_left : List Form → ℕ
 levels_left [] = most_levels
 levels_left (form ∷ around) = levels_inside form (levels_left around)
@@ -41,6 +42,7 @@ last_for around Bracket last = last
 last_for around Break last = last
 last_for around Cd last = last
 last_for around Colon last = last
+last_for around Command last = last
 last_for around Continue last = last
 last_for around Dot last = last
 last_for around Echo last = last
@@ -50,6 +52,7 @@ last_for around Exit last = unwrap_or (before_action false around) last
 last_for around Export last = last
 last_for around False last = last
 last_for around Pwd last = last
+last_for around Read last = last
 last_for around ReadOnly last = last
 last_for around Return last = unwrap_or (before_action true around) last
 last_for around Set last = last
@@ -58,6 +61,11 @@ last_for around Test last = last
 last_for around Trap last = last
 last_for around True last = last
 last_for around Unset last = last
+
+-- whether a text that is refused right inside some forms ends the shell (2.8.1)
+abbrev pub ends_shell : List Form → Bool
+ends_shell [] = true
+ends_shell (form ∷ around) = refusal_ends form
 
 -- whether what is done right inside some forms is a trap's action as a whole, which is no command
 abbrev pub ends_action : List Form → Bool

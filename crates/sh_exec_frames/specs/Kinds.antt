@@ -1,5 +1,6 @@
 -- What holds of a running form by its kind.
 use Rattle.std.specs.Prelude.{ℕ, ◌-◌, Bool, true, false, Option, Some, None}
+use Rattle.sh_builtin.specs.declared.outcome.TextOrigin.{TextOrigin}
 use Rattle.sh_builtin.specs.declared.outcome.TextOrigin.TheVariants.{Eval, DotScript}
 use Rattle.sh_exec_actions.specs.declared.form.Form.{Form}
 use Rattle.sh_exec_actions.specs.declared.form.Form.TheVariants.{Text, Commands, Joined, Negated, Restoring, If, Condition, Body, ForBody, Call, Evaluation, Trapped, FailuresIgnored}
@@ -16,7 +17,7 @@ is_loop (Condition loop last) = true
 is_loop (Body loop) = true
 is_loop (ForBody series) = true
 is_loop (Call positional) = false
-is_loop (Evaluation origin) = false
+is_loop (Evaluation how) = false
 is_loop (Trapped status) = false
 is_loop FailuresIgnored = false
 
@@ -32,9 +33,13 @@ is_call (Condition loop last) = false
 is_call (Body loop) = false
 is_call (ForBody series) = false
 is_call (Call positional) = true
-is_call (Evaluation origin) = false
+is_call (Evaluation how) = false
 is_call (Trapped status) = false
 is_call FailuresIgnored = false
+
+abbrev pub is_dot_script : TextOrigin → Bool
+is_dot_script Eval = false
+is_dot_script DotScript = true
 
 -- the bodies of functions and dot scripts, which `return` ends (2.15 return)
 abbrev pub takes_return : Form → Bool
@@ -48,10 +53,25 @@ takes_return (Condition loop last) = false
 takes_return (Body loop) = false
 takes_return (ForBody series) = false
 takes_return (Call positional) = true
-takes_return (Evaluation Eval) = false
-takes_return (Evaluation DotScript) = true
+takes_return (Evaluation how) = is_dot_script how.origin
 takes_return (Trapped status) = false
 takes_return FailuresIgnored = false
+
+-- ---- whether a text that is refused right inside a form ends a shell that isn't interactive (2.8.1): not where `command` has it run
+abbrev pub refusal_ends : Form → Bool
+refusal_ends (Text rest) = true
+refusal_ends (Commands items) = true
+refusal_ends (Joined others) = true
+refusal_ends Negated = true
+refusal_ends (Restoring undo) = true
+refusal_ends (If branches) = true
+refusal_ends (Condition loop last) = true
+refusal_ends (Body loop) = true
+refusal_ends (ForBody series) = true
+refusal_ends (Call positional) = true
+refusal_ends (Evaluation how) = how.is_special
+refusal_ends (Trapped status) = true
+refusal_ends FailuresIgnored = true
 
 -- ---- whether `set -e` takes no notice of a failure inside a form, whatever is around it (2.15, set): in a condition, in a pipeline of an
 -- AND-OR list that isn't its last, after `!`, and in a process that was made where this was so
@@ -66,11 +86,12 @@ ignores_failure (Condition loop last) = true
 ignores_failure (Body loop) = false
 ignores_failure (ForBody series) = false
 ignores_failure (Call positional) = false
-ignores_failure (Evaluation origin) = false
+ignores_failure (Evaluation how) = false
 ignores_failure (Trapped status) = false
 ignores_failure FailuresIgnored = true
 
--- ---- calls of functions, texts that are run (2.15 dot, eval), and actions of traps, inside one another: with none around there may be so many
+-- ---- calls of functions, texts that are run (2.15 dot, eval), and actions of traps, inside one another: with none around there may be so
+-- many
 abbrev pub most_levels : ℕ
 most_levels = 1000
 
@@ -86,7 +107,7 @@ levels_inside (Condition loop last) levels = levels
 levels_inside (Body loop) levels = levels
 levels_inside (ForBody series) levels = levels
 levels_inside (Call positional) levels = levels - 1
-levels_inside (Evaluation origin) levels = levels - 1
+levels_inside (Evaluation how) levels = levels - 1
 levels_inside (Trapped status) levels = levels - 1
 levels_inside FailuresIgnored levels = levels
 
@@ -102,6 +123,6 @@ before_trap (Condition loop last) = None
 before_trap (Body loop) = None
 before_trap (ForBody series) = None
 before_trap (Call positional) = None
-before_trap (Evaluation origin) = None
+before_trap (Evaluation how) = None
 before_trap (Trapped status) = Some status
 before_trap FailuresIgnored = None

@@ -1,9 +1,10 @@
 //! The running forms of a shell.
 ghost use Rattle.std.specs.Prelude.{◌≡◌, ◌∷◌, [], IfOk, MatchOption, OnOk, reverse};
-ghost use Rattle.sh_exec_frames.specs.Frames.{before_action, ends_action, forms_in, framed, has_loop, is_failure_ignored, last_for, levels_left, may_return, root_forms};
+ghost use Rattle.sh_exec_frames.specs.Frames.{before_action, ends_action, ends_shell, forms_in, framed, has_loop, is_failure_ignored, last_for, levels_left, may_return, root_forms};
 
 use crate::kinds::{
-    MOST_LEVELS, before_trap, ignores_failure, is_call, is_loop, levels_inside, takes_return,
+    MOST_LEVELS, before_trap, ignores_failure, is_call, is_loop, levels_inside, refusal_ends,
+    takes_return,
 };
 use sh_base::NoMemory;
 use sh_builtin::Builtin;
@@ -122,7 +123,8 @@ impl Frames {
     }
 
     /// The status with which a built-in leaves inside them where it has no operand (2.15 exit, return): `$?`, which is `last`, but in the
-    /// action of a trap what `$?` was before it. `return` in a function that the action calls, or in a dot script of it, is a return from that.
+    /// action of a trap what `$?` was before it. `return` in a function that the action calls, or in a dot script of it, is a return from
+    /// that.
     pub fn last_for(&self, builtin: Builtin, last: u8) -> u8
         ensures { result ≡ last_for self.now builtin last }
     {
@@ -131,6 +133,7 @@ impl Frames {
             Builtin::Break => last,
             Builtin::Cd => last,
             Builtin::Colon => last,
+            Builtin::Command => last,
             Builtin::Continue => last,
             Builtin::Dot => last,
             Builtin::Echo => last,
@@ -140,6 +143,7 @@ impl Frames {
             Builtin::Export => last,
             Builtin::False => last,
             Builtin::Pwd => last,
+            Builtin::Read => last,
             Builtin::ReadOnly => last,
             Builtin::Return => before_action(self.frames.as_slice(), true).unwrap_or(last),
             Builtin::Set => last,
@@ -149,6 +153,13 @@ impl Frames {
             Builtin::True => last,
             Builtin::Unset => last,
         }
+    }
+
+    /// Whether a text that is refused right inside them ends a shell that isn't interactive (2.8.1). Looks at the innermost one only.
+    pub fn ends_shell(&self) -> bool
+        ensures { result ≡ ends_shell self.now }
+    {
+        ends_shell(self.frames.as_slice())
     }
 
     /// Whether what is done right inside them is the action of a trap as a whole. Looks at the innermost one only.
@@ -219,6 +230,17 @@ fn before_action(frames: &[Frame], own: bool) -> Option<u8>
         rest = others;
     }
     None
+}
+
+/// Whether a text that is refused right inside the innermost of some forms, which is the last, ends the shell.
+#[tactic(auto, using(crate::proofs::Framed::innermost))]
+fn ends_shell(frames: &[Frame]) -> bool
+    ensures { result ≡ ends_shell (forms_in (reverse frames.now)) }
+{
+    match frames.split_last() {
+        Some((frame, _)) => refusal_ends(&frame.form),
+        None => true,
+    }
 }
 
 /// Whether the innermost of some forms, which is the last, is the action of a trap.

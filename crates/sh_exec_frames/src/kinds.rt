@@ -1,6 +1,6 @@
 //! What holds of running forms by their kind.
 ghost use Rattle.std.specs.Prelude.{◌≡◌};
-ghost use Rattle.sh_exec_frames.specs.Kinds.{before_trap, ignores_failure, is_call, is_loop, levels_inside, takes_return};
+ghost use Rattle.sh_exec_frames.specs.Kinds.{before_trap, ignores_failure, is_call, is_loop, is_dot_script, levels_inside, refusal_ends, takes_return};
 
 use sh_builtin::TextOrigin;
 use sh_exec_actions::Form;
@@ -29,24 +29,33 @@ pub(crate) fn is_call(form: &Form) -> bool
     }
 }
 
+/// Whether a text is that of a dot script.
+fn is_dot_script(origin: TextOrigin) -> bool
+    ensures { result ≡ is_dot_script origin }
+{
+    match origin {
+        TextOrigin::Eval => false,
+        TextOrigin::DotScript => true,
+    }
+}
+
+/// Whether a text that is refused right inside it ends the shell (2.8.1).
+pub(crate) fn refusal_ends(form: &Form) -> bool
+    ensures { result ≡ refusal_ends form.now }
+{
+    match form {
+        Form::Evaluation(how) => how.is_special,
+        _ => true,
+    }
+}
+
 /// Whether `return` ends it: the body of a function, or a dot script (2.15 return).
 pub(crate) fn takes_return(form: &Form) -> bool
     ensures { result ≡ takes_return form.now }
 {
     match form {
-        Form::Text(_) => false,
-        Form::Commands(_) => false,
-        Form::Joined(_) => false,
-        Form::Negated => false,
-        Form::Restoring(_) => false,
-        Form::If(_) => false,
-        Form::Condition(_, _) => false,
-        Form::Body(_) => false,
-        Form::ForBody(_) => false,
-        Form::Evaluation(TextOrigin::Eval) => false,
-        Form::Call(_) | Form::Evaluation(TextOrigin::DotScript) => true,
-        Form::Trapped(_) => false,
-        Form::FailuresIgnored => false,
+        Form::Evaluation(how) => is_dot_script(how.origin),
+        _ => is_call(form),
     }
 }
 

@@ -6,9 +6,11 @@ mod redirecting;
 mod transfer;
 mod undo;
 mod undone;
+mod waits;
 
 pub use fork::{Forked, fork_process};
 pub use redirecting::{Redirected, redirect};
 pub use transfer::{ReadOutcome, WriteOutcome, give_bytes, take_bytes};
-pub use undo::restore_all;
+pub use undo::end_redirections;
 pub use undone::Undone;
+pub use waits::wait_status;

@@ -254,7 +254,7 @@ fn redirect_number(
 }
 
 /// One redirection (XCU 2.7) of a process, whose relative paths go from a working directory. Where `keeps`, what its
-/// number referred to is set aside, for [`restore_all`](crate::restore_all).
+/// number referred to is set aside, for [`end_redirections`](crate::end_redirections).
 ///
 /// Its answer says why it can't be done: a number above 9, or what is no open descriptor (`BadDescriptor`),
 /// or the refusal of a file; what was set aside gets its number back then. The only error is want of memory;

@@ -44,9 +44,17 @@ abbrev pub is_declaration : Option (List ℕ) → Bool
 is_declaration None = false
 is_declaration (Some name) = bytes_eq name (codes "export") || bytes_eq name (codes "readonly")
 
+-- behind `command` its first argument is looked at (XCU command)
+abbrev pub is_command : Option (List ℕ) → Bool
+is_command None = false
+is_command (Some name) = bytes_eq name (codes "command")
+
+abbrev pub literal_name : Parts → Option (List ℕ)
+literal_name name = whole_literal (view.out-Parts name).items
+
 abbrev pub declares_by : List Parts → Bool
 declares_by [] = false
-declares_by (name ∷ arguments) = is_declaration (whole_literal (view.out-Parts name).items)
+declares_by (name ∷ arguments) = if is_command (literal_name name) then declares_by arguments else is_declaration (literal_name name)
 
 unfoldable pub declares : List SimpleItem → Bool
 declares items = declares_by (words_of items)

@@ -1,6 +1,6 @@
 //! Declaration utilities (XCU 2.9.1.1): `export` and `readonly`, whose operands are expanded as assignments.
 ghost use Rattle.std.specs.Prelude.{◌≡◌, ◌==◌, ◌<◌, IfSome, length, option_map, position};
-ghost use Rattle.sh_exec_parts.specs.Declarations.{assigns, assigns_by, declares, declares_by, first_literal, is_declaration, literal_of, named_by, whole_literal, word_context};
+ghost use Rattle.sh_exec_parts.specs.Declarations.{assigns, assigns_by, declares, declares_by, first_literal, is_command, is_declaration, literal_name, literal_of, named_by, whole_literal, word_context};
 
 use crate::simple::word_of;
 use sh_base::name::is_name;
@@ -47,7 +47,24 @@ fn is_declaration(name: Option<&[u8]>) -> bool
     }
 }
 
-/// Whether the first word of a simple command is the name of a declaration utility, unquoted.
+/// Whether a command name is `command`.
+fn is_command(name: Option<&[u8]>) -> bool
+    ensures { result ≡ is_command (option_map (λ name. name.now) name.entry) }
+{
+    match name {
+        Some(name) => name == b"command".as_slice(),
+        None => false,
+    }
+}
+
+/// The unquoted text that a word is.
+fn literal_name(name: &Parts) -> Option<&[u8]>
+    ensures { option_map (λ text. text.now) result ≡ literal_name name.now }
+{
+    whole_literal(name.items.as_slice())
+}
+
+/// Whether the first word of a simple command is the name of a declaration utility, unquoted; a word `command` before it doesn't matter.
 #[tactic(auto, unfolding(crate::specs::Declarations::declares))]
 pub fn declares(items: &[SimpleItem]) -> bool
     ensures { result ≡ declares items.now }
@@ -55,7 +72,10 @@ pub fn declares(items: &[SimpleItem]) -> bool
     let mut rest = items;
     'items: while let Some((item, others)) = rest.split_first() {
         if let Some(name) = word_of(item) {
-            return is_declaration(whole_literal(name.get().items.as_slice()));
+            let name = literal_name(name.get());
+            if !is_command(name) {
+                return is_declaration(name);
+            }
         }
         rest = others;
     }

@@ -62,32 +62,32 @@ turned_by_forms s shell (form ∷ forms) run = turned_by_forms s shell forms (In
 pub turn_is : (s : KernelState) (shell : Shell) (forms : List Form) (active : Active)
     → reduce s shell [] (run_of forms active)
     ≡ record {
-      left = at_action [] (act_at s shell active).left.machine (act_at s shell active).left.shell (run_in forms (act_at s shell active).left.run);
-      child = inherited (is_failure_ignored forms) (act_at s shell active).child;
+      left = at_action [] (act_at forms s shell active).left.machine (act_at forms s shell active).left.shell (run_in forms (act_at forms s shell active).left.run);
+      child = inherited (is_failure_ignored forms) (act_at forms s shell active).child;
     }
 turn_is s shell forms active =
     turned_by_forms s shell forms (At active)
-    ∙ ap (λ (a : Acted). record { left = a; child = inherited (is_failure_ignored forms) (act_at s shell active).child })
-    (sym (by_forms forms (act_at s shell active).left.machine (act_at s shell active).left.shell (act_at s shell active).left.run))
+    ∙ ap (λ (a : Acted). record { left = a; child = inherited (is_failure_ignored forms) (act_at forms s shell active).child })
+    (sym (by_forms forms (act_at forms s shell active).left.machine (act_at forms s shell active).left.shell (act_at forms s shell active).left.run))
 
 -- what is settled from what the action left is what the turn leaves
 pub turn_leaves : (s : KernelState) (shell : Shell) (forms : List Form) (active : Active) (shell' : Shell) (run : Run)
-    → shell' ≡ (act_at s shell active).left.shell → run ≡ run_in forms (act_at s shell active).left.run
-    → at_action [] (act_at s shell active).left.machine shell' run ≡ (reduce s shell [] (run_of forms active)).left
+    → shell' ≡ (act_at forms s shell active).left.shell → run ≡ run_in forms (act_at forms s shell active).left.run
+    → at_action [] (act_at forms s shell active).left.machine shell' run ≡ (reduce s shell [] (run_of forms active)).left
 turn_leaves s shell forms active shell' run e r =
-    ap (λ z. at_action [] (act_at s shell active).left.machine z run) e
-    ∙ ap (λ z. at_action [] (act_at s shell active).left.machine (act_at s shell active).left.shell z) r
+    ap (λ z. at_action [] (act_at forms s shell active).left.machine z run) e
+    ∙ ap (λ z. at_action [] (act_at forms s shell active).left.machine (act_at forms s shell active).left.shell z) r
     ∙ ap (λ (t : Turned). t.left) (sym (turn_is s shell forms active))
 
 pub turn_makes : (s : KernelState) (shell : Shell) (forms : List Form) (active : Active)
-    → inherited (is_failure_ignored forms) (act_at s shell active).child ≡ (reduce s shell [] (run_of forms active)).child
+    → inherited (is_failure_ignored forms) (act_at forms s shell active).child ≡ (reduce s shell [] (run_of forms active)).child
 turn_makes s shell forms active = ap (λ (t : Turned). t.child) (sym (turn_is s shell forms active))
 
 -- an action at the place, and what is settled from it, are a turn
 pub turned : (s : KernelState) (shell : Shell) (forms : List Form) (active : Active)
     (kernel : KernelKept) (shell' later : Shell) (run ran : Run) (child : Option InterpreterState)
-    → shell' ≡ (act_at s shell active).left.shell → run ≡ run_in forms (act_at s shell active).left.run → child ≡ inherited (is_failure_ignored forms) (act_at s shell active).child
-    → IsActed kernel later ran (at_action [] (act_at s shell active).left.machine shell' run)
+    → shell' ≡ (act_at forms s shell active).left.shell → run ≡ run_in forms (act_at forms s shell active).left.run → child ≡ inherited (is_failure_ignored forms) (act_at forms s shell active).child
+    → IsActed kernel later ran (at_action [] (act_at forms s shell active).left.machine shell' run)
     → IsTurned kernel later ran child (reduce s shell [] (run_of forms active))
 turned s shell forms active kernel shell' later run ran child e r made a =
     let left = turn_leaves s shell forms active shell' run e r in

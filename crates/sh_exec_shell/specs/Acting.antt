@@ -1,20 +1,19 @@
 -- The actions of a shell that make no process.
-use Rattle.std.specs.Prelude.{ℕ, List, [], ◌∷◌, ◌++◌, Bool, true, false, drop, length, nat_eq, Option, Some, None, Result, Ok, Err, if◌then◌else◌}
-use Rattle.sh_builtin.specs.Builtins.{name_of}
+use Rattle.std.specs.Prelude.{ℕ, List, [], ◌∷◌, ◌++◌, Bool, true, false, length, nat_eq, Option, Some, None, Result, Ok, Err, if◌then◌else◌}
 use Rattle.sh_builtin.specs.Functions.{Named}
-use Rattle.sh_exec_parts.specs.Messages.{message, refusal_text, write_error}
-use Rattle.sh_builtin.specs.declared.outcome.Completion.TheVariants as completion
-use Rattle.sh_builtin.specs.declared.outcome.Leave.TheVariants as leave
+use Rattle.sh_exec_parts.specs.Messages.{message, refusal_text}
 use Rattle.sh_builtin.specs.declared.shell.Shell.{Shell}
 use Rattle.sh_builtin_environment.specs.TrapMaps.{action_of, with_action}
 use Rattle.sh_signal.specs.declared.condition.Condition.TheVariants.{Exit}
 use Rattle.sh_exec_parts.specs.declared.message.Piece.{Piece}
+use Rattle.sh_exec_parts.specs.declared.message.Refusal.{Refusal}
+use Rattle.sh_exec_parts.specs.declared.message.Refusal.TheVariants as refusal
 use Rattle.sh_exec_parts.specs.declared.redirection.Redirection.{Redirection}
 use Rattle.sh_exec_command.specs.Assigning.{assign_turn}
 use Rattle.sh_exec_command.specs.Cases.{case_turn, pattern_turn}
 use Rattle.sh_exec_command.specs.Defining.{define_turn}
-use Rattle.sh_exec_command.specs.Expanding.{Turn, fatal, words_turn}
-use Rattle.sh_exec_actions.specs.Preparing.{ahead, not_done}
+use Rattle.sh_exec_command.specs.Expanding.{Turn, words_turn}
+use Rattle.sh_exec_actions.specs.Preparing.{ahead, failing, not_done}
 use Rattle.sh_exec_command.specs.Redirects.{redirects_turn}
 use Rattle.sh_exec_command.specs.Series as series
 use Rattle.sh_exec_command.specs.Series.{series_turn}
@@ -23,12 +22,11 @@ use Rattle.sh_exec_command.specs.declared.found.Found.{Found}
 use Rattle.sh_exec_command.specs.declared.found.Found.TheVariants as found
 use Rattle.sh_exec_actions.specs.Statuses.{unexcused}
 use Rattle.sh_exec_actions.specs.declared.action.Active.{Active}
-use Rattle.sh_exec_actions.specs.declared.action.Active.TheVariants.{Next, Done, Leaving}
+use Rattle.sh_exec_actions.specs.declared.action.Active.TheVariants.{Next, Done}
 use Rattle.sh_exec_actions.specs.declared.action.Finish.{Finish}
-use Rattle.sh_exec_actions.specs.declared.action.Finish.TheVariants.{Status, Fault, Messages, Output}
 use Rattle.sh_exec_actions.specs.declared.action.Pending.{Pending}
 use Rattle.sh_exec_actions.specs.declared.action.Action.{Action}
-use Rattle.sh_exec_actions.specs.declared.action.Action.TheVariants.{WaitSubstitution, ReadSubstitution, Ending, Expanding, Trapping, Waiting, Writing}
+use Rattle.sh_exec_actions.specs.declared.action.Action.TheVariants.{WaitSubstitution, ReadSubstitution, Ending, Trapping, Writing}
 use Rattle.sh_exec_actions.specs.declared.action.ExpandedCommand.{ExpandedCommand}
 use Rattle.sh_exec_actions.specs.declared.action.Role.{Role}
 use Rattle.sh_exec_actions.specs.declared.action.Role.TheVariants as role
@@ -39,18 +37,15 @@ use Rattle.sh_exec_command.specs.declared.series.Round.{Round}
 use Rattle.sh_exec_command.specs.declared.series.Round.TheVariants as round
 use Rattle.sh_exec_machine.specs.Redirecting.{redirection_outcome}
 use Rattle.sh_exec_machine.specs.Transfers.{give_bytes, take_bytes}
-use Rattle.sh_exec_machine.specs.declared.transfer.WriteOutcome.{WriteOutcome}
-use Rattle.sh_exec_machine.specs.declared.transfer.WriteOutcome.TheVariants as given
 use Rattle.sh_exec_machine.specs.declared.transfer.ReadOutcome.{ReadOutcome}
 use Rattle.sh_exec_machine.specs.declared.transfer.ReadOutcome.TheVariants as taken
 use Rattle.sh_exec_machine.specs.declared.undone.Undone.{Undone}
-use Rattle.sh_exec_forms.specs.Builtins.{reported}
+use Rattle.sh_exec_frames.specs.Writing.{written_by}
 use Rattle.sh_exec_forms.specs.Forms.{Acted, behind_status, with_run}
 use Rattle.sh_exec_forms.specs.Entering.{items_run, list_run}
 use Rattle.sh_exec_forms.specs.Moves.{move_run}
 use Rattle.sh_exec_forms.specs.Stacks.{run_in}
 use Rattle.sh_exec_forms.specs.Running.{Run, At, In}
-use Rattle.sh_exec_shell.specs.Waits.{wait_status}
 use Rattle.sh_exec_actions.specs.declared.form.Form.{Form}
 use Rattle.sh_exec_actions.specs.declared.form.Form.TheVariants.{Text, ForBody, Trapped}
 use Rattle.sh_files.specs.Nodes.{FileMap}
@@ -63,10 +58,20 @@ use Rattle.sh_syntax.specs.declared.tree.Command.TheViews as view
 use Rattle.sh_vars.specs.Environment.{Environment}
 
 -- ---- reading (2.1): where no command follows the text is done, with the status of its last command, which is 0 before the first one
-abbrev pub read_turn : Environment → (status : ℕ) → Found → Run
-read_turn env status found.Nothing = At (Done (unexcused status))
-read_turn env status (found.Command tree rest) = In (Text rest) (items_run (view.out-CompoundList tree).items (unexcused env.special.status))
-read_turn env status (found.Fault refusal) = At (fatal (refusal_text refusal))
+-- a text that is refused ends the shell (2.8.1); where `command` has it run it has a status, but what is nested too deep ends it there too
+abbrev pub refusal_ends : (ends_shell : Bool) → Refusal → Bool
+refusal_ends ends_shell refusal.Syntax = ends_shell
+refusal_ends ends_shell refusal.BadSubstitution = ends_shell
+refusal_ends ends_shell refusal.TooDeep = true
+
+abbrev pub refused : (ends_shell : Bool) → Refusal → Active
+refused ends_shell why = Next (Writing (message (refusal_text why)) (failing (refusal_ends ends_shell why)))
+
+abbrev pub read_turn : (ends_shell : Bool) → Environment → (status : ℕ) → Found → Run
+read_turn ends_shell env status found.Nothing = At (Done (unexcused status))
+read_turn ends_shell env status (found.Command tree rest) =
+    In (Text rest) (items_run (view.out-CompoundList tree).items (unexcused env.special.status))
+read_turn ends_shell env status (found.Fault why) = At (refused ends_shell why)
 
 -- ---- expansion
 abbrev pub expand_turn : FileMap → Environment → List Named → ToExpand → Option Pending → Turn
@@ -106,41 +111,14 @@ collect_end s shell substitution (Some aside) = collect_from s shell substitutio
 unfoldable pub collect_turn : KernelState → Shell → Substitution → Acted
 collect_turn s shell substitution = collect_end s shell substitution substitution.aside
 
--- ---- waiting
--- the status of a substitution is kept for a command without a name (2.9.1)
-abbrev pub with_substitution : ToExpand → ℕ → ToExpand
-with_substitution (Words command in_place before) status = Words command in_place status
-with_substitution (Values p) status = Values (record p { status = status })
-with_substitution (Redirects command) status = Redirects command
-with_substitution (ForWords command) status = ForWords command
-with_substitution (CaseWord command) status = CaseWord command
-with_substitution (CasePattern case) status = CasePattern case
-
-abbrev pub with_next_answer : Pending → List ℕ → Pending
-with_next_answer pending answer = record pending { answers = pending.answers ++ answer ∷ [] }
-
-abbrev pub answer_by : Substitution → Option ℕ → Action
-answer_by substitution None = WaitSubstitution substitution
-answer_by substitution (Some status) =
-    Expanding (with_substitution substitution.wants status) (Some (with_next_answer substitution.pending substitution.written))
-
-unfoldable pub answer_turn : KernelState → ℕ → Substitution → Action
-answer_turn s pid substitution = answer_by substitution (wait_status s pid substitution.children)
-
-abbrev pub wait_by : List ℕ → Option ℕ → Active
-wait_by children None = Next (Waiting children)
-wait_by children (Some status) = Done (unexcused status)
-
-unfoldable pub wait_turn : KernelState → ℕ → List ℕ → Active
-wait_turn s pid children = wait_by children (wait_status s pid children)
-
--- ---- redirection (2.7); what the process of a program or of a subshell changes is never undone, nor what exec changes (2.15)
+-- ---- redirection (2.7); what the process of a program or of a subshell changes is never undone; what exec changes is, up to where it has
+-- acted (2.15)
 abbrev pub keeps : Role → Bool
 keeps role.NoCommandName = true
-keeps (role.Builtin builtin) = true
+keeps (role.Builtin invocation) = true
 keeps (role.Function body) = true
 keeps role.Program = false
-keeps (role.Exec is_command) = false
+keeps (role.Exec is_command is_special) = true
 keeps (role.Compound command) = true
 keeps (role.Subshell list) = false
 
@@ -168,28 +146,6 @@ unfoldable pub redirect_turn : KernelState → Shell → ExpandedCommand → Act
 redirect_turn s shell p = redirect_from s shell p p.redirections
 
 -- ---- writing
-abbrev pub after_writing : Finish → Active
-after_writing (Status status) = Done (unexcused status)
-after_writing (Fault status) = Leaving (leave.Fault status)
-after_writing (Messages report) = reported report
-after_writing (Output builtin report) = reported report
-
--- a message that can't be written is dropped; a built-in whose output can't be written has 1, and a message before its others
-abbrev pub unwritten : Finish → Active
-unwritten (Status status) = Done (unexcused status)
-unwritten (Fault status) = Leaving (leave.Fault status)
-unwritten (Messages report) = reported report
-unwritten (Output builtin report) =
-    Next (Writing (message (write_error (name_of builtin))) (Messages (record report { status = completion.Done 1 })))
-
--- what is left is still to be written; a process that a signal ended acts no more
-abbrev pub written_by : Piece → Finish → WriteOutcome → Active
-written_by piece finish given.Whole = after_writing finish
-written_by piece finish (given.Part count) = Next (Writing (record piece { bytes = drop count piece.bytes }) finish)
-written_by piece finish given.Wait = Next (Writing piece finish)
-written_by piece finish given.Ended = Next (Writing piece finish)
-written_by piece finish given.Failed = unwritten finish
-
 unfoldable pub write_turn : KernelState → Shell → Piece → Finish → Acted
 write_turn s shell piece finish =
     let g = give_bytes s shell.pid piece.descriptor piece.bytes in with_run g.after shell (At (written_by piece finish g.told))
@@ -221,7 +177,7 @@ without_trap shell = record shell { traps = with_action shell.traps Exit None }
 
 -- `$?` is the status with which the shell is to end, and the action's first command is read
 abbrev pub trap_action : KernelState → Shell → (status : ℕ) → List ℕ → Acted
-trap_action s shell status text = with_run s shell (In (Trapped status) (read_turn shell.vars 0 (next_command text)))
+trap_action s shell status text = with_run s shell (In (Trapped status) (read_turn true shell.vars 0 (next_command text)))
 
 abbrev pub trap_by : KernelState → Shell → (status : ℕ) → Option (List ℕ) → Acted
 trap_by s shell status None = with_run s shell (next (Ending status))

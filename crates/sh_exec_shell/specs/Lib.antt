@@ -1,4 +1,4 @@
 pub mod Acting
 pub mod Forks
+pub mod LineReading
 pub mod Reduction
-pub mod Waits

@@ -10,12 +10,14 @@ use Rattle.sh_exec_actions.specs.declared.action.Active.TheVariants.{Acting, Cal
 use Rattle.sh_exec_actions.specs.declared.action.Expanded.{Expanded}
 use Rattle.sh_exec_actions.specs.declared.action.Expanded.TheVariants as expanded
 use Rattle.sh_exec_actions.specs.declared.action.Action.{Action}
-use Rattle.sh_exec_actions.specs.declared.action.Action.TheVariants.{Reading, Expanding, ReadSubstitution, WaitSubstitution, Redirecting, Forking, Starting, ForkStage, AssignLoopVariable, Defining, Waiting, Writing, Trapping, Ending}
-use Rattle.sh_exec_shell.specs.Acting.{answer_turn, collect_turn, defined, end_turn, ending, expand_turn, given_round, next, read_turn, redirect_turn, trap_turn, wait_turn, write_turn}
+use Rattle.sh_exec_actions.specs.declared.action.Action.TheVariants.{Reading, Expanding, ReadSubstitution, WaitSubstitution, ReadLine, Redirecting, Forking, Starting, ForkStage, AssignLoopVariable, Defining, Waiting, Writing, Trapping, Ending}
+use Rattle.sh_exec_shell.specs.Acting.{collect_turn, defined, end_turn, ending, expand_turn, given_round, next, read_turn, redirect_turn, trap_turn, write_turn}
+use Rattle.sh_exec_frames.specs.Waiting.{answer_turn, wait_turn}
 use Rattle.sh_exec_shell.specs.Forks.{Turned, fork_turn, inheriting, stage_turn, substitute_turn}
+use Rattle.sh_exec_shell.specs.LineReading.{read_line_turn}
 use Rattle.sh_exec_forms.specs.Forms.{Acted, with_run, after, at_action}
 use Rattle.sh_exec_forms.specs.Moves.{move_run}
-use Rattle.sh_exec_frames.specs.Frames.{is_failure_ignored}
+use Rattle.sh_exec_frames.specs.Frames.{ends_shell, is_failure_ignored}
 use Rattle.sh_exec_actions.specs.declared.form.Form.{Form}
 use Rattle.sh_exec_forms.specs.Running.{Run, At, In, InterpreterState}
 use Rattle.sh_kernel.specs.State.{KernelState}
@@ -31,37 +33,38 @@ expanded_by s shell (expanded.Go move) = plain (with_run s shell (move_run move)
 abbrev pub expansion : KernelState → Shell → Turn → Turned
 expansion s shell t = expanded_by s (record shell { vars = t.environment }) t.outcome
 
--- the action at a place; a program's start isn't the shell's
-abbrev pub act_place : KernelState → Shell → Action → Turned
-act_place s shell (Reading rest status) = plain (with_run s shell (read_turn shell.vars status (next_command rest)))
-act_place s shell (Expanding wants pending) = expansion s shell (expand_turn s.machine.files shell.vars shell.functions wants pending)
-act_place s shell (ReadSubstitution substitution) = plain (collect_turn s shell substitution)
-act_place s shell (WaitSubstitution substitution) = plain (with_run s shell (next (answer_turn s shell.pid substitution)))
-act_place s shell (Redirecting p) = plain (redirect_turn s shell p)
-act_place s shell (Forking p) = fork_turn s shell p
-act_place s shell (Starting fields) = plain (with_run s shell (next (Starting fields)))
-act_place s shell (ForkStage stages) = stage_turn s shell stages
-act_place s shell (AssignLoopVariable series) = plain (given_round s shell (give_turn shell.vars series))
-act_place s shell (Defining definition) = plain (defined s shell definition)
-act_place s shell (Waiting children) = plain (with_run s shell (At (wait_turn s shell.pid children)))
-act_place s shell (Writing piece finish) = plain (write_turn s shell piece finish)
-act_place s shell (Trapping status) = plain (trap_turn s shell status)
-act_place s shell (Ending status) = plain (end_turn s shell status)
+-- the action at a place inside some forms; a program's start isn't the shell's
+abbrev pub act_place : (around : List Form) → KernelState → Shell → Action → Turned
+act_place around s shell (Reading rest status) = plain (with_run s shell (read_turn (ends_shell around) shell.vars status (next_command rest)))
+act_place around s shell (Expanding wants pending) = expansion s shell (expand_turn s.machine.files shell.vars shell.functions wants pending)
+act_place around s shell (ReadSubstitution substitution) = plain (collect_turn s shell substitution)
+act_place around s shell (WaitSubstitution substitution) = plain (with_run s shell (next (answer_turn s shell.pid substitution)))
+act_place around s shell (ReadLine reader) = plain (read_line_turn s shell reader)
+act_place around s shell (Redirecting p) = plain (redirect_turn s shell p)
+act_place around s shell (Forking p) = fork_turn s shell p
+act_place around s shell (Starting start) = plain (with_run s shell (next (Starting start)))
+act_place around s shell (ForkStage stages) = stage_turn s shell stages
+act_place around s shell (AssignLoopVariable series) = plain (given_round s shell (give_turn shell.vars series))
+act_place around s shell (Defining definition) = plain (defined s shell definition)
+act_place around s shell (Waiting children) = plain (with_run s shell (At (wait_turn s shell.pid children)))
+act_place around s shell (Writing piece finish) = plain (write_turn s shell piece finish)
+act_place around s shell (Trapping status) = plain (trap_turn s shell status)
+act_place around s shell (Ending status) = plain (end_turn s shell status)
 
-abbrev pub act_at : KernelState → Shell → Active → Turned
-act_at s shell (Acting builtin fields) = plain (with_run s shell (At (Acting builtin fields)))
-act_at s shell (Calling body fields) = plain (with_run s shell (At (Calling body fields)))
-act_at s shell (Evaluating origin text) = plain (with_run s shell (At (Evaluating origin text)))
-act_at s shell (Next place) = act_place s shell place
-act_at s shell (Done ended) = plain (with_run s shell (At (Done ended)))
-act_at s shell (Leaving leave) = plain (with_run s shell (At (Leaving leave)))
+abbrev pub act_at : (around : List Form) → KernelState → Shell → Active → Turned
+act_at around s shell (Acting invocation fields) = plain (with_run s shell (At (Acting invocation fields)))
+act_at around s shell (Calling body fields) = plain (with_run s shell (At (Calling body fields)))
+act_at around s shell (Evaluating how text) = plain (with_run s shell (At (Evaluating how text)))
+act_at around s shell (Next place) = act_place around s shell place
+act_at around s shell (Done ended) = plain (with_run s shell (At (Done ended)))
+act_at around s shell (Leaving leave) = plain (with_run s shell (At (Leaving leave)))
 
 -- statuses go outward from what the action left; around: the forms round it, the innermost first
 abbrev pub settled_turn : (around : List Form) → Turned → Turned
 settled_turn around t = record { left = at_action around t.left.machine t.left.shell t.left.run; child = t.child }
 
 abbrev pub reduce : KernelState → Shell → (around : List Form) → Run → Turned
-reduce s shell around (At active) = settled_turn around (inheriting (is_failure_ignored around) (act_at s shell active))
+reduce s shell around (At active) = settled_turn around (inheriting (is_failure_ignored around) (act_at around s shell active))
 reduce s shell around (In form run) =
     let t = reduce s shell (form ∷ around) run in record { left = after around form t.left; child = t.child }
 
@@ -69,9 +72,9 @@ reduce s shell around (In form run) =
 abbrev pub at_root : Shell → Run → Run
 at_root shell (At (Leaving leave)) = At (Next (ending shell (shell_status leave)))
 at_root shell (At (Done ended)) = At (Next (ending shell ended.status))
-at_root shell (At (Acting builtin fields)) = At (Acting builtin fields)
+at_root shell (At (Acting invocation fields)) = At (Acting invocation fields)
 at_root shell (At (Calling body fields)) = At (Calling body fields)
-at_root shell (At (Evaluating origin text)) = At (Evaluating origin text)
+at_root shell (At (Evaluating how text)) = At (Evaluating how text)
 at_root shell (At (Next place)) = At (Next place)
 at_root shell (In form run) = In form run
 

@@ -64,9 +64,9 @@ fn at_end(shell: &Shell, active: Active) -> Active
         Active::Leaving(leave) => Active::Next(ending(shell, leave.shell_status())),
         Active::Done(ended) => Active::Next(ending(shell, ended.status)),
         Active::Next(place) => Active::Next(place),
-        Active::Acting(builtin, fields) => Active::Acting(builtin, fields),
+        Active::Acting(invocation, fields) => Active::Acting(invocation, fields),
         Active::Calling(body, fields) => Active::Calling(body, fields),
-        Active::Evaluating(origin, text) => Active::Evaluating(origin, text),
+        Active::Evaluating(how, text) => Active::Evaluating(how, text),
     }
 }
 

@@ -4,9 +4,9 @@
 mod forks;
 mod input;
 mod interpreter;
+mod line;
 mod output;
 mod redirecting;
 mod turn;
-mod waits;
 
 pub use interpreter::Interpreter;

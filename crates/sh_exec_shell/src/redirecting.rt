@@ -24,7 +24,7 @@ fn keeps(role: &Role) -> bool
         Role::Builtin(_) => true,
         Role::Function(_) => true,
         Role::Program => false,
-        Role::Exec { .. } => false,
+        Role::Exec { .. } => true,
         Role::Compound(_) => true,
         Role::Subshell(_) => false,
     }

@@ -6,31 +6,33 @@ ghost use Rattle.sh_exec_command.specs.Expanding as expanding;
 ghost use Rattle.sh_exec_command.specs.Reading.{next_command};
 ghost use Rattle.sh_exec_forms.specs.Forms.{IsActed, behind_status};
 ghost use Rattle.sh_exec_command.specs.Series.{give_turn};
-ghost use Rattle.sh_exec_shell.specs.Acting.{defined, expand_turn, given_round, in_forms, read_turn, round_run, trap_turn, without_trap};
+ghost use Rattle.sh_exec_shell.specs.Acting.{defined, expand_turn, given_round, in_forms, read_turn, refusal_ends, refused, round_run, trap_turn, without_trap};
 ghost use Rattle.sh_exec_shell.specs.Forks.{IsTurned, inheriting, inside};
 ghost use Rattle.sh_exec_shell.specs.Reduction.{act_at, act_place, expanded_by, expansion, plain, reduce};
 ghost use Rattle.sh_exec_forms.specs.Running.{Run};
 ghost use Rattle.sh_exec_forms.specs.Stacks.{run_in, run_of};
-ghost use Rattle.sh_exec_frames.specs.Frames.{is_failure_ignored};
+ghost use Rattle.sh_exec_frames.specs.Frames.{ends_shell, is_failure_ignored};
 
 use crate::forks::{fork_turn, stage_turn, substitute_turn};
 use crate::input::collect_turn;
 use crate::interpreter::Interpreter;
+use crate::line::read_line_turn;
 use crate::output::{end_turn, write_turn};
 use crate::redirecting::redirect_turn;
-use crate::waits::{answer_turn, wait_turn};
 use sh_base::NoMemory;
 use sh_base::shared::Shared;
 use sh_builtin::{Functions, Shell};
 use sh_builtin_environment::copy_of_action;
-use sh_exec_actions::{Action, Active, CommandStatus, Expanded, ForLoop, Form, Pending, ToExpand};
+use sh_exec_actions::{
+    Action, Active, CommandStatus, Expanded, ForLoop, Form, Pending, ToExpand, failing,
+};
 use sh_exec_command::{
-    Found, Round, assign_turn, case_turn, define_turn, fatal_message, find_command, give_turn,
-    pattern_turn, redirects_turn, series_turn, words_turn,
+    Found, Round, assign_turn, case_turn, define_turn, find_command, give_turn, pattern_turn,
+    redirects_turn, series_turn, words_turn,
 };
 use sh_exec_forms::{enter, enter_list, go_to, settle};
-use sh_exec_frames::Frames;
-use sh_exec_parts::message::refused;
+use sh_exec_frames::{Frames, answer_turn, wait_turn};
+use sh_exec_parts::message::{Refusal, refused};
 use sh_exec_parts::{Queue, Rest};
 use sh_files::Files;
 use sh_kernel::Kernel;
@@ -38,6 +40,26 @@ use sh_signal::Condition;
 use sh_syntax::tree::Command;
 use sh_vars::Vars;
 use std::alloc::Global;
+
+/// Whether a text that is refused ends the shell, where one that `command` has run may not.
+fn refusal_ends(ends_shell: bool, why: Refusal) -> bool
+    ensures { result ≡ refusal_ends ends_shell why }
+{
+    match why {
+        Refusal::Syntax => ends_shell,
+        Refusal::BadSubstitution => ends_shell,
+        Refusal::TooDeep => true,
+    }
+}
+
+/// A text is refused.
+fn refuse(alloc: Global, ends_shell: bool, why: Refusal) -> Result<Active, NoMemory>
+    ensures { IfOk result (λ active. active ≡ refused ends_shell why) }
+{
+    let finish = failing(refusal_ends(ends_shell, why));
+    let piece = refused(alloc, why)?;
+    Ok(Active::Next(Action::Writing(piece, finish)))
+}
 
 /// A reading turn.
 fn read(
@@ -48,7 +70,7 @@ fn read(
     vars: &Vars,
 ) -> Result<Active, NoMemory>
     ensures { IfOk result (λ active. run_of frames.new active
-        ≡ run_in frames.old (read_turn vars.now status (next_command rest))) }
+        ≡ run_in frames.old (read_turn (ends_shell frames.old) vars.now status (next_command rest))) }
 {
     match find_command(alloc, rest)? {
         Found::Nothing => Ok(Active::Done(CommandStatus::unexcused(status))),
@@ -69,10 +91,7 @@ fn read(
             )?;
             Ok(step.into_active())
         },
-        Found::Fault(refusal) => {
-            let piece = refused(alloc, refusal)?;
-            Ok(fatal_message(piece))
-        },
+        Found::Fault(why) => refuse(alloc, frames.ends_shell(), why),
     }
 }
 
@@ -263,7 +282,7 @@ fn act_place(
     ensures state { (s : KernelState) → StandsAt kernel.old s → IfOk result (λ r.
         IsTurned kernel.new shell.new (run_of frames.new r.0) r.1
         (inside frames.old (inheriting (is_failure_ignored frames.old)
-        (act_place s shell.old place)))) }
+        (act_place frames.old s shell.old place)))) }
     ensures terminal { Extends kernel.old.terminal.bytes kernel.new.terminal.bytes }
 {
     match place {
@@ -283,6 +302,10 @@ fn act_place(
             let place = answer_turn(kernel, shell.pid, substitution)?;
             Ok((Active::Next(place), None))
         },
+        Action::ReadLine(reader) => {
+            let active = read_line_turn(alloc, kernel, shell, reader)?;
+            Ok((active, None))
+        },
         Action::Redirecting(prepared) => {
             let active = redirect_turn(alloc, kernel, shell, frames, prepared)?;
             Ok((active, None))
@@ -297,7 +320,7 @@ fn act_place(
             )?;
             Ok((active, child))
         },
-        Action::Starting(fields) => Ok((Active::Next(Action::Starting(fields)), None)),
+        Action::Starting(start) => Ok((Active::Next(Action::Starting(start)), None)),
         Action::ForkStage(stages) => {
             let (active, child) = stage_turn(
                 alloc,
@@ -340,7 +363,7 @@ fn act(
     ensures state { (s : KernelState) → StandsAt kernel.old s → IfOk result (λ r.
         IsTurned kernel.new shell.new (run_of frames.new r.0) r.1
         (inside frames.old (inheriting (is_failure_ignored frames.old)
-        (act_at s shell.old active)))) }
+        (act_at frames.old s shell.old active)))) }
     ensures terminal { Extends kernel.old.terminal.bytes kernel.new.terminal.bytes }
 {
     match active {
@@ -348,9 +371,9 @@ fn act(
             let (active, child) = act_place(alloc, kernel, shell, frames, place)?;
             Ok((active, child))
         },
-        Active::Acting(builtin, fields) => Ok((Active::Acting(builtin, fields), None)),
+        Active::Acting(invocation, fields) => Ok((Active::Acting(invocation, fields), None)),
         Active::Calling(body, fields) => Ok((Active::Calling(body, fields), None)),
-        Active::Evaluating(origin, text) => Ok((Active::Evaluating(origin, text), None)),
+        Active::Evaluating(how, text) => Ok((Active::Evaluating(how, text), None)),
         Active::Done(ended) => Ok((Active::Done(ended), None)),
         Active::Leaving(leave) => Ok((Active::Leaving(leave), None)),
     }

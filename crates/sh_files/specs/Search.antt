@@ -99,6 +99,13 @@ located_of files directory elements name =
     if has_slash name then path_leads files directory name
     else program_among files directory (candidate_paths elements name)
 
+-- where a name leads: the path of the file that may be executed
+abbrev pub paths_of : Option (List ℕ) → List ℕ → List (List ℕ)
+paths_of elements name = if has_slash name then name ∷ [] else candidate_paths elements name
+
+unfoldable pub executable_path : FileMap → (directory : List ℕ) → (elements : Option (List ℕ)) → List ℕ → Option (List ℕ)
+executable_path files directory elements name = find (is_executable files directory) (paths_of elements name)
+
 -- ---- a dot script
 -- the text of a file that may be read as a script; the null device is empty
 abbrev pub readable_text : Option Node → Option (List ℕ)

@@ -3,7 +3,7 @@ ghost use Rattle.std.specs.Prelude.{◌≡◌, ◌∷◌, ◌==◌, ◌<◌, [],
 ghost use Rattle.std.specs.List.{list_any};
 ghost use Rattle.sh_files.specs.Nodes.{is_executable};
 ghost use Rattle.sh_files_image.specs.declared.node.Node.TheVariants as node;
-ghost use Rattle.sh_files.specs.Search.{elements, has_slash, is_regular, line_of, located_of, names_regular, node_leads, not_executed, path_in, path_leads, program_of, script_of, program_among, stock_name, candidate_paths, dot_script, first_text, may_be_read, readable_text, text_at};
+ghost use Rattle.sh_files.specs.Search.{elements, executable_path, has_slash, is_regular, line_of, located_of, names_regular, node_leads, not_executed, path_in, path_leads, paths_of, program_of, script_of, program_among, stock_name, candidate_paths, dot_script, first_text, may_be_read, readable_text, text_at};
 
 use crate::files::Files;
 use sh_base::NoMemory;
@@ -58,8 +58,8 @@ fn stock_name(text: &[u8]) -> Option<&[u8]>
     None
 }
 
-/// Whether a file can be read as a script.
-fn may_be_read(file: &File) -> bool
+/// Whether a file can be read as a script: it has the flag r, and at most [`MAX_SCRIPT`] bytes. Takes no memory.
+pub fn may_be_read(file: &File) -> bool
     ensures { result ≡ may_be_read file.now }
 {
     file.flags().read && file.bytes().len() <= MAX_SCRIPT
@@ -287,6 +287,42 @@ pub fn locate(
     }
     let paths = tried(alloc, elements, name)?;
     searched(alloc, files, directory, paths.as_slice())
+}
+
+/// The paths that a name may stand for: itself if it has a slash.
+fn paths_of(alloc: Global, elements: Option<&[u8]>, name: &[u8]) -> Result<Sequence<Text>, NoMemory>
+    ensures { IfOk result (λ paths.
+        paths ≡ paths_of (option_map (λ elements. elements.now) elements.entry) name.now) }
+{
+    if !has_slash(name) {
+        return tried(alloc, elements, name);
+    }
+    let mut paths = Sequence::new(alloc);
+    paths.push(Text::copy_of(alloc, name)?)?;
+    Ok(paths)
+}
+
+/// The path of the file that a command's name leads to from a working directory (XCU 2.9.1.4, command), where `elements` is the value of
+/// PATH, if that is set: a name with a slash is the path, another one is searched for in the elements of PATH. `None` where no regular
+/// file with the flag x is found. The only error is want of memory.
+#[tactic(auto, unfolding(crate::specs::Search::executable_path))]
+pub fn executable_path(
+    alloc: Global,
+    files: &Files,
+    directory: &[u8],
+    elements: Option<&[u8]>,
+    name: &[u8],
+) -> Result<Option<Text>, NoMemory>
+    ensures { IfOk result (λ path.
+        path ≡ executable_path files.now directory.now
+        (option_map (λ elements. elements.now) elements.entry) name.now) }
+{
+    let paths = paths_of(alloc, elements, name)?;
+    let Some(path) = first_executable(files, directory, paths.as_slice())? else {
+        return Ok(None);
+    };
+    let path = Text::copy_of(alloc, path.as_slice())?;
+    Ok(Some(path))
 }
 
 /// The text of a regular file, if that can be read as a script.

@@ -16,6 +16,3 @@ pub use sh_kernel_descriptors::{
     CAPACITY, DescriptorRef, Entry, FIRST_PID, KernelFault, MAX_DESCRIPTORS, MAX_LIVE, MAX_PID,
     Status,
 };
-
-#[cfg(test)]
-mod tests;

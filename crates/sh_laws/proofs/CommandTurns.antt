@@ -8,7 +8,7 @@ use Rattle.sh_exec_command.specs.Assigning.{Step, assign_turn, assigned_by, assi
 use Rattle.sh_exec_command.specs.Cases as cases
 use Rattle.sh_exec_command.specs.Cases.{branch_of, branch_turn, branches_of, case_turn, item_branches, next_branch, pattern_by, pattern_turn, tried, word_by}
 use Rattle.sh_exec_command.specs.Expanding.{Turn, fatal, start_of, words_by, words_turn}
-use Rattle.sh_exec_actions.specs.Preparing.{ahead, ahead_by, exec_role, final_move, first_move, first_place, forks, is_exec, nameless, not_done, performed_by, prepared_of, role_by, role_of}
+use Rattle.sh_exec_actions.specs.Preparing.{ahead, ahead_by, exec_role, final_move, first_move, first_place, forks, nameless, not_done, performed_by, prepared_of, command_role, role_behind, role_by, role_of, role_run}
 use Rattle.sh_exec_command.specs.Redirects.{compound_role, redirected, redirects_by, redirects_turn, role_in, role_of_command}
 use Rattle.sh_exec_command.specs.Reading.{answer_of, found_behind, found_by, next_command}
 use Rattle.sh_exec_command.specs.Series.{Given, give_by, give_turn, given_by, header_in, header_of, header_of_command, header_turn, rest_of_series, series_by, series_turn, word_of_series}
@@ -34,9 +34,13 @@ use Rattle.sh_exec_command.specs.declared.series.Round.{Round}
 use Rattle.sh_exec_command.specs.declared.series.Round.TheVariants as round
 use Rattle.sh_exec_parts.specs.Messages.{read_only}
 use Rattle.sh_exec_actions.specs.Served.{serves}
-use Rattle.sh_builtin.specs.Builtins.{builtin_of, is_special}
+use Rattle.sh_builtin.specs.Builtins.{builtin_of, is_named, is_special}
+use Rattle.sh_builtin.specs.Invocations.{by_command, by_name}
+use Rattle.sh_builtin.specs.declared.invocation.Invocation.{Invocation}
+use Rattle.sh_builtin.specs.Commands.{behind_command}
 use Rattle.sh_builtin.specs.Functions.{Named, body_of, has_name}
 use Rattle.sh_builtin.specs.declared.builtin.Builtin.{Builtin}
+use Rattle.sh_builtin.specs.declared.builtin.Builtin.TheVariants.{Exec}
 use Rattle.sh_builtin_environment.specs.Options.{Parsed, options_and_operands}
 use Rattle.sh_exec_parts.specs.Simple.{Opened, assignment_in, assignments_of, before, compound_redirects, compound_redirects_in, is_redirect, is_word, items_in, items_of, redirect_wanted, redirects_of, to_assign, word_fields}
 use Rattle.sh_exec_parts.specs.Wants.{wanted_of}
@@ -76,7 +80,7 @@ abbrev pub ActiveHolds : Active → Type 0
 ActiveHolds (Next place) = PlaceHolds place
 ActiveHolds (Acting builtin fields) = Unit {0}
 ActiveHolds (Calling body fields) = CommandBegins body
-ActiveHolds (Evaluating origin text) = Unit {0}
+ActiveHolds (Evaluating how text) = Unit {0}
 ActiveHolds (Done status) = Unit {0}
 ActiveHolds (Leaving leave) = Unit {0}
 
@@ -123,11 +127,11 @@ first_holds in_place command c = wants_hold (list_any is_word (items_of command)
 -- ---- what it does after its expansion
 performed_holds : (p : ExpandedCommand) (r : Role) → RoleHolds r → MoveHolds (performed_by p r)
 performed_holds p role.NoCommandName b = tt
-performed_holds p (role.Builtin builtin) b = tt
+performed_holds p (role.Builtin invocation) b = tt
 performed_holds p (role.Function body) b = b
 performed_holds p role.Program b = tt
-performed_holds p (role.Exec true) b = tt
-performed_holds p (role.Exec false) b = tt
+performed_holds p (role.Exec true is_special) b = tt
+performed_holds p (role.Exec false is_special) b = tt
 performed_holds p (role.Compound command) b = b
 performed_holds p (role.Subshell list) b = b
 
@@ -149,11 +153,11 @@ ahead_holds p h = ahead_by_holds p p.redirections p.assignments h
 
 first_by_holds : (in_place : Bool) (p : ExpandedCommand) (r : Role) → p.role ≡ r → CommandHolds p → MoveHolds (if forks r in_place then move.At (Next (Forking p)) else ahead p)
 first_by_holds in_place p role.NoCommandName e h = ahead_holds p h
-first_by_holds in_place p (role.Builtin builtin) e h = ahead_holds p h
+first_by_holds in_place p (role.Builtin invocation) e h = ahead_holds p h
 first_by_holds in_place p (role.Function body) e h = ahead_holds p h
 first_by_holds true p role.Program e h = ahead_holds p h
 first_by_holds false p role.Program e h = (e, h.1)
-first_by_holds in_place p (role.Exec is_command) e h = ahead_holds p h
+first_by_holds in_place p (role.Exec is_command is_special) e h = ahead_holds p h
 first_by_holds in_place p (role.Compound command) e h = ahead_holds p h
 first_by_holds in_place p (role.Subshell list) e h = ahead_holds p h
 
@@ -204,20 +208,33 @@ abbrev BodyBegins : Option Command → Type 0
 BodyBegins None = Unit {0}
 BodyBegins (Some body) = CommandBegins body
 
-role_of_special : (b : Bool) (builtin : Builtin) (body : Command) → CommandBegins body → RoleHolds (if b then role.Builtin builtin else role.Function body)
-role_of_special true builtin body f = tt
-role_of_special false builtin body f = f
+role_of_special : (b : Bool) (invocation : Invocation) (body : Command) → CommandBegins body → RoleHolds (if b then role.Builtin invocation else role.Function body)
+role_of_special true invocation body f = tt
+role_of_special false invocation body f = f
 
 role_by_holds : (o : Option Builtin) (body : Option Command) → BodyBegins body → RoleHolds (role_by o body)
 role_by_holds None None f = tt
 role_by_holds None (Some body) f = f
 role_by_holds (Some builtin) None f = tt
-role_by_holds (Some builtin) (Some body) f = role_of_special (is_special builtin) builtin body f
+role_by_holds (Some builtin) (Some body) f = role_of_special (is_special builtin) (by_name builtin) body f
 
-exec_holds : (o : Option Parsed) → RoleHolds (exec_role o)
-exec_holds None = tt
-exec_holds (Some (last, [])) = tt
-exec_holds (Some (last, command ∷ arguments)) = tt
+exec_holds : (exec : Invocation) (o : Option Parsed) → RoleHolds (exec_role exec o)
+exec_holds exec None = tt
+exec_holds exec (Some (last, [])) = tt
+exec_holds exec (Some (last, command ∷ arguments)) = tt
+
+command_role_holds : (o : Option Builtin) → RoleHolds (command_role o)
+command_role_holds None = tt
+command_role_holds (Some builtin) = tt
+
+role_behind_by : (b : Bool) (name : List ℕ) (arguments : List (List ℕ))
+    → RoleHolds (if b then exec_role (by_command Exec) (options_and_operands [] arguments) else command_role (builtin_of name))
+role_behind_by true name arguments = exec_holds (by_command Exec) (options_and_operands [] arguments)
+role_behind_by false name arguments = command_role_holds (builtin_of name)
+
+role_behind_holds : (words : List (List ℕ)) → RoleHolds (role_behind words)
+role_behind_holds [] = tt
+role_behind_holds (name ∷ arguments) = role_behind_by (is_named Exec name) name arguments
 
 -- the function of a name
 found_begins : (b : Bool) (function : Named) (rest : Option Named) → CommandBegins function.1 → BodyBegins (option_map (λ f. f.1) rest)
@@ -230,19 +247,24 @@ body_begins [] name h = tt
 body_begins (function ∷ others) name h = found_begins (has_name name function) function (find (has_name name) others) h.0 (body_begins others name h.1)
 
 role_for_holds : (b : Bool) (functions : List Named) (name : List ℕ) (arguments : List (List ℕ)) → FunctionsHold functions
-    → RoleHolds (if b then exec_role (options_and_operands [] arguments) else role_by (builtin_of name) (body_of functions name))
-role_for_holds true functions name arguments h = exec_holds (options_and_operands [] arguments)
+    → RoleHolds (if b then exec_role (by_name Exec) (options_and_operands [] arguments) else role_by (builtin_of name) (body_of functions name))
+role_for_holds true functions name arguments h = exec_holds (by_name Exec) (options_and_operands [] arguments)
 role_for_holds false functions name arguments h = role_by_holds (builtin_of name) (body_of functions name) (body_begins functions name h)
 
 role_holds : (functions : List Named) (words : List (List ℕ)) → FunctionsHold functions → RoleHolds (role_of functions words)
 role_holds functions [] h = tt
 role_holds functions (name ∷ arguments) h =
-    role_for_holds (is_exec name) functions name arguments h
+    role_for_holds (is_named Exec name) functions name arguments h
+
+role_run_holds : (functions : List Named) (words : List (List ℕ)) (behind : Option (List (List ℕ))) → FunctionsHold functions → RoleHolds (role_run functions words behind)
+role_run_holds functions words None h = role_holds functions words h
+role_run_holds functions words (Some behind) h = role_behind_holds behind
 
 prepared_holds : (env : Environment) (functions : List Named) (items : List SimpleItem) (fields : List (List ℕ)) (status : ℕ) → FunctionsHold functions → WordsBegin items
     → CommandHolds (prepared_of env functions items fields status)
 unfolding prepared_of
-prepared_holds env functions items fields status h b = (role_holds functions (word_fields fields (length (redirects_of items))) h, assignments_hold items b)
+prepared_holds env functions items fields status h b =
+    let words = word_fields fields (length (redirects_of items)) in (role_run_holds functions words (behind_command functions words) h, assignments_hold items b)
 
 words_by_hold : (functions : List Named) (command : Command) (in_place : Bool) (status : ℕ) (pending : Pending) (r : expanding.Result) → FunctionsHold functions → CommandBegins command
     → ResultBegins r → TurnHolds (words_by functions command in_place status pending r)

@@ -3,17 +3,20 @@ use Rattle.std.proofs.Common.{◌≡◌, ℕ, zero, suc, List, [], ◌∷◌, �
 use Rattle.std.specs.Prelude.{cond, drop, nat_eq, not}
 use Rattle.sh_base.specs.Names.{is_name}
 use Rattle.sh_builtin.specs.Functions.{Named, defined, has_name, unset_by, without, without_all}
+use Rattle.sh_builtin.specs.Invocations.{invoked}
 use Rattle.sh_builtin.specs.Running.{built_in}
-use Rattle.sh_builtin.specs.declared.outcome.TextOrigin.{TextOrigin}
+use Rattle.sh_builtin.specs.declared.outcome.TextRun.{TextRun}
 use Rattle.sh_builtin.specs.declared.builtin.Builtin.{Builtin}
 use Rattle.sh_builtin.specs.declared.builtin.Builtin.TheVariants as builtin
 use Rattle.sh_builtin.specs.declared.outcome.Leave.{Leave}
 use Rattle.sh_builtin.specs.declared.outcome.Leave.TheVariants as leave
 use Rattle.sh_builtin.specs.declared.shell.Shell.{Shell}
 use Rattle.sh_builtin_environment.specs.Unsetting.{functions_to_unset}
+use Rattle.sh_builtin_regular.specs.Lines.{Progress, bytes_taken}
+use Rattle.sh_builtin_regular.specs.declared.reader.LineReader.{LineReader}
 use Rattle.sh_exec_actions.specs.Statuses.{unexcused}
 use Rattle.sh_exec_actions.specs.declared.action.Action.{Action}
-use Rattle.sh_exec_actions.specs.declared.action.Action.TheVariants.{Reading, Expanding, ReadSubstitution, WaitSubstitution, Redirecting, Forking, Starting, ForkStage, AssignLoopVariable, Defining, Waiting, Writing, Trapping, Ending}
+use Rattle.sh_exec_actions.specs.declared.action.Action.TheVariants.{Reading, Expanding, ReadSubstitution, WaitSubstitution, ReadLine, Redirecting, Forking, Starting, ForkStage, AssignLoopVariable, Defining, Waiting, Writing, Trapping, Ending}
 use Rattle.sh_exec_actions.specs.declared.action.Active.{Active}
 use Rattle.sh_exec_actions.specs.declared.action.Active.TheVariants.{Acting, Calling, Evaluating, Next, Done, Leaving}
 use Rattle.sh_exec_actions.specs.declared.action.Expanded.{Expanded}
@@ -30,7 +33,8 @@ use Rattle.sh_exec_actions.specs.declared.form.Form.TheVariants.{Text, Commands,
 use Rattle.sh_exec_actions.specs.declared.status.CommandStatus.{CommandStatus}
 use Rattle.sh_exec_command.specs.Defining.{define_by, define_turn}
 use Rattle.sh_exec_command.specs.Series.{rest_of_series}
-use Rattle.sh_exec_forms.specs.Builtins.{behind, builtin_effect, call, effect_at, evaluation, performed}
+use Rattle.sh_exec_frames.specs.Reporting.{behind}
+use Rattle.sh_exec_forms.specs.Builtins.{builtin_effect, call, effect_at, evaluation, performed}
 use Rattle.sh_exec_forms.specs.Forms.{Acted, after, after_by, after_leave, after_status, at_action, condition_run, loop_left, onward, undone, with_run}
 use Rattle.sh_builtin_environment.specs.TrapMaps.{action_of}
 use Rattle.sh_signal.specs.declared.condition.Condition.TheVariants.{Exit}
@@ -44,10 +48,11 @@ use Rattle.sh_exec_parts.specs.Simple.{Opened}
 use Rattle.sh_exec_parts.specs.declared.message.Piece.{Piece}
 use Rattle.sh_exec_parts.specs.declared.redirection.Redirection.{Redirection}
 use Rattle.sh_exec_shell.specs.Acting.{after_collection, collect_by, collect_end, collect_from, collect_turn, end_turn, expand_turn, next, redirect_from, redirect_one, redirect_turn, trap_by, trap_turn, with_written, write_turn}
+use Rattle.sh_exec_shell.specs.LineReading.{line_by, line_ended, line_goes_on, line_read_by, most_read, read_line_turn}
 use Rattle.sh_exec_shell.specs.Forks.{begun_substitution, fork_turn, is_more, program_by, stage_by, stage_from, stage_one, stage_turn, substitute_turn, substitution_by}
 use Rattle.sh_exec_shell.specs.Reduction.{act_at, act_place, expanded_by, reduce}
 use Rattle.sh_kernel.specs.State.{KernelState}
-use Rattle.sh_kernel_descriptors.specs.declared.descriptor.DescriptorRef.TheVariants.{Aside}
+use Rattle.sh_kernel_descriptors.specs.declared.descriptor.DescriptorRef.TheVariants.{Aside, Number}
 use Rattle.sh_syntax.specs.declared.tree.Command.{Command}
 use Rattle.sh_syntax.specs.declared.tree.Command.TheOpen as layer
 use Rattle.sh_syntax.specs.declared.tree.Command.TheVariants as command
@@ -101,6 +106,7 @@ built_in_keeps s shell last builtin.Bracket arguments f = f
 built_in_keeps s shell last builtin.Break arguments f = f
 built_in_keeps s shell last builtin.Cd arguments f = f
 built_in_keeps s shell last builtin.Colon arguments f = f
+built_in_keeps s shell last builtin.Command arguments f = f
 built_in_keeps s shell last builtin.Continue arguments f = f
 built_in_keeps s shell last builtin.Dot arguments f = f
 built_in_keeps s shell last builtin.Echo arguments f = f
@@ -110,6 +116,7 @@ built_in_keeps s shell last builtin.Exit arguments f = f
 built_in_keeps s shell last builtin.Export arguments f = f
 built_in_keeps s shell last builtin.False arguments f = f
 built_in_keeps s shell last builtin.Pwd arguments f = f
+built_in_keeps s shell last builtin.Read arguments f = f
 built_in_keeps s shell last builtin.ReadOnly arguments f = f
 built_in_keeps s shell last builtin.Return arguments f = f
 built_in_keeps s shell last builtin.Set arguments f = f
@@ -119,9 +126,9 @@ built_in_keeps s shell last builtin.Trap arguments f = f
 built_in_keeps s shell last builtin.True arguments f = f
 built_in_keeps s shell last builtin.Unset arguments f = unset_hold shell.functions (functions_to_unset arguments) f
 
-evaluation_keeps : (levels : ℕ) (shell : Shell) (origin : TextOrigin) (text : List ℕ) → Keeps shell → Keeps (evaluation levels shell origin text).shell
-evaluation_keeps zero shell origin text f = f
-evaluation_keeps (suc levels) shell origin text f = f
+evaluation_keeps : (levels : ℕ) (shell : Shell) (how : TextRun) (text : List ℕ) → Keeps shell → Keeps (evaluation levels shell how text).shell
+evaluation_keeps zero shell how text f = f
+evaluation_keeps (suc levels) shell how text f = f
 
 call_keeps : (levels : ℕ) (shell : Shell) (body : Command) (arguments : List (List ℕ)) → Keeps shell → Keeps (call levels shell body arguments).shell
 call_keeps zero shell body arguments f = f
@@ -130,19 +137,19 @@ call_keeps (suc levels) shell body arguments f = f
 performed_keeps : (levels : ℕ) (shell : Shell) (active : Active) → Keeps shell → Keeps (performed levels shell active).shell
 performed_keeps levels shell (Acting b fields) f = f
 performed_keeps levels shell (Calling body fields) f = call_keeps levels shell body (drop 1 fields) f
-performed_keeps levels shell (Evaluating origin text) f = evaluation_keeps levels shell origin text f
+performed_keeps levels shell (Evaluating how text) f = evaluation_keeps levels shell how text f
 performed_keeps levels shell (Next place) f = f
 performed_keeps levels shell (Done status) f = f
 performed_keeps levels shell (Leaving l) f = f
 
 effect_keeps : (around : List Form) (s : KernelState) (shell : Shell) (active : Active) → Keeps shell → Keeps (effect_at around s shell active).shell
-unfolding builtin_effect
-effect_keeps around s shell (Acting b fields) f =
-    let last = last_for around b shell.vars.special.status in
-    let d = built_in s.machine shell last b (drop 1 fields) in
-    performed_keeps (levels_left around) d.shell (behind b d.outcome) (built_in_keeps s shell last b (drop 1 fields) f)
+unfolding builtin_effect invoked
+effect_keeps around s shell (Acting i fields) f =
+    let last = last_for around i.builtin shell.vars.special.status in
+    let d = invoked s.machine shell last i (drop 1 fields) in
+    performed_keeps (levels_left around) d.shell (behind i.builtin d.outcome) (built_in_keeps s shell last i.builtin (drop 1 fields) f)
 effect_keeps around s shell (Calling body fields) f = call_keeps (levels_left around) shell body (drop 1 fields) f
-effect_keeps around s shell (Evaluating origin text) f = evaluation_keeps (levels_left around) shell origin text f
+effect_keeps around s shell (Evaluating how text) f = evaluation_keeps (levels_left around) shell how text f
 effect_keeps around s shell (Next place) f = f
 effect_keeps around s shell (Done status) f = f
 effect_keeps around s shell (Leaving l) f = f
@@ -163,7 +170,7 @@ ended_keeps around (Condition loop last) s shell status f = f
 ended_keeps around (Body loop) s shell status f = f
 ended_keeps around (ForBody series) s shell status f = f
 ended_keeps around (Call positional) s shell status f = f
-ended_keeps around (Evaluation origin) s shell status f = f
+ended_keeps around (Evaluation how) s shell status f = f
 ended_keeps around (Trapped before) s shell status f = f
 ended_keeps around FailuresIgnored s shell status f = f
 
@@ -189,7 +196,7 @@ left_keeps around (Condition loop last) s shell l f = loop_left_keeps (has_loop 
 left_keeps around (Body loop) s shell l f = loop_left_keeps (has_loop around) l s shell (condition_run loop (unexcused 0)) f
 left_keeps around (ForBody series) s shell l f = loop_left_keeps (has_loop around) l s shell (At (rest_of_series series (unexcused 0))) f
 left_keeps around (Call positional) s shell l f = f
-left_keeps around (Evaluation origin) s shell l f = f
+left_keeps around (Evaluation how) s shell l f = f
 left_keeps around (Trapped before) s shell l f = f
 left_keeps around FailuresIgnored s shell l f = f
 
@@ -198,7 +205,7 @@ after_by_keeps around form s shell (At (Done status)) f = ended_keeps around for
 after_by_keeps around form s shell (At (Leaving l)) f = left_keeps around form s shell l f
 after_by_keeps around form s shell (At (Acting b fields)) f = f
 after_by_keeps around form s shell (At (Calling body fields)) f = f
-after_by_keeps around form s shell (At (Evaluating origin text)) f = f
+after_by_keeps around form s shell (At (Evaluating how text)) f = f
 after_by_keeps around form s shell (At (Next place)) f = f
 after_by_keeps around form s shell (In inner run) f = f
 
@@ -234,6 +241,26 @@ collect_end_keeps s shell substitution (Some aside) f =
 collect_keeps : (s : KernelState) (shell : Shell) (substitution : Substitution) → Keeps shell → ActedKeeps (collect_turn s shell substitution)
 unfolding collect_turn
 collect_keeps s shell substitution f = collect_end_keeps s shell substitution substitution.aside f
+
+-- ---- the line of read
+line_ended_keeps : (s : KernelState) (shell : Shell) (reader : LineReader) (status : ℕ) → Keeps shell → ActedKeeps (line_ended s shell reader status)
+unfolding line_ended
+line_ended_keeps s shell reader status f = f
+
+line_by_keeps : (s : KernelState) (shell : Shell) (p : Progress) → Keeps shell → ActedKeeps (line_by s shell p)
+line_by_keeps s shell p f =
+    choose ActedKeeps p.over (line_ended s shell p.reader 0) (line_goes_on s shell p.reader) (λ e. line_ended_keeps s shell p.reader 0 f) (λ e. f)
+
+line_read_by_keeps : (s : KernelState) (shell : Shell) (reader : LineReader) (told : ReadOutcome) → Keeps shell → ActedKeeps (line_read_by s shell reader told)
+line_read_by_keeps s shell reader (taken.Bytes bytes) f =
+    choose ActedKeeps (nat_eq (length bytes) 0) (line_ended s shell reader 1) (line_by s shell (bytes_taken reader bytes))
+    (λ e. line_ended_keeps s shell reader 1 f) (λ e. line_by_keeps s shell (bytes_taken reader bytes) f)
+line_read_by_keeps s shell reader taken.Wait f = f
+line_read_by_keeps s shell reader taken.Failed f = line_ended_keeps s shell reader 1 f
+
+line_keeps : (s : KernelState) (shell : Shell) (reader : LineReader) → Keeps shell → ActedKeeps (read_line_turn s shell reader)
+unfolding read_line_turn
+line_keeps s shell reader f = let t = take_bytes s shell.pid (Number 0) (most_read s.machine shell.pid) in line_read_by_keeps t.after shell reader t.told f
 
 -- ---- redirections, writes, and the end
 redirect_from_keeps : (s : KernelState) (shell : Shell) (p : ExpandedCommand) (redirections : List Redirection) → Keeps shell → ActedKeeps (redirect_from s shell p redirections)
@@ -303,34 +330,35 @@ expanded_keeps s shell (expanded.Need program wants pending) f = substitute_keep
 expanded_keeps s shell (expanded.Go move) f = f
 
 -- ---- the turn
-place_keeps : (s : KernelState) (shell : Shell) (place : Action) → PlaceHolds place → Keeps shell → ActedKeeps (act_place s shell place).left
-place_keeps s shell (Reading rest status) h f = f
-place_keeps s shell (Expanding wants pending) h f =
+place_keeps : (around : List Form) (s : KernelState) (shell : Shell) (place : Action) → PlaceHolds place → Keeps shell → ActedKeeps (act_place around s shell place).left
+place_keeps around s shell (Reading rest status) h f = f
+place_keeps around s shell (Expanding wants pending) h f =
     let t = expand_turn s.machine.files shell.vars shell.functions wants pending in expanded_keeps s (record shell { vars = t.environment }) t.outcome f
-place_keeps s shell (ReadSubstitution substitution) h f = collect_keeps s shell substitution f
-place_keeps s shell (WaitSubstitution substitution) h f = f
-place_keeps s shell (Redirecting p) h f = redirect_keeps s shell p f
-place_keeps s shell (Forking p) h f = fork_keeps s shell p f
-place_keeps s shell (Starting fields) h f = f
-place_keeps s shell (ForkStage stages) h f = stage_keeps s shell stages f
-place_keeps s shell (AssignLoopVariable series) h f = f
-place_keeps s shell (Defining definition) h f = define_hold shell.functions definition f h
-place_keeps s shell (Waiting children) h f = f
-place_keeps s shell (Writing piece finish) h f = write_keeps s shell piece finish f
-place_keeps s shell (Trapping status) h f = trap_keeps s shell status f
-place_keeps s shell (Ending status) h f = end_keeps s shell status f
+place_keeps around s shell (ReadSubstitution substitution) h f = collect_keeps s shell substitution f
+place_keeps around s shell (WaitSubstitution substitution) h f = f
+place_keeps around s shell (ReadLine reader) h f = line_keeps s shell reader f
+place_keeps around s shell (Redirecting p) h f = redirect_keeps s shell p f
+place_keeps around s shell (Forking p) h f = fork_keeps s shell p f
+place_keeps around s shell (Starting start) h f = f
+place_keeps around s shell (ForkStage stages) h f = stage_keeps s shell stages f
+place_keeps around s shell (AssignLoopVariable series) h f = f
+place_keeps around s shell (Defining definition) h f = define_hold shell.functions definition f h
+place_keeps around s shell (Waiting children) h f = f
+place_keeps around s shell (Writing piece finish) h f = write_keeps s shell piece finish f
+place_keeps around s shell (Trapping status) h f = trap_keeps s shell status f
+place_keeps around s shell (Ending status) h f = end_keeps s shell status f
 
-active_keeps : (s : KernelState) (shell : Shell) (active : Active) → ActiveStands active → Keeps shell → ActedKeeps (act_at s shell active).left
-active_keeps s shell (Acting b fields) h f = f
-active_keeps s shell (Calling body fields) h f = f
-active_keeps s shell (Evaluating origin text) h f = f
-active_keeps s shell (Next place) h f = place_keeps s shell place h f
-active_keeps s shell (Done status) h f = f
-active_keeps s shell (Leaving l) h f = f
+active_keeps : (around : List Form) (s : KernelState) (shell : Shell) (active : Active) → ActiveStands active → Keeps shell → ActedKeeps (act_at around s shell active).left
+active_keeps around s shell (Acting b fields) h f = f
+active_keeps around s shell (Calling body fields) h f = f
+active_keeps around s shell (Evaluating how text) h f = f
+active_keeps around s shell (Next place) h f = place_keeps around s shell place h f
+active_keeps around s shell (Done status) h f = f
+active_keeps around s shell (Leaving l) h f = f
 
 pub functions_hold : (s : KernelState) (shell : Shell) (around : List Form) (run : Run) → RunStands run → FunctionsHold shell.functions
     → FunctionsHold (reduce s shell around run).left.shell.functions
 functions_hold s shell around (At active) h f =
-    let t = act_at s shell active in settled_keeps around t.left.machine t.left.shell t.left.run (active_keeps s shell active h f)
+    let t = act_at around s shell active in settled_keeps around t.left.machine t.left.shell t.left.run (active_keeps around s shell active h f)
 functions_hold s shell around (In form run) h f =
     after_keeps around form (reduce s shell (form ∷ around) run).left (functions_hold s shell (form ∷ around) run h.1 f)

@@ -1,6 +1,7 @@
 -- A turn of a process that stands before an action leaves it before one.
 use Rattle.std.proofs.Common.{ℕ, List, [], ◌∷◌, Option, Some, None, option_map}
-use Rattle.sh_exec.specs.Starting.{Invocation, located_for, start_named, start_turn, started_by, starting_in, stock_start}
+use Rattle.sh_exec.specs.Starting.{Invocation, located_for, start_by, start_named, start_turn, started_by, starting_in, stock_start}
+use Rattle.sh_exec_actions.specs.declared.action.ProgramStart.{ProgramStart}
 use Rattle.sh_exec.specs.Turns.{Turned, made_task, runs_by, started_in, turn}
 use Rattle.sh_exec.specs.declared.start.Started.{Started}
 use Rattle.sh_exec.specs.declared.start.Started.TheVariants.{Becomes, Refused}
@@ -24,7 +25,7 @@ active_next : (active : Active) → ActiveStands active → IsNext active
 active_next (Next place) s = tt
 active_next (Acting builtin fields) s = s
 active_next (Calling body fields) s = s
-active_next (Evaluating origin text) s = s
+active_next (Evaluating how text) s = s
 active_next (Done status) s = s
 active_next (Leaving leave) s = s
 
@@ -50,21 +51,21 @@ module _ {S : Type 0} (m : Meaning S) where
   StartedStands (Becomes task) = TaskStands task
   StartedStands (Refused place) = PlaceHolds place
 
-  stocked_stands : (s : KernelState) (shell : Shell) (name : List ℕ) (o : Option S) → StartedStands (stock_start m s shell name o).next
-  stocked_stands s shell name None = tt
-  stocked_stands s shell name (Some program) = tt
+  stocked_stands : (s : KernelState) (shell : Shell) (i : Invocation) (o : Option S) → StartedStands (stock_start m s shell i o).next
+  stocked_stands s shell i None = tt
+  stocked_stands s shell i (Some program) = tt
 
   started_stands : (s : KernelState) (shell : Shell) (invocation : Invocation) (l : Located) → StartedStands (started_by m s shell invocation l).next
   started_stands s shell invocation located.Missing = tt
   started_stands s shell invocation located.Unfit = tt
-  started_stands s shell invocation (located.Stock program) = stocked_stands s shell invocation.name (m.start program invocation.operands)
+  started_stands s shell invocation (located.Stock program) = stocked_stands s shell invocation (m.start program invocation.operands)
   started_stands s shell invocation (located.Script path text) = (tt, tt)
 
-  start_stands : (s : KernelState) (shell : Shell) (fields : List (List ℕ)) → StartedStands (start_turn m s shell fields).next
+  start_stands : (s : KernelState) (shell : Shell) (start : ProgramStart) (fields : List (List ℕ)) → StartedStands (start_by m s shell start fields).next
   unfolding start_named
-  start_stands s shell [] = tt
-  start_stands s shell (name ∷ operands) =
-      started_stands s shell (record { name = name; operands = operands }) (located_for s.machine.files shell.vars name)
+  start_stands s shell start [] = tt
+  start_stands s shell start (name ∷ operands) =
+      started_stands s shell (record { name = name; operands = operands; ends_shell = start.ends_shell }) (located_for s.machine.files shell.vars name)
 
   abbrev TurnedStands : Turned S → Type 0
   TurnedStands t = TaskStands t.task × MadeStands t.child
@@ -73,11 +74,11 @@ module _ {S : Type 0} (m : Meaning S) where
   started_in_stands s interpreter (Becomes task) h t = (t, tt)
   started_in_stands s interpreter (Refused place) h p = ((placed_stands interpreter.run place h.0 p, h.1), tt)
 
-  runs_stand : (s : KernelState) (interpreter : InterpreterState) (o : Option (List (List ℕ))) → InterpreterStands interpreter → TurnedStands (runs_by m s interpreter o)
+  runs_stand : (s : KernelState) (interpreter : InterpreterState) (o : Option ProgramStart) → InterpreterStands interpreter → TurnedStands (runs_by m s interpreter o)
   runs_stand s interpreter None h =
       let stands = shell_stands s interpreter h in (stands.0, made_stands S (shell_turn s interpreter).child stands.1)
-  runs_stand s interpreter (Some fields) h =
-      let l = start_turn m s interpreter.shell fields in started_in_stands l.machine interpreter l.next h (start_stands s interpreter.shell fields)
+  runs_stand s interpreter (Some start) h =
+      let l = start_turn m s interpreter.shell start in started_in_stands l.machine interpreter l.next h (start_stands s interpreter.shell start start.fields)
 
   pub turn_stands : (s : KernelState) (task : Task S) → TaskStands task → TurnedStands (turn m s task)
   turn_stands s (Runs interpreter) h = runs_stand s interpreter (starting_in (active_of interpreter.run)) h

@@ -1,7 +1,8 @@
 -- Turns of processes, shells and programs.
 use Rattle.std.proofs.Common.{◌≡◌, ℕ, List, [], ◌∷◌, Option, Some, None, option_map, refl, sym, subst}
 use Rattle.sh_exec.specs.Programs.{ask_turn, end_turn, read_turn, write_turn}
-use Rattle.sh_exec.specs.Starting.{Invocation, located_for, start_named, start_turn, started_by, starting_in, stock_start}
+use Rattle.sh_exec.specs.Starting.{Invocation, located_for, start_by, start_named, start_turn, started_by, starting_in, stock_start}
+use Rattle.sh_exec_actions.specs.declared.action.ProgramStart.{ProgramStart}
 use Rattle.sh_exec.specs.Turns.{Turned, by_shell, made_task, runs_by, started_in, turn}
 use Rattle.sh_exec.specs.declared.start.Started.{Started}
 use Rattle.sh_exec.specs.declared.start.Started.TheVariants.{Becomes, Refused}
@@ -33,21 +34,21 @@ module _ {S : Type 0} (m : Meaning S) (directory : List ℕ) (pid : ℕ) (P : Op
   own_kept : (n : ℕ) → n ≡ pid → IsKept directory n (P None)
   own_kept n e = subst (λ q. IsKept directory q (P None)) (sym e) (kept None)
 
-  stocked_keeps : (s : KernelState) (shell : Shell) (name : List ℕ) (o : Option S) → shell.pid ≡ pid → P None s → P None (stock_start m s shell name o).machine
-  stocked_keeps s shell name None e p = p
-  stocked_keeps s shell name (Some program) e p = own_kept shell.pid e s StartProgram tt p
+  stocked_keeps : (s : KernelState) (shell : Shell) (i : Invocation) (o : Option S) → shell.pid ≡ pid → P None s → P None (stock_start m s shell i o).machine
+  stocked_keeps s shell i None e p = p
+  stocked_keeps s shell i (Some program) e p = own_kept shell.pid e s StartProgram tt p
 
   started_keeps : (s : KernelState) (shell : Shell) (invocation : Invocation) (l : Located) → shell.pid ≡ pid → P None s → P None (started_by m s shell invocation l).machine
   started_keeps s shell invocation located.Missing e p = p
   started_keeps s shell invocation located.Unfit e p = p
-  started_keeps s shell invocation (located.Stock program) e p = stocked_keeps s shell invocation.name (m.start program invocation.operands) e p
+  started_keeps s shell invocation (located.Stock program) e p = stocked_keeps s shell invocation (m.start program invocation.operands) e p
   started_keeps s shell invocation (located.Script path text) e p = own_kept shell.pid e s StartProgram tt p
 
-  start_keeps : (s : KernelState) (shell : Shell) (fields : List (List ℕ)) → shell.pid ≡ pid → P None s → P None (start_turn m s shell fields).machine
+  start_by_keeps : (s : KernelState) (shell : Shell) (start : ProgramStart) (fields : List (List ℕ)) → shell.pid ≡ pid → P None s → P None (start_by m s shell start fields).machine
   unfolding start_named
-  start_keeps s shell [] e p = p
-  start_keeps s shell (name ∷ operands) e p =
-      started_keeps s shell (record { name = name; operands = operands }) (located_for s.machine.files shell.vars name) e p
+  start_by_keeps s shell start [] e p = p
+  start_by_keeps s shell start (name ∷ operands) e p =
+      started_keeps s shell (record { name = name; operands = operands; ends_shell = start.ends_shell }) (located_for s.machine.files shell.vars name) e p
 
   ask_keeps : (s : KernelState) (n : ℕ) (a : Ask) (program : S) → n ≡ pid → P None s → P None (ask_turn m s n a program).machine
   unfolding read_turn write_turn end_turn
@@ -67,10 +68,10 @@ module _ {S : Type 0} (m : Meaning S) (directory : List ℕ) (pid : ℕ) (P : Op
   started_in_keeps s interpreter (Becomes task) p = p
   started_in_keeps s interpreter (Refused place) p = p
 
-  runs_keeps : (s : KernelState) (interpreter : InterpreterState) (o : Option (List (List ℕ))) → interpreter.shell.pid ≡ pid → interpreter.shell.vars.directory ≡ directory → P None s → Leaves (runs_by m s interpreter o)
+  runs_keeps : (s : KernelState) (interpreter : InterpreterState) (o : Option ProgramStart) → interpreter.shell.pid ≡ pid → interpreter.shell.vars.directory ≡ directory → P None s → Leaves (runs_by m s interpreter o)
   runs_keeps s interpreter None e d p = by_shell_keeps (shell_turn s interpreter) (shell_keeps directory pid P kept forks s interpreter e d p).1
-  runs_keeps s interpreter (Some fields) e d p =
-      let l = start_turn m s interpreter.shell fields in started_in_keeps l.machine interpreter l.next (start_keeps s interpreter.shell fields e p)
+  runs_keeps s interpreter (Some start) e d p =
+      let l = start_turn m s interpreter.shell start in started_in_keeps l.machine interpreter l.next (start_by_keeps s interpreter.shell start start.fields e p)
 
   pub turn_keeps : (s : KernelState) (task : Task S) → pid_of task ≡ pid → directory_of task ≡ directory → P None s → Leaves (turn m s task)
   turn_keeps s (Runs interpreter) e d p = runs_keeps s interpreter (starting_in (active_of interpreter.run)) e d p
@@ -83,31 +84,31 @@ module _ {S : Type 0} (m : Meaning S) where
   Numbered shell (Becomes task) = pid_of task ≡ shell.pid
   Numbered shell (Refused place) = Unit {0}
 
-  stocked_number : (s : KernelState) (shell : Shell) (name : List ℕ) (o : Option S) → Numbered shell (stock_start m s shell name o).next
-  stocked_number s shell name None = tt
-  stocked_number s shell name (Some program) = refl
+  stocked_number : (s : KernelState) (shell : Shell) (i : Invocation) (o : Option S) → Numbered shell (stock_start m s shell i o).next
+  stocked_number s shell i None = tt
+  stocked_number s shell i (Some program) = refl
 
   started_number : (s : KernelState) (shell : Shell) (invocation : Invocation) (l : Located) → Numbered shell (started_by m s shell invocation l).next
   started_number s shell invocation located.Missing = tt
   started_number s shell invocation located.Unfit = tt
-  started_number s shell invocation (located.Stock program) = stocked_number s shell invocation.name (m.start program invocation.operands)
+  started_number s shell invocation (located.Stock program) = stocked_number s shell invocation (m.start program invocation.operands)
   started_number s shell invocation (located.Script path text) = refl
 
-  start_number : (s : KernelState) (shell : Shell) (fields : List (List ℕ)) → Numbered shell (start_turn m s shell fields).next
+  start_number : (s : KernelState) (shell : Shell) (start : ProgramStart) (fields : List (List ℕ)) → Numbered shell (start_by m s shell start fields).next
   unfolding start_named
-  start_number s shell [] = tt
-  start_number s shell (name ∷ operands) =
-      started_number s shell (record { name = name; operands = operands }) (located_for s.machine.files shell.vars name)
+  start_number s shell start [] = tt
+  start_number s shell start (name ∷ operands) =
+      started_number s shell (record { name = name; operands = operands; ends_shell = start.ends_shell }) (located_for s.machine.files shell.vars name)
 
   started_in_number : (s : KernelState) (interpreter : InterpreterState) (x : Started S) → Numbered interpreter.shell x → pid_of (started_in s interpreter x).task ≡ interpreter.shell.pid
   started_in_number s interpreter (Becomes task) e = e
   started_in_number s interpreter (Refused place) e = refl
 
-  runs_number : (s : KernelState) (interpreter : InterpreterState) (o : Option (List (List ℕ))) → pid_of (runs_by m s interpreter o).task ≡ interpreter.shell.pid
+  runs_number : (s : KernelState) (interpreter : InterpreterState) (o : Option ProgramStart) → pid_of (runs_by m s interpreter o).task ≡ interpreter.shell.pid
   runs_number s interpreter None =
       (shell_keeps interpreter.shell.vars.directory interpreter.shell.pid (λ made t. Unit {0}) (λ made t r from p. tt) (λ t before writes p. tt) s interpreter refl refl tt).0
-  runs_number s interpreter (Some fields) =
-      let l = start_turn m s interpreter.shell fields in started_in_number l.machine interpreter l.next (start_number s interpreter.shell fields)
+  runs_number s interpreter (Some start) =
+      let l = start_turn m s interpreter.shell start in started_in_number l.machine interpreter l.next (start_number s interpreter.shell start start.fields)
 
   pub turn_number : (s : KernelState) (task : Task S) → pid_of (turn m s task).task ≡ pid_of task
   turn_number s (Runs interpreter) = runs_number s interpreter (starting_in (active_of interpreter.run))

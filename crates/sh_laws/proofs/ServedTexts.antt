@@ -15,7 +15,7 @@ use Rattle.sh_token.specs.declared.token.TokenKind.{TokenKind}
 use Rattle.sh_parse_actions.specs.Forms.{compound_list}
 use Rattle.sh_parse_actions.specs.declared.leaf.Leaf.{Leaf}
 use Rattle.sh_parse_actions.specs.declared.leaf.Leaf.TheVariants as leaf
-use Rattle.sh_parse_trees.specs.Meaning.{syntax_of}
+use Rattle.sh_parse_words.specs.Meaning.{syntax_of}
 use Rattle.sh_parse_documents.specs.Documents.{place_at}
 use Rattle.sh_parse_documents.specs.Stream.{AtEnd, Cut, Ending, Items, items_of, waiting_behind}
 use Rattle.sh_parse_documents.specs.Waiting.{Waiting, behind_token, due_at, nothing}

@@ -26,8 +26,8 @@ use Rattle.sh_parse_actions.specs.declared.value.Tail.{Tail}
 use Rattle.sh_parse_actions.specs.declared.value.Value.{Value}
 use Rattle.sh_parse_actions.specs.declared.value.Value.TheVariants as value
 use Rattle.sh_parse_actions.specs.declared.value.Values.{Values}
-use Rattle.sh_parse_trees.specs.Meaning.{kept_by, kept_values, no_values, only, syntax_of, value_made, value_of, values_of, whole_list, width}
-use Rattle.sh_parse_trees.specs.Productions.{kinds}
+use Rattle.sh_parse_words.specs.Meaning.{kept_by, kept_values, no_values, only, syntax_of, value_made, value_of, values_of, whole_list, width}
+use Rattle.sh_parse_words.specs.Productions.{kinds}
 use Rattle.sh_syntax.specs.declared.tree.Command.TheViews as view
 use Rattle.sh_syntax.specs.declared.tree.Compound.{Compound}
 use Rattle.sh_syntax.specs.declared.tree.Name.{Name}

@@ -1,8 +1,9 @@
 -- Forms are settled to an action, where all that they hold begins with one.
 use Rattle.std.proofs.Common.{ℕ, zero, suc, List, [], ◌∷◌, Option, Bool, true, false, refl, sym, subst}
 use Rattle.std.specs.Prelude.{drop, not, ◌&&◌, ◌||◌}
-use Rattle.sh_builtin.specs.Running.{built_in}
+use Rattle.sh_builtin.specs.Invocations.{invoked}
 use Rattle.sh_builtin.specs.declared.outcome.TextOrigin.{TextOrigin}
+use Rattle.sh_builtin.specs.declared.outcome.TextRun.{TextRun}
 use Rattle.sh_builtin.specs.declared.outcome.TextOrigin.TheVariants as origin
 use Rattle.sh_builtin.specs.declared.shell.Shell.{Shell}
 use Rattle.sh_builtin.specs.declared.outcome.Completion.{Completion}
@@ -20,7 +21,8 @@ use Rattle.sh_exec_actions.specs.declared.action.ForLoop.{ForLoop}
 use Rattle.sh_exec_actions.specs.declared.action.Report.{Report}
 use Rattle.sh_exec_actions.specs.declared.action.Undo.{Undo}
 use Rattle.sh_exec_forms.proofs.Entered.{entered_with}
-use Rattle.sh_exec_forms.specs.Builtins.{at_completion, behind, builtin_effect, call, effect_at, evaluation, output_of, performed, reported, said}
+use Rattle.sh_exec_forms.specs.Builtins.{builtin_effect, call, effect_at, evaluation, performed}
+use Rattle.sh_exec_frames.specs.Reporting.{at_completion, behind, output_of, reported, said}
 use Rattle.sh_exec_forms.specs.Entering.{items_run, list_run, pipeline_run, with_others}
 use Rattle.sh_exec_forms.specs.Forms.{Acted, after, after_by, after_call, after_leave, after_status, after_text, at_action, behind_condition, branch, condition_run, connected_run, goes_on, loop_left, onward, otherwise, returned, runs, undone, ended_within, exits_on_error, is_failure, left_within, within, within_run}
 use Rattle.sh_exec_frames.specs.Frames.{ends_action, may_return, has_loop, is_failure_ignored, last_for, levels_left}
@@ -51,7 +53,7 @@ abbrev pub ActiveSettled : Active → Type 0
 ActiveSettled (Next place) = PlaceHolds place
 ActiveSettled (Acting builtin fields) = ⊥
 ActiveSettled (Calling body fields) = ⊥
-ActiveSettled (Evaluating origin text) = ⊥
+ActiveSettled (Evaluating how text) = ⊥
 ActiveSettled (Done status) = Unit {0}
 ActiveSettled (Leaving leave) = Unit {0}
 
@@ -63,7 +65,7 @@ stands_active : (active : Active) → ActiveStands active → ActiveSettled acti
 stands_active (Next place) s = s
 stands_active (Acting builtin fields) s = s
 stands_active (Calling body fields) s = s
-stands_active (Evaluating origin text) s = s
+stands_active (Evaluating how text) s = s
 stands_active (Done status) s = tt
 stands_active (Leaving leave) s = tt
 
@@ -75,7 +77,7 @@ active_holds : (active : Active) → ActiveStands active → ActiveHolds active
 active_holds (Next place) s = s
 active_holds (Acting builtin fields) s = tt
 active_holds (Calling body fields) s = absurd s
-active_holds (Evaluating origin text) s = tt
+active_holds (Evaluating how text) s = tt
 active_holds (Done status) s = tt
 active_holds (Leaving leave) s = tt
 
@@ -87,7 +89,7 @@ pub settled_active : (active : Active) → ActiveSettled active → ActiveHolds 
 settled_active (Next place) s = s
 settled_active (Acting builtin fields) s = tt
 settled_active (Calling body fields) s = absurd s
-settled_active (Evaluating origin text) s = tt
+settled_active (Evaluating how text) s = tt
 settled_active (Done status) s = tt
 settled_active (Leaving leave) s = tt
 
@@ -150,14 +152,15 @@ abbrev pub ActiveFollows : Active → Type 0
 ActiveFollows (Next place) = PlaceHolds place
 ActiveFollows (Acting builtin fields) = ⊥
 ActiveFollows (Calling body fields) = ⊥
-ActiveFollows (Evaluating origin text) = Unit {0}
+ActiveFollows (Evaluating how text) = Unit {0}
 ActiveFollows (Done status) = Unit {0}
 ActiveFollows (Leaving leave) = Unit {0}
 
 completion_follows : (status : Completion) → ActiveFollows (at_completion status)
 completion_follows (completion.Done status) = tt
 completion_follows (completion.Left l) = tt
-completion_follows (completion.Runs origin text) = tt
+completion_follows (completion.Runs how text) = tt
+completion_follows (completion.Reads reader) = tt
 
 said_follows : (messages : List (List ℕ)) (status : Completion) → ActiveFollows (said messages status)
 said_follows [] status = completion_follows status
@@ -177,7 +180,7 @@ follows_holds : (active : Active) → ActiveFollows active → ActiveHolds activ
 follows_holds (Next place) f = f
 follows_holds (Acting builtin fields) f = tt
 follows_holds (Calling body fields) f = absurd f
-follows_holds (Evaluating origin text) f = tt
+follows_holds (Evaluating how text) f = tt
 follows_holds (Done status) f = tt
 follows_holds (Leaving leave) f = tt
 
@@ -185,9 +188,9 @@ pub reported_holds : (report : Report) → ActiveHolds (reported report)
 reported_holds report = follows_holds (reported report) (reported_follows report)
 
 -- a text or a function is entered
-evaluation_settled : (levels : ℕ) (shell : Shell) (origin : TextOrigin) (text : List ℕ) → Settled (evaluation levels shell origin text).run
-evaluation_settled zero shell origin text = tt
-evaluation_settled (suc levels) shell origin text = (tt, tt)
+evaluation_settled : (levels : ℕ) (shell : Shell) (how : TextRun) (text : List ℕ) → Settled (evaluation levels shell how text).run
+evaluation_settled zero shell how text = tt
+evaluation_settled (suc levels) shell how text = (tt, tt)
 
 call_settled : (levels : ℕ) (shell : Shell) (body : Command) (arguments : List (List ℕ)) → CommandBegins body → Settled (call levels shell body arguments).run
 call_settled zero shell body arguments b = tt
@@ -197,7 +200,7 @@ performed_settled : (levels : ℕ) (shell : Shell) (active : Active) → ActiveF
 performed_settled levels shell (Next place) f = f
 performed_settled levels shell (Acting builtin fields) f = f
 performed_settled levels shell (Calling body fields) f = absurd f
-performed_settled levels shell (Evaluating origin text) f = evaluation_settled levels shell origin text
+performed_settled levels shell (Evaluating how text) f = evaluation_settled levels shell how text
 performed_settled levels shell (Done status) f = tt
 performed_settled levels shell (Leaving leave) f = tt
 
@@ -237,7 +240,7 @@ status_settled around (Condition loop last) s shell status h = body_settled loop
 status_settled around (Body loop) s shell status h = condition_settled loop status h
 status_settled around (ForBody series) s shell status h = given_by_settled series series.values status h
 status_settled around (Call positional) s shell status h = returned_settled around shell status.status
-status_settled around (Evaluation origin) s shell status h = tt
+status_settled around (Evaluation how) s shell status h = tt
 status_settled around (Trapped before) s shell status h = tt
 status_settled around FailuresIgnored s shell status h = tt
 
@@ -252,7 +255,7 @@ leave_settled around (Condition loop last) s shell l h = left_settled (has_loop 
 leave_settled around (Body loop) s shell l h = left_settled (has_loop around) l s shell (condition_run loop (unexcused 0)) (condition_settled loop (unexcused 0) h)
 leave_settled around (ForBody series) s shell l h = left_settled (has_loop around) l s shell (At (rest_of_series series (unexcused 0))) (given_by_settled series series.values (unexcused 0) h)
 leave_settled around (Call positional) s shell l h = call_left_settled around l shell
-leave_settled around (Evaluation origin) s shell l h = text_left_settled around origin l shell
+leave_settled around (Evaluation how) s shell l h = text_left_settled around how.origin l shell
 leave_settled around (Trapped before) s shell l h = tt
 leave_settled around FailuresIgnored s shell l h = tt
 
@@ -261,7 +264,7 @@ after_by_settled around form s shell (At (Done status)) h p = status_settled aro
 after_by_settled around form s shell (At (Leaving l)) h p = leave_settled around form s shell l h
 after_by_settled around form s shell (At (Acting builtin fields)) h p = absurd p
 after_by_settled around form s shell (At (Calling body fields)) h p = absurd p
-after_by_settled around form s shell (At (Evaluating origin text)) h p = absurd p
+after_by_settled around form s shell (At (Evaluating how text)) h p = absurd p
 after_by_settled around form s shell (At (Next place)) h p = (h, p)
 after_by_settled around form s shell (In inner run) h p = (h, p)
 
@@ -272,11 +275,11 @@ after_settled around form a h p = after_by_settled around form a.machine a.shell
 -- ---- a built-in acts
 effect_settled : (around : List Form) (s : KernelState) (shell : Shell) (active : Active) → ActiveHolds active → Settled (effect_at around s shell active).run
 unfolding builtin_effect
-effect_settled around s shell (Acting builtin fields) h =
-    let acted = built_in s.machine shell (last_for around builtin shell.vars.special.status) builtin (drop 1 fields) in
-    performed_settled (levels_left around) acted.shell (behind builtin acted.outcome) (behind_follows builtin acted.outcome)
+effect_settled around s shell (Acting i fields) h =
+    let acted = invoked s.machine shell (last_for around i.builtin shell.vars.special.status) i (drop 1 fields) in
+    performed_settled (levels_left around) acted.shell (behind i.builtin acted.outcome) (behind_follows i.builtin acted.outcome)
 effect_settled around s shell (Calling body fields) h = call_settled (levels_left around) shell body (drop 1 fields) h
-effect_settled around s shell (Evaluating origin text) h = evaluation_settled (levels_left around) shell origin text
+effect_settled around s shell (Evaluating how text) h = evaluation_settled (levels_left around) shell how text
 effect_settled around s shell (Next place) h = h
 effect_settled around s shell (Done status) h = tt
 effect_settled around s shell (Leaving l) h = tt
@@ -294,7 +297,7 @@ left_within_settled called false (leave.Continue inside) = tt
 within_settled : (errexit : Bool) (around : List Form) (active : Active) → ActiveSettled active → ActiveSettled (within errexit around active)
 within_settled errexit around (Acting builtin fields) p = p
 within_settled errexit around (Calling body fields) p = p
-within_settled errexit around (Evaluating origin text) p = p
+within_settled errexit around (Evaluating how text) p = p
 within_settled errexit around (Next place) p = p
 within_settled errexit around (Done ended) p = ended_within_settled errexit (is_failure_ignored around || ends_action around) ended
 within_settled errexit around (Leaving l) p = left_within_settled (may_return around) (has_loop around) l

@@ -4,6 +4,9 @@ use Rattle.std.specs.Prelude.{Result, Ok, Err, nat_eq}
 use Rattle.sh_builtin.specs.Functions.{Named}
 use Rattle.sh_builtin.specs.Outcomes.{shell_status}
 use Rattle.sh_builtin_environment.specs.TrapMaps.{action_of}
+use Rattle.sh_builtin_regular.specs.Assigning.{line_assigned}
+use Rattle.sh_builtin_regular.specs.Lines.{Progress, bytes_taken}
+use Rattle.sh_builtin_regular.specs.declared.reader.LineReader.{LineReader}
 use Rattle.sh_signal.specs.declared.condition.Condition.TheVariants.{Exit}
 use Rattle.sh_builtin.specs.declared.shell.Shell.{Shell}
 use Rattle.sh_exec_actions.specs.Preparing.{ahead, ahead_by, final_move, performed_by}
@@ -23,7 +26,7 @@ use Rattle.sh_exec_actions.specs.declared.action.Move.{Move}
 use Rattle.sh_exec_actions.specs.declared.action.Move.TheVariants as move
 use Rattle.sh_exec_actions.specs.declared.action.Pending.{Pending}
 use Rattle.sh_exec_actions.specs.declared.action.Action.{Action}
-use Rattle.sh_exec_actions.specs.declared.action.Action.TheVariants.{Reading, Expanding, ReadSubstitution, WaitSubstitution, Redirecting, Forking, Starting, ForkStage, AssignLoopVariable, Defining, Waiting, Writing, Trapping, Ending}
+use Rattle.sh_exec_actions.specs.declared.action.Action.TheVariants.{Reading, Expanding, ReadSubstitution, WaitSubstitution, ReadLine, Redirecting, Forking, Starting, ForkStage, AssignLoopVariable, Defining, Waiting, Writing, Trapping, Ending}
 use Rattle.sh_exec_actions.specs.declared.action.ExpandedCommand.{ExpandedCommand}
 use Rattle.sh_exec_actions.specs.declared.action.Role.TheVariants.{Program}
 use Rattle.sh_exec_actions.specs.declared.action.Stages.{Stages}
@@ -36,7 +39,7 @@ use Rattle.sh_exec_forms.specs.Entering.{form_entry, form_of_command, form_run, 
 use Rattle.sh_exec_forms.specs.Moves.{move_run}
 use Rattle.sh_exec_forms.proofs.Entered.{list_is}
 use Rattle.sh_exec_forms.specs.Forms.{Acted, behind_status, with_run}
-use Rattle.sh_exec_frames.specs.Frames.{is_failure_ignored}
+use Rattle.sh_exec_frames.specs.Frames.{ends_shell, is_failure_ignored}
 use Rattle.sh_exec_actions.specs.declared.form.Form.{Form}
 use Rattle.sh_exec_forms.specs.Running.{Run, At, In, InterpreterState}
 use Rattle.sh_exec_machine.specs.Forking.{fork_of}
@@ -50,13 +53,16 @@ use Rattle.sh_exec_machine.specs.declared.undone.Undone.{Undone}
 use Rattle.sh_exec_parts.specs.declared.message.Piece.{Piece}
 use Rattle.sh_exec_parts.specs.declared.redirection.Redirection.{Redirection}
 use Rattle.sh_exec_parts.specs.declared.simple.Assignment.{Assignment}
-use Rattle.sh_exec_shell.specs.Acting.{after_collection, after_writing, answer_by, answer_turn, collect_by, collect_end, collect_from, collect_turn, end_turn, ending_by, expand_turn, keeps, next, read_turn, redirect_by, redirect_from, redirect_one, redirect_turn, round_run, trap_by, trap_turn, unwritten, wait_by, wait_turn, with_substitution, with_undo, with_written, without_trap, write_turn, written_by}
+use Rattle.sh_exec_shell.specs.Acting.{after_collection, collect_by, collect_end, collect_from, collect_turn, end_turn, ending_by, expand_turn, keeps, next, read_turn, redirect_by, redirect_from, redirect_one, redirect_turn, round_run, trap_by, trap_turn, with_undo, with_written, without_trap, write_turn}
+use Rattle.sh_exec_frames.specs.Waiting.{answer_by, answer_turn, wait_by, wait_turn, with_substitution}
+use Rattle.sh_exec_frames.specs.Writing.{after_writing, unwritten, written_by}
+use Rattle.sh_exec_shell.specs.LineReading.{fields_given, line_by, line_ended, line_goes_on, line_read_by, most_read, read_line_turn}
 use Rattle.sh_exec_shell.specs.Forks.{begun_substitution, Turned, fork_failure, fork_turn, inherited, is_more, program_by, stage_by, stage_from, stage_one, stage_place, stage_turn, substitute_turn, substitution_by}
 use Rattle.sh_exec_shell.specs.Reduction.{act_at, act_place, at_root, expanded_by, reduce, shell_turn}
-use Rattle.sh_exec_shell.specs.Waits.{wait_status}
+use Rattle.sh_exec_machine.specs.Waits.{wait_status}
 use Rattle.sh_files.specs.Nodes.{FileMap}
 use Rattle.sh_kernel.specs.State.{KernelState}
-use Rattle.sh_kernel_descriptors.specs.declared.descriptor.DescriptorRef.TheVariants.{Aside}
+use Rattle.sh_kernel_descriptors.specs.declared.descriptor.DescriptorRef.TheVariants.{Aside, Number}
 use Rattle.sh_kernel_descriptors.specs.declared.fault.KernelFault.{KernelFault}
 use Rattle.sh_syntax.specs.declared.tree.Command.{Command}
 use Rattle.sh_syntax.specs.declared.tree.Command.TheViews as view
@@ -95,12 +101,12 @@ move_holds (move.Compound undo command) h = (tt, form_run_holds command h h)
 move_holds (move.Subshell list) h = stands_holds (body_of list) (body_stands list h)
 
 -- ---- reading and expansion
-read_holds : (env : Environment) (status : ℕ) (f : Found) → FoundBegins f → Holds (read_turn env status f)
-read_holds env status found.Nothing h = tt
-read_holds env status (found.Command tree rest) h =
+read_holds : (ends_shell : Bool) (env : Environment) (status : ℕ) (f : Found) → FoundBegins f → Holds (read_turn ends_shell env status f)
+read_holds ends_shell env status found.Nothing h = tt
+read_holds ends_shell env status (found.Command tree rest) h =
     let items = (view.out-CompoundList tree).items in
     (tt, settled_holds (items_run items (unexcused env.special.status)) (items_settled items (unexcused env.special.status) h))
-read_holds env status (found.Fault refusal) h = tt
+read_holds ends_shell env status (found.Fault why) h = tt
 
 expand_holds : (files : FileMap) (env : Environment) (functions : List Named) (wants : ToExpand) (pending : Option Pending) → FunctionsHold functions → WantsHold wants
     → TurnHolds (expand_turn files env functions wants pending)
@@ -142,6 +148,30 @@ collect_end_holds s shell substitution (Some aside) h = let t = take_bytes s she
 collect_holds : (s : KernelState) (shell : Shell) (substitution : Substitution) → WantsHold substitution.wants → ActedHolds (collect_turn s shell substitution)
 unfolding collect_turn
 collect_holds s shell substitution h = collect_end_holds s shell substitution substitution.aside h
+
+-- ---- the line of read
+given_holds : (status : ℕ) (refused : Option (List ℕ)) → ActiveHolds (fields_given status refused)
+given_holds status None = tt
+given_holds status (Some name) = tt
+
+line_ended_holds : (s : KernelState) (shell : Shell) (reader : LineReader) (status : ℕ) → ActedHolds (line_ended s shell reader status)
+unfolding line_ended
+line_ended_holds s shell reader status = given_holds status (line_assigned shell.vars reader).refused
+
+line_by_holds : (s : KernelState) (shell : Shell) (p : Progress) → ActedHolds (line_by s shell p)
+line_by_holds s shell p =
+    choose ActedHolds p.over (line_ended s shell p.reader 0) (line_goes_on s shell p.reader) (λ e. line_ended_holds s shell p.reader 0) (λ e. tt)
+
+line_read_by_holds : (s : KernelState) (shell : Shell) (reader : LineReader) (told : ReadOutcome) → ActedHolds (line_read_by s shell reader told)
+line_read_by_holds s shell reader (taken.Bytes bytes) =
+    choose ActedHolds (nat_eq (length bytes) 0) (line_ended s shell reader 1) (line_by s shell (bytes_taken reader bytes))
+    (λ e. line_ended_holds s shell reader 1) (λ e. line_by_holds s shell (bytes_taken reader bytes))
+line_read_by_holds s shell reader taken.Wait = tt
+line_read_by_holds s shell reader taken.Failed = line_ended_holds s shell reader 1
+
+line_holds : (s : KernelState) (shell : Shell) (reader : LineReader) → ActedHolds (read_line_turn s shell reader)
+unfolding read_line_turn
+line_holds s shell reader = let t = take_bytes s shell.pid (Number 0) (most_read s.machine shell.pid) in line_read_by_holds t.after shell reader t.told
 
 -- ---- waits
 with_status_holds : (wants : ToExpand) (status : ℕ) → WantsHold wants → WantsHold (with_substitution wants status)
@@ -220,7 +250,7 @@ end_holds s shell status = tt
 trap_by_holds : (s : KernelState) (shell : Shell) (status : ℕ) (action : Option (List ℕ)) → ActedHolds (trap_by s shell status action)
 trap_by_holds s shell status None = tt
 trap_by_holds s shell status (Some text) =
-    let begun = behind_status (without_trap shell) status in (tt, read_holds begun.vars 0 (next_command text) (next_holds text))
+    let begun = behind_status (without_trap shell) status in (tt, read_holds true begun.vars 0 (next_command text) (next_holds text))
 
 trap_holds : (s : KernelState) (shell : Shell) (status : ℕ) → ActedHolds (trap_turn s shell status)
 unfolding trap_turn
@@ -283,31 +313,32 @@ expanded_holds s shell (expanded.Need program wants pending) f h = substitute_ho
 expanded_holds s shell (expanded.Go m) f h = (move_holds m h, tt)
 
 -- ---- the turn
-place_holds : (s : KernelState) (shell : Shell) (place : Action) → FunctionsHold shell.functions → PlaceHolds place → TurnedHolds (act_place s shell place)
-place_holds s shell (Reading rest status) f h = (read_holds shell.vars status (next_command rest) (next_holds rest), tt)
-place_holds s shell (Expanding wants pending) f h =
+place_holds : (around : List Form) (s : KernelState) (shell : Shell) (place : Action) → FunctionsHold shell.functions → PlaceHolds place → TurnedHolds (act_place around s shell place)
+place_holds around s shell (Reading rest status) f h = (read_holds (ends_shell around) shell.vars status (next_command rest) (next_holds rest), tt)
+place_holds around s shell (Expanding wants pending) f h =
     let t = expand_turn s.machine.files shell.vars shell.functions wants pending in
     expanded_holds s (record shell { vars = t.environment }) t.outcome f (expand_holds s.machine.files shell.vars shell.functions wants pending f h)
-place_holds s shell (ReadSubstitution substitution) f h = (collect_holds s shell substitution h, tt)
-place_holds s shell (WaitSubstitution substitution) f h = (answer_holds s shell.pid substitution h, tt)
-place_holds s shell (Redirecting p) f h = (redirect_holds s shell p h, tt)
-place_holds s shell (Forking p) f h = fork_holds s shell p f h
-place_holds s shell (Starting fields) f h = (tt, tt)
-place_holds s shell (ForkStage stages) f h = stage_holds s shell stages f h
-place_holds s shell (AssignLoopVariable series) f h = (round_holds (give_turn shell.vars series).round (give_holds shell.vars series h), tt)
-place_holds s shell (Defining definition) f h = (tt, tt)
-place_holds s shell (Waiting children) f h = (wait_holds s shell.pid children, tt)
-place_holds s shell (Writing piece finish) f h = (write_holds s shell piece finish, tt)
-place_holds s shell (Trapping status) f h = (trap_holds s shell status, tt)
-place_holds s shell (Ending status) f h = (end_holds s shell status, tt)
+place_holds around s shell (ReadSubstitution substitution) f h = (collect_holds s shell substitution h, tt)
+place_holds around s shell (WaitSubstitution substitution) f h = (answer_holds s shell.pid substitution h, tt)
+place_holds around s shell (ReadLine reader) f h = (line_holds s shell reader, tt)
+place_holds around s shell (Redirecting p) f h = (redirect_holds s shell p h, tt)
+place_holds around s shell (Forking p) f h = fork_holds s shell p f h
+place_holds around s shell (Starting start) f h = (tt, tt)
+place_holds around s shell (ForkStage stages) f h = stage_holds s shell stages f h
+place_holds around s shell (AssignLoopVariable series) f h = (round_holds (give_turn shell.vars series).round (give_holds shell.vars series h), tt)
+place_holds around s shell (Defining definition) f h = (tt, tt)
+place_holds around s shell (Waiting children) f h = (wait_holds s shell.pid children, tt)
+place_holds around s shell (Writing piece finish) f h = (write_holds s shell piece finish, tt)
+place_holds around s shell (Trapping status) f h = (trap_holds s shell status, tt)
+place_holds around s shell (Ending status) f h = (end_holds s shell status, tt)
 
-active_holds : (s : KernelState) (shell : Shell) (active : Active) → FunctionsHold shell.functions → ActiveStands active → TurnedHolds (act_at s shell active)
-active_holds s shell (Acting builtin fields) f h = absurd h
-active_holds s shell (Calling body fields) f h = absurd h
-active_holds s shell (Evaluating origin text) f h = absurd h
-active_holds s shell (Next place) f h = place_holds s shell place f h
-active_holds s shell (Done status) f h = absurd h
-active_holds s shell (Leaving l) f h = absurd h
+active_holds : (around : List Form) (s : KernelState) (shell : Shell) (active : Active) → FunctionsHold shell.functions → ActiveStands active → TurnedHolds (act_at around s shell active)
+active_holds around s shell (Acting builtin fields) f h = absurd h
+active_holds around s shell (Calling body fields) f h = absurd h
+active_holds around s shell (Evaluating how text) f h = absurd h
+active_holds around s shell (Next place) f h = place_holds around s shell place f h
+active_holds around s shell (Done status) f h = absurd h
+active_holds around s shell (Leaving l) f h = absurd h
 
 inherited_stands : (ignored : Bool) (child : Option InterpreterState) → ChildStands child → ChildStands (inherited ignored child)
 inherited_stands ignored None h = tt
@@ -317,8 +348,8 @@ inherited_stands false (Some child) h = h
 reduce_settled : (s : KernelState) (shell : Shell) (around : List Form) (run : Run) → FunctionsHold shell.functions → RunStands run
     → let t = reduce s shell around run in Settled t.left.run × ChildStands t.child
 reduce_settled s shell around (At active) f h =
-    let t = act_at s shell active in
-    let holds = active_holds s shell active f h in
+    let t = act_at around s shell active in
+    let holds = active_holds around s shell active f h in
     (at_action_settled around t.left.machine t.left.shell t.left.run holds.0, inherited_stands (is_failure_ignored around) t.child holds.1)
 reduce_settled s shell around (In form run) f h =
     let settled = reduce_settled s shell _ run f h.1 in
@@ -334,7 +365,7 @@ root_stands shell (At (Leaving l)) p = ending_stands (shell_status l) (action_of
 root_stands shell (At (Done ended)) p = ending_stands ended.status (action_of shell.traps Exit)
 root_stands shell (At (Acting builtin fields)) p = p
 root_stands shell (At (Calling body fields)) p = p
-root_stands shell (At (Evaluating origin text)) p = p
+root_stands shell (At (Evaluating how text)) p = p
 root_stands shell (At (Next place)) p = p
 root_stands shell (In form run) p = p
 

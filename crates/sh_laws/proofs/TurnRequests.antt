@@ -7,7 +7,7 @@ use Rattle.sh_exec_parts.specs.declared.redirection.Redirection.{Redirection}
 use Rattle.sh_exec_machine.specs.Forking.{Forked, fork_of}
 use Rattle.sh_exec_machine.specs.Redirecting.{is_itself, action_outcome, redirection_outcome}
 use Rattle.sh_exec_machine.specs.Transfers.{give_bytes, take_bytes}
-use Rattle.sh_exec_machine.specs.Undoing.{all_restored}
+use Rattle.sh_exec_machine.specs.Undoing.{after_redirections}
 use Rattle.sh_exec_machine.specs.declared.undone.Undone.{Undone}
 use Rattle.sh_exec_machine.specs.declared.undone.Undone.TheVariants as undone
 use Rattle.sh_laws.specs.Forking.{after_child, behind_fork, dropping, end_aside, in_child, laying, moving, new_process, taking_up, with_fork}
@@ -65,13 +65,15 @@ module _ (directory : List ℕ) where
   behind_fork_from : (child aside : Option ℕ) → ListFrom (behind_fork child aside)
   behind_fork_from child aside = (tt, (tt, dropping_from child aside))
 
-  one_from : (u : Undone) → IsFrom directory (undoing_one u)
-  one_from (undone.Restore aside number) = tt
-  one_from (undone.Close number) = tt
+  one_from : (stay : Bool) (u : Undone) → ListFrom (undoing_one stay u)
+  one_from false (undone.Restore aside number) = (tt, tt)
+  one_from false (undone.Close number) = (tt, tt)
+  one_from true (undone.Restore aside number) = (tt, (tt, tt))
+  one_from true (undone.Close number) = tt
 
-  undoing_from : (us : List Undone) → ListFrom (undoing us)
-  undoing_from [] = tt
-  undoing_from (u ∷ us) = all_append (undoing us) (undoing_one u ∷ []) (undoing_from us) (one_from u, tt)
+  undoing_from : (stay : Bool) (us : List Undone) → ListFrom (undoing stay us)
+  undoing_from stay [] = tt
+  undoing_from stay (u ∷ us) = all_append (undoing stay us) (undoing_one stay u) (undoing_from stay us) (one_from stay u)
 
   placing_from : (number : ℕ) (word : List ℕ) (a : Action) → ListFrom (placing_by directory number word a)
   placing_from number word (action.Open how append) = (refl, tt)
@@ -105,8 +107,8 @@ module _ (directory : List ℕ) where
     pub redirect_keeps : (keeps : Bool) (s : KernelState) (r : Redirection) → P s → P (redirection_outcome keeps s pid directory r).after
     redirect_keeps keeps s r p = subst P (sym (redirecting_is keeps s pid directory r)) (list_keeps (redirecting keeps s pid directory r) (redirecting_from keeps s pid r r.number) s p)
 
-    pub undo_keeps : (us : List Undone) (s : KernelState) → P s → P (all_restored pid us s)
-    undo_keeps us s p = subst P (sym (undoing_is pid us s)) (list_keeps (undoing us) (undoing_from us) s p)
+    pub undo_keeps : (stay : Bool) (us : List Undone) (s : KernelState) → P s → P (after_redirections stay pid us s)
+    undo_keeps stay us s p = subst P (sym (undoing_is stay pid us s)) (list_keeps (undoing stay us) (undoing_from stay us) s p)
 
     pub take_keeps : (s : KernelState) (name : DescriptorRef) (count : ℕ) → P s → P (take_bytes s pid name count).after
     take_keeps s name count p = subst P (sym (taking_is s pid name count)) (kept s (Read name count) tt p)

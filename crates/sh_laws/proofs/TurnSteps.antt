@@ -3,13 +3,16 @@ use Rattle.std.proofs.Common.{◌≡◌, ℕ, zero, suc, List, [], ◌∷◌, Bo
 use Rattle.std.specs.Prelude.{drop, nat_eq, if◌then◌else◌}
 use Rattle.sh_exec_parts.specs.declared.message.Piece.{Piece}
 use Rattle.sh_exec_parts.specs.declared.redirection.Redirection.{Redirection}
-use Rattle.sh_builtin.specs.declared.outcome.TextOrigin.{TextOrigin}
+use Rattle.sh_builtin.specs.declared.outcome.TextRun.{TextRun}
 use Rattle.sh_builtin.specs.declared.outcome.Leave.{Leave}
 use Rattle.sh_builtin.specs.declared.outcome.Leave.TheVariants as leave
+use Rattle.sh_builtin.specs.Invocations.{invoked}
 use Rattle.sh_builtin.specs.Running.{built_in}
 use Rattle.sh_builtin.specs.declared.builtin.Builtin.{Builtin}
 use Rattle.sh_builtin.specs.declared.builtin.Builtin.TheVariants as builtin
 use Rattle.sh_builtin.specs.declared.shell.Shell.{Shell}
+use Rattle.sh_builtin_regular.specs.Lines.{Progress, bytes_taken}
+use Rattle.sh_builtin_regular.specs.declared.reader.LineReader.{LineReader}
 use Rattle.sh_exec_command.specs.Series.{rest_of_series}
 use Rattle.sh_exec_actions.specs.Statuses.{unexcused}
 use Rattle.sh_exec_actions.specs.declared.status.CommandStatus.{CommandStatus}
@@ -20,7 +23,7 @@ use Rattle.sh_exec_actions.specs.declared.action.Expanded.TheVariants as expande
 use Rattle.sh_exec_actions.specs.declared.action.Finish.{Finish}
 use Rattle.sh_exec_actions.specs.declared.action.Pending.{Pending}
 use Rattle.sh_exec_actions.specs.declared.action.Action.{Action}
-use Rattle.sh_exec_actions.specs.declared.action.Action.TheVariants.{Reading, Expanding, ReadSubstitution, WaitSubstitution, Redirecting, Forking, Starting, ForkStage, AssignLoopVariable, Defining, Waiting, Writing, Trapping, Ending}
+use Rattle.sh_exec_actions.specs.declared.action.Action.TheVariants.{Reading, Expanding, ReadSubstitution, WaitSubstitution, ReadLine, Redirecting, Forking, Starting, ForkStage, AssignLoopVariable, Defining, Waiting, Writing, Trapping, Ending}
 use Rattle.sh_exec_actions.specs.declared.action.ExpandedCommand.{ExpandedCommand}
 use Rattle.sh_exec_actions.specs.declared.action.Stages.{Stages}
 use Rattle.sh_exec_actions.specs.declared.action.Substitution.{Substitution}
@@ -31,8 +34,10 @@ use Rattle.sh_exec_machine.specs.Transfers.{take_bytes}
 use Rattle.sh_exec_machine.specs.declared.transfer.ReadOutcome.{ReadOutcome}
 use Rattle.sh_exec_machine.specs.declared.transfer.ReadOutcome.TheVariants as taken
 use Rattle.sh_exec_shell.specs.Acting.{collect_by, collect_end, collect_from, collect_turn, after_collection, end_turn, expand_turn, keeps, next, redirect_from, redirect_one, redirect_turn, trap_by, trap_turn, with_written, write_turn}
+use Rattle.sh_exec_shell.specs.LineReading.{line_by, line_ended, line_goes_on, line_read_by, most_read, read_line_turn}
 use Rattle.sh_exec_shell.specs.Forks.{Turned, begun_substitution, fork_turn, inherited, is_more, program_by, stage_by, stage_from, stage_one, stage_turn, substitute_turn, substitution_by}
-use Rattle.sh_exec_forms.specs.Builtins.{behind, builtin_effect, call, effect_at, evaluation, performed}
+use Rattle.sh_exec_frames.specs.Reporting.{behind}
+use Rattle.sh_exec_forms.specs.Builtins.{builtin_effect, call, effect_at, evaluation, performed}
 use Rattle.sh_exec_forms.specs.Forms.{Acted, with_run, after, after_by, after_status, after_leave, loop_left, onward, condition_run, at_action, undone}
 use Rattle.sh_builtin_environment.specs.TrapMaps.{action_of}
 use Rattle.sh_signal.specs.declared.condition.Condition.TheVariants.{Exit}
@@ -42,7 +47,7 @@ use Rattle.sh_exec_forms.specs.Running.{InterpreterState, Run, At, In}
 use Rattle.sh_exec_actions.specs.declared.form.Form.{Form}
 use Rattle.sh_exec_actions.specs.declared.form.Form.TheVariants.{Text, Commands, Joined, Negated, Restoring, If, Condition, Body, ForBody, Call, Evaluation, Trapped, FailuresIgnored}
 use Rattle.sh_kernel_descriptors.specs.Machine.{MachineState}
-use Rattle.sh_kernel_descriptors.specs.declared.descriptor.DescriptorRef.TheVariants.{Aside}
+use Rattle.sh_kernel_descriptors.specs.declared.descriptor.DescriptorRef.TheVariants.{Aside, Number}
 use Rattle.sh_kernel.specs.Requests.{Close, End}
 use Rattle.sh_kernel.specs.State.{KernelState}
 use Rattle.sh_syntax.specs.declared.tree.Command.{Command}
@@ -57,6 +62,7 @@ built_in_number machine shell last builtin.Bracket arguments = refl
 built_in_number machine shell last builtin.Break arguments = refl
 built_in_number machine shell last builtin.Cd arguments = refl
 built_in_number machine shell last builtin.Colon arguments = refl
+built_in_number machine shell last builtin.Command arguments = refl
 built_in_number machine shell last builtin.Continue arguments = refl
 built_in_number machine shell last builtin.Dot arguments = refl
 built_in_number machine shell last builtin.Echo arguments = refl
@@ -66,6 +72,7 @@ built_in_number machine shell last builtin.Exit arguments = refl
 built_in_number machine shell last builtin.Export arguments = refl
 built_in_number machine shell last builtin.False arguments = refl
 built_in_number machine shell last builtin.Pwd arguments = refl
+built_in_number machine shell last builtin.Read arguments = refl
 built_in_number machine shell last builtin.ReadOnly arguments = refl
 built_in_number machine shell last builtin.Return arguments = refl
 built_in_number machine shell last builtin.Set arguments = refl
@@ -75,9 +82,9 @@ built_in_number machine shell last builtin.Trap arguments = refl
 built_in_number machine shell last builtin.True arguments = refl
 built_in_number machine shell last builtin.Unset arguments = refl
 
-evaluation_number : (levels : ℕ) (shell : Shell) (origin : TextOrigin) (text : List ℕ) → (evaluation levels shell origin text).shell.pid ≡ shell.pid
-evaluation_number zero shell origin text = refl
-evaluation_number (suc levels) shell origin text = refl
+evaluation_number : (levels : ℕ) (shell : Shell) (how : TextRun) (text : List ℕ) → (evaluation levels shell how text).shell.pid ≡ shell.pid
+evaluation_number zero shell how text = refl
+evaluation_number (suc levels) shell how text = refl
 
 call_number : (levels : ℕ) (shell : Shell) (body : Command) (arguments : List (List ℕ)) → (call levels shell body arguments).shell.pid ≡ shell.pid
 call_number zero shell body arguments = refl
@@ -86,19 +93,19 @@ call_number (suc levels) shell body arguments = refl
 performed_number : (levels : ℕ) (shell : Shell) (active : Active) → (performed levels shell active).shell.pid ≡ shell.pid
 performed_number levels shell (Acting b fields) = refl
 performed_number levels shell (Calling body fields) = call_number levels shell body (drop 1 fields)
-performed_number levels shell (Evaluating origin text) = evaluation_number levels shell origin text
+performed_number levels shell (Evaluating how text) = evaluation_number levels shell how text
 performed_number levels shell (Next place) = refl
 performed_number levels shell (Done status) = refl
 performed_number levels shell (Leaving leave) = refl
 
 effect_number : (around : List Form) (s : KernelState) (shell : Shell) (active : Active) → (effect_at around s shell active).shell.pid ≡ shell.pid
-unfolding builtin_effect
-effect_number around s shell (Acting b fields) =
-    let last = last_for around b shell.vars.special.status in
-    let d = built_in s.machine shell last b (drop 1 fields) in
-    performed_number (levels_left around) d.shell (behind b d.outcome) ∙ built_in_number s.machine shell last b (drop 1 fields)
+unfolding builtin_effect invoked
+effect_number around s shell (Acting i fields) =
+    let last = last_for around i.builtin shell.vars.special.status in
+    let d = invoked s.machine shell last i (drop 1 fields) in
+    performed_number (levels_left around) d.shell (behind i.builtin d.outcome) ∙ built_in_number s.machine shell last i.builtin (drop 1 fields)
 effect_number around s shell (Calling body fields) = call_number (levels_left around) shell body (drop 1 fields)
-effect_number around s shell (Evaluating origin text) = evaluation_number (levels_left around) shell origin text
+effect_number around s shell (Evaluating how text) = evaluation_number (levels_left around) shell how text
 effect_number around s shell (Next place) = refl
 effect_number around s shell (Done status) = refl
 effect_number around s shell (Leaving leave) = refl
@@ -119,7 +126,7 @@ module _ (directory : List ℕ) (pid : ℕ) (P : KernelState → Type 0) (kept :
   -- ---- forms
   undone_keeps : (undo : Undo) (s : KernelState) (shell : Shell) (run : Run) → shell.pid ≡ pid → P s → Keeps (undone undo s shell run)
   unfolding undone
-  undone_keeps undo s shell run e p = (e, undo_keeps directory shell.pid P (own shell e) undo.descriptors s p)
+  undone_keeps undo s shell run e p = (e, undo_keeps directory shell.pid P (own shell e) undo.redirections_stay undo.descriptors s p)
 
   ended_keeps : (around : List Form) (form : Form) (s : KernelState) (shell : Shell) (status : CommandStatus) → shell.pid ≡ pid → P s → Keeps (after_status around form s shell status)
   ended_keeps around (Text rest) s shell status e p = (e, p)
@@ -132,7 +139,7 @@ module _ (directory : List ℕ) (pid : ℕ) (P : KernelState → Type 0) (kept :
   ended_keeps around (Body loop) s shell status e p = (e, p)
   ended_keeps around (ForBody series) s shell status e p = (e, p)
   ended_keeps around (Call positional) s shell status e p = (e, p)
-  ended_keeps around (Evaluation origin) s shell status e p = (e, p)
+  ended_keeps around (Evaluation how) s shell status e p = (e, p)
   ended_keeps around (Trapped before) s shell status e p = (e, p)
   ended_keeps around FailuresIgnored s shell status e p = (e, p)
 
@@ -158,7 +165,7 @@ module _ (directory : List ℕ) (pid : ℕ) (P : KernelState → Type 0) (kept :
   left_keeps around (Body loop) s shell leave e p = loop_left_keeps (has_loop around) leave s shell (condition_run loop (unexcused 0)) e p
   left_keeps around (ForBody series) s shell leave e p = loop_left_keeps (has_loop around) leave s shell (At (rest_of_series series (unexcused 0))) e p
   left_keeps around (Call positional) s shell leave e p = (e, p)
-  left_keeps around (Evaluation origin) s shell leave e p = (e, p)
+  left_keeps around (Evaluation how) s shell leave e p = (e, p)
   left_keeps around (Trapped before) s shell leave e p = (e, p)
   left_keeps around FailuresIgnored s shell leave e p = (e, p)
 
@@ -167,7 +174,7 @@ module _ (directory : List ℕ) (pid : ℕ) (P : KernelState → Type 0) (kept :
   after_by_keeps around form s shell (At (Leaving leave)) e p = left_keeps around form s shell leave e p
   after_by_keeps around form s shell (At (Acting b fields)) e p = (e, p)
   after_by_keeps around form s shell (At (Calling body fields)) e p = (e, p)
-  after_by_keeps around form s shell (At (Evaluating origin text)) e p = (e, p)
+  after_by_keeps around form s shell (At (Evaluating how text)) e p = (e, p)
   after_by_keeps around form s shell (At (Next place)) e p = (e, p)
   after_by_keeps around form s shell (In inner run) e p = (e, p)
 
@@ -204,6 +211,34 @@ module _ (directory : List ℕ) (pid : ℕ) (P : KernelState → Type 0) (kept :
   collect_keeps : (s : KernelState) (shell : Shell) (substitution : Substitution) → shell.pid ≡ pid → P s → Keeps (collect_turn s shell substitution)
   unfolding collect_turn
   collect_keeps s shell substitution e p = collect_end_keeps s shell substitution substitution.aside e p
+
+  -- ---- the line of read
+  line_ended_keeps : (s : KernelState) (shell : Shell) (reader : LineReader) (status : ℕ) → shell.pid ≡ pid → P s → Keeps (line_ended s shell reader status)
+  unfolding line_ended
+  line_ended_keeps s shell reader status e p = (e, p)
+
+  line_by_keeps : (s : KernelState) (shell : Shell) (l : Progress) → shell.pid ≡ pid → P s → Keeps (line_by s shell l)
+  line_by_keeps s shell l e p = at l.over
+    where
+      at : (b : Bool) → Keeps (if b then line_ended s shell l.reader 0 else line_goes_on s shell l.reader)
+      at true = line_ended_keeps s shell l.reader 0 e p
+      at false = (e, p)
+
+  line_read_by_keeps : (s : KernelState) (shell : Shell) (reader : LineReader) (told : ReadOutcome) → shell.pid ≡ pid → P s → Keeps (line_read_by s shell reader told)
+  line_read_by_keeps s shell reader (taken.Bytes bytes) e p = at (nat_eq (length bytes) 0)
+    where
+      at : (b : Bool) → Keeps (if b then line_ended s shell reader 1 else line_by s shell (bytes_taken reader bytes))
+      at true = line_ended_keeps s shell reader 1 e p
+      at false = line_by_keeps s shell (bytes_taken reader bytes) e p
+  line_read_by_keeps s shell reader taken.Wait e p = (e, p)
+  line_read_by_keeps s shell reader taken.Failed e p = line_ended_keeps s shell reader 1 e p
+
+  line_keeps : (s : KernelState) (shell : Shell) (reader : LineReader) → shell.pid ≡ pid → P s → Keeps (read_line_turn s shell reader)
+  unfolding read_line_turn
+  line_keeps s shell reader e p =
+      let count = most_read s.machine shell.pid in
+      let t = take_bytes s shell.pid (Number 0) count in
+      line_read_by_keeps t.after shell reader t.told e (take_keeps directory shell.pid P (own shell e) s (Number 0) count p)
 
   -- ---- a redirection
   redirect_from_keeps : (s : KernelState) (shell : Shell) (prepared : ExpandedCommand) (redirections : List Redirection) → shell.pid ≡ pid → shell.vars.directory ≡ directory → P s → Keeps (redirect_from s shell prepared redirections)
@@ -281,35 +316,36 @@ module _ (directory : List ℕ) (pid : ℕ) (P : Option ℕ → KernelState → 
   expanded_keeps s shell (expanded.Go move) e p = (e, p)
 
   -- ---- the turn
-  place_keeps : (s : KernelState) (shell : Shell) (place : Action) → shell.pid ≡ pid → shell.vars.directory ≡ directory → P None s → Leaves (act_place s shell place)
-  place_keeps s shell (Reading rest status) e d p = (e, p)
-  place_keeps s shell (Expanding wants pending) e d p =
+  place_keeps : (around : List Form) (s : KernelState) (shell : Shell) (place : Action) → shell.pid ≡ pid → shell.vars.directory ≡ directory → P None s → Leaves (act_place around s shell place)
+  place_keeps around s shell (Reading rest status) e d p = (e, p)
+  place_keeps around s shell (Expanding wants pending) e d p =
       let t = expand_turn s.machine.files shell.vars shell.functions wants pending in expanded_keeps s (record shell { vars = t.environment }) t.outcome e p
-  place_keeps s shell (ReadSubstitution substitution) e d p = collect_keeps directory pid (P None) (kept None) s shell substitution e p
-  place_keeps s shell (WaitSubstitution substitution) e d p = (e, p)
-  place_keeps s shell (Redirecting prepared) e d p = redirect_turn_keeps directory pid (P None) (kept None) s shell prepared e d p
-  place_keeps s shell (Forking prepared) e d p = fork_turn_keeps s shell prepared e p
-  place_keeps s shell (Starting fields) e d p = (e, p)
-  place_keeps s shell (ForkStage stages) e d p = stage_turn_keeps s shell stages e p
-  place_keeps s shell (AssignLoopVariable series) e d p = (e, p)
-  place_keeps s shell (Defining definition) e d p = (e, p)
-  place_keeps s shell (Waiting children) e d p = (e, p)
-  place_keeps s shell (Writing piece finish) e d p = write_keeps directory pid (P None) (kept None) s shell piece finish e p
-  place_keeps s shell (Trapping status) e d p = trap_keeps directory pid (P None) (kept None) s shell status e p
-  place_keeps s shell (Ending status) e d p = end_keeps directory pid (P None) (kept None) s shell status e p
+  place_keeps around s shell (ReadSubstitution substitution) e d p = collect_keeps directory pid (P None) (kept None) s shell substitution e p
+  place_keeps around s shell (WaitSubstitution substitution) e d p = (e, p)
+  place_keeps around s shell (ReadLine reader) e d p = line_keeps directory pid (P None) (kept None) s shell reader e p
+  place_keeps around s shell (Redirecting prepared) e d p = redirect_turn_keeps directory pid (P None) (kept None) s shell prepared e d p
+  place_keeps around s shell (Forking prepared) e d p = fork_turn_keeps s shell prepared e p
+  place_keeps around s shell (Starting start) e d p = (e, p)
+  place_keeps around s shell (ForkStage stages) e d p = stage_turn_keeps s shell stages e p
+  place_keeps around s shell (AssignLoopVariable series) e d p = (e, p)
+  place_keeps around s shell (Defining definition) e d p = (e, p)
+  place_keeps around s shell (Waiting children) e d p = (e, p)
+  place_keeps around s shell (Writing piece finish) e d p = write_keeps directory pid (P None) (kept None) s shell piece finish e p
+  place_keeps around s shell (Trapping status) e d p = trap_keeps directory pid (P None) (kept None) s shell status e p
+  place_keeps around s shell (Ending status) e d p = end_keeps directory pid (P None) (kept None) s shell status e p
 
-  active_keeps : (s : KernelState) (shell : Shell) (active : Active) → shell.pid ≡ pid → shell.vars.directory ≡ directory → P None s → Leaves (act_at s shell active)
-  active_keeps s shell (Acting b fields) e d p = (e, p)
-  active_keeps s shell (Calling body fields) e d p = (e, p)
-  active_keeps s shell (Evaluating origin text) e d p = (e, p)
-  active_keeps s shell (Next place) e d p = place_keeps s shell place e d p
-  active_keeps s shell (Done status) e d p = (e, p)
-  active_keeps s shell (Leaving leave) e d p = (e, p)
+  active_keeps : (around : List Form) (s : KernelState) (shell : Shell) (active : Active) → shell.pid ≡ pid → shell.vars.directory ≡ directory → P None s → Leaves (act_at around s shell active)
+  active_keeps around s shell (Acting b fields) e d p = (e, p)
+  active_keeps around s shell (Calling body fields) e d p = (e, p)
+  active_keeps around s shell (Evaluating how text) e d p = (e, p)
+  active_keeps around s shell (Next place) e d p = place_keeps around s shell place e d p
+  active_keeps around s shell (Done status) e d p = (e, p)
+  active_keeps around s shell (Leaving leave) e d p = (e, p)
 
   reduce_keeps : (s : KernelState) (shell : Shell) (around : List Form) (run : Run) → shell.pid ≡ pid → shell.vars.directory ≡ directory → P None s → Leaves (reduce s shell around run)
   reduce_keeps s shell around (At active) e d p =
-      let t = act_at s shell active in
-      let k = active_keeps s shell active e d p in
+      let t = act_at around s shell active in
+      let k = active_keeps around s shell active e d p in
       let made = made_number (inherited (is_failure_ignored around) t.child) in
       settled_keeps directory pid (P made) (kept made) around t.left.machine t.left.shell t.left.run k.0
       (subst (λ number. P number t.left.machine) (inherited_number (is_failure_ignored around) t.child) k.1)

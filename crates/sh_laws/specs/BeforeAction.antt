@@ -1,6 +1,6 @@
 -- A process that stands before its next action: a program that asks for something, or a shell at whose place an action is next. The laws
--- keep more of a shell than that: all of the syntax that it holds, its functions too, begins with an action wherever it is entered (`Beginnings.antt`), so that
--- it stands before an action after its next turn too.
+-- keep more of a shell than that: all of the syntax that it holds, its functions too, begins with an action wherever it is entered
+-- (`Beginnings.antt`), so that it stands before an action after its next turn too.
 use Rattle.std.specs.Prelude.{◌≡◌, List, [], ◌∷◌, Option, Some, None}
 use Rattle.sh_builtin.specs.Functions.{Named}
 use Rattle.sh_exec.specs.declared.task.Task.{Task}
@@ -10,7 +10,7 @@ use Rattle.sh_exec_command.specs.declared.found.Found.TheVariants as found
 use Rattle.sh_exec_actions.specs.declared.action.Active.{Active}
 use Rattle.sh_exec_actions.specs.declared.action.Active.TheVariants.{Acting, Calling, Evaluating, Next, Done, Leaving}
 use Rattle.sh_exec_actions.specs.declared.action.Action.{Action}
-use Rattle.sh_exec_actions.specs.declared.action.Action.TheVariants.{Reading, Expanding, ReadSubstitution, WaitSubstitution, Redirecting, Forking, Starting, ForkStage, AssignLoopVariable, Defining, Waiting, Writing, Trapping, Ending}
+use Rattle.sh_exec_actions.specs.declared.action.Action.TheVariants.{Reading, Expanding, ReadSubstitution, WaitSubstitution, ReadLine, Redirecting, Forking, Starting, ForkStage, AssignLoopVariable, Defining, Waiting, Writing, Trapping, Ending}
 use Rattle.sh_exec_actions.specs.declared.action.Role.{Role}
 use Rattle.sh_exec_actions.specs.declared.action.Role.TheVariants.{NoCommandName, Builtin, Function, Program, Exec, Compound, Subshell}
 use Rattle.sh_exec_actions.specs.declared.action.CaseBranch.{CaseBranch}
@@ -31,7 +31,7 @@ abbrev pub IsNext : Active → Type 0
 IsNext (Next place) = Unit {0}
 IsNext (Acting builtin fields) = ⊥
 IsNext (Calling body fields) = ⊥
-IsNext (Evaluating origin text) = ⊥
+IsNext (Evaluating how text) = ⊥
 IsNext (Done status) = ⊥
 IsNext (Leaving leave) = ⊥
 
@@ -53,7 +53,7 @@ RoleHolds NoCommandName = Unit {0}
 RoleHolds (Builtin builtin) = Unit {0}
 RoleHolds (Function body) = CommandBegins body
 RoleHolds Program = Unit {0}
-RoleHolds (Exec is_command) = Unit {0}
+RoleHolds (Exec is_command is_special) = Unit {0}
 RoleHolds (Compound command) = CommandBegins command
 RoleHolds (Subshell list) = ItemsBegin (view.out-CompoundList list).items
 
@@ -76,9 +76,10 @@ PlaceHolds (Reading rest status) = Unit {0}
 PlaceHolds (Expanding wants pending) = WantsHold wants
 PlaceHolds (ReadSubstitution substitution) = WantsHold substitution.wants
 PlaceHolds (WaitSubstitution substitution) = WantsHold substitution.wants
+PlaceHolds (ReadLine reader) = Unit {0}
 PlaceHolds (Redirecting p) = RoleHolds p.role × AssignmentsHold p.assignments
 PlaceHolds (Forking p) = (p.role ≡ Program) × AssignmentsHold p.assignments
-PlaceHolds (Starting fields) = Unit {0}
+PlaceHolds (Starting start) = Unit {0}
 PlaceHolds (ForkStage stages) = CommandsBegin stages.commands
 PlaceHolds (AssignLoopVariable series) = ListBegins series.body
 PlaceHolds (Defining definition) = CommandBegins definition
@@ -102,7 +103,7 @@ FormHolds (Condition loop last) = LoopHolds loop
 FormHolds (Body loop) = LoopHolds loop
 FormHolds (ForBody series) = ListBegins series.body
 FormHolds (Call positional) = Unit {0}
-FormHolds (Evaluation origin) = Unit {0}
+FormHolds (Evaluation how) = Unit {0}
 FormHolds (Trapped status) = Unit {0}
 FormHolds FailuresIgnored = Unit {0}
 
@@ -111,7 +112,7 @@ abbrev pub ActiveStands : Active → Type 0
 ActiveStands (Next place) = PlaceHolds place
 ActiveStands (Acting builtin fields) = ⊥
 ActiveStands (Calling body fields) = ⊥
-ActiveStands (Evaluating origin text) = ⊥
+ActiveStands (Evaluating how text) = ⊥
 ActiveStands (Done status) = ⊥
 ActiveStands (Leaving leave) = ⊥
 

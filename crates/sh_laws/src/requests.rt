@@ -7,7 +7,7 @@ ghost use Rattle.sh_kernel.specs.Laws.{ChangesOnlyReached, IsOwned, OnlyGrows, R
 ghost use Rattle.sh_kernel_descriptors.specs.declared.descriptor.DescriptorRef.{DescriptorRef};
 ghost use Rattle.sh_kernel.specs.Requests.{Read, Request, Write, after_request, after_requests};
 ghost use Rattle.sh_exec_machine.specs.declared.undone.Undone.{Undone};
-ghost use Rattle.sh_exec_machine.specs.Undoing.{all_restored};
+ghost use Rattle.sh_exec_machine.specs.Undoing.{after_redirections};
 ghost use Rattle.sh_exec_machine.specs.Forking.{fork_of};
 ghost use Rattle.sh_exec_parts.specs.declared.redirection.Redirection.{Redirection};
 ghost use Rattle.sh_exec_machine.specs.Redirecting.{redirection_outcome};
@@ -16,10 +16,11 @@ ghost use Rattle.sh_laws.specs.Redirecting.{redirecting};
 ghost use Rattle.sh_laws.specs.Undoing.{undoing};
 ghost use Rattle.sh_laws.specs.Forking.{UnmadeReachNothing, after_both, behind_fork, end_aside, in_child, end_for_next, new_process, with_fork};
 
-/// Law: redirections are undone by requests of the shell's process alone, one for each redirection, the newest first (XCU 2.9.1).
+/// Law: redirections end by requests of the shell's process alone, at most two for each, the newest first: they are undone (XCU 2.9.1), or
+/// those of `exec` stay (2.15).
 pub fn undoing_is_requests()
-    ensures { (pid : ℕ) (us : List Undone) (s : KernelState) → all_restored pid us s
-        ≡ after_requests s pid (undoing us) }
+    ensures { (stay : Bool) (pid : ℕ) (us : List Undone) (s : KernelState) → after_redirections stay pid us s
+        ≡ after_requests s pid (undoing stay us) }
 {}
 
 /// Law: a process is made by requests alone (XCU 2.9.2, 2.13, 2.6.3): first those of the shell up to its
@@ -36,15 +37,15 @@ pub fn forking_is_requests()
         (behind_fork child (end_aside s pid writes)) }
 {}
 
-/// Law: undoing redirections changes only pipes, files and descriptions that the shell's process reached, and
+/// Law: the end of redirections changes only pipes, files and descriptions that the shell's process reached, and
 /// neither the descriptors nor the status of another process that was there. What another process alone has
 /// stays that process's, and numbers only grow.
 pub fn undoing_changes_what_is_reached()
-    ensures changes { (pid : ℕ) (us : List Undone) (s : KernelState)
-        → ChangesOnlyReached pid (λ node. false) s.machine (all_restored pid us s).machine }
-    ensures owned { (owner pid : ℕ) (us : List Undone) (s : KernelState) (test : ℕ → Bool) → pid ≢ owner → ((k : ℕ) → test k ≡ true → k < length s.machine.descriptions) → IsOwned owner test s.machine.descriptors → IsOwned owner test (all_restored pid us s).machine.descriptors }
-    ensures grows { (pid : ℕ) (us : List Undone) (s : KernelState)
-        → OnlyGrows s.machine (all_restored pid us s).machine }
+    ensures changes { (stay : Bool) (pid : ℕ) (us : List Undone) (s : KernelState)
+        → ChangesOnlyReached pid (λ node. false) s.machine (after_redirections stay pid us s).machine }
+    ensures owned { (stay : Bool) (owner pid : ℕ) (us : List Undone) (s : KernelState) (test : ℕ → Bool) → pid ≢ owner → ((k : ℕ) → test k ≡ true → k < length s.machine.descriptions) → IsOwned owner test s.machine.descriptors → IsOwned owner test (after_redirections stay pid us s).machine.descriptors }
+    ensures grows { (stay : Bool) (pid : ℕ) (us : List Undone) (s : KernelState)
+        → OnlyGrows s.machine (after_redirections stay pid us s).machine }
 {}
 
 /// Law: making a process changes only pipes, files and descriptions that the shell's process reached, and

@@ -18,8 +18,8 @@ ghost use Rattle.sh_exec.specs.declared.settings.Settings.{Settings};
 
 use sh_stock::Stock;
 
-/// Law: all that a turn does to the kernel is done by requests of the process that takes it, and of the one that it makes; a shell opens files
-/// from its working directory.
+/// Law: all that a turn does to the kernel is done by requests of the process that takes it, and of the one that it makes; a shell opens
+/// files from its working directory.
 pub fn turns_are_requests<S: Stock>()
     ensures { (s : KernelState) (task : Task S)
         → let t = turn S.meaning s task in ByRequests (pid_of task) (number_of t.child)

@@ -17,7 +17,7 @@ use Rattle.sh_syntax.specs.declared.tree.Parts.{Parts}
 use Rattle.sh_syntax.specs.declared.tree.Word.{Word}
 use Rattle.sh_parse_actions.specs.declared.leaf.Leaf.{Leaf}
 use Rattle.sh_parse_actions.specs.declared.leaf.Leaf.TheVariants as leaf
-use Rattle.sh_parse_trees.specs.Fitting.{fits, other_words, is_one_of}
+use Rattle.sh_parse_words.specs.Fitting.{fits, other_words, is_one_of}
 use Rattle.sh_parse_words.specs.declared.fault.PartFault.{PartFault}
 use Rattle.sh_parse_commands.specs.Inputs.{class_of_kind}
 use Rattle.sh_parse_commands.specs.Results.{and_then}

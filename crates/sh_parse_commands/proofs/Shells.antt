@@ -19,7 +19,7 @@ use Rattle.sh_syntax.specs.declared.tree.ListItem.{ListItem}
 use Rattle.sh_syntax.specs.declared.tree.Parts.{Parts}
 use Rattle.sh_parse_actions.specs.declared.leaf.Leaf.{Leaf}
 use Rattle.sh_parse_actions.specs.Forms.{compound_list}
-use Rattle.sh_parse_trees.specs.Meaning.{syntax_of, IsSyntaxWhere}
+use Rattle.sh_parse_words.specs.Meaning.{syntax_of, IsSyntaxWhere}
 use Rattle.sh_parse_commands.specs.Judging.{IsShell, Judged, with_input, takes, are_whole, with_bodies, tree_by, tree_where}
 
 same_truth : (a b : Bool) (P : Type 0) → (IsTrue a ↔ P) → (IsTrue b ↔ P) → a ≡ b

@@ -17,9 +17,9 @@ use Rattle.sh_token.specs.declared.token.TokenKind.{TokenKind}
 use Rattle.sh_parse_actions.specs.declared.leaf.Leaf.{Leaf}
 use Rattle.sh_parse_actions.specs.declared.leaf.Leaf.TheVariants as leaf
 use Rattle.sh_parse_actions.specs.Forms.{compound_list}
-use Rattle.sh_parse_trees.specs.Fitting.{FittingHaveSyntax, all_fit, fits}
-use Rattle.sh_parse_trees.specs.Meaning.{syntax_of}
-use Rattle.sh_parse_trees.proofs.Fitted.{command_syntax, substitution_syntax}
+use Rattle.sh_parse_words.specs.Fitting.{FittingHaveSyntax, all_fit, fits}
+use Rattle.sh_parse_words.specs.Meaning.{syntax_of}
+use Rattle.sh_parse_words.proofs.Fitted.{command_syntax, substitution_syntax}
 use Rattle.sh_parse_documents.specs.declared.item.Item.{Item}
 use Rattle.sh_parse_documents.specs.Waiting.{Waiting, nothing, behind_token}
 use Rattle.sh_parse_documents.specs.Items.{FirstItem, FoundItem, NoItem, first_item}

@@ -10,7 +10,7 @@ use Rattle.sh_syntax.specs.declared.tree.CompoundList.{CompoundList}
 use Rattle.sh_syntax.specs.declared.tree.Parts.{Parts}
 use Rattle.sh_token.specs.declared.token.TokenKind.{TokenKind}
 use Rattle.sh_parse_actions.specs.declared.leaf.Leaf.{Leaf}
-use Rattle.sh_parse_trees.specs.Meaning.{syntax_of}
+use Rattle.sh_parse_words.specs.Meaning.{syntax_of}
 use Rattle.sh_parse_documents.specs.declared.item.Item.{Item}
 use Rattle.sh_parse_documents.specs.Waiting.{nothing, due_at}
 use Rattle.sh_parse_documents.specs.Stream.{Ending, AtEnd, Cut, items_of, waiting_behind}

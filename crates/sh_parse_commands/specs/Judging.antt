@@ -14,7 +14,7 @@ use Rattle.sh_syntax.specs.declared.tree.Parts.{Parts}
 use Rattle.sh_parse_actions.specs.declared.leaf.Leaf.{Leaf}
 use Rattle.sh_parse_actions.specs.declared.leaf.Leaf.TheVariants as leaf
 use Rattle.sh_parse_actions.specs.Forms.{compound_list}
-use Rattle.sh_parse_trees.specs.Meaning.{syntax_of}
+use Rattle.sh_parse_words.specs.Meaning.{syntax_of}
 use Rattle.sh_parse_documents.specs.declared.item.Item.{Item}
 use Rattle.sh_parse_documents.specs.Waiting.{Waiting, behind_token, due_at}
 use Rattle.sh_parse_words.specs.declared.fault.PartFault.{PartFault}

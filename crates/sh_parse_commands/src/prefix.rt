@@ -9,7 +9,7 @@ use sh_base::shared::Shared;
 use sh_grammar::{Recognizer, Token as Input};
 use sh_parse_actions::backward::Backward;
 use sh_parse_actions::leaf::Leaf;
-use sh_parse_trees::syntax_tree;
+use sh_parse_words::syntax_tree;
 use sh_syntax::tree::{CompoundList, Parts};
 use sh_token_grammar::grammar::{complete_command, substituted};
 use sh_token_grammar::levels::{keep_open_compounds, open_compounds};

@@ -1,2 +1,12 @@
 pub mod Places
 pub mod Frames
+pub mod Bools
+pub mod Counted
+pub mod Counts
+pub mod Derived
+pub mod Fitted
+pub mod Gather
+pub mod Run
+pub mod SortTables
+pub mod Sorts
+pub mod Whole

@@ -1,7 +1,7 @@
 //! `test WORDS ANSWER`: what comes of the utility `test`: `0` where the condition holds, `1` where it doesn't, `2` where the operands are
 //! wrong, `terminal N` where a descriptor is asked about, and `no terminal N` where that is negated. A space stands before each word.
 use crate::outcomes::words_of;
-use sh_builtin::{Verdict, evaluate};
+use sh_builtin_regular::{Verdict, evaluate};
 use sh_files::Files;
 use sh_rows::RowFault;
 use std::alloc::Global;

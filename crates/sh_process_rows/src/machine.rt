@@ -2,7 +2,7 @@
 use crate::calls::opening;
 use crate::steps::truth;
 use sh_base::sequence::Sequence;
-use sh_exec_machine::{fork_process, redirect, restore_all};
+use sh_exec_machine::{end_redirections, fork_process, redirect};
 use sh_exec_parts::redirection::{Action, Redirection};
 use sh_files::Files;
 use sh_kernel::{DescriptorRef, Kernel, KernelFault};
@@ -53,7 +53,7 @@ fn redirects(alloc: Global, kernel: &mut Kernel) -> Result<bool, AllocError> {
     let mut all = Sequence::new(alloc);
     all.push(undone)?;
     let moved = !kernel.is_terminal(SHELL, 1);
-    restore_all(kernel, SHELL, all);
+    end_redirections(kernel, SHELL, all, false);
     Ok(moved && kernel.is_terminal(SHELL, 1))
 }
 

@@ -26,7 +26,7 @@ use sh_base::sequence::{Sequence, Text};
 use sh_base::shared::Shared;
 use sh_grammar::{Action, Actions, Token};
 use sh_parse_actions::leaf::Leaf;
-use sh_parse_trees::syntax_tree;
+use sh_parse_words::syntax_tree;
 use sh_syntax::text::command_text;
 use sh_syntax::tree::{
     Command, CompoundList, HereDocumentOperator, Parts, RedirectOperator, Separator, SimpleItem,

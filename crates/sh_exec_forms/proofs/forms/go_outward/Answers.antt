@@ -17,7 +17,7 @@ returns-in-Calling-clause-state c = λ s k.
 
 pub returns-in-Evaluating-clause-state : goal.returns-in-Evaluating-clause-state
 returns-in-Evaluating-clause-state c = λ s k.
-    stays_on_way c.args.kernel.now c.args.shell.now c.args.frames.now s c.args.active (Evaluating c.in-Evaluating.origin c.in-Evaluating.text) c.in-Evaluating.is k refl
+    stays_on_way c.args.kernel.now c.args.shell.now c.args.frames.now s c.args.active (Evaluating c.in-Evaluating.how c.in-Evaluating.text) c.in-Evaluating.is k refl
 
 pub returns-in-None-clause-state : goal.returns-in-None-clause-state
 returns-in-None-clause-state c = λ s k.

@@ -1,0 +1,84 @@
+-- The built-in `command` (XCU command): the words of the command that it runs, and `-v`, which tells how the shell would run a name.
+use Rattle.std.specs.Option.{is_some}
+use Rattle.std.specs.Prelude.{ℕ, List, [], ◌∷◌, ◌++◌, ◌&&◌, ◌||◌, Bool, Option, Some, None, codes, if◌then◌else◌, nat_eq, nat_le, option_map}
+use Rattle.std.specs.List.{starts_with}
+use Rattle.std.specs.Str.{bytes_eq}
+use Rattle.sh_builtin.specs.Builtins.{builtin_of, is_named, name_of}
+use Rattle.sh_builtin.specs.Functions.{Named, body_of}
+use Rattle.sh_builtin.specs.Outcomes.{done, misuse, output}
+use Rattle.sh_builtin.specs.declared.builtin.Builtin.TheVariants.{Command}
+use Rattle.sh_builtin.specs.declared.outcome.Outcome.{Outcome}
+use Rattle.sh_builtin.specs.declared.shell.Shell.{Shell}
+use Rattle.sh_builtin_environment.specs.Options.{Parsed, options_and_operands}
+use Rattle.sh_files.specs.Nodes.{FileMap}
+use Rattle.sh_files.specs.Search.{executable_path}
+use Rattle.sh_token_grammar.specs.Classes.{class_number, class_of_text}
+use Rattle.sh_token_grammar.specs.declared.class.TokenClass.TheVariants.{Bang, Esac}
+use Rattle.sh_vars.specs.Environment.{value_of}
+
+-- ---- the words of the command that `command` runs: none where it has an option or no operand
+abbrev pub words_run : Option Parsed → Option (List (List ℕ))
+words_run None = None
+words_run (Some (Some letter, operands)) = None
+words_run (Some (None, [])) = None
+words_run (Some (None, name ∷ arguments)) = Some (name ∷ arguments)
+
+abbrev pub words_behind : List (List ℕ) → Option (List (List ℕ))
+words_behind [] = None
+words_behind (name ∷ arguments) = if is_named Command name then words_run (options_and_operands (codes "v") arguments) else None
+
+-- that command may be a `command` too; there are no more of them than words
+abbrev pub last_by : List (List ℕ) → Option (List (List ℕ)) → (List (List ℕ) → List (List ℕ)) → List (List ℕ)
+last_by words None next = words
+last_by words (Some behind) next = next behind
+
+abbrev pub last_behind : (at_most : List (List ℕ)) → List (List ℕ) → List (List ℕ)
+last_behind [] words = words
+last_behind (word ∷ at_most) words = last_by words (words_behind words) (λ behind. last_behind at_most behind)
+
+-- a function of that name is found before the built-in (2.9.1.4)
+abbrev pub behind_command : List Named → List (List ℕ) → Option (List (List ℕ))
+behind_command functions words =
+    if is_some (body_of functions (name_of Command)) then None else option_map (λ behind. last_behind words behind) (words_behind words)
+
+-- ---- `-v`
+-- the classes of the reserved words (2.4) are those from `!` to `esac`
+abbrev pub is_reserved_number : ℕ → Bool
+is_reserved_number number = nat_le (class_number Bang) number && nat_le number (class_number Esac)
+
+abbrev pub is_reserved : List ℕ → Bool
+is_reserved name = is_reserved_number (class_number (class_of_text name))
+
+-- a reserved word, a function and a built-in are told by their name
+abbrev pub is_own : Shell → List ℕ → Bool
+is_own shell name = is_reserved name || (is_some (body_of shell.functions name) || is_some (builtin_of name))
+
+-- a program is told by its path from the root
+abbrev pub with_slash : (directory : List ℕ) → List ℕ
+with_slash directory = if bytes_eq directory (codes "/") then directory else directory ++ 47 ∷ []
+
+abbrev pub absolute : (directory : List ℕ) → (path : List ℕ) → List ℕ
+absolute directory path = if starts_with nat_eq path (codes "/") then path else with_slash directory ++ path
+
+abbrev pub program_path : FileMap → Shell → List ℕ → Option (List ℕ)
+program_path files shell name =
+    option_map (absolute shell.vars.directory) (executable_path files shell.vars.directory (value_of shell.vars (codes "PATH")) name)
+
+abbrev pub description : FileMap → Shell → List ℕ → Option (List ℕ)
+description files shell name = if is_own shell name then Some name else program_path files shell name
+
+-- what isn't found is 1, without a message
+abbrev pub told : Option (List ℕ) → Outcome
+told None = done 1
+told (Some text) = output (text ++ 10 ∷ [])
+
+-- `-v` takes one name
+abbrev pub told_of : FileMap → Shell → List (List ℕ) → Outcome
+told_of files shell [] = misuse Command
+told_of files shell (name ∷ []) = told (description files shell name)
+told_of files shell (name ∷ next ∷ others) = misuse Command
+
+abbrev pub command_outcome : FileMap → Shell → Option Parsed → Outcome
+command_outcome files shell None = misuse Command
+command_outcome files shell (Some (None, operands)) = misuse Command
+command_outcome files shell (Some (Some letter, operands)) = told_of files shell operands

@@ -1,0 +1,43 @@
+-- Built-ins as they are run: by their name, or by `command`, behind which an error of a special built-in doesn't end the shell (XCU command,
+-- 2.8.1), and assignments before it don't stay (2.15).
+use Rattle.std.specs.Prelude.{ℕ, List, Bool, true, false}
+use Rattle.sh_builtin.specs.Builtins.{is_special}
+use Rattle.sh_builtin.specs.Running.{BuiltIn, built_in, with_outcome}
+use Rattle.sh_builtin.specs.declared.builtin.Builtin.{Builtin}
+use Rattle.sh_builtin.specs.declared.invocation.Invocation.{Invocation}
+use Rattle.sh_builtin.specs.declared.outcome.Completion.{Completion}
+use Rattle.sh_builtin.specs.declared.outcome.Completion.TheVariants.{Done, Left, Runs, Reads}
+use Rattle.sh_builtin.specs.declared.outcome.Leave.{Leave}
+use Rattle.sh_builtin.specs.declared.outcome.Leave.TheVariants as leave
+use Rattle.sh_builtin.specs.declared.outcome.Outcome.{Outcome}
+use Rattle.sh_builtin.specs.declared.shell.Shell.{Shell}
+use Rattle.sh_kernel_descriptors.specs.Machine.{MachineState}
+
+abbrev pub by_name : Builtin → Invocation
+by_name builtin = record { builtin = builtin; is_special = is_special builtin }
+
+abbrev pub by_command : Builtin → Invocation
+by_command builtin = record { builtin = builtin; is_special = false }
+
+-- ---- an error of one that isn't special is its status, and so is one that refuses a text that it has run
+abbrev pub regular_leave : Leave → Completion
+regular_leave (leave.Exit status) = Left (leave.Exit status)
+regular_leave (leave.Fault status) = Done status
+regular_leave (leave.Return status) = Left (leave.Return status)
+regular_leave (leave.Break inside) = Left (leave.Break inside)
+regular_leave (leave.Continue inside) = Left (leave.Continue inside)
+
+abbrev pub regular_completion : Completion → Completion
+regular_completion (Done status) = Done status
+regular_completion (Left l) = regular_leave l
+regular_completion (Runs how text) = Runs (record how { is_special = false }) text
+regular_completion (Reads reader) = Reads reader
+
+abbrev pub outcome_as : (is_special : Bool) → Outcome → Outcome
+outcome_as true outcome = outcome
+outcome_as false outcome = record outcome { status = regular_completion outcome.status }
+
+-- ---- with its arguments, in a shell's process on this machine
+unfoldable pub invoked : MachineState → Shell → (last : ℕ) → Invocation → List (List ℕ) → BuiltIn
+invoked machine shell last invocation arguments =
+    let b = built_in machine shell last invocation.builtin arguments in with_outcome b.shell (outcome_as invocation.is_special b.outcome)

@@ -1,0 +1,196 @@
+//! The built-in `command` (XCU command).
+ghost use Rattle.std.specs.Prelude.{◌≡◌, IfOk, codes, option_map};
+ghost use Rattle.sh_builtin.specs.Commands.{absolute, behind_command, command_outcome, description, is_own, is_reserved, is_reserved_number, last_behind, program_path, told, told_of, with_slash, words_behind, words_run};
+ghost use Rattle.sh_builtin_environment.specs.Options.{options_and_operands};
+
+use crate::builtin::Builtin;
+use crate::functions::Functions;
+use crate::outcome::Outcome;
+use crate::shell::Shell;
+use sh_base::NoMemory;
+use sh_base::sequence::Text;
+use sh_builtin_environment::parse_options;
+use sh_files::{Files, executable_path};
+use sh_token_grammar::class::TokenClass;
+use std::alloc::Global;
+
+/// The words that `command` runs with these arguments.
+fn words_run(arguments: &[Text]) -> Option<&[Text]>
+    ensures { option_map (λ words. words.now) result
+        ≡ words_run (options_and_operands (codes "v") arguments.now) }
+{
+    match parse_options(b"v", arguments) {
+        Some((None, operands)) => match operands.split_first() {
+            Some(_) => Some(operands),
+            None => None,
+        },
+        _ => None,
+    }
+}
+
+/// The words of the command that these words have `command` run.
+fn words_behind(words: &[Text]) -> Option<&[Text]>
+    ensures { option_map (λ words. words.now) result ≡ words_behind words.now }
+{
+    match words.split_first() {
+        Some((name, arguments)) => {
+            if !Builtin::Command.is_named(name.as_slice()) {
+                return None;
+            }
+            words_run(arguments)
+        },
+        None => None,
+    }
+}
+
+/// The words behind at most so many `command` that run another command.
+fn last_behind<'a>(at_most: &[Text], words: &'a [Text]) -> &'a [Text]
+    ensures { result.now ≡ last_behind at_most.now words.now }
+{
+    let mut left = at_most;
+    let mut rest = words;
+    'commands: while let Some((_, others)) = left.split_first() {
+        let Some(behind) = words_behind(rest) else {
+            return rest;
+        };
+        rest = behind;
+        left = others;
+    }
+    rest
+}
+
+/// The words of the command that `command` runs, where these are the words of a simple command: behind the last `command`, if it runs
+/// another one. `None` where the words don't begin with `command`, or have an option or no operand behind it: then it is a built-in like
+/// any other. `None` too where a function has that name, which is found before it. Takes no memory.
+pub fn behind_command<'a>(functions: &Functions, words: &'a [Text]) -> Option<&'a [Text]>
+    ensures { option_map (λ words. words.now) result ≡ behind_command functions.now words.now }
+{
+    if functions.body(Builtin::Command.name()).is_some() {
+        return None;
+    }
+    match words_behind(words) {
+        Some(behind) => Some(last_behind(words, behind)),
+        None => None,
+    }
+}
+
+/// Whether the class of a text with this number is that of a reserved word.
+fn is_reserved_number(number: u8) -> bool
+    ensures { result ≡ is_reserved_number number }
+{
+    TokenClass::Bang.number() <= number && number <= TokenClass::Esac.number()
+}
+
+/// Whether a name is a reserved word (XCU 2.4).
+fn is_reserved(name: &[u8]) -> bool
+    ensures { result ≡ is_reserved name.now }
+{
+    is_reserved_number(TokenClass::of_text(name).number())
+}
+
+/// Whether a name is one of the shell's own: a reserved word, a function or a built-in.
+fn is_own(shell: &Shell, name: &[u8]) -> bool
+    ensures { result ≡ is_own shell.now name.now }
+{
+    is_reserved(name) || shell.functions.body(name).is_some() || Builtin::of(name).is_some()
+}
+
+/// A directory with a slash at its end.
+fn with_slash(alloc: Global, directory: &[u8]) -> Result<Text, NoMemory>
+    ensures { IfOk result (λ text. text ≡ with_slash directory.now) }
+{
+    let mut text = Text::copy_of(alloc, directory)?;
+    if directory != b"/".as_slice() {
+        text.push(b'/')?;
+    }
+    Ok(text)
+}
+
+/// A path from the root.
+fn absolute(alloc: Global, directory: &[u8], path: Text) -> Result<Text, NoMemory>
+    ensures { IfOk result (λ text. text ≡ absolute directory.now path) }
+{
+    if path.as_slice().starts_with(b"/") {
+        return Ok(path);
+    }
+    let mut text = with_slash(alloc, directory)?;
+    text.extend_from_slice(path.as_slice())?;
+    Ok(text)
+}
+
+/// The path of the program of a name.
+fn program_path(
+    alloc: Global,
+    files: &Files,
+    shell: &Shell,
+    name: &[u8],
+) -> Result<Option<Text>, NoMemory>
+    ensures { IfOk result (λ path. path ≡ program_path files.now shell.now name.now) }
+{
+    let directory = shell.vars.directory();
+    match executable_path(alloc, files, directory, shell.vars.get(b"PATH"), name)? {
+        Some(path) => Ok(Some(absolute(alloc, directory, path)?)),
+        None => Ok(None),
+    }
+}
+
+/// How the shell would run a name.
+fn description(
+    alloc: Global,
+    files: &Files,
+    shell: &Shell,
+    name: &[u8],
+) -> Result<Option<Text>, NoMemory>
+    ensures { IfOk result (λ text. text ≡ description files.now shell.now name.now) }
+{
+    if is_own(shell, name) {
+        let name = Text::copy_of(alloc, name)?;
+        return Ok(Some(name));
+    }
+    program_path(alloc, files, shell, name)
+}
+
+/// What is told of a name.
+fn tell(alloc: Global, files: &Files, shell: &Shell, name: &[u8]) -> Result<Outcome, NoMemory>
+    ensures { IfOk result (λ outcome. outcome ≡ told (description files.now shell.now name.now)) }
+{
+    match description(alloc, files, shell, name)? {
+        Some(text) => {
+            let mut line = text;
+            line.push(b'\n')?;
+            Ok(Outcome::output(alloc, line))
+        },
+        None => Ok(Outcome::done(alloc, 1)),
+    }
+}
+
+/// `command -v` with its operands.
+fn tell_of(
+    alloc: Global,
+    files: &Files,
+    shell: &Shell,
+    operands: &[Text],
+) -> Result<Outcome, NoMemory>
+    ensures { IfOk result (λ outcome. outcome ≡ told_of files.now shell.now operands.now) }
+{
+    match operands {
+        [name] => tell(alloc, files, shell, name.as_slice()),
+        _ => Outcome::misuse(alloc, Builtin::Command),
+    }
+}
+
+/// `command` with its arguments, where it runs no other command.
+pub(crate) fn command(
+    alloc: Global,
+    files: &Files,
+    shell: &Shell,
+    arguments: &[Text],
+) -> Result<Outcome, NoMemory>
+    ensures { IfOk result (λ outcome.
+        outcome ≡ command_outcome files.now shell.now (options_and_operands (codes "v") arguments.now)) }
+{
+    match parse_options(b"v", arguments) {
+        Some((Some(_), operands)) => tell_of(alloc, files, shell, operands),
+        _ => Outcome::misuse(alloc, Builtin::Command),
+    }
+}

@@ -1,0 +1,6 @@
+pub mod Assigning
+pub mod Brackets
+pub mod Conditional
+pub mod Integers
+pub mod Lines
+pub mod Operands

@@ -1,0 +1,38 @@
+-- What follows a write of a shell.
+use Rattle.std.specs.Prelude.{drop}
+use Rattle.sh_builtin.specs.Builtins.{name_of}
+use Rattle.sh_builtin.specs.declared.outcome.Completion.TheVariants as completion
+use Rattle.sh_builtin.specs.declared.outcome.Leave.TheVariants as leave
+use Rattle.sh_exec_actions.specs.Statuses.{unexcused}
+use Rattle.sh_exec_actions.specs.declared.action.Action.TheVariants.{Writing}
+use Rattle.sh_exec_actions.specs.declared.action.Active.{Active}
+use Rattle.sh_exec_actions.specs.declared.action.Active.TheVariants.{Next, Done, Leaving}
+use Rattle.sh_exec_actions.specs.declared.action.Finish.{Finish}
+use Rattle.sh_exec_actions.specs.declared.action.Finish.TheVariants.{Status, Fault, Messages, Output}
+use Rattle.sh_exec_frames.specs.Reporting.{reported}
+use Rattle.sh_exec_machine.specs.declared.transfer.WriteOutcome.{WriteOutcome}
+use Rattle.sh_exec_machine.specs.declared.transfer.WriteOutcome.TheVariants as given
+use Rattle.sh_exec_parts.specs.Messages.{message, write_error}
+use Rattle.sh_exec_parts.specs.declared.message.Piece.{Piece}
+
+abbrev pub after_writing : Finish → Active
+after_writing (Status status) = Done (unexcused status)
+after_writing (Fault status) = Leaving (leave.Fault status)
+after_writing (Messages report) = reported report
+after_writing (Output builtin report) = reported report
+
+-- a message that can't be written is dropped; a built-in whose output can't be written has 1, and a message before its others
+abbrev pub unwritten : Finish → Active
+unwritten (Status status) = Done (unexcused status)
+unwritten (Fault status) = Leaving (leave.Fault status)
+unwritten (Messages report) = reported report
+unwritten (Output builtin report) =
+    Next (Writing (message (write_error (name_of builtin))) (Messages (record report { status = completion.Done 1 })))
+
+-- what is left is still to be written; a process that a signal ended acts no more
+abbrev pub written_by : Piece → Finish → WriteOutcome → Active
+written_by piece finish given.Whole = after_writing finish
+written_by piece finish (given.Part count) = Next (Writing (record piece { bytes = drop count piece.bytes }) finish)
+written_by piece finish given.Wait = Next (Writing piece finish)
+written_by piece finish given.Ended = Next (Writing piece finish)
+written_by piece finish given.Failed = unwritten finish

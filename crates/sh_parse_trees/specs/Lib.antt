@@ -1,4 +1,0 @@
-pub mod Fitting
-pub mod Meaning
-pub mod Productions
-pub mod Stack
