@@ -1,8 +1,6 @@
 -- The built-in `command` (XCU command): the words of the command that it runs, and `-v`, which tells how the shell would run a name.
 use Rattle.std.specs.Option.{is_some}
-use Rattle.std.specs.Prelude.{ℕ, List, [], ◌∷◌, ◌++◌, ◌&&◌, ◌||◌, Bool, Option, Some, None, codes, if◌then◌else◌, nat_eq, nat_le, option_map}
-use Rattle.std.specs.List.{starts_with}
-use Rattle.std.specs.Str.{bytes_eq}
+use Rattle.std.specs.Prelude.{ℕ, List, [], ◌∷◌, ◌++◌, ◌&&◌, ◌||◌, Bool, Option, Some, None, codes, if◌then◌else◌, nat_le, option_map}
 use Rattle.sh_builtin.specs.Builtins.{builtin_of, is_named, name_of}
 use Rattle.sh_builtin.specs.Functions.{Named, body_of}
 use Rattle.sh_builtin.specs.Outcomes.{done, misuse, output}
@@ -12,6 +10,7 @@ use Rattle.sh_builtin.specs.declared.shell.Shell.{Shell}
 use Rattle.sh_builtin_environment.specs.Options.{Parsed, options_and_operands}
 use Rattle.sh_files.specs.Nodes.{FileMap}
 use Rattle.sh_files.specs.Search.{executable_path}
+use Rattle.sh_files_image.specs.Paths.{absolute}
 use Rattle.sh_token_grammar.specs.Classes.{class_number, class_of_text}
 use Rattle.sh_token_grammar.specs.declared.class.TokenClass.TheVariants.{Bang, Esac}
 use Rattle.sh_vars.specs.Environment.{value_of}
@@ -54,12 +53,6 @@ abbrev pub is_own : Shell → List ℕ → Bool
 is_own shell name = is_reserved name || (is_some (body_of shell.functions name) || is_some (builtin_of name))
 
 -- a program is told by its path from the root
-abbrev pub with_slash : (directory : List ℕ) → List ℕ
-with_slash directory = if bytes_eq directory (codes "/") then directory else directory ++ 47 ∷ []
-
-abbrev pub absolute : (directory : List ℕ) → (path : List ℕ) → List ℕ
-absolute directory path = if starts_with nat_eq path (codes "/") then path else with_slash directory ++ path
-
 abbrev pub program_path : FileMap → Shell → List ℕ → Option (List ℕ)
 program_path files shell name =
     option_map (absolute shell.vars.directory) (executable_path files shell.vars.directory (value_of shell.vars (codes "PATH")) name)

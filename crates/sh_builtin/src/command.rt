@@ -1,7 +1,8 @@
 //! The built-in `command` (XCU command).
 ghost use Rattle.std.specs.Prelude.{◌≡◌, IfOk, codes, option_map};
-ghost use Rattle.sh_builtin.specs.Commands.{absolute, behind_command, command_outcome, description, is_own, is_reserved, is_reserved_number, last_behind, program_path, told, told_of, with_slash, words_behind, words_run};
+ghost use Rattle.sh_builtin.specs.Commands.{behind_command, command_outcome, description, is_own, is_reserved, is_reserved_number, last_behind, program_path, told, told_of, words_behind, words_run};
 ghost use Rattle.sh_builtin_environment.specs.Options.{options_and_operands};
+ghost use Rattle.sh_files_image.specs.Paths.{absolute};
 
 use crate::builtin::Builtin;
 use crate::functions::Functions;
@@ -11,6 +12,7 @@ use sh_base::NoMemory;
 use sh_base::sequence::Text;
 use sh_builtin_environment::parse_options;
 use sh_files::{Files, executable_path};
+use sh_files_image::absolute;
 use sh_token_grammar::class::TokenClass;
 use std::alloc::Global;
 
@@ -95,27 +97,11 @@ fn is_own(shell: &Shell, name: &[u8]) -> bool
     is_reserved(name) || shell.functions.body(name).is_some() || Builtin::of(name).is_some()
 }
 
-/// A directory with a slash at its end.
-fn with_slash(alloc: Global, directory: &[u8]) -> Result<Text, NoMemory>
-    ensures { IfOk result (λ text. text ≡ with_slash directory.now) }
-{
-    let mut text = Text::copy_of(alloc, directory)?;
-    if directory != b"/".as_slice() {
-        text.push(b'/')?;
-    }
-    Ok(text)
-}
-
 /// A path from the root.
-fn absolute(alloc: Global, directory: &[u8], path: Text) -> Result<Text, NoMemory>
-    ensures { IfOk result (λ text. text ≡ absolute directory.now path) }
+fn from_root(alloc: Global, directory: &[u8], path: &[u8]) -> Result<Text, NoMemory>
+    ensures { IfOk result (λ text. text ≡ absolute directory.now path.now) }
 {
-    if path.as_slice().starts_with(b"/") {
-        return Ok(path);
-    }
-    let mut text = with_slash(alloc, directory)?;
-    text.extend_from_slice(path.as_slice())?;
-    Ok(text)
+    Ok(Text::from_vec(absolute(alloc, directory, path)?))
 }
 
 /// The path of the program of a name.
@@ -129,7 +115,7 @@ fn program_path(
 {
     let directory = shell.vars.directory();
     match executable_path(alloc, files, directory, shell.vars.get(b"PATH"), name)? {
-        Some(path) => Ok(Some(absolute(alloc, directory, path)?)),
+        Some(path) => Ok(Some(from_root(alloc, directory, path.as_slice())?)),
         None => Ok(None),
     }
 }

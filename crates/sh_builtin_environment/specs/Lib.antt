@@ -6,6 +6,7 @@ pub mod Outcomes
 pub mod Setting
 pub mod Shifting
 pub mod Unsetting
+pub mod Variables
 pub mod Walks
 pub mod TrapMaps
 pub mod Trapping

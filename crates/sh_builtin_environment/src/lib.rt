@@ -26,3 +26,4 @@ pub use shifting::shift;
 pub use trapping::trap;
 pub use traps::{Traps, copy_of_action};
 pub use unsetting::{functions_to_unset, unset};
+pub use variables::{may_set, set_variable};

@@ -1,17 +1,14 @@
 -- The variables have the fields of the line that was read (XCU read, 2.6.5).
-use Rattle.std.specs.Prelude.{ℕ, List, [], ◌∷◌, ◌&&◌, not, Bool, Option, Some, None, length, if◌then◌else◌}
-use Rattle.sh_base.specs.Names.{is_name}
+use Rattle.std.specs.Prelude.{ℕ, List, [], ◌∷◌, Option, Some, None, length, if◌then◌else◌}
+use Rattle.sh_builtin_environment.specs.Variables.{may_set}
 use Rattle.sh_builtin_regular.specs.declared.reader.LineReader.{LineReader}
 use Rattle.sh_expand_fields.specs.Lines.{line_split}
-use Rattle.sh_vars.specs.Environment.{Environment, is_read_only, with_value}
+use Rattle.sh_vars.specs.Environment.{Environment, with_value}
 
 -- the variables, and the name of the one that is read-only
 pub record Assigned : Type 0 where
   pub environment : Environment
   pub refused : Option (List ℕ)
-
-abbrev pub may_set : Environment → List ℕ → Bool
-may_set env name = is_name name && not (is_read_only env name)
 
 -- from left to right
 abbrev pub assigned : Environment → List (List ℕ) → List (List ℕ) → Assigned

@@ -1,7 +1,6 @@
 -- The bytes of a line that `read` reads (XCU read).
 use Rattle.std.specs.Prelude.{ℕ, List, [], ◌∷◌, ◌++◌, ◌==◌, ◌&&◌, not, Bool, true, false, if◌then◌else◌}
 use Rattle.sh_builtin_regular.specs.declared.reader.LineReader.{LineReader}
-use Rattle.sh_pattern.specs.declared.pattern_byte.PatternByte.{PatternByte}
 
 -- whether a line is over, and what there is of it then
 pub record Progress : Type 0 where

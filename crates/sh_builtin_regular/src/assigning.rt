@@ -1,37 +1,12 @@
 //! Variables that have the fields of a line.
-ghost use Rattle.std.specs.Prelude.{◌≡◌, IfOk, IsTrue, OnOk};
-ghost use Rattle.sh_builtin_regular.specs.Assigning.{assigned, may_set};
-ghost use Rattle.sh_vars.specs.Environment.{with_value};
+ghost use Rattle.std.specs.Prelude.{◌≡◌, IfOk};
+ghost use Rattle.sh_builtin_regular.specs.Assigning.{assigned};
 
 use sh_base::NoMemory;
 use sh_base::sequence::Text;
-use sh_vars::{Vars, VarsFault, is_name};
+use sh_builtin_environment::{may_set, set_variable};
+use sh_vars::Vars;
 use std::alloc::Global;
-
-/// Whether a variable may be set.
-fn may_set(vars: &Vars, name: &[u8]) -> bool
-    ensures { result ≡ may_set vars.now name.now }
-{
-    if !is_name(name) {
-        return false;
-    }
-    match vars.variable(name) {
-        Some(entry) => !entry.is_read_only(),
-        None => true,
-    }
-}
-
-/// Sets a variable that may be set.
-fn set_plain(vars: &mut Vars, name: &[u8], value: &[u8]) -> Result<(), NoMemory>
-    requires { IsTrue (may_set vars.old name.now) }
-    ensures { OnOk result (vars.new ≡ with_value vars.old name.now value.now) }
-{
-    match vars.set(name, value) {
-        Ok(()) => Ok(()),
-        Err(VarsFault::NoMemory(lack)) => Err(lack),
-        Err(_) => unreachable!(),
-    }
-}
 
 /// Gives variables values, from left to right, up to one that may not be set: then the answer is its name.
 pub(crate) fn assign_all(
@@ -54,7 +29,7 @@ pub(crate) fn assign_all(
             let name = Text::copy_of(alloc, name.as_slice())?;
             return Ok(Some(name));
         }
-        set_plain(vars, name.as_slice(), value.as_slice())?;
+        set_variable(vars, name.as_slice(), value.as_slice())?;
         names_left = other_names;
         values_left = other_values;
     }

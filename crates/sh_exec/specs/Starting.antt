@@ -1,5 +1,6 @@
 -- A program's start in the process of a shell (XCU 2.9.1.4, 2.9.1.6): the search, and what the process then is.
-use Rattle.std.specs.Prelude.{ℕ, Bool, true, false, List, [], ◌∷◌, Option, Some, None, codes, unwrap_or}
+use Rattle.std.specs.Prelude.{ℕ, Bool, List, [], ◌∷◌, Option, Some, None, codes, unwrap_or}
+use Rattle.sh_exec_actions.specs.Preparing.{failing}
 use Rattle.sh_exec_actions.specs.Statuses as statuses
 use Rattle.sh_builtin.specs.declared.shell.Shell.{Shell}
 use Rattle.sh_builtin_environment.specs.TrapMaps.{none_set}
@@ -16,8 +17,6 @@ use Rattle.sh_files.specs.declared.search.Located.{Located}
 use Rattle.sh_files.specs.declared.search.Located.TheVariants as located
 use Rattle.sh_exec_actions.specs.declared.action.Active.{Active}
 use Rattle.sh_exec_actions.specs.declared.action.Active.TheVariants.{Acting, Calling, Evaluating, Next, Done, Leaving}
-use Rattle.sh_exec_actions.specs.declared.action.Finish.{Finish}
-use Rattle.sh_exec_actions.specs.declared.action.Finish.TheVariants.{Fault, Status}
 use Rattle.sh_exec_actions.specs.declared.action.ProgramStart.{ProgramStart}
 use Rattle.sh_exec_actions.specs.declared.action.Action.{Action}
 use Rattle.sh_exec_actions.specs.declared.action.Action.TheVariants.{Reading, Expanding, ReadSubstitution, WaitSubstitution, ReadLine, Redirecting, Forking, Starting, ForkStage, AssignLoopVariable, Defining, Waiting, Writing, Trapping, Ending}
@@ -38,24 +37,20 @@ abbrev pub program_in : {S : Type 0} → ℕ → ProgramState S → Task S
 program_in pid p = Asks pid p.ask p.program
 
 -- the name of a command and its arguments, and whether the shell ends where it can't be started
-pub record Invocation : Type 0 where
+pub record NamedStart : Type 0 where
   pub name : List ℕ
   pub operands : List (List ℕ)
   pub ends_shell : Bool
 
 -- the shell says why there is no program, and ends with this status, or the command has it
-abbrev pub failing : (ends_shell : Bool) → ℕ → Finish
-failing true status = Fault status
-failing false status = Status status
-
 abbrev pub failure : {S : Type 0} → KernelState → (ends_shell : Bool) → List ℕ → ℕ → Left (Started S)
 failure s ends_shell text status = with_next s (Refused (Writing (message text) (failing ends_shell status)))
 
 -- a program of the stock takes its first turn; what the shell had set aside is closed
-abbrev pub stock_start : {S : Type 0} → Meaning S → KernelState → Shell → Invocation → Option S → Left (Started S)
-stock_start m s shell invocation (Some program) =
+abbrev pub stock_start : {S : Type 0} → Meaning S → KernelState → Shell → NamedStart → Option S → Left (Started S)
+stock_start m s shell start (Some program) =
     with_next (start_call s shell.pid).after (Becomes (program_in shell.pid (asking m program answer.Started)))
-stock_start m s shell invocation None = failure s invocation.ends_shell (cannot_execute invocation.name) statuses.cannot_execute
+stock_start m s shell start None = failure s start.ends_shell (cannot_execute start.name) statuses.cannot_execute
 
 abbrev pub parent_of : KernelState → ℕ → ℕ
 parent_of s pid = unwrap_or (parent_at s.machine.processes pid) 1
@@ -69,21 +64,21 @@ abbrev pub script_start : {S : Type 0} → KernelState → Shell → List ℕ �
 script_start s shell path text operands =
     with_next (start_call s shell.pid).after (Becomes (shell_at (script_shell s shell path operands) (Reading text 0)))
 
-abbrev pub started_by : {S : Type 0} → Meaning S → KernelState → Shell → Invocation → Located → Left (Started S)
-started_by m s shell invocation located.Missing = failure s invocation.ends_shell (not_found invocation.name) statuses.not_found
-started_by m s shell invocation located.Unfit = failure s invocation.ends_shell (cannot_execute invocation.name) statuses.cannot_execute
-started_by m s shell invocation (located.Stock program) =
-    stock_start m s shell invocation (m.start program invocation.operands)
-started_by m s shell invocation (located.Script path text) = script_start s shell path text invocation.operands
+abbrev pub started_by : {S : Type 0} → Meaning S → KernelState → Shell → NamedStart → Located → Left (Started S)
+started_by m s shell start located.Missing = failure s start.ends_shell (not_found start.name) statuses.not_found
+started_by m s shell start located.Unfit = failure s start.ends_shell (cannot_execute start.name) statuses.cannot_execute
+started_by m s shell start (located.Stock program) =
+    stock_start m s shell start (m.start program start.operands)
+started_by m s shell start (located.Script path text) = script_start s shell path text start.operands
 
 -- where a name leads from the shell's directory, by its PATH
 abbrev pub located_for : FileMap → Environment → List ℕ → Located
 located_for files env name = located_of files env.directory (value_of env (codes "PATH")) name
 
 -- the program of a command name
-unfoldable pub start_named : {S : Type 0} → Meaning S → KernelState → Shell → Invocation → Left (Started S)
-start_named m s shell invocation =
-    started_by m s shell invocation (located_for s.machine.files shell.vars invocation.name)
+unfoldable pub start_named : {S : Type 0} → Meaning S → KernelState → Shell → NamedStart → Left (Started S)
+start_named m s shell start =
+    started_by m s shell start (located_for s.machine.files shell.vars start.name)
 
 abbrev pub start_by : {S : Type 0} → Meaning S → KernelState → Shell → ProgramStart → List (List ℕ) → Left (Started S)
 start_by m s shell start [] = with_next s (Refused (Starting start))

@@ -1,5 +1,5 @@
 -- One turn of a process: a shell is reduced, or becomes the program that it starts; a program takes its turn.
-use Rattle.std.specs.Prelude.{◌≡◌, ℕ, List, Option, Some, None, option_map}
+use Rattle.std.specs.Prelude.{◌≡◌, ℕ, Option, Some, None, option_map}
 use Rattle.sh_exec.specs.Programs.{Left, ProgramState, ask_turn}
 use Rattle.sh_exec.specs.Starting.{program_in, start_turn, starting_in}
 use Rattle.sh_exec.specs.declared.start.Started.{Started}

@@ -1,11 +1,12 @@
 //! A program's start in the process of a shell.
 ghost use Rattle.std.specs.Prelude.{◌≡◌, ℕ, IfOk, List};
+ghost use Rattle.sh_exec_actions.specs.Preparing.{failing};
 ghost use Rattle.sh_exec_actions.specs.Statuses as statuses;
 ghost use Rattle.sh_kernel.specs.Calls.{start_call};
 ghost use Rattle.sh_kernel.specs.State.{KernelState, StandsAt};
 ghost use Rattle.sh_exec_parts.specs.Messages as messages;
 ghost use Rattle.sh_exec.specs.Programs.{HasLeft, asking};
-ghost use Rattle.sh_exec.specs.Starting.{failing, located_for, parent_of, program_in, script_shell, script_start, start_named, start_turn, started_by, stock_start};
+ghost use Rattle.sh_exec.specs.Starting.{located_for, parent_of, program_in, script_shell, script_start, start_named, start_turn, started_by, stock_start};
 
 use crate::program::asking;
 use crate::task::Task;
@@ -14,7 +15,7 @@ use sh_base::sequence::Text;
 use sh_builtin::{Functions, Shell};
 use sh_builtin_environment::Traps;
 use sh_exec_actions::status::{CANNOT_EXECUTE, NOT_FOUND};
-use sh_exec_actions::{Action, Finish, ProgramStart};
+use sh_exec_actions::{Action, ProgramStart, failing};
 use sh_exec_parts::message::{cannot_execute, not_found};
 use sh_exec_parts::script_environment;
 use sh_exec_shell::Interpreter;
@@ -31,16 +32,6 @@ pub enum Started<S: Stock> {
     Becomes(Task<S>),
     /// There is no program: the shell does this next.
     Refused(Action),
-}
-
-/// What follows the message that says why there is no program.
-fn failing(ends_shell: bool, status: u8) -> Finish
-    ensures { result ≡ failing ends_shell status }
-{
-    if ends_shell {
-        return Finish::Fault(status);
-    }
-    Finish::Status(status)
 }
 
 /// No program has this name.

@@ -16,7 +16,7 @@ use crate::settings::{Settings, Source};
 use crate::shell::starting_of;
 use crate::start::{Started, start_turn};
 use sh_base::NoMemory;
-use sh_base::sequence::{Sequence, Text};
+use sh_base::sequence::Text;
 use sh_builtin::{Functions, Shell};
 use sh_builtin_environment::Traps;
 use sh_exec_actions::{Action, Frame, ProgramStart};

@@ -121,17 +121,18 @@ prepared_of env functions items fields status =
     }
 
 -- ---- what it does, once all else is done
--- an error ends the shell in a special built-in (2.8.1), and in the process that was to become a program
-abbrev pub failing : Bool → Finish
-failing true = Fault statuses.error
-failing false = Status statuses.error
+-- an error ends the shell with this status, or the command has it (2.8.1)
+abbrev pub failing : (ends_shell : Bool) → ℕ → Finish
+failing true status = Fault status
+failing false status = Status status
 
+-- it ends the shell in a special built-in, and in the process that was to become a program
 abbrev pub failing_of : Role → Finish
 failing_of role.NoCommandName = Status statuses.error
-failing_of (role.Builtin invocation) = failing invocation.is_special
+failing_of (role.Builtin invocation) = failing invocation.is_special statuses.error
 failing_of (role.Function body) = Status statuses.error
 failing_of role.Program = Fault statuses.error
-failing_of (role.Exec is_command is_special) = failing is_special
+failing_of (role.Exec is_command is_special) = failing is_special statuses.error
 failing_of (role.Compound command) = Status statuses.error
 failing_of (role.Subshell list) = Status statuses.error
 

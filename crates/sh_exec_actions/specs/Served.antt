@@ -1,6 +1,6 @@
 -- The complete commands that are run so far: AND-OR lists, one after another, of pipelines of commands. Asynchronous lists are refused, as
 -- a text that is no complete command is. A command substitution is served where its own commands are.
-use Rattle.std.specs.Prelude.{List, [], ◌∷◌, Option, Some, None, Bool, true, false, ◌&&◌}
+use Rattle.std.specs.Prelude.{List, Option, Some, None, Bool, true, false, ◌&&◌}
 use Rattle.std.specs.List.{list_all}
 use Rattle.sh_syntax.specs.declared.tree.AndOr.{AndOr}
 use Rattle.sh_syntax.specs.declared.tree.CaseItem.{CaseItem}

@@ -369,9 +369,9 @@ impl Copying for Active {
     fn copy(&self, alloc: Global) -> Result<Active, NoMemory> {
         match self {
             Active::Next(action) => Ok(Active::Next(action.copy(alloc)?)),
-            Active::Acting(builtin, fields) => {
+            Active::Acting(invocation, fields) => {
                 let fields = copy_texts(alloc, fields.as_slice())?;
-                Ok(Active::Acting(*builtin, fields))
+                Ok(Active::Acting(*invocation, fields))
             },
             Active::Calling(body, fields) => {
                 let fields = copy_texts(alloc, fields.as_slice())?;

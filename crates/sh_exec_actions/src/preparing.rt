@@ -236,14 +236,14 @@ pub fn prepare(
     })
 }
 
-/// What follows the message of an error (XCU 2.8.1): the shell ends, or the command is done, with the status 2. Takes no memory.
-pub fn failing(is_special: bool) -> Finish
-    ensures { result ≡ failing is_special }
+/// What follows the message of an error (XCU 2.8.1): the shell ends with this status, or the command has it. Takes no memory.
+pub fn failing(ends_shell: bool, status: u8) -> Finish
+    ensures { result ≡ failing ends_shell status }
 {
-    if is_special {
-        return Finish::Fault(ERROR);
+    if ends_shell {
+        return Finish::Fault(status);
     }
-    Finish::Status(ERROR)
+    Finish::Status(status)
 }
 
 /// What follows the message of a redirection that can't be done.
@@ -252,10 +252,10 @@ fn failing_of(role: Role) -> Finish
 {
     match role {
         Role::NoCommandName => Finish::Status(ERROR),
-        Role::Builtin(invocation) => failing(invocation.is_special),
+        Role::Builtin(invocation) => failing(invocation.is_special, ERROR),
         Role::Function(_) => Finish::Status(ERROR),
         Role::Program => Finish::Fault(ERROR),
-        Role::Exec { is_special, .. } => failing(is_special),
+        Role::Exec { is_special, .. } => failing(is_special, ERROR),
         Role::Compound(_) => Finish::Status(ERROR),
         Role::Subshell(_) => Finish::Status(ERROR),
     }

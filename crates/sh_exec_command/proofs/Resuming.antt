@@ -1,5 +1,5 @@
 -- Where an expansion stands that goes on with answers.
-use Rattle.std.proofs.Common.{◌≡◌, ℕ, List, [], ◌∷◌, ◌++◌, length, sym, ap, ◌∙◌, refl}
+use Rattle.std.proofs.Common.{◌≡◌, ℕ, List, [], ◌∷◌, length, sym, ap, ◌∙◌, refl}
 use Rattle.sh_exec_command.specs.Answers.{IsAnswered, Needs, Pattern, Fails, pattern_of, result_of, resumption, words_after, words_with}
 use Rattle.sh_expand.specs.Expanding as expanding
 use Rattle.sh_expand.specs.Expansion.{Outcome, Need, Done, Stops}

@@ -2,7 +2,8 @@
 use Rattle.std.proofs.Common.{◌≡◌, ◌<◌, ℕ, List, ◌∷◌, Bool, true, false, Option, None, length, arith, if◌then◌else◌, refl, sym, ap, subst, ◌∙◌}
 use Rattle.sh_exec_parts.specs.Messages.{read_only}
 use Rattle.sh_exec_parts.specs.declared.simple.Assignment.{Assignment}
-use Rattle.sh_exec_command.specs.Assigning.{Step, assignments_turn, assigned_by, assigned_one, behind, may_set, with_saved_variable, fatal_step, value_of, value_step}
+use Rattle.sh_builtin_environment.specs.Variables.{may_set}
+use Rattle.sh_exec_command.specs.Assigning.{Step, assignments_turn, assigned_by, assigned_one, behind, with_saved_variable, fatal_step, value_of, value_step}
 use Rattle.sh_exec_command.specs.Expanding.{Turn, start_of}
 use Rattle.sh_exec_command.specs.declared.assigning.Assigned.{Assigned}
 use Rattle.sh_exec_command.specs.declared.assigning.Assigned.TheVariants.{On, Over}

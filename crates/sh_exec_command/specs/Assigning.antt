@@ -1,7 +1,8 @@
 -- The assignments of a simple command (XCU 2.9.1.2), from left to right, each seeing those before it.
-use Rattle.std.specs.Prelude.{ℕ, List, [], ◌∷◌, ◌++◌, not, ◌&&◌, ◌||◌, Bool, true, false, Option, None, slice_get, unwrap_or, if◌then◌else◌}
+use Rattle.std.specs.Prelude.{ℕ, List, [], ◌∷◌, ◌++◌, not, ◌||◌, Bool, true, false, Option, None, slice_get, unwrap_or, if◌then◌else◌}
 use Rattle.sh_exec_parts.specs.Messages.{fault_text, read_only}
 use Rattle.sh_exec_parts.specs.declared.simple.Assignment.{Assignment}
+use Rattle.sh_builtin_environment.specs.Variables.{may_set}
 use Rattle.sh_exec_command.specs.Answers.{expansion_with}
 use Rattle.sh_exec_command.specs.Expanding.{Turn, fatal, start_of}
 use Rattle.sh_exec_actions.specs.Preparing.{final_move}
@@ -21,8 +22,7 @@ use Rattle.sh_expand_parts.specs.declared.context.Context.TheVariants as context
 use Rattle.sh_expand.specs.declared.wanted.Wanted.{Wanted}
 use Rattle.sh_files.specs.Nodes.{FileMap}
 use Rattle.sh_syntax.specs.declared.tree.Parts.{Parts}
-use Rattle.sh_vars.specs.Environment.{Environment, is_read_only, with_export, with_value}
-use Rattle.sh_base.specs.Names.{is_name}
+use Rattle.sh_vars.specs.Environment.{Environment, with_export, with_value}
 
 -- before a function, a built-in that isn't run as a special one, and a program, also behind exec, the variable is exported while that runs;
 -- before a special built-in, and without a command name, it is set and stays (2.9.1.2, 2.15); a compound command has no assignments
@@ -75,9 +75,6 @@ abbrev pub fatal_step : ExpandedCommand → Environment → List ℕ → Step
 fatal_step p env text = record { environment = env; outcome = Over (expanded_as.Go (Held p.undo (fatal text))) }
 
 -- an assignment to a read-only variable is refused (2.8.1)
-abbrev pub may_set : Environment → List ℕ → Bool
-may_set env name = is_name name && not (is_read_only env name)
-
 unfoldable pub value_step : ExpandedCommand → Environment → List ℕ → List ℕ → Step
 value_step p env name value =
     if may_set env name

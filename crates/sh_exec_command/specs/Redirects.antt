@@ -1,5 +1,5 @@
 -- The redirections of a compound command (XCU 2.9.4): their words are expanded in one turn, before any of them is done.
-use Rattle.std.specs.Prelude.{ℕ, List, [], map, Option, Some, None}
+use Rattle.std.specs.Prelude.{ℕ, List, [], map, Option}
 use Rattle.sh_exec_parts.specs.Messages.{fault_text}
 use Rattle.sh_exec_parts.specs.Redirections.{redirections_of}
 use Rattle.sh_exec_parts.specs.Simple.{Opened, compound_redirects, redirect_wanted}

@@ -3,7 +3,7 @@ use Rattle.std.specs.Prelude.{ℕ, List, [], ◌∷◌, map, Option, Some, None,
 use Rattle.sh_exec_parts.specs.Messages.{fault_text, read_only}
 use Rattle.sh_exec_parts.specs.Simple.{Opened, word_wanted}
 use Rattle.sh_exec_command.specs.Answers.{expansion_with}
-use Rattle.sh_exec_command.specs.Assigning.{may_set}
+use Rattle.sh_builtin_environment.specs.Variables.{may_set}
 use Rattle.sh_exec_command.specs.Expanding.{Turn, fatal, start_of}
 use Rattle.sh_exec_actions.specs.Statuses.{unexcused}
 use Rattle.sh_exec_actions.specs.declared.action.Active.{Active}

@@ -1,11 +1,11 @@
 //! The assignment turn of a simple command.
 ghost use Rattle.std.specs.Prelude.{◌≡◌, ◌∷◌, [], IfOk, IsTrue, OnOk};
+ghost use Rattle.sh_builtin_environment.specs.Variables.{may_set};
 ghost use Rattle.sh_exec_actions.specs.Statuses as statuses;
 ghost use Rattle.sh_exec_command.specs.Answers.{expansion_with, result_of};
-ghost use Rattle.sh_exec_command.specs.Assigning.{assign_turn, assignments_turn, assigned_by, assigned_one, is_passing, is_undone, may_set, with_saved_variable, fatal_step, text_of, undo_with, value_of, value_wanted, value_step, with_assigned};
+ghost use Rattle.sh_exec_command.specs.Assigning.{assign_turn, assignments_turn, assigned_by, assigned_one, is_passing, is_undone, with_saved_variable, fatal_step, text_of, undo_with, value_of, value_wanted, value_step, with_assigned};
 ghost use Rattle.sh_exec_parts.specs.Messages.{fault_text};
 ghost use Rattle.sh_exec_command.specs.Expanding.{fatal, start_of};
-ghost use Rattle.sh_vars.specs.Environment.{with_value};
 
 use crate::answers::expand;
 use crate::expanding::{fatal_message, start};
@@ -13,6 +13,7 @@ use crate::undo::save;
 use sh_base::NoMemory;
 use sh_base::sequence::{Sequence, Text};
 use sh_base::shared::Shared;
+use sh_builtin_environment::{may_set, set_variable};
 use sh_exec_actions::{
     Action, Active, Expanded, ExpandedCommand, Finish, Move, Pending, Role, ToExpand, Undo, perform,
 };
@@ -21,7 +22,7 @@ use sh_exec_parts::simple::Assignment;
 use sh_expand::{Context, Fault, Step, Wanted};
 use sh_files::Files;
 use sh_syntax::tree::{CompoundList, Parts};
-use sh_vars::{Vars, VarsFault, is_name};
+use sh_vars::{Vars, VarsFault};
 use std::alloc::Global;
 
 /// What one assignment comes to.
@@ -66,38 +67,13 @@ fn is_undone(role: &Role) -> bool
     }
 }
 
-/// Whether a variable may be set.
-pub(crate) fn may_set(vars: &Vars, name: &[u8]) -> bool
-    ensures { result ≡ may_set vars.now name.now }
-{
-    if !is_name(name) {
-        return false;
-    }
-    match vars.variable(name) {
-        Some(entry) => !entry.is_read_only(),
-        None => true,
-    }
-}
-
-/// Sets a variable that may be set.
-pub(crate) fn set_plain(vars: &mut Vars, name: &[u8], value: &[u8]) -> Result<(), NoMemory>
-    requires { IsTrue (may_set vars.old name.now) }
-    ensures { OnOk result (vars.new ≡ with_value vars.old name.now value.now) }
-{
-    match vars.set(name, value) {
-        Ok(()) => Ok(()),
-        Err(VarsFault::NoMemory(lack)) => Err(lack),
-        Err(_) => unreachable!(),
-    }
-}
-
 /// Sets a variable that may be set, for a command.
 #[tactic(auto, unfolding(crate::specs::Assigning::with_assigned))]
 fn set(vars: &mut Vars, role: &Role, name: &[u8], value: &[u8]) -> Result<(), NoMemory>
     requires { IsTrue (may_set vars.old name.now) }
     ensures { OnOk result (vars.new ≡ with_assigned role.now vars.old name.now value.now) }
 {
-    set_plain(vars, name, value)?;
+    set_variable(vars, name, value)?;
     if is_passing(role) {
         return match vars.export(name) {
             Ok(()) => Ok(()),

@@ -6,11 +6,11 @@ ghost use Rattle.sh_syntax.specs.declared.tree.Command.TheViews as view;
 ghost use Rattle.sh_exec_command.specs.Series.{begun_with, give_by, give_turn, rest_of_series, header_in, header_of, header_turn, series_by, series_turn, values_turn, word_of_series};
 
 use crate::answers::expand;
-use crate::assigning::{may_set, set_plain};
 use crate::expanding::{fail, fatal_message, start};
 use sh_base::NoMemory;
 use sh_base::sequence::{Sequence, Text, copies_of};
 use sh_base::shared::Shared;
+use sh_builtin_environment::{may_set, set_variable};
 use sh_exec_actions::{Action, Active, CommandStatus, Expanded, ForLoop, Move, Pending, ToExpand};
 use sh_exec_parts::Queue;
 use sh_exec_parts::message::read_only;
@@ -209,6 +209,6 @@ pub fn give_turn(alloc: Global, series: ForLoop, vars: &mut Vars) -> Result<Roun
         let piece = read_only(alloc, name.as_slice())?;
         return Ok(Round::Over(fatal_message(piece)));
     }
-    set_plain(vars, name.as_slice(), value.as_slice())?;
+    set_variable(vars, name.as_slice(), value.as_slice())?;
     Ok(Round::Body(ForLoop { name, values, body }))
 }

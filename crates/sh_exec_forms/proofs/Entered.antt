@@ -4,7 +4,7 @@ use Rattle.sh_exec_actions.specs.Statuses.{unexcused}
 use Rattle.sh_exec_actions.specs.declared.status.CommandStatus.{CommandStatus}
 use Rattle.sh_exec_parts.specs.Pipelines.{commands_of}
 use Rattle.sh_exec_actions.specs.Preparing.{first_place}
-use Rattle.sh_exec_actions.specs.declared.action.Active.TheVariants.{Next, Done}
+use Rattle.sh_exec_actions.specs.declared.action.Active.TheVariants.{Next}
 use Rattle.sh_exec_actions.specs.declared.action.Action.TheVariants.{Defining, Expanding}
 use Rattle.sh_exec_actions.specs.declared.action.ToExpand.TheVariants.{CaseWord, ForWords, Redirects}
 use Rattle.sh_exec_forms.specs.Entering.{Entry, and_or_run, and_or_step, command_entry, command_run, command_step, commands_run, commands_step, compound_list_step, compound_entry, compound_step, items_run, form_entry, form_step, item_run, with_others, list_item_step, list_run, with_negation, pipeline_run, pipeline_step, staging, is_subshell, redirected, to_enter, tree, trees, unless_subshell, no_entry}

@@ -24,7 +24,7 @@ by_forms (form ∷ forms) s shell run = by_forms forms s shell (In form run)
 over_stays : (around : List Form) (form : Form) (s : KernelState) (shell : Shell) (run : Run) → is_over run ≡ false
     → after around form (with_run s shell run) ≡ with_run s shell (In form run)
 unfolding after
-over_stays around form s shell (At (Acting builtin fields)) h = refl
+over_stays around form s shell (At (Acting invocation fields)) h = refl
 over_stays around form s shell (At (Calling body fields)) h = refl
 over_stays around form s shell (At (Evaluating how text)) h = refl
 over_stays around form s shell (At (Next place)) h = refl
@@ -115,7 +115,7 @@ onward kernel shell forms active later shell' forms' step a g h = subst (IsOnWay
 
 -- ---- what a built-in did is settled
 within_stays : (errexit : Bool) (around : List Form) (run : Run) → is_over run ≡ false → within_run errexit around run ≡ run
-within_stays errexit around (At (Acting builtin fields)) h = refl
+within_stays errexit around (At (Acting invocation fields)) h = refl
 within_stays errexit around (At (Calling body fields)) h = refl
 within_stays errexit around (At (Evaluating how text)) h = refl
 within_stays errexit around (At (Next place)) h = refl

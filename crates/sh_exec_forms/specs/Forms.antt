@@ -119,7 +119,7 @@ left_within called false (leave.Continue inside) = Done (unexcused 0)
 
 -- what a place comes to inside the forms round it, the innermost first; `set -e` judges commands, and a trap's action isn't one
 abbrev pub within : (errexit : Bool) → (around : List Form) → Active → Active
-within errexit around (Acting builtin fields) = Acting builtin fields
+within errexit around (Acting invocation fields) = Acting invocation fields
 within errexit around (Calling body fields) = Calling body fields
 within errexit around (Evaluating how text) = Evaluating how text
 within errexit around (Next place) = Next place
@@ -217,7 +217,7 @@ after_leave around FailuresIgnored s shell leave = with_run s shell (At (Leaving
 abbrev pub after_by : (around : List Form) → Form → KernelState → Shell → Run → Acted
 after_by around form s shell (At (Done ended)) = after_status around form s shell ended
 after_by around form s shell (At (Leaving leave)) = after_leave around form s shell leave
-after_by around form s shell (At (Acting builtin fields)) = with_run s shell (In form (At (Acting builtin fields)))
+after_by around form s shell (At (Acting invocation fields)) = with_run s shell (In form (At (Acting invocation fields)))
 after_by around form s shell (At (Calling body fields)) = with_run s shell (In form (At (Calling body fields)))
 after_by around form s shell (At (Evaluating how text)) = with_run s shell (In form (At (Evaluating how text)))
 after_by around form s shell (At (Next place)) = with_run s shell (In form (At (Next place)))

@@ -31,7 +31,7 @@ frames_of run = reverse (framed (path_of run))
 
 -- whether all that runs is done or left, so that what is around it goes on
 abbrev pub is_over : Run → Bool
-is_over (At (Acting builtin fields)) = false
+is_over (At (Acting invocation fields)) = false
 is_over (At (Calling body fields)) = false
 is_over (At (Evaluating how text)) = false
 is_over (At (Next place)) = false

@@ -318,7 +318,7 @@ fn go_outward(
 {
     match active {
         Active::Next(place) => Ok(Step::Inward(Active::Next(place))),
-        Active::Acting(builtin, fields) => Ok(Step::Inward(Active::Acting(builtin, fields))),
+        Active::Acting(invocation, fields) => Ok(Step::Inward(Active::Acting(invocation, fields))),
         Active::Calling(body, fields) => Ok(Step::Inward(Active::Calling(body, fields))),
         Active::Evaluating(how, text) => Ok(Step::Inward(Active::Evaluating(how, text))),
         Active::Done(ended) => match frames.pop() {

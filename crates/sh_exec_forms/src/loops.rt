@@ -89,7 +89,7 @@ pub(crate) fn within(frames: &Frames, errexit: bool, active: Active) -> Active
     ensures { result ≡ within errexit frames.now active }
 {
     match active {
-        Active::Acting(builtin, fields) => Active::Acting(builtin, fields),
+        Active::Acting(invocation, fields) => Active::Acting(invocation, fields),
         Active::Calling(body, fields) => Active::Calling(body, fields),
         Active::Evaluating(how, text) => Active::Evaluating(how, text),
         Active::Next(place) => Active::Next(place),

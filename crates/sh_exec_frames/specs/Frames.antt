@@ -1,6 +1,6 @@
 -- The forms round the place where a shell acts, as a list with the innermost first, and what holds inside them.
 use Rattle.std.specs.Option.{is_some, option_or, unwrap_or}
-use Rattle.std.specs.Prelude.{ℕ, List, [], ◌∷◌, map, ◌||◌, ◌&&◌, not, Bool, true, false, Option, Some, None, if◌then◌else◌}
+use Rattle.std.specs.Prelude.{ℕ, List, [], ◌∷◌, map, ◌||◌, ◌&&◌, not, Bool, true, false, Option, None, if◌then◌else◌}
 use Rattle.sh_builtin.specs.declared.builtin.Builtin.{Builtin}
 use Rattle.sh_builtin.specs.declared.builtin.Builtin.TheVariants.{Bracket, Break, Cd, Colon, Command, Continue, Dot, Echo, Eval, Exec, Exit, Export, False, Pwd, Read, ReadOnly, Return, Set, Shift, Test, Trap, True, Unset}
 use Rattle.sh_exec_frames.specs.Kinds.{before_trap, ignores_failure, is_call, is_loop, levels_inside, most_levels, refusal_ends, takes_return}

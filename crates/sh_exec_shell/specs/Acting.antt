@@ -20,6 +20,7 @@ use Rattle.sh_exec_command.specs.Series.{series_turn}
 use Rattle.sh_exec_command.specs.Reading.{next_command}
 use Rattle.sh_exec_command.specs.declared.found.Found.{Found}
 use Rattle.sh_exec_command.specs.declared.found.Found.TheVariants as found
+use Rattle.sh_exec_actions.specs.Statuses as statuses
 use Rattle.sh_exec_actions.specs.Statuses.{unexcused}
 use Rattle.sh_exec_actions.specs.declared.action.Active.{Active}
 use Rattle.sh_exec_actions.specs.declared.action.Active.TheVariants.{Next, Done}
@@ -59,19 +60,19 @@ use Rattle.sh_vars.specs.Environment.{Environment}
 
 -- ---- reading (2.1): where no command follows the text is done, with the status of its last command, which is 0 before the first one
 -- a text that is refused ends the shell (2.8.1); where `command` has it run it has a status, but what is nested too deep ends it there too
-abbrev pub refusal_ends : (ends_shell : Bool) → Refusal → Bool
-refusal_ends ends_shell refusal.Syntax = ends_shell
-refusal_ends ends_shell refusal.BadSubstitution = ends_shell
-refusal_ends ends_shell refusal.TooDeep = true
+abbrev pub is_fatal : (ends_shell : Bool) → Refusal → Bool
+is_fatal ends_shell refusal.Syntax = ends_shell
+is_fatal ends_shell refusal.BadSubstitution = ends_shell
+is_fatal ends_shell refusal.TooDeep = true
 
-abbrev pub refused : (ends_shell : Bool) → Refusal → Active
-refused ends_shell why = Next (Writing (message (refusal_text why)) (failing (refusal_ends ends_shell why)))
+abbrev pub after_refusal : (ends_shell : Bool) → Refusal → Active
+after_refusal ends_shell why = Next (Writing (message (refusal_text why)) (failing (is_fatal ends_shell why) statuses.error))
 
 abbrev pub read_turn : (ends_shell : Bool) → Environment → (status : ℕ) → Found → Run
 read_turn ends_shell env status found.Nothing = At (Done (unexcused status))
 read_turn ends_shell env status (found.Command tree rest) =
     In (Text rest) (items_run (view.out-CompoundList tree).items (unexcused env.special.status))
-read_turn ends_shell env status (found.Fault why) = At (refused ends_shell why)
+read_turn ends_shell env status (found.Fault why) = At (after_refusal ends_shell why)
 
 -- ---- expansion
 abbrev pub expand_turn : FileMap → Environment → List Named → ToExpand → Option Pending → Turn

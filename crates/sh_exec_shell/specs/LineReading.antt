@@ -10,7 +10,7 @@ use Rattle.sh_exec_actions.specs.declared.action.Active.{Active}
 use Rattle.sh_exec_actions.specs.declared.action.Active.TheVariants.{Next, Done}
 use Rattle.sh_exec_actions.specs.declared.action.Finish.TheVariants.{Status}
 use Rattle.sh_exec_forms.specs.Forms.{Acted, with_run}
-use Rattle.sh_exec_forms.specs.Running.{Run, At}
+use Rattle.sh_exec_forms.specs.Running.{At}
 use Rattle.sh_exec_machine.specs.Transfers.{take_bytes}
 use Rattle.sh_exec_machine.specs.declared.transfer.ReadOutcome.{ReadOutcome}
 use Rattle.sh_exec_machine.specs.declared.transfer.ReadOutcome.TheVariants as taken

@@ -6,7 +6,7 @@ ghost use Rattle.sh_exec_command.specs.Expanding as expanding;
 ghost use Rattle.sh_exec_command.specs.Reading.{next_command};
 ghost use Rattle.sh_exec_forms.specs.Forms.{IsActed, behind_status};
 ghost use Rattle.sh_exec_command.specs.Series.{give_turn};
-ghost use Rattle.sh_exec_shell.specs.Acting.{defined, expand_turn, given_round, in_forms, read_turn, refusal_ends, refused, round_run, trap_turn, without_trap};
+ghost use Rattle.sh_exec_shell.specs.Acting.{after_refusal, defined, expand_turn, given_round, in_forms, is_fatal, read_turn, round_run, trap_turn, without_trap};
 ghost use Rattle.sh_exec_shell.specs.Forks.{IsTurned, inheriting, inside};
 ghost use Rattle.sh_exec_shell.specs.Reduction.{act_at, act_place, expanded_by, expansion, plain, reduce};
 ghost use Rattle.sh_exec_forms.specs.Running.{Run};
@@ -23,6 +23,7 @@ use sh_base::NoMemory;
 use sh_base::shared::Shared;
 use sh_builtin::{Functions, Shell};
 use sh_builtin_environment::copy_of_action;
+use sh_exec_actions::status::ERROR;
 use sh_exec_actions::{
     Action, Active, CommandStatus, Expanded, ForLoop, Form, Pending, ToExpand, failing,
 };
@@ -42,8 +43,8 @@ use sh_vars::Vars;
 use std::alloc::Global;
 
 /// Whether a text that is refused ends the shell, where one that `command` has run may not.
-fn refusal_ends(ends_shell: bool, why: Refusal) -> bool
-    ensures { result ≡ refusal_ends ends_shell why }
+fn is_fatal(ends_shell: bool, why: Refusal) -> bool
+    ensures { result ≡ is_fatal ends_shell why }
 {
     match why {
         Refusal::Syntax => ends_shell,
@@ -54,9 +55,9 @@ fn refusal_ends(ends_shell: bool, why: Refusal) -> bool
 
 /// A text is refused.
 fn refuse(alloc: Global, ends_shell: bool, why: Refusal) -> Result<Active, NoMemory>
-    ensures { IfOk result (λ active. active ≡ refused ends_shell why) }
+    ensures { IfOk result (λ active. active ≡ after_refusal ends_shell why) }
 {
-    let finish = failing(refusal_ends(ends_shell, why));
+    let finish = failing(is_fatal(ends_shell, why), ERROR);
     let piece = refused(alloc, why)?;
     Ok(Active::Next(Action::Writing(piece, finish)))
 }

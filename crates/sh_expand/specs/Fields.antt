@@ -1,5 +1,5 @@
 -- The fields of expanded words: field splitting (XCU 2.6.5), pathname expansion (2.6.6) and quote removal (2.6.7).
-use Rattle.std.specs.Prelude.{ℕ, List, [], ◌∷◌, map, Option, Some, None, codes, if◌then◌else◌}
+use Rattle.std.specs.Prelude.{ℕ, List, [], ◌∷◌, map, if◌then◌else◌}
 use Rattle.std.specs.List.{flat_map}
 use Rattle.sh_vars.specs.Environment.{Environment, separators_of}
 use Rattle.sh_files.specs.Nodes.{FileMap}

@@ -8,7 +8,7 @@ use Rattle.std.specs.Option.{option_and_then}
 use Rattle.std.proofs.lemmas.Bool.{eq-eqb}
 use Rattle.std.proofs.lemmas.Bool.Decides.{nat_tests}
 use Rattle.sh_files_image.specs.Fields.{behind}
-use Rattle.sh_files_image.specs.Listing.{prefix_of, is_name, name_if, name_in, names_in}
+use Rattle.sh_files_image.specs.Listing.{prefix_of, is_filename, name_if, name_in, names_in}
 use Rattle.sh_files_image.specs.Paths.{absolute, begins_at_root, components, fits, has_slash, path_in, names_fit, parent, next_place}
 use Rattle.sh_files_image.specs.Places.{Entries}
 use Rattle.sh_files_image.proofs.Places.{order}
@@ -291,7 +291,7 @@ dropped_self (x ∷ xs) ys = dropped_self xs ys
 behind_self : (xs ys : List ℕ) → behind xs (xs ++ ys) ≡ Some ys
 behind_self xs ys = ap (λ b. if b then Some (drop (length xs) (xs ++ ys)) else None) (begins_self xs ys) ∙ ap (λ (r : List ℕ). Some r) (dropped_self xs ys)
 
-joined_name : (mid n : List ℕ) → is_name n ≡ true → name_in (prefix_of mid) (path_in mid n) ≡ Some n
+joined_name : (mid n : List ℕ) → is_filename n ≡ true → name_in (prefix_of mid) (path_in mid n) ≡ Some n
 joined_name mid n h =
     elim (bytes_eq mid (codes "/")) as (λ b. name_if (behind (if b then codes "/" else mid ++ 47 ∷ []) (if b then 47 ∷ n else mid ++ 47 ∷ n)) ≡ Some n) [
       | true ↦ ap name_if (behind_self (codes "/") n) ∙ ap (λ b. if b then Some n else None) h
@@ -334,7 +334,7 @@ held files mid n place p h =
     let second = through (entrance (node_at files (next_place mid n))) (Ok (next_place (next_place mid n) [])) place first.2 in
     let s : next_place mid n ≡ path_in mid n = step_is (bytes_eq n []) (bytes_eq n (codes ".")) (bytes_eq n (codes "..")) mid (parent mid) (path_in mid n) p.filled p.no_dot p.no_dots in
     let k = has_number files (path_in mid n) second.0 (ap (λ (x : List ℕ). entrance (node_at files x)) (sym s) ∙ second.1) in
-    let name : is_name n ≡ true = ap (λ b. not b && not (has_slash n)) p.filled ∙ ap (λ b. not b) p.slashless in
+    let name : is_filename n ≡ true = ap (λ b. not b && not (has_slash n)) p.filled ∙ ap (λ b. not b) p.slashless in
     listed_there (prefix_of mid) n (path_in mid n) k.0 (map.entries files.paths) (sym (map.get-entries files.paths (path_in mid n)) ∙ k.1) (joined_name mid n name)
 
 pub not_root : (n : List ℕ) → IsProper n → begins_at_root (n ++ 47 ∷ []) ≡ false

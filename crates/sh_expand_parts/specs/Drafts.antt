@@ -1,5 +1,5 @@
 -- The items of a word so far, and what values (XCU 2.5.2) and quotes (2.2.3) put there.
-use Rattle.std.specs.Prelude.{ℕ, List, [], ◌∷◌, ◌++◌, ◌||◌, Bool, true, false, map, Option, Some, None, codes}
+use Rattle.std.specs.Prelude.{ℕ, List, [], ◌∷◌, ◌++◌, ◌||◌, Bool, true, false, map, Option, Some, None}
 use Rattle.sh_vars.specs.Environment.{Environment, separators_of}
 use Rattle.sh_expand_fields.specs.declared.item.Item.{Item}
 use Rattle.sh_expand_fields.specs.declared.item.Item.TheVariants as item

@@ -16,7 +16,7 @@ use Rattle.sh_files_image.specs.declared.node.Node.{Node}
 use Rattle.sh_files_image.specs.declared.node.Node.TheVariants.{Directory, File}
 use Rattle.sh_files_image.proofs.Places.{Rises, laws, order, right}
 use Rattle.sh_files_image.proofs.Wording as wording
-use Rattle.sh_files_image.proofs.Wording.{behind_is_one, behind_length, fields_length, line_is_one, line_length}
+use Rattle.sh_files_image.proofs.Wording.{behind_length, fields_length, line_is_one, line_length}
 use Rattle.sh_files.specs.Nodes.{FileMap, starting, with_new}
 use Rattle.sh_files.specs.Image.{behind_entry, beyond, by_directory, by_file, by_header, by_line, content_fault, files_at_end, entries, entry, file_entry, first_fault, image_of, not_directory, numbered_line, path_fault, node_entry, read_image, stands}
 use Rattle.sh_files.specs.Whole.{IsWhole}

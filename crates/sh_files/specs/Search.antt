@@ -1,7 +1,7 @@
 -- The search for a command (XCU 2.9.1.4) and for a dot script (2.15 dot), by the variable PATH (XBD 8.3).
 use Rattle.std.specs.Prelude.{ℕ, List, [], ◌∷◌, ◌++◌, ◌+◌, ◌&&◌, ◌==◌, Bool, true, false, Option, Some, None, codes, drop, find, if◌then◌else◌, length, map, nat_eq, nat_le, position, take}
 use Rattle.std.specs.Option.{option_or}
-use Rattle.std.specs.List.{list_any, slice_split, starts_with}
+use Rattle.std.specs.List.{ends_with, list_any, slice_split, starts_with}
 use Rattle.sh_files.specs.declared.search.Located.{Located}
 use Rattle.sh_files.specs.declared.search.Located.TheVariants.{Missing, Unfit, Stock, Script}
 use Rattle.sh_files.specs.Nodes.{FileMap, is_executable, node_of_path}
@@ -55,10 +55,14 @@ path_leads files directory path = node_leads path (node_of_path files directory 
 abbrev pub elements : List ℕ → List (List ℕ)
 elements value = slice_split (λ b. b == 58) value
 
+-- a slash stands between an element and a name; an element that ends with one gets no other
+abbrev pub with_slash : (element : List ℕ) → List ℕ
+with_slash element = if ends_with nat_eq element (codes "/") then element else element ++ 47 ∷ []
+
 -- the path of a name in an element; an empty element is the working directory
 abbrev pub path_in : List ℕ → List ℕ → List ℕ
 path_in name [] = name
-path_in name (b ∷ bs) = (b ∷ bs) ++ 47 ∷ name
+path_in name (b ∷ bs) = with_slash (b ∷ bs) ++ name
 
 -- the paths that are tried, in order; none where PATH is unset
 abbrev pub candidate_paths : Option (List ℕ) → List ℕ → List (List ℕ)

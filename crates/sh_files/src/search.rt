@@ -3,7 +3,7 @@ ghost use Rattle.std.specs.Prelude.{◌≡◌, ◌∷◌, ◌==◌, ◌<◌, [],
 ghost use Rattle.std.specs.List.{list_any};
 ghost use Rattle.sh_files.specs.Nodes.{is_executable};
 ghost use Rattle.sh_files_image.specs.declared.node.Node.TheVariants as node;
-ghost use Rattle.sh_files.specs.Search.{elements, executable_path, has_slash, is_regular, line_of, located_of, names_regular, node_leads, not_executed, path_in, path_leads, paths_of, program_of, script_of, program_among, stock_name, candidate_paths, dot_script, first_text, may_be_read, readable_text, text_at};
+ghost use Rattle.sh_files.specs.Search.{elements, executable_path, has_slash, is_regular, line_of, located_of, names_regular, node_leads, not_executed, path_in, path_leads, paths_of, program_of, script_of, program_among, stock_name, candidate_paths, dot_script, first_text, may_be_read, readable_text, text_at, with_slash};
 
 use crate::files::Files;
 use sh_base::NoMemory;
@@ -144,6 +144,17 @@ fn split_element(value: &[u8]) -> Option<(&[u8], &[u8])>
     }
 }
 
+/// An element with a slash at its end.
+fn with_slash(alloc: Global, element: &[u8]) -> Result<Text, NoMemory>
+    ensures { IfOk result (λ path. path ≡ with_slash element.now) }
+{
+    let mut path = Text::copy_of(alloc, element)?;
+    if !element.ends_with(b"/") {
+        path.push(b'/')?;
+    }
+    Ok(path)
+}
+
 /// The path of a name in an element.
 fn path_in(alloc: Global, name: &[u8], element: &[u8]) -> Result<Text, NoMemory>
     ensures { IfOk result (λ path. path ≡ path_in name.now element.now) }
@@ -151,8 +162,7 @@ fn path_in(alloc: Global, name: &[u8], element: &[u8]) -> Result<Text, NoMemory>
     if element.is_empty() {
         return Ok(Text::copy_of(alloc, name)?);
     }
-    let mut path = Text::copy_of(alloc, element)?;
-    path.push(b'/')?;
+    let mut path = with_slash(alloc, element)?;
     path.extend_from_slice(name)?;
     Ok(path)
 }

@@ -13,7 +13,7 @@ use Rattle.std.proofs.lemmas.Bool.Decides.{nat_tests}
 use Rattle.std.proofs.lemmas.Cmp.{nat_cmp_total}
 use Rattle.sh_files_image.specs.Fields.{behind}
 use Rattle.sh_files_image.specs.Places.{Entries}
-use Rattle.sh_files_image.specs.Listing.{comes_before, from, is_name, name_if, name_in, names_in, none_before, past, rise}
+use Rattle.sh_files_image.specs.Listing.{comes_before, from, is_filename, name_if, name_in, names_in, none_before, past, rise}
 use Rattle.sh_files_image.specs.Paths.{has_slash}
 use Rattle.sh_files_image.proofs.Places.{Above, Below, Rises, Stands, below_at, laws, left, less, order, right}
 
@@ -276,7 +276,7 @@ name_is prefix x name h = by (begins x prefix) refl h
     inner false g = cc
 
     by : (b : Bool) → begins x prefix ≡ b → name_if (if b then Some (drop (length prefix) x) else None) ≡ Some name → (begins x prefix ≡ true) × (drop (length prefix) x ≡ name)
-    by true e k = (e, inner (is_name (drop (length prefix) x)) k)
+    by true e k = (e, inner (is_filename (drop (length prefix) x)) k)
     by false e k = cc
 
 joined : (a b : Bool) → T a → T b → T (a && b)

@@ -13,12 +13,12 @@ abbrev pub prefix_of : List ℕ → List ℕ
 prefix_of place = if bytes_eq place (codes "/") then codes "/" else place ++ 47 ∷ []
 
 -- a name isn't empty and has no slash
-abbrev pub is_name : List ℕ → Bool
-is_name name = not (bytes_eq name []) && not (has_slash name)
+abbrev pub is_filename : List ℕ → Bool
+is_filename name = not (bytes_eq name []) && not (has_slash name)
 
 abbrev pub name_if : Option (List ℕ) → Option (List ℕ)
 name_if None = None
-name_if (Some name) = if is_name name then Some name else None
+name_if (Some name) = if is_filename name then Some name else None
 
 -- the name that a path has in a directory: what follows, if that is a name
 abbrev pub name_in : List ℕ → List ℕ → Option (List ℕ)

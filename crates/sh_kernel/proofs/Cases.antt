@@ -8,8 +8,8 @@ use Rattle.sh_pipe.specs.Pipe.{PipeState}
 use Rattle.sh_kernel_descriptors.specs.Outcomes.{success, refusal}
 use Rattle.sh_kernel_descriptors.specs.Machine.{MachineState, after_end}
 use Rattle.sh_kernel_descriptors.specs.Descriptors.{description_number, has_reader, has_writer, is_called, is_named, reads_from, writes_to}
-use Rattle.sh_kernel_descriptors.specs.Reading.{with_offset, read_described, read_file, read_found, read_node, read_pipe_of, read_slot, read_target, read_call}
-use Rattle.sh_kernel_descriptors.specs.Writing.{broken_pipe, content_written, on_files, write_call, write_described, write_end, write_file, write_found, write_limited, write_node, write_pipe_of, write_slot, write_start, write_target}
+use Rattle.sh_kernel_descriptors.specs.Reading.{with_offset, read_described, read_found, read_node, read_pipe_of, read_slot, read_target, read_call}
+use Rattle.sh_kernel_descriptors.specs.Writing.{broken_pipe, content_written, on_files, write_call, write_described, write_found, write_pipe_of, write_slot, write_start, write_target}
 use Rattle.sh_kernel_descriptors.specs.Writing as writing
 use Rattle.sh_kernel_descriptors.specs.Reading as reading
 use Rattle.sh_kernel_descriptors.specs.declared.descriptor.Descriptor.{Descriptor}

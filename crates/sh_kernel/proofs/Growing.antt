@@ -1,6 +1,6 @@
 -- Numbers only grow, and targets stay.
 use Rattle.std.proofs.Common.{◌≡◌, ℕ, zero, suc, ◌+◌, ◌<◌, ◌≤◌, List, [], ◌∷◌, ◌++◌, length, Bool, true, false, cond, Option, Some, None, slice_get, slice_set, refl, sym, ap, ◌∙◌, arith, Result, Ok, Err, length-append, ◌-◌, not, option_map}
-use Rattle.sh_files.specs.Nodes.{FileMap, opened, write_at, write_fits, is_empty}
+use Rattle.sh_files.specs.Nodes.{FileMap, opened, write_at}
 use Rattle.sh_files.specs.declared.fault.FileFault.{FileFault}
 use Rattle.sh_files.specs.declared.fault.FileFault.TheVariants.{NoEntry, NoAccess}
 use Rattle.std.specs.FinMap.{get, get-insert}

@@ -4,9 +4,10 @@ use Rattle.std.specs.Prelude.{Result, Ok, Err, if◌then◌else◌}
 use Rattle.std.specs.List.{find, list_any}
 use Rattle.std.specs.Option.{unwrap_or}
 use Rattle.sh_exec_command.specs.Answers.{Fails, Needs, Pattern, Patterned, expansion_with, pattern_of, pattern_with, resumption, single, words_after, words_with}
-use Rattle.sh_exec_command.specs.Assigning.{Step, assign_turn, assigned_by, assigned_one, assignments_turn, behind, may_set, text_of, value_of, value_step, value_wanted}
+use Rattle.sh_builtin_environment.specs.Variables.{may_set}
+use Rattle.sh_exec_command.specs.Assigning.{Step, assign_turn, assigned_by, assigned_one, assignments_turn, behind, text_of, value_of, value_step, value_wanted}
 use Rattle.sh_exec_command.specs.Cases as cases
-use Rattle.sh_exec_command.specs.Cases.{branch_of, branch_turn, branches_of, case_turn, item_branches, next_branch, pattern_by, pattern_turn, tried, word_by}
+use Rattle.sh_exec_command.specs.Cases.{branch_of, branch_turn, branches_of, case_turn, next_branch, pattern_by, pattern_turn, tried, word_by}
 use Rattle.sh_exec_command.specs.Expanding.{Turn, fatal, start_of, words_by, words_turn}
 use Rattle.sh_exec_actions.specs.Preparing.{ahead, ahead_by, exec_role, final_move, first_move, first_place, forks, nameless, not_done, performed_by, prepared_of, command_role, role_behind, role_by, role_of, role_run}
 use Rattle.sh_exec_command.specs.Redirects.{compound_role, redirected, redirects_by, redirects_turn, role_in, role_of_command}
@@ -78,7 +79,7 @@ use Rattle.sh_laws.proofs.ServedReadings.{AnswerFits, reading_fits}
 -- ---- what is held at a place, by a move, by what an expansion comes to
 abbrev pub ActiveHolds : Active → Type 0
 ActiveHolds (Next place) = PlaceHolds place
-ActiveHolds (Acting builtin fields) = Unit {0}
+ActiveHolds (Acting invocation fields) = Unit {0}
 ActiveHolds (Calling body fields) = CommandBegins body
 ActiveHolds (Evaluating how text) = Unit {0}
 ActiveHolds (Done status) = Unit {0}

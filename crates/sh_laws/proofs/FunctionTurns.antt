@@ -1,8 +1,8 @@
 -- The functions of a shell begin with an action after its turn where they did before it.
-use Rattle.std.proofs.Common.{◌≡◌, ℕ, zero, suc, List, [], ◌∷◌, ◌++◌, length, Bool, true, false, Option, Some, None, refl, sym, ap, subst, ◌∙◌}
+use Rattle.std.proofs.Common.{ℕ, zero, suc, List, [], ◌∷◌, ◌++◌, length, Bool, true, false, Option, Some, None, sym, ap, subst, ◌∙◌}
 use Rattle.std.specs.Prelude.{cond, drop, nat_eq, not}
 use Rattle.sh_base.specs.Names.{is_name}
-use Rattle.sh_builtin.specs.Functions.{Named, defined, has_name, unset_by, without, without_all}
+use Rattle.sh_builtin.specs.Functions.{Named, has_name, unset_by, without, without_all}
 use Rattle.sh_builtin.specs.Invocations.{invoked}
 use Rattle.sh_builtin.specs.Running.{built_in}
 use Rattle.sh_builtin.specs.declared.outcome.TextRun.{TextRun}

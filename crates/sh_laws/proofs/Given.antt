@@ -21,7 +21,7 @@ use Rattle.sh_parse_words.specs.Places.{behind_piece}
 use Rattle.sh_parse_commands.specs.Results.{and_then, fault_moved}
 use Rattle.sh_parse_commands.specs.Sources.{backquotes_text, behind_pieces, text_between}
 use Rattle.sh_parse_commands.specs.Words.{Reader, at_its_level, answer_of, with_answer, begins_closed, parts_in, place_in, text_by, text_of, whole, with_piece, with_pieces, unread}
-use Rattle.sh_laws.specs.Spelled.{AreSpelled, Balanced, Nested, Spelled, bytes_of, has_value, here, is_alone, next, part_of}
+use Rattle.sh_laws.specs.Spelled.{AreSpelled, Nested, Spelled, bytes_of, has_value, here, is_alone, next, part_of}
 use Rattle.sh_laws.specs.Spelled as spells
 use Rattle.sh_laws.proofs.Spelled.{arithmetic_opened, at, begun_at, behind_both, braces_opened, closes_same, commands_opened, frame_of, given, go, is_ok, one_less, passed, passing, quiet, quotes_behind, quotes_opened, same_parts, step, text_in_backquotes}
 

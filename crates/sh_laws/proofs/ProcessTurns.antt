@@ -1,6 +1,6 @@
 -- A turn of a process that stands before an action leaves it before one.
 use Rattle.std.proofs.Common.{ℕ, List, [], ◌∷◌, Option, Some, None, option_map}
-use Rattle.sh_exec.specs.Starting.{Invocation, located_for, start_by, start_named, start_turn, started_by, starting_in, stock_start}
+use Rattle.sh_exec.specs.Starting.{NamedStart, located_for, start_by, start_named, start_turn, started_by, starting_in, stock_start}
 use Rattle.sh_exec_actions.specs.declared.action.ProgramStart.{ProgramStart}
 use Rattle.sh_exec.specs.Turns.{Turned, made_task, runs_by, started_in, turn}
 use Rattle.sh_exec.specs.declared.start.Started.{Started}
@@ -17,13 +17,13 @@ use Rattle.sh_exec_forms.specs.Running.{Run, At, In, InterpreterState, active_of
 use Rattle.sh_kernel.specs.State.{KernelState}
 use Rattle.sh_exec_shell.specs.Reduction.{shell_turn}
 use Rattle.sh_laws.proofs.ShellTurns.{shell_stands}
-use Rattle.sh_laws.specs.BeforeAction.{ActiveStands, ChildStands, FunctionsHold, InterpreterStands, IsBeforeAction, IsNext, MadeStands, PlaceHolds, RunStands, TaskStands}
+use Rattle.sh_laws.specs.BeforeAction.{ActiveStands, ChildStands, InterpreterStands, IsBeforeAction, IsNext, MadeStands, PlaceHolds, RunStands, TaskStands}
 use Rattle.sh_stock.specs.Asking.{Meaning}
 
 -- ---- an action is next
 active_next : (active : Active) → ActiveStands active → IsNext active
 active_next (Next place) s = tt
-active_next (Acting builtin fields) s = s
+active_next (Acting invocation fields) s = s
 active_next (Calling body fields) s = s
 active_next (Evaluating how text) s = s
 active_next (Done status) s = s
@@ -51,11 +51,11 @@ module _ {S : Type 0} (m : Meaning S) where
   StartedStands (Becomes task) = TaskStands task
   StartedStands (Refused place) = PlaceHolds place
 
-  stocked_stands : (s : KernelState) (shell : Shell) (i : Invocation) (o : Option S) → StartedStands (stock_start m s shell i o).next
+  stocked_stands : (s : KernelState) (shell : Shell) (i : NamedStart) (o : Option S) → StartedStands (stock_start m s shell i o).next
   stocked_stands s shell i None = tt
   stocked_stands s shell i (Some program) = tt
 
-  started_stands : (s : KernelState) (shell : Shell) (invocation : Invocation) (l : Located) → StartedStands (started_by m s shell invocation l).next
+  started_stands : (s : KernelState) (shell : Shell) (invocation : NamedStart) (l : Located) → StartedStands (started_by m s shell invocation l).next
   started_stands s shell invocation located.Missing = tt
   started_stands s shell invocation located.Unfit = tt
   started_stands s shell invocation (located.Stock program) = stocked_stands s shell invocation (m.start program invocation.operands)

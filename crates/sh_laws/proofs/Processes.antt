@@ -1,7 +1,7 @@
 -- Turns of processes, shells and programs.
 use Rattle.std.proofs.Common.{◌≡◌, ℕ, List, [], ◌∷◌, Option, Some, None, option_map, refl, sym, subst}
 use Rattle.sh_exec.specs.Programs.{ask_turn, end_turn, read_turn, write_turn}
-use Rattle.sh_exec.specs.Starting.{Invocation, located_for, start_by, start_named, start_turn, started_by, starting_in, stock_start}
+use Rattle.sh_exec.specs.Starting.{NamedStart, located_for, start_by, start_named, start_turn, started_by, starting_in, stock_start}
 use Rattle.sh_exec_actions.specs.declared.action.ProgramStart.{ProgramStart}
 use Rattle.sh_exec.specs.Turns.{Turned, by_shell, made_task, runs_by, started_in, turn}
 use Rattle.sh_exec.specs.declared.start.Started.{Started}
@@ -34,11 +34,11 @@ module _ {S : Type 0} (m : Meaning S) (directory : List ℕ) (pid : ℕ) (P : Op
   own_kept : (n : ℕ) → n ≡ pid → IsKept directory n (P None)
   own_kept n e = subst (λ q. IsKept directory q (P None)) (sym e) (kept None)
 
-  stocked_keeps : (s : KernelState) (shell : Shell) (i : Invocation) (o : Option S) → shell.pid ≡ pid → P None s → P None (stock_start m s shell i o).machine
+  stocked_keeps : (s : KernelState) (shell : Shell) (i : NamedStart) (o : Option S) → shell.pid ≡ pid → P None s → P None (stock_start m s shell i o).machine
   stocked_keeps s shell i None e p = p
   stocked_keeps s shell i (Some program) e p = own_kept shell.pid e s StartProgram tt p
 
-  started_keeps : (s : KernelState) (shell : Shell) (invocation : Invocation) (l : Located) → shell.pid ≡ pid → P None s → P None (started_by m s shell invocation l).machine
+  started_keeps : (s : KernelState) (shell : Shell) (invocation : NamedStart) (l : Located) → shell.pid ≡ pid → P None s → P None (started_by m s shell invocation l).machine
   started_keeps s shell invocation located.Missing e p = p
   started_keeps s shell invocation located.Unfit e p = p
   started_keeps s shell invocation (located.Stock program) e p = stocked_keeps s shell invocation (m.start program invocation.operands) e p
@@ -84,11 +84,11 @@ module _ {S : Type 0} (m : Meaning S) where
   Numbered shell (Becomes task) = pid_of task ≡ shell.pid
   Numbered shell (Refused place) = Unit {0}
 
-  stocked_number : (s : KernelState) (shell : Shell) (i : Invocation) (o : Option S) → Numbered shell (stock_start m s shell i o).next
+  stocked_number : (s : KernelState) (shell : Shell) (i : NamedStart) (o : Option S) → Numbered shell (stock_start m s shell i o).next
   stocked_number s shell i None = tt
   stocked_number s shell i (Some program) = refl
 
-  started_number : (s : KernelState) (shell : Shell) (invocation : Invocation) (l : Located) → Numbered shell (started_by m s shell invocation l).next
+  started_number : (s : KernelState) (shell : Shell) (invocation : NamedStart) (l : Located) → Numbered shell (started_by m s shell invocation l).next
   started_number s shell invocation located.Missing = tt
   started_number s shell invocation located.Unfit = tt
   started_number s shell invocation (located.Stock program) = stocked_number s shell invocation (m.start program invocation.operands)

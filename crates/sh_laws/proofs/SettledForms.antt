@@ -51,7 +51,7 @@ Holds (In form run) = FormHolds form × Holds run
 -- it is settled too: an action is next, or all of it is done or left
 abbrev pub ActiveSettled : Active → Type 0
 ActiveSettled (Next place) = PlaceHolds place
-ActiveSettled (Acting builtin fields) = ⊥
+ActiveSettled (Acting invocation fields) = ⊥
 ActiveSettled (Calling body fields) = ⊥
 ActiveSettled (Evaluating how text) = ⊥
 ActiveSettled (Done status) = Unit {0}
@@ -63,7 +63,7 @@ Settled (In form run) = FormHolds form × RunStands run
 
 stands_active : (active : Active) → ActiveStands active → ActiveSettled active
 stands_active (Next place) s = s
-stands_active (Acting builtin fields) s = s
+stands_active (Acting invocation fields) s = s
 stands_active (Calling body fields) s = s
 stands_active (Evaluating how text) s = s
 stands_active (Done status) s = tt
@@ -75,7 +75,7 @@ stands_settled (In form run) s = s
 
 active_holds : (active : Active) → ActiveStands active → ActiveHolds active
 active_holds (Next place) s = s
-active_holds (Acting builtin fields) s = tt
+active_holds (Acting invocation fields) s = tt
 active_holds (Calling body fields) s = absurd s
 active_holds (Evaluating how text) s = tt
 active_holds (Done status) s = tt
@@ -87,7 +87,7 @@ stands_holds (In form run) s = (s.0, stands_holds run s.1)
 
 pub settled_active : (active : Active) → ActiveSettled active → ActiveHolds active
 settled_active (Next place) s = s
-settled_active (Acting builtin fields) s = tt
+settled_active (Acting invocation fields) s = tt
 settled_active (Calling body fields) s = absurd s
 settled_active (Evaluating how text) s = tt
 settled_active (Done status) s = tt
@@ -150,7 +150,7 @@ left_settled true (leave.Continue (suc inside)) s shell next p = tt
 -- ---- what follows a built-in: the next action, a text that is to be run, or all is done or left
 abbrev pub ActiveFollows : Active → Type 0
 ActiveFollows (Next place) = PlaceHolds place
-ActiveFollows (Acting builtin fields) = ⊥
+ActiveFollows (Acting invocation fields) = ⊥
 ActiveFollows (Calling body fields) = ⊥
 ActiveFollows (Evaluating how text) = Unit {0}
 ActiveFollows (Done status) = Unit {0}
@@ -178,7 +178,7 @@ behind_follows builtin outcome = output_follows builtin outcome.out _
 
 follows_holds : (active : Active) → ActiveFollows active → ActiveHolds active
 follows_holds (Next place) f = f
-follows_holds (Acting builtin fields) f = tt
+follows_holds (Acting invocation fields) f = tt
 follows_holds (Calling body fields) f = absurd f
 follows_holds (Evaluating how text) f = tt
 follows_holds (Done status) f = tt
@@ -198,7 +198,7 @@ call_settled (suc levels) shell body arguments b = (tt, command_stands body b bo
 
 performed_settled : (levels : ℕ) (shell : Shell) (active : Active) → ActiveFollows active → Settled (performed levels shell active).run
 performed_settled levels shell (Next place) f = f
-performed_settled levels shell (Acting builtin fields) f = f
+performed_settled levels shell (Acting invocation fields) f = f
 performed_settled levels shell (Calling body fields) f = absurd f
 performed_settled levels shell (Evaluating how text) f = evaluation_settled levels shell how text
 performed_settled levels shell (Done status) f = tt
@@ -262,7 +262,7 @@ leave_settled around FailuresIgnored s shell l h = tt
 after_by_settled : (around : List Form) (form : Form) (s : KernelState) (shell : Shell) (run : Run) → FormHolds form → Settled run → ActedSettled (after_by around form s shell run)
 after_by_settled around form s shell (At (Done status)) h p = status_settled around form s shell status h
 after_by_settled around form s shell (At (Leaving l)) h p = leave_settled around form s shell l h
-after_by_settled around form s shell (At (Acting builtin fields)) h p = absurd p
+after_by_settled around form s shell (At (Acting invocation fields)) h p = absurd p
 after_by_settled around form s shell (At (Calling body fields)) h p = absurd p
 after_by_settled around form s shell (At (Evaluating how text)) h p = absurd p
 after_by_settled around form s shell (At (Next place)) h p = (h, p)
@@ -295,7 +295,7 @@ left_within_settled called true (leave.Continue inside) = tt
 left_within_settled called false (leave.Continue inside) = tt
 
 within_settled : (errexit : Bool) (around : List Form) (active : Active) → ActiveSettled active → ActiveSettled (within errexit around active)
-within_settled errexit around (Acting builtin fields) p = p
+within_settled errexit around (Acting invocation fields) p = p
 within_settled errexit around (Calling body fields) p = p
 within_settled errexit around (Evaluating how text) p = p
 within_settled errexit around (Next place) p = p

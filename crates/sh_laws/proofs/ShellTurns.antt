@@ -333,7 +333,7 @@ place_holds around s shell (Trapping status) f h = (trap_holds s shell status, t
 place_holds around s shell (Ending status) f h = (end_holds s shell status, tt)
 
 active_holds : (around : List Form) (s : KernelState) (shell : Shell) (active : Active) → FunctionsHold shell.functions → ActiveStands active → TurnedHolds (act_at around s shell active)
-active_holds around s shell (Acting builtin fields) f h = absurd h
+active_holds around s shell (Acting invocation fields) f h = absurd h
 active_holds around s shell (Calling body fields) f h = absurd h
 active_holds around s shell (Evaluating how text) f h = absurd h
 active_holds around s shell (Next place) f h = place_holds around s shell place f h
@@ -363,7 +363,7 @@ ending_stands status (Some (byte ∷ bytes)) = tt
 root_stands : (shell : Shell) (run : Run) → Settled run → RunStands (at_root shell run)
 root_stands shell (At (Leaving l)) p = ending_stands (shell_status l) (action_of shell.traps Exit)
 root_stands shell (At (Done ended)) p = ending_stands ended.status (action_of shell.traps Exit)
-root_stands shell (At (Acting builtin fields)) p = p
+root_stands shell (At (Acting invocation fields)) p = p
 root_stands shell (At (Calling body fields)) p = p
 root_stands shell (At (Evaluating how text)) p = p
 root_stands shell (At (Next place)) p = p

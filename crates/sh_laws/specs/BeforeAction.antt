@@ -29,7 +29,7 @@ use Rattle.sh_syntax.specs.declared.tree.Command.TheViews as view
 -- ---- an action is next
 abbrev pub IsNext : Active → Type 0
 IsNext (Next place) = Unit {0}
-IsNext (Acting builtin fields) = ⊥
+IsNext (Acting invocation fields) = ⊥
 IsNext (Calling body fields) = ⊥
 IsNext (Evaluating how text) = ⊥
 IsNext (Done status) = ⊥
@@ -50,7 +50,7 @@ AssignmentsHold (assignment ∷ others) = PartsBegin (parts_of assignment.value)
 
 abbrev pub RoleHolds : Role → Type 0
 RoleHolds NoCommandName = Unit {0}
-RoleHolds (Builtin builtin) = Unit {0}
+RoleHolds (Builtin invocation) = Unit {0}
 RoleHolds (Function body) = CommandBegins body
 RoleHolds Program = Unit {0}
 RoleHolds (Exec is_command is_special) = Unit {0}
@@ -110,7 +110,7 @@ FormHolds FailuresIgnored = Unit {0}
 -- ---- what runs has an action next, and holds only such syntax
 abbrev pub ActiveStands : Active → Type 0
 ActiveStands (Next place) = PlaceHolds place
-ActiveStands (Acting builtin fields) = ⊥
+ActiveStands (Acting invocation fields) = ⊥
 ActiveStands (Calling body fields) = ⊥
 ActiveStands (Evaluating how text) = ⊥
 ActiveStands (Done status) = ⊥

@@ -9,7 +9,7 @@ returns-in-Next-clause-state c = λ s k.
 
 pub returns-in-Acting-clause-state : goal.returns-in-Acting-clause-state
 returns-in-Acting-clause-state c = λ s k.
-    stays_on_way c.args.kernel.now c.args.shell.now c.args.frames.now s c.args.active (Acting c.in-Acting.builtin c.in-Acting.fields) c.in-Acting.is k refl
+    stays_on_way c.args.kernel.now c.args.shell.now c.args.frames.now s c.args.active (Acting c.in-Acting.invocation c.in-Acting.fields) c.in-Acting.is k refl
 
 pub returns-in-Calling-clause-state : goal.returns-in-Calling-clause-state
 returns-in-Calling-clause-state c = λ s k.
