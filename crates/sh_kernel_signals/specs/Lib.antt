@@ -1,0 +1,5 @@
+pub mod Changes
+pub mod Delivery
+pub mod Groups
+pub mod Sending
+pub mod Sets
