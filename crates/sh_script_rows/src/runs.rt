@@ -151,6 +151,15 @@ fn shell_of<'a>(image: &'a [u8], commands: Commands<'a>) -> Shell<'a> {
     }
 }
 
+/// `turns`: the processes that take the turns, going round, and how the first shell ends.
+fn judge_turns(alloc: Global, image: &[u8], row: &Row) -> Result<Verdict, RowFault> {
+    let shell = shell_of(image, Commands::Text(row.field(4)));
+    let state = exited(alloc, row.field(2))?;
+    let wanted = joined(alloc, &[row.field(1), &state, row.field(3)])?;
+    let found = found_at_end(alloc, &shell, b"", Then::NamedTurns)?;
+    Ok(Verdict::of(found, &wanted))
+}
+
 /// `file`: as `race`, with a file of the image.
 fn judge_file(alloc: Global, image: &[u8], row: &Row) -> Result<Verdict, RowFault> {
     let shell = shell_of(image, Commands::File(row.field(4)));
@@ -229,7 +238,7 @@ fn judge_stands(alloc: Global, image: &[u8], row: &Row) -> Result<Verdict, RowFa
     stands(alloc, &shell, &course, row.field(3), row.field(4))
 }
 
-/// `end`, `comes` and `race`: how a text ends.
+/// `end`, `comes`, `race` and `turns`: how a text ends.
 fn judge_text(alloc: Global, image: &[u8], row: &Row) -> Result<Verdict, RowFault> {
     if row.is("comes", 3) {
         let shell = shell_of(image, Commands::Text(row.field(3)));
@@ -241,6 +250,9 @@ fn judge_text(alloc: Global, image: &[u8], row: &Row) -> Result<Verdict, RowFaul
     }
     if row.is("race", 4) {
         return ends(alloc, &shell, b"", &end_of(row));
+    }
+    if row.is("turns", 4) {
+        return judge_turns(alloc, image, row);
     }
     Err(RowFault::NoRow { line: row.line })
 }

@@ -39,6 +39,8 @@ pub enum Then {
     Turns,
     /// The same; the terminal before and the number of turns are told too.
     CountedTurns,
+    /// The same; which process took each turn is told too.
+    NamedTurns,
 }
 
 /// How a world is led, and the process of which is told how it stands.
@@ -117,6 +119,25 @@ fn take_and_count(
     push_field(found, turns.as_bytes())
 }
 
+/// Takes turns until the first shell has ended, and tells which process took each.
+fn take_and_name(
+    alloc: Global,
+    world: &mut World<Program>,
+    found: &mut Vec<u8>,
+) -> Result<(), NoMemory> {
+    for turn in 0..MANY {
+        if world.ended().is_some() {
+            break;
+        }
+        world.apply(Event::Next)?;
+        let space = if turn == 0 { "" } else { " " };
+        let last = world.last().unwrap_or(0);
+        let name = format!(in alloc; "{space}{last}")?;
+        found.extend_from_slice(name.as_bytes())?;
+    }
+    push_field(found, b"")
+}
+
 /// How a process of a world stands that isn't spent.
 fn status_of(world: &World<Program>, pid: u32) -> Option<Status> {
     if world.files().is_none() || world.jobs().is_none() {
@@ -139,6 +160,7 @@ fn lead(
             take_all(world)?;
         },
         Then::CountedTurns => take_and_count(alloc, world, found)?,
+        Then::NamedTurns => take_and_name(alloc, world, found)?,
     }
     let words = words_of(alloc, status_of(world, course.pid))?;
     push_field(found, words.as_bytes())?;

@@ -223,6 +223,14 @@ impl<S: Stock> World<S> {
         }
     }
 
+    /// The process that took the last turn; `None` before the first turn, and once memory was wanting.
+    pub fn last(&self) -> Option<u32>
+        ensures view { (s : State S) → WorldStands self.now s → result ≡ s.last }
+        ensures spent { IsSpent self.now → result ≡ None }
+    {
+        if self.is_spent() { None } else { self.last }
+    }
+
     /// How the first shell ended, once it did; `None` once memory was wanting.
     pub fn ended(&self) -> Option<Status>
         ensures view { (s : State S) → WorldStands self.now s → result ≡ ended_of s }
