@@ -1,0 +1,6 @@
+pub mod Ahead
+pub mod Apart
+pub mod Best
+pub mod Changed
+pub mod Fitting
+pub mod Numbers

@@ -1,0 +1,59 @@
+-- A table of jobs, in the order in which they were launched (XBD chapter 3, Job).
+use Rattle.std.specs.Prelude.{◌≡◌, ℕ, zero, suc, ◌+◌, ◌<◌, ◌≤◌, List, [], ◌∷◌, ◌++◌, ◌==◌, Bool, true, false, not, Option, Some, length, map, filter, if◌then◌else◌}
+use Rattle.std.specs.List.{find, list_any}
+use Rattle.sh_jobs.specs.declared.job.Job.{Job}
+use Rattle.sh_jobs.specs.declared.state.JobState.{JobState}
+
+abbrev pub has_number : ℕ → Job → Bool
+has_number number job = job.number == number
+
+-- the job of a number
+abbrev pub job_at : List Job → ℕ → Option Job
+job_at jobs number = find (has_number number) jobs
+
+abbrev pub is_taken : List Job → ℕ → Bool
+is_taken jobs number = list_any (has_number number) jobs
+
+-- ---- the number of a new job: the least one from 1 on that no job has
+pub record IsLeastFree (jobs : List Job) (number : ℕ) : Type 0 where
+  pub from_one : 1 ≤ number
+  pub free : is_taken jobs number ≡ false
+  pub least : (k : ℕ) → 1 ≤ k → k < number → is_taken jobs k ≡ true
+
+-- the first free one of so many numbers from this one on, or else the one after them
+abbrev pub free_from : List Job → ℕ → ℕ → ℕ
+free_from jobs zero number = number
+free_from jobs (suc more) number = if is_taken jobs number then free_from jobs more (number + 1) else number
+
+-- n jobs leave one of the first n + 1 numbers free; what launch gives is this number, and is proved to be the least that is free
+abbrev pub free_number : List Job → ℕ
+free_number jobs = free_from jobs (length jobs) 1
+
+-- ---- a job is launched
+abbrev pub new_job : ℕ → ℕ → List ℕ → List ℕ → Option JobState → ℕ → Job
+new_job number group pids text told event =
+    record { number = number; group = group; pids = pids; text = text; told = told; changed = event }
+
+abbrev pub launched : List Job → ℕ → List ℕ → List ℕ → Option JobState → ℕ → List Job
+launched jobs group pids text told event = jobs ++ new_job (free_number jobs) group pids text told event ∷ []
+
+-- ---- a process starts, stops or goes on: its job has changed at this event
+abbrev pub has_process : ℕ → Job → Bool
+has_process pid job = list_any (λ own. own == pid) job.pids
+
+abbrev pub noted_by : ℕ → ℕ → Job → Job
+noted_by pid event job = if has_process pid job then record job { changed = event } else job
+
+abbrev pub noted : List Job → ℕ → ℕ → List Job
+noted jobs pid event = map (noted_by pid event) jobs
+
+-- ---- a job's state is told
+abbrev pub told_by : ℕ → JobState → Job → Job
+told_by number state job = if has_number number job then record job { told = Some state } else job
+
+abbrev pub told : List Job → ℕ → JobState → List Job
+told jobs number state = map (told_by number state) jobs
+
+-- ---- a job is forgotten
+abbrev pub without : List Job → ℕ → List Job
+without jobs number = filter (λ job. not (has_number number job)) jobs
