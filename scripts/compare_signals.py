@@ -6,10 +6,14 @@ usage: compare_signals.py [COUNT [SEED]]
 A scenario is a session of up to six processes that fork, change their group and what they do with signals, end, and get signals one by
 one and by groups. It is made of real processes, and by a program over the crate, which rt try compiles. Both say how each process stands
 after each step. A scenario that differs is made again twice, since real processes race. Ends with 1 where one differs each time.
+
+One difference is known: none of the real processes waits for its children, and Linux counts one that has ended as a member of its group
+until its parent does. So the end of that parent can send HUP to a stopped member although the group was orphaned before.
 """
 import ctypes
 import os
 import random
+import select
 import signal
 import subprocess
 import sys
@@ -206,6 +210,17 @@ def read_word(descriptor):
         text += byte
 
 
+class Raced(Exception):
+    """A process stands otherwise by now than it was seen to: it answers no command."""
+
+
+def answer(descriptor):
+    """What a process answers to a command."""
+    if not select.select([descriptor], [], [], 5)[0]:
+        raise Raced
+    return read_word(descriptor)
+
+
 def live(commands, answers):
     """A process: it does what it is told by its pipe, and says so."""
     for number in SIGNALS:
@@ -264,64 +279,93 @@ def settled(pids):
     return last
 
 
-def really(steps):
-    """The steps that could be taken, and how all stand after each."""
-    commands = [os.pipe() for _ in range(6)]
-    answers = os.pipe()
-    first = os.fork()
-    if first == 0:
-        os.setsid()
-        os.write(answers[1], b"done\n")
-        live(commands, answers)
-    read_word(answers[0])
-    pids, taken, stands = [first], [], []
+def end_session(session):
+    """Ends all processes of a session, and all children of this process."""
+    for pid in filter(str.isdigit, os.listdir("/proc")):
+        try:
+            if os.getsid(int(pid)) == session:
+                os.kill(int(pid), 9)
+        except ProcessLookupError:
+            pass
     try:
-        for step in steps:
-            now = settled(pids)
-            kind, pid = step[0], step[1]
-            if pid - 100 >= len(pids):
-                continue
-            own = kind in "fgaxe"
-            if own and now[pid - 100] != "R":
-                continue
-            place = pid - 100
-            if kind == "f":
-                os.write(commands[place][1], f"f {len(pids)}\n".encode())
-                pids.append(int(read_word(answers[0])[0]))
-            elif kind == "g":
-                group = step[2]
-                if group - 100 >= len(pids):
-                    continue
-                alive = [p for p, s in zip(pids, now) if s[0] in "RT"]
-                if group != pid and pids[group - 100] not in [os.getpgid(p) for p in alive]:
-                    continue
-                os.write(commands[place][1], f"g {pids[group - 100]}\n".encode())
-                read_word(answers[0])
-            elif kind == "a":
-                os.write(commands[place][1], f"a {step[2]} {step[3]}\n".encode())
-                read_word(answers[0])
-            elif kind == "x":
-                os.write(commands[place][1], b"x\n")
-                read_word(answers[0])
-            elif kind == "e":
-                os.write(commands[place][1], f"e {step[2]}\n".encode())
-            elif kind == "s":
-                os.kill(pids[place], step[2])
-            elif kind == "S":
-                alive = [p for p, s in zip(pids, now) if s[0] in "RT"]
-                if pids[place] not in [os.getpgid(p) for p in alive]:
-                    continue
-                os.killpg(pids[place], step[2])
-            taken.append(step)
-            stands.append(settled(pids))
-    finally:
-        for pid in pids:
-            os.kill(pid, 9)
-        for one in commands + [answers]:
+        while True:
+            os.wait()
+    except ChildProcessError:
+        pass
+
+
+class Session:
+    """A session of real processes, by the numbers that the program gives them."""
+
+    def __init__(self):
+        self.commands = [os.pipe() for _ in range(6)]
+        self.answers = os.pipe()
+        self.pids = [os.fork()]
+        if self.pids == [0]:
+            os.setsid()
+            os.write(self.answers[1], b"done\n")
+            live(self.commands, self.answers)
+        answer(self.answers[0])
+
+    def real(self, number):
+        """The process of a number; None where there is none yet."""
+        return self.pids[number - 100] if number - 100 < len(self.pids) else None
+
+    def tell(self, number, command):
+        """Gives a process a command."""
+        os.write(self.commands[number - 100][1], command.encode() + b"\n")
+
+    def has_group(self, group):
+        """Whether a process that lives is in the group."""
+        return group in [os.getpgid(pid) for pid in self.pids if stand_of(pid) in "RT"]
+
+    def does(self, step):
+        """A step that a process takes itself: whether it could."""
+        kind, number = step[0], step[1]
+        if stand_of(self.real(number)) != "R":
+            return False
+        if kind == "g" and (not self.real(step[2]) or step[2] != number and not self.has_group(self.real(step[2]))):
+            return False
+        if kind == "f":
+            self.tell(number, f"f {len(self.pids)}")
+            self.pids.append(int(answer(self.answers[0])[0]))
+        elif kind == "e":
+            self.tell(number, f"e {step[2]}")
+        else:
+            self.tell(number, f"g {self.real(step[2])}" if kind == "g" else " ".join(str(word) for word in (kind, *step[2:])))
+            answer(self.answers[0])
+        return True
+
+    def sends(self, step):
+        """A step that sends a signal: whether it could be taken."""
+        kind, number, sent = step
+        if kind == "s":
+            os.kill(self.real(number), sent)
+        elif self.has_group(self.real(number)):
+            os.killpg(self.real(number), sent)
+        else:
+            return False
+        return True
+
+    def close(self):
+        """Ends all processes."""
+        end_session(self.pids[0])
+        for one in self.commands + [self.answers]:
             os.close(one[0])
             os.close(one[1])
-        for _ in pids:
-            os.wait()
+
+
+def really(steps):
+    """The steps that could be taken, and how all stand after each."""
+    session = Session()
+    taken, stands = [], []
+    try:
+        for step in steps:
+            if session.real(step[1]) and (session.sends(step) if step[0] in "sS" else session.does(step)):
+                taken.append(step)
+                stands.append(settled(session.pids))
+    finally:
+        session.close()
     return taken, "".join(" " + " ".join(stand) + ";" for stand in stands)
 
 
@@ -344,11 +388,21 @@ def said(lines):
         return ran.stdout.splitlines()[:len(lines)]
 
 
+def tried(steps):
+    """What a scenario comes to, or None where its processes raced."""
+    try:
+        return really(steps)
+    except Raced:
+        return None
+
+
 def differing(all_steps):
-    """The scenarios that differ, with what both say."""
-    made = [really(steps) for steps in all_steps]
-    spoken = said([line_of(taken) for taken, _ in made])
-    return [(steps, taken, stands, says) for steps, (taken, stands), says in zip(all_steps, made, spoken) if stands != says]
+    """The scenarios that differ or whose processes raced, with what both say."""
+    made = [(steps, tried(steps)) for steps in all_steps]
+    raced = [(steps, steps, "raced", "") for steps, found in made if not found]
+    made = [(steps, *found) for steps, found in made if found]
+    spoken = said([line_of(taken) for _, taken, _ in made]) if made else []
+    return raced + [(*it, says) for it, says in zip(made, spoken) if it[2] != says]
 
 
 def main():
