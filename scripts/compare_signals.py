@@ -7,8 +7,9 @@ A scenario is a session of up to six processes that fork, change their group and
 one and by groups. It is made of real processes, and by a program over the crate, which rt try compiles. Both say how each process stands
 after each step. A scenario that differs is made again twice, since real processes race. Ends with 1 where one differs each time.
 
-One difference is known: none of the real processes waits for its children, and Linux counts one that has ended as a member of its group
-until its parent does. So the end of that parent can send HUP to a stopped member although the group was orphaned before.
+After each step the real processes wait for those of their children that have ended, and this script for those whose maker has ended.
+So a difference is only possible where a parent is stopped and can't wait: Linux counts a process that has ended as a member of its group
+until it is waited for, and then the end of that parent can send HUP to a stopped member although the group was orphaned before.
 """
 import ctypes
 import os
@@ -74,6 +75,16 @@ fn action(number: u32) -> SignalAction {
     }
 }
 
+fn give(
+    alloc: Global,
+    session: &mut Session,
+    to: SignalTarget<'_>,
+    signal: Signal,
+) -> Result<(), AllocError> {
+    send(alloc, &mut session.processes, &mut session.members, to, signal)?;
+    Ok(())
+}
+
 fn take(alloc: Global, session: &mut Session, step: &[u8]) -> Result<(), AllocError> {
     let pid = number(step, 1);
     match step.first() {
@@ -81,20 +92,8 @@ fn take(alloc: Global, session: &mut Session, step: &[u8]) -> Result<(), AllocEr
         Some(b'g') => set_group(&mut session.members, pid, number(step, 2)),
         Some(b'x') => start_program(&mut session.members, pid),
         Some(b'a') => set_action(&mut session.members, pid, signal(step, 2), action(number(step, 3))),
-        Some(b's') => send(
-            alloc,
-            &mut session.processes,
-            &mut session.members,
-            SignalTarget::Process(pid),
-            signal(step, 2),
-        )?,
-        Some(b'S') => send(
-            alloc,
-            &mut session.processes,
-            &mut session.members,
-            SignalTarget::Group(pid),
-            signal(step, 2),
-        )?,
+        Some(b's') => give(alloc, session, SignalTarget::Process(pid), signal(step, 2))?,
+        Some(b'S') => give(alloc, session, SignalTarget::Group(pid), signal(step, 2))?,
         _ => {
             let status = u8::try_from(number(step, 2)).unwrap_or(0);
             end(alloc, &mut session.processes, &mut session.members, pid, status)?;
@@ -254,29 +253,31 @@ def live(commands, answers):
                 signal.signal(number, signal.SIG_DFL)
             handled = set()
             os.write(answers[1], b"done\n")
+        elif word[0] == "w":
+            os.waitpid(int(word[1]), 0)
+            os.write(answers[1], b"done\n")
         elif word[0] == "e":
             os._exit(int(word[1]))
 
 
-def stand_of(pid):
-    """How a process stands, by what the system shows of it."""
+def fields_of(pid):
+    """What the system shows of a process, from its state on."""
     with open(f"/proc/{pid}/stat", encoding="ascii") as it:
-        fields = it.read().rsplit(")", 1)[1].split()
+        return it.read().rsplit(")", 1)[1].split()
+
+
+def stand_of(pid):
+    """How a process stands that nobody has waited for."""
+    fields = fields_of(pid)
     if fields[0] in "ZX":
         status = int(fields[49])
         return f"S{status & 127}" if status & 127 else f"E{status >> 8}"
     return "T" if fields[0] in "Tt" else "R"
 
 
-def settled(pids):
-    """How all stand, once nothing changes."""
-    last, same = None, 0
-    while same < 4:
-        time.sleep(0.003)
-        now = [stand_of(pid) for pid in pids]
-        same = same + 1 if now == last else 0
-        last = now
-    return last
+def parent_of(pid):
+    """The parent of a process that nobody has waited for."""
+    return int(fields_of(pid)[1])
 
 
 def end_session(session):
@@ -301,6 +302,8 @@ class Session:
         self.commands = [os.pipe() for _ in range(6)]
         self.answers = os.pipe()
         self.pids = [os.fork()]
+        # how those ended that were waited for
+        self.ends = {}
         if self.pids == [0]:
             os.setsid()
             os.write(self.answers[1], b"done\n")
@@ -315,14 +318,43 @@ class Session:
         """Gives a process a command."""
         os.write(self.commands[number - 100][1], command.encode() + b"\n")
 
+    def stand(self, pid):
+        """How a process stands."""
+        return self.ends.get(pid) or stand_of(pid)
+
+    def settled(self):
+        """How all stand, once nothing changes."""
+        last, same = None, 0
+        while same < 4:
+            time.sleep(0.003)
+            now = [self.stand(pid) for pid in self.pids]
+            same = same + 1 if now == last else 0
+            last = now
+        return last
+
+    def waits(self, stands):
+        """Whoever is the parent of a process that has ended waits for it, unless that parent is stopped or has ended itself."""
+        for pid, stand in zip(self.pids, stands):
+            if pid in self.ends or stand in "RT":
+                continue
+            parent = parent_of(pid)
+            if parent == os.getpid():
+                os.waitpid(pid, 0)
+            elif self.stand(parent) == "R":
+                self.tell(100 + self.pids.index(parent), f"w {pid}")
+                answer(self.answers[0])
+            else:
+                continue
+            self.ends[pid] = stand
+
     def has_group(self, group):
         """Whether a process that lives is in the group."""
-        return group in [os.getpgid(pid) for pid in self.pids if stand_of(pid) in "RT"]
+        return group in [os.getpgid(pid) for pid in self.pids if self.stand(pid) in "RT"]
 
     def does(self, step):
         """A step that a process takes itself: whether it could."""
         kind, number = step[0], step[1]
-        if stand_of(self.real(number)) != "R":
+        if self.stand(self.real(number)) != "R":
             return False
         if kind == "g" and (not self.real(step[2]) or step[2] != number and not self.has_group(self.real(step[2]))):
             return False
@@ -340,7 +372,8 @@ class Session:
         """A step that sends a signal: whether it could be taken."""
         kind, number, sent = step
         if kind == "s":
-            os.kill(self.real(number), sent)
+            if self.real(number) not in self.ends:
+                os.kill(self.real(number), sent)
         elif self.has_group(self.real(number)):
             os.killpg(self.real(number), sent)
         else:
@@ -363,7 +396,8 @@ def really(steps):
         for step in steps:
             if session.real(step[1]) and (session.sends(step) if step[0] in "sS" else session.does(step)):
                 taken.append(step)
-                stands.append(settled(session.pids))
+                stands.append(session.settled())
+                session.waits(stands[-1])
     finally:
         session.close()
     return taken, "".join(" " + " ".join(stand) + ";" for stand in stands)

@@ -23,7 +23,7 @@ use Rattle.sh_arith_grammar.proofs.Sig.{Sig, Value, After, Target, DoMark, TurnM
 use Rattle.sh_arith.specs.Evaluation.{Says}
 use Rattle.sh_arith.specs.Expression.{Expression, Zero, Number, Name, Prefix, Binary, Logic, Choice, Assign}
 use Rattle.sh_arith.specs.Reading.{Left, Nothing, Named, Done, expression, first_token, name, through, says, read, readers}
-use Rattle.sh_arith.specs.Written.{IsOperator, IsWritten, Writes, first_level, last_level, is_listed}
+use Rattle.sh_arith.specs.Written.{IsOperator, IsWritten, Writes, first_level, is_listed}
 use Rattle.sh_arith.specs.Written as writes
 use Rattle.sh_arith.proofs.Sorts.{Sort, Whole, Loosest, AfterName, AfterOperand, Operand, Rest, Mark, LoadMark, Shown, sort, sorts}
 

@@ -3,7 +3,7 @@ use Rattle.std.proofs.Common.{◌≡◌, ℕ, inl, inr, List, [], ◌∷◌, Boo
 use Rattle.std.proofs.lemmas.Bool.Decides.{nat_tests}
 use Rattle.sh_kernel_descriptors.specs.declared.process.Process.{Process}
 use Rattle.sh_jobs.specs.Laws.{IsAmong, IsFirst, NoneAhead}
-use Rattle.sh_jobs.specs.Order.{ahead_by, best, first_number, further, is_ahead, is_later, rank_of}
+use Rattle.sh_jobs.specs.Order.{ahead_by, best, first_number, first_of_two, is_ahead, is_later, rank_of}
 use Rattle.sh_jobs.specs.declared.job.Job.{Job}
 use Rattle.sh_jobs.proofs.Best.{some_same}
 use Rattle.sh_jobs.specs.declared.order.Rank.{Rank}
@@ -73,13 +73,13 @@ one_more_by ps job jobs other false e first = record {
   ahead = (self (rank_of ps job), all_behind ps job first.job jobs (ap (λ rank. is_ahead rank (rank_of ps job)) first.ranked ∙ e) first.ahead);
 }
 
-one_more : (ps : List Process) (job : Job) (jobs : List Job) (other : Rank) → Leads ps jobs other → Leads ps (job ∷ jobs) (further (rank_of ps job) (Some other))
+one_more : (ps : List Process) (job : Job) (jobs : List Job) (other : Rank) → Leads ps jobs other → Leads ps (job ∷ jobs) (first_of_two (rank_of ps job) (Some other))
 one_more ps job jobs other first = one_more_by ps job jobs other (is_ahead other (rank_of ps job)) refl first
 
-leads : (ps : List Process) (job : Job) (jobs : List Job) → Leads ps (job ∷ jobs) (further (rank_of ps job) (best further (map (rank_of ps) jobs)))
+leads : (ps : List Process) (job : Job) (jobs : List Job) → Leads ps (job ∷ jobs) (first_of_two (rank_of ps job) (best first_of_two (map (rank_of ps) jobs)))
 leads ps job [] = record { job = job; among = inl refl; ranked = refl; ahead = (self (rank_of ps job), tt) }
 leads ps job (other ∷ jobs) =
-    one_more ps job (other ∷ jobs) (further (rank_of ps other) (best further (map (rank_of ps) jobs))) (leads ps other jobs)
+    one_more ps job (other ∷ jobs) (first_of_two (rank_of ps other) (best first_of_two (map (rank_of ps) jobs))) (leads ps other jobs)
 
 pub first_is : (ps : List Process) (jobs : List Job) (number : ℕ) → first_number ps jobs ≡ Some number → IsFirst ps jobs number
 first_is ps [] number h = absurd (cc)

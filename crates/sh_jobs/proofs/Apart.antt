@@ -4,7 +4,7 @@ use Rattle.std.specs.Prelude.{◌==◌, ◌||◌, filter}
 use Rattle.std.proofs.lemmas.Bool.{or_from, or_parts}
 use Rattle.std.proofs.lemmas.Bool.Decides.{nat_tests}
 use Rattle.sh_jobs.specs.Laws.{AreApart}
-use Rattle.sh_jobs.specs.Table.{free_number, has_number, has_process, is_taken, launched, new_job, noted_by, told_by}
+use Rattle.sh_jobs.specs.Table.{free_number, has_number, has_process, is_taken, job_after_note, job_after_telling, new_job, with_launch}
 use Rattle.sh_jobs.specs.declared.job.Job.{Job}
 use Rattle.sh_jobs.specs.declared.state.JobState.{JobState}
 use Rattle.sh_jobs.proofs.Numbers.{free_number_is_least}
@@ -26,7 +26,7 @@ pushed (first ∷ jobs) job apart from free =
     (apart.0, taken_pushed jobs job first.number apart.1 (other_way first.number job.number parts.0), pushed jobs job apart.2 from parts.1)
 
 pub launched_apart : (jobs : List Job) (group : ℕ) (pids text : List ℕ) (state : Option JobState) (event : ℕ) → AreApart jobs
-    → AreApart (launched jobs group pids text state event)
+    → AreApart (with_launch jobs group pids text state event)
 launched_apart jobs group pids text state event apart =
     let least = free_number_is_least jobs in
     pushed jobs (new_job (free_number jobs) group pids text state event) apart least.from_one least.free
@@ -47,14 +47,14 @@ noted_number : (event : ℕ) (job : Job) (b : Bool) → (cond b (record job { ch
 noted_number event job true = refl
 noted_number event job false = refl
 
-pub noted_keeps : (pid event : ℕ) (job : Job) → (noted_by pid event job).number ≡ job.number
+pub noted_keeps : (pid event : ℕ) (job : Job) → (job_after_note pid event job).number ≡ job.number
 noted_keeps pid event job = noted_number event job (has_process pid job)
 
 told_number : (state : JobState) (job : Job) (b : Bool) → (cond b (record job { told = Some state }) job).number ≡ job.number
 told_number state job true = refl
 told_number state job false = refl
 
-pub told_keeps : (number : ℕ) (state : JobState) (job : Job) → (told_by number state job).number ≡ job.number
+pub told_keeps : (number : ℕ) (state : JobState) (job : Job) → (job_after_telling number state job).number ≡ job.number
 told_keeps number state job = told_number state job (has_number number job)
 
 -- ---- jobs that are left

@@ -1,7 +1,7 @@
 -- What is left of a list, worked out from its end.
 use Rattle.std.proofs.Common.{◌≡◌, ℕ, List, [], ◌∷◌, ◌++◌, Bool, true, false, cond, Option, Some, None, map, refl, sym, ap, ◌∙◌}
 use Rattle.std.specs.Prelude.{filter}
-use Rattle.sh_jobs.specs.Order.{best, kept}
+use Rattle.sh_jobs.specs.Order.{best, is_kept}
 use Rattle.sh_jobs.specs.declared.job.Job.{Job}
 
 -- what is left of a list, where this is left of what follows it
@@ -45,7 +45,7 @@ pub one_more : {X : Type 0} (pick : X → Option X → X) (value : Job → X) (k
 one_more pick value keep last next whole rest others job e n h =
     ap (λ x. among pick value keep x others) n ∙ sym (from_the_end pick value keep last others job) ∙ ap (λ jobs. among pick value keep last jobs) (sym e) ∙ h
 
-pub all_kept : (jobs : List Job) → filter (kept None) jobs ≡ jobs
+pub all_kept : (jobs : List Job) → filter (is_kept None) jobs ≡ jobs
 all_kept [] = refl
 all_kept (job ∷ jobs) = ap (λ others. job ∷ others) (all_kept jobs)
 

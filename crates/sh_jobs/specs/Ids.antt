@@ -12,9 +12,9 @@ use Rattle.sh_jobs.specs.declared.fault.JobFault.TheVariants.{NoSuchJob, Ambiguo
 use Rattle.sh_jobs.specs.declared.job.Job.{Job}
 
 -- the one that is there
-abbrev pub existing : Option ℕ → Result ℕ JobFault
-existing None = Err NoSuchJob
-existing (Some number) = Ok number
+abbrev pub number_or_fault : Option ℕ → Result ℕ JobFault
+number_or_fault None = Err NoSuchJob
+number_or_fault (Some number) = Ok number
 
 -- ---- %, %% and %+
 abbrev pub is_current_id : List ℕ → Bool
@@ -22,9 +22,9 @@ is_current_id [] = true
 is_current_id (byte ∷ bytes) = bytes_eq (byte ∷ bytes) (codes "%") || bytes_eq (byte ∷ bytes) (codes "+")
 
 -- ---- %N: the number of a job is below 2 ^ 64
-abbrev pub numbered : List Job → Option ℕ → Result ℕ JobFault
-numbered jobs None = Err NoSuchJob
-numbered jobs (Some number) = if is_taken jobs number then Ok number else Err NoSuchJob
+abbrev pub job_of_number : List Job → Option ℕ → Result ℕ JobFault
+job_of_number jobs None = Err NoSuchJob
+job_of_number jobs (Some number) = if is_taken jobs number then Ok number else Err NoSuchJob
 
 -- ---- %?text and %text
 abbrev pub begins_with : List ℕ → List ℕ → Bool
@@ -44,17 +44,17 @@ the_only [] = Err NoSuchJob
 the_only (job ∷ []) = Ok job.number
 the_only (job ∷ other ∷ others) = Err Ambiguous
 
-abbrev pub fitting : List Job → List ℕ → Result ℕ JobFault
-fitting jobs pattern = the_only (filter (λ job. fits pattern job.text) jobs)
+abbrev pub job_of_text : List Job → List ℕ → Result ℕ JobFault
+job_of_text jobs pattern = the_only (filter (λ job. fits pattern job.text) jobs)
 
 -- ---- the job that is named by what is after a percent sign, and by a whole word
-abbrev pub found_after : List Process → List Job → List ℕ → Result ℕ JobFault
-found_after ps jobs name =
-    if is_current_id name then existing (current_of ps jobs)
-    else (if bytes_eq name (codes "-") then existing (previous_of ps jobs)
-    else (if list_all is_ascii_digit name then numbered jobs (at_most 18446744073709551615 (value_of name))
-    else fitting jobs name))
+abbrev pub job_of_name : List Process → List Job → List ℕ → Result ℕ JobFault
+job_of_name ps jobs name =
+    if is_current_id name then number_or_fault (current_of ps jobs)
+    else (if bytes_eq name (codes "-") then number_or_fault (previous_of ps jobs)
+    else (if list_all is_ascii_digit name then job_of_number jobs (at_most 18446744073709551615 (value_of name))
+    else job_of_text jobs name))
 
-abbrev pub found : List Process → List Job → List ℕ → Result ℕ JobFault
-found ps jobs [] = Err NoSuchJob
-found ps jobs (byte ∷ name) = if byte == 37 then found_after ps jobs name else Err NoSuchJob
+abbrev pub job_of_id : List Process → List Job → List ℕ → Result ℕ JobFault
+job_of_id ps jobs [] = Err NoSuchJob
+job_of_id ps jobs (byte ∷ name) = if byte == 37 then job_of_name ps jobs name else Err NoSuchJob

@@ -3,7 +3,7 @@ use Rattle.std.specs.Prelude.{◌≡◌, ℕ, ◌≤◌, List, [], ◌∷◌, tr
 use Rattle.sh_kernel_descriptors.specs.declared.process.Process.{Process}
 use Rattle.sh_jobs.specs.News.{has_changed, next_changed, without_told}
 use Rattle.sh_jobs.specs.Order.{current_of, is_ahead, previous_of, rank_of}
-use Rattle.sh_jobs.specs.Table.{is_taken, launched, noted, told, without}
+use Rattle.sh_jobs.specs.Table.{after_note, after_telling, is_taken, with_launch, without}
 use Rattle.sh_jobs.specs.declared.job.Job.{Job}
 use Rattle.sh_jobs.specs.declared.state.JobState.{JobState}
 
@@ -62,13 +62,13 @@ AreApart (job ∷ jobs) = (1 ≤ job.number) × (is_taken jobs job.number ≡ fa
 abbrev pub LaunchesKeepApart : Type 0
 LaunchesKeepApart =
     (jobs : List Job) (group : ℕ) (pids text : List ℕ) (state : Option JobState) (event : ℕ)
-    → AreApart jobs → AreApart (launched jobs group pids text state event)
+    → AreApart jobs → AreApart (with_launch jobs group pids text state event)
 
 abbrev pub NotesKeepApart : Type 0
-NotesKeepApart = (jobs : List Job) (pid event : ℕ) → AreApart jobs → AreApart (noted jobs pid event)
+NotesKeepApart = (jobs : List Job) (pid event : ℕ) → AreApart jobs → AreApart (after_note jobs pid event)
 
 abbrev pub TellingsKeepApart : Type 0
-TellingsKeepApart = (jobs : List Job) (number : ℕ) (state : JobState) → AreApart jobs → AreApart (told jobs number state)
+TellingsKeepApart = (jobs : List Job) (number : ℕ) (state : JobState) → AreApart jobs → AreApart (after_telling jobs number state)
 
 abbrev pub RemovalsKeepApart : Type 0
 RemovalsKeepApart = (jobs : List Job) (number : ℕ) → AreApart jobs → AreApart (without jobs number)

@@ -21,16 +21,16 @@ mark_of ps jobs number =
     else (if is_number (previous_of ps jobs) number then 45 else 32)
 
 -- ---- [N] C, and STATE TEXT with a newline
-abbrev pub front : ℕ → ℕ → List ℕ
-front number mark = 91 ∷ decimal number ++ 93 ∷ 32 ∷ mark ∷ 32 ∷ []
+abbrev pub number_and_mark : ℕ → ℕ → List ℕ
+number_and_mark number mark = 91 ∷ decimal number ++ 93 ∷ 32 ∷ mark ∷ 32 ∷ []
 
-abbrev pub back : JobState → List ℕ → List ℕ
-back state text = word state ++ 32 ∷ text ++ 10 ∷ []
+abbrev pub state_and_text : JobState → List ℕ → List ℕ
+state_and_text state text = word state ++ 32 ∷ text ++ 10 ∷ []
 
 -- ---- the line of a job, with its mark and its state
 abbrev pub line : JobForm → ℕ → JobState → Job → List ℕ
-line Short mark state job = front job.number mark ++ back state job.text
-line Long mark state job = front job.number mark ++ decimal job.group ++ 32 ∷ back state job.text
+line Short mark state job = number_and_mark job.number mark ++ state_and_text state job.text
+line Long mark state job = number_and_mark job.number mark ++ decimal job.group ++ 32 ∷ state_and_text state job.text
 line Group mark state job = decimal job.group ++ 10 ∷ []
 
 -- the line of the job of a number

@@ -34,13 +34,13 @@ ahead_by false false later = later
 abbrev pub is_ahead : Rank → Rank → Bool
 is_ahead a b = ahead_by a.suspended b.suspended (is_later a b)
 
-abbrev pub further : Rank → Option Rank → Rank
-further rank None = rank
-further rank (Some other) = if is_ahead other rank then other else rank
+abbrev pub first_of_two : Rank → Option Rank → Rank
+first_of_two rank None = rank
+first_of_two rank (Some other) = if is_ahead other rank then other else rank
 
 -- ---- the current job is ahead of all others, the previous one of all but the current one
 abbrev pub first_number : List Process → List Job → Option ℕ
-first_number ps jobs = option_map (λ rank. rank.number) (best further (map (rank_of ps) jobs))
+first_number ps jobs = option_map (λ rank. rank.number) (best first_of_two (map (rank_of ps) jobs))
 
 unfoldable pub current_of : List Process → List Job → Option ℕ
 current_of ps jobs = first_number ps jobs
@@ -53,6 +53,6 @@ unfoldable pub previous_of : List Process → List Job → Option ℕ
 previous_of ps jobs = previous_by ps jobs (current_of ps jobs)
 
 -- whether a job is not the one that is left out, if one is
-abbrev pub kept : Option ℕ → Job → Bool
-kept None job = true
-kept (Some number) job = not (has_number number job)
+abbrev pub is_kept : Option ℕ → Job → Bool
+is_kept None job = true
+is_kept (Some number) job = not (has_number number job)

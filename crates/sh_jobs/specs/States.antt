@@ -1,8 +1,9 @@
 -- The state of a job, by the statuses of its processes (XBD chapter 3, Job, XCU jobs).
-use Rattle.std.specs.Prelude.{ℕ, ◌-◌, List, [], ◌∷◌, length, Bool, true, false, Option, Some, None, slice_get, if◌then◌else◌}
+use Rattle.std.specs.Prelude.{ℕ, ◌-◌, List, [], ◌∷◌, length, Bool, Option, Some, None, slice_get, if◌then◌else◌}
 use Rattle.std.specs.List.{list_any}
 use Rattle.std.specs.Option.{option_or, unwrap_or}
 use Rattle.sh_kernel_descriptors.specs.Processes.{status_at}
+use Rattle.sh_kernel_descriptors.specs.Waiting.{is_running}
 use Rattle.sh_kernel_descriptors.specs.declared.process.Process.{Process}
 use Rattle.sh_kernel_descriptors.specs.declared.process.Status.{Status}
 use Rattle.sh_kernel_descriptors.specs.declared.process.Status.TheVariants.{Running, Stopped, Exited, Signaled}
@@ -16,14 +17,8 @@ abbrev pub status_of : List Process → ℕ → Status
 status_of ps pid = unwrap_or (status_at ps pid) (Exited 0)
 
 -- ---- one of the processes runs
-abbrev pub is_running : Status → Bool
-is_running Running = true
-is_running (Stopped signal) = false
-is_running (Exited status) = false
-is_running (Signaled signal) = false
-
 abbrev pub any_runs : List Process → List ℕ → Bool
-any_runs ps pids = list_any (λ pid. is_running (status_of ps pid)) pids
+any_runs ps pids = list_any (λ pid. is_running (status_at ps pid)) pids
 
 -- ---- the signal that stopped the last of the processes that is stopped
 abbrev pub stop_of : Status → Option ℕ
@@ -51,9 +46,9 @@ abbrev pub last_ending : List Process → List ℕ → Ending
 last_ending ps pids = ending_by ps (slice_get pids (length pids - 1))
 
 -- ---- the state
-abbrev pub halted : Option ℕ → Ending → JobState
-halted (Some signal) end = state.Suspended signal
-halted None end = state.Done end
+abbrev pub state_at_rest : Option ℕ → Ending → JobState
+state_at_rest (Some signal) end = state.Suspended signal
+state_at_rest None end = state.Done end
 
 unfoldable pub state_of : List Process → List ℕ → JobState
-state_of ps pids = if any_runs ps pids then state.Running else halted (last_stop ps pids) (last_ending ps pids)
+state_of ps pids = if any_runs ps pids then state.Running else state_at_rest (last_stop ps pids) (last_ending ps pids)

@@ -34,25 +34,25 @@ abbrev pub new_job : ℕ → ℕ → List ℕ → List ℕ → Option JobState �
 new_job number group pids text told event =
     record { number = number; group = group; pids = pids; text = text; told = told; changed = event }
 
-abbrev pub launched : List Job → ℕ → List ℕ → List ℕ → Option JobState → ℕ → List Job
-launched jobs group pids text told event = jobs ++ new_job (free_number jobs) group pids text told event ∷ []
+abbrev pub with_launch : List Job → ℕ → List ℕ → List ℕ → Option JobState → ℕ → List Job
+with_launch jobs group pids text told event = jobs ++ new_job (free_number jobs) group pids text told event ∷ []
 
 -- ---- a process starts, stops or goes on: its job has changed at this event
 abbrev pub has_process : ℕ → Job → Bool
 has_process pid job = list_any (λ own. own == pid) job.pids
 
-abbrev pub noted_by : ℕ → ℕ → Job → Job
-noted_by pid event job = if has_process pid job then record job { changed = event } else job
+abbrev pub job_after_note : ℕ → ℕ → Job → Job
+job_after_note pid event job = if has_process pid job then record job { changed = event } else job
 
-abbrev pub noted : List Job → ℕ → ℕ → List Job
-noted jobs pid event = map (noted_by pid event) jobs
+abbrev pub after_note : List Job → ℕ → ℕ → List Job
+after_note jobs pid event = map (job_after_note pid event) jobs
 
 -- ---- a job's state is told
-abbrev pub told_by : ℕ → JobState → Job → Job
-told_by number state job = if has_number number job then record job { told = Some state } else job
+abbrev pub job_after_telling : ℕ → JobState → Job → Job
+job_after_telling number state job = if has_number number job then record job { told = Some state } else job
 
-abbrev pub told : List Job → ℕ → JobState → List Job
-told jobs number state = map (told_by number state) jobs
+abbrev pub after_telling : List Job → ℕ → JobState → List Job
+after_telling jobs number state = map (job_after_telling number state) jobs
 
 -- ---- a job is forgotten
 abbrev pub without : List Job → ℕ → List Job

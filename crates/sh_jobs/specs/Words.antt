@@ -8,12 +8,12 @@ use Rattle.sh_jobs.specs.declared.state.JobState.{JobState}
 use Rattle.sh_jobs.specs.declared.state.JobState.TheVariants.{Running, Suspended, Done}
 
 -- a signal by its name with SIG; a number that is no signal's by its digits
-abbrev pub named : ℕ → Option Signal → List ℕ
-named number None = decimal number
-named number (Some signal) = codes "SIG" ++ name_of signal
+abbrev pub name_or_number : ℕ → Option Signal → List ℕ
+name_or_number number None = decimal number
+name_or_number number (Some signal) = codes "SIG" ++ name_of signal
 
 abbrev pub signal_text : ℕ → List ℕ
-signal_text number = named number (signal_with_number number)
+signal_text number = name_or_number number (signal_with_number number)
 
 abbrev pub in_parentheses : List ℕ → List ℕ
 in_parentheses text = codes " (" ++ text ++ 41 ∷ []

@@ -2,7 +2,7 @@
 ghost use Rattle.std.specs.Prelude.{◌≡◌};
 ghost use Rattle.sh_kernel.specs.State.{KernelState, StandsAt};
 ghost use Rattle.sh_base.specs.Decimals.{at_most, value_of};
-ghost use Rattle.sh_jobs.specs.Ids.{begins_with, existing, fits, fitting, found, found_after, has_within, is_current_id, numbered};
+ghost use Rattle.sh_jobs.specs.Ids.{begins_with, fits, has_within, is_current_id, job_of_id, job_of_name, job_of_number, job_of_text, number_or_fault};
 
 use crate::fault::JobFault;
 use crate::job::Job;
@@ -12,8 +12,8 @@ use sh_base::decimal::{all_digits, limited_value};
 use sh_kernel::Kernel;
 
 /// The number that is there.
-fn existing(number: Option<usize>) -> Result<usize, JobFault>
-    ensures { result ≡ existing number }
+fn number_or_fault(number: Option<usize>) -> Result<usize, JobFault>
+    ensures { result ≡ number_or_fault number }
 {
     match number {
         Some(number) => Ok(number),
@@ -32,8 +32,8 @@ fn is_current_id(name: &[u8]) -> bool
 }
 
 /// The job of this number.
-fn numbered(jobs: &[Job], number: Option<u64>) -> Result<usize, JobFault>
-    ensures { result ≡ numbered jobs.now number }
+fn job_of_number(jobs: &[Job], number: Option<u64>) -> Result<usize, JobFault>
+    ensures { result ≡ job_of_number jobs.now number }
 {
     match number {
         Some(number) => {
@@ -84,8 +84,8 @@ fn fits(pattern: &[u8], text: &[u8]) -> bool
 }
 
 /// The one job whose text fits.
-fn fitting(jobs: &[Job], pattern: &[u8]) -> Result<usize, JobFault>
-    ensures { result ≡ fitting jobs.now pattern.now }
+fn job_of_text(jobs: &[Job], pattern: &[u8]) -> Result<usize, JobFault>
+    ensures { result ≡ job_of_text jobs.now pattern.now }
 {
     let mut found = None;
     let mut rest = jobs;
@@ -98,28 +98,28 @@ fn fitting(jobs: &[Job], pattern: &[u8]) -> Result<usize, JobFault>
         }
         rest = others;
     }
-    existing(found)
+    number_or_fault(found)
 }
 
 /// The job that is named by what is after the percent sign.
 fn find_after(kernel: &Kernel, jobs: &[Job], name: &[u8]) -> Result<usize, JobFault>
-    ensures { (s : KernelState) → StandsAt kernel.now s → result ≡ found_after s.machine.processes jobs.now name.now }
+    ensures { (s : KernelState) → StandsAt kernel.now s → result ≡ job_of_name s.machine.processes jobs.now name.now }
 {
     if is_current_id(name) {
-        return existing(current(kernel, jobs));
+        return number_or_fault(current(kernel, jobs));
     }
     if name == b"-".as_slice() {
-        return existing(previous(kernel, jobs));
+        return number_or_fault(previous(kernel, jobs));
     }
     if all_digits(name) {
-        return numbered(jobs, limited_value(name, u64::MAX));
+        return job_of_number(jobs, limited_value(name, u64::MAX));
     }
-    fitting(jobs, name)
+    job_of_text(jobs, name)
 }
 
 /// The number of the job that a word names.
 pub(crate) fn find(kernel: &Kernel, jobs: &[Job], id: &[u8]) -> Result<usize, JobFault>
-    ensures { (s : KernelState) → StandsAt kernel.now s → result ≡ found s.machine.processes jobs.now id.now }
+    ensures { (s : KernelState) → StandsAt kernel.now s → result ≡ job_of_id s.machine.processes jobs.now id.now }
 {
     match id.split_first() {
         Some((first, name)) => {

@@ -1,7 +1,7 @@
 //! A job.
 ghost use Rattle.std.specs.Prelude.{◌≡◌, ◌==◌, IfOk, if◌then◌else◌};
 ghost use Rattle.std.specs.List.{list_any};
-ghost use Rattle.sh_jobs.specs.Table.{has_process, noted_by, noted, told_by};
+ghost use Rattle.sh_jobs.specs.Table.{after_note, has_process, job_after_note, job_after_telling};
 
 use crate::state::JobState;
 use sh_base::NoMemory;
@@ -35,7 +35,7 @@ impl Job {
 
     /// The job has changed at this event, if the process is one of its own.
     pub(crate) fn note(&mut self, pid: u32, event: u64)
-        ensures { self.new ≡ noted_by pid event self.old }
+        ensures { self.new ≡ job_after_note pid event self.old }
     {
         if self.has_process(pid) {
             self.changed = event;
@@ -44,7 +44,7 @@ impl Job {
 
     /// This state is the one last told, if the number is the job's.
     pub(crate) fn tell(&mut self, number: usize, state: JobState)
-        ensures { self.new ≡ told_by number state self.old }
+        ensures { self.new ≡ job_after_telling number state self.old }
     {
         if self.number == number {
             self.told = Some(state);

@@ -1,11 +1,11 @@
 //! The job table of a shell.
 ghost use Rattle.std.specs.Prelude.{◌≡◌, [], IfOk, OnErr, OnOk, option_map};
 ghost use Rattle.sh_kernel.specs.State.{KernelState, StandsAt};
-ghost use Rattle.sh_jobs.specs.Ids.{found};
+ghost use Rattle.sh_jobs.specs.Ids.{job_of_id};
 ghost use Rattle.sh_jobs.specs.Lines.{report_of};
 ghost use Rattle.sh_jobs.specs.News.{next_changed, without_told};
 ghost use Rattle.sh_jobs.specs.States.{state_of};
-ghost use Rattle.sh_jobs.specs.Table.{IsLeastFree, free_number, job_at, launched, noted, told, without};
+ghost use Rattle.sh_jobs.specs.Table.{IsLeastFree, after_note, after_telling, free_number, job_at, with_launch, without};
 
 use crate::fault::JobFault;
 use crate::ids::find;
@@ -61,7 +61,7 @@ impl Jobs {
         told: Option<JobState>,
         event: u64,
     ) -> Result<usize, NoMemory>
-        ensures launched { OnOk result (self.new ≡ launched self.old group pids.now text.now told event) }
+        ensures launched { OnOk result (self.new ≡ with_launch self.old group pids.now text.now told event) }
         ensures number { IfOk result (λ number. number ≡ free_number self.old) }
         ensures least { IfOk result (λ number. IsLeastFree self.old number) }
         ensures unchanged { OnErr result (self.new ≡ self.old) }
@@ -82,7 +82,7 @@ impl Jobs {
 
     /// A process has started, stopped or gone on at this event: each job that has it has its last change then (XCU 2.11). Takes no memory.
     pub fn note(&mut self, pid: u32, event: u64)
-        ensures { self.new ≡ noted self.old pid event }
+        ensures { self.new ≡ after_note self.old pid event }
     {
         note(self.jobs.as_mut_slice(), pid, event);
     }
@@ -110,7 +110,7 @@ impl Jobs {
     /// of that number, `%?text` the one whose text has this text in it, and any other `%text` the one whose text begins with it.
     /// `NoSuchJob` where there is none, and of a word that doesn't begin with `%`; `Ambiguous` where a text fits two jobs. Takes no memory.
     pub fn find(&self, kernel: &Kernel, id: &[u8]) -> Result<usize, JobFault>
-        ensures { (s : KernelState) → StandsAt kernel.now s → result ≡ found s.machine.processes self.now id.now }
+        ensures { (s : KernelState) → StandsAt kernel.now s → result ≡ job_of_id s.machine.processes self.now id.now }
     {
         find(kernel, self.jobs.as_slice(), id)
     }
@@ -138,7 +138,7 @@ impl Jobs {
 
     /// This state of the job of this number is the one last told (XCU 2.11); nothing changes where there is no such job. Takes no memory.
     pub fn tell(&mut self, number: usize, state: JobState)
-        ensures { self.new ≡ told self.old number state }
+        ensures { self.new ≡ after_telling self.old number state }
     {
         tell(self.jobs.as_mut_slice(), number, state);
     }

@@ -1,7 +1,7 @@
 //! The lines by which jobs are listed.
 ghost use Rattle.std.specs.Prelude.{◌≡◌, ◌∷◌, [], ◌++◌, decimal, IfOk, OnOk};
 ghost use Rattle.sh_kernel.specs.State.{KernelState, StandsAt};
-ghost use Rattle.sh_jobs.specs.Lines.{back, front, is_number, line, line_of, mark_of};
+ghost use Rattle.sh_jobs.specs.Lines.{is_number, line, line_of, mark_of, number_and_mark, state_and_text};
 
 use crate::job::Job;
 use crate::order::{current, previous};
@@ -48,8 +48,8 @@ fn mark_of(kernel: &Kernel, jobs: &[Job], number: usize) -> u8
 }
 
 /// Adds a job's number and its mark.
-fn put_front(text: &mut Text, number: usize, mark: u8) -> Result<(), NoMemory>
-    ensures { OnOk result (text.new ≡ text.old ++ front number mark) }
+fn put_number_and_mark(text: &mut Text, number: usize, mark: u8) -> Result<(), NoMemory>
+    ensures { OnOk result (text.new ≡ text.old ++ number_and_mark number mark) }
 {
     text.push(b'[')?;
     put_number(text, number as u64)?;
@@ -69,8 +69,8 @@ fn put_group(text: &mut Text, group: u32, end: u8) -> Result<(), NoMemory>
 }
 
 /// Adds a job's state and its text.
-fn put_back(text: &mut Text, state: JobState, job: &[u8]) -> Result<(), NoMemory>
-    ensures { OnOk result (text.new ≡ text.old ++ back state job.now) }
+fn put_state_and_text(text: &mut Text, state: JobState, job: &[u8]) -> Result<(), NoMemory>
+    ensures { OnOk result (text.new ≡ text.old ++ state_and_text state job.now) }
 {
     put_word(text, state)?;
     text.push(b' ')?;
@@ -92,14 +92,14 @@ fn line(
     let mut text = Sequence::new(alloc);
     match form {
         JobForm::Short => {
-            put_front(&mut text, job.number, mark)?;
-            put_back(&mut text, state, job.text.as_slice())?;
+            put_number_and_mark(&mut text, job.number, mark)?;
+            put_state_and_text(&mut text, state, job.text.as_slice())?;
             Ok(text)
         },
         JobForm::Long => {
-            put_front(&mut text, job.number, mark)?;
+            put_number_and_mark(&mut text, job.number, mark)?;
             put_group(&mut text, job.group, b' ')?;
-            put_back(&mut text, state, job.text.as_slice())?;
+            put_state_and_text(&mut text, state, job.text.as_slice())?;
             Ok(text)
         },
         JobForm::Group => {

@@ -1,7 +1,7 @@
 //! The current job and the previous one.
 ghost use Rattle.std.specs.Prelude.{◌≡◌, Some, map, filter, option_map, if◌then◌else◌};
 ghost use Rattle.sh_kernel.specs.State.{KernelState, StandsAt};
-ghost use Rattle.sh_jobs.specs.Order.{ahead_by, best, current_of, further, is_ahead, is_later, is_suspended, kept, previous_by, previous_of, rank_of};
+ghost use Rattle.sh_jobs.specs.Order.{ahead_by, best, current_of, first_of_two, is_ahead, is_kept, is_later, is_suspended, previous_by, previous_of, rank_of};
 
 use crate::job::Job;
 use crate::stages::state_of;
@@ -62,8 +62,8 @@ fn is_ahead(a: Rank, b: Rank) -> bool
 }
 
 /// The one of two ranks that is ahead.
-fn further(rank: Rank, other: Option<Rank>) -> Rank
-    ensures { result ≡ further rank other }
+fn first_of_two(rank: Rank, other: Option<Rank>) -> Rank
+    ensures { result ≡ first_of_two rank other }
 {
     match other {
         Some(other) => {
@@ -78,7 +78,7 @@ fn further(rank: Rank, other: Option<Rank>) -> Rank
 
 /// Whether a job is not the one that is left out.
 fn is_kept(job: &Job, left_out: Option<usize>) -> bool
-    ensures { result ≡ kept left_out job.now }
+    ensures { result ≡ is_kept left_out job.now }
 {
     match left_out {
         Some(number) => job.number != number,
@@ -94,18 +94,18 @@ fn with_job(
     first: Option<Rank>,
 ) -> Option<Rank>
     ensures { (s : KernelState) → StandsAt kernel.now s
-        → result ≡ (if kept left_out job.now then Some (further (rank_of s.machine.processes job.now) first) else first) }
+        → result ≡ (if is_kept left_out job.now then Some (first_of_two (rank_of s.machine.processes job.now) first) else first) }
 {
     if !is_kept(job, left_out) {
         return first;
     }
-    Some(further(rank_of(kernel, job), first))
+    Some(first_of_two(rank_of(kernel, job), first))
 }
 
 /// The rank that is ahead of all others, where one job may be left out.
 fn first_rank(kernel: &Kernel, jobs: &[Job], left_out: Option<usize>) -> Option<Rank>
     ensures { (s : KernelState) → StandsAt kernel.now s
-        → result ≡ best further (map (rank_of s.machine.processes) (filter (kept left_out) jobs.now)) }
+        → result ≡ best first_of_two (map (rank_of s.machine.processes) (filter (is_kept left_out) jobs.now)) }
 {
     let mut first = None;
     let mut rest = jobs;

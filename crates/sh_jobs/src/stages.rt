@@ -2,10 +2,11 @@
 ghost use Rattle.std.specs.Prelude.{◌≡◌, option_map};
 ghost use Rattle.std.specs.Option.{option_or};
 ghost use Rattle.sh_kernel.specs.State.{KernelState, StandsAt};
-ghost use Rattle.sh_jobs.specs.States.{any_runs, ending_by, ending_of, is_running, last_ending, last_stop, state_of, status_of, stop_of};
+ghost use Rattle.sh_jobs.specs.States.{any_runs, ending_by, ending_of, last_ending, last_stop, state_of, status_of, stop_of};
 
 use crate::state::{Ending, JobState};
 use sh_kernel::{Kernel, Status};
+use sh_kernel_descriptors::is_running;
 
 /// The status of a process. A number that no process ever had counts as an exit with 0.
 fn status_of(kernel: &Kernel, pid: u32) -> Status
@@ -17,25 +18,13 @@ fn status_of(kernel: &Kernel, pid: u32) -> Status
     }
 }
 
-/// Whether a process of this status runs.
-fn is_running(status: Status) -> bool
-    ensures { result ≡ is_running status }
-{
-    match status {
-        Status::Running => true,
-        Status::Stopped(_) => false,
-        Status::Exited(_) => false,
-        Status::Signaled(_) => false,
-    }
-}
-
 /// Whether one of these processes runs.
 fn any_runs(kernel: &Kernel, pids: &[u32]) -> bool
     ensures { (s : KernelState) → StandsAt kernel.now s → result ≡ any_runs s.machine.processes pids.now }
 {
     let mut rest = pids;
     'processes: while let Some((pid, others)) = rest.split_first() {
-        if is_running(status_of(kernel, *pid)) {
+        if is_running(kernel.status(*pid)) {
             return true;
         }
         rest = others;

@@ -1,7 +1,7 @@
 //! The states of jobs, and the words for them.
 ghost use Rattle.std.specs.Prelude.{◌≡◌, ◌++◌, decimal, OnOk};
 ghost use Rattle.sh_signal.specs.Signals.{name_of};
-ghost use Rattle.sh_jobs.specs.Words.{done_word, ending_word, in_parentheses, named, signal_text, word};
+ghost use Rattle.sh_jobs.specs.Words.{done_word, ending_word, in_parentheses, name_or_number, signal_text, word};
 
 use itoa::Buffer;
 use sh_base::NoMemory;
@@ -38,8 +38,8 @@ pub(crate) fn put_number(text: &mut Text, number: u64) -> Result<(), NoMemory>
 }
 
 /// Adds the text for a signal, which is there or not, of this number.
-fn put_named(text: &mut Text, number: u8, signal: Option<Signal>) -> Result<(), NoMemory>
-    ensures { OnOk result (text.new ≡ text.old ++ named number signal) }
+fn put_name_or_number(text: &mut Text, number: u8, signal: Option<Signal>) -> Result<(), NoMemory>
+    ensures { OnOk result (text.new ≡ text.old ++ name_or_number number signal) }
 {
     match signal {
         Some(signal) => {
@@ -57,7 +57,7 @@ fn put_in_parentheses(text: &mut Text, word: &[u8], signal: u8) -> Result<(), No
 {
     text.extend_from_slice(word)?;
     text.extend_from_slice(b" (")?;
-    put_named(text, signal, Signal::from_number(u64::from(signal)))?;
+    put_name_or_number(text, signal, Signal::from_number(u64::from(signal)))?;
     text.push(b')')?;
     Ok(())
 }

@@ -1,7 +1,7 @@
 //! The table of jobs, as a list.
 ghost use Rattle.std.specs.Prelude.{◌≡◌, ◌==◌, not, ◌++◌, OnErr, IfOk, OnOk, length, option_map};
 ghost use Rattle.std.specs.List.{list_any};
-ghost use Rattle.sh_jobs.specs.Table.{IsLeastFree, free_number, has_number, is_taken, noted, told, without};
+ghost use Rattle.sh_jobs.specs.Table.{IsLeastFree, after_note, after_telling, free_number, has_number, is_taken, without};
 
 use crate::job::Job;
 use crate::state::JobState;
@@ -30,7 +30,7 @@ pub(crate) fn free_number(jobs: &[Job]) -> usize
 
 /// Each job that has this process has changed at this event.
 pub(crate) fn note(jobs: &mut [Job], pid: u32, event: u64)
-    ensures { jobs.new ≡ noted jobs.old pid event }
+    ensures { jobs.new ≡ after_note jobs.old pid event }
 {
     for job in jobs.iter_mut() {
         job.note(pid, event);
@@ -39,7 +39,7 @@ pub(crate) fn note(jobs: &mut [Job], pid: u32, event: u64)
 
 /// This state of the job of this number is the one last told.
 pub(crate) fn tell(jobs: &mut [Job], number: usize, state: JobState)
-    ensures { jobs.new ≡ told jobs.old number state }
+    ensures { jobs.new ≡ after_telling jobs.old number state }
 {
     for job in jobs.iter_mut() {
         job.tell(number, state);

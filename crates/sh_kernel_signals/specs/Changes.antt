@@ -39,35 +39,39 @@ with_action m signal action = if is_fixed signal then m else with_action_by m si
 abbrev pub next_pending : List Member → (pid : ℕ) → Option Signal
 next_pending members pid = option_and_then (λ m. lowest m.pending) (member_at members pid)
 
-abbrev pub without_pending : Member → Option Signal → Member
-without_pending m None = m
-without_pending m (Some signal) = record m { pending = without_signal m.pending signal }
+abbrev pub without_pending : List Member → Member → Option Signal → List Member
+without_pending members m None = members
+without_pending members m (Some signal) = with_member members (record m { pending = without_signal m.pending signal })
 
-abbrev pub after_taking : Member → Member
-after_taking m = without_pending m (lowest m.pending)
+abbrev pub after_taking_by : List Member → Option Member → List Member
+after_taking_by members None = members
+after_taking_by members (Some m) = without_pending members m (lowest m.pending)
+
+abbrev pub after_taking : List Member → (pid : ℕ) → List Member
+after_taking members pid = after_taking_by members (member_at members pid)
 
 -- ---- a new process is in its maker's group and ignores what that ignores; it catches nothing, and no signal has been sent to it
-abbrev pub forked : Member → (child : ℕ) → Member
-forked m child = record { pid = child; group = m.group; ignored = m.ignored; caught = no_signals; pending = no_signals; kept = no_signals }
+abbrev pub new_member : Member → (child : ℕ) → Member
+new_member m child = record { pid = child; group = m.group; ignored = m.ignored; caught = no_signals; pending = no_signals; kept = no_signals }
 
 -- ---- a program that is started ignores what was ignored, and catches nothing
-abbrev pub started : Member → Member
-started m = record m { caught = no_signals; pending = no_signals }
+abbrev pub after_start : Member → Member
+after_start m = record m { caught = no_signals; pending = no_signals }
 
-abbrev pub grouped : Member → (group : ℕ) → Member
-grouped m group = record m { group = group }
+abbrev pub with_group : Member → (group : ℕ) → Member
+with_group m group = record m { group = group }
 
 -- ---- one member of many
-abbrev pub changed_by : List Member → Option Member → (Member → Member) → List Member
-changed_by members None change = members
-changed_by members (Some m) change = with_member members (change m)
+abbrev pub with_change_by : List Member → Option Member → (Member → Member) → List Member
+with_change_by members None change = members
+with_change_by members (Some m) change = with_member members (change m)
 
-abbrev pub changed : List Member → (pid : ℕ) → (Member → Member) → List Member
-changed members pid change = changed_by members (member_at members pid) change
+abbrev pub with_change : List Member → (pid : ℕ) → (Member → Member) → List Member
+with_change members pid change = with_change_by members (member_at members pid) change
 
 abbrev pub with_fork_by : List Member → Option Member → (child : ℕ) → List Member
 with_fork_by members None child = members
-with_fork_by members (Some m) child = members ++ forked m child ∷ []
+with_fork_by members (Some m) child = members ++ new_member m child ∷ []
 
 abbrev pub with_fork : List Member → (pid : ℕ) → (child : ℕ) → List Member
 with_fork members pid child = with_fork_by members (member_at members pid) child

@@ -27,14 +27,14 @@ with_member members m = with_member_at members m (position (has_pid m.pid) membe
 abbrev pub with_recipient : ProcessTable → Recipient → ProcessTable
 with_recipient t r = record { processes = with_status t.processes r.member.pid r.status; members = with_member t.members r.member }
 
-abbrev pub received_by : ProcessTable → Signal → Option Status → Option Member → ProcessTable
-received_by t signal None m = t
-received_by t signal (Some status) None = t
-received_by t signal (Some status) (Some m) =
+abbrev pub after_receipt_by : ProcessTable → Signal → Option Status → Option Member → ProcessTable
+after_receipt_by t signal None m = t
+after_receipt_by t signal (Some status) None = t
+after_receipt_by t signal (Some status) (Some m) =
     with_recipient t (after_signal (is_orphaned t m.group) (record { status = status; member = m }) signal)
 
-unfoldable pub received : ProcessTable → Signal → (pid : ℕ) → ProcessTable
-received t signal pid = received_by t signal (status_at t.processes pid) (member_at t.members pid)
+unfoldable pub after_receipt : ProcessTable → Signal → (pid : ℕ) → ProcessTable
+after_receipt t signal pid = after_receipt_by t signal (status_at t.processes pid) (member_at t.members pid)
 
 -- a process has ended or stopped since it had this status
 abbrev pub is_alive : Option Status → Bool
@@ -44,17 +44,17 @@ abbrev pub is_news : (before : Option Status) → (after : Option Status) → Bo
 is_news before after = is_alive before && not (is_alive after) || is_running before && not (is_running after)
 
 -- its parent is told by CHLD
-abbrev pub parent_told : ProcessTable → Option ℕ → ProcessTable
-parent_told t None = t
-parent_told t (Some parent) = received t Child parent
+abbrev pub after_notice_to : ProcessTable → Option ℕ → ProcessTable
+after_notice_to t None = t
+after_notice_to t (Some parent) = after_receipt t Child parent
 
-unfoldable pub told : ProcessTable → (pid : ℕ) → (before : Option Status) → ProcessTable
-told t pid before = if is_news before (status_at t.processes pid) then parent_told t (parent_at t.processes pid) else t
+unfoldable pub after_notice : ProcessTable → (pid : ℕ) → (before : Option Status) → ProcessTable
+after_notice t pid before = if is_news before (status_at t.processes pid) then after_notice_to t (parent_at t.processes pid) else t
 
-unfoldable pub sent_to : ProcessTable → Signal → (pid : ℕ) → ProcessTable
-sent_to t signal pid = told (received t signal pid) pid (status_at t.processes pid)
+unfoldable pub after_signal_to : ProcessTable → Signal → (pid : ℕ) → ProcessTable
+after_signal_to t signal pid = after_notice (after_receipt t signal pid) pid (status_at t.processes pid)
 
--- ---- several processes, from the lowest number up
+-- ---- several processes, in the order of the members (add_fork puts a new one behind the others, so that is the order of their numbers)
 abbrev pub reaches : SignalTarget → Member → Bool
 reaches (target.Process pid) m = m.pid == pid
 reaches (target.Group group) m = m.group == group
@@ -64,10 +64,10 @@ abbrev pub is_reached : SignalTarget → Option Member → Bool
 is_reached to None = false
 is_reached to (Some m) = reaches to m
 
-abbrev pub sent_each : ProcessTable → SignalTarget → Signal → List ℕ → ProcessTable
-sent_each t to signal [] = t
-sent_each t to signal (pid ∷ pids) =
-    sent_each (if is_reached to (member_at t.members pid) then sent_to t signal pid else t) to signal pids
+abbrev pub after_signal_to_each : ProcessTable → SignalTarget → Signal → List ℕ → ProcessTable
+after_signal_to_each t to signal [] = t
+after_signal_to_each t to signal (pid ∷ pids) =
+    after_signal_to_each (if is_reached to (member_at t.members pid) then after_signal_to t signal pid else t) to signal pids
 
 abbrev pub pids_of : List Member → List ℕ
 pids_of members = map (λ m. m.pid) members
@@ -83,18 +83,18 @@ groups_at_risk t = map (λ m. m.group) (filter (is_at_risk t) t.members)
 abbrev pub is_abandoned : ProcessTable → (group : ℕ) → Bool
 is_abandoned t group = is_orphaned t group && has_stopped t group
 
-unfoldable pub hung_up : ProcessTable → (pids : List ℕ) → (group : ℕ) → ProcessTable
-hung_up t pids group = sent_each (sent_each t (target.Group group) Hangup pids) (target.Group group) Continue pids
+unfoldable pub after_hang_up : ProcessTable → (pids : List ℕ) → (group : ℕ) → ProcessTable
+after_hang_up t pids group = after_signal_to_each (after_signal_to_each t (target.Group group) Hangup pids) (target.Group group) Continue pids
 
 -- HUP may end processes, and so orphan further groups; each group is hung up once at most
-abbrev pub hung_up_by : ProcessTable → Option ℕ → (ℕ → ProcessTable) → ProcessTable
-hung_up_by t None next = t
-hung_up_by t (Some group) next = next group
+abbrev pub after_hang_up_by : ProcessTable → Option ℕ → (ℕ → ProcessTable) → ProcessTable
+after_hang_up_by t None next = t
+after_hang_up_by t (Some group) next = next group
 
-abbrev pub each_hung_up : ProcessTable → (pids : List ℕ) → (at_risk : List ℕ) → (at_most : List ℕ) → ProcessTable
-each_hung_up t pids at_risk [] = t
-each_hung_up t pids at_risk (one ∷ at_most) =
-    hung_up_by t (find (is_abandoned t) at_risk) (λ group. each_hung_up (hung_up t pids group) pids at_risk at_most)
+abbrev pub after_hang_ups : ProcessTable → (pids : List ℕ) → (at_risk : List ℕ) → (at_most : List ℕ) → ProcessTable
+after_hang_ups t pids at_risk [] = t
+after_hang_ups t pids at_risk (one ∷ at_most) =
+    after_hang_up_by t (find (is_abandoned t) at_risk) (λ group. after_hang_ups (after_hang_up t pids group) pids at_risk at_most)
 
 -- what has ended is no member any more
 abbrev pub stays : List Process → Member → Bool
@@ -103,17 +103,17 @@ stays processes m = lives processes m.pid
 abbrev pub members_left : ProcessTable → List Member
 members_left t = filter (stays t.processes) t.members
 
-unfoldable pub settled : ProcessTable → (pids : List ℕ) → (at_risk : List ℕ) → ProcessTable
-settled t pids at_risk =
-    let after = each_hung_up t pids at_risk at_risk in record { processes = after.processes; members = members_left after }
+unfoldable pub after_orphaning : ProcessTable → (pids : List ℕ) → (at_risk : List ℕ) → ProcessTable
+after_orphaning t pids at_risk =
+    let after = after_hang_ups t pids at_risk at_risk in record { processes = after.processes; members = members_left after }
 
 -- ---- the calls
-unfoldable pub sent : ProcessTable → SignalTarget → Signal → ProcessTable
-sent t to signal =
-    let pids = pids_of t.members in settled (sent_each t to signal pids) pids (groups_at_risk t)
+unfoldable pub after_send : ProcessTable → SignalTarget → Signal → ProcessTable
+after_send t to signal =
+    let pids = pids_of t.members in after_orphaning (after_signal_to_each t to signal pids) pids (groups_at_risk t)
 
 abbrev pub with_exit : ProcessTable → (pid : ℕ) → (status : ℕ) → ProcessTable
-with_exit t pid status = told (record t { processes = with_status t.processes pid (Exited status) }) pid (status_at t.processes pid)
+with_exit t pid status = after_notice (record t { processes = with_status t.processes pid (Exited status) }) pid (status_at t.processes pid)
 
-unfoldable pub exited : ProcessTable → (pid : ℕ) → (status : ℕ) → ProcessTable
-exited t pid status = settled (with_exit t pid status) (pids_of t.members) (groups_at_risk t)
+unfoldable pub after_end : ProcessTable → (pid : ℕ) → (status : ℕ) → ProcessTable
+after_end t pid status = after_orphaning (with_exit t pid status) (pids_of t.members) (groups_at_risk t)

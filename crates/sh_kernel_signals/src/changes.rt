@@ -1,6 +1,6 @@
 //! What a process changes of its signals and its group.
 ghost use Rattle.std.specs.Prelude.{◌≡◌, OnErr, OnOk};
-ghost use Rattle.sh_kernel_signals.specs.Changes.{after_taking, changed, forked, grouped, is_fixed, next_pending, started, with_action, with_action_by, with_fork};
+ghost use Rattle.sh_kernel_signals.specs.Changes.{after_start, after_taking, is_fixed, new_member, next_pending, with_action, with_action_by, with_change, with_fork, with_group};
 ghost use Rattle.sh_kernel_signals.specs.Groups.{member_at};
 ghost use Rattle.sh_kernel_signals.specs.Sets.{lowest};
 
@@ -57,7 +57,7 @@ fn with_action(member: Member, signal: Signal, action: SignalAction) -> Member
 /// Sets what a process does with a signal (XSH sigaction). KILL and STOP can't be caught or ignored: nothing changes then, nor where no
 /// such process lives. A signal that isn't caught any more isn't pending either. Takes no memory.
 pub fn set_action(members: &mut Vec<Member>, pid: u32, signal: Signal, action: SignalAction)
-    ensures { members.new.items ≡ changed members.old.items pid (λ m. with_action m signal action) }
+    ensures { members.new.items ≡ with_change members.old.items pid (λ m. with_action m signal action) }
 {
     if let Some(member) = member_at(members.as_slice(), pid) {
         put_member(members, with_action(member, signal, action));
@@ -67,13 +67,12 @@ pub fn set_action(members: &mut Vec<Member>, pid: u32, signal: Signal, action: S
 /// The signal that a process caught and hasn't taken yet, the lowest number first, is taken; `None` where there is none. Takes no memory.
 pub fn take_signal(members: &mut Vec<Member>, pid: u32) -> Option<Signal>
     ensures taken { result ≡ next_pending members.old.items pid }
-    ensures left { members.new.items ≡ changed members.old.items pid after_taking }
+    ensures left { members.new.items ≡ after_taking members.old.items pid }
 {
     let Some(member) = member_at(members.as_slice(), pid) else {
         return None;
     };
     let Some(signal) = member.pending.lowest() else {
-        put_member(members, member);
         return None;
     };
     put_member(
@@ -88,7 +87,7 @@ pub fn take_signal(members: &mut Vec<Member>, pid: u32) -> Option<Signal>
 
 /// Puts a process into a group (XSH setpgid). Nothing changes where no such process lives. Takes no memory.
 pub fn set_group(members: &mut Vec<Member>, pid: u32, group: u32)
-    ensures { members.new.items ≡ changed members.old.items pid (λ m. grouped m group) }
+    ensures { members.new.items ≡ with_change members.old.items pid (λ m. with_group m group) }
 {
     if let Some(member) = member_at(members.as_slice(), pid) {
         put_member(members, Member { group, ..member });
@@ -97,7 +96,7 @@ pub fn set_group(members: &mut Vec<Member>, pid: u32, group: u32)
 
 /// A process starts a program (XSH exec): what it caught has its default action, what it ignored is ignored. Takes no memory.
 pub fn start_program(members: &mut Vec<Member>, pid: u32)
-    ensures { members.new.items ≡ changed members.old.items pid started }
+    ensures { members.new.items ≡ with_change members.old.items pid after_start }
 {
     if let Some(member) = member_at(members.as_slice(), pid) {
         put_member(
@@ -112,8 +111,8 @@ pub fn start_program(members: &mut Vec<Member>, pid: u32)
 }
 
 /// A new process.
-fn forked(member: Member, child: u32) -> Member
-    ensures { result ≡ forked member child }
+fn new_member(member: Member, child: u32) -> Member
+    ensures { result ≡ new_member member child }
 {
     Member {
         pid: child,
@@ -132,7 +131,7 @@ pub fn add_fork(members: &mut Vec<Member>, pid: u32, child: u32) -> Result<(), N
     ensures err { OnErr result (members.new.items ≡ members.old.items) }
 {
     if let Some(member) = member_at(members.as_slice(), pid) {
-        members.push(forked(member, child))?;
+        members.push(new_member(member, child))?;
     }
     Ok(())
 }

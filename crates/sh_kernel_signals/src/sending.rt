@@ -2,7 +2,7 @@
 ghost use Rattle.std.specs.Prelude.{◌≡◌, ◌==◌, ◌<◌, IfOk, IfSome, OnErr, OnOk, filter, find, length, map, position};
 ghost use Rattle.std.specs.List.{list_any};
 ghost use Rattle.sh_kernel_signals.specs.Groups.{ProcessTable, has_pid};
-ghost use Rattle.sh_kernel_signals.specs.Sending.{each_hung_up, exited, groups_at_risk, hung_up, is_abandoned, is_alive, is_at_risk, is_news, is_reached, members_left, pids_of, reaches, received, sent, sent_each, sent_to, settled, stays, told, with_exit, with_member, with_recipient};
+ghost use Rattle.sh_kernel_signals.specs.Sending.{after_end, after_hang_up, after_hang_ups, after_notice, after_orphaning, after_receipt, after_send, after_signal_to, after_signal_to_each, groups_at_risk, is_abandoned, is_alive, is_at_risk, is_news, is_reached, members_left, pids_of, reaches, stays, with_exit, with_member, with_recipient};
 
 use crate::delivery::{Recipient, after_signal};
 use crate::groups::{has_pid, has_stopped, is_orphaned, is_stopped, member_at};
@@ -40,10 +40,10 @@ fn put_recipient(processes: &mut Vec<Process>, members: &mut Vec<Member>, to: Re
 }
 
 /// A process receives a signal.
-#[tactic(auto, unfolding(crate::specs::Sending::received))]
+#[tactic(auto, unfolding(crate::specs::Sending::after_receipt))]
 fn receive(processes: &mut Vec<Process>, members: &mut Vec<Member>, signal: Signal, pid: u32)
     ensures { record { processes = processes.new.items; members = members.new.items }
-        ≡ received (record { processes = processes.old.items; members = members.old.items }) signal pid }
+        ≡ after_receipt (record { processes = processes.old.items; members = members.old.items }) signal pid }
 {
     let Some(status) = status_at(processes.as_slice(), pid) else {
         return;
@@ -77,7 +77,7 @@ fn is_news(before: Option<Status>, after: Option<Status>) -> bool
 }
 
 /// Tells the parent of a process, if that has ended or stopped since it had this status.
-#[tactic(auto, unfolding(crate::specs::Sending::told))]
+#[tactic(auto, unfolding(crate::specs::Sending::after_notice))]
 fn tell_parent(
     processes: &mut Vec<Process>,
     members: &mut Vec<Member>,
@@ -85,7 +85,7 @@ fn tell_parent(
     before: Option<Status>,
 )
     ensures { record { processes = processes.new.items; members = members.new.items }
-        ≡ told (record { processes = processes.old.items; members = members.old.items }) pid before }
+        ≡ after_notice (record { processes = processes.old.items; members = members.old.items }) pid before }
 {
     if !is_news(before, status_at(processes.as_slice(), pid)) {
         return;
@@ -96,10 +96,10 @@ fn tell_parent(
 }
 
 /// Sends a signal to a process.
-#[tactic(auto, unfolding(crate::specs::Sending::sent_to))]
+#[tactic(auto, unfolding(crate::specs::Sending::after_signal_to))]
 fn send_to(processes: &mut Vec<Process>, members: &mut Vec<Member>, signal: Signal, pid: u32)
     ensures { record { processes = processes.new.items; members = members.new.items }
-        ≡ sent_to (record { processes = processes.old.items; members = members.old.items }) signal pid }
+        ≡ after_signal_to (record { processes = processes.old.items; members = members.old.items }) signal pid }
 {
     let before = status_at(processes.as_slice(), pid);
     receive(processes, members, signal, pid);
@@ -143,7 +143,7 @@ fn send_each(
     pids: &[u32],
 )
     ensures { record { processes = processes.new.items; members = members.new.items }
-        ≡ sent_each (record { processes = processes.old.items; members = members.old.items }) to.entry signal pids.now }
+        ≡ after_signal_to_each (record { processes = processes.old.items; members = members.old.items }) to.entry signal pids.now }
 {
     let mut rest = pids;
     'pids: while let Some((pid, others)) = rest.split_first() {
@@ -208,10 +208,10 @@ fn first_abandoned(processes: &[Process], members: &[Member], groups: &[u32]) ->
 }
 
 /// Sends HUP and then CONT to a group.
-#[tactic(auto, unfolding(crate::specs::Sending::hung_up))]
+#[tactic(auto, unfolding(crate::specs::Sending::after_hang_up))]
 fn hang_up(processes: &mut Vec<Process>, members: &mut Vec<Member>, pids: &[u32], group: u32)
     ensures { record { processes = processes.new.items; members = members.new.items }
-        ≡ hung_up (record { processes = processes.old.items; members = members.old.items }) pids.now group }
+        ≡ after_hang_up (record { processes = processes.old.items; members = members.old.items }) pids.now group }
 {
     let to = SignalTarget::Group(group);
     send_each(processes, members, to, Signal::Hangup, pids);
@@ -226,7 +226,7 @@ fn hang_up_each(
     at_risk: &[u32],
 )
     ensures { record { processes = processes.new.items; members = members.new.items }
-        ≡ each_hung_up (record { processes = processes.old.items; members = members.old.items }) pids.now at_risk.now at_risk.now }
+        ≡ after_hang_ups (record { processes = processes.old.items; members = members.old.items }) pids.now at_risk.now at_risk.now }
 {
     let mut at_most = at_risk;
     'groups: while let Some((_, others)) = at_most.split_first() {
@@ -253,10 +253,10 @@ fn leave(processes: &[Process], members: &mut Vec<Member>)
 }
 
 /// What signals have left behind: groups that they orphaned, and processes that have ended.
-#[tactic(auto, unfolding(crate::specs::Sending::settled))]
+#[tactic(auto, unfolding(crate::specs::Sending::after_orphaning))]
 fn settle(processes: &mut Vec<Process>, members: &mut Vec<Member>, pids: &[u32], at_risk: &[u32])
     ensures { record { processes = processes.new.items; members = members.new.items }
-        ≡ settled (record { processes = processes.old.items; members = members.old.items }) pids.now at_risk.now }
+        ≡ after_orphaning (record { processes = processes.old.items; members = members.old.items }) pids.now at_risk.now }
 {
     hang_up_each(processes, members, pids, at_risk);
     leave(processes.as_slice(), members);
@@ -269,10 +269,11 @@ pub fn is_any_reached(members: &[Member], to: SignalTarget<'_>) -> bool
     members.iter().any(|member| reaches(to, member))
 }
 
-/// Sends a signal to all processes that it reaches, from the lowest number up (XSH kill). A parent gets CHLD where a process ends or
-/// stops. Where this leaves a group orphaned that has a stopped member, each of its members gets HUP, and then CONT (XSH _exit). Members
-/// that have ended leave the list. The only error is want of memory, after which nothing has changed.
-#[tactic(auto, unfolding(crate::specs::Sending::sent))]
+/// Sends a signal to all processes that it reaches (XSH kill), in the order of the members (`add_fork` puts a new one behind the others,
+/// so that is the order of their numbers). A parent gets CHLD where a process ends or stops. Where this leaves a group orphaned that has a
+/// stopped member, each of its members gets HUP, and then CONT (XSH _exit). Members that have ended leave the list. The only error is want
+/// of memory, after which nothing has changed.
+#[tactic(auto, unfolding(crate::specs::Sending::after_send))]
 pub fn send(
     alloc: Global,
     processes: &mut Vec<Process>,
@@ -281,7 +282,7 @@ pub fn send(
     signal: Signal,
 ) -> Result<(), NoMemory>
     ensures ok { OnOk result (record { processes = processes.new.items; members = members.new.items }
-        ≡ sent (record { processes = processes.old.items; members = members.old.items }) to.entry signal) }
+        ≡ after_send (record { processes = processes.old.items; members = members.old.items }) to.entry signal) }
     ensures processes { OnErr result (processes.new.items ≡ processes.old.items) }
     ensures members { OnErr result (members.new.items ≡ members.old.items) }
 {
@@ -305,7 +306,7 @@ fn exit(processes: &mut Vec<Process>, members: &mut Vec<Member>, pid: u32, statu
 /// A process ends by itself, with an exit status (XSH _exit): its parent gets CHLD. Where this leaves a group orphaned that has a stopped
 /// member, each of its members gets HUP, and then CONT. Members that have ended leave the list. The only error is want of memory, after
 /// which nothing has changed.
-#[tactic(auto, unfolding(crate::specs::Sending::exited))]
+#[tactic(auto, unfolding(crate::specs::Sending::after_end))]
 pub fn end(
     alloc: Global,
     processes: &mut Vec<Process>,
@@ -314,7 +315,7 @@ pub fn end(
     status: u8,
 ) -> Result<(), NoMemory>
     ensures ok { OnOk result (record { processes = processes.new.items; members = members.new.items }
-        ≡ exited (record { processes = processes.old.items; members = members.old.items }) pid status) }
+        ≡ after_end (record { processes = processes.old.items; members = members.old.items }) pid status) }
     ensures processes { OnErr result (processes.new.items ≡ processes.old.items) }
     ensures members { OnErr result (members.new.items ≡ members.old.items) }
 {

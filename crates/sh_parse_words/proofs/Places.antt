@@ -1,9 +1,8 @@
 -- What characters in a row take of a text.
-use Rattle.std.proofs.Common.{◌≡◌, ℕ, zero, suc, List, [], ◌∷◌, ◌++◌, refl, ap, sym, ◌∙◌, length, drop}
-use Rattle.sh_token_pieces.specs.declared.character.Character.{Character}
-use Rattle.sh_token_pieces.specs.declared.character.Character.TheVariants.{Plain, Quoted, Raw}
+use Rattle.std.proofs.Common.{◌≡◌, ℕ, zero, suc, List, [], ◌∷◌, ◌++◌, refl, ap, ◌∙◌, length, drop}
+use Rattle.sh_token_pieces.specs.declared.character.Character.TheVariants.{Raw}
 use Rattle.sh_token_pieces.specs.Characters.{plain, raw}
-use Rattle.sh_parse_words.specs.Places.{behind_joins, behind_character, behind_characters, behind_plain}
+use Rattle.sh_parse_words.specs.Places.{behind_joins, behind_characters, behind_plain}
 
 pub plain_is : (bs : List ℕ) (bytes : List ℕ) → behind_characters (plain bs) bytes ≡ behind_plain (length bs) bytes
 plain_is [] bytes = refl

@@ -1,5 +1,5 @@
 -- The parts of a word, piece by piece.
-use Rattle.std.specs.Prelude.{◌≡◌, ℕ, zero, suc, ◌-◌, Bool, true, false, nat_eq, List, [], ◌∷◌, ◌++◌, Option, Some, None, Result, Ok, Err, if◌then◌else◌}
+use Rattle.std.specs.Prelude.{◌≡◌, ℕ, suc, ◌-◌, Bool, true, false, nat_eq, List, [], ◌∷◌, ◌++◌, Option, Some, None, Result, Ok, Err, if◌then◌else◌}
 use Rattle.sh_token_pieces.specs.declared.piece.Piece.{Piece}
 use Rattle.sh_token_pieces.specs.declared.piece.Piece.TheVariants as piece
 use Rattle.sh_syntax.specs.declared.tree.Part.{Part}

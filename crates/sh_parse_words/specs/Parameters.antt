@@ -1,12 +1,11 @@
 -- What a `${..}` asks for (XCU 2.6.2), by the bytes between `${` and its word, and by whether the `}` comes
 -- directly after them.
-use Rattle.std.specs.Prelude.{ℕ, zero, suc, ◌+◌, ◌*◌, ◌-◌, ◌^◌, min, Bool, true, false, ◌||◌, not, nat_eq, List, [], ◌∷◌, length, take, drop, position, Option, Some, None, if◌then◌else◌}
-use Rattle.std.specs.Option.{option_map, option_and_then, unwrap_or}
+use Rattle.std.specs.Prelude.{ℕ, zero, suc, ◌+◌, ◌*◌, ◌-◌, ◌^◌, min, Bool, true, false, not, nat_eq, List, [], ◌∷◌, length, take, drop, position, Option, Some, None, if◌then◌else◌}
+use Rattle.std.specs.Option.{option_map, unwrap_or}
 use Rattle.std.specs.Char.{is_ascii_digit}
 use Rattle.sh_base.specs.Names.{begins_name, continues_name}
 use Rattle.sh_syntax.specs.declared.tree.Parameter.{Parameter}
 use Rattle.sh_syntax.specs.declared.tree.Parameter.TheVariants.{Variable, Positional, Special}
-use Rattle.sh_syntax.specs.declared.tree.SpecialParameter.{SpecialParameter}
 use Rattle.sh_syntax.specs.declared.tree.SpecialParameter.TheVariants.{At, Asterisk, Count, Status, Options, Process, Background, Zero}
 use Rattle.sh_syntax.specs.declared.tree.Absence.{Absence}
 use Rattle.sh_syntax.specs.declared.tree.Absence.TheVariants.{Unset, UnsetOrNull}

@@ -1,5 +1,5 @@
 -- How the machine goes through a text.
-use Rattle.std.specs.Prelude.{ℕ, suc, Bool, true, false, ◌&&◌, not, nat_eq, length, List, [], ◌∷◌, Option, Some, None, if◌then◌else◌}
+use Rattle.std.specs.Prelude.{ℕ, suc, Bool, true, false, ◌&&◌, nat_eq, length, List, [], ◌∷◌, Option, Some, None, if◌then◌else◌}
 use Rattle.sh_token_pieces.specs.declared.character.Character.TheVariants.{Plain, Quoted, Raw}
 use Rattle.sh_token_pieces.specs.declared.context.Context.{Context}
 use Rattle.sh_token_pieces.specs.declared.context.Context.TheVariants.{Top}

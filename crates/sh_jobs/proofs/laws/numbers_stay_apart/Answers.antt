@@ -1,6 +1,6 @@
 use Rattle.std.specs.Prelude.{not}
 use Rattle.sh_jobs.specs.News.{is_over}
-use Rattle.sh_jobs.specs.Table.{has_number, noted_by, told_by}
+use Rattle.sh_jobs.specs.Table.{has_number, job_after_note, job_after_telling}
 use Rattle.sh_jobs.proofs.Apart.{filtered, launched_apart, mapped, noted_keeps, told_keeps}
 use Rattle.sh_jobs.proofs.laws.numbers_stay_apart.Goals as goal
 
@@ -8,10 +8,10 @@ pub returns-clause-launch : goal.returns-clause-launch
 returns-clause-launch c = launched_apart
 
 pub returns-clause-note : goal.returns-clause-note
-returns-clause-note c = λ jobs pid event apart. mapped (noted_by pid event) (noted_keeps pid event) jobs apart
+returns-clause-note c = λ jobs pid event apart. mapped (job_after_note pid event) (noted_keeps pid event) jobs apart
 
 pub returns-clause-tell : goal.returns-clause-tell
-returns-clause-tell c = λ jobs number state apart. mapped (told_by number state) (told_keeps number state) jobs apart
+returns-clause-tell c = λ jobs number state apart. mapped (job_after_telling number state) (told_keeps number state) jobs apart
 
 pub returns-clause-remove : goal.returns-clause-remove
 returns-clause-remove c = λ jobs number apart. filtered (λ job. not (has_number number job)) jobs apart

@@ -1,4 +1,4 @@
-use Rattle.sh_parse_words.proofs.Frames.{Popped, popped}
+use Rattle.sh_parse_words.proofs.Frames.{popped}
 use Rattle.sh_parse_words.proofs.build.innermost.Goals as goal
 
 pub returns-clause-value : goal.returns-clause-value
