@@ -1,7 +1,8 @@
 #!/usr/bin/env python3
 """Runs scripts made at random by psh and by real shells, and shows those in which psh stands alone.
 
-usage: compare_shells.py words|documents|processes|lists|errexit|case|builtins|functions|traps|texts|input [COUNT [SEED]]
+usage: compare_shells.py words|documents|processes|lists|errexit|case|builtins|functions|traps|texts|input|asynchronous
+                         [COUNT [SEED]]
 
 `words` expands words of every form, nested, with several IFS and positional parameters, into the fields that a program
 then shows. `documents` does so in bodies of here-documents and in assignments. `processes` runs pipelines, redirections,
@@ -13,7 +14,7 @@ In all of these every fourth compound command has redirections, and commands in 
 functions with bodies of every form, calls and unsets them, and has `return` and `eval`, some of it under `set -e`. `traps` sets
 traps on the exit of the shell, of subshells, substitutions and stages, and leaves these in every way, some under `set -e`. `texts` writes
 dot scripts and runs them, and has `exec`. `input` reads lines from files, here-documents and pipes, with several IFS and in loops, and has
-`command`. Scripts do nothing whose result depends on the order of turns.
+`command`. `asynchronous` starts asynchronous lists of every form and waits for them. Scripts do nothing whose result depends on the order of turns.
 
 Shown is a script where no real shell gives what psh gives, and one where four or more agree with one another and not with
 psh; diagnostics are left out, since their texts differ. The shells are those of dash, bash, yash, mksh and busybox that are
@@ -26,10 +27,12 @@ import subprocess
 import sys
 import tempfile
 
+from random_asynchronous import Asynchronous
 from random_scripts import SOURCES
 
 TOP = os.path.dirname(os.path.dirname(os.path.abspath(__file__)))
 PSH = os.environ.get("PSH", f"{TOP}/out/psh")
+KINDS = SOURCES | {"asynchronous": Asynchronous}
 SHELLS = [["dash"], ["bash", "--posix"], ["yash", "-o", "posixly-correct"], ["mksh"], ["busybox", "ash"]]
 # (another user runs the shells as itself)
 NOBODY = [] if os.geteuid() else ["setpriv", "--reuid=65534", "--regid=65534", "--clear-groups", "--no-new-privs"]
@@ -93,7 +96,7 @@ def by_shell(room, shell, script, operands):
 
 
 def main(kind, count=200, seed=1):
-    source = SOURCES[kind](int(seed))
+    source = KINDS[kind](int(seed))
     shells = [it for it in SHELLS if shutil.which(it[0])]
     alone = 0
     with tempfile.TemporaryDirectory(prefix="shells-") as room:
@@ -116,6 +119,6 @@ def main(kind, count=200, seed=1):
 
 
 if __name__ == "__main__":
-    if len(sys.argv) not in (2, 3, 4) or sys.argv[1] not in SOURCES:
+    if len(sys.argv) not in (2, 3, 4) or sys.argv[1] not in KINDS:
         sys.exit(__doc__)
     sys.exit(main(*sys.argv[1:]))

@@ -37,6 +37,7 @@ int posix_memalign(void **p, size_t a, size_t n) {
 ROWS = [
     ("echo 'a  b'; x=1; echo $x $?", 8),
     ("exit 3", 3),
+    ("echo a | cat & ! : & wait $!; f() { wait $1 9; echo $?; }; (exit 3) & f $!; { echo b; } & wait", 80),
     ("exit 256", 4),
     ("echo a; fi", 3),
     ("echo a  \"b  c\" 'd'\\ e", 5),

@@ -3,7 +3,7 @@ use Rattle.std.specs.Prelude.{ℕ, List, [], ◌∷◌, Bool, true, false, Optio
 use Rattle.std.specs.List.{find}
 use Rattle.std.specs.Str.{bytes_eq}
 use Rattle.sh_builtin.specs.declared.builtin.Builtin.{Builtin}
-use Rattle.sh_builtin.specs.declared.builtin.Builtin.TheVariants.{Bracket, Break, Cd, Colon, Command, Continue, Dot, Echo, Eval, Exec, Exit, Export, False, Pwd, Read, ReadOnly, Return, Set, Shift, Test, Trap, True, Unset}
+use Rattle.sh_builtin.specs.declared.builtin.Builtin.TheVariants.{Bracket, Break, Cd, Colon, Command, Continue, Dot, Echo, Eval, Exec, Exit, Export, False, Pwd, Read, ReadOnly, Return, Set, Shift, Test, Trap, True, Unset, Wait}
 use Rattle.sh_builtin.specs.declared.builtin.Row.{Row}
 
 -- a row of the table: a name, and whether the built-in is special (2.15): then an error in it ends a shell that
@@ -43,10 +43,11 @@ row_of Test = regular (codes "test")
 row_of Trap = special (codes "trap")
 row_of True = regular (codes "true")
 row_of Unset = special (codes "unset")
+row_of Wait = regular (codes "wait")
 
 abbrev pub builtins : List Builtin
 builtins =
-    Bracket ∷ Break ∷ Cd ∷ Colon ∷ Command ∷ Continue ∷ Dot ∷ Echo ∷ Eval ∷ Exec ∷ Exit ∷ Export ∷ False ∷ Pwd ∷ Read ∷ ReadOnly ∷ Return ∷ Set ∷ Shift ∷ Test ∷ Trap ∷ True ∷ Unset ∷ []
+    Bracket ∷ Break ∷ Cd ∷ Colon ∷ Command ∷ Continue ∷ Dot ∷ Echo ∷ Eval ∷ Exec ∷ Exit ∷ Export ∷ False ∷ Pwd ∷ Read ∷ ReadOnly ∷ Return ∷ Set ∷ Shift ∷ Test ∷ Trap ∷ True ∷ Unset ∷ Wait ∷ []
 
 -- ---- what is read from it
 abbrev pub name_of : Builtin → List ℕ

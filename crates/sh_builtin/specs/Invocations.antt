@@ -6,7 +6,7 @@ use Rattle.sh_builtin.specs.Running.{BuiltIn, built_in, with_outcome}
 use Rattle.sh_builtin.specs.declared.builtin.Builtin.{Builtin}
 use Rattle.sh_builtin.specs.declared.invocation.Invocation.{Invocation}
 use Rattle.sh_builtin.specs.declared.outcome.Completion.{Completion}
-use Rattle.sh_builtin.specs.declared.outcome.Completion.TheVariants.{Done, Left, Runs, Reads}
+use Rattle.sh_builtin.specs.declared.outcome.Completion.TheVariants.{Done, Left, Runs, Reads, Waits}
 use Rattle.sh_builtin.specs.declared.outcome.Leave.{Leave}
 use Rattle.sh_builtin.specs.declared.outcome.Leave.TheVariants as leave
 use Rattle.sh_builtin.specs.declared.outcome.Outcome.{Outcome}
@@ -32,6 +32,7 @@ regular_completion (Done status) = Done status
 regular_completion (Left l) = regular_leave l
 regular_completion (Runs how text) = Runs (record how { is_special = false }) text
 regular_completion (Reads reader) = Reads reader
+regular_completion (Waits awaited) = Waits awaited
 
 abbrev pub outcome_as : (is_special : Bool) → Outcome → Outcome
 outcome_as true outcome = outcome

@@ -4,7 +4,7 @@ use Rattle.sh_builtin.specs.Builtins.{is_special, name_of}
 use Rattle.sh_builtin.specs.Messages.{fault_text, line_of, status_of}
 use Rattle.sh_builtin.specs.declared.builtin.Builtin.{Builtin}
 use Rattle.sh_builtin.specs.declared.outcome.Completion.{Completion}
-use Rattle.sh_builtin.specs.declared.outcome.Completion.TheVariants.{Done, Left, Reads, Runs}
+use Rattle.sh_builtin.specs.declared.outcome.Completion.TheVariants.{Done, Left, Reads, Runs, Waits}
 use Rattle.sh_builtin.specs.declared.outcome.Leave.{Leave}
 use Rattle.sh_builtin.specs.declared.outcome.Leave.TheVariants as leave
 use Rattle.sh_builtin.specs.declared.outcome.Outcome.{Outcome}
@@ -14,6 +14,7 @@ use Rattle.sh_builtin_environment.specs.declared.outcome.BuiltinFault.TheVariant
 use Rattle.sh_builtin_environment.specs.declared.outcome.Outcome.{Outcome as Answer}
 use Rattle.sh_builtin_environment.specs.declared.outcome.Outcome.TheVariants as answer
 use Rattle.sh_builtin_regular.specs.declared.reader.LineReader.{LineReader}
+use Rattle.sh_builtin_regular.specs.declared.waiting.Awaited.{Awaited}
 
 -- its output, its messages, and how it ends
 abbrev pub outcome : List ℕ → List (List ℕ) → Completion → Outcome
@@ -33,6 +34,9 @@ running origin text = outcome [] [] (Runs (record { origin = origin; is_special 
 
 abbrev pub reading : LineReader → Outcome
 reading reader = outcome [] [] (Reads reader)
+
+abbrev pub waiting : Awaited → Outcome
+waiting awaited = outcome [] [] (Waits awaited)
 
 -- the status of a shell that is left so; break and continue leave no shell
 abbrev pub shell_status : Leave → ℕ

@@ -4,9 +4,9 @@ use Rattle.std.specs.List.{join_with_byte}
 use Rattle.sh_builtin.specs.Commands.{command_outcome}
 use Rattle.sh_builtin.specs.Functions.{unset_by}
 use Rattle.sh_builtin.specs.Loops.{leave_with, loop_with, operands_of}
-use Rattle.sh_builtin.specs.Outcomes.{done, misuse, outcome_of, output, reading, refusal, running}
+use Rattle.sh_builtin.specs.Outcomes.{done, misuse, outcome_of, output, reading, refusal, running, waiting}
 use Rattle.sh_builtin.specs.declared.builtin.Builtin.{Builtin}
-use Rattle.sh_builtin.specs.declared.builtin.Builtin.TheVariants.{Bracket, Break, Cd, Colon, Command, Continue, Dot, Echo, Eval, Exec, Exit, Export, False, Pwd, Read, ReadOnly, Return, Set, Shift, Test, Trap, True, Unset}
+use Rattle.sh_builtin.specs.declared.builtin.Builtin.TheVariants.{Bracket, Break, Cd, Colon, Command, Continue, Dot, Echo, Eval, Exec, Exit, Export, False, Pwd, Read, ReadOnly, Return, Set, Shift, Test, Trap, True, Unset, Wait}
 use Rattle.sh_builtin.specs.declared.outcome.Leave.TheVariants as leave
 use Rattle.sh_builtin.specs.declared.outcome.Outcome.{Outcome}
 use Rattle.sh_builtin.specs.declared.outcome.TextOrigin.TheVariants as origin
@@ -28,6 +28,12 @@ use Rattle.sh_builtin_regular.specs.declared.conditional.Verdict.{Verdict}
 use Rattle.sh_builtin_regular.specs.declared.conditional.Verdict.TheVariants as verdict
 use Rattle.sh_builtin_regular.specs.Operands.{reader_of}
 use Rattle.sh_builtin_regular.specs.declared.reader.LineReader.{LineReader}
+use Rattle.sh_builtin_regular.specs.declared.waiting.Awaited.TheVariants as awaited
+use Rattle.sh_builtin_regular.specs.declared.waiting.WaitStart.{WaitStart}
+use Rattle.sh_builtin_regular.specs.declared.waiting.WaitStart.TheVariants as start
+use Rattle.sh_builtin_regular.specs.declared.waiting.WaitStep.{WaitStep}
+use Rattle.sh_builtin_regular.specs.declared.waiting.WaitStep.TheVariants as step
+use Rattle.sh_builtin_regular.specs.Waits.{wait_of}
 use Rattle.sh_files.specs.Nodes.{FileMap}
 use Rattle.sh_files.specs.Search.{dot_script}
 use Rattle.sh_kernel_descriptors.specs.Machine.{MachineState}
@@ -91,6 +97,19 @@ abbrev pub read_outcome : Result LineReader BuiltinFault → Outcome
 read_outcome (Ok reader) = reading reader
 read_outcome (Err why) = refusal Read why
 
+-- ---- wait waits for the processes that its operands name, or for all, of those that the shell knows
+abbrev pub wait_step : WaitStep → Outcome
+wait_step (step.Over status) = done status
+wait_step (step.Waits process) = waiting (awaited.Process process)
+
+abbrev pub wait_start : WaitStart → Outcome
+wait_start start.All = waiting awaited.All
+wait_start (start.Step next) = wait_step next
+
+abbrev pub wait_outcome : Result WaitStart BuiltinFault → Outcome
+wait_outcome (Ok start) = wait_start start
+wait_outcome (Err why) = refusal Wait why
+
 -- ---- test: 0 where the condition holds, else 1; descriptors go from 0 to 31
 abbrev pub truth : Bool → ℕ
 truth true = 0
@@ -145,3 +164,4 @@ built_in machine shell last Test arguments = with_outcome shell (test_outcome ma
 built_in machine shell last Trap arguments = trapped shell (trap_ran shell.traps arguments)
 built_in machine shell last True arguments = with_outcome shell (done 0)
 built_in machine shell last Unset arguments = ran Unset (without_functions shell arguments) (unset_ran shell.vars arguments)
+built_in machine shell last Wait arguments = with_outcome shell (wait_outcome (wait_of shell.known arguments))

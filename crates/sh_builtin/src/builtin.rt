@@ -11,6 +11,7 @@ use crate::outcome::{Outcome, TextOrigin};
 use crate::reading::read;
 use crate::shell::Shell;
 use crate::testing::{bracket, test};
+use crate::waiting::wait;
 use sh_base::NoMemory;
 use sh_base::sequence::{Sequence, Text};
 use sh_builtin_environment::{
@@ -48,6 +49,7 @@ pub enum Builtin {
     Trap,
     True,
     Unset,
+    Wait,
 }
 
 /// A row of the table of built-ins.
@@ -80,7 +82,7 @@ impl Row {
 }
 
 /// All of them.
-const BUILTINS: [Builtin; 23] = [
+const BUILTINS: [Builtin; 24] = [
     Builtin::Bracket,
     Builtin::Break,
     Builtin::Cd,
@@ -104,6 +106,7 @@ const BUILTINS: [Builtin; 23] = [
     Builtin::Trap,
     Builtin::True,
     Builtin::Unset,
+    Builtin::Wait,
 ];
 
 impl Builtin {
@@ -135,6 +138,7 @@ impl Builtin {
             Builtin::Trap => Row::special(b"trap"),
             Builtin::True => Row::regular(b"true"),
             Builtin::Unset => Row::special(b"unset"),
+            Builtin::Wait => Row::regular(b"wait"),
         }
     }
 
@@ -232,6 +236,7 @@ impl Builtin {
                 let answer = unset(alloc, &mut shell.vars, arguments)?;
                 Outcome::of(alloc, Builtin::Unset, answer)
             },
+            Builtin::Wait => wait(alloc, shell.known.as_slice(), arguments),
         }
     }
 }

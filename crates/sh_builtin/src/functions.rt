@@ -58,6 +58,11 @@ impl Functions {
         }
     }
 
+    /// What their memory is taken from.
+    pub(crate) fn allocator(&self) -> Global {
+        *self.functions.allocator()
+    }
+
     /// The body of the function of this name, `None` where there is none. Takes no memory.
     pub fn body(&self, name: &[u8]) -> Option<&Shared<Command>>
         ensures { option_map (λ body. body.now) result ≡ body_of self.now name.now }

@@ -47,6 +47,7 @@ fn regular_completion(completion: Completion) -> Completion
             Completion::Runs(how, text)
         },
         Completion::Reads(reader) => Completion::Reads(reader),
+        Completion::Waits(awaited) => Completion::Waits(awaited),
     }
 }
 

@@ -12,6 +12,7 @@ mod outcome;
 mod reading;
 mod shell;
 mod testing;
+mod waiting;
 
 pub use builtin::Builtin;
 pub use command::behind_command;

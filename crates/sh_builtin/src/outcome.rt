@@ -1,13 +1,13 @@
 //! What built-ins come to.
 ghost use Rattle.std.specs.Prelude.{◌≡◌, IfOk};
-ghost use Rattle.sh_builtin.specs.Outcomes.{done, failure, left, misuse, output, outcome_of, reading, refusal, running, shell_status};
+ghost use Rattle.sh_builtin.specs.Outcomes.{done, failure, left, misuse, output, outcome_of, reading, refusal, running, shell_status, waiting};
 
 use crate::builtin::Builtin;
 use crate::message::{fault_line, status_of};
 use sh_base::NoMemory;
 use sh_base::sequence::{Sequence, Text};
 use sh_builtin_environment::BuiltinFault;
-use sh_builtin_regular::LineReader;
+use sh_builtin_regular::{Awaited, LineReader};
 use std::alloc::Global;
 
 /// How commands are left before their end.
@@ -69,6 +69,8 @@ pub enum Completion {
     Runs(TextRun, Text),
     /// This line is read first, and the variables that it is for have its fields (XCU read).
     Reads(LineReader),
+    /// The shell waits first (XCU wait).
+    Waits(Awaited),
 }
 
 /// What a built-in comes to, beside what it changes of the shell. In this order it writes `out`, writes each message of `err`, and
@@ -142,6 +144,17 @@ impl Outcome {
             out: Sequence::new(alloc),
             err: Sequence::new(alloc),
             status: Completion::Reads(reader),
+        }
+    }
+
+    /// Has the shell wait first.
+    pub(crate) fn waiting(alloc: Global, awaited: Awaited) -> Outcome
+        ensures { result ≡ waiting awaited }
+    {
+        Outcome {
+            out: Sequence::new(alloc),
+            err: Sequence::new(alloc),
+            status: Completion::Waits(awaited),
         }
     }
 

@@ -19,7 +19,7 @@ use Rattle.sh_exec_actions.specs.declared.action.Active.{Active}
 use Rattle.sh_exec_actions.specs.declared.action.Active.TheVariants.{Acting, Calling, Evaluating, Next, Done, Leaving}
 use Rattle.sh_exec_actions.specs.declared.action.ProgramStart.{ProgramStart}
 use Rattle.sh_exec_actions.specs.declared.action.Action.{Action}
-use Rattle.sh_exec_actions.specs.declared.action.Action.TheVariants.{Reading, Expanding, ReadSubstitution, WaitSubstitution, ReadLine, Redirecting, Forking, Starting, ForkStage, AssignLoopVariable, Defining, Waiting, Writing, Trapping, Ending}
+use Rattle.sh_exec_actions.specs.declared.action.Action.TheVariants.{Reading, Expanding, ReadSubstitution, WaitSubstitution, ReadLine, Awaiting, Redirecting, Forking, Starting, ForkStage, ForkList, AssignLoopVariable, Defining, Waiting, Writing, Trapping, Ending}
 use Rattle.sh_exec_forms.specs.Running.{At}
 use Rattle.sh_kernel.specs.Calls.{start_call}
 use Rattle.sh_kernel.specs.State.{KernelState}
@@ -55,10 +55,10 @@ stock_start m s shell start None = failure s start.ends_shell (cannot_execute st
 abbrev pub parent_of : KernelState → ℕ → ℕ
 parent_of s pid = unwrap_or (parent_at s.machine.processes pid) 1
 
--- a script is run by a new shell in this process, which has no functions and no traps
+-- a script is run by a new shell in this process, which has no functions and no traps, and knows no processes
 abbrev pub script_shell : KernelState → Shell → List ℕ → List (List ℕ) → Shell
 script_shell s shell path operands =
-    record { pid = shell.pid; vars = script_environment shell.vars path operands shell.pid (parent_of s shell.pid); functions = []; traps = none_set }
+    record { pid = shell.pid; vars = script_environment shell.vars path operands shell.pid (parent_of s shell.pid); functions = []; traps = none_set; known = [] }
 
 abbrev pub script_start : {S : Type 0} → KernelState → Shell → List ℕ → List ℕ → List (List ℕ) → Left (Started S)
 script_start s shell path text operands =
@@ -94,10 +94,12 @@ starting_at (Expanding wants pending) = None
 starting_at (ReadSubstitution substitution) = None
 starting_at (WaitSubstitution substitution) = None
 starting_at (ReadLine reader) = None
+starting_at (Awaiting awaited) = None
 starting_at (Redirecting p) = None
 starting_at (Forking p) = None
 starting_at (Starting start) = Some start
 starting_at (ForkStage stages) = None
+starting_at (ForkList list) = None
 starting_at (AssignLoopVariable series) = None
 starting_at (Defining definition) = None
 starting_at (Waiting children) = None

@@ -38,7 +38,7 @@ first_place image (Script path) = script_place image path
 -- it is before its first action
 abbrev pub first_task : {S : Type 0} → FileMap → Settings → Task S
 first_task image settings = Runs (record {
-  shell = record { pid = first_pid; vars = environment_of settings; functions = []; traps = none_set };
+  shell = record { pid = first_pid; vars = environment_of settings; functions = []; traps = none_set; known = [] };
   run = At (Next (first_place image settings.source));
 })
 

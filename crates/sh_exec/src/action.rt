@@ -1,11 +1,13 @@
 //! What processes are about to do.
 ghost use Rattle.std.specs.Prelude.{◌≡◌};
 ghost use Rattle.sh_kernel.specs.Turns.{action_of};
-ghost use Rattle.sh_exec.specs.Actions.{action_at, action_in, action_for, collecting};
+ghost use Rattle.sh_exec.specs.Actions.{action_at, action_in, action_for, awaiting, collecting};
 
+use sh_builtin_regular::Awaited;
 use sh_exec_actions::{Action, Active};
 use sh_kernel::{DescriptorRef, Next};
 use sh_stock::Ask;
+use std::slice;
 
 /// Where the end of a pipe was set aside, a shell reads by it.
 fn collecting(aside: Option<usize>) -> Next<'static>
@@ -17,9 +19,19 @@ fn collecting(aside: Option<usize>) -> Next<'static>
     }
 }
 
-/// What is done at a place.
-fn action_at(place: &Action) -> Next<'_>
-    ensures { action_of result ≡ action_at place.now }
+/// The built-in `wait` waits for one process, or for all that the shell knows.
+fn awaiting<'a>(known: &'a [u32], awaited: &'a Awaited) -> Next<'a>
+    ensures { action_of result ≡ awaiting known.now awaited.now }
+{
+    match awaited {
+        Awaited::All => Next::Wait(known),
+        Awaited::Process(wait) => Next::Wait(slice::from_ref(&wait.process)),
+    }
+}
+
+/// What is done at a place, where the shell knows these processes.
+fn action_at<'a>(known: &'a [u32], place: &'a Action) -> Next<'a>
+    ensures { action_of result ≡ action_at known.now place.now }
 {
     match place {
         Action::Reading(_, _) => Next::Other,
@@ -27,10 +39,12 @@ fn action_at(place: &Action) -> Next<'_>
         Action::ReadSubstitution(substitution) => collecting(substitution.aside),
         Action::WaitSubstitution(substitution) => Next::Wait(substitution.children.as_slice()),
         Action::ReadLine(_) => Next::Read(DescriptorRef::Number(0)),
+        Action::Awaiting(awaited) => awaiting(known, awaited),
         Action::Redirecting(_) => Next::Other,
         Action::Forking(_) => Next::Other,
         Action::Starting(_) => Next::Other,
         Action::ForkStage(_) => Next::Other,
+        Action::ForkList(_) => Next::Other,
         Action::AssignLoopVariable(_) => Next::Other,
         Action::Defining(_) => Next::Other,
         Action::Waiting(children) => Next::Wait(children.as_slice()),
@@ -40,12 +54,12 @@ fn action_at(place: &Action) -> Next<'_>
     }
 }
 
-/// What a shell at this active place does.
-pub(crate) fn action_in(active: &Active) -> Next<'_>
-    ensures { action_of result ≡ action_in active.now }
+/// What a shell at this active place does, where it knows these processes.
+pub(crate) fn action_in<'a>(known: &'a [u32], active: &'a Active) -> Next<'a>
+    ensures { action_of result ≡ action_in known.now active.now }
 {
     match active {
-        Active::Next(place) => action_at(place),
+        Active::Next(place) => action_at(known, place),
         Active::Acting(_, _) => Next::Other,
         Active::Calling(_, _) => Next::Other,
         Active::Evaluating(_, _) => Next::Other,

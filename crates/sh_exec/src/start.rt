@@ -11,7 +11,7 @@ ghost use Rattle.sh_exec.specs.Starting.{located_for, parent_of, program_in, scr
 use crate::program::asking;
 use crate::task::Task;
 use sh_base::NoMemory;
-use sh_base::sequence::Text;
+use sh_base::sequence::{Sequence, Text};
 use sh_builtin::{Functions, Shell};
 use sh_builtin_environment::Traps;
 use sh_exec_actions::status::{CANNOT_EXECUTE, NOT_FOUND};
@@ -129,6 +129,7 @@ fn start_script<S: Stock>(
         vars,
         functions: Functions::new(alloc),
         traps,
+        known: Sequence::new(alloc),
     };
     Ok(Started::Becomes(Task::Runs(Interpreter::reading(alloc, shell, text))))
 }

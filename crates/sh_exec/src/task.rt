@@ -16,7 +16,7 @@ use crate::settings::{Settings, Source};
 use crate::shell::starting_of;
 use crate::start::{Started, start_turn};
 use sh_base::NoMemory;
-use sh_base::sequence::Text;
+use sh_base::sequence::{Sequence, Text};
 use sh_builtin::{Functions, Shell};
 use sh_builtin_environment::Traps;
 use sh_exec_actions::{Action, Frame, ProgramStart};
@@ -123,6 +123,7 @@ impl<S: Stock> Task<S> {
             vars,
             functions: Functions::new(alloc),
             traps,
+            known: Sequence::new(alloc),
         };
         Ok(Task::Runs(Interpreter::at(alloc, shell, place)))
     }
@@ -183,7 +184,9 @@ impl<S: Stock> Task<S> {
         ensures { next.action_of result ≡ action_of self.now }
     {
         match self {
-            Task::Runs(interpreter) => action_in(interpreter.active()),
+            Task::Runs(interpreter) => {
+                action_in(interpreter.shell().known.as_slice(), interpreter.active())
+            },
             Task::Asks { ask, .. } => asked(ask),
         }
     }

@@ -1,3 +1,2 @@
 pub mod Preparing
-pub mod Served
 pub mod Statuses

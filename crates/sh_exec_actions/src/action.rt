@@ -3,13 +3,13 @@ use crate::status::CommandStatus;
 use sh_base::sequence::{Sequence, Text};
 use sh_base::shared::Shared;
 use sh_builtin::{Builtin, Completion, Invocation, Leave, TextRun};
-use sh_builtin_regular::LineReader;
+use sh_builtin_regular::{Awaited, LineReader};
 use sh_exec_machine::Undone;
 use sh_exec_parts::message::Piece;
 use sh_exec_parts::redirection::Redirection;
 use sh_exec_parts::simple::Assignment;
 use sh_exec_parts::{Queue, Rest};
-use sh_syntax::tree::{Command, CompoundList, Parts};
+use sh_syntax::tree::{AndOr, Command, CompoundList, Parts, Separator};
 use sh_vars::{Entry, Vars};
 
 /// What runs a command once its redirections and assignments are done.
@@ -144,7 +144,7 @@ pub struct ProgramStart {
     pub ends_shell: bool,
 }
 
-/// A pipeline of several commands (2.9.2) whose processes are being made.
+/// A pipeline (2.9.2) whose processes are being made.
 #[derive(Drop)]
 pub struct Stages {
     /// The commands that have none yet.
@@ -153,6 +153,8 @@ pub struct Stages {
     pub aside: Option<usize>,
     /// The processes so far.
     pub children: Sequence<u32>,
+    /// Whether the shell waits for them once all are made, or the pipeline is an asynchronous list (2.9.3.1).
+    pub separator: Separator,
 }
 
 /// What a built-in has still to say, and how it ends then.
@@ -192,6 +194,8 @@ pub enum Action {
     WaitSubstitution(Substitution),
     /// Read by descriptor 0 for the built-in `read` (XCU read): the line so far.
     ReadLine(LineReader),
+    /// Wait for the built-in `wait` (XCU wait).
+    Awaiting(Awaited),
     /// Do the next redirection of a command (2.7).
     Redirecting(ExpandedCommand),
     /// Make the process that runs a program.
@@ -200,6 +204,8 @@ pub enum Action {
     Starting(ProgramStart),
     /// Make the process of the next command of a pipeline.
     ForkStage(Stages),
+    /// Make the process that runs an asynchronous list (2.9.3.1), where that isn't one pipeline, or has a `!`.
+    ForkList(Shared<AndOr>),
     /// Give the variable of a `for` its next value.
     AssignLoopVariable(ForLoop),
     /// Define the function of this function definition command (2.9.5).

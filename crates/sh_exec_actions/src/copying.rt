@@ -257,6 +257,7 @@ impl Copying for Stages {
                 commands,
                 aside: self.aside,
                 children,
+                separator: self.separator,
             }),
             Err(lack) => {
                 drop(children);
@@ -275,6 +276,7 @@ fn copy_completion(alloc: Global, status: &Completion) -> Result<Completion, NoM
         Completion::Left(leave) => Ok(Completion::Left(*leave)),
         Completion::Runs(origin, text) => Ok(Completion::Runs(*origin, text.copy(alloc)?)),
         Completion::Reads(reader) => Ok(Completion::Reads(reader.copy(alloc)?)),
+        Completion::Waits(awaited) => Ok(Completion::Waits(awaited.copy(alloc)?)),
     }
 }
 
@@ -346,10 +348,12 @@ impl Copying for Action {
                 Ok(Action::WaitSubstitution(substitution.copy(alloc)?))
             },
             Action::ReadLine(reader) => Ok(Action::ReadLine(reader.copy(alloc)?)),
+            Action::Awaiting(awaited) => Ok(Action::Awaiting(awaited.copy(alloc)?)),
             Action::Redirecting(command) => Ok(Action::Redirecting(command.copy(alloc)?)),
             Action::Forking(command) => Ok(Action::Forking(command.copy(alloc)?)),
             Action::Starting(start) => { Ok(Action::Starting(start.copy(alloc)?)) },
             Action::ForkStage(stages) => Ok(Action::ForkStage(stages.copy(alloc)?)),
+            Action::ForkList(list) => Ok(Action::ForkList(list.copy(alloc)?)),
             Action::AssignLoopVariable(series) => {
                 Ok(Action::AssignLoopVariable(series.copy(alloc)?))
             },

@@ -6,7 +6,6 @@ mod action;
 mod copying;
 mod form;
 mod preparing;
-mod served;
 pub mod status;
 
 pub use action::{
@@ -17,5 +16,4 @@ pub use form::{Branches, Form, Frame, Loop};
 pub use preparing::{
     begin_command, failing, first_place, go_ahead, no_undo, not_done, perform, prepare,
 };
-pub use served::is_served;
 pub use status::CommandStatus;

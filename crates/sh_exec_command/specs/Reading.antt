@@ -1,21 +1,20 @@
 -- The next complete command of a text that is there whole (XCU 2.1): a shell reads one, runs it, and reads the next.
-use Rattle.std.specs.Prelude.{ℕ, zero, suc, List, [], ◌∷◌, drop, true, if◌then◌else◌, Result, Ok, Err}
+use Rattle.std.specs.Prelude.{ℕ, zero, suc, List, [], ◌∷◌, drop, true, Result, Ok, Err}
 use Rattle.sh_parse.specs.Aliases.{no_aliases}
 use Rattle.sh_parse.specs.Reading.{reading}
 use Rattle.sh_parse.specs.declared.Reading.{Reading}
 use Rattle.sh_parse.specs.declared.Reading.TheVariants.{Complete, Blank, More}
 use Rattle.sh_parse.specs.declared.ParseFault.{ParseFault}
 use Rattle.sh_parse.specs.declared.ParseFault.TheVariants.{Refused, Unclosed, BadSubstitution, TooDeep, NoMemory}
-use Rattle.sh_exec_actions.specs.Served.{serves}
 use Rattle.sh_exec_command.specs.declared.found.Found.{Found}
 use Rattle.sh_exec_command.specs.declared.found.Found.TheVariants.{Nothing, Command, Fault}
 use Rattle.sh_exec_command.specs.declared.found.Answer.{Answer}
 use Rattle.sh_exec_command.specs.declared.found.Answer.TheVariants as answer
 use Rattle.sh_exec_parts.specs.declared.message.Refusal.TheVariants as refusal
 
--- what a reading of a text that is there whole answers; a command that isn't served is refused
+-- what a reading of a text that is there whole answers
 abbrev pub answer_of : Result Reading ParseFault → Answer
-answer_of (Ok (Complete tree used)) = if serves tree then answer.Command tree used else answer.Fault refusal.Syntax
+answer_of (Ok (Complete tree used)) = answer.Command tree used
 answer_of (Ok (Blank used)) = answer.Blank used
 answer_of (Ok More) = answer.Fault refusal.Syntax
 answer_of (Err (Refused at used)) = answer.Fault refusal.Syntax

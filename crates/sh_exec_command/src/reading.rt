@@ -6,7 +6,6 @@ ghost use Rattle.sh_exec_command.specs.Reading.{answer_of, next_command};
 
 use crate::found::{Answer, Found};
 use sh_base::NoMemory;
-use sh_exec_actions::is_served;
 use sh_exec_parts::Rest;
 use sh_exec_parts::message::Refusal;
 use sh_parse::{Aliases, ParseFault, Reading, read_command};
@@ -17,12 +16,7 @@ fn read_once(alloc: Global, text: &[u8]) -> Result<Answer, NoMemory>
     ensures { IfOk result (λ answer. answer ≡ answer_of (reading no_aliases true text.now)) }
 {
     match read_command(alloc, text, true, &Aliases::new(alloc)) {
-        Ok(Reading::Complete { tree, used }) => {
-            if is_served(&tree) {
-                return Ok(Answer::Command(tree, used));
-            }
-            Ok(Answer::Fault(Refusal::Syntax))
-        },
+        Ok(Reading::Complete { tree, used }) => Ok(Answer::Command(tree, used)),
         Ok(Reading::Blank { used }) => Ok(Answer::Blank(used)),
         Ok(Reading::More) => Ok(Answer::Fault(Refusal::Syntax)),
         Err(ParseFault::Refused { .. }) => Ok(Answer::Fault(Refusal::Syntax)),

@@ -7,7 +7,7 @@ use Rattle.sh_exec_actions.specs.Preparing.{first_place}
 use Rattle.sh_exec_actions.specs.declared.action.Active.TheVariants.{Next}
 use Rattle.sh_exec_actions.specs.declared.action.Action.TheVariants.{Defining, Expanding}
 use Rattle.sh_exec_actions.specs.declared.action.ToExpand.TheVariants.{CaseWord, ForWords, Redirects}
-use Rattle.sh_exec_forms.specs.Entering.{Entry, and_or_run, and_or_step, command_entry, command_run, command_step, commands_run, commands_step, compound_list_step, compound_entry, compound_step, items_run, form_entry, form_step, item_run, with_others, list_item_step, list_run, with_negation, pipeline_run, pipeline_step, staging, is_subshell, redirected, to_enter, tree, trees, unless_subshell, no_entry}
+use Rattle.sh_exec_forms.specs.Entering.{Entry, and_or_run, and_or_step, command_entry, command_run, command_step, commands_run, commands_step, compound_list_step, compound_entry, compound_step, items_run, form_entry, form_step, item_run, with_others, list_item_step, list_run, separated, with_negation, pipeline_run, pipeline_step, staging, is_subshell, redirected, to_enter, tree, trees, unless_subshell, no_entry}
 use Rattle.sh_exec_forms.specs.Running.{Run, At, In}
 use Rattle.sh_exec_actions.specs.declared.form.Form.TheVariants.{Commands, Condition, If}
 use Rattle.sh_syntax.specs.declared.tree.AndOr.{AndOr}
@@ -21,6 +21,7 @@ use Rattle.sh_syntax.specs.declared.tree.CaseItem.{CaseItem}
 use Rattle.sh_syntax.specs.declared.tree.Name.{Name}
 use Rattle.sh_syntax.specs.declared.tree.Pipeline.{Pipeline}
 use Rattle.sh_syntax.specs.declared.tree.Redirect.{Redirect}
+use Rattle.sh_syntax.specs.declared.tree.Separator.TheVariants.{Sequential}
 use Rattle.sh_syntax.specs.declared.tree.SimpleItem.{SimpleItem}
 use Rattle.sh_syntax.specs.declared.tree.Word.{Word}
 use Rattle.sh_syntax.specs.declared.tree.Command.TheFolds as folds
@@ -47,7 +48,7 @@ unfolding list_run item_run
 list_is x = ap list_run (sym (view.roll-out-CompoundList x)) ∙ folds.para-roll-CompoundList Entry Entry (Unit {0}) (Unit {0}) (Unit {0}) Run (Unit {0}) Entry Run (Unit {0}) (Unit {0}) Run (Unit {0}) Run (Unit {0}) (Unit {0})
     command_step form_step no_entry no_entry no_entry and_or_step no_entry compound_step compound_list_step no_entry no_entry list_item_step no_entry pipeline_step no_entry no_entry (view.out-CompoundList x)
 
-pub item_is : (x : ListItem) → item_run x ≡ and_or_run (view.out-ListItem x).list
+pub item_is : (x : ListItem) → item_run x ≡ separated (view.out-ListItem x).separator (view.out-ListItem x).list (and_or_run (view.out-ListItem x).list)
 unfolding item_run and_or_run
 item_is x = ap item_run (sym (view.roll-out-ListItem x)) ∙ folds.para-roll-ListItem Entry Entry (Unit {0}) (Unit {0}) (Unit {0}) Run (Unit {0}) Entry Run (Unit {0}) (Unit {0}) Run (Unit {0}) Run (Unit {0}) (Unit {0})
     command_step form_step no_entry no_entry no_entry and_or_step no_entry compound_step compound_list_step no_entry no_entry list_item_step no_entry pipeline_step no_entry no_entry (view.out-ListItem x)
@@ -58,10 +59,10 @@ and_or_is x = ap and_or_run (sym (view.roll-out-AndOr x)) ∙ folds.para-roll-An
     command_step form_step no_entry no_entry no_entry and_or_step no_entry compound_step compound_list_step no_entry no_entry list_item_step no_entry pipeline_step no_entry no_entry (view.out-AndOr x)
     ∙ ap (λ rest. with_others rest (pipeline_run (view.out-AndOr x).first)) (trees_beside _ (view.out-AndOr x).rest)
 
-pub entered_with : (items : List ListItem) (item : ListItem) (others : List ListItem) (status : CommandStatus) → items ≡ item ∷ others → items_run items status ≡ In (Commands others) (and_or_run (view.out-ListItem item).list)
-entered_with items item others status e = ap (λ these. items_run these status) e ∙ behind_first item others status ∙ ap (In (Commands others)) (item_is item)
+pub entered_with : (items : List ListItem) (item : ListItem) (others : List ListItem) (status : CommandStatus) → items ≡ item ∷ others → items_run items status ≡ In (Commands others) (item_run item)
+entered_with items item others status e = ap (λ these. items_run these status) e ∙ behind_first item others status
 
-pub list_with : (x : CompoundList) (item : ListItem) (others : List ListItem) → (view.out-CompoundList x).items ≡ item ∷ others → list_run x ≡ In (Commands others) (and_or_run (view.out-ListItem item).list)
+pub list_with : (x : CompoundList) (item : ListItem) (others : List ListItem) → (view.out-CompoundList x).items ≡ item ∷ others → list_run x ≡ In (Commands others) (item_run item)
 list_with x item others e = list_is x ∙ entered_with (view.out-CompoundList x).items item others (unexcused 0) e
 
 -- ---- pipelines
@@ -74,20 +75,20 @@ pub alone : (x : Pipeline) → (view.out-Pipeline x).rest ≡ [] → commands_ru
 alone x e = ap (λ rest. commands_step (to_enter (view.out-Pipeline x).first) (map to_enter rest)) e
 
 several_as : (first : Command) (rest : List Command) (next : Command) (others : List Command) → rest ≡ next ∷ others
-    → commands_step (to_enter first) (map to_enter rest) ≡ At (Next (staging (first ∷ rest)))
+    → commands_step (to_enter first) (map to_enter rest) ≡ At (Next (staging Sequential (first ∷ rest)))
 several_as first rest next others e =
     ap (λ commands. commands_step (to_enter first) (map to_enter commands)) e
-    ∙ ap (λ commands. At (Next (staging (first ∷ next ∷ commands)))) (trees_beside command_entry others)
-    ∙ ap (λ commands. At (Next (staging (first ∷ commands)))) (sym e)
+    ∙ ap (λ commands. At (Next (staging Sequential (first ∷ next ∷ commands)))) (trees_beside command_entry others)
+    ∙ ap (λ commands. At (Next (staging Sequential (first ∷ commands)))) (sym e)
 
-pub several : (x : Pipeline) (next : Command) (others : List Command) → (view.out-Pipeline x).rest ≡ next ∷ others → commands_run x ≡ At (Next (staging (commands_of x)))
+pub several : (x : Pipeline) (next : Command) (others : List Command) → (view.out-Pipeline x).rest ≡ next ∷ others → commands_run x ≡ At (Next (staging Sequential (commands_of x)))
 several x next others e = several_as (view.out-Pipeline x).first (view.out-Pipeline x).rest next others e
 
-long_as : (first : Command) (rest : List Command) → 1 ≤ length rest → commands_step (to_enter first) (map to_enter rest) ≡ At (Next (staging (first ∷ rest)))
+long_as : (first : Command) (rest : List Command) → 1 ≤ length rest → commands_step (to_enter first) (map to_enter rest) ≡ At (Next (staging Sequential (first ∷ rest)))
 long_as first [] h = absurd (omega (arith, h))
 long_as first (next ∷ others) h = several_as first (next ∷ others) next others refl
 
-pub several_long : (x : Pipeline) → 1 ≤ length (view.out-Pipeline x).rest → commands_run x ≡ At (Next (staging (commands_of x)))
+pub several_long : (x : Pipeline) → 1 ≤ length (view.out-Pipeline x).rest → commands_run x ≡ At (Next (staging Sequential (commands_of x)))
 several_long x h = long_as (view.out-Pipeline x).first (view.out-Pipeline x).rest h
 
 -- ---- compound commands
@@ -132,7 +133,7 @@ unfolding form_entry list_run
 group_entered list whole = ap (λ entry. form_entry entry whole) (sym (form.rolls-Group list)) ∙ ap (λ entry. entry whole) (folds.para-roll-CompoundForm Entry Entry (Unit {0}) (Unit {0}) (Unit {0}) Run (Unit {0}) Entry Run (Unit {0}) (Unit {0}) Run (Unit {0}) Run (Unit {0}) (Unit {0})
     command_step form_step no_entry no_entry no_entry and_or_step no_entry compound_step compound_list_step no_entry no_entry list_item_step no_entry pipeline_step no_entry no_entry (layer.Group list))
 
-pub subshell_entered : (list : CompoundList) (whole : Command) → form_entry (form.Subshell list) whole ≡ At (Next (staging (whole ∷ [])))
+pub subshell_entered : (list : CompoundList) (whole : Command) → form_entry (form.Subshell list) whole ≡ At (Next (staging Sequential (whole ∷ [])))
 unfolding form_entry list_run
 subshell_entered list whole = ap (λ entry. form_entry entry whole) (sym (form.rolls-Subshell list)) ∙ ap (λ entry. entry whole) (folds.para-roll-CompoundForm Entry Entry (Unit {0}) (Unit {0}) (Unit {0}) Run (Unit {0}) Entry Run (Unit {0}) (Unit {0}) Run (Unit {0}) Run (Unit {0}) (Unit {0})
     command_step form_step no_entry no_entry no_entry and_or_step no_entry compound_step compound_list_step no_entry no_entry list_item_step no_entry pipeline_step no_entry no_entry (layer.Subshell list))

@@ -4,7 +4,7 @@ use Rattle.sh_exec_actions.specs.declared.action.Active.{Active}
 use Rattle.sh_exec_actions.specs.declared.status.CommandStatus.{CommandStatus}
 use Rattle.sh_exec_forms.proofs.Entered.{entered_with, list_with, pipeline_is}
 use Rattle.sh_exec_forms.proofs.Outward.{goes_runs}
-use Rattle.sh_exec_forms.specs.Entering.{and_or_run, commands_run, items_run, list_run, pipeline_run, with_negation}
+use Rattle.sh_exec_forms.specs.Entering.{commands_run, item_run, items_run, list_run, pipeline_run, with_negation}
 use Rattle.sh_exec_forms.specs.Stacks.{Goes, active_in, is_over, run_in}
 use Rattle.sh_exec_forms.specs.Running.{Run, At, In}
 use Rattle.sh_exec_actions.specs.declared.form.Form.{Form}
@@ -36,15 +36,15 @@ over before active target e = (refl, e)
 
 pub list_inside : (x : CompoundList) (item : ListItem) (others : List ListItem) (now mid before : List Form) (whole step : Step)
     → (view.out-CompoundList x).items ≡ item ∷ others → mid ≡ Commands others ∷ before
-    → Goes step now mid (and_or_run (view.out-ListItem item).list) → whole ≡ Inward (active_in step) → Goes whole now before (list_run x)
+    → Goes step now mid (item_run item) → whole ≡ Inward (active_in step) → Goes whole now before (list_run x)
 list_inside x item others now mid before whole step e m g w =
-    step_inside whole step now mid before (Commands others) (and_or_run (view.out-ListItem item).list) (list_run x) w g m (list_with x item others e)
+    step_inside whole step now mid before (Commands others) (item_run item) (list_run x) w g m (list_with x item others e)
 
 pub items_inside : (items : List ListItem) (item : ListItem) (others : List ListItem) (status : CommandStatus) (now mid before : List Form) (whole step : Step)
     → items ≡ item ∷ others → mid ≡ Commands others ∷ before
-    → Goes step now mid (and_or_run (view.out-ListItem item).list) → whole ≡ Inward (active_in step) → Goes whole now before (items_run items status)
+    → Goes step now mid (item_run item) → whole ≡ Inward (active_in step) → Goes whole now before (items_run items status)
 items_inside items item others status now mid before whole step e m g w =
-    step_inside whole step now mid before (Commands others) (and_or_run (view.out-ListItem item).list) (items_run items status) w g m (entered_with items item others status e)
+    step_inside whole step now mid before (Commands others) (item_run item) (items_run items status) w g m (entered_with items item others status e)
 
 -- `!`
 pub negated : (x : Pipeline) → (view.out-Pipeline x).is_negated ≡ true → pipeline_run x ≡ In Negated (commands_run x)

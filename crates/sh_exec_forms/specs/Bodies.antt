@@ -5,7 +5,7 @@ use Rattle.sh_exec_actions.specs.Preparing.{first_place}
 use Rattle.sh_exec_actions.specs.Statuses.{unexcused}
 use Rattle.sh_exec_actions.specs.declared.action.Active.TheVariants.{Next}
 use Rattle.sh_exec_actions.specs.declared.action.Action.TheVariants.{Ending}
-use Rattle.sh_exec_forms.specs.Entering.{Entry, Layer, command_run, items_run, list_item_step, redirected, trees, no_entry}
+use Rattle.sh_exec_forms.specs.Entering.{Entry, Layer, command_run, items_run, redirected, trees, no_entry}
 use Rattle.sh_exec_forms.specs.Running.{Run, At}
 use Rattle.sh_syntax.specs.declared.tree.AndOr.{AndOr}
 use Rattle.sh_syntax.specs.declared.tree.Command.{Command}
@@ -16,6 +16,8 @@ use Rattle.sh_syntax.specs.declared.tree.Compound.{Compound}
 use Rattle.sh_syntax.specs.declared.tree.CompoundForm.{CompoundForm}
 use Rattle.sh_syntax.specs.declared.tree.ListItem.{ListItem}
 use Rattle.sh_syntax.specs.declared.tree.Pipeline.{Pipeline}
+use Rattle.sh_syntax.specs.declared.tree.Separator.{Separator}
+use Rattle.sh_syntax.specs.declared.tree.Separator.TheVariants.{Sequential, Asynchronous}
 
 -- ---- a command that is all that a process runs
 abbrev pub own_form_step : Layer (Option Run) layer.CompoundForm-F → Entry
@@ -52,6 +54,14 @@ sole_run run (next ∷ others) = None
 abbrev pub sole_and_or_step : Layer (Option Run) layer.AndOr-F → Option Run
 sole_and_or_step list = sole_run list.first.1 list.rest
 
+-- an asynchronous list has a process of its own in any case
+abbrev pub sole_by : Separator → Option Run → Option Run
+sole_by Sequential run = run
+sole_by Asynchronous run = None
+
+abbrev pub sole_item_step : Layer (Option Run) layer.ListItem-F → Option Run
+sole_item_step item = sole_by item.separator item.list.1
+
 -- ---- a list that is all that a process runs
 abbrev pub sole_or_entered : ListItem → Option Run → Run
 sole_or_entered item None = items_run (item ∷ []) (unexcused 0)
@@ -68,31 +78,31 @@ body_step list = body_items list.items
 -- ---- each form of the syntax, from the innermost outward
 unfoldable pub body_of : CompoundList → Run
 body_of = folds.para-CompoundList Entry Entry (Unit {0}) (Unit {0}) (Unit {0}) (Option Run) (Unit {0}) Entry Run (Unit {0}) (Unit {0}) (Option Run) (Unit {0}) (Option Run) (Unit {0}) (Unit {0})
-    own_command_step own_form_step no_entry no_entry no_entry sole_and_or_step no_entry own_compound_step body_step no_entry no_entry list_item_step no_entry sole_pipeline_step no_entry no_entry
+    own_command_step own_form_step no_entry no_entry no_entry sole_and_or_step no_entry own_compound_step body_step no_entry no_entry sole_item_step no_entry sole_pipeline_step no_entry no_entry
 
 unfoldable pub sole_item : ListItem → Option Run
 sole_item = folds.para-ListItem Entry Entry (Unit {0}) (Unit {0}) (Unit {0}) (Option Run) (Unit {0}) Entry Run (Unit {0}) (Unit {0}) (Option Run) (Unit {0}) (Option Run) (Unit {0}) (Unit {0})
-    own_command_step own_form_step no_entry no_entry no_entry sole_and_or_step no_entry own_compound_step body_step no_entry no_entry list_item_step no_entry sole_pipeline_step no_entry no_entry
+    own_command_step own_form_step no_entry no_entry no_entry sole_and_or_step no_entry own_compound_step body_step no_entry no_entry sole_item_step no_entry sole_pipeline_step no_entry no_entry
 
 unfoldable pub sole_and_or : AndOr → Option Run
 sole_and_or = folds.para-AndOr Entry Entry (Unit {0}) (Unit {0}) (Unit {0}) (Option Run) (Unit {0}) Entry Run (Unit {0}) (Unit {0}) (Option Run) (Unit {0}) (Option Run) (Unit {0}) (Unit {0})
-    own_command_step own_form_step no_entry no_entry no_entry sole_and_or_step no_entry own_compound_step body_step no_entry no_entry list_item_step no_entry sole_pipeline_step no_entry no_entry
+    own_command_step own_form_step no_entry no_entry no_entry sole_and_or_step no_entry own_compound_step body_step no_entry no_entry sole_item_step no_entry sole_pipeline_step no_entry no_entry
 
 unfoldable pub sole_pipeline : Pipeline → Option Run
 sole_pipeline = folds.para-Pipeline Entry Entry (Unit {0}) (Unit {0}) (Unit {0}) (Option Run) (Unit {0}) Entry Run (Unit {0}) (Unit {0}) (Option Run) (Unit {0}) (Option Run) (Unit {0}) (Unit {0})
-    own_command_step own_form_step no_entry no_entry no_entry sole_and_or_step no_entry own_compound_step body_step no_entry no_entry list_item_step no_entry sole_pipeline_step no_entry no_entry
+    own_command_step own_form_step no_entry no_entry no_entry sole_and_or_step no_entry own_compound_step body_step no_entry no_entry sole_item_step no_entry sole_pipeline_step no_entry no_entry
 
 unfoldable pub own_entry : Command → Entry
 own_entry = folds.para-Command Entry Entry (Unit {0}) (Unit {0}) (Unit {0}) (Option Run) (Unit {0}) Entry Run (Unit {0}) (Unit {0}) (Option Run) (Unit {0}) (Option Run) (Unit {0}) (Unit {0})
-    own_command_step own_form_step no_entry no_entry no_entry sole_and_or_step no_entry own_compound_step body_step no_entry no_entry list_item_step no_entry sole_pipeline_step no_entry no_entry
+    own_command_step own_form_step no_entry no_entry no_entry sole_and_or_step no_entry own_compound_step body_step no_entry no_entry sole_item_step no_entry sole_pipeline_step no_entry no_entry
 
 unfoldable pub own_compound : Compound → Entry
 own_compound = folds.para-Compound Entry Entry (Unit {0}) (Unit {0}) (Unit {0}) (Option Run) (Unit {0}) Entry Run (Unit {0}) (Unit {0}) (Option Run) (Unit {0}) (Option Run) (Unit {0}) (Unit {0})
-    own_command_step own_form_step no_entry no_entry no_entry sole_and_or_step no_entry own_compound_step body_step no_entry no_entry list_item_step no_entry sole_pipeline_step no_entry no_entry
+    own_command_step own_form_step no_entry no_entry no_entry sole_and_or_step no_entry own_compound_step body_step no_entry no_entry sole_item_step no_entry sole_pipeline_step no_entry no_entry
 
 unfoldable pub own_form : CompoundForm → Entry
 own_form = folds.para-CompoundForm Entry Entry (Unit {0}) (Unit {0}) (Unit {0}) (Option Run) (Unit {0}) Entry Run (Unit {0}) (Unit {0}) (Option Run) (Unit {0}) (Option Run) (Unit {0}) (Unit {0})
-    own_command_step own_form_step no_entry no_entry no_entry sole_and_or_step no_entry own_compound_step body_step no_entry no_entry list_item_step no_entry sole_pipeline_step no_entry no_entry
+    own_command_step own_form_step no_entry no_entry no_entry sole_and_or_step no_entry own_compound_step body_step no_entry no_entry sole_item_step no_entry sole_pipeline_step no_entry no_entry
 
 -- a stage of a pipeline, or a subshell
 unfoldable pub stage_run : Command → Run

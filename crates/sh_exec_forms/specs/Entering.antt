@@ -4,10 +4,11 @@ use Rattle.sh_exec_actions.specs.Preparing.{first_place}
 use Rattle.sh_exec_actions.specs.Statuses.{unexcused}
 use Rattle.sh_exec_actions.specs.declared.action.Active.TheVariants.{Next, Done}
 use Rattle.sh_exec_actions.specs.declared.action.Action.{Action}
-use Rattle.sh_exec_actions.specs.declared.action.Action.TheVariants.{Defining, Expanding, ForkStage}
+use Rattle.sh_exec_actions.specs.declared.action.Action.TheVariants.{Defining, Expanding, ForkList, ForkStage}
 use Rattle.sh_exec_actions.specs.declared.action.ToExpand.TheVariants.{CaseWord, ForWords, Redirects}
 use Rattle.sh_exec_actions.specs.declared.status.CommandStatus.{CommandStatus}
 use Rattle.sh_exec_forms.specs.Running.{Run, At, In}
+use Rattle.sh_exec_parts.specs.Pipelines.{commands_of, is_negated}
 use Rattle.sh_exec_parts.specs.Simple.{Opened}
 use Rattle.sh_exec_actions.specs.declared.form.Form.TheVariants.{Commands, Condition, If, Joined, Negated}
 use Rattle.sh_syntax.specs.declared.tree.AndOr.{AndOr}
@@ -26,6 +27,8 @@ use Rattle.sh_syntax.specs.declared.tree.Part.{Part}
 use Rattle.sh_syntax.specs.declared.tree.Parts.{Parts}
 use Rattle.sh_syntax.specs.declared.tree.Pipeline.{Pipeline}
 use Rattle.sh_syntax.specs.declared.tree.Redirect.{Redirect}
+use Rattle.sh_syntax.specs.declared.tree.Separator.{Separator}
+use Rattle.sh_syntax.specs.declared.tree.Separator.TheVariants.{Sequential, Asynchronous}
 use Rattle.sh_syntax.specs.declared.tree.SimpleItem.{SimpleItem}
 use Rattle.sh_syntax.specs.declared.tree.Target.{Target}
 use Rattle.sh_syntax.specs.declared.tree.Word.{Word}
@@ -52,14 +55,14 @@ tree part = part.0
 abbrev pub trees : {A B : Type 0} → List (A × B) → List A
 trees parts = map tree parts
 
--- processes are made for these commands, one after another (2.9.2)
-abbrev pub staging : List Command → Action
-staging commands = ForkStage (record { commands = commands; aside = None; children = [] })
+-- processes are made for these commands, one after another (2.9.2); the shell waits for them then, or goes on at once
+abbrev pub staging : Separator → List Command → Action
+staging separator commands = ForkStage (record { commands = commands; aside = None; children = []; separator = separator })
 
 -- ---- compound commands (2.9.4): a subshell is a pipeline of one process
 abbrev pub form_step : Layer Run layer.CompoundForm-F → Entry
 form_step (layer.Group list) command = list.1
-form_step (layer.Subshell list) command = At (Next (staging (command ∷ [])))
+form_step (layer.Subshell list) command = At (Next (staging Sequential (command ∷ [])))
 form_step (layer.If condition body else_ifs else_body) command =
     In (If (record { body = body.0; else_ifs = trees else_ifs; else_body = option_map tree else_body })) condition.1
 form_step (layer.Loop kind condition body) command =
@@ -100,7 +103,7 @@ command_step (layer.Function name body) command = At (Next (Defining command))
 -- ---- pipelines (2.9.2): a command alone runs in the shell, of several each in a process of its own
 abbrev pub commands_step : Command × Entry → List (Command × Entry) → Run
 commands_step command [] = command.1 command.0
-commands_step command (next ∷ others) = At (Next (staging (command.0 ∷ next.0 ∷ trees others)))
+commands_step command (next ∷ others) = At (Next (staging Sequential (command.0 ∷ next.0 ∷ trees others)))
 
 abbrev pub with_negation : Bool → Run → Run
 with_negation false run = run
@@ -117,8 +120,22 @@ with_others (next ∷ others) run = In (Joined (next ∷ others)) run
 abbrev pub and_or_step : Layer Run layer.AndOr-F → Run
 and_or_step list = with_others (trees list.rest) list.first.1
 
-abbrev pub list_item_step : {Way : Type 0} → Layer Way layer.ListItem-F → Way
-list_item_step item = item.list.1
+-- an asynchronous list (2.9.3.1): each command of a pipeline has a process of its own, as when the shell waits for it; any other list has
+-- one process, and so has a pipeline with `!`
+abbrev pub background_of : (is_negated : Bool) → List Connected → AndOr → Action
+background_of true others list = ForkList list
+background_of false [] list = staging Asynchronous (commands_of (view.out-AndOr list).first)
+background_of false (next ∷ others) list = ForkList list
+
+abbrev pub in_background : AndOr → Action
+in_background list = background_of (is_negated (view.out-AndOr list).first) (view.out-AndOr list).rest list
+
+abbrev pub separated : Separator → AndOr → Run → Run
+separated Sequential list run = run
+separated Asynchronous list run = At (Next (in_background list))
+
+abbrev pub list_item_step : Layer Run layer.ListItem-F → Run
+list_item_step item = separated item.separator item.list.0 item.list.1
 
 -- ---- AND-OR lists one after another (2.9.3), entered after a command that ended so
 abbrev pub items_step : List (ListItem × Run) → CommandStatus → Run

@@ -2,16 +2,18 @@
 ghost use Rattle.std.specs.Prelude.{◌≡◌, IfOk, None, option_map};
 ghost use Rattle.sh_exec_actions.specs.Statuses.{unexcused};
 ghost use Rattle.sh_exec_forms.specs.Bodies.{body_of, own_compound, own_form, sole_and_or, sole_item, sole_pipeline, stage_run};
-ghost use Rattle.sh_exec_forms.specs.Entering.{command_run, items_run};
+ghost use Rattle.sh_exec_forms.specs.Entering.{and_or_run, command_run, items_run};
 ghost use Rattle.sh_exec_forms.specs.Stacks.{run_in, run_of};
 
-use crate::entering::{enter, enter_command, redirected};
+use crate::entering::{enter, enter_and_or, enter_command, redirected};
 use sh_base::NoMemory;
 use sh_base::shared::Shared;
 use sh_exec_actions::{Action, Active, CommandStatus, first_place};
 use sh_exec_frames::Frames;
 use sh_exec_parts::{Queue, is_negated};
-use sh_syntax::tree::{AndOr, Command, Compound, CompoundForm, CompoundList, ListItem, Pipeline};
+use sh_syntax::tree::{
+    AndOr, Command, Compound, CompoundForm, CompoundList, ListItem, Pipeline, Separator,
+};
 use std::alloc::Global;
 
 /// A command that is entered as it would be in a shell of which it isn't all.
@@ -134,7 +136,10 @@ fn sole_item(
         ≡ option_map (run_in frames.old) (sole_item item.now)) }
     ensures none { IfOk result (λ active. active ≡ None → frames.new ≡ frames.old) }
 {
-    sole_and_or(alloc, frames, item.list.get())
+    match item.separator {
+        Separator::Sequential => sole_and_or(alloc, frames, item.list.get()),
+        Separator::Asynchronous => Ok(None),
+    }
 }
 
 /// Copies of AND-OR lists, entered.
@@ -163,4 +168,12 @@ pub fn body_of(alloc: Global, frames: &mut Frames, list: &CompoundList) -> Resul
         },
         [_, _, ..] => enter_copies(alloc, frames, items),
     }
+}
+
+/// An asynchronous list (2.9.3.1) for which one process is made. The only error is want of memory.
+pub fn list_body(alloc: Global, frames: &mut Frames, list: &AndOr) -> Result<Active, NoMemory>
+    ensures { IfOk result (λ active. run_of frames.new active ≡ run_in frames.old (and_or_run list.now)) }
+{
+    let step = enter_and_or(alloc, frames, list)?;
+    Ok(step.into_active())
 }

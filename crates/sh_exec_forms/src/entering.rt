@@ -2,7 +2,7 @@
 ghost use Rattle.std.specs.Prelude.{◌≡◌, ◌∷◌, [], IfOk, OnOk, None, option_map};
 ghost use Rattle.sh_exec_parts.specs.Pipelines.{commands_of};
 ghost use Rattle.sh_exec_actions.specs.Statuses.{unexcused};
-ghost use Rattle.sh_exec_forms.specs.Entering.{and_or_run, command_run, commands_run, compound_entry, form_entry, form_run, is_subshell, items_run, list_run, pipeline_run, staging, with_others};
+ghost use Rattle.sh_exec_forms.specs.Entering.{and_or_run, command_run, commands_run, compound_entry, form_entry, form_run, in_background, is_subshell, item_run, items_run, list_run, pipeline_run, staging, with_others};
 ghost use Rattle.sh_exec_forms.specs.Running.{Run};
 ghost use Rattle.sh_exec_forms.specs.Stacks.{Goes};
 ghost use Rattle.sh_syntax.specs.declared.tree.Command.TheViews as view;
@@ -18,28 +18,29 @@ use sh_exec_frames::Frames;
 use sh_exec_parts::{Queue, commands_of, is_negated};
 use sh_syntax::tree::{
     AndOr, Command, Compound, CompoundForm, CompoundList, Connected, ElseIf, ListItem, LoopKind,
-    Pipeline,
+    Pipeline, Separator,
 };
 use std::alloc::Global;
 
 /// Processes are to be made for these commands.
-fn staging(alloc: Global, commands: Sequence<Shared<Command>>) -> Action
-    ensures { result ≡ staging commands }
+fn staging(alloc: Global, separator: Separator, commands: Sequence<Shared<Command>>) -> Action
+    ensures { result ≡ staging separator commands }
 {
     Action::ForkStage(Stages {
         commands: Queue::new(commands),
         aside: None,
         children: Sequence::new(alloc),
+        separator,
     })
 }
 
 /// A subshell, for which a process is to be made.
 fn subshell(alloc: Global, command: &Shared<Command>) -> Result<Active, NoMemory>
-    ensures { IfOk result (λ active. active ≡ Active.Next (staging (command.now ∷ []))) }
+    ensures { IfOk result (λ active. active ≡ Active.Next (staging Separator.Sequential (command.now ∷ []))) }
 {
     let mut commands = Sequence::new(alloc);
     commands.push(command.share()?)?;
-    Ok(Active::Next(staging(alloc, commands)))
+    Ok(Active::Next(staging(alloc, Separator::Sequential, commands)))
 }
 
 /// What an `if` runs after its condition.
@@ -270,10 +271,10 @@ pub(crate) fn enter_redirected(
 /// The commands of a pipeline of several.
 fn stages(alloc: Global, pipeline: &Pipeline) -> Result<Step, NoMemory>
     ensures { IfOk result (λ step.
-        step ≡ Step.Inward (Active.Next (staging (commands_of pipeline.now)))) }
+        step ≡ Step.Inward (Active.Next (staging Separator.Sequential (commands_of pipeline.now)))) }
 {
     let commands = commands_of(alloc, pipeline)?;
-    Ok(Step::Inward(Active::Next(staging(alloc, commands))))
+    Ok(Step::Inward(Active::Next(staging(alloc, Separator::Sequential, commands))))
 }
 
 /// The commands of a pipeline.
@@ -325,11 +326,41 @@ pub(crate) fn enter_joined(
 
 /// An AND-OR list.
 #[cycle(entering)]
-fn enter_and_or(alloc: Global, frames: &mut Frames, list: &AndOr) -> Result<Step, NoMemory>
+pub(crate) fn enter_and_or(
+    alloc: Global,
+    frames: &mut Frames,
+    list: &AndOr,
+) -> Result<Step, NoMemory>
     ensures { IfOk result (λ step. Goes step frames.new frames.old (and_or_run list.now)) }
 {
     let others = Queue::of_copies(alloc, list.rest.as_slice())?;
     enter_joined(alloc, frames, list.first.get(), others)
+}
+
+/// An asynchronous list (2.9.3.1), for which processes are to be made.
+fn in_background(alloc: Global, list: &Shared<AndOr>) -> Result<Active, NoMemory>
+    ensures { IfOk result (λ active. active ≡ Active.Next (in_background list.now)) }
+{
+    let pipeline = list.get().first.get();
+    if is_negated(pipeline) {
+        return Ok(Active::Next(Action::ForkList(list.share()?)));
+    }
+    if let Some(_) = list.get().rest.as_slice().split_first() {
+        return Ok(Active::Next(Action::ForkList(list.share()?)));
+    }
+    let commands = commands_of(alloc, pipeline)?;
+    Ok(Active::Next(staging(alloc, Separator::Asynchronous, commands)))
+}
+
+/// An AND-OR list of a list.
+#[cycle(entering)]
+fn enter_item(alloc: Global, frames: &mut Frames, item: &ListItem) -> Result<Step, NoMemory>
+    ensures { IfOk result (λ step. Goes step frames.new frames.old (item_run item.now)) }
+{
+    match item.separator {
+        Separator::Sequential => enter_and_or(alloc, frames, item.list.get()),
+        Separator::Asynchronous => Ok(Step::Inward(in_background(alloc, &item.list)?)),
+    }
 }
 
 /// Copies of AND-OR lists that come after one.
@@ -349,7 +380,7 @@ pub fn enter_list(alloc: Global, frames: &mut Frames, list: &CompoundList) -> Re
         return Ok(Step::Outward(Active::Done(CommandStatus::unexcused(0))));
     };
     push_items(alloc, frames, others)?;
-    let step = enter_and_or(alloc, frames, item.list.get())?;
+    let step = enter_item(alloc, frames, item)?;
     Ok(step.inside())
 }
 
@@ -373,7 +404,7 @@ pub fn enter(
             return Err(lack);
         },
     }
-    let entered = enter_and_or(alloc, frames, item.list.get());
+    let entered = enter_item(alloc, frames, &item);
     drop(item);
     match entered {
         Ok(step) => Ok(step.inside()),

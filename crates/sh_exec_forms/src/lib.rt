@@ -10,7 +10,7 @@ mod loops;
 mod moves;
 mod step;
 
-pub use bodies::{body_of, stage};
+pub use bodies::{body_of, list_body, stage};
 pub use entering::{enter, enter_list};
 pub use forms::settle;
 pub use moves::go_to;

@@ -4,3 +4,6 @@ pub mod Kinds
 pub mod Reporting
 pub mod Waiting
 pub mod Writing
+pub mod Placed
+pub mod LineReading
+pub mod Awaiting

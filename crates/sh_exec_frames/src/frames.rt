@@ -152,6 +152,7 @@ impl Frames {
             Builtin::Trap => last,
             Builtin::True => last,
             Builtin::Unset => last,
+            Builtin::Wait => last,
         }
     }
 

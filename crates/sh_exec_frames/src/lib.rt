@@ -1,15 +1,19 @@
 //! The running forms of a shell round the place where it acts, as a stack, and what holds inside them; and what follows there when a
-//! built-in has acted, when a shell has written, and when it waits.
+//! built-in has acted, when a shell has written, when it waits, and when it reads a line for a built-in.
 #![tactic(auto)]
 
+mod awaiting;
 mod frames;
 mod kinds;
+mod line;
 mod reporting;
 mod waiting;
 mod writing;
 
+pub use awaiting::await_turn;
 pub use frames::Frames;
 pub use kinds::MOST_LEVELS;
+pub use line::read_line_turn;
 pub use reporting::behind;
 pub use waiting::{answer_turn, wait_turn};
 pub use writing::after_write;

@@ -17,6 +17,7 @@ fn at_completion(status: Completion) -> Active
         Completion::Left(leave) => Active::Leaving(leave),
         Completion::Runs(how, text) => Active::Evaluating(how, text),
         Completion::Reads(reader) => Active::Next(Action::ReadLine(reader)),
+        Completion::Waits(awaited) => Active::Next(Action::Awaiting(awaited)),
     }
 }
 

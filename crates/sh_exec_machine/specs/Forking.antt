@@ -1,9 +1,10 @@
 -- The processes that a shell makes (2.9.2, 2.13, 2.6.3). While a pipe is laid, its ends have the numbers 10
 -- and 11, which no script can name. A process that reads from the pipe before gets that end as 0; a process
 -- that writes to the new pipe gets its end as 1.
-use Rattle.std.specs.Prelude.{◌≡◌, ℕ, Bool, true, false, Option, Some, None, Result, Ok, Err}
+use Rattle.std.specs.Prelude.{◌≡◌, ℕ, List, Bool, true, false, Option, Some, None, Result, Ok, Err, codes}
 use Rattle.sh_kernel.specs.State.{KernelKept, KernelState, StandsAt}
-use Rattle.sh_kernel.specs.Calls.{close_call, dup_call, fork_call, pipe_call, put_back_call, set_aside_call}
+use Rattle.sh_exec_parts.specs.Redirections.{to_read}
+use Rattle.sh_kernel.specs.Calls.{close_call, dup_call, fork_call, open_call, pipe_call, put_back_call, set_aside_call}
 use Rattle.sh_kernel_descriptors.specs.declared.descriptor.DescriptorRef.TheVariants.{Number, Aside}
 use Rattle.sh_kernel_descriptors.specs.declared.fault.KernelFault.{KernelFault}
 
@@ -98,3 +99,11 @@ pub record HasForked (kernel : KernelKept) (pid end : Option ℕ) (f : Forked) :
   pub state : StandsAt kernel f.after
   pub child : pid ≡ f.child
   pub aside : end ≡ f.aside
+
+-- ---- the standard input of an asynchronous list where there is no job control (2.9.3.1): /dev/null, which is set aside in the shell until
+-- the process is made. The path is absolute, so the directory is of no account
+unfoldable pub after_null : List ℕ → KernelState → ℕ → KernelState
+after_null directory s pid = (open_call s pid directory (codes "/dev/null") to_read false 10).after
+
+unfoldable pub null_laid : List ℕ → KernelState → ℕ → Laid
+null_laid directory s pid = set_aside (after_null directory s pid) pid

@@ -1,9 +1,11 @@
 //! Making a process between pipes.
 ghost use Rattle.std.specs.Prelude.{◌≡◌, IfOk, OnOk};
 ghost use Rattle.sh_kernel.specs.State.{KernelState, StandsAt};
-ghost use Rattle.sh_exec_machine.specs.Forking.{HasForked, HasLaid, after_close, with_pipe_ends, without_aside, after_duplication, fork_between, fork_of, with_child, laid, let_go, after_move, after_pipe, reads_from, set_aside, taken_up, without_child};
+ghost use Rattle.sh_exec_machine.specs.Forking.{HasForked, HasLaid, after_close, after_null, null_laid, with_pipe_ends, without_aside, after_duplication, fork_between, fork_of, with_child, laid, let_go, after_move, after_pipe, reads_from, set_aside, taken_up, without_child};
 
+use crate::redirecting::open;
 use sh_base::NoMemory;
+use sh_exec_parts::redirection::TO_READ;
 use sh_kernel::{DescriptorRef, Kernel, KernelFault};
 
 /// The number at which a new process finds the end of a pipe to read from, until it is moved to 0.
@@ -224,4 +226,40 @@ pub fn fork_process(
     take_up(kernel, pid, before);
     let forked = fork_between(kernel, pid, before.is_some(), writes, aside)?;
     Ok(forked)
+}
+
+/// Opens `/dev/null` at the number of an end to read from.
+#[tactic(auto, unfolding(crate::specs::Forking::after_null))]
+fn open_null(kernel: &mut Kernel, pid: u32, directory: &[u8]) -> Result<(), NoMemory>
+    ensures state { (s : KernelState) → StandsAt kernel.old s
+        → OnOk result (StandsAt kernel.new (after_null directory.now s pid)) }
+    ensures terminal { kernel.new.terminal ≡ kernel.old.terminal }
+{
+    let _told = open(
+        kernel,
+        pid,
+        directory,
+        b"/dev/null",
+        TO_READ,
+        false,
+        READ_END,
+    )?;
+    Ok(())
+}
+
+/// Opens `/dev/null`, which the first process of an asynchronous list reads where there is no job control (XCU 2.9.3.1), and sets it aside:
+/// [`fork_process`] takes it as the end before. The directory is of no account, since the path is absolute. The only error is want of
+/// memory.
+#[tactic(auto, unfolding(crate::specs::Forking::null_laid))]
+pub fn lay_null_input(
+    kernel: &mut Kernel,
+    pid: u32,
+    directory: &[u8],
+) -> Result<Option<usize>, NoMemory>
+    ensures state { (s : KernelState) → StandsAt kernel.old s → IfOk result (λ aside.
+        HasLaid kernel.new aside (null_laid directory.now s pid)) }
+    ensures terminal { kernel.new.terminal ≡ kernel.old.terminal }
+{
+    open_null(kernel, pid, directory)?;
+    Ok(set_aside(kernel, pid))
 }

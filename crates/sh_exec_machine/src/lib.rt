@@ -8,7 +8,7 @@ mod undo;
 mod undone;
 mod waits;
 
-pub use fork::{Forked, fork_process};
+pub use fork::{Forked, fork_process, lay_null_input};
 pub use redirecting::{Redirected, redirect};
 pub use transfer::{ReadOutcome, WriteOutcome, give_bytes, take_bytes};
 pub use undo::end_redirections;

@@ -21,7 +21,7 @@ pub struct Redirected {
 }
 
 /// A number refers to what a path names.
-fn open(
+pub(crate) fn open(
     kernel: &mut Kernel,
     pid: u32,
     directory: &[u8],

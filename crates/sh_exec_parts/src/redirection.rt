@@ -72,7 +72,7 @@ fn number_or(default: u8, digits: Option<&Text>) -> Option<u8>
 }
 
 /// To read a file.
-const TO_READ: Opening = Opening {
+pub const TO_READ: Opening = Opening {
     read: true,
     write: false,
     create: false,

@@ -1,33 +1,38 @@
--- The actions of a shell that make a process: of a program, of a stage of a pipeline, of a command substitution.
+-- The actions of a shell that make a process: of a program, of a stage of a pipeline, of an asynchronous list, of a command substitution.
 use Rattle.std.specs.Prelude.{◌≡◌, ℕ, List, [], ◌∷◌, ◌++◌, Bool, true, false, length, nat_eq, not, Option, Some, None}
-use Rattle.sh_builtin.specs.Shells.{forked_shell}
+use Rattle.sh_builtin.specs.Shells.{after_launch, forked_shell}
 use Rattle.sh_builtin.specs.declared.shell.Shell.{Shell}
 use Rattle.sh_exec_parts.specs.Messages.{cannot_fork}
 use Rattle.sh_exec_command.specs.Expanding.{fatal}
 use Rattle.sh_exec_actions.specs.Preparing.{ahead}
-use Rattle.sh_exec_actions.specs.declared.action.Active.TheVariants.{Next}
+use Rattle.sh_exec_actions.specs.Statuses.{unexcused}
+use Rattle.sh_exec_actions.specs.declared.action.Active.{Active}
+use Rattle.sh_exec_actions.specs.declared.action.Active.TheVariants.{Done, Next}
 use Rattle.sh_exec_actions.specs.declared.action.Move.{Move}
 use Rattle.sh_exec_actions.specs.declared.action.Move.TheVariants as move
 use Rattle.sh_exec_actions.specs.declared.action.Pending.{Pending}
-use Rattle.sh_exec_actions.specs.declared.action.Action.{Action}
 use Rattle.sh_exec_actions.specs.declared.action.Action.TheVariants.{ReadSubstitution, ForkStage, Waiting}
 use Rattle.sh_exec_actions.specs.declared.action.ExpandedCommand.{ExpandedCommand}
 use Rattle.sh_exec_actions.specs.declared.action.Stages.{Stages}
 use Rattle.sh_exec_actions.specs.declared.action.Substitution.{Substitution}
 use Rattle.sh_exec_actions.specs.declared.action.ToExpand.{ToExpand}
 use Rattle.sh_exec_actions.specs.declared.action.ToExpand.TheVariants.{Words, Values, Redirects, ForWords, CaseWord, CasePattern}
-use Rattle.sh_exec_machine.specs.Forking.{fork_of}
+use Rattle.sh_exec_machine.specs.Forking.{Laid, fork_of, null_laid}
 use Rattle.sh_exec_forms.specs.Forms.{Acted, with_run}
 use Rattle.sh_exec_shell.specs.Acting.{in_forms}
 use Rattle.sh_exec_actions.specs.declared.form.Form.{Form}
 use Rattle.sh_exec_forms.specs.Bodies.{body_of, stage_run}
+use Rattle.sh_exec_forms.specs.Entering.{and_or_run}
 use Rattle.sh_exec_forms.specs.Moves.{move_run}
 use Rattle.sh_exec_forms.specs.Stacks.{run_in}
 use Rattle.sh_exec_frames.specs.Frames.{root_forms}
 use Rattle.sh_exec_forms.specs.Running.{InterpreterState, Run, At}
 use Rattle.sh_kernel.specs.State.{KernelKept, KernelState, StandsAt}
+use Rattle.sh_syntax.specs.declared.tree.AndOr.{AndOr}
 use Rattle.sh_syntax.specs.declared.tree.Command.{Command}
 use Rattle.sh_syntax.specs.declared.tree.CompoundList.{CompoundList}
+use Rattle.sh_syntax.specs.declared.tree.Separator.{Separator}
+use Rattle.sh_syntax.specs.declared.tree.Separator.TheVariants.{Sequential, Asynchronous}
 
 -- what a turn leaves, and what runs in the process that it made
 pub record Turned : Type 0 where
@@ -63,11 +68,30 @@ program_by s shell p None = with_child s shell (At (fatal cannot_fork)) None
 unfoldable pub fork_turn : KernelState → Shell → ExpandedCommand → Turned
 fork_turn s shell p = let f = fork_of s shell.pid None false in program_by f.after shell p f.child
 
--- ---- a stage (2.9.2), or a subshell: the shell waits once all have a process
-abbrev pub stage_place : List Command → Option ℕ → List ℕ → Action
-stage_place [] aside children = Waiting children
-stage_place (command ∷ commands) aside children =
-    ForkStage (record { commands = command ∷ commands; aside = aside; children = children })
+-- ---- a stage (2.9.2), or a subshell: once all have a process the shell waits for them; of an asynchronous list (2.9.3.1) it knows them
+-- then, and goes on at once with 0
+abbrev pub made_place : Separator → List ℕ → Active
+made_place Sequential children = Next (Waiting children)
+made_place Asynchronous children = Done (unexcused 0)
+
+abbrev pub made_shell : Separator → Shell → List ℕ → Shell
+made_shell Sequential shell children = shell
+made_shell Asynchronous shell children = after_launch shell children
+
+abbrev pub stage_place : Separator → List Command → Option ℕ → List ℕ → Active
+stage_place separator [] aside children = made_place separator children
+stage_place separator (command ∷ commands) aside children =
+    Next (ForkStage (record { commands = command ∷ commands; aside = aside; children = children; separator = separator }))
+
+abbrev pub stage_shell : Separator → List Command → Shell → List ℕ → Shell
+stage_shell separator [] shell children = made_shell separator shell children
+stage_shell separator (command ∷ commands) shell children = shell
+
+-- the first process of an asynchronous list has nothing to read, as there is no job control; a further one reads from the pipe before it
+abbrev pub stage_input : Separator → (before : List ℕ) → (aside : Option ℕ) → Shell → KernelState → Laid
+stage_input Sequential before aside shell s = record { aside = aside; after = s }
+stage_input Asynchronous [] aside shell s = null_laid shell.vars.directory s shell.pid
+stage_input Asynchronous (child ∷ children) aside shell s = record { aside = aside; after = s }
 
 abbrev pub is_more : List Command → Bool
 is_more commands = not (nat_eq (length commands) 0)
@@ -75,12 +99,15 @@ is_more commands = not (nat_eq (length commands) 0)
 -- stages: those behind the one of this command
 abbrev pub stage_by : KernelState → Shell → Command → Stages → Option ℕ → Turned
 stage_by s shell command stages (Some pid) =
-    with_child s shell (At (Next (stage_place stages.commands stages.aside (stages.children ++ pid ∷ [])))) (child_of pid shell (stage_run command))
+    let children = stages.children ++ pid ∷ [] in
+    with_child s (stage_shell stages.separator stages.commands shell children)
+    (At (stage_place stages.separator stages.commands stages.aside children)) (child_of pid shell (stage_run command))
 stage_by s shell command stages None = with_child s shell (At (fatal cannot_fork)) None
 
 unfoldable pub stage_one : KernelState → Shell → Command → Stages → Turned
 stage_one s shell command stages =
-    let f = fork_of s shell.pid stages.aside (is_more stages.commands) in
+    let l = stage_input stages.separator stages.children stages.aside shell s in
+    let f = fork_of l.after shell.pid l.aside (is_more stages.commands) in
     stage_by f.after shell command (record stages { aside = f.aside }) f.child
 
 abbrev pub stage_from : KernelState → Shell → Stages → List Command → Turned
@@ -89,6 +116,17 @@ stage_from s shell stages (command ∷ commands) = stage_one s shell command (re
 
 unfoldable pub stage_turn : KernelState → Shell → Stages → Turned
 stage_turn s shell stages = stage_from s shell stages stages.commands
+
+-- ---- an asynchronous list (2.9.3.1) that has one process
+abbrev pub list_by : KernelState → Shell → AndOr → Option ℕ → Turned
+list_by s shell list (Some pid) =
+    with_child s (after_launch shell (pid ∷ [])) (At (Done (unexcused 0))) (child_of pid shell (and_or_run list))
+list_by s shell list None = with_child s shell (At (fatal cannot_fork)) None
+
+unfoldable pub list_turn : KernelState → Shell → AndOr → Turned
+list_turn s shell list =
+    let l = null_laid shell.vars.directory s shell.pid in
+    let f = fork_of l.after shell.pid l.aside false in list_by f.after shell list f.child
 
 -- ---- a command substitution (2.6.3)
 -- where it can't have a process, what the command changed is undone after the message

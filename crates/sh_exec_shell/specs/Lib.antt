@@ -1,4 +1,3 @@
 pub mod Acting
 pub mod Forks
-pub mod LineReading
 pub mod Reduction

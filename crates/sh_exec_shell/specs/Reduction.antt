@@ -10,11 +10,13 @@ use Rattle.sh_exec_actions.specs.declared.action.Active.TheVariants.{Acting, Cal
 use Rattle.sh_exec_actions.specs.declared.action.Expanded.{Expanded}
 use Rattle.sh_exec_actions.specs.declared.action.Expanded.TheVariants as expanded
 use Rattle.sh_exec_actions.specs.declared.action.Action.{Action}
-use Rattle.sh_exec_actions.specs.declared.action.Action.TheVariants.{Reading, Expanding, ReadSubstitution, WaitSubstitution, ReadLine, Redirecting, Forking, Starting, ForkStage, AssignLoopVariable, Defining, Waiting, Writing, Trapping, Ending}
+use Rattle.sh_exec_actions.specs.declared.action.Action.TheVariants.{Reading, Expanding, ReadSubstitution, WaitSubstitution, ReadLine, Awaiting, Redirecting, Forking, Starting, ForkStage, ForkList, AssignLoopVariable, Defining, Waiting, Writing, Trapping, Ending}
 use Rattle.sh_exec_shell.specs.Acting.{collect_turn, defined, end_turn, ending, expand_turn, given_round, next, read_turn, redirect_turn, trap_turn, write_turn}
+use Rattle.sh_exec_frames.specs.Awaiting.{await_turn}
+use Rattle.sh_exec_frames.specs.LineReading.{read_line_turn}
+use Rattle.sh_exec_frames.specs.Placed.{Placed}
 use Rattle.sh_exec_frames.specs.Waiting.{answer_turn, wait_turn}
-use Rattle.sh_exec_shell.specs.Forks.{Turned, fork_turn, inheriting, stage_turn, substitute_turn}
-use Rattle.sh_exec_shell.specs.LineReading.{read_line_turn}
+use Rattle.sh_exec_shell.specs.Forks.{Turned, fork_turn, inheriting, list_turn, stage_turn, substitute_turn}
 use Rattle.sh_exec_forms.specs.Forms.{Acted, with_run, after, at_action}
 use Rattle.sh_exec_forms.specs.Moves.{move_run}
 use Rattle.sh_exec_frames.specs.Frames.{ends_shell, is_failure_ignored}
@@ -24,6 +26,9 @@ use Rattle.sh_kernel.specs.State.{KernelState}
 
 abbrev pub plain : Acted → Turned
 plain a = record { left = a; child = None }
+
+abbrev pub placed : Placed → Turned
+placed p = plain (with_run p.machine p.shell (At p.active))
 
 -- a need is a command substitution, whose process is made in the same turn
 abbrev pub expanded_by : KernelState → Shell → Expanded → Turned
@@ -39,11 +44,13 @@ act_place around s shell (Reading rest status) = plain (with_run s shell (read_t
 act_place around s shell (Expanding wants pending) = expansion s shell (expand_turn s.machine.files shell.vars shell.functions wants pending)
 act_place around s shell (ReadSubstitution substitution) = plain (collect_turn s shell substitution)
 act_place around s shell (WaitSubstitution substitution) = plain (with_run s shell (next (answer_turn s shell.pid substitution)))
-act_place around s shell (ReadLine reader) = plain (read_line_turn s shell reader)
+act_place around s shell (ReadLine reader) = placed (read_line_turn s shell reader)
+act_place around s shell (Awaiting awaited) = placed (await_turn s shell awaited)
 act_place around s shell (Redirecting p) = plain (redirect_turn s shell p)
 act_place around s shell (Forking p) = fork_turn s shell p
 act_place around s shell (Starting start) = plain (with_run s shell (next (Starting start)))
 act_place around s shell (ForkStage stages) = stage_turn s shell stages
+act_place around s shell (ForkList list) = list_turn s shell list
 act_place around s shell (AssignLoopVariable series) = plain (given_round s shell (give_turn shell.vars series))
 act_place around s shell (Defining definition) = plain (defined s shell definition)
 act_place around s shell (Waiting children) = plain (with_run s shell (At (wait_turn s shell.pid children)))

@@ -1,13 +1,15 @@
 //! The turns of a shell that make a process.
-ghost use Rattle.std.specs.Prelude.{◌≡◌, ◌++◌, ◌∷◌, [], IfOk, true};
+ghost use Rattle.std.specs.Prelude.{◌≡◌, ◌++◌, ◌∷◌, [], IfOk, OnOk, true};
 ghost use Rattle.sh_kernel.specs.State.{KernelState, StandsAt};
-ghost use Rattle.sh_builtin.specs.Shells.{forked_shell};
+ghost use Rattle.sh_builtin.specs.Shells.{after_launch, forked_shell};
 ghost use Rattle.sh_exec_parts.specs.Messages as messages;
 ghost use Rattle.sh_exec_command.specs.Expanding as expanding;
 ghost use Rattle.sh_exec_actions.specs.Preparing.{ahead};
-ghost use Rattle.sh_exec_machine.specs.Forking.{HasForked};
-ghost use Rattle.sh_exec_shell.specs.Forks.{IsTurned, begun_substitution, child_of, fork_turn, in_process, inherited, inheriting, inside, is_more, program_by, stage_by, stage_from, stage_one, stage_turn, stage_place, substitute_turn, substitution_by, with_child, fork_failure};
+ghost use Rattle.sh_exec_actions.specs.Statuses.{unexcused};
+ghost use Rattle.sh_exec_machine.specs.Forking.{HasForked, HasLaid, null_laid};
+ghost use Rattle.sh_exec_shell.specs.Forks.{IsTurned, begun_substitution, child_of, fork_turn, in_process, inherited, inheriting, inside, is_more, list_by, list_turn, made_place, made_shell, program_by, stage_by, stage_from, stage_input, stage_one, stage_shell, stage_turn, stage_place, substitute_turn, substitution_by, with_child, fork_failure};
 ghost use Rattle.sh_exec_forms.specs.Bodies.{body_of, stage_run};
+ghost use Rattle.sh_exec_forms.specs.Entering.{and_or_run};
 ghost use Rattle.sh_exec_forms.specs.Moves.{move_run};
 ghost use Rattle.sh_exec_forms.specs.Running.{Run};
 ghost use Rattle.sh_exec_forms.specs.Stacks.{run_in, run_of};
@@ -19,17 +21,19 @@ use sh_base::sequence::{Sequence, Text};
 use sh_base::shared::Shared;
 use sh_builtin::Shell;
 use sh_exec_actions::{
-    Action, Active, ExpandedCommand, Move, Pending, Stages, Substitution, ToExpand, go_ahead,
+    Action, Active, CommandStatus, ExpandedCommand, Move, Pending, Stages, Substitution, ToExpand,
+    go_ahead,
 };
 use sh_exec_command::fatal_message;
-use sh_exec_forms::{body_of, go_to, stage};
+use sh_exec_forms::{body_of, go_to, list_body, stage};
 use sh_exec_frames::Frames;
-use sh_exec_machine::{Forked, fork_process};
+use sh_exec_machine::{Forked, fork_process, lay_null_input};
 use sh_exec_parts::Queue;
 use sh_exec_parts::message::cannot_fork;
 use sh_kernel::Kernel;
-use sh_syntax::tree::{Command, CompoundList};
+use sh_syntax::tree::{AndOr, Command, CompoundList, Separator};
 use std::alloc::Global;
+use std::slice;
 
 /// No process can be made.
 fn refused(alloc: Global) -> Result<Active, NoMemory>
@@ -138,34 +142,88 @@ pub(crate) fn fork_turn(
     }
 }
 
+/// Where a pipeline goes on once all its commands have a process.
+fn made(
+    shell: &mut Shell,
+    separator: Separator,
+    children: Sequence<u32>,
+) -> Result<Active, NoMemory>
+    ensures place { IfOk result (λ active. active ≡ made_place separator children) }
+    ensures shell { OnOk result (shell.new ≡ made_shell separator shell.old children) }
+{
+    match separator {
+        Separator::Sequential => Ok(Active::Next(Action::Waiting(children))),
+        Separator::Asynchronous => {
+            shell.launch(children.as_slice())?;
+            Ok(Active::Done(CommandStatus::unexcused(0)))
+        },
+    }
+}
+
 /// Where a pipeline goes on after one of its processes.
-fn staged(commands: Queue<Shared<Command>>, aside: Option<usize>, children: Sequence<u32>) -> Action
-    ensures { result ≡ stage_place commands aside children }
+fn staged(
+    shell: &mut Shell,
+    separator: Separator,
+    commands: Queue<Shared<Command>>,
+    aside: Option<usize>,
+    children: Sequence<u32>,
+) -> Result<Active, NoMemory>
+    ensures place { IfOk result (λ active.
+        active ≡ stage_place separator commands aside children) }
+    ensures shell { OnOk result (shell.new ≡ stage_shell separator commands shell.old children) }
 {
     if commands.is_empty() {
-        return Action::Waiting(children);
+        drop(commands);
+        return made(shell, separator, children);
     }
-    Action::ForkStage(Stages {
+    Ok(Active::Next(Action::ForkStage(Stages {
         commands,
         aside,
         children,
-    })
+        separator,
+    })))
 }
 
 /// Where a pipeline goes on after a process that was made.
 fn next_stage(
+    shell: &mut Shell,
+    separator: Separator,
     commands: Queue<Shared<Command>>,
     aside: Option<usize>,
     children: Sequence<u32>,
     child: u32,
-) -> Result<Action, NoMemory>
-    ensures { IfOk result (λ place. place ≡ stage_place commands aside (children ++ child ∷ [])) }
+) -> Result<Active, NoMemory>
+    ensures place { IfOk result (λ active.
+        active ≡ stage_place separator commands aside (children ++ child ∷ [])) }
+    ensures shell { OnOk result
+        (shell.new ≡ stage_shell separator commands shell.old (children ++ child ∷ [])) }
 {
     match one_more(children, child) {
-        Ok(children) => Ok(staged(commands, aside, children)),
+        Ok(children) => staged(shell, separator, commands, aside, children),
         Err(refusal) => {
             drop(commands);
             Err(refusal)
+        },
+    }
+}
+
+/// What the process of a stage reads, as it is set aside: of the first one of an asynchronous list nothing.
+fn stage_input(
+    kernel: &mut Kernel,
+    shell: &Shell,
+    separator: Separator,
+    before: &[u32],
+    aside: Option<usize>,
+) -> Result<Option<usize>, NoMemory>
+    ensures state { (s : KernelState) → StandsAt kernel.old s → IfOk result (λ input.
+        HasLaid kernel.new input (stage_input separator before.now aside shell.now s)) }
+    ensures terminal { kernel.new.terminal ≡ kernel.old.terminal }
+{
+    match separator {
+        Separator::Sequential => Ok(aside),
+        Separator::Asynchronous => match before {
+            [] => lay_null_input(kernel, shell.pid, shell.vars.directory()),
+            [_, ..] => Ok(aside),
         },
     }
 }
@@ -202,22 +260,32 @@ fn put_stage(
 fn stage_one(
     alloc: Global,
     kernel: &mut Kernel,
-    shell: &Shell,
+    shell: &mut Shell,
     ignores_failure: bool,
     command: Shared<Command>,
     stages: Stages,
 ) -> Result<(Active, Option<Interpreter>), NoMemory>
     ensures state { (s : KernelState) → StandsAt kernel.old s → IfOk result (λ r.
-        IsTurned kernel.new shell.now (Run.At r.0) r.1
-        (inheriting ignores_failure (stage_one s shell.now command stages))) }
+        IsTurned kernel.new shell.new (Run.At r.0) r.1
+        (inheriting ignores_failure (stage_one s shell.old command stages))) }
     ensures terminal { kernel.new.terminal ≡ kernel.old.terminal }
 {
     let Stages {
         commands,
         aside,
         children,
+        separator,
     } = stages;
-    let forked = match fork_process(kernel, shell.pid, aside, !commands.is_empty()) {
+    let input = match stage_input(kernel, shell, separator, children.as_slice(), aside) {
+        Ok(input) => input,
+        Err(lack) => {
+            drop(command);
+            drop(commands);
+            drop(children);
+            return Err(lack);
+        },
+    };
+    let forked = match fork_process(kernel, shell.pid, input, !commands.is_empty()) {
         Ok(forked) => forked,
         Err(lack) => {
             drop(command);
@@ -236,8 +304,8 @@ fn stage_one(
                     return Err(refusal);
                 },
             };
-            match next_stage(commands, forked.aside, children, child) {
-                Ok(place) => Ok((Active::Next(place), Some(made))),
+            match next_stage(shell, separator, commands, forked.aside, children, child) {
+                Ok(active) => Ok((active, Some(made))),
                 Err(refusal) => {
                     drop(made);
                     Err(refusal)
@@ -259,13 +327,13 @@ fn stage_one(
 pub(crate) fn stage_turn(
     alloc: Global,
     kernel: &mut Kernel,
-    shell: &Shell,
+    shell: &mut Shell,
     ignores_failure: bool,
     stages: Stages,
 ) -> Result<(Active, Option<Interpreter>), NoMemory>
     ensures state { (s : KernelState) → StandsAt kernel.old s → IfOk result (λ r.
-        IsTurned kernel.new shell.now (Run.At r.0) r.1
-        (inheriting ignores_failure (stage_turn s shell.now stages))) }
+        IsTurned kernel.new shell.new (Run.At r.0) r.1
+        (inheriting ignores_failure (stage_turn s shell.old stages))) }
     ensures terminal { kernel.new.terminal ≡ kernel.old.terminal }
 {
     let mut stages = stages;
@@ -274,6 +342,89 @@ pub(crate) fn stage_turn(
     };
     let (active, child) = stage_one(alloc, kernel, shell, ignores_failure, command, stages)?;
     Ok((active, child))
+}
+
+/// The process of an asynchronous list is made.
+fn put_list(
+    alloc: Global,
+    shell: &Shell,
+    ignores_failure: bool,
+    list: Shared<AndOr>,
+    child: u32,
+) -> Result<Interpreter, NoMemory>
+    ensures { IfOk result (λ made.
+        made ≡ record {
+          shell = forked_shell child shell.now;
+          run = in_process ignores_failure (and_or_run list);
+        }) }
+{
+    let mut frames = match Frames::of_process(alloc, ignores_failure) {
+        Ok(frames) => frames,
+        Err(lack) => {
+            drop(list);
+            return Err(lack);
+        },
+    };
+    let active = list_body(alloc, &mut frames, list.get());
+    drop(list);
+    let active = active?;
+    with_copy(alloc, child, shell, frames, active)
+}
+
+/// The shell goes on beside the process of an asynchronous list.
+fn go_on_beside(shell: &mut Shell, child: u32) -> Result<Active, NoMemory>
+    ensures shell { OnOk result (shell.new ≡ after_launch shell.old (child ∷ [])) }
+    ensures place { IfOk result (λ active. active ≡ Active.Done (unexcused 0)) }
+{
+    shell.launch(slice::from_ref(&child))?;
+    Ok(Active::Done(CommandStatus::unexcused(0)))
+}
+
+/// The turn in which the process of an asynchronous list is made (XCU 2.9.3.1), where that has one.
+#[tactic(auto, unfolding(crate::specs::Forks::list_turn))]
+pub(crate) fn list_turn(
+    alloc: Global,
+    kernel: &mut Kernel,
+    shell: &mut Shell,
+    ignores_failure: bool,
+    list: Shared<AndOr>,
+) -> Result<(Active, Option<Interpreter>), NoMemory>
+    ensures state { (s : KernelState) → StandsAt kernel.old s → IfOk result (λ r.
+        IsTurned kernel.new shell.new (Run.At r.0) r.1
+        (inheriting ignores_failure (list_turn s shell.old list))) }
+    ensures terminal { kernel.new.terminal ≡ kernel.old.terminal }
+{
+    let input = match lay_null_input(kernel, shell.pid, shell.vars.directory()) {
+        Ok(input) => input,
+        Err(lack) => {
+            drop(list);
+            return Err(lack);
+        },
+    };
+    let forked = match fork_process(kernel, shell.pid, input, false) {
+        Ok(forked) => forked,
+        Err(lack) => {
+            drop(list);
+            return Err(lack);
+        },
+    };
+    match forked.child {
+        Some(child) => {
+            let made = put_list(alloc, shell, ignores_failure, list, child)?;
+            match go_on_beside(shell, child) {
+                Ok(active) => Ok((active, Some(made))),
+                Err(refusal) => {
+                    drop(made);
+                    Err(refusal)
+                },
+            }
+        },
+        None => {
+            drop(list);
+            let active = refused(alloc)?;
+            Ok((active, None))
+        },
+    }
 }
 
 /// Where a command goes on when no process can be made for its substitution.

@@ -4,7 +4,6 @@
 mod forks;
 mod input;
 mod interpreter;
-mod line;
 mod output;
 mod redirecting;
 mod turn;

@@ -13,10 +13,9 @@ ghost use Rattle.sh_exec_forms.specs.Running.{Run};
 ghost use Rattle.sh_exec_forms.specs.Stacks.{run_in, run_of};
 ghost use Rattle.sh_exec_frames.specs.Frames.{ends_shell, is_failure_ignored};
 
-use crate::forks::{fork_turn, stage_turn, substitute_turn};
+use crate::forks::{fork_turn, list_turn, stage_turn, substitute_turn};
 use crate::input::collect_turn;
 use crate::interpreter::Interpreter;
-use crate::line::read_line_turn;
 use crate::output::{end_turn, write_turn};
 use crate::redirecting::redirect_turn;
 use sh_base::NoMemory;
@@ -32,7 +31,7 @@ use sh_exec_command::{
     redirects_turn, series_turn, words_turn,
 };
 use sh_exec_forms::{enter, enter_list, go_to, settle};
-use sh_exec_frames::{Frames, answer_turn, wait_turn};
+use sh_exec_frames::{Frames, answer_turn, await_turn, read_line_turn, wait_turn};
 use sh_exec_parts::message::{Refusal, refused};
 use sh_exec_parts::{Queue, Rest};
 use sh_files::Files;
@@ -307,6 +306,7 @@ fn act_place(
             let active = read_line_turn(alloc, kernel, shell, reader)?;
             Ok((active, None))
         },
+        Action::Awaiting(awaited) => Ok((await_turn(kernel, shell, awaited), None)),
         Action::Redirecting(prepared) => {
             let active = redirect_turn(alloc, kernel, shell, frames, prepared)?;
             Ok((active, None))
@@ -329,6 +329,16 @@ fn act_place(
                 shell,
                 frames.is_failure_ignored(),
                 stages,
+            )?;
+            Ok((active, child))
+        },
+        Action::ForkList(list) => {
+            let (active, child) = list_turn(
+                alloc,
+                kernel,
+                shell,
+                frames.is_failure_ignored(),
+                list,
             )?;
             Ok((active, child))
         },

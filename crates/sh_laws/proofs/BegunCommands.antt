@@ -1,8 +1,9 @@
 -- Syntax that begins with an action is entered to one.
 use Rattle.std.proofs.Common.{◌≡◌, List, [], ◌∷◌, map, Bool, true, false, sym, ap, ◌∙◌, subst}
 use Rattle.sh_exec_forms.specs.Running.{Run}
-use Rattle.sh_exec_forms.specs.Entering.{and_or_run, command_entry, command_run, commands_run, commands_step, form_entry, is_subshell, list_run, pipeline_run, redirected, to_enter, unless_subshell, with_negation, with_others}
-use Rattle.sh_exec_forms.proofs.Entered.{and_or_is, case_entered, compound_entered, compound_is, for_entered, for_parameters_entered, function_entered, group_entered, if_entered, list_with, loop_entered, pipeline_is, simple_entered, subshell_entered, trees_beside}
+use Rattle.sh_exec_parts.specs.Pipelines.{commands_of, is_negated}
+use Rattle.sh_exec_forms.specs.Entering.{and_or_run, background_of, command_entry, command_run, commands_run, commands_step, form_entry, is_subshell, item_run, list_run, pipeline_run, redirected, separated, to_enter, unless_subshell, with_negation, with_others}
+use Rattle.sh_exec_forms.proofs.Entered.{and_or_is, case_entered, compound_entered, compound_is, for_entered, for_parameters_entered, function_entered, group_entered, if_entered, item_is, list_with, loop_entered, pipeline_is, simple_entered, subshell_entered, trees_beside}
 use Rattle.sh_syntax.specs.declared.tree.AndOr.{AndOr}
 use Rattle.sh_syntax.specs.declared.tree.Command.{Command}
 use Rattle.sh_syntax.specs.declared.tree.Command.TheOpen as layer
@@ -13,12 +14,15 @@ use Rattle.sh_syntax.specs.declared.tree.CompoundForm.{CompoundForm}
 use Rattle.sh_syntax.specs.declared.tree.CompoundForm.TheVariants as form
 use Rattle.sh_syntax.specs.declared.tree.CompoundList.{CompoundList}
 use Rattle.sh_syntax.specs.declared.tree.Connected.{Connected}
+use Rattle.sh_syntax.specs.declared.tree.ListItem.{ListItem}
 use Rattle.sh_syntax.specs.declared.tree.Name.{Name}
 use Rattle.sh_syntax.specs.declared.tree.Pipeline.{Pipeline}
 use Rattle.sh_syntax.specs.declared.tree.Redirect.{Redirect}
+use Rattle.sh_syntax.specs.declared.tree.Separator.{Separator}
+use Rattle.sh_syntax.specs.declared.tree.Separator.TheVariants.{Sequential, Asynchronous}
 use Rattle.sh_syntax.specs.declared.tree.SimpleItem.{SimpleItem}
 use Rattle.sh_laws.specs.Beginnings.{ListBegins, begins_list, more_items, AndOrBegins, joined, ConnectedBegin, PipelineBegins, staged, CommandsBegin, no_commands, more_commands, CommandBegins, by_words, by_form, by_definition, FormBegins, in_group, in_subshell, in_if, in_loop, in_for, in_for_parameters, in_case}
-use Rattle.sh_laws.specs.BeforeAction.{RunStands}
+use Rattle.sh_laws.specs.BeforeAction.{PlaceHolds, RunStands}
 use Rattle.sh_laws.proofs.CommandTurns.{first_holds}
 
 -- ---- forms by what they are opened to
@@ -54,9 +58,28 @@ unless_stands : (b : Bool) (redirects : List Redirect) (run : Run) (whole : Comm
 unless_stands true redirects run whole w s = s
 unless_stands false redirects run whole w s = redirected_stands redirects run whole w s
 
+-- ---- an asynchronous list begins with a fork
+pipeline_commands : (x : Pipeline) → PipelineBegins x → CommandsBegin (commands_of x)
+pipeline_commands x (staged _ f r) = more_commands (view.out-Pipeline x).first (view.out-Pipeline x).rest f r
+
+list_commands : (x : AndOr) → AndOrBegins x → CommandsBegin (commands_of (view.out-AndOr x).first)
+list_commands x (joined _ p c) = pipeline_commands (view.out-AndOr x).first p
+
+background_holds : (is_negated : Bool) (others : List Connected) (x : AndOr) → AndOrBegins x → PlaceHolds (background_of is_negated others x)
+background_holds true others x a = a
+background_holds false [] x a = list_commands x a
+background_holds false (next ∷ others) x a = a
+
+separated_stands : (separator : Separator) (x : AndOr) → AndOrBegins x → RunStands (and_or_run x) → RunStands (separated separator x (and_or_run x))
+separated_stands Sequential x a s = s
+separated_stands Asynchronous x a s = background_holds (is_negated (view.out-AndOr x).first) (view.out-AndOr x).rest x a
+
+as_item : (x : ListItem) → AndOrBegins (view.out-ListItem x).list → RunStands (and_or_run (view.out-ListItem x).list) → RunStands (item_run x)
+as_item x a s = subst RunStands (sym (item_is x)) (separated_stands (view.out-ListItem x).separator (view.out-ListItem x).list a s)
+
 mutual
   pub list_stands : (x : CompoundList) → ListBegins x → RunStands (list_run x)
-  list_stands x (begins_list _ item others e (more_items _ _ a r)) = subst RunStands (sym (list_with x item others e)) (r, and_or_stands (view.out-ListItem item).list a)
+  list_stands x (begins_list _ item others e (more_items _ _ a r)) = subst RunStands (sym (list_with x item others e)) (r, as_item item a (and_or_stands (view.out-ListItem item).list a))
 
   pub and_or_stands : (x : AndOr) → AndOrBegins x → RunStands (and_or_run x)
   and_or_stands x (joined _ p c) =
@@ -100,3 +123,6 @@ mutual
   form_stands x (in_case _ word items e p i) whole w =
       subst (λ z. RunStands (form_entry z whole)) (sym (sym (view.roll-out-CompoundForm x) ∙ ap view.roll-CompoundForm e ∙ form.rolls-Case word items))
       (subst RunStands (sym (case_entered word items whole)) w)
+
+pub item_stands : (x : ListItem) → AndOrBegins (view.out-ListItem x).list → RunStands (item_run x)
+item_stands x a = as_item x a (and_or_stands (view.out-ListItem x).list a)

@@ -1,7 +1,7 @@
 -- What begins with an action and is all that a process runs is entered to an action.
 use Rattle.std.proofs.Common.{◌≡◌, List, [], ◌∷◌, Option, Some, None, Bool, true, false, refl, sym, ap, ◌∙◌, subst}
 use Rattle.sh_exec_forms.specs.Running.{Run}
-use Rattle.sh_exec_forms.specs.Bodies.{body_of, own_entry, own_form, sole_and_or, sole_item, sole_or_entered, sole_pipeline, sole_run, stage_run}
+use Rattle.sh_exec_forms.specs.Bodies.{body_of, own_entry, own_form, sole_and_or, sole_by, sole_item, sole_or_entered, sole_pipeline, sole_run, stage_run}
 use Rattle.sh_exec_actions.specs.Statuses.{unexcused}
 use Rattle.sh_exec_forms.specs.Entering.{command_run, items_run}
 use Rattle.sh_exec_forms.proofs.Entered.{entered_with, trees_beside}
@@ -15,10 +15,12 @@ use Rattle.sh_syntax.specs.declared.tree.CompoundList.{CompoundList}
 use Rattle.sh_syntax.specs.declared.tree.Connected.{Connected}
 use Rattle.sh_syntax.specs.declared.tree.ListItem.{ListItem}
 use Rattle.sh_syntax.specs.declared.tree.Pipeline.{Pipeline}
+use Rattle.sh_syntax.specs.declared.tree.Separator.{Separator}
+use Rattle.sh_syntax.specs.declared.tree.Separator.TheVariants.{Sequential, Asynchronous}
 use Rattle.sh_laws.specs.Beginnings.{ListBegins, begins_list, ItemsBegin, no_items, more_items, AndOrBegins, joined, PipelineBegins, staged, CommandBegins, by_words, by_form, by_definition, FormBegins, in_group, in_subshell, in_if, in_loop, in_for, in_for_parameters, in_case}
 use Rattle.sh_laws.specs.BeforeAction.{RunStands}
 use Rattle.sh_laws.proofs.CommandTurns.{first_holds}
-use Rattle.sh_laws.proofs.BegunCommands.{and_or_stands, command_stands, is_compound, is_definition, is_simple, redirected_stands}
+use Rattle.sh_laws.proofs.BegunCommands.{command_stands, is_compound, is_definition, is_simple, item_stands, redirected_stands}
 
 abbrev SoleStands : Option Run → Type 0
 SoleStands None = Unit {0}
@@ -26,11 +28,15 @@ SoleStands (Some run) = RunStands run
 
 -- what isn't alone is entered as a list is
 in_list_stands : (item : ListItem) (others : List ListItem) → AndOrBegins (view.out-ListItem item).list → ItemsBegin others → RunStands (items_run (item ∷ others) (unexcused 0))
-in_list_stands item others a r = subst RunStands (sym (entered_with (item ∷ others) item others (unexcused 0) refl)) (r, and_or_stands (view.out-ListItem item).list a)
+in_list_stands item others a r = subst RunStands (sym (entered_with (item ∷ others) item others (unexcused 0) refl)) (r, item_stands item a)
 
 sole_or_stands : (item : ListItem) (run : Option Run) → AndOrBegins (view.out-ListItem item).list → SoleStands run → RunStands (sole_or_entered item run)
 sole_or_stands item None a s = in_list_stands item [] a no_items
 sole_or_stands item (Some run) a s = s
+
+separated_stand : (separator : Separator) (run : Option Run) → SoleStands run → SoleStands (sole_by separator run)
+separated_stand Sequential run s = s
+separated_stand Asynchronous run s = tt
 
 unjoined_stands : (run : Option Run) (others : List Connected) → SoleStands run → SoleStands (sole_run run others)
 unjoined_stands run [] s = s
@@ -49,7 +55,7 @@ whole_stands x whole e w = subst RunStands (sym e) (command_stands whole w whole
 mutual
   body_items_stand : (these : List ListItem) → ItemsBegin these → RunStands (body_as these)
   body_items_stand _ no_items = tt
-  body_items_stand _ (more_items item [] a r) = sole_or_stands item (sole_item item) a (subst SoleStands (sym (item_is item)) (sole_stands (view.out-ListItem item).list a))
+  body_items_stand _ (more_items item [] a r) = sole_or_stands item (sole_item item) a (subst SoleStands (sym (item_is item)) (separated_stand (view.out-ListItem item).separator (sole_and_or (view.out-ListItem item).list) (sole_stands (view.out-ListItem item).list a)))
   body_items_stand _ (more_items item (next ∷ others) a r) = subst (λ these. RunStands (items_run (item ∷ next ∷ these) (unexcused 0))) (sym (trees_beside sole_item others)) (in_list_stands item (next ∷ others) a r)
 
   sole_stands : (x : AndOr) → AndOrBegins x → SoleStands (sole_and_or x)

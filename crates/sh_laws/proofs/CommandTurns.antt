@@ -34,7 +34,6 @@ use Rattle.sh_exec_actions.specs.declared.action.ToExpand.TheVariants as wants
 use Rattle.sh_exec_command.specs.declared.series.Round.{Round}
 use Rattle.sh_exec_command.specs.declared.series.Round.TheVariants as round
 use Rattle.sh_exec_parts.specs.Messages.{read_only}
-use Rattle.sh_exec_actions.specs.Served.{serves}
 use Rattle.sh_builtin.specs.Builtins.{builtin_of, is_named, is_special}
 use Rattle.sh_builtin.specs.Invocations.{by_command, by_name}
 use Rattle.sh_builtin.specs.declared.invocation.Invocation.{Invocation}
@@ -74,7 +73,7 @@ use Rattle.sh_vars.specs.Environment.{Environment, with_value}
 use Rattle.sh_laws.proofs.NeededPrograms.{ItsItems, OutcomeBegins, ResultBegins, WantedBegin, expansion_begins, result_begins, target_begins, wanted_begin}
 use Rattle.sh_laws.specs.Beginnings.{CaseItemsBegin, CommandBegins, FormBegins, ItemsBegin, ListBegins, PartsBegin, RedirectsBegin, SeriesBegin, WordsBegin, begins_list, by_definition, by_form, by_words, in_case, in_for, in_for_parameters, in_group, in_if, in_loop, in_subshell, item_parts, more_case_items, more_redirects, more_series, more_words, no_case_items, no_redirects, no_series, no_words, word_parts}
 use Rattle.sh_laws.specs.BeforeAction.{AssignmentsHold, BranchesHold, FoundBegins, FunctionsHold, PlaceHolds, RoleHolds, WantsHold}
-use Rattle.sh_laws.proofs.ServedReadings.{AnswerFits, reading_fits}
+use Rattle.sh_laws.proofs.BegunReadings.{AnswerFits, reading_fits}
 
 -- ---- what is held at a place, by a move, by what an expansion comes to
 abbrev pub ActiveHolds : Active → Type 0
@@ -504,13 +503,8 @@ unfolding give_turn
 give_holds env series b = give_by_holds env series series.values b
 
 -- ---- reading
--- where an answer leads
-record Leads {A : Type 0} (f : A → Found) (a : A) : Type 0 where
-  holds : FoundBegins (f a)
-
 answer_holds : (r : Result Reading ParseFault) (text : List ℕ) (on : ℕ → Found) → AnswerFits r → ((count : ℕ) → FoundBegins (on count)) → FoundBegins (found_by (answer_of r) text on)
-answer_holds (Ok (Complete tree used)) text on f g =
-    (choose (Leads (λ a. found_by a text on)) (serves tree) _ _ (λ e. record { holds = f e }) (λ e. record { holds = tt })).holds
+answer_holds (Ok (Complete tree used)) text on f g = f
 answer_holds (Ok (Blank zero)) text on f g = tt
 answer_holds (Ok (Blank (suc count))) text on f g = g count
 answer_holds (Ok More) text on f g = tt

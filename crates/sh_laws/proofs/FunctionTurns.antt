@@ -16,7 +16,7 @@ use Rattle.sh_builtin_regular.specs.Lines.{Progress, bytes_taken}
 use Rattle.sh_builtin_regular.specs.declared.reader.LineReader.{LineReader}
 use Rattle.sh_exec_actions.specs.Statuses.{unexcused}
 use Rattle.sh_exec_actions.specs.declared.action.Action.{Action}
-use Rattle.sh_exec_actions.specs.declared.action.Action.TheVariants.{Reading, Expanding, ReadSubstitution, WaitSubstitution, ReadLine, Redirecting, Forking, Starting, ForkStage, AssignLoopVariable, Defining, Waiting, Writing, Trapping, Ending}
+use Rattle.sh_exec_actions.specs.declared.action.Action.TheVariants.{Reading, Expanding, ReadSubstitution, WaitSubstitution, ReadLine, Awaiting, Redirecting, Forking, Starting, ForkStage, ForkList, AssignLoopVariable, Defining, Waiting, Writing, Trapping, Ending}
 use Rattle.sh_exec_actions.specs.declared.action.Active.{Active}
 use Rattle.sh_exec_actions.specs.declared.action.Active.TheVariants.{Acting, Calling, Evaluating, Next, Done, Leaving}
 use Rattle.sh_exec_actions.specs.declared.action.Expanded.{Expanded}
@@ -40,25 +40,34 @@ use Rattle.sh_builtin_environment.specs.TrapMaps.{action_of}
 use Rattle.sh_signal.specs.declared.condition.Condition.TheVariants.{Exit}
 use Rattle.sh_exec_frames.specs.Frames.{has_loop, last_for, levels_left}
 use Rattle.sh_exec_forms.specs.Running.{Run, At, In}
-use Rattle.sh_exec_machine.specs.Forking.{fork_of}
+use Rattle.sh_exec_machine.specs.Forking.{fork_of, null_laid}
 use Rattle.sh_exec_machine.specs.Transfers.{take_bytes}
+use Rattle.sh_exec_machine.specs.Waits.{wait_status}
 use Rattle.sh_exec_machine.specs.declared.transfer.ReadOutcome.{ReadOutcome}
 use Rattle.sh_exec_machine.specs.declared.transfer.ReadOutcome.TheVariants as taken
 use Rattle.sh_exec_parts.specs.Simple.{Opened}
 use Rattle.sh_exec_parts.specs.declared.message.Piece.{Piece}
 use Rattle.sh_exec_parts.specs.declared.redirection.Redirection.{Redirection}
 use Rattle.sh_exec_shell.specs.Acting.{after_collection, collect_by, collect_end, collect_from, collect_turn, end_turn, expand_turn, next, redirect_from, redirect_one, redirect_turn, trap_by, trap_turn, with_written, write_turn}
-use Rattle.sh_exec_shell.specs.LineReading.{line_by, line_ended, line_goes_on, line_read_by, most_read, read_line_turn}
-use Rattle.sh_exec_shell.specs.Forks.{begun_substitution, fork_turn, is_more, program_by, stage_by, stage_from, stage_one, stage_turn, substitute_turn, substitution_by}
+use Rattle.sh_exec_frames.specs.Placed.{Placed}
+use Rattle.sh_exec_frames.specs.Awaiting.{all_by, await_turn, operand_by}
+use Rattle.sh_builtin_regular.specs.declared.waiting.Awaited.{Awaited}
+use Rattle.sh_builtin_regular.specs.declared.waiting.Awaited.TheVariants as awaited
+use Rattle.sh_builtin_regular.specs.declared.waiting.ProcessWait.{ProcessWait}
+use Rattle.sh_exec_frames.specs.LineReading.{line_by, line_ended, line_goes_on, line_read_by, most_read, read_line_turn}
+use Rattle.sh_exec_shell.specs.Forks.{begun_substitution, fork_turn, is_more, list_by, list_turn, made_shell, program_by, stage_by, stage_from, stage_input, stage_one, stage_shell, stage_turn, substitute_turn, substitution_by}
 use Rattle.sh_exec_shell.specs.Reduction.{act_at, act_place, expanded_by, reduce}
 use Rattle.sh_kernel.specs.State.{KernelState}
 use Rattle.sh_kernel_descriptors.specs.declared.descriptor.DescriptorRef.TheVariants.{Aside, Number}
+use Rattle.sh_syntax.specs.declared.tree.AndOr.{AndOr}
 use Rattle.sh_syntax.specs.declared.tree.Command.{Command}
 use Rattle.sh_syntax.specs.declared.tree.Command.TheOpen as layer
 use Rattle.sh_syntax.specs.declared.tree.Command.TheVariants as command
 use Rattle.sh_syntax.specs.declared.tree.Command.TheViews as view
 use Rattle.sh_syntax.specs.declared.tree.Compound.{Compound}
 use Rattle.sh_syntax.specs.declared.tree.CompoundList.{CompoundList}
+use Rattle.sh_syntax.specs.declared.tree.Separator.{Separator}
+use Rattle.sh_syntax.specs.declared.tree.Separator.TheVariants.{Sequential, Asynchronous}
 use Rattle.sh_laws.proofs.CommandTurns.{choose}
 use Rattle.sh_laws.specs.BeforeAction.{ActiveStands, FunctionsHold, PlaceHolds, RunStands}
 use Rattle.sh_laws.specs.Beginnings.{CommandBegins, FormBegins, RedirectsBegin, by_definition, by_form, by_words}
@@ -125,6 +134,7 @@ built_in_keeps s shell last builtin.Test arguments f = f
 built_in_keeps s shell last builtin.Trap arguments f = f
 built_in_keeps s shell last builtin.True arguments f = f
 built_in_keeps s shell last builtin.Unset arguments f = unset_hold shell.functions (functions_to_unset arguments) f
+built_in_keeps s shell last builtin.Wait arguments f = f
 
 evaluation_keeps : (levels : ℕ) (shell : Shell) (how : TextRun) (text : List ℕ) → Keeps shell → Keeps (evaluation levels shell how text).shell
 evaluation_keeps zero shell how text f = f
@@ -225,6 +235,9 @@ collected_keeps s shell substitution aside f = f
 abbrev ActedKeeps : Acted → Type 0
 ActedKeeps a = Keeps a.shell
 
+abbrev PlacedKeeps : Placed → Type 0
+PlacedKeeps p = Keeps p.shell
+
 collect_by_keeps : (s : KernelState) (shell : Shell) (substitution : Substitution) (aside : ℕ) (told : ReadOutcome) → Keeps shell → ActedKeeps (collect_by s shell substitution aside told)
 collect_by_keeps s shell substitution aside (taken.Bytes bytes) f =
     choose ActedKeeps (nat_eq (length bytes) 0) (after_collection s shell substitution aside) (with_run s shell (next (ReadSubstitution (with_written substitution bytes))))
@@ -243,24 +256,38 @@ unfolding collect_turn
 collect_keeps s shell substitution f = collect_end_keeps s shell substitution substitution.aside f
 
 -- ---- the line of read
-line_ended_keeps : (s : KernelState) (shell : Shell) (reader : LineReader) (status : ℕ) → Keeps shell → ActedKeeps (line_ended s shell reader status)
+line_ended_keeps : (s : KernelState) (shell : Shell) (reader : LineReader) (status : ℕ) → Keeps shell → PlacedKeeps (line_ended s shell reader status)
 unfolding line_ended
 line_ended_keeps s shell reader status f = f
 
-line_by_keeps : (s : KernelState) (shell : Shell) (p : Progress) → Keeps shell → ActedKeeps (line_by s shell p)
+line_by_keeps : (s : KernelState) (shell : Shell) (p : Progress) → Keeps shell → PlacedKeeps (line_by s shell p)
 line_by_keeps s shell p f =
-    choose ActedKeeps p.over (line_ended s shell p.reader 0) (line_goes_on s shell p.reader) (λ e. line_ended_keeps s shell p.reader 0 f) (λ e. f)
+    choose PlacedKeeps p.over (line_ended s shell p.reader 0) (line_goes_on s shell p.reader) (λ e. line_ended_keeps s shell p.reader 0 f) (λ e. f)
 
-line_read_by_keeps : (s : KernelState) (shell : Shell) (reader : LineReader) (told : ReadOutcome) → Keeps shell → ActedKeeps (line_read_by s shell reader told)
+line_read_by_keeps : (s : KernelState) (shell : Shell) (reader : LineReader) (told : ReadOutcome) → Keeps shell → PlacedKeeps (line_read_by s shell reader told)
 line_read_by_keeps s shell reader (taken.Bytes bytes) f =
-    choose ActedKeeps (nat_eq (length bytes) 0) (line_ended s shell reader 1) (line_by s shell (bytes_taken reader bytes))
+    choose PlacedKeeps (nat_eq (length bytes) 0) (line_ended s shell reader 1) (line_by s shell (bytes_taken reader bytes))
     (λ e. line_ended_keeps s shell reader 1 f) (λ e. line_by_keeps s shell (bytes_taken reader bytes) f)
 line_read_by_keeps s shell reader taken.Wait f = f
 line_read_by_keeps s shell reader taken.Failed f = line_ended_keeps s shell reader 1 f
 
-line_keeps : (s : KernelState) (shell : Shell) (reader : LineReader) → Keeps shell → ActedKeeps (read_line_turn s shell reader)
+line_keeps : (s : KernelState) (shell : Shell) (reader : LineReader) → Keeps shell → PlacedKeeps (read_line_turn s shell reader)
 unfolding read_line_turn
 line_keeps s shell reader f = let t = take_bytes s shell.pid (Number 0) (most_read s.machine shell.pid) in line_read_by_keeps t.after shell reader t.told f
+
+-- ---- what wait waits for
+operand_keeps : (s : KernelState) (shell : Shell) (wait : ProcessWait) (o : Option ℕ) → Keeps shell → PlacedKeeps (operand_by s shell wait o)
+operand_keeps s shell wait None f = f
+operand_keeps s shell wait (Some status) f = f
+
+all_keeps : (s : KernelState) (shell : Shell) (o : Option ℕ) → Keeps shell → PlacedKeeps (all_by s shell o)
+all_keeps s shell None f = f
+all_keeps s shell (Some status) f = f
+
+await_keeps : (s : KernelState) (shell : Shell) (a : Awaited) → Keeps shell → PlacedKeeps (await_turn s shell a)
+unfolding await_turn
+await_keeps s shell awaited.All f = all_keeps s shell (wait_status s shell.pid shell.known) f
+await_keeps s shell (awaited.Process wait) f = operand_keeps s shell wait (wait_status s shell.pid (wait.process ∷ [])) f
 
 -- ---- redirections, writes, and the end
 redirect_from_keeps : (s : KernelState) (shell : Shell) (p : ExpandedCommand) (redirections : List Redirection) → Keeps shell → ActedKeeps (redirect_from s shell p redirections)
@@ -298,20 +325,40 @@ fork_keeps : (s : KernelState) (shell : Shell) (p : ExpandedCommand) → Keeps s
 unfolding fork_turn
 fork_keeps s shell p f = let forked = fork_of s shell.pid None false in program_keeps forked.after shell p forked.child f
 
+made_keeps : (separator : Separator) (shell : Shell) (children : List ℕ) → Keeps shell → Keeps (made_shell separator shell children)
+made_keeps Sequential shell children f = f
+made_keeps Asynchronous shell children f = f
+
+stage_shell_keeps : (separator : Separator) (commands : List Command) (shell : Shell) (children : List ℕ) → Keeps shell → Keeps (stage_shell separator commands shell children)
+stage_shell_keeps separator [] shell children f = made_keeps separator shell children f
+stage_shell_keeps separator (command ∷ commands) shell children f = f
+
 stage_by_keeps : (s : KernelState) (shell : Shell) (command : Command) (stages : Stages) (o : Option ℕ) → Keeps shell → ActedKeeps (stage_by s shell command stages o).left
 stage_by_keeps s shell command stages None f = f
-stage_by_keeps s shell command stages (Some child) f = f
+stage_by_keeps s shell command stages (Some child) f = stage_shell_keeps stages.separator stages.commands shell (stages.children ++ child ∷ []) f
 
 stage_from_keeps : (s : KernelState) (shell : Shell) (stages : Stages) (commands : List Command) → Keeps shell → ActedKeeps (stage_from s shell stages commands).left
 unfolding stage_one
 stage_from_keeps s shell stages [] f = f
 stage_from_keeps s shell stages (command ∷ commands) f =
-    let forked = fork_of s shell.pid stages.aside (is_more commands) in
+    let l = stage_input stages.separator stages.children stages.aside shell s in
+    let forked = fork_of l.after shell.pid l.aside (is_more commands) in
     stage_by_keeps forked.after shell command (record stages { commands = commands; aside = forked.aside }) forked.child f
 
 stage_keeps : (s : KernelState) (shell : Shell) (stages : Stages) → Keeps shell → ActedKeeps (stage_turn s shell stages).left
 unfolding stage_turn
 stage_keeps s shell stages f = stage_from_keeps s shell stages stages.commands f
+
+list_by_keeps : (s : KernelState) (shell : Shell) (list : AndOr) (o : Option ℕ) → Keeps shell → ActedKeeps (list_by s shell list o).left
+list_by_keeps s shell list None f = f
+list_by_keeps s shell list (Some child) f = f
+
+list_keeps : (s : KernelState) (shell : Shell) (list : AndOr) → Keeps shell → ActedKeeps (list_turn s shell list).left
+unfolding list_turn
+list_keeps s shell list f =
+    let l = null_laid shell.vars.directory s shell.pid in
+    let forked = fork_of l.after shell.pid l.aside false in
+    list_by_keeps forked.after shell list forked.child f
 
 substitution_keeps : (s : KernelState) (shell : Shell) (program : CompoundList) (substitution : Substitution) (o : Option ℕ) → Keeps shell
     → ActedKeeps (substitution_by s shell program substitution o).left
@@ -337,10 +384,12 @@ place_keeps around s shell (Expanding wants pending) h f =
 place_keeps around s shell (ReadSubstitution substitution) h f = collect_keeps s shell substitution f
 place_keeps around s shell (WaitSubstitution substitution) h f = f
 place_keeps around s shell (ReadLine reader) h f = line_keeps s shell reader f
+place_keeps around s shell (Awaiting awaited) h f = await_keeps s shell awaited f
 place_keeps around s shell (Redirecting p) h f = redirect_keeps s shell p f
 place_keeps around s shell (Forking p) h f = fork_keeps s shell p f
 place_keeps around s shell (Starting start) h f = f
 place_keeps around s shell (ForkStage stages) h f = stage_keeps s shell stages f
+place_keeps around s shell (ForkList list) h f = list_keeps s shell list f
 place_keeps around s shell (AssignLoopVariable series) h f = f
 place_keeps around s shell (Defining definition) h f = define_hold shell.functions definition f h
 place_keeps around s shell (Waiting children) h f = f

@@ -33,11 +33,11 @@ pub mod Faults
 pub mod Decided
 pub mod BegunCommands
 pub mod BegunProcesses
-pub mod ServedSyntax
-pub mod ServedValues
-pub mod ServedParts
-pub mod ServedTexts
-pub mod ServedReadings
+pub mod BegunSyntax
+pub mod BegunValues
+pub mod BegunParts
+pub mod BegunTexts
+pub mod BegunReadings
 pub mod NeededPrograms
 pub mod CommandTurns
 pub mod SettledForms

@@ -40,7 +40,7 @@ use Rattle.sh_syntax.specs.declared.tree.ElseIf.{ElseIf}
 use Rattle.sh_syntax.specs.declared.tree.ListItem.{ListItem}
 use Rattle.sh_laws.specs.BeforeAction.{ActiveStands, FormHolds, LoopHolds, PlaceHolds, RunStands}
 use Rattle.sh_laws.specs.Beginnings.{CommandBegins, ConnectedBegin, ElseBegins, ElseIfsBegin, ItemsBegin, ListBegins, more_connected, more_else_ifs, more_items, no_else, no_else_ifs, no_items, no_more, with_else}
-use Rattle.sh_laws.proofs.BegunCommands.{and_or_stands, command_stands, list_stands, others_stand, pipeline_stands}
+use Rattle.sh_laws.proofs.BegunCommands.{command_stands, item_stands, list_stands, others_stand, pipeline_stands}
 use Rattle.sh_laws.proofs.CommandTurns.{ActiveHolds, choose}
 
 -- ---- what runs holds only what begins with an action
@@ -100,7 +100,7 @@ settled_holds (In form run) s = (s.0, stands_holds run s.1)
 -- ---- lists
 pub items_settled : (items : List ListItem) (status : CommandStatus) → ItemsBegin items → Settled (items_run items status)
 items_settled _ status no_items = tt
-items_settled _ status (more_items item others a r) = subst Settled (sym (entered_with (item ∷ others) item others status refl)) (r, and_or_stands (view.out-ListItem item).list a)
+items_settled _ status (more_items item others a r) = subst Settled (sym (entered_with (item ∷ others) item others status refl)) (r, item_stands item a)
 
 connected_settled : (others : List Connected) (status : CommandStatus) → ConnectedBegin others → Settled (connected_run others status)
 connected_settled _ status no_more = tt
@@ -161,6 +161,7 @@ completion_follows (completion.Done status) = tt
 completion_follows (completion.Left l) = tt
 completion_follows (completion.Runs how text) = tt
 completion_follows (completion.Reads reader) = tt
+completion_follows (completion.Waits awaited) = tt
 
 said_follows : (messages : List (List ℕ)) (status : Completion) → ActiveFollows (said messages status)
 said_follows [] status = completion_follows status

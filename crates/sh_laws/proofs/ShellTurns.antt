@@ -26,7 +26,7 @@ use Rattle.sh_exec_actions.specs.declared.action.Move.{Move}
 use Rattle.sh_exec_actions.specs.declared.action.Move.TheVariants as move
 use Rattle.sh_exec_actions.specs.declared.action.Pending.{Pending}
 use Rattle.sh_exec_actions.specs.declared.action.Action.{Action}
-use Rattle.sh_exec_actions.specs.declared.action.Action.TheVariants.{Reading, Expanding, ReadSubstitution, WaitSubstitution, ReadLine, Redirecting, Forking, Starting, ForkStage, AssignLoopVariable, Defining, Waiting, Writing, Trapping, Ending}
+use Rattle.sh_exec_actions.specs.declared.action.Action.TheVariants.{Reading, Expanding, ReadSubstitution, WaitSubstitution, ReadLine, Awaiting, Redirecting, Forking, Starting, ForkStage, ForkList, AssignLoopVariable, Defining, Waiting, Writing, Trapping, Ending}
 use Rattle.sh_exec_actions.specs.declared.action.ExpandedCommand.{ExpandedCommand}
 use Rattle.sh_exec_actions.specs.declared.action.Role.TheVariants.{Program}
 use Rattle.sh_exec_actions.specs.declared.action.Stages.{Stages}
@@ -42,7 +42,7 @@ use Rattle.sh_exec_forms.specs.Forms.{Acted, behind_status, with_run}
 use Rattle.sh_exec_frames.specs.Frames.{ends_shell, is_failure_ignored}
 use Rattle.sh_exec_actions.specs.declared.form.Form.{Form}
 use Rattle.sh_exec_forms.specs.Running.{Run, At, In, InterpreterState}
-use Rattle.sh_exec_machine.specs.Forking.{fork_of}
+use Rattle.sh_exec_machine.specs.Forking.{fork_of, null_laid}
 use Rattle.sh_exec_machine.specs.Redirecting.{redirection_outcome}
 use Rattle.sh_exec_machine.specs.Transfers.{give_bytes, take_bytes}
 use Rattle.sh_exec_machine.specs.declared.transfer.ReadOutcome.{ReadOutcome}
@@ -56,23 +56,35 @@ use Rattle.sh_exec_parts.specs.declared.simple.Assignment.{Assignment}
 use Rattle.sh_exec_shell.specs.Acting.{after_collection, collect_by, collect_end, collect_from, collect_turn, end_turn, ending_by, expand_turn, keeps, next, read_turn, redirect_by, redirect_from, redirect_one, redirect_turn, round_run, trap_by, trap_turn, with_undo, with_written, without_trap, write_turn}
 use Rattle.sh_exec_frames.specs.Waiting.{answer_by, answer_turn, wait_by, wait_turn, with_substitution}
 use Rattle.sh_exec_frames.specs.Writing.{after_writing, unwritten, written_by}
-use Rattle.sh_exec_shell.specs.LineReading.{fields_given, line_by, line_ended, line_goes_on, line_read_by, most_read, read_line_turn}
-use Rattle.sh_exec_shell.specs.Forks.{begun_substitution, Turned, fork_failure, fork_turn, inherited, is_more, program_by, stage_by, stage_from, stage_one, stage_place, stage_turn, substitute_turn, substitution_by}
+use Rattle.sh_exec_frames.specs.Placed.{Placed}
+use Rattle.sh_exec_frames.specs.Awaiting.{all_by, await_turn, operand_by, step_place}
+use Rattle.sh_builtin_regular.specs.declared.waiting.Awaited.{Awaited}
+use Rattle.sh_builtin_regular.specs.declared.waiting.Awaited.TheVariants as awaited
+use Rattle.sh_builtin_regular.specs.declared.waiting.ProcessWait.{ProcessWait}
+use Rattle.sh_builtin_regular.specs.Waits.{next_wait}
+use Rattle.sh_builtin_regular.specs.declared.waiting.WaitStep.{WaitStep}
+use Rattle.sh_builtin_regular.specs.declared.waiting.WaitStep.TheVariants.{Over, Waits}
+use Rattle.sh_builtin.specs.Shells.{without_process}
+use Rattle.sh_exec_frames.specs.LineReading.{fields_given, line_by, line_ended, line_goes_on, line_read_by, most_read, read_line_turn}
+use Rattle.sh_exec_shell.specs.Forks.{begun_substitution, Turned, fork_failure, fork_turn, inherited, is_more, list_by, list_turn, made_place, program_by, stage_by, stage_from, stage_input, stage_one, stage_place, stage_turn, substitute_turn, substitution_by}
 use Rattle.sh_exec_shell.specs.Reduction.{act_at, act_place, at_root, expanded_by, reduce, shell_turn}
 use Rattle.sh_exec_machine.specs.Waits.{wait_status}
 use Rattle.sh_files.specs.Nodes.{FileMap}
 use Rattle.sh_kernel.specs.State.{KernelState}
 use Rattle.sh_kernel_descriptors.specs.declared.descriptor.DescriptorRef.TheVariants.{Aside, Number}
 use Rattle.sh_kernel_descriptors.specs.declared.fault.KernelFault.{KernelFault}
+use Rattle.sh_syntax.specs.declared.tree.AndOr.{AndOr}
 use Rattle.sh_syntax.specs.declared.tree.Command.{Command}
 use Rattle.sh_syntax.specs.declared.tree.Command.TheViews as view
 use Rattle.sh_syntax.specs.declared.tree.CompoundList.{CompoundList}
+use Rattle.sh_syntax.specs.declared.tree.Separator.{Separator}
+use Rattle.sh_syntax.specs.declared.tree.Separator.TheVariants.{Sequential, Asynchronous}
 use Rattle.sh_vars.specs.Environment.{Environment}
 use Rattle.sh_laws.proofs.FunctionTurns.{functions_hold}
 use Rattle.sh_laws.proofs.NeededPrograms.{ItsItems}
 use Rattle.sh_laws.specs.BeforeAction.{ActedStands, ActiveStands, AssignmentsHold, ChildStands, FoundBegins, FunctionsHold, InterpreterStands, PlaceHolds, RoleHolds, RunStands, WantsHold}
-use Rattle.sh_laws.specs.Beginnings.{CommandBegins, CommandsBegin, by_definition, by_form, by_words, more_commands, no_commands}
-use Rattle.sh_laws.proofs.BegunCommands.{form_stands, list_stands}
+use Rattle.sh_laws.specs.Beginnings.{AndOrBegins, CommandBegins, CommandsBegin, by_definition, by_form, by_words, more_commands, no_commands}
+use Rattle.sh_laws.proofs.BegunCommands.{and_or_stands, form_stands, list_stands}
 use Rattle.sh_laws.proofs.BegunProcesses.{body_stands, stage_stands}
 use Rattle.sh_laws.proofs.CommandTurns.{ActiveHolds, CommandHolds, ExpandedHolds, MoveHolds, RoundHolds, TurnHolds, ahead_holds, assign_holds, case_holds, choose, give_holds, next_holds, not_done_holds, pattern_holds, redirects_hold, series_hold, words_hold}
 use Rattle.sh_laws.proofs.SettledForms.{Holds, Settled, after_settled, at_action_settled, items_settled, reported_holds, settled_holds, stands_holds}
@@ -80,6 +92,9 @@ use Rattle.sh_laws.proofs.SettledForms.{Holds, Settled, after_settled, at_action
 -- what an action leaves, before it is settled
 abbrev pub ActedHolds : Acted → Type 0
 ActedHolds a = Holds a.run
+
+abbrev pub PlacedHolds : Placed → Type 0
+PlacedHolds p = ActiveHolds p.active
 
 abbrev pub TurnedHolds : Turned → Type 0
 TurnedHolds t = Holds t.left.run × ChildStands t.child
@@ -154,24 +169,42 @@ given_holds : (status : ℕ) (refused : Option (List ℕ)) → ActiveHolds (fiel
 given_holds status None = tt
 given_holds status (Some name) = tt
 
-line_ended_holds : (s : KernelState) (shell : Shell) (reader : LineReader) (status : ℕ) → ActedHolds (line_ended s shell reader status)
+line_ended_holds : (s : KernelState) (shell : Shell) (reader : LineReader) (status : ℕ) → PlacedHolds (line_ended s shell reader status)
 unfolding line_ended
 line_ended_holds s shell reader status = given_holds status (line_assigned shell.vars reader).refused
 
-line_by_holds : (s : KernelState) (shell : Shell) (p : Progress) → ActedHolds (line_by s shell p)
+line_by_holds : (s : KernelState) (shell : Shell) (p : Progress) → PlacedHolds (line_by s shell p)
 line_by_holds s shell p =
-    choose ActedHolds p.over (line_ended s shell p.reader 0) (line_goes_on s shell p.reader) (λ e. line_ended_holds s shell p.reader 0) (λ e. tt)
+    choose PlacedHolds p.over (line_ended s shell p.reader 0) (line_goes_on s shell p.reader) (λ e. line_ended_holds s shell p.reader 0) (λ e. tt)
 
-line_read_by_holds : (s : KernelState) (shell : Shell) (reader : LineReader) (told : ReadOutcome) → ActedHolds (line_read_by s shell reader told)
+line_read_by_holds : (s : KernelState) (shell : Shell) (reader : LineReader) (told : ReadOutcome) → PlacedHolds (line_read_by s shell reader told)
 line_read_by_holds s shell reader (taken.Bytes bytes) =
-    choose ActedHolds (nat_eq (length bytes) 0) (line_ended s shell reader 1) (line_by s shell (bytes_taken reader bytes))
+    choose PlacedHolds (nat_eq (length bytes) 0) (line_ended s shell reader 1) (line_by s shell (bytes_taken reader bytes))
     (λ e. line_ended_holds s shell reader 1) (λ e. line_by_holds s shell (bytes_taken reader bytes))
 line_read_by_holds s shell reader taken.Wait = tt
 line_read_by_holds s shell reader taken.Failed = line_ended_holds s shell reader 1
 
-line_holds : (s : KernelState) (shell : Shell) (reader : LineReader) → ActedHolds (read_line_turn s shell reader)
+line_holds : (s : KernelState) (shell : Shell) (reader : LineReader) → PlacedHolds (read_line_turn s shell reader)
 unfolding read_line_turn
 line_holds s shell reader = let t = take_bytes s shell.pid (Number 0) (most_read s.machine shell.pid) in line_read_by_holds t.after shell reader t.told
+
+-- ---- what wait waits for
+step_holds : (step : WaitStep) → ActiveHolds (step_place step)
+step_holds (Over status) = tt
+step_holds (Waits next) = tt
+
+operand_holds : (s : KernelState) (shell : Shell) (wait : ProcessWait) (o : Option ℕ) → PlacedHolds (operand_by s shell wait o)
+operand_holds s shell wait None = tt
+operand_holds s shell wait (Some status) = step_holds (next_wait (without_process shell wait.process).known wait.operands wait.taken status)
+
+all_holds : (s : KernelState) (shell : Shell) (o : Option ℕ) → PlacedHolds (all_by s shell o)
+all_holds s shell None = tt
+all_holds s shell (Some status) = tt
+
+await_holds : (s : KernelState) (shell : Shell) (a : Awaited) → PlacedHolds (await_turn s shell a)
+unfolding await_turn
+await_holds s shell awaited.All = all_holds s shell (wait_status s shell.pid shell.known)
+await_holds s shell (awaited.Process wait) = operand_holds s shell wait (wait_status s shell.pid (wait.process ∷ []))
 
 -- ---- waits
 with_status_holds : (wants : ToExpand) (status : ℕ) → WantsHold wants → WantsHold (with_substitution wants status)
@@ -266,27 +299,44 @@ fork_holds : (s : KernelState) (shell : Shell) (p : ExpandedCommand) → Functio
 unfolding fork_turn
 fork_holds s shell p f h = let forked = fork_of s shell.pid None false in program_holds forked.after shell p forked.child f h
 
-stage_place_holds : (commands : List Command) (aside : Option ℕ) (children : List ℕ) → CommandsBegin commands → PlaceHolds (stage_place commands aside children)
-stage_place_holds [] aside children b = tt
-stage_place_holds (command ∷ commands) aside children b = b
+made_holds : (separator : Separator) (children : List ℕ) → ActiveHolds (made_place separator children)
+made_holds Sequential children = tt
+made_holds Asynchronous children = tt
+
+stage_place_holds : (separator : Separator) (commands : List Command) (aside : Option ℕ) (children : List ℕ) → CommandsBegin commands
+    → ActiveHolds (stage_place separator commands aside children)
+stage_place_holds separator [] aside children b = made_holds separator children
+stage_place_holds separator (command ∷ commands) aside children b = b
 
 stage_by_holds : (s : KernelState) (shell : Shell) (command : Command) (stages : Stages) (o : Option ℕ) → FunctionsHold shell.functions → CommandBegins command
     → CommandsBegin stages.commands → TurnedHolds (stage_by s shell command stages o)
 stage_by_holds s shell command stages None f c b = (tt, tt)
 stage_by_holds s shell command stages (Some child) f c b =
-    (stage_place_holds stages.commands stages.aside (stages.children ++ child ∷ []) b, (stage_stands command c, f))
+    (stage_place_holds stages.separator stages.commands stages.aside (stages.children ++ child ∷ []) b, (stage_stands command c, f))
 
 stage_from_holds : (s : KernelState) (shell : Shell) (stages : Stages) (commands : List Command) → FunctionsHold shell.functions → CommandsBegin commands
     → TurnedHolds (stage_from s shell stages commands)
 unfolding stage_one
 stage_from_holds s shell stages _ f no_commands = (tt, tt)
 stage_from_holds s shell stages _ f (more_commands command commands c b) =
-    let forked = fork_of s shell.pid stages.aside (is_more commands) in
+    let l = stage_input stages.separator stages.children stages.aside shell s in
+    let forked = fork_of l.after shell.pid l.aside (is_more commands) in
     stage_by_holds forked.after shell command (record stages { commands = commands; aside = forked.aside }) forked.child f c b
 
 stage_holds : (s : KernelState) (shell : Shell) (stages : Stages) → FunctionsHold shell.functions → CommandsBegin stages.commands → TurnedHolds (stage_turn s shell stages)
 unfolding stage_turn
 stage_holds s shell stages f b = stage_from_holds s shell stages stages.commands f b
+
+list_by_holds : (s : KernelState) (shell : Shell) (list : AndOr) (o : Option ℕ) → FunctionsHold shell.functions → AndOrBegins list → TurnedHolds (list_by s shell list o)
+list_by_holds s shell list None f a = (tt, tt)
+list_by_holds s shell list (Some child) f a = (tt, (and_or_stands list a, f))
+
+list_holds : (s : KernelState) (shell : Shell) (list : AndOr) → FunctionsHold shell.functions → AndOrBegins list → TurnedHolds (list_turn s shell list)
+unfolding list_turn
+list_holds s shell list f a =
+    let l = null_laid shell.vars.directory s shell.pid in
+    let forked = fork_of l.after shell.pid l.aside false in
+    list_by_holds forked.after shell list forked.child f a
 
 failure_holds : (wants : ToExpand) → MoveHolds (fork_failure wants)
 failure_holds (Words command in_place status) = tt
@@ -321,10 +371,12 @@ place_holds around s shell (Expanding wants pending) f h =
 place_holds around s shell (ReadSubstitution substitution) f h = (collect_holds s shell substitution h, tt)
 place_holds around s shell (WaitSubstitution substitution) f h = (answer_holds s shell.pid substitution h, tt)
 place_holds around s shell (ReadLine reader) f h = (line_holds s shell reader, tt)
+place_holds around s shell (Awaiting awaited) f h = (await_holds s shell awaited, tt)
 place_holds around s shell (Redirecting p) f h = (redirect_holds s shell p h, tt)
 place_holds around s shell (Forking p) f h = fork_holds s shell p f h
 place_holds around s shell (Starting start) f h = (tt, tt)
 place_holds around s shell (ForkStage stages) f h = stage_holds s shell stages f h
+place_holds around s shell (ForkList list) f h = list_holds s shell list f h
 place_holds around s shell (AssignLoopVariable series) f h = (round_holds (give_turn shell.vars series).round (give_holds shell.vars series h), tt)
 place_holds around s shell (Defining definition) f h = (tt, tt)
 place_holds around s shell (Waiting children) f h = (wait_holds s shell.pid children, tt)

@@ -1,6 +1,6 @@
 -- Turns of a shell.
-use Rattle.std.proofs.Common.{◌≡◌, ℕ, zero, suc, List, [], ◌∷◌, Bool, true, false, length, Option, Some, None, refl, sym, subst, ◌∙◌}
-use Rattle.std.specs.Prelude.{drop, nat_eq, if◌then◌else◌}
+use Rattle.std.proofs.Common.{◌≡◌, ℕ, zero, suc, List, [], ◌∷◌, Bool, true, false, length, ◌++◌, Option, Some, None, Result, Ok, Err, refl, sym, subst, ◌∙◌}
+use Rattle.std.specs.Prelude.{codes, drop, nat_eq, if◌then◌else◌}
 use Rattle.sh_exec_parts.specs.declared.message.Piece.{Piece}
 use Rattle.sh_exec_parts.specs.declared.redirection.Redirection.{Redirection}
 use Rattle.sh_builtin.specs.declared.outcome.TextRun.{TextRun}
@@ -23,19 +23,25 @@ use Rattle.sh_exec_actions.specs.declared.action.Expanded.TheVariants as expande
 use Rattle.sh_exec_actions.specs.declared.action.Finish.{Finish}
 use Rattle.sh_exec_actions.specs.declared.action.Pending.{Pending}
 use Rattle.sh_exec_actions.specs.declared.action.Action.{Action}
-use Rattle.sh_exec_actions.specs.declared.action.Action.TheVariants.{Reading, Expanding, ReadSubstitution, WaitSubstitution, ReadLine, Redirecting, Forking, Starting, ForkStage, AssignLoopVariable, Defining, Waiting, Writing, Trapping, Ending}
+use Rattle.sh_exec_actions.specs.declared.action.Action.TheVariants.{Reading, Expanding, ReadSubstitution, WaitSubstitution, ReadLine, Awaiting, Redirecting, Forking, Starting, ForkStage, ForkList, AssignLoopVariable, Defining, Waiting, Writing, Trapping, Ending}
 use Rattle.sh_exec_actions.specs.declared.action.ExpandedCommand.{ExpandedCommand}
 use Rattle.sh_exec_actions.specs.declared.action.Stages.{Stages}
 use Rattle.sh_exec_actions.specs.declared.action.Substitution.{Substitution}
 use Rattle.sh_exec_actions.specs.declared.action.Undo.{Undo}
 use Rattle.sh_exec_actions.specs.declared.action.ToExpand.{ToExpand}
-use Rattle.sh_exec_machine.specs.Forking.{fork_of}
+use Rattle.sh_exec_machine.specs.Forking.{after_null, fork_of, null_laid, set_aside, set_by}
 use Rattle.sh_exec_machine.specs.Transfers.{take_bytes}
+use Rattle.sh_exec_machine.specs.Waits.{wait_status}
 use Rattle.sh_exec_machine.specs.declared.transfer.ReadOutcome.{ReadOutcome}
 use Rattle.sh_exec_machine.specs.declared.transfer.ReadOutcome.TheVariants as taken
 use Rattle.sh_exec_shell.specs.Acting.{collect_by, collect_end, collect_from, collect_turn, after_collection, end_turn, expand_turn, keeps, next, redirect_from, redirect_one, redirect_turn, trap_by, trap_turn, with_written, write_turn}
-use Rattle.sh_exec_shell.specs.LineReading.{line_by, line_ended, line_goes_on, line_read_by, most_read, read_line_turn}
-use Rattle.sh_exec_shell.specs.Forks.{Turned, begun_substitution, fork_turn, inherited, is_more, program_by, stage_by, stage_from, stage_one, stage_turn, substitute_turn, substitution_by}
+use Rattle.sh_exec_frames.specs.Placed.{Placed}
+use Rattle.sh_exec_frames.specs.Awaiting.{all_by, await_turn, operand_by}
+use Rattle.sh_builtin_regular.specs.declared.waiting.Awaited.{Awaited}
+use Rattle.sh_builtin_regular.specs.declared.waiting.Awaited.TheVariants as awaited
+use Rattle.sh_builtin_regular.specs.declared.waiting.ProcessWait.{ProcessWait}
+use Rattle.sh_exec_frames.specs.LineReading.{line_by, line_ended, line_goes_on, line_read_by, most_read, read_line_turn}
+use Rattle.sh_exec_shell.specs.Forks.{Turned, begun_substitution, fork_turn, inherited, is_more, list_by, list_turn, made_shell, program_by, stage_by, stage_from, stage_input, stage_one, stage_shell, stage_turn, substitute_turn, substitution_by}
 use Rattle.sh_exec_frames.specs.Reporting.{behind}
 use Rattle.sh_exec_forms.specs.Builtins.{builtin_effect, call, effect_at, evaluation, performed}
 use Rattle.sh_exec_forms.specs.Forms.{Acted, with_run, after, after_by, after_status, after_leave, loop_left, onward, condition_run, at_action, undone}
@@ -48,10 +54,16 @@ use Rattle.sh_exec_actions.specs.declared.form.Form.{Form}
 use Rattle.sh_exec_actions.specs.declared.form.Form.TheVariants.{Text, Commands, Joined, Negated, Restoring, If, Condition, Body, ForBody, Call, Evaluation, Trapped, FailuresIgnored}
 use Rattle.sh_kernel_descriptors.specs.Machine.{MachineState}
 use Rattle.sh_kernel_descriptors.specs.declared.descriptor.DescriptorRef.TheVariants.{Aside, Number}
-use Rattle.sh_kernel.specs.Requests.{Close, End}
+use Rattle.sh_exec_parts.specs.Redirections.{to_read}
+use Rattle.sh_kernel.specs.Calls.{set_aside_call}
+use Rattle.sh_kernel.specs.Requests.{Close, End, Open, SetAside, after_request}
+use Rattle.sh_kernel_descriptors.specs.declared.fault.KernelFault.{KernelFault}
 use Rattle.sh_kernel.specs.State.{KernelState}
+use Rattle.sh_syntax.specs.declared.tree.AndOr.{AndOr}
 use Rattle.sh_syntax.specs.declared.tree.Command.{Command}
 use Rattle.sh_syntax.specs.declared.tree.CompoundList.{CompoundList}
+use Rattle.sh_syntax.specs.declared.tree.Separator.{Separator}
+use Rattle.sh_syntax.specs.declared.tree.Separator.TheVariants.{Sequential, Asynchronous}
 use Rattle.sh_laws.specs.Requests.{made_number}
 use Rattle.sh_laws.proofs.TurnRequests.{IsForked, IsKept, give_keeps, redirect_keeps, take_keeps, undo_keeps}
 
@@ -81,6 +93,7 @@ built_in_number machine shell last builtin.Test arguments = refl
 built_in_number machine shell last builtin.Trap arguments = refl
 built_in_number machine shell last builtin.True arguments = refl
 built_in_number machine shell last builtin.Unset arguments = refl
+built_in_number machine shell last builtin.Wait arguments = refl
 
 evaluation_number : (levels : ℕ) (shell : Shell) (how : TextRun) (text : List ℕ) → (evaluation levels shell how text).shell.pid ≡ shell.pid
 evaluation_number zero shell how text = refl
@@ -119,6 +132,9 @@ inherited_number ignored (Some child) = refl
 module _ (directory : List ℕ) (pid : ℕ) (P : KernelState → Type 0) (kept : IsKept directory pid P) where
   abbrev Keeps : Acted → Type 0
   Keeps a = (a.shell.pid ≡ pid) × P a.machine
+
+  abbrev KeepsPlaced : Placed → Type 0
+  KeepsPlaced p = (p.shell.pid ≡ pid) × P p.machine
 
   own : (shell : Shell) → shell.pid ≡ pid → IsKept directory shell.pid P
   own shell e = subst (λ n. IsKept directory n P) (sym e) kept
@@ -213,32 +229,64 @@ module _ (directory : List ℕ) (pid : ℕ) (P : KernelState → Type 0) (kept :
   collect_keeps s shell substitution e p = collect_end_keeps s shell substitution substitution.aside e p
 
   -- ---- the line of read
-  line_ended_keeps : (s : KernelState) (shell : Shell) (reader : LineReader) (status : ℕ) → shell.pid ≡ pid → P s → Keeps (line_ended s shell reader status)
+  line_ended_keeps : (s : KernelState) (shell : Shell) (reader : LineReader) (status : ℕ) → shell.pid ≡ pid → P s → KeepsPlaced (line_ended s shell reader status)
   unfolding line_ended
   line_ended_keeps s shell reader status e p = (e, p)
 
-  line_by_keeps : (s : KernelState) (shell : Shell) (l : Progress) → shell.pid ≡ pid → P s → Keeps (line_by s shell l)
+  line_by_keeps : (s : KernelState) (shell : Shell) (l : Progress) → shell.pid ≡ pid → P s → KeepsPlaced (line_by s shell l)
   line_by_keeps s shell l e p = at l.over
     where
-      at : (b : Bool) → Keeps (if b then line_ended s shell l.reader 0 else line_goes_on s shell l.reader)
+      at : (b : Bool) → KeepsPlaced (if b then line_ended s shell l.reader 0 else line_goes_on s shell l.reader)
       at true = line_ended_keeps s shell l.reader 0 e p
       at false = (e, p)
 
-  line_read_by_keeps : (s : KernelState) (shell : Shell) (reader : LineReader) (told : ReadOutcome) → shell.pid ≡ pid → P s → Keeps (line_read_by s shell reader told)
+  line_read_by_keeps : (s : KernelState) (shell : Shell) (reader : LineReader) (told : ReadOutcome) → shell.pid ≡ pid → P s → KeepsPlaced (line_read_by s shell reader told)
   line_read_by_keeps s shell reader (taken.Bytes bytes) e p = at (nat_eq (length bytes) 0)
     where
-      at : (b : Bool) → Keeps (if b then line_ended s shell reader 1 else line_by s shell (bytes_taken reader bytes))
+      at : (b : Bool) → KeepsPlaced (if b then line_ended s shell reader 1 else line_by s shell (bytes_taken reader bytes))
       at true = line_ended_keeps s shell reader 1 e p
       at false = line_by_keeps s shell (bytes_taken reader bytes) e p
   line_read_by_keeps s shell reader taken.Wait e p = (e, p)
   line_read_by_keeps s shell reader taken.Failed e p = line_ended_keeps s shell reader 1 e p
 
-  line_keeps : (s : KernelState) (shell : Shell) (reader : LineReader) → shell.pid ≡ pid → P s → Keeps (read_line_turn s shell reader)
+  line_keeps : (s : KernelState) (shell : Shell) (reader : LineReader) → shell.pid ≡ pid → P s → KeepsPlaced (read_line_turn s shell reader)
   unfolding read_line_turn
   line_keeps s shell reader e p =
       let count = most_read s.machine shell.pid in
       let t = take_bytes s shell.pid (Number 0) count in
       line_read_by_keeps t.after shell reader t.told e (take_keeps directory shell.pid P (own shell e) s (Number 0) count p)
+
+  -- ---- what wait waits for
+  operand_keeps : (s : KernelState) (shell : Shell) (wait : ProcessWait) (o : Option ℕ) → shell.pid ≡ pid → P s → KeepsPlaced (operand_by s shell wait o)
+  operand_keeps s shell wait None e p = (e, p)
+  operand_keeps s shell wait (Some status) e p = (e, p)
+
+  all_keeps : (s : KernelState) (shell : Shell) (o : Option ℕ) → shell.pid ≡ pid → P s → KeepsPlaced (all_by s shell o)
+  all_keeps s shell None e p = (e, p)
+  all_keeps s shell (Some status) e p = (e, p)
+
+  await_keeps : (s : KernelState) (shell : Shell) (a : Awaited) → shell.pid ≡ pid → P s → KeepsPlaced (await_turn s shell a)
+  unfolding await_turn
+  await_keeps s shell awaited.All e p = all_keeps s shell (wait_status s shell.pid shell.known) e p
+  await_keeps s shell (awaited.Process wait) e p = operand_keeps s shell wait (wait_status s shell.pid (wait.process ∷ [])) e p
+
+  -- ---- /dev/null is laid for an asynchronous list
+  set_by_keeps : (r : Result ℕ KernelFault) (s : KernelState) → P s → P (set_by r s).after
+  set_by_keeps (Ok aside) s p = p
+  set_by_keeps (Err fault) s p = p
+
+  pub null_keeps : (s : KernelState) (shell : Shell) → shell.pid ≡ pid → shell.vars.directory ≡ directory → P s → P (null_laid shell.vars.directory s shell.pid).after
+  unfolding null_laid after_null set_aside
+  null_keeps s shell e d p =
+      let call = Open shell.vars.directory (codes "/dev/null") to_read false 10 in
+      let t = after_request s shell.pid call in
+      set_by_keeps (set_aside_call t shell.pid 10).answer (after_request t shell.pid (SetAside 10)) (own shell e t (SetAside 10) tt (own shell e s call d p))
+
+  pub input_keeps : (separator : Separator) (before : List ℕ) (aside : Option ℕ) (s : KernelState) (shell : Shell) → shell.pid ≡ pid → shell.vars.directory ≡ directory → P s
+      → P (stage_input separator before aside shell s).after
+  input_keeps Sequential before aside s shell e d p = p
+  input_keeps Asynchronous [] aside s shell e d p = null_keeps s shell e d p
+  input_keeps Asynchronous (child ∷ children) aside s shell e d p = p
 
   -- ---- a redirection
   redirect_from_keeps : (s : KernelState) (shell : Shell) (prepared : ExpandedCommand) (redirections : List Redirection) → shell.pid ≡ pid → shell.vars.directory ≡ directory → P s → Keeps (redirect_from s shell prepared redirections)
@@ -270,6 +318,14 @@ module _ (directory : List ℕ) (pid : ℕ) (P : KernelState → Type 0) (kept :
   trap_keeps s shell status e p = trap_by_keeps s shell status (action_of shell.traps Exit) e p
 
 -- ---- processes that are made
+made_number_shell : (separator : Separator) (shell : Shell) (children : List ℕ) → (made_shell separator shell children).pid ≡ shell.pid
+made_number_shell Sequential shell children = refl
+made_number_shell Asynchronous shell children = refl
+
+stage_number : (separator : Separator) (commands : List Command) (shell : Shell) (children : List ℕ) → (stage_shell separator commands shell children).pid ≡ shell.pid
+stage_number separator [] shell children = made_number_shell separator shell children
+stage_number separator (command ∷ commands) shell children = refl
+
 module _ (directory : List ℕ) (pid : ℕ) (P : Option ℕ → KernelState → Type 0) (kept : (made : Option ℕ) → IsKept directory pid (P made)) (forks : IsForked pid P) where
   abbrev pub Leaves : Turned → Type 0
   Leaves t = (t.left.shell.pid ≡ pid) × P (made_number t.child) t.left.machine
@@ -288,18 +344,31 @@ module _ (directory : List ℕ) (pid : ℕ) (P : Option ℕ → KernelState → 
 
   stage_by_keeps : (s : KernelState) (shell : Shell) (command : Command) (stages : Stages) (o : Option ℕ) → shell.pid ≡ pid → P o s → Leaves (stage_by s shell command stages o)
   stage_by_keeps s shell command stages None e p = (e, p)
-  stage_by_keeps s shell command stages (Some child) e p = (e, p)
+  stage_by_keeps s shell command stages (Some child) e p = (stage_number stages.separator stages.commands shell (stages.children ++ child ∷ []) ∙ e, p)
 
-  stage_from_keeps : (s : KernelState) (shell : Shell) (stages : Stages) (commands : List Command) → shell.pid ≡ pid → P None s → Leaves (stage_from s shell stages commands)
+  stage_from_keeps : (s : KernelState) (shell : Shell) (stages : Stages) (commands : List Command) → shell.pid ≡ pid → shell.vars.directory ≡ directory → P None s → Leaves (stage_from s shell stages commands)
   unfolding stage_one
-  stage_from_keeps s shell stages [] e p = (e, p)
-  stage_from_keeps s shell stages (command ∷ commands) e p =
-      let f = fork_of s shell.pid stages.aside (is_more commands) in
-      stage_by_keeps f.after shell command (record stages { commands = commands; aside = f.aside }) f.child e (own_forks shell e s stages.aside (is_more commands) p)
+  stage_from_keeps s shell stages [] e d p = (e, p)
+  stage_from_keeps s shell stages (command ∷ commands) e d p =
+      let l = stage_input stages.separator stages.children stages.aside shell s in
+      let f = fork_of l.after shell.pid l.aside (is_more commands) in
+      let laid = input_keeps directory pid (P None) (kept None) stages.separator stages.children stages.aside s shell e d p in
+      stage_by_keeps f.after shell command (record stages { commands = commands; aside = f.aside }) f.child e (own_forks shell e l.after l.aside (is_more commands) laid)
 
-  stage_turn_keeps : (s : KernelState) (shell : Shell) (stages : Stages) → shell.pid ≡ pid → P None s → Leaves (stage_turn s shell stages)
+  stage_turn_keeps : (s : KernelState) (shell : Shell) (stages : Stages) → shell.pid ≡ pid → shell.vars.directory ≡ directory → P None s → Leaves (stage_turn s shell stages)
   unfolding stage_turn
-  stage_turn_keeps s shell stages e p = stage_from_keeps s shell stages stages.commands e p
+  stage_turn_keeps s shell stages e d p = stage_from_keeps s shell stages stages.commands e d p
+
+  list_by_keeps : (s : KernelState) (shell : Shell) (list : AndOr) (o : Option ℕ) → shell.pid ≡ pid → P o s → Leaves (list_by s shell list o)
+  list_by_keeps s shell list None e p = (e, p)
+  list_by_keeps s shell list (Some child) e p = (e, p)
+
+  list_turn_keeps : (s : KernelState) (shell : Shell) (list : AndOr) → shell.pid ≡ pid → shell.vars.directory ≡ directory → P None s → Leaves (list_turn s shell list)
+  unfolding list_turn
+  list_turn_keeps s shell list e d p =
+      let l = null_laid shell.vars.directory s shell.pid in
+      let f = fork_of l.after shell.pid l.aside false in
+      list_by_keeps f.after shell list f.child e (own_forks shell e l.after l.aside false (null_keeps directory pid (P None) (kept None) s shell e d p))
 
   substitution_keeps : (s : KernelState) (shell : Shell) (program : CompoundList) (substitution : Substitution) (o : Option ℕ) → shell.pid ≡ pid → P o s → Leaves (substitution_by s shell program substitution o)
   substitution_keeps s shell program substitution None e p = (e, p)
@@ -323,10 +392,12 @@ module _ (directory : List ℕ) (pid : ℕ) (P : Option ℕ → KernelState → 
   place_keeps around s shell (ReadSubstitution substitution) e d p = collect_keeps directory pid (P None) (kept None) s shell substitution e p
   place_keeps around s shell (WaitSubstitution substitution) e d p = (e, p)
   place_keeps around s shell (ReadLine reader) e d p = line_keeps directory pid (P None) (kept None) s shell reader e p
+  place_keeps around s shell (Awaiting awaited) e d p = await_keeps directory pid (P None) (kept None) s shell awaited e p
   place_keeps around s shell (Redirecting prepared) e d p = redirect_turn_keeps directory pid (P None) (kept None) s shell prepared e d p
   place_keeps around s shell (Forking prepared) e d p = fork_turn_keeps s shell prepared e p
   place_keeps around s shell (Starting start) e d p = (e, p)
-  place_keeps around s shell (ForkStage stages) e d p = stage_turn_keeps s shell stages e p
+  place_keeps around s shell (ForkStage stages) e d p = stage_turn_keeps s shell stages e d p
+  place_keeps around s shell (ForkList list) e d p = list_turn_keeps s shell list e d p
   place_keeps around s shell (AssignLoopVariable series) e d p = (e, p)
   place_keeps around s shell (Defining definition) e d p = (e, p)
   place_keeps around s shell (Waiting children) e d p = (e, p)

@@ -10,7 +10,7 @@ use Rattle.sh_exec_command.specs.declared.found.Found.TheVariants as found
 use Rattle.sh_exec_actions.specs.declared.action.Active.{Active}
 use Rattle.sh_exec_actions.specs.declared.action.Active.TheVariants.{Acting, Calling, Evaluating, Next, Done, Leaving}
 use Rattle.sh_exec_actions.specs.declared.action.Action.{Action}
-use Rattle.sh_exec_actions.specs.declared.action.Action.TheVariants.{Reading, Expanding, ReadSubstitution, WaitSubstitution, ReadLine, Redirecting, Forking, Starting, ForkStage, AssignLoopVariable, Defining, Waiting, Writing, Trapping, Ending}
+use Rattle.sh_exec_actions.specs.declared.action.Action.TheVariants.{Reading, Expanding, ReadSubstitution, WaitSubstitution, ReadLine, Awaiting, Redirecting, Forking, Starting, ForkStage, ForkList, AssignLoopVariable, Defining, Waiting, Writing, Trapping, Ending}
 use Rattle.sh_exec_actions.specs.declared.action.Role.{Role}
 use Rattle.sh_exec_actions.specs.declared.action.Role.TheVariants.{NoCommandName, Builtin, Function, Program, Exec, Compound, Subshell}
 use Rattle.sh_exec_actions.specs.declared.action.CaseBranch.{CaseBranch}
@@ -23,7 +23,7 @@ use Rattle.sh_exec_actions.specs.declared.form.Form.TheVariants.{Text, Commands,
 use Rattle.sh_exec_actions.specs.declared.form.Loop.{Loop}
 use Rattle.sh_exec_parts.specs.declared.simple.Assignment.{Assignment}
 use Rattle.sh_expand.specs.Parts.{parts_of}
-use Rattle.sh_laws.specs.Beginnings.{CommandBegins, CommandsBegin, ConnectedBegin, ElseBegins, ElseIfsBegin, ItemsBegin, ListBegins, PartsBegin}
+use Rattle.sh_laws.specs.Beginnings.{AndOrBegins, CommandBegins, CommandsBegin, ConnectedBegin, ElseBegins, ElseIfsBegin, ItemsBegin, ListBegins, PartsBegin}
 use Rattle.sh_syntax.specs.declared.tree.Command.TheViews as view
 
 -- ---- an action is next
@@ -77,10 +77,12 @@ PlaceHolds (Expanding wants pending) = WantsHold wants
 PlaceHolds (ReadSubstitution substitution) = WantsHold substitution.wants
 PlaceHolds (WaitSubstitution substitution) = WantsHold substitution.wants
 PlaceHolds (ReadLine reader) = Unit {0}
+PlaceHolds (Awaiting awaited) = Unit {0}
 PlaceHolds (Redirecting p) = RoleHolds p.role × AssignmentsHold p.assignments
 PlaceHolds (Forking p) = (p.role ≡ Program) × AssignmentsHold p.assignments
 PlaceHolds (Starting start) = Unit {0}
 PlaceHolds (ForkStage stages) = CommandsBegin stages.commands
+PlaceHolds (ForkList list) = AndOrBegins list
 PlaceHolds (AssignLoopVariable series) = ListBegins series.body
 PlaceHolds (Defining definition) = CommandBegins definition
 PlaceHolds (Waiting children) = Unit {0}

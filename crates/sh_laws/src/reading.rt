@@ -87,8 +87,7 @@ pub fn faults_stand_before_their_decision()
 {}
 
 /// Law: the command that a shell finds in a text begins with an action wherever it is entered. So each list of
-/// commands in it has a command, unless it is the list of a command substitution. No command in it is a function
-/// definition or a `case`, which are refused so far.
+/// commands in it has a command, unless it is the list of a command substitution or of an item of a `case`.
 pub fn found_commands_begin_with_actions()
     ensures { (text : List ℕ) → FoundBegins (next_command text) }
 {}

@@ -48,6 +48,21 @@ impl<S: Stock> Model for World<S> {
     ghost invariant = { λ w. w.shown ≤ length w.kernel.terminal.bytes };
 }
 
+/// The processes that can take a turn: none once the first shell has ended.
+fn runnable_of<S: Stock>(
+    alloc: Global,
+    kernel: &Kernel,
+    tasks: &[Task<S>],
+) -> Result<Vec<u32>, NoMemory>
+    ensures { (s : State S) → StandsAt kernel.now s.machine → tasks.now ≡ s.tasks → IfOk result (λ pids.
+        pids.items ≡ runnables s) }
+{
+    if !is_living(kernel, FIRST_PID) {
+        return Ok(Vec::new(alloc));
+    }
+    runnable_pids(alloc, kernel, tasks)
+}
+
 /// The process that an event gives a turn to.
 fn chosen_by<S: Stock>(
     alloc: Global,
@@ -59,10 +74,7 @@ fn chosen_by<S: Stock>(
     ensures { (s : State S) → PartsStand kernel.now tasks.now last s → IfOk result (λ pid.
         pid ≡ choice event s.last (runnables s)) }
 {
-    if !is_living(kernel, FIRST_PID) {
-        return Ok(choose(event, last, &[]));
-    }
-    let pids = runnable_pids(alloc, kernel, tasks)?;
+    let pids = runnable_of(alloc, kernel, tasks)?;
     Ok(choose(event, last, pids.as_slice()))
 }
 
@@ -229,6 +241,19 @@ impl<S: Stock> World<S> {
         ensures spent { IsSpent self.now → result ≡ None }
     {
         if self.is_spent() { None } else { self.last }
+    }
+
+    /// The processes that can take a turn, in the order of their numbers: `Event::Run(k)` moves the one at place k, modulo how many there
+    /// are. There is none once the first shell has ended. The only error is want of memory, which may have been wanting before.
+    pub fn runnable(&self) -> Result<Vec<u32>, NoMemory>
+        ensures view { (s : State S) → WorldStands self.now s → IfOk result (λ pids.
+            pids.items ≡ runnables s) }
+        ensures spent { IsSpent self.now → IsErr result }
+    {
+        if let Some(lack) = self.lack {
+            return Err(lack);
+        }
+        runnable_of(self.alloc, &self.kernel, self.tasks.as_slice())
     }
 
     /// How the first shell ended, once it did; `None` once memory was wanting.

@@ -15,8 +15,11 @@ body_of-returns-in-None t c = grind (arith, common_steps, of_one c.args.list.now
 pub body_of-returns-in-len2-up : goal.body_of-returns-in-len2-up
 body_of-returns-in-len2-up t c = grind (arith, common_steps, of_long c.args.list.now, of_several c.args.list.now)
 
-pub sole_item-returns-clause-run : goal.sole_item-returns-clause-run
-sole_item-returns-clause-run t c = grind (arith, common_steps, item_is c.args.item.now)
+pub sole_item-returns-in-Sequential-clause-run : goal.sole_item-returns-in-Sequential-clause-run
+sole_item-returns-in-Sequential-clause-run t c = grind (arith, common_steps, item_is c.args.item.now)
+
+pub sole_item-returns-in-Asynchronous-clause-run : goal.sole_item-returns-in-Asynchronous-clause-run
+sole_item-returns-in-Asynchronous-clause-run t c = grind (arith, common_steps, item_is c.args.item.now)
 
 pub sole_and_or-returns-in-empty-clause-run : goal.sole_and_or-returns-in-empty-clause-run
 sole_and_or-returns-in-empty-clause-run t c = grind (arith, common_steps, and_or_is c.args.list.now, unjoined_none)

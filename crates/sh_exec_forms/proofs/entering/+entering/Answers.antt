@@ -1,6 +1,6 @@
 use Rattle.std.proofs.Common.{arith, refl, rules}
 use Rattle.std.proofs.lemmas.Grind.{common_steps}
-use Rattle.sh_exec_forms.proofs.Entered.{and_or_is, case_entered, compound_entered, compound_of_subshell, compound_plain, compound_redirected, for_entered, for_parameters_entered, function_entered, group_entered, if_entered, list_is, loop_entered, several, several_long, simple_entered, subshell_entered}
+use Rattle.sh_exec_forms.proofs.Entered.{and_or_is, case_entered, compound_entered, compound_of_subshell, compound_plain, compound_redirected, for_entered, for_parameters_entered, function_entered, group_entered, if_entered, item_is, list_is, loop_entered, several, several_long, simple_entered, subshell_entered}
 use Rattle.sh_exec_forms.proofs.Inside.{begun, list_inside, negated, step_inside, unnegated}
 use Rattle.sh_exec_forms.proofs.entering.+entering.Goals as goal
 
@@ -60,3 +60,9 @@ enter_pipeline-returns-then-is_negated t c = search (rules, step_inside, negated
 
 pub enter_pipeline-returns : goal.enter_pipeline-returns
 enter_pipeline-returns t c = grind (arith, common_steps, unnegated c.args.pipeline.now)
+
+pub enter_item-returns-in-Sequential : goal.enter_item-returns-in-Sequential
+enter_item-returns-in-Sequential t c = grind (arith, common_steps, item_is c.args.item.now)
+
+pub enter_item-returns-in_ok-in_background-in-Asynchronous : goal.enter_item-returns-in_ok-in_background-in-Asynchronous
+enter_item-returns-in_ok-in_background-in-Asynchronous t c = search (rules, begun, item_is c.args.item.now)
