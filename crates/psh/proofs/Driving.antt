@@ -1,6 +1,6 @@
 -- Runs by lines of events: a world that is given each line's events so often.
 use Rattle.sh_base.specs.Memory.{no_memory}
-use Rattle.std.proofs.Common.{◌≡◌, ◌≢◌, ◌⊎◌, ⊎_elim, Result, Ok, Err, OnErr, ℕ, zero, suc, ◌+◌, add-one, ◌<◌, ◌≤◌, List, [], ◌∷◌, ◌++◌, append_assoc, length, length-append, take, take_all, get_or, replicate, zero-add, add_assoc, refl, sym, ap, ◌∙◌, arith}
+use Rattle.std.proofs.Common.{◌≡◌, ◌≢◌, ◌⊎◌, ⊎_elim, inl, inr, Result, Ok, Err, OnOk, OnErr, ℕ, zero, suc, ◌+◌, add-one, ◌<◌, ◌≤◌, List, [], ◌∷◌, ◌++◌, append_assoc, length, length-append, take, take_all, get_or, replicate, zero-add, add_assoc, refl, sym, ap, ◌∙◌, arith}
 use Rattle.sh_stock.specs.Asking.{Meaning}
 use Rattle.sh_world.specs.World.{WorldKept, WorldStands, shown_of}
 use Rattle.sh_exec.specs.State.{State, run, start, step, terminal_of}
@@ -88,6 +88,23 @@ run-within_line m s all i d j h l =
 pub shows_some : {S : Type 0} (m : Meaning S) (files : FileMap) (settings : Settings) (all : List Turns) (old new : List ℕ)
     → ((new ≡ old) ⊎ ((j : ℕ) × (new ≡ old ++ terminal_of (run m (start files settings) (take j (each_event all)))))) → ShowsSome m files settings all old new
 shows_some m files settings all old new h = ⊎_elim (λ e. nothing_shown e) (λ p. some_shown p.0 p.1) h
+
+-- what is shown of all of them
+pub shows_all : {S : Type 0} (m : Meaning S) (s : State S) (all : List Event) (old new : List ℕ) → ((new ≡ old) ⊎ (new ≡ old ++ terminal_of (run m s all)))
+    → (new ≡ old) ⊎ ((j : ℕ) × (new ≡ old ++ terminal_of (run m s (take j all))))
+shows_all m s all old new h =
+    let past : length all ≤ length all = omega arith in
+    ⊎_elim (λ e. inl e) (λ e. inr (length all, rw (take_all _ _ past) e)) h
+
+-- what is shown of some of them, or nothing
+shown_or_kept : {A E : Type 0} (r : Result A E) (old new text : List ℕ) → OnOk r (new ≡ old ++ text) → OnErr r (new ≡ old) → (new ≡ old) ⊎ (new ≡ old ++ text)
+shown_or_kept (Ok x) old new text shown kept = inr shown
+shown_or_kept (Err e) old new text shown kept = inl kept
+
+pub shows_part : {S A E : Type 0} (m : Meaning S) (r : Result A E) (s : State S) (all : List Event) (old new text : List ℕ) → OnOk r (new ≡ old ++ text) → OnErr r (new ≡ old)
+    → ((j : ℕ) × (text ≡ terminal_of (run m s (take j all)))) → (new ≡ old) ⊎ ((j : ℕ) × (new ≡ old ++ terminal_of (run m s (take j all))))
+shows_part m r s all old new text shown kept part =
+    ⊎_elim (λ e. inl e) (λ e. inr (part.0, e ∙ ap (λ xs. old ++ xs) part.1)) (shown_or_kept r old new text shown kept)
 
 -- ---- a world that stands at a state shows its terminal
 pub shown_of-stands : {S : Type 0} (w : WorldKept S) (s : State S) → WorldStands w s → shown_of w ≡ terminal_of s

@@ -1,3 +1,4 @@
 pub mod Lines
 pub mod Events
+pub mod Report
 pub mod Serving

@@ -1,5 +1,5 @@
 -- What the program does with an image and events: what it writes, and its exit status.
-use Rattle.std.specs.Prelude.{◌≡◌, ◌⊎◌, ℕ, List, [], ◌∷◌, ◌++◌, Ok, Err, codes, decimal, take}
+use Rattle.std.specs.Prelude.{◌≡◌, ◌⊎◌, ℕ, Bool, List, [], ◌∷◌, ◌++◌, Ok, Err, codes, decimal, take}
 use Rattle.sh_files.specs.Image.{read_image}
 use Rattle.sh_files.specs.Nodes.{FileMap}
 use Rattle.sh_files_image.specs.Faults.{name_of}
@@ -10,6 +10,7 @@ use Rattle.sh_exec.specs.declared.event.Event.{Event}
 use Rattle.sh_exec.specs.declared.settings.Settings.{Settings}
 use Rattle.psh.specs.Events.{each_event, events_of}
 use Rattle.psh.specs.declared.events.EventFault.TheVariants.{BadEvent}
+use Rattle.psh.specs.Report.{shown_text}
 use Rattle.psh.specs.declared.events.Turns.{Turns}
 
 -- why an input is refused: what is wrong, and in which line
@@ -29,9 +30,9 @@ pub record AreRead (image events : List ℕ) (files : FileMap) (all : List Turns
   pub image_is : read_image image ≡ Ok files
   pub events_are : events_of events ≡ Ok all
 
--- the output grew by the terminal's bytes after all events
-abbrev pub Shows : {S : Type 0} → Meaning S → FileMap → Settings → List Turns → List ℕ → List ℕ → Type 0
-Shows m files settings all old new = new ≡ old ++ terminal_of (run m (start files settings) (events_by all))
+-- the output grew by the terminal's bytes after all events, and by the report of the state then where that is asked for
+abbrev pub Shows : {S : Type 0} → Meaning S → (report : Bool) → FileMap → Settings → List Turns → List ℕ → List ℕ → Type 0
+Shows m report files settings all old new = new ≡ old ++ shown_text report (run m (start files settings) (events_by all))
 
 -- it grew by the terminal's bytes after some of the events, or by nothing
 pub data ShowsSome {S : Type 0} (m : Meaning S) (files : FileMap) (settings : Settings) (all : List Turns) (old new : List ℕ) : Type 0 where
@@ -39,11 +40,11 @@ pub data ShowsSome {S : Type 0} (m : Meaning S) (files : FileMap) (settings : Se
   some_shown : (j : ℕ) → new ≡ old ++ terminal_of (run m (start files settings) (take j (events_by all))) → ShowsSome m files settings all old new
 
 -- status 0: the run is done
-pub record WasRun {S : Type 0} (m : Meaning S) (image events : List ℕ) (settings : Settings) (old new : List ℕ) : Type 0 where
+pub record WasRun {S : Type 0} (m : Meaning S) (report : Bool) (image events : List ℕ) (settings : Settings) (old new : List ℕ) : Type 0 where
   pub files : FileMap
   pub all : List Turns
   pub read : AreRead image events files all
-  pub shown : Shows m files settings all old new
+  pub shown : Shows m report files settings all old new
 
 -- status 3: memory was wanting, before anything was shown or in the run
 pub data WasCut {S : Type 0} (m : Meaning S) (image events : List ℕ) (settings : Settings) (old new : List ℕ) : Type 0 where

@@ -1,9 +1,9 @@
 //! The command line.
 use crate::usage::{Asked, UsageFault};
 use clap::error::ErrorKind;
-use clap::{Arg, ArgMatches, Command, Error};
+use clap::{Arg, ArgAction, ArgMatches, Command, Error};
 use sh_base::sequence::Sequence;
-use sh_vars::{Options, Text};
+use sh_vars::{Options, ShellOption, Text};
 use sh_world::{Settings, Source};
 use std::alloc::{AllocError, Global};
 
@@ -35,6 +35,23 @@ fn text_option<'a>(alloc: Global) -> Arg<'a> {
         .allow_hyphen_values(true)
 }
 
+/// The option with the letters of the shell's options.
+fn letters_option<'a>(alloc: Global) -> Arg<'a> {
+    Arg::new(alloc, "letters")
+        .long("set")
+        .value_name("LETTERS")
+        .help("The options of `set` that are on from the start: letters of aCefu")
+        .allow_hyphen_values(true)
+}
+
+/// The option that asks for a report.
+fn report_option<'a>(alloc: Global) -> Arg<'a> {
+    Arg::new(alloc, "report")
+        .long("report")
+        .action(ArgAction::SetTrue)
+        .help("Tell of each process and of the files, behind the terminal's bytes")
+}
+
 /// An operand that names a file.
 fn file_operand<'a>(alloc: Global, id: &'a str, shown: &'a str, help: &'a str) -> Arg<'a> {
     Arg::new(alloc, id)
@@ -58,6 +75,8 @@ fn command_without_words<'a>(alloc: Global) -> Result<Command<'a>, AllocError> {
         .about("Runs a shell script over a modelled machine, by stated turns of its processes")
         .no_binary_name(true)
         .arg(text_option(alloc))?
+        .arg(letters_option(alloc))?
+        .arg(report_option(alloc))?
         .arg(file_operand(alloc, "image", "IMAGE", "The file with the image of files"))?
         .arg(file_operand(
             alloc,
@@ -109,8 +128,27 @@ fn parameters(alloc: Global, words: &[&str]) -> Result<Sequence<Text>, AllocErro
     Ok(Sequence::from_vec(args))
 }
 
+/// The options that are on at the start: letters of `set`, but for `m`.
+fn options_of(letters: &str) -> Result<Options, UsageFault> {
+    let mut options = Options::default();
+    for letter in letters.as_bytes() {
+        match ShellOption::from_letter(*letter) {
+            Some(ShellOption::Interactive) | Some(ShellOption::Monitor) | None => {
+                return Err(UsageFault::BadLetters);
+            },
+            Some(option) => options = options.switched(option, true),
+        }
+    }
+    Ok(options)
+}
+
 /// How a shell is started that runs a text or a script: the first word is `$0`, the others are `$1` and so on.
-fn settings_of(alloc: Global, text: Option<&str>, words: &[&str]) -> Result<Settings, AllocError> {
+fn settings_of(
+    alloc: Global,
+    text: Option<&str>,
+    words: &[&str],
+    options: Options,
+) -> Result<Settings, AllocError> {
     let (first, rest) = match words {
         [first, rest @ ..] => (*first, rest),
         [] => ("psh", words),
@@ -122,7 +160,7 @@ fn settings_of(alloc: Global, text: Option<&str>, words: &[&str]) -> Result<Sett
         source,
         zero,
         args,
-        options: Options::default(),
+        options,
     })
 }
 
@@ -139,15 +177,16 @@ fn path_of(alloc: Global, text: Option<&str>, fault: &[u8]) -> Result<String, Us
 
 /// What a command line that is in order asks for.
 fn asked_by(alloc: Global, matches: &ArgMatches) -> Result<Asked, UsageFault> {
+    let options = options_of(matches.get_str("letters").unwrap_or(""))?;
     let image = matches.get_str("image");
     let image = path_of(alloc, image, b"psh: the path of the image is not UTF-8\n")?;
     let events = matches.get_str("events");
     let events = path_of(alloc, events, b"psh: the path of the events is not UTF-8\n")?;
     let words = matches.get_strs("words").unwrap_or(&[]);
-    let settings = settings_of(alloc, matches.get_str("text"), words)?;
+    let settings = settings_of(alloc, matches.get_str("text"), words, options)?;
     Ok(Asked {
         settings,
-        report: false,
+        report: matches.get_flag("report"),
         image,
         events,
     })

@@ -1,11 +1,13 @@
 //! `psh`: what a shell script does when its processes take turns in a stated way.
 //!
 //! `psh -c TEXT IMAGE EVENTS` runs TEXT by the events of the file EVENTS, on the files of the image IMAGE,
-//! and writes the bytes that the terminal then has. `psh IMAGE EVENTS SCRIPT` runs a script of the image.
+//! and writes the bytes that the terminal then has. `psh IMAGE EVENTS SCRIPT` runs a script of the image. With
+//! `--report` the processes and the files follow.
 #![tactic(auto)]
 
 mod command_line;
 mod events;
+mod report;
 mod serving;
 mod usage;
 
@@ -125,6 +127,10 @@ fn tell(rt: &HostRuntime, fault: UsageFault) -> u8 {
         UsageFault::Help { text } => write(rt, &text, 0),
         UsageFault::Usage { text } => {
             let _ = rt.stderr().write_all(&text);
+            2
+        },
+        UsageFault::BadLetters => {
+            let _ = eprintln!(rt; "psh: bad letters");
             2
         },
         UsageFault::OutOfMemory => lack(rt),

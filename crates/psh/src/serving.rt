@@ -6,9 +6,11 @@ ghost use Rattle.sh_files_image.specs.declared.image_fault.FaultKind.TheVariants
 ghost use Rattle.sh_world.specs.World.{WorldStands, shown_of};
 ghost use Rattle.sh_exec.specs.State.{State, run, terminal_of};
 ghost use Rattle.psh.specs.Events.{each_event};
+ghost use Rattle.psh.specs.Report.{shown_text};
 ghost use Rattle.psh.specs.Serving.{SaysLack, Shows, ShowsSome, WasCut, WasRefused, WasRun, refusal};
 
 use crate::events::{EventFault, Turns, read_events};
+use crate::report::put_report;
 use itoa::Buffer;
 use sh_base::NoMemory;
 use sh_files::{FaultKind, Files, ImageFault};
@@ -118,24 +120,56 @@ fn show<S: Stock>(world: &World<S>, out: &mut Vec<u8>) -> Result<(), NoMemory>
     Ok(())
 }
 
-/// Gives a world its turns, and shows its terminal.
-fn lead<S: Stock>(mut world: World<S>, all: &[Turns], out: &mut Vec<u8>, err: &mut Vec<u8>) -> u8
+/// Shows a world's terminal, and the report on it where that is asked for. After an `Err` the terminal alone may be shown.
+fn show_all<S: Stock>(
+    alloc: Global,
+    report: bool,
+    world: &World<S>,
+    out: &mut Vec<u8>,
+) -> Result<(), NoMemory>
+    ensures view { (s : State S) → WorldStands world.now s
+        → OnOk result (out.new.items ≡ out.old.items ++ shown_text report s) }
+    ensures cut { (s : State S) → WorldStands world.now s → OnErr result
+        ((out.new.items ≡ out.old.items) ⊎ (out.new.items ≡ out.old.items ++ terminal_of s)) }
+{
+    show(world, out)?;
+    if report {
+        put_report(alloc, world, out)?;
+    }
+    Ok(())
+}
+
+/// Gives a world its turns, and shows its terminal, and the report on it where that is asked for.
+fn lead<S: Stock>(
+    alloc: Global,
+    report: bool,
+    mut world: World<S>,
+    all: &[Turns],
+    out: &mut Vec<u8>,
+    err: &mut Vec<u8>,
+) -> u8
     ensures statuses { (result ≡ 0) ⊎ (result ≡ 3) }
     ensures done { (s : State S) → WorldStands world s → result ≡ 0 → out.new.items ≡ out.old.items
-        ++ terminal_of (run S.meaning s (each_event all.now)) }
+        ++ shown_text report (run S.meaning s (each_event all.now)) }
     ensures cut { (s : State S) → WorldStands world s → result ≡ 3 →
         (out.new.items ≡ out.old.items) ⊎ ((j : ℕ) × (out.new.items ≡ out.old.items ++ terminal_of (run S.meaning s (take j (each_event all.now))))) }
     ensures silent { result ≡ 0 → err.new.items ≡ err.old.items }
     ensures lacks { result ≡ 3 → SaysLack err.old.items err.new.items }
 {
-    let driven = drive(&mut world, all);
-    let shown = show(&world, out);
-    drop(world);
-    match (driven, shown) {
-        (Ok(()), Ok(())) => 0,
-        (Ok(()), Err(_)) => lack(err),
-        (Err(_), Ok(())) => lack(err),
-        (Err(_), Err(_)) => lack(err),
+    match drive(&mut world, all) {
+        Ok(()) => {
+            let shown = show_all(alloc, report, &world, out);
+            drop(world);
+            match shown {
+                Ok(()) => 0,
+                Err(_) => lack(err),
+            }
+        },
+        Err(_) => {
+            let _shown = show(&world, out);
+            drop(world);
+            lack(err)
+        },
     }
 }
 
@@ -143,44 +177,46 @@ fn lead<S: Stock>(mut world: World<S>, all: &[Turns], out: &mut Vec<u8>, err: &m
 fn run<S: Stock>(
     alloc: Global,
     settings: Settings,
+    report: bool,
     files: Files,
     all: &[Turns],
     out: &mut Vec<u8>,
     err: &mut Vec<u8>,
 ) -> u8
     ensures statuses { (result ≡ 0) ⊎ (result ≡ 3) }
-    ensures done { result ≡ 0 → Shows S.meaning files settings all.now out.old.items out.new.items }
+    ensures done { result ≡ 0 → Shows S.meaning report files settings all.now out.old.items
+        out.new.items }
     ensures cut { result ≡ 3 → ShowsSome S.meaning files settings all.now out.old.items
         out.new.items }
     ensures silent { result ≡ 0 → err.new.items ≡ err.old.items }
     ensures lacks { result ≡ 3 → SaysLack err.old.items err.new.items }
 {
     match World::<S>::new(alloc, files, settings) {
-        Ok(world) => lead(world, all, out, err),
+        Ok(world) => lead(alloc, report, world, all, out, err),
         Err(_) => lack(err),
     }
 }
 
 /// Runs a shell on the files of `image` by the turns of `events`, both given whole, with the programs of a stock. The image is
 /// checked first, then all events, before any event happens. `out` gets the terminal's bytes after the last
-/// event, `err` what the program says itself.
+/// event, and behind them the report on the world then where `report`; `err` gets what the program says itself.
 ///
 /// It answers the program's exit status: 0 where the run is done; 1 where the image or the events are refused
 /// (`psh: NAME: line N` in `err`, nothing in `out`); 3 where memory was wanting (`psh: out of memory` in
 /// `err`, or nothing where there is no memory for that, and in `out` the terminal's bytes of the events that
-/// went through). At 0 nothing is said in `err`. `_report` changes nothing yet.
+/// went through, or nothing). At 0 nothing is said in `err`.
 pub fn serve<S: Stock>(
     alloc: Global,
     settings: Settings,
-    _report: bool,
+    report: bool,
     image: &[u8],
     events: &[u8],
     out: &mut Vec<u8>,
     err: &mut Vec<u8>,
 ) -> u8
     ensures statuses { (result ≡ 0) ⊎ ((result ≡ 1) ⊎ (result ≡ 3)) }
-    ensures done { result ≡ 0 → WasRun S.meaning image.now events.now settings out.old.items
-        out.new.items }
+    ensures done { result ≡ 0 → WasRun S.meaning report image.now events.now settings
+        out.old.items out.new.items }
     ensures refused { result ≡ 1 → (out.new.items ≡ out.old.items)
         × WasRefused image.now events.now err.old.items err.new.items }
     ensures cut { result ≡ 3 → WasCut S.meaning image.now events.now settings out.old.items
@@ -196,7 +232,7 @@ pub fn serve<S: Stock>(
         },
     };
     match read_events(alloc, events) {
-        Ok(all) => run::<S>(alloc, settings, files, &all, out, err),
+        Ok(all) => run::<S>(alloc, settings, report, files, &all, out, err),
         Err(fault) => {
             drop(settings);
             drop(files);

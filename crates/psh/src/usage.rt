@@ -7,7 +7,7 @@ use std::alloc::{AllocError, AllocFailed};
 pub struct Asked {
     /// How the first shell is started.
     pub settings: Settings,
-    /// Whether a report follows the terminal's bytes. No word asks for one yet.
+    /// Whether a report follows the terminal's bytes.
     pub report: bool,
     /// The path of the image.
     pub image: String,
@@ -20,6 +20,8 @@ pub struct Asked {
 pub enum UsageFault {
     /// The words are not in order; the text says how they should be.
     Usage { text: Vec<u8> },
+    /// A letter behind `--set` is none of `a C e f u`.
+    BadLetters,
     /// Help is asked for; this is its text.
     Help { text: Vec<u8> },
     /// No memory was found, by clap or here.
