@@ -1,0 +1,7 @@
+pub mod Stack
+pub mod Orders
+pub mod Tally
+pub mod Looking
+pub mod Walk
+pub mod Runs
+pub mod Apart

@@ -1,0 +1,16 @@
+use Rattle.std.proofs.Common.{◌≡◌, Ok, Result, sym, ◌∙◌, subst}
+use Rattle.sh_files.specs.Nodes.{FileMap}
+use Rattle.sh_files_image.specs.declared.image_fault.ImageFault.{ImageFault}
+use Rattle.sh_world.specs.World.{WorldStands}
+use Rattle.sh_exec.specs.State.{start}
+use Rattle.sh_exec.specs.declared.settings.Settings.{Settings}
+use Rattle.sh_schedules.proofs.begin.begin.Goals as goal
+
+same_files : (read : Result FileMap ImageFault) (a b : FileMap) → read ≡ Ok a → read ≡ Ok b → a ≡ b
+same_files read a b x y = let e : ◌≡◌ {A = Result FileMap ImageFault} (Ok a) (Ok b) = sym x ∙ y in cc
+
+-- the world is begun on the files that the image holds, and on a copy of the settings
+pub returns-in-Ok-new-clause-stands : goal.returns-in-Ok-new-clause-stands
+returns-in-Ok-new-clause-stands g c = λ files is.
+    subst (λ (these : FileMap). WorldStands c.in-Ok-new.world (start these c.args.settings.now)) (same_files _ _ _ c.in-Ok.ensures.ok is)
+    (subst (λ (those : Settings). WorldStands c.in-Ok-new.world (start c.in-Ok.files those)) c.in_ok-settings.ensures c.in-Ok-new.ensures)

@@ -1,0 +1,11 @@
+use Rattle.std.proofs.Common.{◌≡◌, Ok}
+use Rattle.sh_files.specs.Image.{read_image}
+use Rattle.sh_files.specs.Nodes.{FileMap}
+use Rattle.sh_exec.specs.State.{start}
+use Rattle.sh_schedules.specs.Shell.{outcome_of, shell}
+use Rattle.sh_schedules.specs.Trying.{IsTrying}
+use Rattle.sh_schedules.proofs.exploring.try_all.Given as goal
+
+abbrev pub invariant-schedules : goal.invariant-schedules
+invariant-schedules g l = (files : FileMap) → read_image l.image ≡ Ok files
+    → IsTrying (shell g.S.Stock.meaning) outcome_of l.bounds.preemptions l.bounds.turns (start files l.settings) l.path.items l.found.items l.tried

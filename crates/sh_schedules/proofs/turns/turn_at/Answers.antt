@@ -1,0 +1,6 @@
+use Rattle.sh_schedules.specs.Shell.{shell}
+use Rattle.sh_schedules.proofs.turns.turn_at.Goals as goal
+
+pub returns : goal.returns
+unfolding shell
+returns g c = λ s h. c.apply.ensures.step s h

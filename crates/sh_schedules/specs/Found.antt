@@ -1,0 +1,79 @@
+-- The outcomes that were found, as schedules are counted to them.
+use Rattle.std.specs.Prelude.{◌≡◌, ◌≢◌, ℕ, zero, suc, ◌+◌, ◌<◌, ◌≤◌, ◌^◌, min, ◌⊎◌, List, [], ◌∷◌, length}
+use Rattle.sh_exec.specs.declared.event.Event.{Event}
+use Rattle.sh_schedules.specs.Schedules.{IsSchedule, Machine, end_of, preemptions}
+use Rattle.sh_schedules.specs.declared.found.Found.{Found}
+use Rattle.sh_schedules.specs.declared.outcome.Outcome.{Outcome}
+
+-- it is the place of the first with this outcome, or their number where none has it
+abbrev pub IsPlace : List Found → Outcome → ℕ → Type 0
+IsPlace [] outcome zero = Unit {0}
+IsPlace [] outcome (suc i) = ⊥
+IsPlace (f ∷ fs) outcome zero = f.outcome ≡ outcome
+IsPlace (f ∷ fs) outcome (suc i) = (f.outcome ≢ outcome) × IsPlace fs outcome i
+
+-- one more schedule with this outcome; it is kept where it has fewer preemptions
+pub record IsAgain (old : Found) (events : List Event) (cost : ℕ) (new : Found) : Type 0 where
+  pub outcome_is : new.outcome ≡ old.outcome
+  pub counts : old.schedules + 1 < 2 ^ 64 → new.schedules ≡ old.schedules + 1
+  pub fewest : new.preemptions ≡ min cost old.preemptions
+  pub kept : ((new.events ≡ events) × (new.preemptions ≡ cost)) ⊎ ((new.events ≡ old.events) × (new.preemptions ≡ old.preemptions))
+
+-- a schedule with this outcome is counted
+abbrev pub Noted : List Found → Outcome → List Event → ℕ → List Found → Type 0
+Noted [] outcome events cost new = new ≡ record { outcome = outcome; schedules = 1; preemptions = cost; events = events } ∷ []
+Noted (f ∷ fs) outcome events cost [] = ⊥
+Noted (f ∷ fs) outcome events cost (g ∷ gs) =
+    ((f.outcome ≡ outcome) × IsAgain f events cost g × (gs ≡ fs)) ⊎ ((f.outcome ≢ outcome) × (g ≡ f) × Noted fs outcome events cost gs)
+
+-- one of them has this outcome
+abbrev pub Shows : List Found → Outcome → Type 0
+Shows [] outcome = ⊥
+Shows (f ∷ fs) outcome = (f.outcome ≡ outcome) ⊎ Shows fs outcome
+
+-- no two have the same outcome
+abbrev pub AreDistinct : List Found → Type 0
+AreDistinct [] = Unit {0}
+AreDistinct (f ∷ fs) = (Shows fs f.outcome → ⊥) × AreDistinct fs
+
+-- how many schedules were counted
+abbrev pub counted : List Found → ℕ
+counted [] = 0
+counted (f ∷ fs) = f.schedules + counted fs
+
+-- so many of these schedules come to an outcome
+abbrev pub IsNumber : {A : Type 0} → Machine A → (A → Outcome) → A → Outcome → List (List Event) → ℕ → Type 0
+IsNumber w outcome s seen [] n = n ≡ 0
+IsNumber w outcome s seen (es ∷ rest) n =
+    ((outcome (end_of w s es) ≢ seen) × IsNumber w outcome s seen rest n)
+    ⊎ ((m : ℕ) × (n ≡ suc m) × (outcome (end_of w s es) ≡ seen) × IsNumber w outcome s seen rest m)
+
+-- those of them that come to it have this many preemptions at least
+abbrev pub HaveAtLeast : {A : Type 0} → Machine A → (A → Outcome) → A → Outcome → ℕ → List (List Event) → Type 0
+HaveAtLeast w outcome s seen least [] = Unit {0}
+HaveAtLeast w outcome s seen least (es ∷ rest) = (outcome (end_of w s es) ≡ seen → least ≤ preemptions w s es) × HaveAtLeast w outcome s seen least rest
+
+-- its events are a schedule from this state that comes to its outcome; of those that were tried as many come to it as it counts, and none
+-- of these has fewer preemptions
+pub record IsFound {A : Type 0} (w : Machine A) (outcome : A → Outcome) (k n : ℕ) (s : A) (done : List (List Event)) (f : Found) : Type 0 where
+  pub schedule : IsSchedule w k n s f.events
+  pub outcome_is : f.outcome ≡ outcome (end_of w s f.events)
+  pub preempts : f.preemptions ≡ preemptions w s f.events
+  pub number : IsNumber w outcome s f.outcome done f.schedules
+  pub fewest : HaveAtLeast w outcome s f.outcome f.preemptions done
+
+abbrev pub AreFound : {A : Type 0} → Machine A → (A → Outcome) → ℕ → ℕ → A → List (List Event) → List Found → Type 0
+AreFound w outcome k n s done [] = Unit {0}
+AreFound w outcome k n s done (f ∷ fs) = IsFound w outcome k n s done f × AreFound w outcome k n s done fs
+
+-- each of these schedules comes to one of the outcomes
+abbrev pub AreShown : {A : Type 0} → Machine A → (A → Outcome) → A → List Found → List (List Event) → Type 0
+AreShown w outcome s found [] = Unit {0}
+AreShown w outcome s found (es ∷ rest) = Shows found (outcome (end_of w s es)) × AreShown w outcome s found rest
+
+-- just these schedules were counted
+pub record IsTally {A : Type 0} (w : Machine A) (outcome : A → Outcome) (k n : ℕ) (s : A) (done : List (List Event)) (found : List Found) : Type 0 where
+  pub each : AreFound w outcome k n s done found
+  pub distinct : AreDistinct found
+  pub counts : counted found ≡ length done
+  pub shown : AreShown w outcome s found done

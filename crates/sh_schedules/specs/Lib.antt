@@ -1,0 +1,7 @@
+pub mod Schedules
+pub mod Choices
+pub mod Paths
+pub mod Found
+pub mod Refusals
+pub mod Shell
+pub mod Trying

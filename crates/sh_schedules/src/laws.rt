@@ -1,0 +1,24 @@
+//! Laws of schedules.
+ghost use Rattle.std.specs.Prelude.{◌≡◌, ℕ, List};
+ghost use Rattle.sh_exec.specs.State.{State, run};
+ghost use Rattle.sh_exec.specs.declared.event.Event.{Event};
+ghost use Rattle.sh_schedules.specs.Schedules.{IsSchedule, end_of};
+ghost use Rattle.sh_schedules.specs.Choices.{AreApart, In, schedules};
+ghost use Rattle.sh_schedules.specs.Shell.{shell};
+
+use sh_stock::Stock;
+
+/// Law: the state to which events lead is the one to which the shell machine runs by them.
+pub fn ends_are_runs<S: Stock>()
+    ensures { (s : State S) (events : List Event)
+        → end_of (shell S.meaning) s events ≡ run S.meaning s events }
+{}
+
+/// Law: the list of all schedules, in the order in which they are tried, has each schedule, nothing else, and none twice.
+pub fn schedules_are_listed<S: Stock>()
+    ensures all { (k n : ℕ) (s : State S) (events : List Event)
+        → IsSchedule (shell S.meaning) k n s events → In (schedules (shell S.meaning) k n s) events }
+    ensures only { (k n : ℕ) (s : State S) (events : List Event)
+        → In (schedules (shell S.meaning) k n s) events → IsSchedule (shell S.meaning) k n s events }
+    ensures once { (k n : ℕ) (s : State S) → AreApart (schedules (shell S.meaning) k n s) }
+{}

@@ -1,0 +1,19 @@
+//! The schedules of a script: what it comes to by each of them.
+#![tactic(auto)]
+
+mod begin;
+mod choices;
+mod exploring;
+mod fault;
+mod found;
+mod laws;
+mod look;
+mod outcome;
+mod path;
+mod turns;
+
+pub use exploring::{Bounds, Exploration, explore};
+pub use fault::ExploreFault;
+pub use found::Found;
+pub use laws::{ends_are_runs, schedules_are_listed};
+pub use outcome::{Ending, Outcome};

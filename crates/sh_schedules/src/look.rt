@@ -1,0 +1,82 @@
+//! What a world shows.
+ghost use Rattle.std.specs.Prelude.{◌≡◌, IfOk};
+ghost use Rattle.sh_files.specs.Writing.{image_text};
+ghost use Rattle.sh_world.specs.World.{WorldStands};
+ghost use Rattle.sh_exec.specs.State.{State, ended_of, files_of, runnables};
+ghost use Rattle.sh_schedules.specs.Shell.{ending_by, outcome_of, statuses_in};
+
+use crate::outcome::{Ending, Outcome};
+use sh_base::NoMemory;
+use sh_base::sequence::{Sequence, Text};
+use sh_kernel::{FIRST_PID, Status};
+use sh_stock::Stock;
+use sh_world::World;
+use std::alloc::Global;
+
+/// How many processes there may be: their numbers go from 100 to 2147483647.
+const MOST_PROCESSES: u32 = 2_147_483_548;
+
+/// The status of each process that ever was.
+fn statuses<S: Stock>(alloc: Global, world: &World<S>) -> Result<Sequence<Status>, NoMemory>
+    ensures { (s : State S) → WorldStands world.now s → IfOk result (λ statuses.
+        statuses ≡ statuses_in s.machine.machine.processes) }
+{
+    let mut statuses = Sequence::new(alloc);
+    'places: for place in 0..MOST_PROCESSES {
+        let Some(status) = world.status(FIRST_PID + place) else {
+            return Ok(statuses);
+        };
+        statuses.push(status)?;
+    }
+    Ok(statuses)
+}
+
+/// How a run ended, where these processes can still take a turn.
+fn ending_by(runnable: &[u32], status: Option<Status>) -> Ending
+    ensures { result ≡ ending_by runnable.now status }
+{
+    match (runnable, status) {
+        ([], None) => Ending::Stuck,
+        ([], Some(_)) => Ending::Ended,
+        ([_, ..], _) => Ending::Cut,
+    }
+}
+
+/// How a run ended.
+fn ending<S: Stock>(world: &World<S>) -> Result<Ending, NoMemory>
+    ensures { (s : State S) → WorldStands world.now s → IfOk result (λ ending.
+        ending ≡ ending_by (runnables s) (ended_of s)) }
+{
+    let runnable = world.runnable()?;
+    Ok(ending_by(runnable.as_slice(), world.ended()))
+}
+
+/// The image of the files.
+fn image<S: Stock>(alloc: Global, world: &World<S>) -> Result<Text, NoMemory>
+    ensures { (s : State S) → WorldStands world.now s → IfOk result (λ image.
+        image ≡ image_text (files_of s)) }
+{
+    let Some(files) = world.files() else {
+        return Ok(Text::new(alloc));
+    };
+    let image = files.write_image()?;
+    Ok(Text::from_vec(image))
+}
+
+/// What is seen where a run ends.
+#[tactic(auto, unfolding(crate::specs::Shell::outcome_of))]
+pub(crate) fn outcome_of<S: Stock>(alloc: Global, world: &World<S>) -> Result<Outcome, NoMemory>
+    ensures { (s : State S) → WorldStands world.now s → IfOk result (λ outcome.
+        outcome ≡ outcome_of s) }
+{
+    let ending = ending(world)?;
+    let terminal = Text::copy_of(alloc, world.terminal())?;
+    let image = image(alloc, world)?;
+    let statuses = statuses(alloc, world)?;
+    Ok(Outcome {
+        terminal,
+        image,
+        statuses,
+        ending,
+    })
+}
