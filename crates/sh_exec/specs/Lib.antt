@@ -7,4 +7,5 @@ pub mod Scripts
 pub mod Starting
 pub mod State
 pub mod Tasks
+pub mod TurnActions
 pub mod Turns

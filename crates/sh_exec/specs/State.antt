@@ -1,5 +1,5 @@
 -- The shell machine: its states, one event, a list of events, and what can be seen of a state.
-use Rattle.std.specs.Prelude.{ℕ, List, [], ◌∷◌, Option, Some, None, if◌then◌else◌}
+use Rattle.std.specs.Prelude.{ℕ, ◌==◌, List, [], ◌∷◌, Option, Some, None, find, if◌then◌else◌}
 use Rattle.sh_files.specs.Nodes.{FileMap}
 use Rattle.sh_kernel.specs.State as kernel
 use Rattle.sh_kernel.specs.State.{KernelState}
@@ -12,7 +12,7 @@ use Rattle.sh_exec.specs.Choice.{choice}
 use Rattle.sh_exec.specs.Processes.{TasksTurned, living, runnable_pids, turn_among, with_child}
 use Rattle.sh_exec.specs.declared.event.Event.{Event}
 use Rattle.sh_exec.specs.declared.jobs.Jobs.{Jobs}
-use Rattle.sh_exec.specs.Tasks.{first_pid, first_task}
+use Rattle.sh_exec.specs.Tasks.{first_pid, first_task, pid_of}
 use Rattle.sh_exec.specs.declared.settings.Settings.{Settings}
 use Rattle.sh_exec.specs.declared.task.Task.{Task}
 
@@ -30,6 +30,10 @@ start image settings = record {
   jobs = record {};
   last = None;
 }
+
+-- the process of this pid, as long as it lives
+abbrev pub task_of : {S : Type 0} → State S → ℕ → Option (Task S)
+task_of s pid = find (λ task. pid_of task == pid) s.tasks
 
 abbrev pub status_of : {S : Type 0} → State S → ℕ → Option Status
 status_of s pid = status_at s.machine.machine.processes pid

@@ -12,9 +12,11 @@ mod settings;
 mod shell;
 mod start;
 mod task;
+mod turn_action;
 
 pub use event::Event;
 pub use jobs::Jobs;
 pub use settings::{Settings, Source};
 pub use start::Started;
 pub use task::Task;
+pub use turn_action::TurnAction;

@@ -7,6 +7,7 @@ ghost use Rattle.sh_tty.specs.Terminal.{Extends};
 ghost use Rattle.sh_exec_shell.specs.Reduction.{shell_turn};
 ghost use Rattle.sh_exec.specs.Actions.{action_of};
 ghost use Rattle.sh_exec.specs.Tasks.{first_place, first_task, frames_of, pid_of};
+ghost use Rattle.sh_exec.specs.TurnActions.{starting_words, turn_action_of};
 ghost use Rattle.sh_exec.specs.Turns.{IsTurned, by_shell, made_task, runs_by, task_behind, turn};
 
 use crate::action::{action_in, asked};
@@ -15,6 +16,7 @@ use crate::script::script_place;
 use crate::settings::{Settings, Source};
 use crate::shell::starting_of;
 use crate::start::{Started, start_turn};
+use crate::turn_action::{TurnAction, turn_action_for, turn_action_in, words_in};
 use sh_base::NoMemory;
 use sh_base::sequence::{Sequence, Text};
 use sh_builtin::{Functions, Shell};
@@ -176,6 +178,28 @@ impl<S: Stock> Task<S> {
         match self {
             Task::Runs(interpreter) => interpreter.frames(),
             Task::Asks { .. } => &[],
+        }
+    }
+
+    /// What the process does in its next turn, for those who look on. After each turn a process stands before an action, so it is `Some` for each
+    /// process of a world. Takes no memory.
+    pub fn action(&self) -> Option<TurnAction>
+        ensures { result ≡ turn_action_of self.now }
+    {
+        match self {
+            Task::Runs(interpreter) => turn_action_in(interpreter.active()),
+            Task::Asks { ask, .. } => Some(turn_action_for(ask)),
+        }
+    }
+
+    /// The words of the program that the process starts in its next turn, its name first; `None` where it does something else. Takes no
+    /// memory.
+    pub fn starting(&self) -> Option<&[Text]>
+        ensures { option_map (λ words. words.now) result ≡ starting_words self.now }
+    {
+        match self {
+            Task::Runs(interpreter) => words_in(interpreter.active()),
+            Task::Asks { .. } => None,
         }
     }
 

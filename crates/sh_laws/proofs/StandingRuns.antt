@@ -1,17 +1,22 @@
 -- After each list of events every process stands before an action.
-use Rattle.std.proofs.Common.{ℕ, List, [], ◌∷◌, true, false, Option, Some, None}
+use Rattle.std.proofs.Common.{◌≡◌, ℕ, List, [], ◌∷◌, true, false, Option, Some, None, refl}
 use Rattle.std.specs.List.{filter}
 use Rattle.std.specs.Prelude.{codes, cond, length, nat_eq, nat_le, ◌&&◌}
 use Rattle.sh_exec.specs.Tasks.{first_place, pid_of}
 use Rattle.sh_exec.specs.Turns.{turn}
+use Rattle.sh_exec.specs.TurnActions.{turn_action_at, turn_action_for, turn_action_in, turn_action_of}
+use Rattle.sh_exec.specs.declared.turn_action.TurnAction.{TurnAction}
 use Rattle.sh_exec_actions.specs.declared.action.Action.TheVariants.{Reading}
+use Rattle.sh_exec_actions.specs.declared.action.Active.{Active}
+use Rattle.sh_exec_actions.specs.declared.action.Active.TheVariants.{Acting, Calling, Evaluating, Next, Done, Leaving}
+use Rattle.sh_exec_forms.specs.Running.{active_of}
 use Rattle.sh_files.specs.Nodes.{FileMap, node_of_path}
 use Rattle.sh_files_image.specs.declared.node.Node.{Node}
 use Rattle.sh_files_image.specs.declared.node.Node.TheVariants.{Directory, File, Null, Terminal}
 use Rattle.sh_kernel.specs.State.{KernelState}
 use Rattle.sh_laws.proofs.CommandTurns.{choose}
 use Rattle.sh_laws.proofs.ProcessTurns.{task_next, turn_stands}
-use Rattle.sh_laws.specs.BeforeAction.{AreBeforeActions, MadeStands, PlaceHolds, TasksStand}
+use Rattle.sh_laws.specs.BeforeAction.{AreBeforeActions, HaveActions, IsBeforeAction, IsNext, MadeStands, PlaceHolds, TasksStand}
 use Rattle.sh_stock.specs.Asking.{Meaning}
 use Rattle.sh_exec.specs.Choice.{choice}
 use Rattle.sh_exec.specs.Scripts.{place_by, script_place, unreadable}
@@ -22,6 +27,7 @@ use Rattle.sh_exec.specs.declared.settings.Settings.{Settings}
 use Rattle.sh_exec.specs.declared.settings.Source.{Source}
 use Rattle.sh_exec.specs.declared.settings.Source.TheVariants.{Text, Script}
 use Rattle.sh_exec.specs.declared.task.Task.{Task}
+use Rattle.sh_exec.specs.declared.task.Task.TheVariants.{Runs, Asks}
 
 -- ---- the first shell
 place_holds : (path : List ℕ) (o : Option Node) → PlaceHolds (place_by path o)
@@ -81,3 +87,20 @@ module _ {S : Type 0} (m : Meaning S) where
 
   pub runs_next : (image : FileMap) (settings : Settings) (events : List Event) → AreBeforeActions (run m (start image settings) events).tasks
   runs_next image settings events = tasks_next (run m (start image settings) events).tasks (run_stands (start image settings) events (start_stands S image settings))
+
+-- ---- what a process that stands before an action does can be told
+has_next : (active : Active) → IsNext active → (action : TurnAction) × (turn_action_in active ≡ Some action)
+has_next (Next place) h = (turn_action_at place, refl)
+has_next (Acting invocation fields) h = absurd h
+has_next (Calling body fields) h = absurd h
+has_next (Evaluating how text) h = absurd h
+has_next (Done status) h = absurd h
+has_next (Leaving leave) h = absurd h
+
+has_action : {S : Type 0} (task : Task S) → IsBeforeAction task → (action : TurnAction) × (turn_action_of task ≡ Some action)
+has_action (Runs interpreter) h = has_next (active_of interpreter.run) h
+has_action (Asks pid ask program) h = (turn_action_for ask, refl)
+
+pub have_actions : {S : Type 0} (tasks : List (Task S)) → AreBeforeActions tasks → HaveActions tasks
+have_actions [] h = tt
+have_actions (task ∷ tasks) h = (has_action task h.0, have_actions tasks h.1)

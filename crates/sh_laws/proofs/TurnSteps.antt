@@ -318,13 +318,13 @@ module _ (directory : List ℕ) (pid : ℕ) (P : KernelState → Type 0) (kept :
   trap_keeps s shell status e p = trap_by_keeps s shell status (action_of shell.traps Exit) e p
 
 -- ---- processes that are made
-made_number_shell : (separator : Separator) (shell : Shell) (children : List ℕ) → (made_shell separator shell children).pid ≡ shell.pid
-made_number_shell Sequential shell children = refl
-made_number_shell Asynchronous shell children = refl
+made_keeps_pid : (separator : Separator) (shell : Shell) (children : List ℕ) → (made_shell separator shell children).pid ≡ shell.pid
+made_keeps_pid Sequential shell children = refl
+made_keeps_pid Asynchronous shell children = refl
 
-stage_number : (separator : Separator) (commands : List Command) (shell : Shell) (children : List ℕ) → (stage_shell separator commands shell children).pid ≡ shell.pid
-stage_number separator [] shell children = made_number_shell separator shell children
-stage_number separator (command ∷ commands) shell children = refl
+stage_keeps_pid : (separator : Separator) (commands : List Command) (shell : Shell) (children : List ℕ) → (stage_shell separator commands shell children).pid ≡ shell.pid
+stage_keeps_pid separator [] shell children = made_keeps_pid separator shell children
+stage_keeps_pid separator (command ∷ commands) shell children = refl
 
 module _ (directory : List ℕ) (pid : ℕ) (P : Option ℕ → KernelState → Type 0) (kept : (made : Option ℕ) → IsKept directory pid (P made)) (forks : IsForked pid P) where
   abbrev pub Leaves : Turned → Type 0
@@ -344,7 +344,7 @@ module _ (directory : List ℕ) (pid : ℕ) (P : Option ℕ → KernelState → 
 
   stage_by_keeps : (s : KernelState) (shell : Shell) (command : Command) (stages : Stages) (o : Option ℕ) → shell.pid ≡ pid → P o s → Leaves (stage_by s shell command stages o)
   stage_by_keeps s shell command stages None e p = (e, p)
-  stage_by_keeps s shell command stages (Some child) e p = (stage_number stages.separator stages.commands shell (stages.children ++ child ∷ []) ∙ e, p)
+  stage_by_keeps s shell command stages (Some child) e p = (stage_keeps_pid stages.separator stages.commands shell (stages.children ++ child ∷ []) ∙ e, p)
 
   stage_from_keeps : (s : KernelState) (shell : Shell) (stages : Stages) (commands : List Command) → shell.pid ≡ pid → shell.vars.directory ≡ directory → P None s → Leaves (stage_from s shell stages commands)
   unfolding stage_one

@@ -5,6 +5,8 @@ use Rattle.std.specs.Prelude.{◌≡◌, List, [], ◌∷◌, Option, Some, None
 use Rattle.sh_builtin.specs.Functions.{Named}
 use Rattle.sh_exec.specs.declared.task.Task.{Task}
 use Rattle.sh_exec.specs.declared.task.Task.TheVariants.{Runs, Asks}
+use Rattle.sh_exec.specs.declared.turn_action.TurnAction.{TurnAction}
+use Rattle.sh_exec.specs.TurnActions.{turn_action_of}
 use Rattle.sh_exec_command.specs.declared.found.Found.{Found}
 use Rattle.sh_exec_command.specs.declared.found.Found.TheVariants as found
 use Rattle.sh_exec_actions.specs.declared.action.Active.{Active}
@@ -42,6 +44,11 @@ IsBeforeAction (Asks pid ask program) = Unit {0}
 abbrev pub AreBeforeActions : {S : Type 0} → List (Task S) → Type 0
 AreBeforeActions [] = Unit {0}
 AreBeforeActions (task ∷ tasks) = IsBeforeAction task × AreBeforeActions tasks
+
+-- what each of them does in its next turn can be told
+abbrev pub HaveActions : {S : Type 0} → List (Task S) → Type 0
+HaveActions [] = Unit {0}
+HaveActions (task ∷ tasks) = ((action : TurnAction) × (turn_action_of task ≡ Some action)) × HaveActions tasks
 
 -- ---- what a place holds begins with an action
 abbrev pub AssignmentsHold : List Assignment → Type 0

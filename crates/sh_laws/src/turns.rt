@@ -6,7 +6,7 @@ ghost use Rattle.sh_exec.specs.declared.task.Task.{Task};
 ghost use Rattle.sh_exec_forms.specs.Running.{InterpreterState};
 ghost use Rattle.sh_exec_shell.specs.Reduction.{shell_turn};
 ghost use Rattle.sh_files.specs.Nodes.{FileMap};
-ghost use Rattle.sh_laws.specs.BeforeAction.{ActedStands, AreBeforeActions, ChildStands, InterpreterStands, IsBeforeAction, MadeStands, TaskStands, TasksStand};
+ghost use Rattle.sh_laws.specs.BeforeAction.{ActedStands, AreBeforeActions, ChildStands, HaveActions, InterpreterStands, IsBeforeAction, MadeStands, TaskStands, TasksStand};
 ghost use Rattle.sh_laws.specs.Forking.{UnmadeReachNothing};
 ghost use Rattle.sh_kernel_descriptors.specs.Processes.{next_pid};
 ghost use Rattle.sh_kernel.specs.Laws.{OnlyGrows};
@@ -73,10 +73,12 @@ pub fn turns_end_before_actions<S: Stock>()
 
 /// Law: after any list of events, and so under every schedule, each process of a world that has just been
 /// made is a program that asks for something, or a shell that stands before its next action. From any other
-/// state in which the processes stand before actions the same holds.
+/// state in which the processes stand before actions the same holds. So `Task::action` tells what each process of such a world does next.
 pub fn runs_stand_before_actions<S: Stock>()
     ensures start { (image : FileMap) (settings : Settings) (events : List Event)
         → AreBeforeActions (run S.meaning (start image settings) events).tasks }
     ensures later { (s : State S) (events : List Event) → TasksStand s.tasks
         → TasksStand (run S.meaning s events).tasks }
+    ensures told { (image : FileMap) (settings : Settings) (events : List Event)
+        → HaveActions (run S.meaning (start image settings) events).tasks }
 {}

@@ -5,6 +5,6 @@ mod choice;
 mod tasks;
 mod world;
 
-pub use sh_exec::{Event, Jobs, Settings, Source};
+pub use sh_exec::{Event, Jobs, Settings, Source, Task, TurnAction};
 pub use sh_kernel::Status;
 pub use world::World;

@@ -1,9 +1,10 @@
 //! The processes that live: which of them can take a turn, and a turn of one.
-ghost use Rattle.std.specs.Prelude.{◌≡◌, ◌++◌, ◌∷◌, [], IfOk, OnOk};
+ghost use Rattle.std.specs.Prelude.{◌≡◌, ◌==◌, ◌++◌, ◌∷◌, [], IfOk, OnOk, find, option_map};
 ghost use Rattle.sh_kernel.specs.State.{KernelState, StandsAt};
 ghost use Rattle.sh_kernel_descriptors.specs.Processes.{lives};
 ghost use Rattle.sh_tty.specs.Terminal.{Extends};
 ghost use Rattle.sh_exec.specs.Actions.{action_of};
+ghost use Rattle.sh_exec.specs.Tasks.{pid_of};
 ghost use Rattle.sh_kernel.specs.Turns.{can_do};
 ghost use Rattle.sh_exec.specs.Processes.{HaveTurned, living, pid_before, place_of, runnable_pids, turn_among, with_child};
 
@@ -66,6 +67,13 @@ pub(crate) fn turn_among<S: Stock>(
     }
     let child = tasks[place].turn(alloc, kernel)?;
     Ok(child)
+}
+
+/// The process of this pid, where it is one of these.
+pub(crate) fn task_among<S: Stock>(tasks: &[Task<S>], pid: u32) -> Option<&Task<S>>
+    ensures { option_map (λ task. task.now) result ≡ find (λ task. pid_of task == pid) tasks.now }
+{
+    tasks.iter().find(|task| task.pid() == pid)
 }
 
 /// Adds a process that was made after the others.

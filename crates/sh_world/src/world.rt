@@ -1,13 +1,13 @@
 //! A world: processes over a kernel, moved by events.
-ghost use Rattle.std.specs.Prelude.{◌≡◌, ℕ, ◌<◌, List, OnOk, OnErr, IsErr, IfOk, Some, None, length, take, option_copied};
+ghost use Rattle.std.specs.Prelude.{◌≡◌, ℕ, ◌<◌, List, OnOk, OnErr, IsErr, IfOk, Some, None, length, take, option_copied, option_map};
 ghost use Rattle.sh_kernel.specs.State.{KernelState, StandsAt};
 ghost use Rattle.sh_tty.specs.Terminal.{Extends};
 ghost use Rattle.sh_exec.specs.Choice.{choice};
 ghost use Rattle.sh_world.specs.World.{IsSpent, PartsStand, WorldKept, WorldStands, shown_of};
-ghost use Rattle.sh_exec.specs.State.{State, after_turn, end_of, ended_of, files_of, run, runnables, start, status_of, step, terminal_of, turn_of};
+ghost use Rattle.sh_exec.specs.State.{State, after_turn, end_of, ended_of, files_of, run, runnables, start, status_of, step, task_of, terminal_of, turn_of};
 
 use crate::choice::choose;
-use crate::tasks::{is_living, keep_living, put_child, runnable_pids, turn_among};
+use crate::tasks::{is_living, keep_living, put_child, runnable_pids, task_among, turn_among};
 use sh_base::NoMemory;
 use sh_exec::{Event, Jobs, Settings, Task};
 use sh_files::Files;
@@ -254,6 +254,47 @@ impl<S: Stock> World<S> {
             return Err(lack);
         }
         runnable_of(self.alloc, &self.kernel, self.tasks.as_slice())
+    }
+
+    /// The process to which an event gives the next turn; `None` where none can take one. The only error is want of memory, which may have been
+    /// wanting before.
+    pub fn chosen(&self, event: Event) -> Result<Option<u32>, NoMemory>
+        ensures view { (s : State S) → WorldStands self.now s → IfOk result (λ pid.
+            pid ≡ choice event s.last (runnables s)) }
+        ensures spent { IsSpent self.now → IsErr result }
+    {
+        if let Some(lack) = self.lack {
+            return Err(lack);
+        }
+        let (tasks, last) = (self.tasks.as_slice(), self.last);
+        chosen_by(self.alloc, event, &self.kernel, tasks, last)
+    }
+
+    /// The processes that live, in the order of their numbers; `None` once memory was wanting. Takes no memory.
+    pub fn tasks(&self) -> Option<&[Task<S>]>
+        ensures view { (s : State S) → WorldStands self.now s
+            → option_map (λ tasks. tasks.now) result ≡ Some s.tasks }
+        ensures spent { IsSpent self.now → option_map (λ tasks. tasks.now) result ≡ None }
+    {
+        if self.is_spent() {
+            None
+        } else {
+            Some(self.tasks.as_slice())
+        }
+    }
+
+    /// The process of this number, as long as it lives: `Task::action` tells what it does in its next turn. `None` once memory was
+    /// wanting. Takes no memory.
+    pub fn task(&self, pid: u32) -> Option<&Task<S>>
+        ensures view { (s : State S) → WorldStands self.now s
+            → option_map (λ task. task.now) result ≡ task_of s pid }
+        ensures spent { IsSpent self.now → option_map (λ task. task.now) result ≡ None }
+    {
+        if self.is_spent() {
+            None
+        } else {
+            task_among(self.tasks.as_slice(), pid)
+        }
     }
 
     /// How the first shell ended, once it did; `None` once memory was wanting.

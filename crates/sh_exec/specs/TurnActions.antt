@@ -1,0 +1,95 @@
+-- What a process does in its next turn, by the place at which it stands, in the standard's words.
+use Rattle.std.specs.Prelude.{List, ℕ, length, Option, Some, None}
+use Rattle.sh_exec.specs.declared.task.Task.{Task}
+use Rattle.sh_exec.specs.declared.task.Task.TheVariants.{Runs, Asks}
+use Rattle.sh_exec.specs.declared.turn_action.TurnAction.{TurnAction}
+use Rattle.sh_exec.specs.declared.turn_action.TurnAction.TheVariants as turn
+use Rattle.sh_exec_actions.specs.declared.action.Active.{Active}
+use Rattle.sh_exec_actions.specs.declared.action.Active.TheVariants.{Acting, Calling, Evaluating, Next, Done, Leaving}
+use Rattle.sh_exec_actions.specs.declared.action.Action.{Action}
+use Rattle.sh_exec_actions.specs.declared.action.Action.TheVariants.{Reading, Expanding, ReadSubstitution, WaitSubstitution, ReadLine, Awaiting, Redirecting, Forking, Starting, ForkStage, ForkList, AssignLoopVariable, Defining, Waiting, Writing, Trapping, Ending}
+use Rattle.sh_exec_actions.specs.declared.action.ToExpand.{ToExpand}
+use Rattle.sh_exec_actions.specs.declared.action.ToExpand.TheVariants.{Words, Values, Redirects, ForWords, CaseWord, CasePattern}
+use Rattle.sh_exec_forms.specs.Running.{active_of}
+use Rattle.sh_stock.specs.declared.asking.Ask.{Ask}
+use Rattle.sh_stock.specs.declared.asking.Ask.TheVariants as ask
+
+abbrev pub turn_action_of_expansion : ToExpand → TurnAction
+turn_action_of_expansion (Words command in_place status) = turn.Expand
+turn_action_of_expansion (Values command) = turn.Assign
+turn_action_of_expansion (Redirects command) = turn.Expand
+turn_action_of_expansion (ForWords command) = turn.Expand
+turn_action_of_expansion (CaseWord command) = turn.Expand
+turn_action_of_expansion (CasePattern choice) = turn.Expand
+
+abbrev pub turn_action_at : Action → TurnAction
+turn_action_at (Reading rest status) = turn.ReadCommand
+turn_action_at (Expanding wants pending) = turn_action_of_expansion wants
+turn_action_at (ReadSubstitution substitution) = turn.ReadSubstitution
+turn_action_at (WaitSubstitution substitution) = turn.Wait
+turn_action_at (ReadLine reader) = turn.Read
+turn_action_at (Awaiting awaited) = turn.Wait
+turn_action_at (Redirecting p) = turn.Redirect
+turn_action_at (Forking p) = turn.Fork
+turn_action_at (Starting start) = turn.StartProgram
+turn_action_at (ForkStage stages) = turn.Fork
+turn_action_at (ForkList list) = turn.Fork
+turn_action_at (AssignLoopVariable series) = turn.SetLoopVariable
+turn_action_at (Defining definition) = turn.DefineFunction
+turn_action_at (Waiting children) = turn.Wait
+turn_action_at (Writing piece finish) = turn.Write piece.descriptor (length piece.bytes)
+turn_action_at (Trapping status) = turn.TakeTrap
+turn_action_at (Ending status) = turn.End status
+
+-- between two turns a shell stands before an action, so no turn begins at another place
+abbrev pub turn_action_in : Active → Option TurnAction
+turn_action_in (Next place) = Some (turn_action_at place)
+turn_action_in (Acting invocation fields) = None
+turn_action_in (Calling body fields) = None
+turn_action_in (Evaluating how text) = None
+turn_action_in (Done ended) = None
+turn_action_in (Leaving status) = None
+
+-- a program reads by descriptor 0, and writes by descriptor 1
+abbrev pub turn_action_for : Ask → TurnAction
+turn_action_for (ask.Read count) = turn.Read
+turn_action_for (ask.Write bytes) = turn.Write 1 (length bytes)
+turn_action_for ask.Stop = turn.Stop
+turn_action_for ask.Idle = turn.Idle
+turn_action_for (ask.End status) = turn.End status
+
+abbrev pub turn_action_of : {S : Type 0} → Task S → Option TurnAction
+turn_action_of (Runs interpreter) = turn_action_in (active_of interpreter.run)
+turn_action_of (Asks pid ask program) = Some (turn_action_for ask)
+
+-- ---- the words of the program that is started in the next turn, its name first
+abbrev pub words_at : Action → Option (List (List ℕ))
+words_at (Starting start) = Some start.fields
+words_at (Reading rest status) = None
+words_at (Expanding wants pending) = None
+words_at (ReadSubstitution substitution) = None
+words_at (WaitSubstitution substitution) = None
+words_at (ReadLine reader) = None
+words_at (Awaiting awaited) = None
+words_at (Redirecting p) = None
+words_at (Forking p) = None
+words_at (ForkStage stages) = None
+words_at (ForkList list) = None
+words_at (AssignLoopVariable series) = None
+words_at (Defining definition) = None
+words_at (Waiting children) = None
+words_at (Writing piece finish) = None
+words_at (Trapping status) = None
+words_at (Ending status) = None
+
+abbrev pub words_in : Active → Option (List (List ℕ))
+words_in (Next place) = words_at place
+words_in (Acting invocation fields) = None
+words_in (Calling body fields) = None
+words_in (Evaluating how text) = None
+words_in (Done ended) = None
+words_in (Leaving status) = None
+
+abbrev pub starting_words : {S : Type 0} → Task S → Option (List (List ℕ))
+starting_words (Runs interpreter) = words_in (active_of interpreter.run)
+starting_words (Asks pid ask program) = None

@@ -1,0 +1,142 @@
+//! What a process does in its next turn, for those who look on.
+ghost use Rattle.std.specs.Prelude.{◌≡◌, option_map};
+ghost use Rattle.sh_exec.specs.TurnActions.{turn_action_at, turn_action_for, turn_action_in, turn_action_of_expansion, words_at, words_in};
+
+use sh_base::sequence::Text;
+use sh_exec_actions::{Action, Active, ToExpand};
+use sh_stock::Ask;
+
+/// What a process does in its next turn.
+#[derive(Clone, Copy, Debug, PartialEq, Eq)]
+pub enum TurnAction {
+    /// A shell reads the next complete command of a text, or finds that none follows (XCU 2.1).
+    ReadCommand,
+    /// A shell takes its trap on EXIT: it reads the first command of the trap's action (2.15 trap).
+    TakeTrap,
+    /// A shell defines a function (2.9.5).
+    DefineFunction,
+    /// A shell expands words (2.6). A built-in acts in the same turn, and a function is called in it, where nothing else is left to do
+    /// before. Where a command substitution is needed, its process is made in the turn.
+    Expand,
+    /// A shell does the assignments of a simple command (2.9.1), with the same ends as an expansion.
+    Assign,
+    /// A shell gives the variable of a `for` its next value (2.9.4.2).
+    SetLoopVariable,
+    /// A shell does one redirection (2.7).
+    Redirect,
+    /// A shell makes a process.
+    Fork,
+    /// A shell searches for a program and starts it, in its own process (2.9.1.4).
+    StartProgram,
+    /// A shell reads what the process of a command substitution writes (2.6.3).
+    ReadSubstitution,
+    /// A program, or the built-in `read` of a shell, reads by descriptor 0.
+    Read,
+    /// A process writes.
+    Write {
+        /// The descriptor by which it writes.
+        descriptor: u8,
+        /// How many bytes it has to write.
+        bytes: usize,
+    },
+    /// A shell waits until processes have ended.
+    Wait,
+    /// A program is to be stopped, as by SIGSTOP.
+    Stop,
+    /// A program does nothing.
+    Idle,
+    /// The process ends with this exit status.
+    End(u8),
+}
+
+/// What an expansion is.
+fn expansion(wants: &ToExpand) -> TurnAction
+    ensures { result ≡ turn_action_of_expansion wants.now }
+{
+    match wants {
+        ToExpand::Values(_) => TurnAction::Assign,
+        ToExpand::Words { .. } => TurnAction::Expand,
+        ToExpand::Redirects(_) => TurnAction::Expand,
+        ToExpand::ForWords(_) => TurnAction::Expand,
+        ToExpand::CaseWord(_) => TurnAction::Expand,
+        ToExpand::CasePattern(_) => TurnAction::Expand,
+    }
+}
+
+/// What is done at a place.
+fn at(place: &Action) -> TurnAction
+    ensures { result ≡ turn_action_at place.now }
+{
+    match place {
+        Action::Reading(_, _) => TurnAction::ReadCommand,
+        Action::Expanding(wants, _) => expansion(wants),
+        Action::ReadSubstitution(_) => TurnAction::ReadSubstitution,
+        Action::WaitSubstitution(_) => TurnAction::Wait,
+        Action::ReadLine(_) => TurnAction::Read,
+        Action::Awaiting(_) => TurnAction::Wait,
+        Action::Redirecting(_) => TurnAction::Redirect,
+        Action::Forking(_) => TurnAction::Fork,
+        Action::Starting(_) => TurnAction::StartProgram,
+        Action::ForkStage(_) => TurnAction::Fork,
+        Action::ForkList(_) => TurnAction::Fork,
+        Action::AssignLoopVariable(_) => TurnAction::SetLoopVariable,
+        Action::Defining(_) => TurnAction::DefineFunction,
+        Action::Waiting(_) => TurnAction::Wait,
+        Action::Writing(piece, _) => TurnAction::Write {
+            descriptor: piece.descriptor,
+            bytes: piece.bytes.len(),
+        },
+        Action::Trapping(_) => TurnAction::TakeTrap,
+        Action::Ending(status) => TurnAction::End(*status),
+    }
+}
+
+/// What a shell at this active place does, where it stands before an action.
+pub(crate) fn turn_action_in(active: &Active) -> Option<TurnAction>
+    ensures { result ≡ turn_action_in active.now }
+{
+    match active {
+        Active::Next(place) => Some(at(place)),
+        Active::Acting(_, _) => None,
+        Active::Calling(_, _) => None,
+        Active::Evaluating(_, _) => None,
+        Active::Done(_) => None,
+        Active::Leaving(_) => None,
+    }
+}
+
+/// What a program asks.
+pub(crate) fn turn_action_for(ask: &Ask) -> TurnAction
+    ensures { result ≡ turn_action_for ask.now }
+{
+    match ask {
+        Ask::Read(_) => TurnAction::Read,
+        Ask::Write(bytes) => TurnAction::Write {
+            descriptor: 1,
+            bytes: bytes.as_slice().len(),
+        },
+        Ask::Stop => TurnAction::Stop,
+        Ask::Idle => TurnAction::Idle,
+        Ask::End(status) => TurnAction::End(*status),
+    }
+}
+
+/// The words of a program that is started at a place.
+fn words_at(place: &Action) -> Option<&[Text]>
+    ensures { option_map (λ words. words.now) result ≡ words_at place.now }
+{
+    match place {
+        Action::Starting(start) => Some(start.fields.as_slice()),
+        _ => None,
+    }
+}
+
+/// The words of a program that a shell at this active place starts.
+pub(crate) fn words_in(active: &Active) -> Option<&[Text]>
+    ensures { option_map (λ words. words.now) result ≡ words_in active.now }
+{
+    match active {
+        Active::Next(place) => words_at(place),
+        _ => None,
+    }
+}
