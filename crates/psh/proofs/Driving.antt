@@ -7,11 +7,11 @@ use Rattle.sh_exec.specs.State.{State, run, start, step, terminal_of}
 use Rattle.sh_files.specs.Nodes.{FileMap}
 use Rattle.sh_exec.specs.declared.event.Event.{Event}
 use Rattle.sh_exec.specs.declared.settings.Settings.{Settings}
-use Rattle.psh.specs.Events.{Outcome, each_event, events_of}
-use Rattle.psh.specs.declared.events.EventFault.{EventFault}
-use Rattle.psh.specs.declared.events.EventFault.TheVariants.{BadEvent, NoMemory}
+use Rattle.psh_common.specs.Events.{Outcome, each_event, events_of}
+use Rattle.psh_common.specs.declared.events.EventFault.{EventFault}
+use Rattle.psh_common.specs.declared.events.EventFault.TheVariants.{BadEvent, NoMemory}
 use Rattle.psh.specs.Serving.{ShowsSome, nothing_shown, some_shown}
-use Rattle.psh.specs.declared.events.Turns.{Turns}
+use Rattle.psh_common.specs.declared.events.Turns.{Turns}
 
 -- ---- runs one behind another
 pub run-append : {S : Type 0} (m : Meaning S) (s : State S) (es fs : List Event) → run m s (es ++ fs) ≡ run m (run m s es) fs

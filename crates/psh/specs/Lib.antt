@@ -1,4 +1,2 @@
-pub mod Lines
-pub mod Events
 pub mod Report
 pub mod Serving

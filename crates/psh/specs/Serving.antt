@@ -8,10 +8,10 @@ use Rattle.sh_stock.specs.Asking.{Meaning}
 use Rattle.sh_exec.specs.State.{run, start, terminal_of}
 use Rattle.sh_exec.specs.declared.event.Event.{Event}
 use Rattle.sh_exec.specs.declared.settings.Settings.{Settings}
-use Rattle.psh.specs.Events.{each_event, events_of}
-use Rattle.psh.specs.declared.events.EventFault.TheVariants.{BadEvent}
+use Rattle.psh_common.specs.Events.{each_event, events_of}
+use Rattle.psh_common.specs.declared.events.EventFault.TheVariants.{BadEvent}
 use Rattle.psh.specs.Report.{shown_text}
-use Rattle.psh.specs.declared.events.Turns.{Turns}
+use Rattle.psh_common.specs.declared.events.Turns.{Turns}
 
 -- why an input is refused: what is wrong, and in which line
 abbrev pub refusal : List ℕ → ℕ → List ℕ

@@ -1,70 +1,32 @@
 //! The report on a world, which `--report` asks for.
-ghost use Rattle.std.specs.Prelude.{◌≡◌, ◌++◌, OnErr, OnOk, decimal};
+ghost use Rattle.std.specs.Prelude.{◌≡◌, ◌++◌, OnErr, OnOk};
 ghost use Rattle.sh_world.specs.World.{WorldStands};
 ghost use Rattle.sh_exec.specs.State.{State, files_of};
 ghost use Rattle.sh_files.specs.Writing.{image_text};
-ghost use Rattle.psh.specs.Report.{process_line, process_lines, report_of, words_of};
+ghost use Rattle.sh_exec.specs.Tasks.{first_pid};
+ghost use Rattle.psh.specs.Report.{process_lines, report_of, shown_processes};
 
-use itoa::Buffer;
+use psh_common::put_process;
 use sh_base::NoMemory;
+use sh_kernel_descriptors::FIRST_PID;
 use sh_stock::Stock;
-use sh_world::{Status, World};
+use sh_world::World;
 use std::alloc::Global;
 
-/// The number of the first process.
-const FIRST_PID: u32 = 100;
-
-/// A number that no process has: the first one behind the greatest.
-const NO_PID: u32 = 2_147_483_648;
-
-/// A word, and a number behind it.
-fn put_number(text: &mut Vec<u8>, word: &[u8], number: u8) -> Result<(), NoMemory>
-    ensures { OnOk result (text.new.items ≡ text.old.items ++ word.now ++ decimal number) }
-{
-    let mut digits = Buffer::new();
-    text.extend_from_slice(word)?;
-    text.extend_from_slice(digits.format(number).as_bytes())?;
-    Ok(())
-}
-
-/// How a process stands.
-fn put_status(text: &mut Vec<u8>, status: Status) -> Result<(), NoMemory>
-    ensures { OnOk result (text.new.items ≡ text.old.items ++ words_of status) }
-{
-    match status {
-        Status::Running => {
-            text.extend_from_slice(b"running")?;
-            Ok(())
-        },
-        Status::Stopped(signal) => put_number(text, b"stopped ", signal),
-        Status::Exited(status) => put_number(text, b"exited ", status),
-        Status::Signaled(signal) => put_number(text, b"signaled ", signal),
-    }
-}
-
-/// The line of a process.
-fn put_process(text: &mut Vec<u8>, pid: u32, status: Status) -> Result<(), NoMemory>
-    ensures { OnOk result (text.new.items ≡ text.old.items ++ process_line pid status) }
-{
-    let mut digits = Buffer::new();
-    text.extend_from_slice(b"process ")?;
-    text.extend_from_slice(digits.format(pid).as_bytes())?;
-    text.push(b' ')?;
-    put_status(text, status)?;
-    text.push(b'\n')?;
-    Ok(())
-}
+/// How many processes there may be: their numbers go from 100 to 2147483647.
+const MOST_PROCESSES: u32 = 2_147_483_548;
 
 /// The lines of all processes.
 fn put_processes<S: Stock>(text: &mut Vec<u8>, world: &World<S>) -> Result<(), NoMemory>
     ensures { (s : State S) → WorldStands world.now s → OnOk result
-        (text.new.items ≡ text.old.items ++ process_lines s 100 2147483548) }
+        (text.new.items ≡ text.old.items ++ process_lines first_pid (shown_processes s.machine.machine.processes)) }
 {
-    'processes: for pid in FIRST_PID..NO_PID {
-        match world.status(pid) {
-            Some(status) => put_process(text, pid, status)?,
-            None => return Ok(()),
-        }
+    'places: for place in 0..MOST_PROCESSES {
+        let pid = FIRST_PID + place;
+        let Some(status) = world.status(pid) else {
+            return Ok(());
+        };
+        put_process(text, pid, status)?;
     }
     Ok(())
 }

@@ -5,13 +5,13 @@ ghost use Rattle.sh_files_image.specs.Faults.{name_of};
 ghost use Rattle.sh_files_image.specs.declared.image_fault.FaultKind.TheVariants as kind;
 ghost use Rattle.sh_world.specs.World.{WorldStands, shown_of};
 ghost use Rattle.sh_exec.specs.State.{State, run, terminal_of};
-ghost use Rattle.psh.specs.Events.{each_event};
+ghost use Rattle.psh_common.specs.Events.{each_event};
 ghost use Rattle.psh.specs.Report.{shown_text};
 ghost use Rattle.psh.specs.Serving.{SaysLack, Shows, ShowsSome, WasCut, WasRefused, WasRun, refusal};
 
-use crate::events::{EventFault, Turns, read_events};
 use crate::report::put_report;
 use itoa::Buffer;
+use psh_common::{EventFault, Turns, read_events};
 use sh_base::NoMemory;
 use sh_files::{FaultKind, Files, ImageFault};
 use sh_stock::Stock;

@@ -1,28 +1,20 @@
-use Rattle.std.proofs.Common.{◌≡◌, ◌+◌, ◌-◌, ◌++◌, ◌∙◌, suc, sym, arith}
-use Rattle.psh.specs.Report.{process_lines}
+use Rattle.std.proofs.Common.{◌≡◌, sym, arith}
 use Rattle.psh.proofs.Processes.{told_all, told_full, told_more}
 use Rattle.psh.proofs.report.put_processes.Goals as goal
 
+-- no process has the number
+pub returns-in_default : goal.returns-in_default
+returns-in_default g c = λ s h.
+    told_all s.machine.machine.processes c.places.place c.places.text.items c.args.text.now.items (sym (c.in_default.ensures.view s h)) (omega arith) (c.places.invariant s h).0
+
 -- the process of this number is told
-pub processes-preserved : goal.processes-preserved
-processes-preserved g c = λ s h.
-    let pid = c.processes.pid in
-    let most : 2147483648 - pid ≡ suc (2147483648 - (pid + 1)) = omega arith in
-    told_more s pid (2147483648 - pid) (2147483648 - (pid + 1)) c.in-Some.status c.processes.text.items c.put_process.new.text.items
-    (c.args.text.now.items ++ process_lines s 100 2147483548) most (sym (c.status.ensures.view s h) ∙ c.in-Some.is) c.in_ok-put_process-in-Some.ensures
-    (c.processes.invariant s h)
+pub places-preserved : goal.places-preserved
+places-preserved g c = λ s h.
+    told_more s.machine.machine.processes c.places.place c.in-Some.status c.places.text.items c.put_process.new.text.items c.args.text.now.items
+    (c.in-Some.ensures.view s h) (c.places.invariant s h).0 c.in_ok-put_process.ensures
 
--- there is no process of this number, so none of a greater one
-pub returns-in-None : goal.returns-in-None
-returns-in-None g c = λ s h.
-    let pid = c.processes.pid in
-    let most : 2147483648 - pid ≡ suc (2147483648 - (pid + 1)) = omega arith in
-    told_all s pid (2147483648 - pid) (2147483648 - (pid + 1)) c.processes.text.items (c.args.text.now.items ++ process_lines s 100 2147483548) most
-    (sym (c.status.ensures.view s h) ∙ c.in-None.is) (c.processes.invariant s h)
-
--- no number is left
+-- there are as many as may be
 pub returns : goal.returns
 returns g c = λ s h.
-    let pid = c.processes.pid in
-    let most : 2147483648 - pid ≡ 0 = omega arith in
-    told_full s pid (2147483648 - pid) c.processes.text.items (c.args.text.now.items ++ process_lines s 100 2147483548) most (c.processes.invariant s h)
+    let all : c.places.place ≡ 2147483548 = omega arith in
+    told_full s.machine.machine.processes c.places.place c.places.text.items c.args.text.now.items all (c.places.invariant s h).0

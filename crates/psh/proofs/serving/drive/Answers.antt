@@ -1,7 +1,7 @@
 use Rattle.std.proofs.Common.{◌+◌, ◌≤◌, ◌∙◌, length, take, take_all, ap, arith}
 use Rattle.sh_exec.specs.declared.event.Event.TheVariants.{Run}
 use Rattle.sh_exec.specs.State.{terminal_of}
-use Rattle.psh.specs.Events.{each_event}
+use Rattle.psh_common.specs.Events.{each_event}
 use Rattle.psh.proofs.Driving.{on_err, run-turns_more, run-within_line}
 use Rattle.psh.proofs.serving.drive.Goals as goal
 

@@ -1,5 +1,5 @@
 use Rattle.sh_world.specs.World.{shown_of}
-use Rattle.psh.specs.Events.{each_event}
+use Rattle.psh_common.specs.Events.{each_event}
 use Rattle.psh.proofs.Driving.{shows_all, shows_part}
 use Rattle.psh.proofs.serving.lead.Goals as goal
 

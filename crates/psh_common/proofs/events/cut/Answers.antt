@@ -1,7 +1,7 @@
 use Rattle.std.proofs.Common.{ap, ◌∙◌, sym, ◌∷◌, take, ◌+◌}
-use Rattle.psh.specs.Lines.{parts}
-use Rattle.psh.proofs.Lines.{parts-found, parts-single, take-rest}
-use Rattle.psh.proofs.events.cut.Goals as goal
+use Rattle.psh_common.specs.Lines.{parts}
+use Rattle.psh_common.proofs.Lines.{parts-found, parts-single, take-rest}
+use Rattle.psh_common.proofs.events.cut.Goals as goal
 
 pub returns-in-Some-clause-parts : goal.returns-in-Some-clause-parts
 returns-in-Some-clause-parts c =

@@ -1,13 +1,13 @@
 //! The file of events: lines `run K [N]` and `next [N]`.
 ghost use Rattle.sh_base.specs.Memory.{no_memory};
 ghost use Rattle.std.specs.Prelude.{◌≡◌, ◌≢◌, ◌==◌, ◌+◌, ◌^◌, ◌<◌, ◌≤◌, ◌∷◌, ◌++◌, IfNone, IfOk, IfErr, IfSome, OnOk, OnErr, None, Some, Ok, Err, length, option_map, position};
-ghost use Rattle.psh.specs.Lines.{further_parts, parts};
-ghost use Rattle.psh.specs.Events.{events_of, line_turns, next_turns, number, place_of, run_turns, size_of, so_often, times_of, turns_of};
-ghost use Rattle.psh.specs.declared.events.EventFault.TheVariants as fault;
+ghost use Rattle.psh_common.specs.Lines.{further_parts, parts};
+ghost use Rattle.psh_common.specs.Events.{events_of, line_turns, next_turns, number, place_of, run_turns, size_of, so_often, times_of, turns_of};
+ghost use Rattle.psh_common.specs.declared.events.EventFault.TheVariants as fault;
 
 use sh_base::NoMemory;
 use sh_base::decimal::{all_digits, limited_value};
-use sh_world::Event;
+use sh_exec::Event;
 use std::alloc::{AllocError, AllocFailed, Global};
 
 /// How many bytes of events are read; the line of the first byte beyond is refused.
@@ -22,7 +22,9 @@ const MOST_PLACE: u32 = 2_147_483_647;
 /// One event, so many times in a row.
 #[derive(Clone, Copy)]
 pub struct Turns {
+    /// The event.
     pub event: Event,
+    /// How often it comes, from 1 on.
     pub times: u32,
 }
 

@@ -4,7 +4,7 @@ use Rattle.std.specs.Prelude.{◌==◌, position}
 use Rattle.std.specs.List.{onto_first}
 use Rattle.std.proofs.lemmas.Iterator.Adapters.{position_from-zero}
 use Rattle.sh_files_image.proofs.Slashes.{first_from, only_from}
-use Rattle.psh.specs.Lines.{parts}
+use Rattle.psh_common.specs.Lines.{parts}
 
 -- the first part ends at the first separator
 pub parts-found : (separator i : ℕ) (xs : List ℕ) → Some i ≡ position (λ b. b == separator) xs → parts separator xs ≡ take i xs ∷ parts separator (drop (i + 1) xs)

@@ -1,9 +1,9 @@
 use Rattle.std.proofs.Common.{◌≡◌, ◌+◌, ◌≤◌, IfSome, length}
 use Rattle.std.specs.Prelude.{option_map}
 use Rattle.std.specs.Option.{option_map_or}
-use Rattle.psh.specs.Events.{behind, events_of}
-use Rattle.psh.proofs.Reading.{left_events}
-use Rattle.psh.proofs.events.read_events.Given as goal
+use Rattle.psh_common.specs.Events.{behind, events_of}
+use Rattle.psh_common.proofs.Reading.{left_events}
+use Rattle.psh_common.proofs.events.read_events.Given as goal
 
 abbrev pub invariant-lines : goal.invariant-lines
 invariant-lines l =

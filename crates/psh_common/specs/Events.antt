@@ -4,12 +4,12 @@ use Rattle.std.specs.List.{list_all}
 use Rattle.std.specs.Str.{bytes_eq}
 use Rattle.std.specs.Char.{is_ascii_digit}
 use Rattle.sh_base.specs.Decimals.{at_most, value_of}
-use Rattle.psh.specs.Lines.{parts}
+use Rattle.psh_common.specs.Lines.{parts}
 use Rattle.sh_exec.specs.declared.event.Event.{Event}
 use Rattle.sh_exec.specs.declared.event.Event.TheVariants.{Run, Next}
-use Rattle.psh.specs.declared.events.Turns.{Turns}
-use Rattle.psh.specs.declared.events.EventFault.{EventFault}
-use Rattle.psh.specs.declared.events.EventFault.TheVariants.{BadEvent}
+use Rattle.psh_common.specs.declared.events.Turns.{Turns}
+use Rattle.psh_common.specs.declared.events.EventFault.{EventFault}
+use Rattle.psh_common.specs.declared.events.EventFault.TheVariants.{BadEvent}
 
 -- a number of one to ten decimal digits, of at most this value
 abbrev pub number : ℕ → List ℕ → Option ℕ

@@ -1,5 +1,5 @@
-use Rattle.psh.proofs.Reading.{next_turns-more}
-use Rattle.psh.proofs.events.next_turns.Goals as goal
+use Rattle.psh_common.proofs.Reading.{next_turns-more}
+use Rattle.psh_common.proofs.events.next_turns.Goals as goal
 
 pub returns-in_default-Some : goal.returns-in_default-Some
 returns-in_default-Some c =

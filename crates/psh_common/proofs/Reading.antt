@@ -2,11 +2,11 @@
 use Rattle.std.proofs.Common.{◌≡◌, ℕ, ◌+◌, ◌<◌, ◌≤◌, List, [], ◌∷◌, ◌++◌, append_assoc, true, false, length, Option, Some, None, IfSome, Ok, Err, nat_lt, refl, sym, ap, ◌∙◌, arith, if◌then◌else◌}
 use Rattle.std.specs.Prelude.{option_map}
 use Rattle.std.proofs.lemmas.Bool.Decides.{nat_tests}
-use Rattle.psh.specs.Lines.{further_parts, parts}
-use Rattle.psh.specs.Events.{Outcome, behind, events_in, line_turns, next_turns, run_turns, size_of, with_line}
-use Rattle.psh.specs.declared.events.EventFault.TheVariants.{BadEvent}
-use Rattle.psh.specs.declared.events.Turns.{Turns}
-use Rattle.psh.proofs.Lines.{parts-some}
+use Rattle.psh_common.specs.Lines.{further_parts, parts}
+use Rattle.psh_common.specs.Events.{Outcome, behind, events_in, line_turns, next_turns, run_turns, size_of, with_line}
+use Rattle.psh_common.specs.declared.events.EventFault.TheVariants.{BadEvent}
+use Rattle.psh_common.specs.declared.events.Turns.{Turns}
+use Rattle.psh_common.proofs.Lines.{parts-some}
 
 -- ---- words
 pub next_turns-more : (xs first rest : List ℕ) → parts 32 xs ≡ first ∷ parts 32 rest → None ≡ next_turns (parts 32 xs)

@@ -1,9 +1,9 @@
 use Rattle.std.proofs.Common.{◌+◌, ◌≤◌, ◌∙◌, sym, arith}
 use Rattle.std.specs.Prelude.{option_map}
-use Rattle.psh.specs.Lines.{further_parts, parts}
-use Rattle.psh.specs.Events.{events_in, events_of, size_of}
-use Rattle.psh.proofs.Reading.{behind-none, line-left, line-read}
-use Rattle.psh.proofs.events.read_events.Goals as goal
+use Rattle.psh_common.specs.Lines.{further_parts, parts}
+use Rattle.psh_common.specs.Events.{events_in, events_of, size_of}
+use Rattle.psh_common.proofs.Reading.{behind-none, line-left, line-read}
+use Rattle.psh_common.proofs.events.read_events.Goals as goal
 
 pub lines-init : goal.lines-init
 unfolding events_of
