@@ -1,12 +1,13 @@
 //! The command line.
-use crate::usage::{Asked, UsageFault};
-use clap::error::ErrorKind;
-use clap::{Arg, ArgMatches, Command, Error};
+use crate::PROGRAM;
+use crate::usage::Asked;
+use clap::{Arg, ArgMatches, Command};
+use psh_common::{
+    UsageFault, file_operand, letters_option, matches_of, path_of, settings_of, text_option,
+    texts_of, usage, words_operand,
+};
 use sh_base::decimal::{all_digits, limited_value};
-use sh_base::sequence::Sequence;
 use sh_schedules::Bounds;
-use sh_vars::{Options, Text};
-use sh_world::{Settings, Source};
 use std::alloc::{AllocError, Global};
 
 /// How many preemptions a schedule has at most, where no word says it.
@@ -21,81 +22,49 @@ const SCHEDULES: u32 = 1_000_000;
 /// The greatest number that a word may have.
 const MOST: u32 = 2_147_483_647;
 
-/// A word as the text that clap reads: a word may be any bytes, and each byte becomes the character of its
-/// number, as in ISO 8859-1.
-fn text_of(alloc: Global, word: &[u8]) -> Result<String, AllocError> {
-    let mut text = String::new(alloc);
-    for byte in word {
-        text.push(char::from(*byte))?;
-    }
-    Ok(text)
-}
-
-/// The bytes of such a text. A character that is no byte's becomes a question mark.
-fn bytes_of(alloc: Global, text: &str) -> Result<Vec<u8>, AllocError> {
-    let mut bytes = Vec::new(alloc);
-    for character in text.chars() {
-        bytes.push(u8::try_from(character).unwrap_or(b'?'))?;
-    }
-    Ok(bytes)
-}
-
-/// An option with a number.
-fn number_option<'a>(alloc: Global, id: &'a str, shown: &'a str, help: &'a str) -> Arg<'a> {
+/// An option with a value.
+fn value_option<'a>(alloc: Global, id: &'a str, shown: &'a str, help: &'a str) -> Arg<'a> {
     Arg::new(alloc, id).long(id).value_name(shown).help(help)
 }
 
-/// The option with the commands.
-fn text_option<'a>(alloc: Global) -> Arg<'a> {
-    Arg::new(alloc, "text")
-        .short('c')
-        .value_name("TEXT")
-        .help("The commands to run, in place of a script's")
-        .allow_hyphen_values(true)
-}
-
-/// The operand that names the image.
-fn image_operand<'a>(alloc: Global) -> Arg<'a> {
-    Arg::new(alloc, "image")
-        .value_name("IMAGE")
-        .help("The file with the image of files")
-        .required(true)
-}
-
-/// The operands after the image.
-fn words_operand<'a>(alloc: Global) -> Result<Arg<'a>, AllocError> {
-    Arg::new(alloc, "words")
-        .value_name("WORDS")
-        .help("The script's path in the image, or with -c $0; and the positional parameters")
-        .num_args(0..)
-        .required_unless_present("text")
-}
-
-/// The options and operands of psh-schedules but for its words.
-fn command_without_words<'a>(alloc: Global) -> Result<Command<'a>, AllocError> {
-    Command::new(alloc, "psh-schedules")
-        .about("Runs a shell script over a modelled machine by each schedule of its processes")
-        .no_binary_name(true)
-        .arg(number_option(
+/// The options that say which schedules are tried.
+fn with_bounds<'a>(alloc: Global, command: Command<'a>) -> Result<Command<'a>, AllocError> {
+    command
+        .arg(value_option(
             alloc,
             "preemptions",
             "K",
             "How often at most a process gives way that could go on: 2 where not given",
         ))?
-        .arg(number_option(
+        .arg(value_option(
             alloc,
             "turns",
             "N",
             "How many turns a schedule has at most: 10000 where not given",
         ))?
-        .arg(number_option(
+        .arg(value_option(
             alloc,
             "schedules",
             "M",
             "How many schedules are tried at most: 1000000 where not given",
+        ))
+}
+
+/// The options and operands of psh-schedules but for its words.
+fn command_without_words<'a>(alloc: Global) -> Result<Command<'a>, AllocError> {
+    let command = Command::new(alloc, PROGRAM)
+        .about("Runs a shell script over a modelled machine by each schedule of its processes")
+        .no_binary_name(true);
+    with_bounds(alloc, command)?
+        .arg(value_option(
+            alloc,
+            "keep",
+            "FOLDER",
+            "Write a file of events for each outcome into this folder, by which psh shows it again",
         ))?
         .arg(text_option(alloc))?
-        .arg(image_operand(alloc))
+        .arg(letters_option(alloc))?
+        .arg(file_operand(alloc, "image", "IMAGE", "The file with the image of files"))
 }
 
 /// The options and operands of psh-schedules.
@@ -110,73 +79,26 @@ fn command<'a>(alloc: Global) -> Result<Command<'a>, AllocError> {
     }
 }
 
-/// What clap says of words that are not in order.
-fn fault_of(alloc: Global, error: &Error) -> UsageFault {
-    let text = match error.to_string(alloc) {
-        Ok(text) => bytes_of(alloc, text.as_str()),
-        Err(_) => return UsageFault::OutOfMemory,
-    };
-    match (error.kind(), text) {
-        (ErrorKind::OutOfMemory, _) | (_, Err(_)) => UsageFault::OutOfMemory,
-        (ErrorKind::DisplayHelp, Ok(text)) => UsageFault::Help { text },
-        (_, Ok(text)) => UsageFault::Usage { text },
-    }
-}
-
-/// Where the commands come from: a text, or the script that the first word names.
-fn source_of(alloc: Global, text: Option<&str>, zero: &str) -> Result<Source, AllocError> {
-    match text {
-        Some(text) => Ok(Source::Text(Sequence::from_vec(bytes_of(alloc, text)?))),
-        None => Ok(Source::Script(Sequence::from_vec(bytes_of(alloc, zero)?))),
-    }
-}
-
-/// The positional parameters.
-fn parameters(alloc: Global, words: &[&str]) -> Result<Sequence<Text>, AllocError> {
-    let mut args = Vec::new(alloc);
-    for word in words {
-        args.push(Text::from_vec(bytes_of(alloc, word)?))?;
-    }
-    Ok(Sequence::from_vec(args))
-}
-
-/// How a shell is started that runs a text or a script: the first word is `$0`, the others are `$1` and so on.
-fn settings_of(alloc: Global, text: Option<&str>, words: &[&str]) -> Result<Settings, AllocError> {
-    let (first, rest) = match words {
-        [first, rest @ ..] => (*first, rest),
-        [] => ("psh", words),
-    };
-    let zero = Text::from_vec(bytes_of(alloc, first)?);
-    let args = parameters(alloc, rest)?;
-    let source = source_of(alloc, text, first)?;
-    Ok(Settings {
-        source,
-        zero,
-        args,
-        options: Options::default(),
-    })
-}
-
 /// A number from 0 to 2147483647, or the other where no word says one.
-fn number_of(text: Option<&str>, other: u32) -> Result<u32, UsageFault> {
+fn number_of(alloc: Global, text: Option<&str>, other: u32) -> Result<u32, UsageFault> {
     let Some(text) = text else {
         return Ok(other);
     };
     let digits = text.as_bytes();
     if digits.is_empty() || digits.len() > 10 || !all_digits(digits) {
-        return Err(UsageFault::BadNumber);
+        return Err(usage(alloc, PROGRAM, "bad number"));
     }
     match limited_value(digits, u64::from(MOST)) {
         Some(value) => Ok(value as u32),
-        None => Err(UsageFault::BadNumber),
+        None => Err(usage(alloc, PROGRAM, "bad number")),
     }
 }
 
 /// The bounds that the words say.
-fn bounds_of(matches: &ArgMatches) -> Result<Bounds, UsageFault> {
-    let preemptions = number_of(matches.get_str("preemptions"), PREEMPTIONS)?;
-    let turns = number_of(matches.get_str("turns"), TURNS)?;
-    let schedules = number_of(matches.get_str("schedules"), SCHEDULES)?;
+fn bounds_of(alloc: Global, matches: &ArgMatches) -> Result<Bounds, UsageFault> {
+    let preemptions = number_of(alloc, matches.get_str("preemptions"), PREEMPTIONS)?;
+    let turns = number_of(alloc, matches.get_str("turns"), TURNS)?;
+    let schedules = number_of(alloc, matches.get_str("schedules"), SCHEDULES)?;
     Ok(Bounds {
         preemptions,
         turns,
@@ -184,52 +106,42 @@ fn bounds_of(matches: &ArgMatches) -> Result<Bounds, UsageFault> {
     })
 }
 
-/// The path of a file, which is UTF-8, since the standard library opens no others; else a fault that says so.
-fn path_of(alloc: Global, text: Option<&str>, fault: &[u8]) -> Result<String, UsageFault> {
-    let bytes = bytes_of(alloc, text.unwrap_or(""))?;
-    match String::from_utf8(bytes) {
-        Ok(path) => Ok(path),
-        Err(_) => Err(UsageFault::Usage {
-            text: fault.to_vec(alloc)?,
-        }),
+/// The path of the folder that gets files of events, where one is asked for.
+fn folder_of(alloc: Global, matches: &ArgMatches) -> Result<Option<String>, UsageFault> {
+    let folder = matches.get_str("keep");
+    if folder.is_none() {
+        return Ok(None);
     }
+    let path = path_of(
+        alloc,
+        PROGRAM,
+        folder,
+        "the path of the folder is not UTF-8",
+    )?;
+    Ok(Some(path))
 }
 
 /// What a command line that is in order asks for.
 fn asked_by(alloc: Global, matches: &ArgMatches) -> Result<Asked, UsageFault> {
-    let bounds = bounds_of(matches)?;
+    let bounds = bounds_of(alloc, matches)?;
+    let settings = settings_of(alloc, PROGRAM, matches)?;
+    let folder = folder_of(alloc, matches)?;
     let image = matches.get_str("image");
-    let image = path_of(
-        alloc,
-        image,
-        b"psh-schedules: the path of the image is not UTF-8\n",
-    )?;
-    let words = matches.get_strs("words").unwrap_or(&[]);
-    let settings = settings_of(alloc, matches.get_str("text"), words)?;
+    let image = path_of(alloc, PROGRAM, image, "the path of the image is not UTF-8")?;
     Ok(Asked {
         settings,
         bounds,
+        folder,
         image,
     })
 }
 
-/// What the words after the program's name ask for. They may be any bytes, but for the path of the image,
-/// which is UTF-8.
+/// What the words after the program's name ask for. They may be any bytes, but for the paths of the image and of the folder,
+/// which are UTF-8.
 pub fn asked(alloc: Global, words: &[Vec<u8>]) -> Result<Asked, UsageFault> {
-    let mut texts = Vec::new(alloc);
-    for word in words {
-        texts.push(text_of(alloc, word)?)?;
-    }
-    match command(alloc)?.try_get_matches_from(texts.as_slice()) {
-        Ok(matches) => {
-            let asked = asked_by(alloc, &matches);
-            drop(matches);
-            asked
-        },
-        Err(error) => {
-            let fault = fault_of(alloc, &error);
-            drop(error);
-            Err(fault)
-        },
-    }
+    let texts = texts_of(alloc, words)?;
+    let matches = matches_of(alloc, command(alloc)?, texts.as_slice())?;
+    let asked = asked_by(alloc, &matches);
+    drop(matches);
+    asked
 }

@@ -4,4 +4,5 @@ pub mod Tally
 pub mod Looking
 pub mod Walk
 pub mod Runs
+pub mod Partings
 pub mod Apart

@@ -6,6 +6,7 @@ use Rattle.sh_kernel_descriptors.specs.declared.process.Process.{Process}
 use Rattle.sh_kernel_descriptors.specs.declared.process.Status.{Status}
 use Rattle.sh_schedules.specs.declared.outcome.Ending.{Ending}
 use Rattle.sh_schedules.specs.declared.outcome.Outcome.{Outcome}
+use Rattle.sh_schedules.specs.declared.outcome.Waiter.{Waiter}
 
 abbrev pub statuses_of : List Process → List Status
 statuses_of ps = map (λ p. p.status) ps
@@ -61,8 +62,8 @@ status_none ps i most statuses h few is =
     is ∙ take_all _ _ all ∙ sym (take_all _ _ beyond)
 
 -- an outcome by its parts
-pub by_parts : (terminal terminal' image image' : List ℕ) (statuses statuses' : List Status) (ending ending' : Ending) → terminal ≡ terminal' → image ≡ image' → statuses ≡ statuses' →
-    ending ≡ ending' →
-    ◌≡◌ {A = Outcome} (record { terminal = terminal; image = image; statuses = statuses; ending = ending })
-    (record { terminal = terminal'; image = image'; statuses = statuses'; ending = ending' })
-by_parts terminal terminal' image image' statuses statuses' ending ending' a b c d = cc
+pub by_parts : (terminal terminal' image image' : List ℕ) (statuses statuses' : List Status) (ending ending' : Ending) (waiters waiters' : List Waiter) → terminal ≡ terminal' → image ≡ image'
+    → statuses ≡ statuses' → ending ≡ ending' → waiters ≡ waiters' →
+    ◌≡◌ {A = Outcome} (record { terminal = terminal; image = image; statuses = statuses; ending = ending; waiters = waiters })
+    (record { terminal = terminal'; image = image'; statuses = statuses'; ending = ending'; waiters = waiters' })
+by_parts terminal terminal' image image' statuses statuses' ending ending' waiters waiters' a b c d e = cc

@@ -1,5 +1,6 @@
 pub mod Schedules
 pub mod Choices
+pub mod Parting
 pub mod Paths
 pub mod Found
 pub mod Refusals

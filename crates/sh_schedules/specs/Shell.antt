@@ -5,10 +5,14 @@ use Rattle.sh_kernel_descriptors.specs.declared.process.Process.{Process}
 use Rattle.sh_kernel_descriptors.specs.declared.process.Status.{Status}
 use Rattle.sh_stock.specs.Asking.{Meaning}
 use Rattle.sh_exec.specs.State.{State, ended_of, files_of, runnables, step, terminal_of}
+use Rattle.sh_exec.specs.Tasks.{pid_of}
+use Rattle.sh_exec.specs.TurnActions.{turn_action_of}
+use Rattle.sh_exec.specs.declared.task.Task.{Task}
 use Rattle.sh_schedules.specs.Schedules.{Machine}
 use Rattle.sh_schedules.specs.declared.outcome.Ending.{Ending}
 use Rattle.sh_schedules.specs.declared.outcome.Ending.TheVariants.{Ended, Stuck, Cut}
 use Rattle.sh_schedules.specs.declared.outcome.Outcome.{Outcome}
+use Rattle.sh_schedules.specs.declared.outcome.Waiter.{Waiter}
 
 -- an event names a place by 32 bits, so those beyond have none; no more than 1000 processes live at a time
 unfoldable pub shell : {S : Type 0} → Meaning S → Machine (State S)
@@ -23,6 +27,15 @@ ending_by (pid ∷ pids) status = Cut
 ending_by [] None = Stuck
 ending_by [] (Some status) = Ended
 
+-- where a run is stuck each process that lives waits, for it can't do what it is about to do
+abbrev pub waiter_of : {S : Type 0} → Task S → Waiter
+waiter_of task = record { pid = pid_of task; action = turn_action_of task }
+
+abbrev pub waiters_by : {S : Type 0} → Ending → List (Task S) → List Waiter
+waiters_by Ended tasks = []
+waiters_by Stuck tasks = map waiter_of tasks
+waiters_by Cut tasks = []
+
 -- what is seen where a run ends
 unfoldable pub outcome_of : {S : Type 0} → State S → Outcome
 outcome_of s = record {
@@ -30,4 +43,5 @@ outcome_of s = record {
   image = image_text (files_of s);
   statuses = statuses_in s.machine.machine.processes;
   ending = ending_by (runnables s) (ended_of s);
+  waiters = waiters_by (ending_by (runnables s) (ended_of s)) s.tasks;
 }

@@ -1,12 +1,18 @@
 -- How far the trying of schedules has come.
-use Rattle.std.specs.Prelude.{◌≡◌, ℕ, ◌<◌, ◌≤◌, ◌⊎◌, List, [], ◌++◌, Bool, true, false, length, take}
+use Rattle.std.specs.Prelude.{◌≡◌, ℕ, ◌<◌, ◌≤◌, ◌⊎◌, List, [], ◌++◌, Bool, true, false, length, take, Ok}
+use Rattle.sh_files.specs.Image.{read_image}
+use Rattle.sh_files.specs.Nodes.{FileMap}
+use Rattle.sh_stock.specs.Asking.{Meaning}
 use Rattle.sh_exec.specs.declared.event.Event.{Event}
-use Rattle.sh_exec.specs.State.{State}
+use Rattle.sh_exec.specs.State.{State, start}
+use Rattle.sh_exec.specs.declared.settings.Settings.{Settings}
 use Rattle.sh_world.specs.World.{WorldKept, WorldStands}
 use Rattle.sh_schedules.specs.Schedules.{IsSchedule, Machine, end_of}
 use Rattle.sh_schedules.specs.Choices.{choices, schedules}
 use Rattle.sh_schedules.specs.Paths.{behind, events_of, spare, to_try}
 use Rattle.sh_schedules.specs.Found.{AreDistinct, AreFound, IsTally, Shows, counted}
+use Rattle.sh_schedules.specs.Shell.{outcome_of, shell}
+use Rattle.sh_schedules.specs.declared.exploring.Bounds.{Bounds}
 use Rattle.sh_schedules.specs.declared.found.Found.{Found}
 use Rattle.sh_schedules.specs.declared.outcome.Outcome.{Outcome}
 use Rattle.sh_schedules.specs.declared.path.Turn.{Turn}
@@ -57,3 +63,12 @@ pub record IsExploration {A : Type 0} (w : Machine A) (outcome : A → Outcome) 
   pub complete : is_complete ≡ true → (events : List Event) → IsSchedule w k n s events → Shows found (outcome (end_of w s events))
   pub number : is_complete ≡ true → tried ≡ length (schedules w k n s)
   pub further : is_complete ≡ false → tried < length (schedules w k n s)
+
+-- what `explore` gives: the image is in order, and what was found is an exploration from its files; no more schedules were tried than may be,
+-- and where there are more, just so many
+pub record HasExplored {S : Type 0} (m : Meaning S) (image : List ℕ) (settings : Settings) (bounds : Bounds) (found : List Found) (tried : ℕ) (is_complete : Bool) : Type 0 where
+  pub files : FileMap
+  pub image_is : read_image image ≡ Ok files
+  pub exploration : IsExploration (shell m) outcome_of bounds.preemptions bounds.turns (start files settings) found tried is_complete
+  pub within : tried ≤ bounds.schedules
+  pub stopped : is_complete ≡ false → tried ≡ bounds.schedules

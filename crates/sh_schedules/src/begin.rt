@@ -48,6 +48,17 @@ fn settings_copy(alloc: Global, settings: &Settings) -> Result<Settings, NoMemor
     })
 }
 
+/// The files that an image holds.
+pub(crate) fn files_of(alloc: Global, image: &[u8]) -> Result<Files, ExploreFault>
+    ensures read { IfOk result (λ files. read_image image.now ≡ Ok files) }
+    ensures refused { IfErr result (λ fault. IsRefusal image.now fault) }
+{
+    match Files::from_image(alloc, image) {
+        Ok(files) => Ok(files),
+        Err(fault) => Err(refusal(fault)),
+    }
+}
+
 /// The world before the first event.
 pub(crate) fn begin<S: Stock>(
     alloc: Global,
@@ -58,14 +69,8 @@ pub(crate) fn begin<S: Stock>(
         WorldStands world (start files settings.now)) }
     ensures refused { IfErr result (λ fault. IsRefusal image.now fault) }
 {
+    let files = files_of(alloc, image)?;
     let settings = settings_copy(alloc, settings)?;
-    let files = match Files::from_image(alloc, image) {
-        Ok(files) => files,
-        Err(fault) => {
-            drop(settings);
-            return Err(refusal(fault));
-        },
-    };
     match World::<S>::new(alloc, files, settings) {
         Ok(world) => Ok(world),
         Err(lack) => Err(ExploreFault::NoMemory(lack)),

@@ -1,5 +1,5 @@
 //! The trying of all schedules.
-ghost use Rattle.std.specs.Prelude.{◌≡◌, ◌+◌, ◌<◌, ◌^◌, ℕ, [], IfErr, IfOk, OnOk, Ok};
+ghost use Rattle.std.specs.Prelude.{◌≡◌, ◌+◌, ◌<◌, ◌≤◌, ◌^◌, ℕ, [], false, IfErr, IfOk, OnOk, Ok};
 ghost use Rattle.sh_files.specs.Image.{read_image};
 ghost use Rattle.sh_files.specs.Nodes.{FileMap};
 ghost use Rattle.sh_world.specs.World.{WorldStands};
@@ -8,9 +8,9 @@ ghost use Rattle.sh_schedules.specs.Paths.{events_of};
 ghost use Rattle.sh_schedules.specs.Found.{Noted};
 ghost use Rattle.sh_schedules.specs.Refusals.{IsRefusal};
 ghost use Rattle.sh_schedules.specs.Shell.{outcome_of, shell};
-ghost use Rattle.sh_schedules.specs.Trying.{HasEnded, IsExploration, IsTried, IsTrying};
+ghost use Rattle.sh_schedules.specs.Trying.{HasEnded, HasExplored, IsExploration, IsTried, IsTrying};
 
-use crate::begin::begin;
+use crate::begin::{begin, files_of};
 use crate::fault::ExploreFault;
 use crate::found::{Found, note};
 use crate::look;
@@ -132,6 +132,8 @@ fn try_all<S: Stock>(
     requires { found.old.items ≡ [] }
     ensures explored { (files : FileMap) → read_image image.now ≡ Ok files → IfOk result (λ tried.
         IsExploration (shell S.meaning) outcome_of bounds.preemptions bounds.turns (start files settings.now) found.new.items tried.schedules tried.is_complete) }
+    ensures within { IfOk result (λ tried. tried.schedules ≤ bounds.schedules) }
+    ensures stopped { IfOk result (λ tried. tried.is_complete ≡ false → tried.schedules ≡ bounds.schedules) }
     ensures refused { IfErr result (λ fault. IsRefusal image.now fault) }
 {
     let mut path = Vec::new(alloc);
@@ -154,18 +156,20 @@ fn try_all<S: Stock>(
 ///
 /// In each turn one process moves. The one that took the last turn goes on, as long as it can; a turn that is given to another while it
 /// can is a preemption. The schedules are those with at most so many preemptions. A schedule ends where no process can take a turn, or
-/// after as many turns as the bounds allow. Each is run from the start of the world. After `bounds.schedules` of them the trying ends.
-/// The error is that the image is refused, or want of memory.
+/// after as many turns as the bounds allow. Each is run from the start of the world. After `bounds.schedules` of them the trying ends,
+/// but not before, unless these are all. The error is that the image is refused, or want of memory.
 pub fn explore<S: Stock>(
     alloc: Global,
     image: &[u8],
     settings: &Settings,
     bounds: Bounds,
 ) -> Result<Exploration, ExploreFault>
-    ensures explored { (files : FileMap) → read_image image.now ≡ Ok files → IfOk result (λ e.
-        IsExploration (shell S.meaning) outcome_of bounds.preemptions bounds.turns (start files settings.now) e.found.items e.schedules e.is_complete) }
+    ensures explored { IfOk result (λ e.
+        HasExplored S.meaning image.now settings.now bounds e.found.items e.schedules e.is_complete) }
     ensures refused { IfErr result (λ fault. IsRefusal image.now fault) }
 {
+    let files = files_of(alloc, image)?;
+    drop(files);
     let mut found = Vec::new(alloc);
     match try_all::<S>(alloc, image, settings, bounds, &mut found) {
         Ok(tried) => Ok(Exploration {

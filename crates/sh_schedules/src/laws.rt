@@ -4,6 +4,7 @@ ghost use Rattle.sh_exec.specs.State.{State, run};
 ghost use Rattle.sh_exec.specs.declared.event.Event.{Event};
 ghost use Rattle.sh_schedules.specs.Schedules.{IsSchedule, end_of};
 ghost use Rattle.sh_schedules.specs.Choices.{AreApart, In, schedules};
+ghost use Rattle.sh_schedules.specs.Parting.{DifferentSchedulesPart};
 ghost use Rattle.sh_schedules.specs.Shell.{shell};
 
 use sh_stock::Stock;
@@ -21,4 +22,9 @@ pub fn schedules_are_listed<S: Stock>()
     ensures only { (k n : ℕ) (s : State S) (events : List Event)
         → In (schedules (shell S.meaning) k n s) events → IsSchedule (shell S.meaning) k n s events }
     ensures once { (k n : ℕ) (s : State S) → AreApart (schedules (shell S.meaning) k n s) }
+{}
+
+/// Law: two different schedules of a script, with at most so many turns, part at a turn that each of them gives to a process.
+pub fn different_schedules_part<S: Stock>()
+    ensures { DifferentSchedulesPart (shell S.meaning) }
 {}

@@ -9,11 +9,13 @@ mod found;
 mod laws;
 mod look;
 mod outcome;
+mod parting;
 mod path;
 mod turns;
 
 pub use exploring::{Bounds, Exploration, explore};
 pub use fault::ExploreFault;
 pub use found::Found;
-pub use laws::{ends_are_runs, schedules_are_listed};
-pub use outcome::{Ending, Outcome};
+pub use laws::{different_schedules_part, ends_are_runs, schedules_are_listed};
+pub use outcome::{Ending, Outcome, Waiter};
+pub use parting::{Parting, find_parting};

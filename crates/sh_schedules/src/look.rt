@@ -1,16 +1,16 @@
 //! What a world shows.
-ghost use Rattle.std.specs.Prelude.{◌≡◌, IfOk};
+ghost use Rattle.std.specs.Prelude.{◌≡◌, IfOk, map};
 ghost use Rattle.sh_files.specs.Writing.{image_text};
 ghost use Rattle.sh_world.specs.World.{WorldStands};
 ghost use Rattle.sh_exec.specs.State.{State, ended_of, files_of, runnables};
-ghost use Rattle.sh_schedules.specs.Shell.{ending_by, outcome_of, statuses_in};
+ghost use Rattle.sh_schedules.specs.Shell.{ending_by, outcome_of, statuses_in, waiter_of, waiters_by};
 
-use crate::outcome::{Ending, Outcome};
+use crate::outcome::{Ending, Outcome, Waiter};
 use sh_base::NoMemory;
 use sh_base::sequence::{Sequence, Text};
 use sh_kernel::{FIRST_PID, Status};
 use sh_stock::Stock;
-use sh_world::World;
+use sh_world::{Task, World};
 use std::alloc::Global;
 
 /// How many processes there may be: their numbers go from 100 to 2147483647.
@@ -51,6 +51,42 @@ fn ending<S: Stock>(world: &World<S>) -> Result<Ending, NoMemory>
     Ok(ending_by(runnable.as_slice(), world.ended()))
 }
 
+/// A process that waits.
+fn waiter<S: Stock>(task: &Task<S>) -> Waiter
+    ensures { result ≡ waiter_of task.now }
+{
+    Waiter {
+        pid: task.pid(),
+        action: task.action(),
+    }
+}
+
+/// Processes, and what they are about to do.
+fn all_waiters<S: Stock>(alloc: Global, tasks: &[Task<S>]) -> Result<Sequence<Waiter>, NoMemory>
+    ensures { IfOk result (λ waiters. waiters ≡ map waiter_of tasks.now) }
+{
+    let mut waiters = Sequence::new(alloc);
+    for task in tasks {
+        waiters.push(waiter(task))?;
+    }
+    Ok(waiters)
+}
+
+/// The processes that live, where a run is stuck.
+fn waiters<S: Stock>(
+    alloc: Global,
+    world: &World<S>,
+    ending: Ending,
+) -> Result<Sequence<Waiter>, NoMemory>
+    ensures { (s : State S) → WorldStands world.now s → IfOk result (λ waiters.
+        waiters ≡ waiters_by ending s.tasks) }
+{
+    match (ending, world.tasks()) {
+        (Ending::Stuck, Some(tasks)) => all_waiters(alloc, tasks),
+        _ => Ok(Sequence::new(alloc)),
+    }
+}
+
 /// The image of the files.
 fn image<S: Stock>(alloc: Global, world: &World<S>) -> Result<Text, NoMemory>
     ensures { (s : State S) → WorldStands world.now s → IfOk result (λ image.
@@ -73,10 +109,12 @@ pub(crate) fn outcome_of<S: Stock>(alloc: Global, world: &World<S>) -> Result<Ou
     let terminal = Text::copy_of(alloc, world.terminal())?;
     let image = image(alloc, world)?;
     let statuses = statuses(alloc, world)?;
+    let waiters = waiters(alloc, world, ending)?;
     Ok(Outcome {
         terminal,
         image,
         statuses,
         ending,
+        waiters,
     })
 }

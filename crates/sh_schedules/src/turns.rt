@@ -28,7 +28,7 @@ const MOST_PLACES: usize = 4_294_967_295;
 
 /// The processes that can take a turn.
 #[tactic(auto, unfolding(crate::specs::Shell::shell))]
-fn runnable<S: Stock>(world: &World<S>) -> Result<Vec<u32>, NoMemory>
+pub(crate) fn runnable<S: Stock>(world: &World<S>) -> Result<Vec<u32>, NoMemory>
     ensures pids { (s : State S) → WorldStands world.now s → IfOk result (λ pids.
         pids.items ≡ (shell S.meaning).runnable s) }
     ensures few { IfOk result (λ pids. length pids.items < 2 ^ 32) }
@@ -78,13 +78,21 @@ fn cost_at<S: Stock>(world: &World<S>, place: u32) -> Result<u32, NoMemory>
     Ok(choices::cost(here, place))
 }
 
-/// A turn of the process at a place.
+/// The turn that an event gives.
 #[tactic(auto, unfolding(crate::specs::Shell::shell))]
+pub(crate) fn turn_of<S: Stock>(world: &mut World<S>, event: Event) -> Result<(), NoMemory>
+    ensures { (s : State S) → WorldStands world.old s
+        → OnOk result (WorldStands world.new ((shell S.meaning).step s event)) }
+{
+    world.apply(event)
+}
+
+/// A turn of the process at a place.
 fn turn_at<S: Stock>(world: &mut World<S>, place: u32) -> Result<(), NoMemory>
     ensures { (s : State S) → WorldStands world.old s
         → OnOk result (WorldStands world.new ((shell S.meaning).step s (Run place))) }
 {
-    world.apply(Event::Run(place))
+    turn_of(world, Event::Run(place))
 }
 
 /// A turn of the process at a place; it answers how many preemptions are left after it.

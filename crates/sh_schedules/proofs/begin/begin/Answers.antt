@@ -10,7 +10,7 @@ same_files : (read : Result FileMap ImageFault) (a b : FileMap) → read ≡ Ok 
 same_files read a b x y = let e : ◌≡◌ {A = Result FileMap ImageFault} (Ok a) (Ok b) = sym x ∙ y in cc
 
 -- the world is begun on the files that the image holds, and on a copy of the settings
-pub returns-in-Ok-new-clause-stands : goal.returns-in-Ok-new-clause-stands
-returns-in-Ok-new-clause-stands g c = λ files is.
-    subst (λ (these : FileMap). WorldStands c.in-Ok-new.world (start these c.args.settings.now)) (same_files _ _ _ c.in-Ok.ensures.ok is)
-    (subst (λ (those : Settings). WorldStands c.in-Ok-new.world (start c.in-Ok.files those)) c.in_ok-settings.ensures c.in-Ok-new.ensures)
+pub returns-in-Ok-clause-stands : goal.returns-in-Ok-clause-stands
+returns-in-Ok-clause-stands g c = λ files is.
+    subst (λ (these : FileMap). WorldStands c.in-Ok.world (start these c.args.settings.now)) (same_files _ _ _ c.in_ok-files.ensures.read is)
+    (subst (λ (those : Settings). WorldStands c.in-Ok.world (start c.in_ok-files.files those)) c.in_ok-settings.ensures c.in-Ok.ensures)

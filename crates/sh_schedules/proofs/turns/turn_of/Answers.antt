@@ -1,5 +1,5 @@
 use Rattle.sh_schedules.specs.Shell.{shell}
-use Rattle.sh_schedules.proofs.turns.turn_at.Goals as goal
+use Rattle.sh_schedules.proofs.turns.turn_of.Goals as goal
 
 pub returns : goal.returns
 unfolding shell
