@@ -1,6 +1,7 @@
 -- A table of jobs, in the order in which they were launched (XBD chapter 3, Job).
-use Rattle.std.specs.Prelude.{◌≡◌, ℕ, zero, suc, ◌+◌, ◌<◌, ◌≤◌, List, [], ◌∷◌, ◌++◌, ◌==◌, Bool, true, false, not, Option, Some, length, map, filter, if◌then◌else◌}
-use Rattle.std.specs.List.{find, list_any}
+use Rattle.std.specs.Prelude.{◌≡◌, ℕ, zero, suc, ◌+◌, ◌<◌, ◌≤◌, List, [], ◌∷◌, ◌++◌, ◌==◌, Bool, true, false, not, Option, Some, length, map, filter, nat_le, if◌then◌else◌}
+use Rattle.std.specs.List.{find, insert, list_any, position}
+use Rattle.std.specs.Option.{unwrap_or}
 use Rattle.sh_jobs.specs.declared.job.Job.{Job}
 use Rattle.sh_jobs.specs.declared.state.JobState.{JobState}
 
@@ -57,3 +58,17 @@ after_telling jobs number state = map (job_after_telling number state) jobs
 -- ---- a job is forgotten
 abbrev pub without : List Job → ℕ → List Job
 without jobs number = filter (λ job. not (has_number number job)) jobs
+
+-- ---- the numbers of all jobs, the least first: each is put before the first that isn't less
+abbrev pub place_of : List ℕ → ℕ → ℕ
+place_of numbers number = unwrap_or (position (λ other. nat_le number other) numbers) (length numbers)
+
+abbrev pub with_number : List ℕ → ℕ → List ℕ
+with_number numbers number = insert numbers (place_of numbers number) number
+
+abbrev pub with_numbers : List ℕ → List Job → List ℕ
+with_numbers numbers [] = numbers
+with_numbers numbers (job ∷ jobs) = with_numbers (with_number numbers job.number) jobs
+
+abbrev pub numbers_of : List Job → List ℕ
+numbers_of jobs = with_numbers [] jobs

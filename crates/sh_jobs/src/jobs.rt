@@ -5,7 +5,7 @@ ghost use Rattle.sh_jobs.specs.Ids.{job_of_id};
 ghost use Rattle.sh_jobs.specs.Lines.{report_of};
 ghost use Rattle.sh_jobs.specs.News.{next_changed, without_told};
 ghost use Rattle.sh_jobs.specs.States.{state_of};
-ghost use Rattle.sh_jobs.specs.Table.{IsLeastFree, after_note, after_telling, free_number, job_at, with_launch, without};
+ghost use Rattle.sh_jobs.specs.Table.{IsLeastFree, after_note, after_telling, free_number, job_at, numbers_of, with_launch, without};
 
 use crate::fault::JobFault;
 use crate::ids::find;
@@ -14,7 +14,7 @@ use crate::line::{JobForm, line_of};
 use crate::news::{next_changed, remove_told};
 use crate::stages::state_of;
 use crate::state::JobState;
-use crate::table::{free_number, note, remove, tell};
+use crate::table::{free_number, note, numbers_of, remove, tell};
 use sh_base::NoMemory;
 use sh_base::sequence::{Sequence, Text};
 use sh_kernel::Kernel;
@@ -92,6 +92,13 @@ impl Jobs {
         ensures { option_map (λ job. job.now) result ≡ job_at self.now number }
     {
         self.jobs.iter().find(|job| job.number == number)
+    }
+
+    /// The numbers of all jobs, the least first. The only error is want of memory.
+    pub fn numbers(&self, alloc: Global) -> Result<Sequence<usize>, NoMemory>
+        ensures { IfOk result (λ numbers. numbers ≡ numbers_of self.now) }
+    {
+        Ok(Sequence::from_vec(numbers_of(alloc, self.jobs.as_slice())?))
     }
 
     /// The state of the job of this number (XCU jobs), `None` where there is none. A process that never was counts as one that exited with
