@@ -1,0 +1,3 @@
+mod Naming
+mod Numbered
+mod Serving

@@ -1,0 +1,9 @@
+pub mod Continuing
+pub mod JobWords
+pub mod KillRuns
+pub mod KillTargets
+pub mod KillWords
+pub mod Laws
+pub mod Listing
+pub mod Messages
+pub mod SignalWords
