@@ -14,11 +14,11 @@ def write_events(path, turns):
     return path
 
 
-def instructions(folder, words):
-    """The instructions of a run under valgrind's callgrind."""
+def instructions(folder, words, statuses=(0,)):
+    """The instructions of a run under valgrind's callgrind, which has to end with one of these statuses."""
     ran = subprocess.run(["valgrind", "--tool=callgrind", f"--callgrind-out-file={folder}/out", *words], capture_output=True)
     for line in ran.stderr.decode(errors="replace").splitlines():
-        if "Collected" in line and not ran.returncode:
+        if "Collected" in line and ran.returncode in statuses:
             return int(line.split(":")[1].replace(",", ""))
     sys.exit(f"{words}: {ran.returncode} {ran.stdout[-200:]} {ran.stderr[-400:]}")
 
