@@ -50,6 +50,10 @@ after_taking_by members (Some m) = without_pending members m (lowest m.pending)
 abbrev pub after_taking : List Member → (pid : ℕ) → List Member
 after_taking members pid = after_taking_by members (member_at members pid)
 
+-- ---- the first process has a group of its own; it ignores and catches nothing, and no signal has been sent to it
+abbrev pub first_member : (pid : ℕ) → Member
+first_member pid = record { pid = pid; group = pid; ignored = no_signals; caught = no_signals; pending = no_signals; kept = no_signals }
+
 -- ---- a new process is in its maker's group and ignores what that ignores; it catches nothing, and no signal has been sent to it
 abbrev pub new_member : Member → (child : ℕ) → Member
 new_member m child = record { pid = child; group = m.group; ignored = m.ignored; caught = no_signals; pending = no_signals; kept = no_signals }

@@ -110,22 +110,20 @@ pub fn start_program(members: &mut Vec<Member>, pid: u32)
     }
 }
 
-/// A new process.
-fn new_member(member: Member, child: u32) -> Member
+/// The process that a process makes (XSH fork): it is in the same group, and ignores the same signals. What its maker catches has the
+/// default action, as in a subshell (XCU 2.13). No signal has been sent to it.
+pub fn new_member(member: Member, child: u32) -> Member
     ensures { result ≡ new_member member child }
 {
     Member {
-        pid: child,
-        caught: SignalSet::new(),
-        pending: SignalSet::new(),
-        kept: SignalSet::new(),
-        ..member
+        group: member.group,
+        ignored: member.ignored,
+        ..Member::first(child)
     }
 }
 
-/// Adds a process that another one makes (XSH fork): it is in the same group, and ignores the same signals. What its maker catches has the
-/// default action, as in a subshell (XCU 2.13); no signal has been sent to it. The only error is want of memory, after which nothing has
-/// changed.
+/// Adds the process that a process makes, as [`new_member`] has it, behind the others (XSH fork). Nothing changes where no such maker lives.
+/// The only error is want of memory, after which nothing has changed.
 pub fn add_fork(members: &mut Vec<Member>, pid: u32, child: u32) -> Result<(), NoMemory>
     ensures ok { OnOk result (members.new.items ≡ with_fork members.old.items pid child) }
     ensures err { OnErr result (members.new.items ≡ members.old.items) }

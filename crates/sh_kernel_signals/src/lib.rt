@@ -5,14 +5,16 @@
 mod changes;
 mod delivery;
 mod groups;
+mod laws;
 mod member;
 mod sending;
 mod set;
 mod target;
 
-pub use changes::{add_fork, set_action, set_group, start_program, take_signal};
+pub use changes::{add_fork, new_member, set_action, set_group, start_program, take_signal};
 pub use groups::{is_orphaned, member_at};
+pub use laws::signals_change_only_statuses;
 pub use member::{Member, SignalAction};
-pub use sending::{end, is_any_reached, send};
+pub use sending::{end, groups_at_risk, is_any_reached, pids_of, send, send_prepared};
 pub use set::SignalSet;
 pub use target::SignalTarget;

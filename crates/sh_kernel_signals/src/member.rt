@@ -1,5 +1,6 @@
 //! Processes as members of groups.
 ghost use Rattle.std.specs.Prelude.{◌≡◌, true, false};
+ghost use Rattle.sh_kernel_signals.specs.Changes.{first_member};
 ghost use Rattle.sh_kernel_signals.specs.Delivery.{action_by, action_of};
 
 use crate::set::SignalSet;
@@ -46,6 +47,20 @@ fn action_by(is_ignored: bool, is_caught: bool) -> SignalAction
 }
 
 impl Member {
+    /// The first process of a session: its group is its own (XSH setsid). It ignores and catches nothing, and no signal has been sent to it.
+    pub fn first(pid: u32) -> Member
+        ensures { result ≡ first_member pid }
+    {
+        Member {
+            pid,
+            group: pid,
+            ignored: SignalSet::new(),
+            caught: SignalSet::new(),
+            pending: SignalSet::new(),
+            kept: SignalSet::new(),
+        }
+    }
+
     /// What the process does with a signal.
     pub fn action(&self, signal: Signal) -> SignalAction
         ensures { result ≡ action_of self.now signal }

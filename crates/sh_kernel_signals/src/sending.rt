@@ -154,8 +154,8 @@ fn send_each(
     }
 }
 
-/// The numbers of these members.
-fn pids_of(alloc: Global, members: &[Member]) -> Result<Vec<u32>, NoMemory>
+/// The numbers of these members, in their order. The only error is want of memory.
+pub fn pids_of(alloc: Global, members: &[Member]) -> Result<Vec<u32>, NoMemory>
     ensures { IfOk result (λ pids. pids.items ≡ pids_of members.now) }
 {
     Ok(members.iter().map(|member| member.pid).collect(alloc)?)
@@ -168,8 +168,9 @@ fn is_at_risk(processes: &[Process], members: &[Member], member: &Member) -> boo
     is_stopped(status_at(processes, member.pid)) && !is_orphaned(processes, members, member.group)
 }
 
-/// The groups of such members.
-fn groups_at_risk(
+/// The groups that a signal, or the end of a process, may leave orphaned with a stopped member: those of stopped members, which aren't
+/// orphaned yet. The only error is want of memory.
+pub fn groups_at_risk(
     alloc: Global,
     processes: &[Process],
     members: &[Member],
@@ -269,11 +270,29 @@ pub fn is_any_reached(members: &[Member], to: SignalTarget<'_>) -> bool
     members.iter().any(|member| reaches(to, member))
 }
 
+/// Sends a signal as [`send`] does, where the numbers of the members and the groups at risk were found before. Takes no memory.
+#[tactic(auto, unfolding(crate::specs::Sending::after_send))]
+pub fn send_prepared(
+    processes: &mut Vec<Process>,
+    members: &mut Vec<Member>,
+    to: SignalTarget<'_>,
+    signal: Signal,
+    pids: &[u32],
+    at_risk: &[u32],
+)
+    requires { (pids.now ≡ pids_of members.old.items)
+        × (at_risk.now ≡ groups_at_risk (record { processes = processes.old.items; members = members.old.items })) }
+    ensures { record { processes = processes.new.items; members = members.new.items }
+        ≡ after_send (record { processes = processes.old.items; members = members.old.items }) to.entry signal }
+{
+    send_each(processes, members, to, signal, pids);
+    settle(processes, members, pids, at_risk);
+}
+
 /// Sends a signal to all processes that it reaches (XSH kill), in the order of the members (`add_fork` puts a new one behind the others,
 /// so that is the order of their numbers). A parent gets CHLD where a process ends or stops. Where this leaves a group orphaned that has a
 /// stopped member, each of its members gets HUP, and then CONT (XSH _exit). Members that have ended leave the list. The only error is want
 /// of memory, after which nothing has changed.
-#[tactic(auto, unfolding(crate::specs::Sending::after_send))]
 pub fn send(
     alloc: Global,
     processes: &mut Vec<Process>,
@@ -288,8 +307,14 @@ pub fn send(
 {
     let pids = pids_of(alloc, members.as_slice())?;
     let at_risk = groups_at_risk(alloc, processes.as_slice(), members.as_slice())?;
-    send_each(processes, members, to, signal, pids.as_slice());
-    settle(processes, members, pids.as_slice(), at_risk.as_slice());
+    send_prepared(
+        processes,
+        members,
+        to,
+        signal,
+        pids.as_slice(),
+        at_risk.as_slice(),
+    );
     Ok(())
 }
 

@@ -44,7 +44,7 @@ abbrev pub discards : Key → List Happening → List Happening
 discards Newline hs = hs
 discards EndOfFile hs = hs
 discards Erase hs = hs
-discards (Raise signal) hs = Discarded ∷ hs
+discards (Raise key) hs = Discarded ∷ hs
 discards (Text b) hs = hs
 discards Dropped hs = hs
 

@@ -1,7 +1,9 @@
 -- What each key does in canonical input (XBD 11.1.6, 11.1.9).
 use Rattle.std.specs.Prelude.{ℕ, ◌-◌, List, [], ◌∷◌, ◌++◌, Bool, ◌==◌, ◌||◌, nat_lt, nat_le, length, take, drop, Option, Some, None, if◌then◌else◌}
-use Rattle.sh_tty.specs.declared.key.Signal.{Signal}
-use Rattle.sh_tty.specs.declared.key.Signal.TheVariants.{Interrupt, Quit, Suspend}
+use Rattle.sh_signal.specs.declared.signal.Signal.{Signal}
+use Rattle.sh_signal.specs.declared.signal.Signal.TheVariants as signal
+use Rattle.sh_tty.specs.declared.key.SignalKey.{SignalKey}
+use Rattle.sh_tty.specs.declared.key.SignalKey.TheVariants.{Interrupt, Quit, Suspend}
 use Rattle.sh_tty.specs.declared.key.Key.{Key}
 use Rattle.sh_tty.specs.declared.key.Key.TheVariants.{Newline, EndOfFile, Erase, Raise, Text, Dropped}
 use Rattle.sh_tty.specs.declared.entry.Entry.{Entry}
@@ -22,19 +24,19 @@ key_of b =
     else if b == 26 then Raise Suspend
     else text_or_dropped b
 
+-- INTR raises SIGINT, QUIT SIGQUIT and SUSP SIGTSTP
+abbrev pub raised_by : SignalKey → Signal
+raised_by Interrupt = signal.Interrupt
+raised_by Quit = signal.Quit
+raised_by Suspend = signal.TerminalStop
+
 abbrev pub signal_of : Key → Option Signal
 signal_of Newline = None
 signal_of EndOfFile = None
 signal_of Erase = None
-signal_of (Raise signal) = Some signal
+signal_of (Raise key) = Some (raised_by key)
 signal_of (Text b) = None
 signal_of Dropped = None
-
--- the numbers of signals (XBD <signal.h>; XCU `kill`)
-abbrev pub number_of : Signal → ℕ
-number_of Interrupt = 2
-number_of Quit = 3
-number_of Suspend = 20
 
 -- how many bytes a line may have before its newline (MAX_CANON)
 abbrev pub line_limit : ℕ
@@ -44,7 +46,7 @@ abbrev pub has_room : List ℕ → Bool
 has_room line = nat_lt (length line) line_limit
 
 -- a signal key is echoed as `^`, its letter and a newline
-abbrev pub signal_echo : Signal → List ℕ
+abbrev pub signal_echo : SignalKey → List ℕ
 signal_echo Interrupt = 94 ∷ 67 ∷ 10 ∷ []
 signal_echo Quit = 94 ∷ 92 ∷ 10 ∷ []
 signal_echo Suspend = 94 ∷ 90 ∷ 10 ∷ []
@@ -54,7 +56,7 @@ abbrev pub echo : Key → List ℕ → List ℕ
 echo Newline line = 10 ∷ []
 echo EndOfFile line = []
 echo Erase line = if length line == 0 then [] else 8 ∷ 32 ∷ 8 ∷ []
-echo (Raise signal) line = signal_echo signal
+echo (Raise key) line = signal_echo key
 echo (Text b) line = if has_room line then b ∷ [] else []
 echo Dropped line = []
 
@@ -63,7 +65,7 @@ abbrev pub line_after : Key → List ℕ → List ℕ
 line_after Newline line = []
 line_after EndOfFile line = []
 line_after Erase line = take (length line - 1) line
-line_after (Raise signal) line = line
+line_after (Raise key) line = line
 line_after (Text b) line = if has_room line then line ++ b ∷ [] else line
 line_after Dropped line = line
 
@@ -73,7 +75,7 @@ abbrev pub new_entries : Key → List ℕ → List Entry
 new_entries Newline line = entry.Line (line ++ 10 ∷ []) ∷ []
 new_entries EndOfFile line = if length line == 0 then entry.EndOfFile ∷ [] else entry.Line line ∷ []
 new_entries Erase line = []
-new_entries (Raise signal) line = []
+new_entries (Raise key) line = []
 new_entries (Text b) line = []
 new_entries Dropped line = []
 

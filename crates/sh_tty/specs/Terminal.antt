@@ -24,7 +24,7 @@ abbrev pub kept_line : Key → List ℕ → List ℕ
 kept_line Newline line = line_after Newline line
 kept_line EndOfFile line = line_after EndOfFile line
 kept_line Erase line = line_after Erase line
-kept_line (Raise signal) line = []
+kept_line (Raise key) line = []
 kept_line (Text b) line = line_after (Text b) line
 kept_line Dropped line = line_after Dropped line
 
@@ -32,7 +32,7 @@ abbrev pub kept_entries : Key → List Entry → List ℕ → List Entry
 kept_entries Newline entries line = entries ++ new_entries Newline line
 kept_entries EndOfFile entries line = entries ++ new_entries EndOfFile line
 kept_entries Erase entries line = entries ++ new_entries Erase line
-kept_entries (Raise signal) entries line = []
+kept_entries (Raise key) entries line = []
 kept_entries (Text b) entries line = entries ++ new_entries (Text b) line
 kept_entries Dropped entries line = entries ++ new_entries Dropped line
 

@@ -1,38 +1,40 @@
 //! Keys.
 ghost use Rattle.std.specs.Prelude.{◌≡◌};
-ghost use Rattle.sh_tty.specs.Keys.{key_of, number_of, signal_echo, signal_of, text_or_dropped};
+ghost use Rattle.sh_tty.specs.Keys.{key_of, raised_by, signal_echo, signal_of, text_or_dropped};
 
-/// A signal that a key raises, for the foreground process group.
+use sh_signal::Signal;
+
+/// A key that raises a signal for the foreground process group (XBD 11.1.9).
 #[derive(Clone, Copy, Debug, PartialEq, Eq)]
-pub enum Signal {
-    /// SIGINT, by key 03.
+pub(crate) enum SignalKey {
+    /// INTR, key 03.
     Interrupt,
-    /// SIGQUIT, by key 1c.
+    /// QUIT, key 1c.
     Quit,
-    /// SIGTSTP, by key 1a.
+    /// SUSP, key 1a.
     Suspend,
 }
 
-impl Signal {
-    /// The signal's number: 2, 3 or 20.
-    pub fn number(self) -> u8
-        ensures { result ≡ number_of self }
+impl SignalKey {
+    /// The signal that it raises: INT, QUIT or TSTP.
+    pub fn signal(self) -> Signal
+        ensures { result ≡ raised_by self }
     {
         match self {
-            Signal::Interrupt => 2,
-            Signal::Quit => 3,
-            Signal::Suspend => 20,
+            SignalKey::Interrupt => Signal::Interrupt,
+            SignalKey::Quit => Signal::Quit,
+            SignalKey::Suspend => Signal::TerminalStop,
         }
     }
 
-    /// What the terminal shows of its key.
-    pub(crate) fn echo(self) -> [u8; 3]
+    /// What the terminal shows of it.
+    pub fn echo(self) -> [u8; 3]
         ensures { result ≡ signal_echo self }
     {
         match self {
-            Signal::Interrupt => *b"^C\n",
-            Signal::Quit => *b"^\\\n",
-            Signal::Suspend => *b"^Z\n",
+            SignalKey::Interrupt => *b"^C\n",
+            SignalKey::Quit => *b"^\\\n",
+            SignalKey::Suspend => *b"^Z\n",
         }
     }
 }
@@ -47,7 +49,7 @@ pub(crate) enum Key {
     /// It takes back the last byte of the line.
     Erase,
     /// It raises a signal.
-    Raise(Signal),
+    Raise(SignalKey),
     /// It is a byte of the line.
     Text(u8),
     /// It does nothing.
@@ -80,13 +82,13 @@ impl Key {
             return Key::Erase;
         }
         if byte == 3 {
-            return Key::Raise(Signal::Interrupt);
+            return Key::Raise(SignalKey::Interrupt);
         }
         if byte == 28 {
-            return Key::Raise(Signal::Quit);
+            return Key::Raise(SignalKey::Quit);
         }
         if byte == 26 {
-            return Key::Raise(Signal::Suspend);
+            return Key::Raise(SignalKey::Suspend);
         }
         plain(byte)
     }
@@ -99,7 +101,7 @@ impl Key {
             Key::Newline => None,
             Key::EndOfFile => None,
             Key::Erase => None,
-            Key::Raise(signal) => Some(signal),
+            Key::Raise(key) => Some(key.signal()),
             Key::Text(_) => None,
             Key::Dropped => None,
         }

@@ -5,5 +5,4 @@ mod entry;
 mod key;
 mod tty;
 
-pub use key::Signal;
 pub use tty::{Tty, TtyFault};

@@ -7,8 +7,9 @@ ghost use Rattle.sh_tty.specs.Terminal.{Extends, StandsAt, kept_entries, kept_li
 ghost use Rattle.sh_tty.specs.declared.tty.TtyFault.TheVariants as fault;
 
 use crate::entry::{Entry, Line, copy_first, take_first};
-use crate::key::{Key, Signal};
+use crate::key::{Key, SignalKey};
 use sh_base::NoMemory;
+use sh_signal::Signal;
 use std::alloc::{AllocError, AllocFailed, Global};
 use std::collections::VecDeque;
 use std::marker::Model;
@@ -150,13 +151,13 @@ fn put(byte: u8, bytes: &mut Vec<u8>, line: &mut Vec<u8>) -> Result<(), TtyFault
 
 /// Raises a signal, which throws the unread input away.
 fn raise(
-    signal: Signal,
+    key: SignalKey,
     bytes: &mut Vec<u8>,
     entries: &mut VecDeque<Entry>,
     line: &mut Vec<u8>,
 ) -> Result<(), TtyFault>
     ensures bytes { OnOk result
-        (bytes.new.items ≡ bytes.old.items ++ echo (Key.Raise signal) line.old.items) }
+        (bytes.new.items ≡ bytes.old.items ++ echo (Key.Raise key) line.old.items) }
     ensures entries { OnOk result (entries.new.items ≡ []) }
     ensures line { OnOk result (line.new.items ≡ []) }
     ensures kept { OnErr result
@@ -164,7 +165,7 @@ fn raise(
         × (line.new.items ≡ line.old.items)) }
     ensures fault { IfErr result (λ fault. fault ≡ TtyFault.NoMemory no_memory) }
 {
-    bytes.extend_from_slice(&signal.echo())?;
+    bytes.extend_from_slice(&key.echo())?;
     entries.clear();
     line.clear();
     Ok(())
@@ -191,7 +192,7 @@ fn press(
         Key::Newline => end_line(alloc, bytes, entries, line),
         Key::EndOfFile => hand_over(alloc, entries, line),
         Key::Erase => erase(bytes, line),
-        Key::Raise(signal) => raise(signal, bytes, entries, line),
+        Key::Raise(key) => raise(key, bytes, entries, line),
         Key::Text(byte) => put(byte, bytes, line),
         Key::Dropped => Ok(()),
     }
