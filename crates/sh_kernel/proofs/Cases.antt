@@ -6,10 +6,10 @@ use Rattle.sh_files.specs.declared.fault.FileFault.{FileFault}
 use Rattle.sh_files.specs.declared.fault.FileFault.TheVariants.{TooLarge}
 use Rattle.sh_pipe.specs.Pipe.{PipeState}
 use Rattle.sh_kernel_descriptors.specs.Outcomes.{success, refusal}
-use Rattle.sh_kernel_descriptors.specs.Machine.{MachineState, after_end}
+use Rattle.sh_kernel_descriptors.specs.Machine.{MachineState}
 use Rattle.sh_kernel_descriptors.specs.Descriptors.{description_number, has_reader, has_writer, is_called, is_named, reads_from, writes_to}
 use Rattle.sh_kernel_descriptors.specs.Reading.{with_offset, read_described, read_found, read_node, read_pipe_of, read_slot, read_target, read_call}
-use Rattle.sh_kernel_descriptors.specs.Writing.{broken_pipe, content_written, on_files, write_call, write_described, write_found, write_pipe_of, write_slot, write_start, write_target}
+use Rattle.sh_kernel_descriptors.specs.Writing.{content_written, on_files, write_call, write_described, write_found, write_pipe_of, write_slot, write_start, write_target}
 use Rattle.sh_kernel_descriptors.specs.Writing as writing
 use Rattle.sh_kernel_descriptors.specs.Reading as reading
 use Rattle.sh_kernel_descriptors.specs.declared.descriptor.Descriptor.{Descriptor}
@@ -18,8 +18,7 @@ use Rattle.sh_kernel_descriptors.specs.declared.descriptor.DescriptorRef.TheVari
 use Rattle.sh_kernel_descriptors.specs.declared.description.Description.{Description}
 use Rattle.sh_kernel_descriptors.specs.declared.description.Target.{Target}
 use Rattle.sh_kernel_descriptors.specs.declared.description.Target.TheVariants.{File, Terminal, Null, ReadEnd, WriteEnd}
-use Rattle.sh_kernel_descriptors.specs.declared.process.Status.TheVariants.{Signaled}
-use Rattle.sh_kernel_descriptors.specs.declared.fault.KernelFault.TheVariants.{BadDescriptor}
+use Rattle.sh_kernel_descriptors.specs.declared.fault.KernelFault.TheVariants.{BadDescriptor, BrokenPipe}
 use Rattle.sh_kernel.specs.Reaching.{reaches, is_end, is_file, is_node}
 use Rattle.sh_kernel.proofs.Lists.{or_left, or_right}
 
@@ -57,7 +56,6 @@ module _ (m : MachineState) (pid : ℕ) (P : MachineState → Type 0) where
     pub same : P m
     pub file : (k node start end : ℕ) (bytes : List ℕ) (files : FileMap) → IsHeld m.descriptors pid k → is_file m.descriptions node k ≡ true → write_at m.files node start bytes ≡ Ok files → P (record m { files = files; descriptions = with_offset m.descriptions k end })
     pub pipe : (k pipe : ℕ) (slot : Option PipeState) → IsHeld m.descriptors pid k → is_end m.descriptions pipe k ≡ true → P (record m { pipes = slice_set m.pipes pipe slot })
-    pub ends : P (after_end m pid (Signaled 13))
 
   read_slots : (k pipe n : ℕ) (w : Bool) → ReadChanges → IsHeld m.descriptors pid k → is_end m.descriptions pipe k ≡ true → (o : Option (Option PipeState)) → P (record m { pipes = (read_pipe_of m.pipes pipe w n o).after })
   read_slots k pipe n w c held end None = c.same
@@ -99,7 +97,7 @@ module _ (m : MachineState) (pid : ℕ) (P : MachineState → Type 0) where
   write_slots k pipe bytes c held end None = c.same
   write_slots k pipe bytes c held end (Some slot) = c.pipe k pipe (write_slot bytes slot).after held end
 
-  write_targets : (k : ℕ) (bytes : List ℕ) (e : Description) → WriteChanges → IsHeld m.descriptors pid k → slice_get m.descriptions k ≡ Some e → (t : Target) → e.target ≡ t → P (write_target m pid bytes k e t).after
+  write_targets : (k : ℕ) (bytes : List ℕ) (e : Description) → WriteChanges → IsHeld m.descriptors pid k → slice_get m.descriptions k ≡ Some e → (t : Target) → e.target ≡ t → P (write_target m bytes k e t).after
   write_targets k bytes e c held there (File node) is =
       let of_file : is_node node e.target ≡ true = rw is (eq-eqb node node refl) in
       let start = write_start m.files node e.append e.offset in
@@ -109,21 +107,21 @@ module _ (m : MachineState) (pid : ℕ) (P : MachineState → Type 0) where
   write_targets k bytes e c held there (ReadEnd pipe) is = c.same
   write_targets k bytes e c held there (WriteEnd pipe) is =
       let ends : (reads_from pipe e.target || writes_to pipe e.target) ≡ true = rw is (eq-eqb pipe pipe refl) in
-      elim (has_reader m.descriptors m.descriptions pipe) as (λ b. P (cond b (reading.on_pipes m (writing.write_pipe m.pipes pipe bytes)) (broken_pipe m pid)).after) [
+      elim (has_reader m.descriptors m.descriptions pipe) as (λ b. P (cond b (reading.on_pipes m (writing.write_pipe m.pipes pipe bytes)) (refusal m BrokenPipe)).after) [
         | true ↦ write_slots k pipe bytes c held (end_of_target m.descriptions k pipe e there ends) (slice_get m.pipes pipe)
-        | false ↦ c.ends
+        | false ↦ c.same
       ]
 
-  write_describes : (k : ℕ) (bytes : List ℕ) → WriteChanges → IsHeld m.descriptors pid k → (o : Option Description) → slice_get m.descriptions k ≡ o → P (write_described m pid bytes k o).after
+  write_describes : (k : ℕ) (bytes : List ℕ) → WriteChanges → IsHeld m.descriptors pid k → (o : Option Description) → slice_get m.descriptions k ≡ o → P (write_described m bytes k o).after
   write_describes k bytes c held None is = c.same
   write_describes k bytes c held (Some e) is = of_tests e.writable (is_empty bytes)
     where
-      of_tests : (a b : Bool) → P (cond a (cond b (success 0 m) (write_target m pid bytes k e e.target)) (refusal m BadDescriptor)).after
+      of_tests : (a b : Bool) → P (cond a (cond b (success 0 m) (write_target m bytes k e e.target)) (refusal m BadDescriptor)).after
       of_tests true true = c.same
       of_tests true false = write_targets k bytes e c held is e.target refl
       of_tests false b = c.same
 
-  write_finds : (number : ℕ) (bytes : List ℕ) → WriteChanges → (o : Option ℕ) → description_number m.descriptors pid (Number number) ≡ o → P (write_found m pid bytes o).after
+  write_finds : (number : ℕ) (bytes : List ℕ) → WriteChanges → (o : Option ℕ) → description_number m.descriptors pid (Number number) ≡ o → P (write_found m bytes o).after
   write_finds number bytes c None is = c.same
   write_finds number bytes c (Some k) is = write_describes k bytes c (found_held m.descriptors pid (Number number) k is) (slice_get m.descriptions k) refl
 

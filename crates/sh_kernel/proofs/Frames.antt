@@ -1,5 +1,5 @@
 -- Each request changes only what its process reaches.
-use Rattle.std.proofs.Common.{◌≡◌, ◌≢◌, ℕ, zero, suc, ◌+◌, ◌-◌, ◌<◌, ◌≤◌, List, [], ◌∷◌, ◌++◌, length, map, filter, Bool, true, false, not, cond, ◌&&◌, ◌||◌, ◌==◌, Option, Some, None, slice_get, slice_set, get_or, refl, sym, ap, ◌∙◌, arith, Result, Ok, Err, append-nil, option_and_then, position, is_none, nat_lt, nat_le}
+use Rattle.std.proofs.Common.{◌≡◌, ◌≢◌, ℕ, zero, suc, ◌+◌, ◌-◌, ◌<◌, ◌≤◌, List, [], ◌∷◌, ◌++◌, length, map, filter, Bool, true, false, not, cond, ◌&&◌, ◌||◌, ◌==◌, Option, Some, None, slice_get, slice_set, get_or, refl, sym, ap, ◌∙◌, arith, Result, Ok, Err, append-nil, position, nat_lt, nat_le, option_map}
 use Rattle.std.specs.Option.{option_map_or}
 use Rattle.std.specs.List.{position_or_len}
 use Rattle.std.specs.FinMap.{get}
@@ -15,33 +15,32 @@ use Rattle.sh_files.specs.declared.opening.Opening.{Opening}
 use Rattle.sh_files_image.specs.declared.node.Node.{Node}
 use Rattle.sh_files_image.specs.declared.node.Node.TheVariants as node
 use Rattle.sh_pipe.specs.Pipe.{PipeState}
-use Rattle.sh_kernel_descriptors.specs.Closings.{Pipes, goes, is_held, descriptors_left, let_go, let_go_each, let_go_of, pipe_at, pipe_of, pipes_left, stays}
-use Rattle.sh_kernel_descriptors.specs.Descriptors.{is_called, is_named, reads_from, writes_to}
-use Rattle.sh_kernel_descriptors.specs.Machine.{MachineState, after_close, after_end, after_fork}
+use Rattle.sh_kernel_descriptors.specs.Closings.{descriptors_left}
+use Rattle.sh_kernel_descriptors.specs.Descriptors.{is_named, reads_from, writes_to}
+use Rattle.sh_kernel_descriptors.specs.Machine.{MachineState, after_close, after_fork}
 use Rattle.sh_kernel_descriptors.specs.Naming.{end_of, put_back, after_renaming, renamed_at, after_renumbering, with_number, with_pipe}
 use Rattle.sh_kernel_descriptors.specs.Opening.{description_of, for_reading, target_of, with_node}
-use Rattle.sh_kernel_descriptors.specs.Processes.{copies, is_copied, next_pid, of_process, process_at, with_status, with_status_of}
+use Rattle.sh_kernel_descriptors.specs.Processes.{copies, has_ended, is_copied, is_ended, next_pid, of_process, process_at}
 use Rattle.sh_kernel_descriptors.specs.Reading.{with_offset, moved_of}
 use Rattle.sh_kernel_descriptors.specs.declared.descriptor.Closing.{Closing}
-use Rattle.sh_kernel_descriptors.specs.declared.descriptor.Closing.TheVariants.{Named, Asides, All}
+use Rattle.sh_kernel_descriptors.specs.declared.descriptor.Closing.TheVariants.{Named}
 use Rattle.sh_kernel_descriptors.specs.declared.descriptor.Descriptor.{Descriptor}
 use Rattle.sh_kernel_descriptors.specs.declared.descriptor.DescriptorRef.{DescriptorRef}
 use Rattle.sh_kernel_descriptors.specs.declared.descriptor.DescriptorRef.TheVariants.{Number, Aside}
 use Rattle.sh_kernel_descriptors.specs.declared.description.Description.{Description}
-use Rattle.sh_kernel_descriptors.specs.declared.description.Target.{Target}
-use Rattle.sh_kernel_descriptors.specs.declared.description.Target.TheVariants.{File, Terminal, Null, ReadEnd, WriteEnd}
+use Rattle.sh_kernel_descriptors.specs.declared.description.Target.TheVariants.{ReadEnd, WriteEnd}
 use Rattle.sh_kernel_descriptors.specs.declared.process.Process.{Process}
-use Rattle.sh_kernel_descriptors.specs.declared.process.Status.{Status}
-use Rattle.sh_kernel.specs.Laws.{ChangesOnlyReached, RequestsChangeOnlyReached, is_opened, opens}
+use Rattle.sh_kernel_signals.specs.Laws.{OnlyStatuses}
+use Rattle.sh_kernel.specs.Laws.{ChangesOnlyReached, RequestsChangeOnlyReached, is_opened, opens, sends}
+use Rattle.sh_kernel.specs.Signals.{with_processes}
 use Rattle.sh_kernel.specs.Reaching.{is_end, is_file, reaches}
 use Rattle.sh_kernel.specs.Requests.{Request, Open}
 use Rattle.sh_kernel.proofs.Cases.{IsHeld}
+use Rattle.sh_kernel.proofs.Closing.{goes_own, others_left, pipes_left_other, reaches_left, true≢false}
+use Rattle.sh_kernel.proofs.Endings.{endings}
 use Rattle.sh_kernel.proofs.Lists.{apart, false_of, front_place, or_left, or_right, other_place}
 use Rattle.sh_kernel.proofs.Requesting.{by_cases}
 use Rattle.sh_kernel.proofs.Nameless.{nameless_other}
-
-pub true≢false : (b : Bool) → b ≡ true → b ≡ false → ⊥
-true≢false b h k = absurd (cc)
 
 -- ---- places
 pub moved_other : (es : List Description) (k offset j : ℕ) → k ≢ j → slice_get (with_offset es k offset) j ≡ slice_get es j
@@ -50,71 +49,6 @@ moved_other es k offset j n = of_place (slice_get es k)
     of_place : (o : Option Description) → slice_get (moved_of es k offset o) j ≡ slice_get es j
     of_place None = refl
     of_place (Some e) = other_place es k j (record e { offset = offset }) n
-
--- ---- pipes that go
--- a process whose descriptor goes reaches its pipe
-pub goes_own : (pid : ℕ) (closing : Closing) (d : Descriptor) → goes pid closing d ≡ true → (d.pid == pid) ≡ true
-goes_own pid (Named name) d h = of_test (d.pid == pid) h
-  where
-    of_test : (b : Bool) → (b && is_called name d) ≡ true → b ≡ true
-    of_test true h = refl
-    of_test false h = absurd (cc)
-goes_own pid Asides d h = of_test (d.pid == pid) h
-  where
-    of_test : (b : Bool) → (b && is_none d.number) ≡ true → b ≡ true
-    of_test true h = refl
-    of_test false h = absurd (cc)
-goes_own pid All d h = h
-
--- a description that is no end of a pipe is of another pipe, if of any
-other_pipe : (es : List Description) (k q : ℕ) (o : Option Description) → option_map_or (λ (e : Description). reads_from q e.target || writes_to q e.target) o false ≡ false → (p : ℕ) → option_and_then (λ (e : Description). pipe_of e.target) o ≡ Some p → p ≢ q
-other_pipe es k q None h p is = absurd (cc)
-other_pipe es k q (Some e) h p is = of_target e.target h is
-  where
-    of_target : (t : Target) → (reads_from q t || writes_to q t) ≡ false → pipe_of t ≡ Some p → p ≢ q
-    of_target (File n) h is = absurd (cc)
-    of_target Terminal h is = absurd (cc)
-    of_target Null h is = absurd (cc)
-    of_target (ReadEnd r) h is = let same : r ≡ p = cc in λ e. apart r q (or_left (r == q) false h) (same ∙ e)
-    of_target (WriteEnd r) h is = let same : r ≡ p = cc in λ e. apart r q h (same ∙ e)
-
-let_go_other : (pid : ℕ) (closing : Closing) (ds : List Descriptor) (es : List Description) (ps : Pipes) (q : ℕ) (o : Option ℕ) → ((p : ℕ) → o ≡ Some p → p ≢ q) → slice_get (let_go pid closing ds es ps o) q ≡ slice_get ps q
-let_go_other pid closing ds es ps q None n = refl
-let_go_other pid closing ds es ps q (Some p) n =
-    elim (is_held pid closing ds es p) as (λ b. slice_get (cond b ps (slice_set ps p None)) q ≡ slice_get ps q) [ true ↦ refl | false ↦ other_place ps p q None (n p refl) ]
-
-let_go_of_other : (pid : ℕ) (closing : Closing) (ds : List Descriptor) (es : List Description) (ps : Pipes) (d : Descriptor) (q : ℕ) → ((d.pid == pid) && is_end es q d.description) ≡ false → slice_get (let_go_of pid closing ds es ps d) q ≡ slice_get ps q
-let_go_of_other pid closing ds es ps d q h = of_test (goes pid closing d) refl
-  where
-    not_end : (b : Bool) → b ≡ true → (b && is_end es q d.description) ≡ false → is_end es q d.description ≡ false
-    not_end true own h = h
-    not_end false own h = absurd (cc)
-
-    of_test : (b : Bool) → goes pid closing d ≡ b → slice_get (cond b (let_go pid closing ds es ps (pipe_at es d.description)) ps) q ≡ slice_get ps q
-    of_test false is = refl
-    of_test true is =
-        let_go_other pid closing ds es ps q (pipe_at es d.description) (other_pipe es d.description q (slice_get es d.description) (not_end (d.pid == pid) (goes_own pid closing d is) h))
-
-let_go_each_other : (pid : ℕ) (closing : Closing) (ds : List Descriptor) (es : List Description) (ps : Pipes) (gone : List Descriptor) (q : ℕ) → reaches gone pid (is_end es q) ≡ false → slice_get (let_go_each pid closing ds es ps gone) q ≡ slice_get ps q
-let_go_each_other pid closing ds es ps [] q h = refl
-let_go_each_other pid closing ds es ps (d ∷ gone) q h =
-    let_go_each_other pid closing ds es (let_go_of pid closing ds es ps d) gone q (or_right ((d.pid == pid) && is_end es q d.description) (reaches gone pid (is_end es q)) h)
-    ∙ let_go_of_other pid closing ds es ps d q (or_left ((d.pid == pid) && is_end es q d.description) (reaches gone pid (is_end es q)) h)
-
-pub pipes_left_other : (pid : ℕ) (closing : Closing) (ds : List Descriptor) (es : List Description) (ps : Pipes) (q : ℕ) → reaches ds pid (is_end es q) ≡ false → slice_get (pipes_left pid closing ds es ps) q ≡ slice_get ps q
-pipes_left_other pid closing ds es ps q h = let_go_each_other pid closing ds es ps ds q h
-
--- ---- descriptors of others
-others_left : (pid : ℕ) (closing : Closing) (ds : List Descriptor) (q : ℕ) → q ≢ pid → filter (λ d. d.pid == q) (descriptors_left pid closing ds) ≡ filter (λ d. d.pid == q) ds
-others_left pid closing [] q n = refl
-others_left pid closing (d ∷ ds) q n = of_test (others_left pid closing ds q n) (goes pid closing d) refl
-  where
-    of_test : filter (λ (x : Descriptor). x.pid == q) (descriptors_left pid closing ds) ≡ filter (λ (x : Descriptor). x.pid == q) ds → (b : Bool) → goes pid closing d ≡ b → filter (λ (x : Descriptor). x.pid == q) (cond (not b) (d ∷ descriptors_left pid closing ds) (descriptors_left pid closing ds)) ≡ cond (d.pid == q) (d ∷ filter (λ (x : Descriptor). x.pid == q) ds) (filter (λ (x : Descriptor). x.pid == q) ds)
-    of_test rest false is = ap (λ (xs : List Descriptor). cond (d.pid == q) (d ∷ xs) xs) rest
-    of_test rest true is =
-        let own : d.pid ≡ pid = eqb-true d.pid pid (goes_own pid closing d is) in
-        let other : (d.pid == q) ≡ false = false_of (d.pid == q) (λ t. n (sym (eqb-true d.pid q t) ∙ own)) in
-        rest ∙ sym (ap (λ (b : Bool). cond b (d ∷ filter (λ (x : Descriptor). x.pid == q) ds) (filter (λ (x : Descriptor). x.pid == q) ds)) other)
 
 -- one more of a process is none of another's
 one_more : (ds : List Descriptor) (x : Descriptor) (pid q : ℕ) → x.pid ≡ pid → q ≢ pid → filter (λ d. d.pid == q) (ds ++ x ∷ []) ≡ filter (λ d. d.pid == q) ds
@@ -227,22 +161,6 @@ opened_other : (files : FileMap) (directory path : List ℕ) (how : Opening) (o 
 opened_other files directory path how o m within apart h = open_place_other files how o m (nodes.resolution files directory path) within apart h
 
 -- ---- processes
-status_other : (ps : List Process) (pid q : ℕ) (status : Status) → q ≢ pid → process_at (with_status ps pid status) q ≡ process_at ps q
-status_other ps pid q status n = of_tests (nat_le 100 pid) (nat_le 100 q) refl refl
-  where
-    of_entry : pid - 100 ≢ q - 100 → (o : Option Process) → slice_get (with_status_of ps pid status o) (q - 100) ≡ slice_get ps (q - 100)
-    of_entry apart None = refl
-    of_entry apart (Some p) = other_place ps (pid - 100) (q - 100) (record p { status = status }) apart
-
-    of_tests : (a b : Bool) → nat_le 100 pid ≡ a → nat_le 100 q ≡ b → cond b (slice_get (with_status_of ps pid status (cond a (slice_get ps (pid - 100)) None)) (q - 100)) None ≡ cond b (slice_get ps (q - 100)) None
-    of_tests a false ta tb = refl
-    of_tests false true ta tb = refl
-    of_tests true true ta tb =
-        let low : 100 ≤ pid = leb-true 100 pid ta in
-        let low' : 100 ≤ q = leb-true 100 q tb in
-        let apart : pid - 100 ≢ q - 100 = λ e. n (omega (arith, low, low', e)) in
-        of_entry apart (slice_get ps (pid - 100))
-
 process_front : (ps more : List Process) (q : ℕ) → q < next_pid ps → process_at (ps ++ more) q ≡ process_at ps q
 process_front ps more q h = of_test (nat_le 100 q) refl
   where
@@ -252,6 +170,19 @@ process_front ps more q h = of_test (nat_le 100 q) refl
         let low : 100 ≤ q = leb-true 100 q t in
         let within : q - 100 < length ps = omega (arith, low, h) in
         front_place ps more (q - 100) within
+
+ended_place : (ps : List Process) (i : ℕ) → is_ended (slice_get ps i) ≡ true → i < length ps
+ended_place [] i h = absurd (cc)
+ended_place (p ∷ ps) zero h = omega arith
+ended_place (p ∷ ps) (suc i) h = omega (arith, ended_place ps i h)
+
+-- what has ended was there
+pub ended_within : (ps : List Process) (q : ℕ) → has_ended ps q ≡ true → q < next_pid ps
+ended_within ps q h = of_test (nat_le 100 q) h
+  where
+    of_test : (b : Bool) → is_ended (cond b (slice_get ps (q - 100)) None) ≡ true → q < next_pid ps
+    of_test true h = let place = ended_place ps (q - 100) h in omega (arith, place)
+    of_test false h = absurd (cc)
 
 -- ---- more descriptions
 -- where each new description fails, those that fail still do
@@ -269,15 +200,6 @@ reaches_no_more (d ∷ ds) pid test test' f h =
     of_test true rest h = ap (λ (c : Bool). c || reaches ds pid test') (f d.description h) ∙ rest
     of_test false rest h = rest
 
-pub reaches_left : (pid : ℕ) (closing : Closing) (ds : List Descriptor) (test : ℕ → Bool) → reaches ds pid test ≡ false → reaches (descriptors_left pid closing ds) pid test ≡ false
-reaches_left pid closing [] test h = refl
-reaches_left pid closing (d ∷ ds) test h =
-    of_test (stays pid closing d) (reaches_left pid closing ds test (or_right ((d.pid == pid) && test d.description) (reaches ds pid test) h)) (or_left ((d.pid == pid) && test d.description) (reaches ds pid test) h)
-  where
-    of_test : (b : Bool) → reaches (descriptors_left pid closing ds) pid test ≡ false → ((d.pid == pid) && test d.description) ≡ false → reaches (cond b (d ∷ descriptors_left pid closing ds) (descriptors_left pid closing ds)) pid test ≡ false
-    of_test true rest h = ap (λ (c : Bool). c || reaches (descriptors_left pid closing ds) pid test) h ∙ rest
-    of_test false rest h = rest
-
 pub reaches_one_more : (ds : List Descriptor) (x : Descriptor) (pid : ℕ) (test : ℕ → Bool) → reaches ds pid test ≡ false → test x.description ≡ false → reaches (ds ++ x ∷ []) pid test ≡ false
 reaches_one_more [] x pid test h t = of_test (x.pid == pid)
   where
@@ -290,54 +212,53 @@ reaches_one_more (d ∷ ds) x pid test h t =
 
 -- ---- each change
 abbrev Keeps : (pid : ℕ) → (ℕ → Bool) → MachineState → MachineState → Type 0
-Keeps pid op m m' = ChangesOnlyReached pid op m m'
+Keeps pid op m m' = (sent : Bool) → ChangesOnlyReached pid sent op m m'
 
 pub keeps_same : (pid : ℕ) (op : ℕ → Bool) (m : MachineState) → Keeps pid op m m
-keeps_same pid op m = record { pipes = λ _ _ _. refl; files = λ _ _ _ _. refl; descriptions = λ _ _ _. refl; descriptors = λ _ _ _. refl; processes = λ _ _ _. refl }
+keeps_same pid op m sent = record { pipes = λ _ _ _ _. refl; files = λ _ _ _ _. refl; descriptions = λ _ _ _. refl; descriptors = λ _ _ _ _. refl; processes = λ _ _ _ _. refl; makers = λ _ _. refl; ended = λ _ _. refl }
 
 keeps_moved : (pid : ℕ) (op : ℕ → Bool) (m : MachineState) (k offset : ℕ) → IsHeld m.descriptors pid k → Keeps pid op m (record m { descriptions = with_offset m.descriptions k offset })
-keeps_moved pid op m k offset held = record {
+keeps_moved pid op m k offset held sent = record {
   descriptions = λ j within r. moved_other m.descriptions k offset j (apart k j (held.fails (λ i. i == j) r));
-  pipes = λ _ _ _. refl;
+  pipes = λ _ _ _ _. refl;
   files = λ _ _ _ _. refl;
-  descriptors = λ _ _ _. refl;
-  processes = λ _ _ _. refl;
+  descriptors = λ _ _ _ _. refl;
+  processes = λ _ _ _ _. refl;
+  makers = λ _ _. refl;
+  ended = λ _ _. refl;
 }
 
 keeps_pipe : (pid : ℕ) (op : ℕ → Bool) (m : MachineState) (k pipe : ℕ) (slot : Option PipeState) → IsHeld m.descriptors pid k → is_end m.descriptions pipe k ≡ true → Keeps pid op m (record m { pipes = slice_set m.pipes pipe slot })
-keeps_pipe pid op m k pipe slot held end = record {
-  pipes = λ q within r. other_place m.pipes pipe q slot (λ e. true≢false (is_end m.descriptions q k) (ap (λ (p : ℕ). is_end m.descriptions p k) (sym e) ∙ end) (held.fails (is_end m.descriptions q) r));
+keeps_pipe pid op m k pipe slot held end sent = record {
+  pipes = λ q within r _. other_place m.pipes pipe q slot (λ e. true≢false (is_end m.descriptions q k) (ap (λ (p : ℕ). is_end m.descriptions p k) (sym e) ∙ end) (held.fails (is_end m.descriptions q) r));
   files = λ _ _ _ _. refl;
   descriptions = λ _ _ _. refl;
-  descriptors = λ _ _ _. refl;
-  processes = λ _ _ _. refl;
+  descriptors = λ _ _ _ _. refl;
+  processes = λ _ _ _ _. refl;
+  makers = λ _ _. refl;
+  ended = λ _ _. refl;
 }
 
 keeps_file : (pid : ℕ) (op : ℕ → Bool) (m : MachineState) (k node start end : ℕ) (bytes : List ℕ) (files : FileMap) → IsHeld m.descriptors pid k → is_file m.descriptions node k ≡ true → write_at m.files node start bytes ≡ Ok files → Keeps pid op m (record m { files = files; descriptions = with_offset m.descriptions k end })
-keeps_file pid op m k node start end bytes files held file written = record {
+keeps_file pid op m k node start end bytes files held file written sent = record {
   files = λ n within r unopened. written_other m.files files node n start bytes (slice_get m.files.nodes node) (λ e. true≢false (is_file m.descriptions n k) (ap (λ (p : ℕ). is_file m.descriptions p k) (sym e) ∙ file) (held.fails (is_file m.descriptions n) r)) written;
   descriptions = λ j within r. moved_other m.descriptions k end j (apart k j (held.fails (λ i. i == j) r));
-  pipes = λ _ _ _. refl;
-  descriptors = λ _ _ _. refl;
-  processes = λ _ _ _. refl;
+  pipes = λ _ _ _ _. refl;
+  descriptors = λ _ _ _ _. refl;
+  processes = λ _ _ _ _. refl;
+  makers = λ _ _. refl;
+  ended = λ _ _. refl;
 }
 
 keeps_closed : (pid : ℕ) (op : ℕ → Bool) (m : MachineState) (closing : Closing) → Keeps pid op m (after_close m pid closing)
-keeps_closed pid op m closing = record {
-  pipes = λ q within r. pipes_left_other pid closing m.descriptors m.descriptions m.pipes q r;
-  descriptors = λ q n _. others_left pid closing m.descriptors q n;
+keeps_closed pid op m closing sent = record {
+  pipes = λ q within r _. pipes_left_other pid closing m.descriptors m.descriptions m.pipes q r;
+  descriptors = λ q n _ _. others_left pid closing m.descriptors q n;
   files = λ _ _ _ _. refl;
   descriptions = λ _ _ _. refl;
-  processes = λ _ _ _. refl;
-}
-
-keeps_ended : (pid : ℕ) (op : ℕ → Bool) (m : MachineState) (status : Status) → Keeps pid op m (after_end m pid status)
-keeps_ended pid op m status = record {
-  pipes = λ q within r. pipes_left_other pid All m.descriptors m.descriptions m.pipes q r;
-  descriptors = λ q n _. others_left pid All m.descriptors q n;
-  processes = λ q n _. status_other m.processes pid q status n;
-  files = λ _ _ _ _. refl;
-  descriptions = λ _ _ _. refl;
+  processes = λ _ _ _ _. refl;
+  makers = λ _ _. refl;
+  ended = λ _ _. refl;
 }
 
 others_numbered : (m : MachineState) (pid number k q : ℕ) → q ≢ pid → filter (λ d. d.pid == q) (with_number m pid number k).descriptors ≡ filter (λ d. d.pid == q) m.descriptors
@@ -346,40 +267,48 @@ others_numbered m pid number k q n =
     ∙ others_left pid (Named (Number number)) m.descriptors q n
 
 keeps_number : (pid : ℕ) (op : ℕ → Bool) (m : MachineState) (number k : ℕ) → Keeps pid op m (with_number m pid number k)
-keeps_number pid op m number k = record {
-  pipes = λ q within r. pipes_left_other pid (Named (Number number)) m.descriptors m.descriptions m.pipes q r;
-  descriptors = λ q n _. others_numbered m pid number k q n;
+keeps_number pid op m number k sent = record {
+  pipes = λ q within r _. pipes_left_other pid (Named (Number number)) m.descriptors m.descriptions m.pipes q r;
+  descriptors = λ q n _ _. others_numbered m pid number k q n;
   files = λ _ _ _ _. refl;
   descriptions = λ _ _ _. refl;
-  processes = λ _ _ _. refl;
+  processes = λ _ _ _ _. refl;
+  makers = λ _ _. refl;
+  ended = λ _ _. refl;
 }
 
 keeps_renamed : (pid : ℕ) (op : ℕ → Bool) (m : MachineState) (name : DescriptorRef) (number : Option ℕ) → Keeps pid op m (record m { descriptors = after_renaming m.descriptors pid name number })
-keeps_renamed pid op m name number = record {
-  descriptors = λ q n _. renamed_others m.descriptors pid name number q n;
-  pipes = λ _ _ _. refl;
+keeps_renamed pid op m name number sent = record {
+  descriptors = λ q n _ _. renamed_others m.descriptors pid name number q n;
+  pipes = λ _ _ _ _. refl;
   files = λ _ _ _ _. refl;
   descriptions = λ _ _ _. refl;
-  processes = λ _ _ _. refl;
+  processes = λ _ _ _ _. refl;
+  makers = λ _ _. refl;
+  ended = λ _ _. refl;
 }
 
 keeps_back : (pid : ℕ) (op : ℕ → Bool) (m : MachineState) (k number : ℕ) → Keeps pid op m (put_back m pid k number)
-keeps_back pid op m k number = record {
-  pipes = λ q within r. pipes_left_other pid (Named (Number number)) m.descriptors m.descriptions m.pipes q r;
-  descriptors = λ q n _. renamed_others (descriptors_left pid (Named (Number number)) m.descriptors) pid (Aside k) (Some number) q n ∙ others_left pid (Named (Number number)) m.descriptors q n;
+keeps_back pid op m k number sent = record {
+  pipes = λ q within r _. pipes_left_other pid (Named (Number number)) m.descriptors m.descriptions m.pipes q r;
+  descriptors = λ q n _ _. renamed_others (descriptors_left pid (Named (Number number)) m.descriptors) pid (Aside k) (Some number) q n ∙ others_left pid (Named (Number number)) m.descriptors q n;
   files = λ _ _ _ _. refl;
   descriptions = λ _ _ _. refl;
-  processes = λ _ _ _. refl;
+  processes = λ _ _ _ _. refl;
+  makers = λ _ _. refl;
+  ended = λ _ _. refl;
 }
 
 keeps_forked : (pid : ℕ) (op : ℕ → Bool) (m : MachineState) → Keeps pid op m (after_fork m pid)
-keeps_forked pid op m = record {
-  descriptors = λ q n born.
+keeps_forked pid op m sent = record {
+  descriptors = λ q n born _.
       filter-append (λ (d : Descriptor). d.pid == q) m.descriptors (copies m.descriptors pid (next_pid m.processes))
       ∙ ap (λ (xs : List Descriptor). filter (λ (d : Descriptor). d.pid == q) m.descriptors ++ xs) (copies_apart m.descriptors pid (next_pid m.processes) q (λ e. omega (arith, born, e)))
       ∙ append-nil _;
-  processes = λ q n within. process_front m.processes _ q within;
-  pipes = λ _ _ _. refl;
+  processes = λ q n within _. process_front m.processes _ q within;
+  makers = λ q within. ap (λ (o : Option Process). option_map (λ (p : Process). p.maker) o) (process_front m.processes _ q within);
+  ended = λ q e. process_front m.processes _ q (ended_within m.processes q e);
+  pipes = λ _ _ _ _. refl;
   files = λ _ _ _ _. refl;
   descriptions = λ _ _ _. refl;
 }
@@ -398,22 +327,24 @@ new_ends pipe q h (suc zero) = false_of (pipe == q) (λ t. let e : pipe ≡ q = 
 new_ends pipe q h (suc (suc j)) = refl
 
 keeps_makes_pipe : (pid : ℕ) (op : ℕ → Bool) (m : MachineState) (from to : ℕ) → Keeps pid op m (with_number (with_number (with_pipe m) pid from (length m.descriptions)) pid to (length m.descriptions + 1))
-keeps_makes_pipe pid op m from to =
+keeps_makes_pipe pid op m from to sent =
     let made = with_pipe m in
     let first = with_number made pid from (length m.descriptions) in
     record {
-      pipes = λ q within r.
+      pipes = λ q within r _.
           let fails : (k : ℕ) → is_end m.descriptions q k ≡ false → is_end made.descriptions q k ≡ false = λ k h. more_fails m.descriptions _ (λ (e : Description). reads_from q e.target || writes_to q e.target) k (new_ends (length m.pipes) q within) h in
           let unreached : reaches m.descriptors pid (is_end made.descriptions q) ≡ false = reaches_no_more m.descriptors pid (is_end m.descriptions q) (is_end made.descriptions q) fails r in
           let new : is_end made.descriptions q (length m.descriptions) ≡ false = fails (length m.descriptions) (past m.descriptions q) in
-          let unreached' : reaches first.descriptors pid (is_end made.descriptions q) ≡ false = reaches_one_more (descriptors_left pid (Named (Number from)) m.descriptors) _ pid (is_end made.descriptions q) (reaches_left pid (Named (Number from)) m.descriptors (is_end made.descriptions q) unreached) new in
+          let unreached' : reaches first.descriptors pid (is_end made.descriptions q) ≡ false = reaches_one_more (descriptors_left pid (Named (Number from)) m.descriptors) _ pid (is_end made.descriptions q) (reaches_left pid (Named (Number from)) m.descriptors pid (is_end made.descriptions q) unreached) new in
           pipes_left_other pid (Named (Number to)) first.descriptors made.descriptions first.pipes q unreached'
           ∙ pipes_left_other pid (Named (Number from)) m.descriptors made.descriptions made.pipes q unreached
           ∙ front_place m.pipes _ q within;
-      descriptors = λ q n _. others_numbered first pid to (length m.descriptions + 1) q n ∙ others_numbered made pid from (length m.descriptions) q n;
+      descriptors = λ q n _ _. others_numbered first pid to (length m.descriptions + 1) q n ∙ others_numbered made pid from (length m.descriptions) q n;
       descriptions = λ k within r. front_place m.descriptions _ k within;
       files = λ _ _ _ _. refl;
-      processes = λ _ _ _. refl;
+      processes = λ _ _ _ _. refl;
+      makers = λ _ _. refl;
+      ended = λ _ _. refl;
     }
 
 -- what was opened is no end of a pipe
@@ -429,16 +360,18 @@ opened_end n o how append q zero = no_end n o q
 opened_end n o how append q (suc j) = refl
 
 keeps_opens : (pid : ℕ) (op : ℕ → Bool) (m : MachineState) (how : Opening) (append : Bool) (number : ℕ) (o : ℕ × FileMap) → ((n : ℕ) → n < length m.files.nodes → op n ≡ false → slice_get o.1.nodes n ≡ slice_get m.files.nodes n) → Keeps pid op m (with_number (with_node m how append o.0 o.1) pid number (length m.descriptions))
-keeps_opens pid op m how append number o same =
+keeps_opens pid op m how append number o same sent =
     let made = with_node m how append o.0 o.1 in
     record {
-      pipes = λ q within h.
+      pipes = λ q within h _.
           let fails : (k : ℕ) → is_end m.descriptions q k ≡ false → is_end made.descriptions q k ≡ false = λ k g. more_fails m.descriptions _ (λ (e : Description). reads_from q e.target || writes_to q e.target) k (opened_end o.0 (slice_get o.1.nodes o.0) how append q) g in
           pipes_left_other pid (Named (Number number)) m.descriptors made.descriptions m.pipes q (reaches_no_more m.descriptors pid (is_end m.descriptions q) (is_end made.descriptions q) fails h);
       files = λ n within h unopened. same n within unopened;
-      descriptors = λ q n _. others_numbered made pid number (length m.descriptions) q n;
+      descriptors = λ q n _ _. others_numbered made pid number (length m.descriptions) q n;
       descriptions = λ k within h. front_place m.descriptions _ k within;
-      processes = λ _ _ _. refl;
+      processes = λ _ _ _ _. refl;
+      makers = λ _ _. refl;
+      ended = λ _ _. refl;
     }
 
 -- a file that isn't opened isn't that whose number was answered
@@ -446,23 +379,39 @@ not_answered : (m : MachineState) (r r' : Request) (n : ℕ) (o : ℕ × FileMap
 not_answered m r r' n o was is answers at unopened =
     apart o.0 n (sym (ap (λ (x : Result (ℕ × FileMap) FileFault). is_opened n x) at) ∙ sym answers ∙ sym (ap (λ (x : Request). opens m x n) is) ∙ unopened)
 
+-- what signals came to: those that ended have no descriptors any more
+pub keeps_signals : (pid : ℕ) (op : ℕ → Bool) (m : MachineState) (ps : List Process) (pids : List ℕ) (sent : Bool) → OnlyStatuses m.processes ps → sent ≡ true → ChangesOnlyReached pid sent op m (with_processes m ps pids)
+keeps_signals pid op m ps pids sent only signalled =
+    let e = endings m ps pids in
+    let m' = with_processes m ps pids in
+    record {
+      pipes = λ q within r none. e.pipes q (λ p h. none signalled p (ap (λ (xs : List Process). has_ended xs p) e.processes ∙ h));
+      files = λ n within r unopened. ap (λ (f : FileMap). slice_get f.nodes n) e.files;
+      descriptions = λ k within r. ap (λ (es : List Description). slice_get es k) e.descriptions;
+      descriptors = λ q n born alive. e.descriptors q (sym (ap (λ (xs : List Process). has_ended xs q) e.processes) ∙ alive signalled);
+      processes = λ q n born none. absurd (true≢false sent signalled none);
+      makers = λ q born. ap (λ (xs : List Process). option_map (λ (p : Process). p.maker) (process_at xs q)) e.processes ∙ only.makers q;
+      ended = λ q h. ap (λ (xs : List Process). process_at xs q) e.processes ∙ only.ended q h;
+    }
+
 pub requests_change : RequestsChangeOnlyReached
 requests_change s pid r =
     let m = s.machine in
     let op = opens m r in
-    by_cases s pid r (λ m'. ChangesOnlyReached pid op m m') (record {
-      same = keeps_same pid op m;
-      goes_on = λ k offset held. keeps_moved pid op m k offset held;
-      pipe = λ k pipe slot held end. keeps_pipe pid op m k pipe slot held end;
-      file = λ k node start end bytes files held file written. keeps_file pid op m k node start end bytes files held file written;
-      closes = λ closing. keeps_closed pid op m closing;
-      ends = λ status. keeps_ended pid op m status;
-      numbers = λ number k held. keeps_number pid op m number k;
-      renames = λ name number. keeps_renamed pid op m name number;
-      back = λ k number. keeps_back pid op m k number;
-      forks = keeps_forked pid op m;
-      makes_pipe = λ from to. keeps_makes_pipe pid op m from to;
+    let sent = sends s pid r in
+    by_cases s pid r (λ m'. ChangesOnlyReached pid sent op m m') (record {
+      same = keeps_same pid op m sent;
+      goes_on = λ k offset held. keeps_moved pid op m k offset held sent;
+      pipe = λ k pipe slot held end. keeps_pipe pid op m k pipe slot held end sent;
+      file = λ k node start end bytes files held file written. keeps_file pid op m k node start end bytes files held file written sent;
+      closes = λ closing. keeps_closed pid op m closing sent;
+      signals = λ ps pids only signalled. keeps_signals pid op m ps pids sent only signalled;
+      numbers = λ number k held. keeps_number pid op m number k sent;
+      renames = λ name number. keeps_renamed pid op m name number sent;
+      back = λ k number. keeps_back pid op m k number sent;
+      forks = keeps_forked pid op m sent;
+      makes_pipe = λ from to. keeps_makes_pipe pid op m from to sent;
       opens = λ directory path how append number o is at.
-          keeps_opens pid op m how append number o (λ n within unopened. opened_other m.files directory path how o n within (not_answered m r (Open directory path how append number) n o (opened m.files directory path how) is refl at unopened) at);
-      heres = λ bytes number o is at. keeps_opens pid op m for_reading false number o (λ n within unopened. nameless_other m.files bytes o n within at);
+          keeps_opens pid op m how append number o (λ n within unopened. opened_other m.files directory path how o n within (not_answered m r (Open directory path how append number) n o (opened m.files directory path how) is refl at unopened) at) sent;
+      heres = λ bytes number o is at. keeps_opens pid op m for_reading false number o (λ n within unopened. nameless_other m.files bytes o n within at) sent;
     })

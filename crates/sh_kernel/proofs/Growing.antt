@@ -1,5 +1,5 @@
 -- Numbers only grow, and targets stay.
-use Rattle.std.proofs.Common.{◌≡◌, ℕ, zero, suc, ◌+◌, ◌<◌, ◌≤◌, List, [], ◌∷◌, ◌++◌, length, Bool, true, false, cond, Option, Some, None, slice_get, slice_set, refl, sym, ap, ◌∙◌, arith, Result, Ok, Err, length-append, ◌-◌, not, option_map}
+use Rattle.std.proofs.Common.{◌≡◌, ℕ, zero, suc, ◌+◌, ◌<◌, ◌≤◌, List, [], ◌∷◌, ◌++◌, length, Bool, true, false, cond, Option, Some, None, slice_get, slice_set, refl, sym, ap, ◌∙◌, arith, Result, Ok, Err, length-append, not, option_map}
 use Rattle.sh_files.specs.Nodes.{FileMap, opened, write_at}
 use Rattle.sh_files.specs.declared.fault.FileFault.{FileFault}
 use Rattle.sh_files.specs.declared.fault.FileFault.TheVariants.{NoEntry, NoAccess}
@@ -15,21 +15,31 @@ use Rattle.sh_files.specs.declared.opening.Opening.{Opening}
 use Rattle.sh_files.specs.Nodes as nodes
 use Rattle.sh_files_image.specs.declared.node.Node.{Node}
 use Rattle.sh_pipe.specs.Pipe.{PipeState}
-use Rattle.sh_kernel_descriptors.specs.Machine.{MachineState, after_close, after_end, after_fork}
-use Rattle.sh_kernel_descriptors.specs.Processes.{process_at, with_status, with_status_of}
+use Rattle.sh_kernel_descriptors.specs.Machine.{MachineState, after_close, after_fork}
 use Rattle.sh_kernel_descriptors.specs.Naming.{put_back, after_renaming, with_number, with_pipe}
 use Rattle.sh_kernel_descriptors.specs.Opening.{for_reading, with_node}
 use Rattle.sh_kernel_descriptors.specs.declared.process.Process.{Process}
-use Rattle.sh_kernel_descriptors.specs.declared.process.Status.{Status}
 use Rattle.sh_kernel_descriptors.specs.declared.descriptor.DescriptorRef.{DescriptorRef}
 use Rattle.sh_kernel_descriptors.specs.declared.descriptor.DescriptorRef.TheVariants.{Number}
-use Rattle.sh_kernel_descriptors.specs.declared.descriptor.Closing.TheVariants.{Named, All}
-use Rattle.sh_kernel_descriptors.specs.Closings.{Pipes, let_go, let_go_of, let_go_each, pipe_at, goes, is_held, pipes_left}
+use Rattle.sh_kernel_descriptors.specs.declared.descriptor.Closing.TheVariants.{Named}
+use Rattle.sh_kernel_descriptors.specs.Closings.{pipes_left}
 use Rattle.sh_kernel_descriptors.specs.Reading.{with_offset, moved_of}
-use Rattle.sh_kernel_descriptors.specs.declared.descriptor.Descriptor.{Descriptor}
 use Rattle.sh_kernel_descriptors.specs.declared.descriptor.Closing.{Closing}
 use Rattle.sh_kernel_descriptors.specs.declared.description.Description.{Description}
-use Rattle.sh_kernel.specs.Laws.{OnlyGrows, RequestsOnlyGrow, target_at}
+use Rattle.sh_kernel.specs.Laws.{KeysOnlyGrow, OnlyGrows, RequestsOnlyGrow, target_at}
+use Rattle.sh_kernel_signals.proofs.Statuses.{signals_change}
+use Rattle.sh_kernel_signals.specs.Laws.{OnlyStatuses}
+use Rattle.sh_kernel_signals.specs.Sending.{after_send, pids_of}
+use Rattle.sh_kernel_signals.specs.declared.target.SignalTarget.{SignalTarget}
+use Rattle.sh_kernel_signals.specs.declared.target.SignalTarget.TheVariants.{Group}
+use Rattle.sh_signal.specs.declared.signal.Signal.{Signal}
+use Rattle.sh_tty.specs.Happenings as tty
+use Rattle.sh_tty.specs.Keys.{key_of, signal_of}
+use Rattle.sh_kernel.specs.Calls.{after_raising}
+use Rattle.sh_kernel.specs.Signals.{after_signal, table_of, with_processes}
+use Rattle.sh_kernel.specs.State.{KernelState}
+use Rattle.sh_kernel.proofs.Closing.{pipes_left_length}
+use Rattle.sh_kernel.proofs.Endings.{endings}
 use Rattle.sh_kernel.proofs.Requesting.{by_cases}
 use Rattle.sh_kernel.proofs.Nameless.{nameless_length, nameless_paths}
 use Rattle.sh_kernel.proofs.Lists.{front_place, length_set}
@@ -46,23 +56,6 @@ grows_then a b c f g = record {
   files = omega (arith, f.files, g.files);
   paths = λ path node h. g.paths path node (f.paths path node h);
 }
-
--- pipes that go keep their places
-let_go_length : (pid : ℕ) (closing : Closing) (ds : List Descriptor) (es : List Description) (ps : Pipes) (o : Option ℕ) → length (let_go pid closing ds es ps o) ≡ length ps
-let_go_length pid closing ds es ps None = refl
-let_go_length pid closing ds es ps (Some pipe) =
-    elim (is_held pid closing ds es pipe) as (λ b. length (cond b ps (slice_set ps pipe None)) ≡ length ps) [ true ↦ refl | false ↦ length_set ps pipe None ]
-
-let_go_of_length : (pid : ℕ) (closing : Closing) (ds : List Descriptor) (es : List Description) (ps : Pipes) (d : Descriptor) → length (let_go_of pid closing ds es ps d) ≡ length ps
-let_go_of_length pid closing ds es ps d =
-    elim (goes pid closing d) as (λ b. length (cond b (let_go pid closing ds es ps (pipe_at es d.description)) ps) ≡ length ps) [ true ↦ let_go_length pid closing ds es ps (pipe_at es d.description) | false ↦ refl ]
-
-let_go_each_length : (pid : ℕ) (closing : Closing) (ds : List Descriptor) (es : List Description) (ps : Pipes) (gone : List Descriptor) → length (let_go_each pid closing ds es ps gone) ≡ length ps
-let_go_each_length pid closing ds es ps [] = refl
-let_go_each_length pid closing ds es ps (d ∷ gone) = let_go_each_length pid closing ds es (let_go_of pid closing ds es ps d) gone ∙ let_go_of_length pid closing ds es ps d
-
-pub pipes_left_length : (pid : ℕ) (closing : Closing) (ds : List Descriptor) (es : List Description) (ps : Pipes) → length (pipes_left pid closing ds es ps) ≡ length ps
-pipes_left_length pid closing ds es ps = let_go_each_length pid closing ds es ps ds
 
 -- a description that goes on keeps its place and its target
 pub moved_length : (es : List Description) (k offset : ℕ) (o : Option Description) → length (moved_of es k offset o) ≡ length es
@@ -211,15 +204,18 @@ grows_back m pid k number =
     let g = grows_closed m pid (Named (Number number)) in
     record { targets = g.targets; descriptions = g.descriptions; pipes = g.pipes; processes = g.processes; files = g.files; paths = g.paths }
 
-status_length : (ps : List Process) (pid : ℕ) (status : Status) (o : Option Process) → length (with_status_of ps pid status o) ≡ length ps
-status_length ps pid status None = refl
-status_length ps pid status (Some p) = length_set ps (pid - 100) (record p { status = status })
-
-grows_ended : (m : MachineState) (pid : ℕ) (status : Status) → OnlyGrows m (after_end m pid status)
-grows_ended m pid status =
-    let g = grows_closed m pid All in
-    let same : length (with_status m.processes pid status) ≡ length m.processes = status_length m.processes pid status (process_at m.processes pid) in
-    record { targets = g.targets; descriptions = g.descriptions; pipes = g.pipes; processes = omega (arith, same); files = g.files; paths = g.paths }
+grows_signals : (m : MachineState) (ps : List Process) (pids : List ℕ) → OnlyStatuses m.processes ps → OnlyGrows m (with_processes m ps pids)
+grows_signals m ps pids only =
+    let e = endings m ps pids in
+    let same : length (with_processes m ps pids).processes ≡ length m.processes = ap (λ (xs : List Process). length xs) e.processes ∙ only.count in
+    record {
+      targets = λ k h. ap (λ (es : List Description). target_at es k) e.descriptions;
+      descriptions = let as_many = ap (λ (es : List Description). length es) e.descriptions in omega (arith, as_many);
+      pipes = omega (arith, e.room);
+      processes = omega (arith, same);
+      files = let as_many = ap (λ (f : FileMap). length f.nodes) e.files in omega (arith, as_many);
+      paths = λ p n h. ap (λ (f : FileMap). get f.paths p) e.files ∙ h;
+    }
 
 more_le : {X : Type 0} (xs ys : List X) → length xs ≤ length (xs ++ ys)
 more_le xs ys = omega (arith, length-append xs ys)
@@ -246,7 +242,7 @@ requests_grow s pid r = let m = s.machine in by_cases s pid r (λ m'. OnlyGrows 
   pipe = λ k pipe slot held end. grows_pipe m pipe slot;
   file = λ k node start end bytes files held file written. grows_file m k node start end bytes files written;
   closes = λ closing. grows_closed m pid closing;
-  ends = λ status. grows_ended m pid status;
+  signals = λ ps pids only signalled. grows_signals m ps pids only;
   numbers = λ number k held. grows_number m pid number k;
   renames = λ name number. grows_renamed m pid name number;
   back = λ k number. grows_back m pid k number;
@@ -261,3 +257,14 @@ requests_grow s pid r = let m = s.machine in by_cases s pid r (λ m'. OnlyGrows 
       let before = with_node m for_reading false o.0 o.1 in
       grows_then m before (with_number before pid number (length m.descriptions)) (grows_with_node m for_reading false o.0 o.1 (nameless_length m.files bytes o made) (nameless_paths m.files bytes o made)) (grows_number before pid number (length m.descriptions));
 })
+
+-- ---- a key
+signal_grows : (s : KernelState) (to : SignalTarget) (signal : Signal) → OnlyGrows s.machine (after_signal s to signal).machine
+signal_grows s to signal = grows_signals s.machine (after_send (table_of s) to signal).processes (pids_of s.members) (signals_change (table_of s) to signal)
+
+raising_grows : (s : KernelState) (raised : Option Signal) → OnlyGrows s.machine (after_raising s raised).machine
+raising_grows s None = grows_same s.machine
+raising_grows s (Some signal) = signal_grows s (Group s.foreground) signal
+
+pub keys_grow : KeysOnlyGrow
+keys_grow s byte = raising_grows (record s { terminal = tty.after_key byte s.terminal }) (signal_of (key_of byte))

@@ -1,5 +1,7 @@
 pub mod FileWaits
 pub mod Lists
+pub mod Closing
+pub mod Endings
 pub mod Nameless
 pub mod Cases
 pub mod Requesting
@@ -11,3 +13,4 @@ pub mod Reached
 pub mod Terminals
 pub mod Extending
 pub mod Standing
+pub mod Ending

@@ -13,7 +13,8 @@ use Rattle.sh_kernel_descriptors.specs.declared.descriptor.DescriptorRef.{Descri
 use Rattle.sh_kernel_descriptors.specs.declared.descriptor.DescriptorRef.TheVariants.{Number, Aside}
 use Rattle.sh_kernel.specs.Laws.{IsOwned, OwnedStaysOwned}
 use Rattle.sh_kernel.specs.Reaching.{reaches}
-use Rattle.sh_kernel.proofs.Frames.{true≢false}
+use Rattle.sh_kernel.proofs.Closing.{filter_owned, true≢false}
+use Rattle.sh_kernel.proofs.Endings.{endings}
 use Rattle.sh_kernel.proofs.Requesting.{by_cases}
 
 not_reached : (ds : List Descriptor) (q pid : ℕ) (test : ℕ → Bool) → q ≢ pid → IsOwned pid test ds → reaches ds q test ≡ false
@@ -24,12 +25,6 @@ not_reached (d ∷ ds) q pid test n own = of_test (d.pid == q) (test d.descripti
     of_test true true e t rest = absurd (n (sym (eqb-true d.pid q e) ∙ own.0 t))
     of_test true false e t rest = rest
     of_test false b e t rest = rest
-
-filter_owned : (pid : ℕ) (test : ℕ → Bool) (p : Descriptor → Bool) (ds : List Descriptor) → IsOwned pid test ds → IsOwned pid test (filter p ds)
-filter_owned pid test p [] h = tt
-filter_owned pid test p (d ∷ ds) h =
-    let rest = filter_owned pid test p ds h.1 in
-    elim (p d) as (λ b. IsOwned pid test (cond b (d ∷ filter p ds) (filter p ds))) [ true ↦ (h.0, rest) | false ↦ rest ]
 
 append_owned : (pid : ℕ) (test : ℕ → Bool) (xs ys : List Descriptor) → IsOwned pid test xs → IsOwned pid test ys → IsOwned pid test (xs ++ ys)
 append_owned pid test [] ys h k = k
@@ -84,7 +79,7 @@ owned_stays s pid q r test n within own =
         pipe = λ k pipe slot held end. own;
         file = λ k node start end bytes files held file written. own;
         closes = λ closing. filter_owned pid test _ m.descriptors own;
-        ends = λ status. filter_owned pid test _ m.descriptors own;
+        signals = λ ps pids only signalled. (endings m ps pids).owned pid test own;
         numbers = λ number k held. number_owned m q number k pid test (λ t. true≢false (test k) t (held.fails test unreached)) own;
         renames = λ name number. renamed_owned m.descriptors q name number pid test own;
         back = λ k number. renamed_owned (descriptors_left q (Named (Number number)) m.descriptors) q (Aside k) (Some number) pid test (filter_owned pid test _ m.descriptors own);

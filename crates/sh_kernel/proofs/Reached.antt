@@ -13,9 +13,10 @@ use Rattle.sh_kernel_descriptors.specs.Descriptors.{is_named, reads_from, writes
 use Rattle.sh_kernel_descriptors.specs.Machine.{MachineState}
 use Rattle.sh_kernel_descriptors.specs.Naming.{end_of, after_renaming, renamed_at, after_renumbering, with_number, with_pipe}
 use Rattle.sh_kernel_descriptors.specs.Opening.{description_of, for_reading, target_of}
-use Rattle.sh_kernel_descriptors.specs.Processes.{copies, is_copied, next_pid, of_process}
+use Rattle.sh_kernel_descriptors.specs.Processes.{copies, has_ended, is_copied, is_ended, next_pid, of_process}
+use Rattle.sh_kernel_descriptors.specs.declared.process.Process.{Process}
 use Rattle.sh_kernel_descriptors.specs.Reading.{with_offset}
-use Rattle.sh_kernel_descriptors.specs.declared.descriptor.Closing.TheVariants.{Named, All}
+use Rattle.sh_kernel_descriptors.specs.declared.descriptor.Closing.TheVariants.{Named}
 use Rattle.sh_kernel_descriptors.specs.declared.descriptor.Descriptor.{Descriptor}
 use Rattle.sh_kernel_descriptors.specs.declared.descriptor.DescriptorRef.{DescriptorRef}
 use Rattle.sh_kernel_descriptors.specs.declared.descriptor.DescriptorRef.TheVariants.{Number, Aside}
@@ -23,19 +24,23 @@ use Rattle.sh_kernel_descriptors.specs.declared.description.Description.{Descrip
 use Rattle.sh_kernel_descriptors.specs.declared.description.Target.{Target}
 use Rattle.sh_kernel_descriptors.specs.declared.description.Target.TheVariants.{ReadEnd, WriteEnd}
 use Rattle.sh_kernel.specs.State.{KernelState}
-use Rattle.sh_kernel.specs.Laws.{ChangesOnlyReached, ListsChangeOnlyReached, ListsLeaveOwned, ListsOnlyGrow, ListsReachNoMore, OnlyGrows, ReachesNoMore, RequestsReachNoMore, is_opened, opens, opens_any, target_at}
+use Rattle.sh_kernel.specs.Laws.{ChangesOnlyReached, ListsChangeOnlyReached, ListsLeaveOwned, ListsOnlyGrow, ListsReachNoMore, OnlyGrows, ReachesNoMore, RequestsReachNoMore, is_opened, opens, opens_any, sends, sends_any, target_at}
 use Rattle.sh_kernel.specs.Reaching.{is_end, is_file, is_node, reaches}
 use Rattle.sh_kernel.specs.Requests.{Request, after_request, after_requests}
-use Rattle.sh_kernel.proofs.Frames.{keeps_same, more_fails, new_ends, opened_end, reaches_left, reaches_no_more, reaches_one_more, requests_change}
+use Rattle.sh_kernel.specs.Signals.{with_processes}
+use Rattle.sh_kernel.proofs.Closing.{reaches_left, true≢false}
+use Rattle.sh_kernel.proofs.Endings.{endings}
+use Rattle.sh_kernel.proofs.Frames.{keeps_same, more_fails, new_ends, opened_end, reaches_no_more, reaches_one_more, requests_change}
 use Rattle.sh_kernel.proofs.Growing.{grows_same, grows_then, moved_length, requests_grow}
 use Rattle.sh_kernel.proofs.Lists.{false_of, or_left, or_right}
 use Rattle.sh_kernel.proofs.Owning.{owned_stays}
 use Rattle.sh_kernel.proofs.Requesting.{by_cases}
 
 -- ---- descriptors
--- what fails at new numbers, and wherever the process reaches, still does
+-- what fails at new numbers, and wherever the process and another one reach, still does wherever that one reaches; the other one may be the
+-- process itself, or one that it makes
 pub record Unreached (pid : ℕ) (old new : MachineState) : Type 0 where
-  pub fails : (test : ℕ → Bool) → reaches old.descriptors pid test ≡ false → ((k : ℕ) → length old.descriptions ≤ k → test k ≡ false) → reaches new.descriptors pid test ≡ false
+  pub fails : (q : ℕ) (test : ℕ → Bool) → reaches old.descriptors pid test ≡ false → reaches old.descriptors q test ≡ false → ((k : ℕ) → length old.descriptions ≤ k → test k ≡ false) → reaches new.descriptors q test ≡ false
 
 reaches_append : (xs ys : List Descriptor) (pid : ℕ) (test : ℕ → Bool) → reaches xs pid test ≡ false → reaches ys pid test ≡ false → reaches (xs ++ ys) pid test ≡ false
 reaches_append [] ys pid test h k = k
@@ -43,10 +48,10 @@ reaches_append (d ∷ xs) ys pid test h k =
     ap (λ (c : Bool). c || reaches (xs ++ ys) pid test) (or_left ((d.pid == pid) && test d.description) (reaches xs pid test) h)
     ∙ reaches_append xs ys pid test (or_right ((d.pid == pid) && test d.description) (reaches xs pid test) h) k
 
-reaches_copies : (ds : List Descriptor) (pid child : ℕ) (test : ℕ → Bool) → reaches ds pid test ≡ false → reaches (copies ds pid child) pid test ≡ false
-reaches_copies [] pid child test h = refl
-reaches_copies (d ∷ ds) pid child test h =
-    of_test (is_copied pid d) refl (reaches_copies ds pid child test (or_right ((d.pid == pid) && test d.description) (reaches ds pid test) h)) (or_left ((d.pid == pid) && test d.description) (reaches ds pid test) h)
+reaches_copies : (ds : List Descriptor) (pid child q : ℕ) (test : ℕ → Bool) → reaches ds pid test ≡ false → reaches (copies ds pid child) q test ≡ false
+reaches_copies [] pid child q test h = refl
+reaches_copies (d ∷ ds) pid child q test h =
+    of_test (is_copied pid d) refl (reaches_copies ds pid child q test (or_right ((d.pid == pid) && test d.description) (reaches ds pid test) h)) (or_left ((d.pid == pid) && test d.description) (reaches ds pid test) h)
   where
     fails_own : (a b c : Bool) → (a && b) ≡ true → (a && c) ≡ false → c ≡ false
     fails_own true b c e h = h
@@ -56,10 +61,10 @@ reaches_copies (d ∷ ds) pid child test h =
     and_false true c h = h
     and_false false c h = refl
 
-    of_test : (b : Bool) → is_copied pid d ≡ b → reaches (copies ds pid child) pid test ≡ false → ((d.pid == pid) && test d.description) ≡ false → reaches (map (of_process child) (cond b (d ∷ filter (is_copied pid) ds) (filter (is_copied pid) ds))) pid test ≡ false
+    of_test : (b : Bool) → is_copied pid d ≡ b → reaches (copies ds pid child) q test ≡ false → ((d.pid == pid) && test d.description) ≡ false → reaches (map (of_process child) (cond b (d ∷ filter (is_copied pid) ds) (filter (is_copied pid) ds))) q test ≡ false
     of_test false e rest h = rest
     of_test true e rest h =
-        ap (λ (c : Bool). c || reaches (copies ds pid child) pid test) (and_false (child == pid) (test d.description) (fails_own (d.pid == pid) _ (test d.description) e h)) ∙ rest
+        ap (λ (c : Bool). c || reaches (copies ds pid child) q test) (and_false (child == q) (test d.description) (fails_own (d.pid == pid) _ (test d.description) e h)) ∙ rest
 
 reaches_set : (ds : List Descriptor) (i : ℕ) (d : Descriptor) (number : Option ℕ) (pid : ℕ) (test : ℕ → Bool) → slice_get ds i ≡ Some d → reaches (slice_set ds i (record d { number = number })) pid test ≡ reaches ds pid test
 reaches_set [] i d number pid test h = refl
@@ -84,24 +89,24 @@ unreached s pid r =
     let m = s.machine in
     let ds = m.descriptors in
     by_cases s pid r (λ m'. Unreached pid m m') (record {
-      same = record { fails = λ test h new. h };
-      goes_on = λ k offset held. record { fails = λ test h new. h };
-      pipe = λ k pipe slot held end. record { fails = λ test h new. h };
-      file = λ k node start end bytes files held file written. record { fails = λ test h new. h };
-      closes = λ closing. record { fails = λ test h new. reaches_left pid closing ds test h };
-      ends = λ status. record { fails = λ test h new. reaches_left pid All ds test h };
-      numbers = λ number k held. record { fails = λ test h new. reaches_one_more (descriptors_left pid (Named (Number number)) ds) _ pid test (reaches_left pid (Named (Number number)) ds test h) (held.fails test h) };
-      renames = λ name number. record { fails = λ test h new. reaches_renamed ds pid name number pid test h };
-      back = λ k number. record { fails = λ test h new. reaches_renamed (descriptors_left pid (Named (Number number)) ds) pid (Aside k) (Some number) pid test (reaches_left pid (Named (Number number)) ds test h) };
-      forks = record { fails = λ test h new. reaches_append ds _ pid test h (reaches_copies ds pid (next_pid m.processes) test h) };
+      same = record { fails = λ q test own h new. h };
+      goes_on = λ k offset held. record { fails = λ q test own h new. h };
+      pipe = λ k pipe slot held end. record { fails = λ q test own h new. h };
+      file = λ k node start end bytes files held file written. record { fails = λ q test own h new. h };
+      closes = λ closing. record { fails = λ q test own h new. reaches_left pid closing ds q test h };
+      signals = λ ps pids only signalled. record { fails = λ q test own h new. (endings m ps pids).reaches_less q test h };
+      numbers = λ number k held. record { fails = λ q test own h new. reaches_one_more (descriptors_left pid (Named (Number number)) ds) _ q test (reaches_left pid (Named (Number number)) ds q test h) (held.fails test own) };
+      renames = λ name number. record { fails = λ q test own h new. reaches_renamed ds pid name number q test h };
+      back = λ k number. record { fails = λ q test own h new. reaches_renamed (descriptors_left pid (Named (Number number)) ds) pid (Aside k) (Some number) q test (reaches_left pid (Named (Number number)) ds q test h) };
+      forks = record { fails = λ q test own h new. reaches_append ds _ q test h (reaches_copies ds pid (next_pid m.processes) q test own) };
       makes_pipe = λ from to. record {
-        fails = λ test h new.
+        fails = λ q test own h new.
             let first = with_number (with_pipe m) pid from (length m.descriptions) in
-            let at_first : reaches first.descriptors pid test ≡ false = reaches_one_more (descriptors_left pid (Named (Number from)) ds) _ pid test (reaches_left pid (Named (Number from)) ds test h) (new (length m.descriptions) (omega arith)) in
-            reaches_one_more (descriptors_left pid (Named (Number to)) first.descriptors) _ pid test (reaches_left pid (Named (Number to)) first.descriptors test at_first) (new (length m.descriptions + 1) (omega arith));
+            let at_first : reaches first.descriptors q test ≡ false = reaches_one_more (descriptors_left pid (Named (Number from)) ds) _ q test (reaches_left pid (Named (Number from)) ds q test h) (new (length m.descriptions) (omega arith)) in
+            reaches_one_more (descriptors_left pid (Named (Number to)) first.descriptors) _ q test (reaches_left pid (Named (Number to)) first.descriptors q test at_first) (new (length m.descriptions + 1) (omega arith));
       };
-      opens = λ directory path how append number o is at. record { fails = λ test h new. reaches_one_more (descriptors_left pid (Named (Number number)) ds) _ pid test (reaches_left pid (Named (Number number)) ds test h) (new (length m.descriptions) (omega arith)) };
-      heres = λ bytes number o is at. record { fails = λ test h new. reaches_one_more (descriptors_left pid (Named (Number number)) ds) _ pid test (reaches_left pid (Named (Number number)) ds test h) (new (length m.descriptions) (omega arith)) };
+      opens = λ directory path how append number o is at. record { fails = λ q test own h new. reaches_one_more (descriptors_left pid (Named (Number number)) ds) _ q test (reaches_left pid (Named (Number number)) ds q test h) (new (length m.descriptions) (omega arith)) };
+      heres = λ bytes number o is at. record { fails = λ q test own h new. reaches_one_more (descriptors_left pid (Named (Number number)) ds) _ q test (reaches_left pid (Named (Number number)) ds q test h) (new (length m.descriptions) (omega arith)) };
     })
 
 -- ---- descriptions
@@ -155,7 +160,7 @@ new_fails s pid r =
       pipe = λ k pipe slot held end. new_same op m (record m { pipes = slice_set m.pipes pipe slot }) refl;
       file = λ k node start end bytes files held file written. new_same op m (record m { files = files; descriptions = with_offset m.descriptions k end }) (moved_length m.descriptions k end (slice_get m.descriptions k));
       closes = λ closing. record { ends = (new_same op m m refl).ends; files = (new_same op m m refl).files };
-      ends = λ status. record { ends = (new_same op m m refl).ends; files = (new_same op m m refl).files };
+      signals = λ ps pids only signalled. new_same op m (with_processes m ps pids) (ap (λ (es : List Description). length es) (endings m ps pids).descriptions);
       numbers = λ number k held. record { ends = (new_same op m m refl).ends; files = (new_same op m m refl).files };
       renames = λ name number. record { ends = (new_same op m m refl).ends; files = (new_same op m m refl).files };
       back = λ k number. record { ends = (new_same op m m refl).ends; files = (new_same op m m refl).files };
@@ -198,41 +203,65 @@ reach_no_more s pid r =
     let u = unreached s pid r in
     let f = new_fails s pid r in
     let g = requests_grow s pid r in
+    let no_end = λ (p q : ℕ) (within : q < length m.pipes) (h : reaches m.descriptors p (is_end m.descriptions q) ≡ false).
+    reaches_no_more m.descriptors p (is_end m.descriptions q) (is_end m'.descriptions q) (λ k e. still_fails (λ t. reads_from q t || writes_to q t) m.descriptions m'.descriptions k g.targets (λ past. f.ends q k within past) e) h in
     record {
-      pipes = λ q within h.
-          u.fails (is_end m'.descriptions q) (reaches_no_more m.descriptors pid (is_end m.descriptions q) (is_end m'.descriptions q) (λ k e. still_fails (λ t. reads_from q t || writes_to q t) m.descriptions m'.descriptions k g.targets (λ past. f.ends q k within past) e) h) (λ k past. f.ends q k within past);
+      pipes = λ q within h. u.fails pid (is_end m'.descriptions q) (no_end pid q within h) (no_end pid q within h) (λ k past. f.ends q k within past);
       files = λ n h unopened.
-          u.fails (is_file m'.descriptions n) (reaches_no_more m.descriptors pid (is_file m.descriptions n) (is_file m'.descriptions n) (λ k e. still_fails (is_node n) m.descriptions m'.descriptions k g.targets (λ past. f.files n k unopened past) e) h) (λ k past. f.files n k unopened past);
-      descriptions = λ k within h. u.fails (λ j. j == k) h (λ j past. false_of (j == k) (λ t. let e : j ≡ k = eqb-true j k t in omega (arith, past, within, e)));
+          let no_file = reaches_no_more m.descriptors pid (is_file m.descriptions n) (is_file m'.descriptions n) (λ k e. still_fails (is_node n) m.descriptions m'.descriptions k g.targets (λ past. f.files n k unopened past) e) h in
+          u.fails pid (is_file m'.descriptions n) no_file no_file (λ k past. f.files n k unopened past);
+      descriptions = λ k within h. u.fails pid (λ j. j == k) h h (λ j past. false_of (j == k) (λ t. let e : j ≡ k = eqb-true j k t in omega (arith, past, within, e)));
+      others = λ p q within own h. u.fails p (is_end m'.descriptions q) (no_end pid q within own) (no_end p q within h) (λ k past. f.ends q k within past);
     }
 
 -- ---- lists of requests
-pub changes_then : (pid : ℕ) (op op' : ℕ → Bool) (a b c : MachineState) → OnlyGrows a b → ReachesNoMore pid op a b → ChangesOnlyReached pid op a b → ChangesOnlyReached pid op' b c → ChangesOnlyReached pid (λ n. op n || op' n) a c
-changes_then pid op op' a b c grow less f g = record {
-  pipes = λ q within h. let within' : q < length b.pipes = omega (arith, grow.pipes) in g.pipes q within' (less.pipes q within h) ∙ f.pipes q within h;
-  files = λ n within h unopened.
-      let within' : n < length b.files.nodes = omega (arith, grow.files) in
-      let first : op n ≡ false = or_left (op n) (op' n) unopened in
-      g.files n within' (less.files n h first) (or_right (op n) (op' n) unopened) ∙ f.files n within h first;
-  descriptions = λ k within h. let within' : k < length b.descriptions = omega (arith, grow.descriptions) in g.descriptions k within' (less.descriptions k within h) ∙ f.descriptions k within h;
-  descriptors = λ q n born. let born' : q < next_pid b.processes = omega (arith, grow.processes) in g.descriptors q n born' ∙ f.descriptors q n born;
-  processes = λ q n born. let born' : q < next_pid b.processes = omega (arith, grow.processes) in g.processes q n born' ∙ f.processes q n born;
-}
+or_true_left : (a b : Bool) → a ≡ true → (a || b) ≡ true
+or_true_left true b h = refl
+or_true_left false b h = absurd (cc)
+
+or_true_right : (a b : Bool) → b ≡ true → (a || b) ≡ true
+or_true_right true b h = refl
+or_true_right false b h = h
+
+pub changes_then : (pid : ℕ) (x y : Bool) (op op' : ℕ → Bool) (a b c : MachineState) → OnlyGrows a b → ReachesNoMore pid op a b → ChangesOnlyReached pid x op a b → ChangesOnlyReached pid y op' b c → ChangesOnlyReached pid (x || y) (λ n. op n || op' n) a c
+changes_then pid x y op op' a b c grow less f g =
+    let still = λ (q : ℕ) (e : has_ended b.processes q ≡ true). ap (λ (o : Option Process). is_ended o) (g.ended q e) ∙ e in
+    record {
+      pipes = λ q within h none.
+          let within' : q < length b.pipes = omega (arith, within, grow.pipes) in
+          g.pipes q within' (less.pipes q within h) (λ t p e. less.others p q within h (none (or_true_right x y t) p e))
+          ∙ f.pipes q within h (λ t p e. none (or_true_left x y t) p (still p e));
+      files = λ n within h unopened.
+          let within' : n < length b.files.nodes = omega (arith, within, grow.files) in
+          let first : op n ≡ false = or_left (op n) (op' n) unopened in
+          g.files n within' (less.files n h first) (or_right (op n) (op' n) unopened) ∙ f.files n within h first;
+      descriptions = λ k within h. let within' : k < length b.descriptions = omega (arith, within, grow.descriptions) in g.descriptions k within' (less.descriptions k within h) ∙ f.descriptions k within h;
+      descriptors = λ q n born alive.
+          let born' : q < next_pid b.processes = omega (arith, born, grow.processes) in
+          g.descriptors q n born' (λ t. alive (or_true_right x y t))
+          ∙ f.descriptors q n born (λ t. false_of (has_ended b.processes q) (λ e. true≢false (has_ended c.processes q) (still q e) (alive (or_true_left x y t))));
+      processes = λ q n born none.
+          let born' : q < next_pid b.processes = omega (arith, born, grow.processes) in
+          g.processes q n born' (or_right x y none) ∙ f.processes q n born (or_left x y none);
+      makers = λ q born. let born' : q < next_pid b.processes = omega (arith, born, grow.processes) in g.makers q born' ∙ f.makers q born;
+      ended = λ q e. g.ended q (ap (λ (o : Option Process). is_ended o) (f.ended q e) ∙ e) ∙ f.ended q e;
+    }
 
 pub lists_change : ListsChangeOnlyReached
-lists_change s pid [] = keeps_same pid (λ n. false) s.machine
+lists_change s pid [] = keeps_same pid (λ n. false) s.machine false
 lists_change s pid (r ∷ rs) =
-    changes_then pid (opens s.machine r) (opens_any (after_request s pid r) pid rs) s.machine (after_request s pid r).machine (after_requests (after_request s pid r) pid rs).machine (requests_grow s pid r) (reach_no_more s pid r) (requests_change s pid r) (lists_change (after_request s pid r) pid rs)
+    changes_then pid (sends s pid r) (sends_any (after_request s pid r) pid rs) (opens s.machine r) (opens_any (after_request s pid r) pid rs) s.machine (after_request s pid r).machine (after_requests (after_request s pid r) pid rs).machine (requests_grow s pid r) (reach_no_more s pid r) (requests_change s pid r) (lists_change (after_request s pid r) pid rs)
 
 pub reaches_then : (pid : ℕ) (op op' : ℕ → Bool) (a b c : MachineState) → OnlyGrows a b → ReachesNoMore pid op a b → ReachesNoMore pid op' b c → ReachesNoMore pid (λ n. op n || op' n) a c
 reaches_then pid op op' a b c grow f g = record {
   pipes = λ q within h. let within' : q < length b.pipes = omega (arith, grow.pipes) in g.pipes q within' (f.pipes q within h);
   files = λ n h unopened. g.files n (f.files n h (or_left (op n) (op' n) unopened)) (or_right (op n) (op' n) unopened);
   descriptions = λ k within h. let within' : k < length b.descriptions = omega (arith, grow.descriptions) in g.descriptions k within' (f.descriptions k within h);
+  others = λ p q within own h. let within' : q < length b.pipes = omega (arith, grow.pipes) in g.others p q within' (f.pipes q within own) (f.others p q within own h);
 }
 
 pub lists_reach_no_more : ListsReachNoMore
-lists_reach_no_more s pid [] = record { pipes = λ q within h. h; files = λ n h unopened. h; descriptions = λ k within h. h }
+lists_reach_no_more s pid [] = record { pipes = λ q within h. h; files = λ n h unopened. h; descriptions = λ k within h. h; others = λ p q within own h. h }
 lists_reach_no_more s pid (r ∷ rs) =
     reaches_then pid (opens s.machine r) (opens_any (after_request s pid r) pid rs) s.machine (after_request s pid r).machine (after_requests (after_request s pid r) pid rs).machine (requests_grow s pid r) (reach_no_more s pid r) (lists_reach_no_more (after_request s pid r) pid rs)
 

@@ -1,13 +1,15 @@
 -- The changes of a machine of which each request is made.
-use Rattle.std.proofs.Common.{◌≡◌, ℕ, ◌+◌, List, length, Bool, true, false, cond, ◌&&◌, Option, Some, None, slice_set, refl, Result, Ok, Err}
+use Rattle.std.proofs.Common.{◌≡◌, ℕ, ◌+◌, List, length, Bool, true, false, not, cond, ◌&&◌, Option, Some, None, slice_set, refl, sym, Result, Ok, Err}
 use Rattle.sh_files.specs.Nodes.{FileMap, nameless, opened, write_at}
 use Rattle.sh_files.specs.declared.fault.FileFault.{FileFault}
 use Rattle.sh_files.specs.declared.opening.Opening.{Opening}
 use Rattle.sh_pipe.specs.Pipe.{PipeState}
 use Rattle.sh_kernel_descriptors.specs.Outcomes.{success, refusal}
-use Rattle.sh_kernel_descriptors.specs.Machine.{MachineState, after_close, after_end, after_fork}
+use Rattle.sh_kernel_descriptors.specs.Machine.{MachineState, after_close, after_fork}
 use Rattle.sh_kernel_descriptors.specs.Descriptors.{description_number}
-use Rattle.sh_kernel_descriptors.specs.Processes.{lives, may_fork, next_pid}
+use Rattle.std.specs.List.{list_any}
+use Rattle.std.specs.Option.{option_map_or}
+use Rattle.sh_kernel_descriptors.specs.Processes.{has_ended, is_ended, is_living, lives, may_fork, next_pid, process_at}
 use Rattle.sh_kernel_descriptors.specs.Reading.{with_offset}
 use Rattle.sh_kernel_descriptors.specs.Naming.{aside_found, back_found, close_found, dup_found, is_allowed, is_description, put_back, after_renaming, with_number, with_pipe}
 use Rattle.sh_kernel_descriptors.specs.Opening.{for_reading, open_result, with_node}
@@ -16,27 +18,35 @@ use Rattle.sh_kernel_descriptors.specs.declared.descriptor.Closing.{Closing}
 use Rattle.sh_kernel_descriptors.specs.declared.descriptor.Closing.TheVariants.{Named, Asides}
 use Rattle.sh_kernel_descriptors.specs.declared.descriptor.DescriptorRef.{DescriptorRef}
 use Rattle.sh_kernel_descriptors.specs.declared.descriptor.DescriptorRef.TheVariants.{Number, Aside}
-use Rattle.sh_kernel_descriptors.specs.declared.process.Status.{Status}
-use Rattle.sh_kernel_descriptors.specs.declared.process.Status.TheVariants.{Exited, Signaled}
+use Rattle.sh_kernel_descriptors.specs.declared.process.Process as process
+use Rattle.sh_kernel_signals.specs.Laws.{OnlyStatuses}
+use Rattle.sh_kernel_signals.specs.Sending.{after_end, after_send, pids_of, reaches}
+use Rattle.sh_kernel_signals.specs.declared.target.SignalTarget.{SignalTarget}
+use Rattle.sh_kernel_signals.specs.declared.target.SignalTarget.TheVariants as target
+use Rattle.sh_kernel_signals.proofs.Statuses.{ends_change, signals_change}
+use Rattle.sh_signal.specs.declared.signal.Signal.{Signal}
+use Rattle.sh_signal.specs.declared.signal.Signal.TheVariants.{Pipe}
 use Rattle.sh_kernel_descriptors.specs.declared.fault.KernelFault.TheVariants.{NoProcess, TooManyProcesses, TooManyDescriptors}
 use Rattle.sh_tty.specs.Happenings.{entries_of}
 use Rattle.sh_tty.specs.Keys.{read_of}
 use Rattle.sh_kernel.specs.State.{KernelState}
-use Rattle.sh_kernel.specs.Calls.{on_machine, read_terminal, write_terminal}
-use Rattle.sh_kernel.specs.Requests.{Request, Read, Write, Close, Duplicate, MakePipe, Open, Here, SetAside, PutBack, Fork, StartProgram, End, after_request}
+use Rattle.sh_kernel.specs.Calls.{broken_pipe, is_broken, on_machine, read_terminal, with_new_process, with_program, write_terminal}
+use Rattle.sh_kernel.specs.Laws.{sends}
+use Rattle.sh_kernel.specs.Signals.{after_exit, after_signal, table_of, with_processes}
+use Rattle.sh_kernel.specs.Requests.{Request, Read, Write, Close, Duplicate, MakePipe, Open, Here, SetAside, PutBack, Fork, StartProgram, End, Kill, SetAction, TakeSignal, SetGroup, SetForeground, after_request}
 use Rattle.sh_kernel_descriptors.specs.Reading as reading
 use Rattle.sh_kernel_descriptors.specs.Writing as writing
 use Rattle.sh_kernel.specs.Reaching.{is_end, is_file}
 use Rattle.sh_kernel.proofs.Cases.{IsHeld, ReadChanges, WriteChanges, found_held, read_by_cases, write_by_cases}
 
 -- what has to be shown of each change, so that it holds after each request
-pub record Changes (m : MachineState) (pid : ℕ) (r : Request) (P : MachineState → Type 0) : Type 0 where
+pub record Changes (m : MachineState) (pid : ℕ) (sent : Bool) (r : Request) (P : MachineState → Type 0) : Type 0 where
   pub same : P m
   pub goes_on : (k offset : ℕ) → IsHeld m.descriptors pid k → P (record m { descriptions = with_offset m.descriptions k offset })
   pub pipe : (k pipe : ℕ) (slot : Option PipeState) → IsHeld m.descriptors pid k → is_end m.descriptions pipe k ≡ true → P (record m { pipes = slice_set m.pipes pipe slot })
   pub file : (k node start end : ℕ) (bytes : List ℕ) (files : FileMap) → IsHeld m.descriptors pid k → is_file m.descriptions node k ≡ true → write_at m.files node start bytes ≡ Ok files → P (record m { files = files; descriptions = with_offset m.descriptions k end })
   pub closes : (closing : Closing) → P (after_close m pid closing)
-  pub ends : (status : Status) → P (after_end m pid status)
+  pub signals : (ps : List process.Process) (pids : List ℕ) → OnlyStatuses m.processes ps → sent ≡ true → P (with_processes m ps pids)
   pub numbers : (number k : ℕ) → IsHeld m.descriptors pid k → P (with_number m pid number k)
   pub renames : (name : DescriptorRef) (number : Option ℕ) → P (record m { descriptors = after_renaming m.descriptors pid name number })
   pub back : (k number : ℕ) → P (put_back m pid k number)
@@ -45,7 +55,19 @@ pub record Changes (m : MachineState) (pid : ℕ) (r : Request) (P : MachineStat
   pub opens : (directory path : List ℕ) (how : Opening) (append : Bool) (number : ℕ) (o : ℕ × FileMap) → r ≡ Open directory path how append number → opened m.files directory path how ≡ Ok o → P (with_number (with_node m how append o.0 o.1) pid number (length m.descriptions))
   pub heres : (bytes : List ℕ) (number : ℕ) (o : ℕ × FileMap) → r ≡ Here bytes number → nameless m.files bytes ≡ Ok o → P (with_number (with_node m for_reading false o.0 o.1) pid number (length m.descriptions))
 
-module _ (m : MachineState) (pid : ℕ) (r : Request) (P : MachineState → Type 0) (c : Changes m pid r P) where
+-- what lives hasn't ended
+living : (ps : List process.Process) (pid : ℕ) → lives ps pid ≡ true → has_ended ps pid ≡ false
+living ps pid h = of_process (process_at ps pid) h
+  where
+    of_status : (b : Bool) → b ≡ true → not b ≡ false
+    of_status true h = refl
+    of_status false h = absurd (cc)
+
+    of_process : (o : Option process.Process) → option_map_or is_living o false ≡ true → is_ended o ≡ false
+    of_process None h = refl
+    of_process (Some p) h = of_status (is_living p) h
+
+module _ (m : MachineState) (pid : ℕ) (sent : Bool) (r : Request) (P : MachineState → Type 0) (c : Changes m pid sent r P) where
   close_cases : (name : DescriptorRef) (o : Option ℕ) → P (close_found m pid name o).after
   close_cases name None = c.same
   close_cases name (Some k) = c.closes (Named name)
@@ -91,48 +113,64 @@ module _ (m : MachineState) (pid : ℕ) (r : Request) (P : MachineState → Type
   back_cases k number (Some j) =
       elim (is_allowed number) as (λ b. P (cond b (success {A = Unit {0}} tt (put_back m pid k number)) (refusal m TooManyDescriptors)).after) [ true ↦ c.back k number | false ↦ c.same ]
 
-  fork_cases : (a b : Bool) → P (cond a (cond b (success (next_pid m.processes) (after_fork m pid)) (refusal m TooManyProcesses)) (refusal m NoProcess)).after
-  fork_cases true true = c.forks
-  fork_cases true false = c.same
-  fork_cases false b = c.same
+  fork_cases : (s : KernelState) (a b : Bool) → P (cond a (cond b (success (next_pid m.processes) (with_new_process (record s { machine = m }) pid)) (refusal (record s { machine = m }) TooManyProcesses)) (refusal (record s { machine = m }) NoProcess)).after.machine
+  fork_cases s true true = c.forks
+  fork_cases s true false = c.same
+  fork_cases s false b = c.same
 
-  start_cases : (a : Bool) → P (cond a (success {A = Unit {0}} tt (after_close m pid Asides)) (refusal m NoProcess)).after
-  start_cases true = c.closes Asides
-  start_cases false = c.same
+  start_cases : (s : KernelState) (a : Bool) → P (cond a (success {A = Unit {0}} tt (with_program (record s { machine = m }) pid)) (refusal (record s { machine = m }) NoProcess)).after.machine
+  start_cases s true = c.closes Asides
+  start_cases s false = c.same
 
-  end_cases : (status : ℕ) (a : Bool) → P (cond a (success {A = Unit {0}} tt (after_end m pid (Exited status))) (refusal m NoProcess)).after
-  end_cases status true = c.ends (Exited status)
-  end_cases status false = c.same
+  end_cases : (s : KernelState) (status : ℕ) → true ≡ sent → (a : Bool) → lives m.processes pid ≡ a → P (cond a (success {A = Unit {0}} tt (after_exit (record s { machine = m }) pid status)) (refusal (record s { machine = m }) NoProcess)).after.machine
+  end_cases s status e true is =
+      let t = table_of (record s { machine = m }) in c.signals (after_end t pid status).processes (pids_of s.members) (ends_change t pid status (living m.processes pid is)) (sym e)
+  end_cases s status e false is = c.same
+
+  signalled : (s : KernelState) (to : SignalTarget) (signal : Signal) → sent ≡ true → P (after_signal (record s { machine = m }) to signal).machine
+  signalled s to signal e = let t = table_of (record s { machine = m }) in c.signals (after_send t to signal).processes (pids_of s.members) (signals_change t to signal) e
+
+  kill_cases : (s : KernelState) (to : SignalTarget) (signal : Signal) → true ≡ sent → (a : Bool) → P (cond a (success {A = Unit {0}} tt (after_signal (record s { machine = m }) to signal)) (refusal (record s { machine = m }) NoProcess)).after.machine
+  kill_cases s to signal e true = signalled s to signal (sym e)
+  kill_cases s to signal e false = c.same
 
   reads : ReadChanges m pid P
   reads = record { same = c.same; goes_on = c.goes_on; pipe = c.pipe }
 
   writes : WriteChanges m pid P
-  writes = record { same = c.same; file = c.file; pipe = c.pipe; ends = c.ends (Signaled 13) }
+  writes = record { same = c.same; file = c.file; pipe = c.pipe }
 
-  pub machine_by_cases : (r' : Request) → r ≡ r' → (s : KernelState) → P (after_request (record s { machine = m }) pid r').machine
-  machine_by_cases (Read name count) is s = of_test (reads_terminal m pid name) (read_of count (entries_of s.terminal))
+  write_cases : (s : KernelState) (number : ℕ) (bytes : List ℕ) (a b : Bool)
+      → is_broken (cond a (write_terminal (record s { machine = m }) bytes) (cond b (broken_pipe (record s { machine = m }) pid) (on_machine (record s { machine = m }) (writing.write_call m pid number bytes)))).answer ≡ sent
+      → P (cond a (write_terminal (record s { machine = m }) bytes) (cond b (broken_pipe (record s { machine = m }) pid) (on_machine (record s { machine = m }) (writing.write_call m pid number bytes)))).after.machine
+  write_cases s number bytes true b e = c.same
+  write_cases s number bytes false true e = signalled s (target.Process pid) Pipe (sym e)
+  write_cases s number bytes false false e = write_by_cases m pid P number bytes writes
+
+  pub machine_by_cases : (r' : Request) → r ≡ r' → (s : KernelState) → sends (record s { machine = m }) pid r' ≡ sent → P (after_request (record s { machine = m }) pid r').machine
+  machine_by_cases (Read name count) is s e = of_test (reads_terminal m pid name) (read_of count (entries_of s.terminal))
     where
       of_test : (a : Bool) (o : Option (List ℕ)) → P (cond a (read_terminal (record s { machine = m }) count o) (on_machine (record s { machine = m }) (reading.read_call m pid name count))).after.machine
       of_test true None = c.same
       of_test true (Some bytes) = c.same
       of_test false o = read_by_cases m pid P name count reads
-  machine_by_cases (Write number bytes) is s =
-      elim (writes_terminal m pid (Number number)) as (λ a. P (cond a (write_terminal (record s { machine = m }) bytes) (on_machine (record s { machine = m }) (writing.write_call m pid number bytes))).after.machine) [
-        | true ↦ c.same
-        | false ↦ write_by_cases m pid P number bytes writes
-      ]
-  machine_by_cases (Close name) is s = close_cases name (description_number m.descriptors pid name)
-  machine_by_cases (Duplicate name to) is s = dup_cases to name (description_number m.descriptors pid name) refl
-  machine_by_cases (MakePipe from to) is s = pipe_cases from to (lives m.processes pid) (is_allowed from && is_allowed to)
-  machine_by_cases (Open directory path how append number) is s = open_tests directory path how append number is (lives m.processes pid) (is_allowed number)
-  machine_by_cases (Here bytes number) is s = here_tests bytes number is (lives m.processes pid) (is_allowed number)
-  machine_by_cases (SetAside number) is s = aside_cases number (description_number m.descriptors pid (Number number))
-  machine_by_cases (PutBack aside number) is s = back_cases aside number (description_number m.descriptors pid (Aside aside))
-  machine_by_cases Fork is s = fork_cases (lives m.processes pid) (may_fork m.processes)
-  machine_by_cases StartProgram is s = start_cases (lives m.processes pid)
-  machine_by_cases (End status) is s = end_cases status (lives m.processes pid)
+  machine_by_cases (Write number bytes) is s e = write_cases s number bytes (writes_terminal m pid (Number number)) (is_broken (writing.write_call m pid number bytes).answer) e
+  machine_by_cases (Close name) is s e = close_cases name (description_number m.descriptors pid name)
+  machine_by_cases (Duplicate name to) is s e = dup_cases to name (description_number m.descriptors pid name) refl
+  machine_by_cases (MakePipe from to) is s e = pipe_cases from to (lives m.processes pid) (is_allowed from && is_allowed to)
+  machine_by_cases (Open directory path how append number) is s e = open_tests directory path how append number is (lives m.processes pid) (is_allowed number)
+  machine_by_cases (Here bytes number) is s e = here_tests bytes number is (lives m.processes pid) (is_allowed number)
+  machine_by_cases (SetAside number) is s e = aside_cases number (description_number m.descriptors pid (Number number))
+  machine_by_cases (PutBack aside number) is s e = back_cases aside number (description_number m.descriptors pid (Aside aside))
+  machine_by_cases Fork is s e = fork_cases s (lives m.processes pid) (may_fork m.processes)
+  machine_by_cases StartProgram is s e = start_cases s (lives m.processes pid)
+  machine_by_cases (End status) is s e = end_cases s status e (lives m.processes pid) refl
+  machine_by_cases (Kill to signal) is s e = kill_cases s to signal e (list_any (reaches to) s.members)
+  machine_by_cases (SetAction signal action) is s e = c.same
+  machine_by_cases TakeSignal is s e = c.same
+  machine_by_cases (SetGroup member group) is s e = c.same
+  machine_by_cases (SetForeground group) is s e = c.same
 
 -- what holds of each change holds after each request
-pub by_cases : (s : KernelState) (pid : ℕ) (r : Request) (P : MachineState → Type 0) → Changes s.machine pid r P → P (after_request s pid r).machine
-by_cases s pid r P c = machine_by_cases s.machine pid r P c r refl s
+pub by_cases : (s : KernelState) (pid : ℕ) (r : Request) (P : MachineState → Type 0) → Changes s.machine pid (sends s pid r) r P → P (after_request s pid r).machine
+by_cases s pid r P c = machine_by_cases s.machine pid (sends s pid r) r P c r refl s refl

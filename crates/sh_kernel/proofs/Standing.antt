@@ -27,7 +27,7 @@ use Rattle.sh_kernel_descriptors.specs.declared.kept.Entry.{Entry}
 use Rattle.sh_kernel_descriptors.specs.declared.kept.Held.{Held}
 use Rattle.sh_kernel_descriptors.proofs.Finding.{found_among, found_number}
 use Rattle.sh_kernel.specs.Machine.{MachineKept, StandsAt}
-use Rattle.sh_kernel.proofs.Growing.{pipes_left_length}
+use Rattle.sh_kernel.proofs.Closing.{pipes_left_length}
 
 -- ---- what is found
 number_of : (m : MachineKept) (s : MachineState) (pid : ℕ) (name : DescriptorRef) → StandsAt m s → option_map (λ h. h.descriptor.description) (counts.find m.held pid name) ≡ names.description_number s.descriptors pid name

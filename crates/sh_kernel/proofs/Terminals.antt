@@ -22,6 +22,9 @@ use Rattle.sh_kernel.specs.Laws.{ListsLeaveTheTerminal, ListsOnlyGrowTheTerminal
 use Rattle.sh_kernel.specs.Reaching.{is_screen, reaches}
 use Rattle.sh_kernel.specs.Requests.{Request, after_request}
 use Rattle.sh_kernel.specs.State.{KernelState}
+use Rattle.sh_kernel_descriptors.specs.declared.description.Description.{Description}
+use Rattle.sh_kernel.specs.Signals.{with_processes}
+use Rattle.sh_kernel.proofs.Endings.{endings}
 use Rattle.sh_kernel.proofs.Frames.{more_fails, reaches_no_more}
 use Rattle.sh_kernel.proofs.Growing.{moved_length, requests_grow}
 use Rattle.sh_kernel.proofs.Lists.{false_of, or_left, or_right}
@@ -158,7 +161,9 @@ screenless s pid r =
       file = λ k node start end bytes files held file written.
           screenless_same op m (record m { files = files; descriptions = with_offset m.descriptions k end }) (screen_write m.files files node start bytes (slice_get m.files.nodes node) refl written) (moved_length m.descriptions k end (slice_get m.descriptions k));
       closes = λ closing. record { nodes = λ n h. h; fails = (screenless_same op m m (λ n h. h) refl).fails };
-      ends = λ status. record { nodes = λ n h. h; fails = (screenless_same op m m (λ n h. h) refl).fails };
+      signals = λ ps pids only signalled.
+          let e = endings m ps pids in
+          screenless_same op m (with_processes m ps pids) (λ n h. sym (ap (λ (f : FileMap). slice_get f.nodes n) e.files) ∙ h) (ap (λ (es : List Description). length es) e.descriptions);
       numbers = λ number k held. record { nodes = λ n h. h; fails = (screenless_same op m m (λ n h. h) refl).fails };
       renames = λ name number. record { nodes = λ n h. h; fails = (screenless_same op m m (λ n h. h) refl).fails };
       back = λ k number. record { nodes = λ n h. h; fails = (screenless_same op m m (λ n h. h) refl).fails };
@@ -189,7 +194,7 @@ screen_unreached s pid r h unopened =
     let m' = (after_request s pid r).machine in
     let fails = (screenless s pid r).fails unopened in
     let still = reaches_no_more m.descriptors pid (is_screen m.descriptions) (is_screen m'.descriptions) (λ k e. still_fails is_terminal_target m.descriptions m'.descriptions k (requests_grow s pid r).targets (λ past. fails k past) e) h in
-    (unreached s pid r).fails (is_screen m'.descriptions) still fails
+    (unreached s pid r).fails pid (is_screen m'.descriptions) still still fails
 
 -- ---- lists of requests
 pub lists_leave_terminal : ListsLeaveTheTerminal

@@ -8,12 +8,13 @@ use Rattle.sh_files.specs.Nodes.{FileMap, nameless, opened}
 use Rattle.sh_files.specs.declared.fault.FileFault.{FileFault}
 use Rattle.sh_files_image.specs.declared.node.Node.TheVariants.{Terminal}
 use Rattle.sh_kernel_descriptors.specs.Machine.{MachineState}
-use Rattle.sh_kernel_descriptors.specs.Processes.{next_pid, process_at}
+use Rattle.sh_kernel_descriptors.specs.Processes.{has_ended, next_pid, process_at}
 use Rattle.sh_kernel_descriptors.specs.declared.descriptor.Descriptor.{Descriptor}
 use Rattle.sh_kernel_descriptors.specs.declared.description.Description.{Description}
 use Rattle.sh_kernel_descriptors.specs.declared.description.Target.{Target}
+use Rattle.sh_kernel.specs.Calls.{after_key, is_broken, write_call}
 use Rattle.sh_kernel.specs.State.{KernelState}
-use Rattle.sh_kernel.specs.Requests.{Request, Read, Write, Close, Duplicate, MakePipe, Open, Here, SetAside, PutBack, Fork, StartProgram, End, after_request, after_requests}
+use Rattle.sh_kernel.specs.Requests.{Request, Read, Write, Close, Duplicate, MakePipe, Open, Here, SetAside, PutBack, Fork, StartProgram, End, Kill, SetAction, TakeSignal, SetGroup, SetForeground, after_request, after_requests}
 use Rattle.sh_kernel.specs.Reaching.{reaches, is_end, is_file, is_screen}
 
 -- ---- what a request opens
@@ -35,26 +36,64 @@ opens m (PutBack aside number) node = false
 opens m Fork node = false
 opens m StartProgram node = false
 opens m (End status) node = false
+opens m (Kill to signal) node = false
+opens m (SetAction signal action) node = false
+opens m TakeSignal node = false
+opens m (SetGroup member group) node = false
+opens m (SetForeground group) node = false
+
+-- ---- what a request signals
+-- the request sends a signal, if only that of its process's end to the parent; a write does where the pipe has no reader
+abbrev pub sends : KernelState → ℕ → Request → Bool
+sends s pid (Read name count) = false
+sends s pid (Write number bytes) = is_broken (write_call s pid number bytes).answer
+sends s pid (Close name) = false
+sends s pid (Duplicate name to) = false
+sends s pid (MakePipe from to) = false
+sends s pid (Open directory path how append number) = false
+sends s pid (Here bytes number) = false
+sends s pid (SetAside number) = false
+sends s pid (PutBack aside number) = false
+sends s pid Fork = false
+sends s pid StartProgram = false
+sends s pid (End status) = true
+sends s pid (Kill to signal) = true
+sends s pid (SetAction signal action) = false
+sends s pid TakeSignal = false
+sends s pid (SetGroup member group) = false
+sends s pid (SetForeground group) = false
+
+-- no process that has ended by now reached such a description
+abbrev pub NoneEndedReached : (old new : MachineState) → (ℕ → Bool) → Type 0
+NoneEndedReached old new test = (q : ℕ) → has_ended new.processes q ≡ true → reaches old.descriptors q test ≡ false
 
 -- ---- what a process can change
 -- a process changed only pipes, files and descriptions that it reached, and files that it opened; and neither
--- the descriptors nor the status of another process that was there
-pub record ChangesOnlyReached (pid : ℕ) (opens : ℕ → Bool) (old new : MachineState) : Type 0 where
-  pub pipes : (pipe : ℕ) → pipe < length old.pipes → reaches old.descriptors pid (is_end old.descriptions pipe) ≡ false → slice_get new.pipes pipe ≡ slice_get old.pipes pipe
+-- the descriptors nor the status of another process that was there. Where it sent signals, it may have ended others,
+-- whose descriptors are closed then, and changed the status of others that lived
+pub record ChangesOnlyReached (pid : ℕ) (sends : Bool) (opens : ℕ → Bool) (old new : MachineState) : Type 0 where
+  pub pipes : (pipe : ℕ) → pipe < length old.pipes → reaches old.descriptors pid (is_end old.descriptions pipe) ≡ false
+      → (sends ≡ true → NoneEndedReached old new (is_end old.descriptions pipe)) → slice_get new.pipes pipe ≡ slice_get old.pipes pipe
   pub files : (node : ℕ) → node < length old.files.nodes → reaches old.descriptors pid (is_file old.descriptions node) ≡ false → opens node ≡ false → slice_get new.files.nodes node ≡ slice_get old.files.nodes node
   pub descriptions : (k : ℕ) → k < length old.descriptions → reaches old.descriptors pid (λ j. j == k) ≡ false → slice_get new.descriptions k ≡ slice_get old.descriptions k
-  pub descriptors : (q : ℕ) → q ≢ pid → q < next_pid old.processes → filter (λ d. d.pid == q) new.descriptors ≡ filter (λ d. d.pid == q) old.descriptors
-  pub processes : (q : ℕ) → q ≢ pid → q < next_pid old.processes → process_at new.processes q ≡ process_at old.processes q
+  pub descriptors : (q : ℕ) → q ≢ pid → q < next_pid old.processes → (sends ≡ true → has_ended new.processes q ≡ false)
+      → filter (λ d. d.pid == q) new.descriptors ≡ filter (λ d. d.pid == q) old.descriptors
+  pub processes : (q : ℕ) → q ≢ pid → q < next_pid old.processes → sends ≡ false → process_at new.processes q ≡ process_at old.processes q
+  pub makers : (q : ℕ) → q < next_pid old.processes → option_map (λ p. p.maker) (process_at new.processes q) ≡ option_map (λ p. p.maker) (process_at old.processes q)
+  pub ended : (q : ℕ) → has_ended old.processes q ≡ true → process_at new.processes q ≡ process_at old.processes q
 
--- the process comes to reach nothing that it didn't reach, but for what is new and the files that it opened
+-- the process comes to reach nothing that it didn't reach, but for what is new and the files that it opened; and no
+-- other process comes to reach a pipe that neither of them reached
 pub record ReachesNoMore (pid : ℕ) (opens : ℕ → Bool) (old new : MachineState) : Type 0 where
   pub pipes : (pipe : ℕ) → pipe < length old.pipes → reaches old.descriptors pid (is_end old.descriptions pipe) ≡ false → reaches new.descriptors pid (is_end new.descriptions pipe) ≡ false
   pub files : (node : ℕ) → reaches old.descriptors pid (is_file old.descriptions node) ≡ false → opens node ≡ false → reaches new.descriptors pid (is_file new.descriptions node) ≡ false
   pub descriptions : (k : ℕ) → k < length old.descriptions → reaches old.descriptors pid (λ j. j == k) ≡ false → reaches new.descriptors pid (λ j. j == k) ≡ false
+  pub others : (q pipe : ℕ) → pipe < length old.pipes → reaches old.descriptors pid (is_end old.descriptions pipe) ≡ false → reaches old.descriptors q (is_end old.descriptions pipe) ≡ false
+      → reaches new.descriptors q (is_end new.descriptions pipe) ≡ false
 
 abbrev pub RequestsChangeOnlyReached : Type 0
 RequestsChangeOnlyReached =
-    (s : KernelState) (pid : ℕ) (r : Request) → ChangesOnlyReached pid (opens s.machine r) s.machine (after_request s pid r).machine
+    (s : KernelState) (pid : ℕ) (r : Request) → ChangesOnlyReached pid (sends s pid r) (opens s.machine r) s.machine (after_request s pid r).machine
 
 abbrev pub RequestsReachNoMore : Type 0
 RequestsReachNoMore =
@@ -93,18 +132,30 @@ pub record OnlyGrows (old new : MachineState) : Type 0 where
 abbrev pub RequestsOnlyGrow : Type 0
 RequestsOnlyGrow = (s : KernelState) (pid : ℕ) (r : Request) → OnlyGrows s.machine (after_request s pid r).machine
 
+-- so it is after a key, which may end processes
+abbrev pub KeysOnlyGrow : Type 0
+KeysOnlyGrow = (s : KernelState) (byte : ℕ) → OnlyGrows s.machine (after_key s byte).machine
+
 -- what the terminal shows only grows
 abbrev pub TerminalOnlyGrows : Type 0
 TerminalOnlyGrows = (s : KernelState) (pid : ℕ) (r : Request) → (more : List ℕ) × (bytes_of (after_request s pid r).terminal ≡ bytes_of s.terminal ++ more)
+
+abbrev pub KeysOnlyGrowTheTerminal : Type 0
+KeysOnlyGrowTheTerminal = (s : KernelState) (byte : ℕ) → (more : List ℕ) × (bytes_of (after_key s byte).terminal ≡ bytes_of s.terminal ++ more)
 
 -- ---- the requests that a process makes one after another, as in one turn
 abbrev pub opens_any : KernelState → ℕ → List Request → ℕ → Bool
 opens_any s pid [] node = false
 opens_any s pid (r ∷ rs) node = opens s.machine r node || opens_any (after_request s pid r) pid rs node
 
+-- one of the requests sends a signal
+abbrev pub sends_any : KernelState → ℕ → List Request → Bool
+sends_any s pid [] = false
+sends_any s pid (r ∷ rs) = sends s pid r || sends_any (after_request s pid r) pid rs
+
 abbrev pub ListsChangeOnlyReached : Type 0
 ListsChangeOnlyReached =
-    (s : KernelState) (pid : ℕ) (rs : List Request) → ChangesOnlyReached pid (opens_any s pid rs) s.machine (after_requests s pid rs).machine
+    (s : KernelState) (pid : ℕ) (rs : List Request) → ChangesOnlyReached pid (sends_any s pid rs) (opens_any s pid rs) s.machine (after_requests s pid rs).machine
 
 abbrev pub ListsReachNoMore : Type 0
 ListsReachNoMore =

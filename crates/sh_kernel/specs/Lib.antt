@@ -1,5 +1,6 @@
 pub mod Machine
 pub mod State
+pub mod Signals
 pub mod Calls
 pub mod Outcomes
 pub mod Turns

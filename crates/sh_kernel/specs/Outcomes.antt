@@ -1,9 +1,10 @@
 -- What a contract says of a call of a kernel.
 use Rattle.sh_base.specs.Memory.{no_memory}
-use Rattle.std.specs.Prelude.{◌≡◌, ◌≢◌, ℕ, List, take, drop, Result, Ok, Err}
+use Rattle.std.specs.Prelude.{◌≡◌, ◌≢◌, ◌⊎◌, ℕ, List, take, drop, true, Result, Ok, Err, IfErr, IsOk}
 use Rattle.sh_kernel_descriptors.specs.Outcomes.{Done}
 use Rattle.sh_kernel_descriptors.specs.declared.fault.KernelFault.{KernelFault}
 use Rattle.sh_kernel_descriptors.specs.declared.fault.KernelFault.TheVariants.{NoMemory}
+use Rattle.sh_kernel.specs.Calls.{is_broken}
 use Rattle.sh_kernel.specs.State.{KernelKept, KernelState, StandsAt}
 
 -- the answer is the call's, and what is kept then is that of the state after the call
@@ -19,3 +20,7 @@ GivesOrLacks (Err fault) new s d = (fault ≢ NoMemory no_memory → Gives (Err 
 abbrev pub GivesRead : Result ℕ KernelFault → List ℕ → List ℕ → KernelKept → Done KernelState (List ℕ) → Type 0
 GivesRead (Ok n) buf buf' new d = (d.answer ≡ Ok (take n buf')) × (drop n buf' ≡ drop n buf) × StandsAt new d.after
 GivesRead (Err fault) buf buf' new d = (d.answer ≡ Err fault) × (buf' ≡ buf) × StandsAt new d.after
+
+-- memory may be wanting only where the call isn't refused, or a signal is sent with the refusal
+abbrev pub LacksWhereDone : {A : Type 0} → Result A KernelFault → Done KernelState A → Type 0
+LacksWhereDone result d = IfErr result (λ fault. fault ≡ NoMemory no_memory → IsOk d.answer ⊎ (is_broken d.answer ≡ true))

@@ -1,21 +1,26 @@
 //! The kernel.
 ghost use Rattle.sh_base.specs.Memory.{no_memory};
-ghost use Rattle.std.specs.Prelude.{◌≡◌, ◌∷◌, ℕ, List, IfErr, IfOk, OnErr, OnOk, length};
+ghost use Rattle.std.specs.Prelude.{◌≡◌, ◌<◌, ◌∷◌, ℕ, List, IfErr, IfOk, OnErr, OnOk, length, vec_capacity, vec_len};
+ghost use Rattle.sh_kernel_signals.specs.Changes.{with_fork};
 ghost use Rattle.sh_tty.specs.Happenings.{Happening};
 ghost use Rattle.sh_tty.specs.Terminal as tty;
 ghost use Rattle.sh_tty.specs.Terminal.{Extends};
+
+mod signals;
 
 use crate::machine::Machine;
 use crate::next::Next;
 use sh_files::{Files, Opening};
 use sh_kernel_descriptors::{DescriptorRef, Entry, FIRST_PID, KernelFault, Status};
+use sh_kernel_signals::{Member, SignalTarget, member_at, new_member, start_program};
 use sh_pipe::Pipe;
+use sh_signal::Signal;
 use sh_tty::{Tty, TtyFault};
 use slab::Slab;
 use std::alloc::{AllocError, Global};
 use std::marker::Model;
 
-/// Processes, what they have open, files and one terminal.
+/// Processes with their groups and signals, what they have open, files and one terminal.
 ///
 /// Processes, open file descriptions and pipes have numbers that go up by creation, processes from
 /// [`FIRST_PID`](crate::FIRST_PID); none is used again. A description is kept under a key while a descriptor refers to
@@ -24,10 +29,12 @@ use std::marker::Model;
 ///
 /// A kernel stands at a state, and each call is one change of that state by the process that makes the call.
 /// After each refusal the kernel stands at the same state as before, but for [`KernelFault::BrokenPipe`],
-/// after which the process has ended.
+/// with which the process was sent SIGPIPE.
 #[derive(Drop)]
 pub struct Kernel {
     machine: Machine,
+    /// The processes that live.
+    members: Vec<Member>,
     terminal: Tty,
 }
 
@@ -40,7 +47,17 @@ impl Model for Kernel {
 
     ghost coded = { Prim.hlevel (codes, map_code) };
 
-    ghost view = { λ k. record { machine = k.machine; terminal = k.terminal } };
+    ghost view = { λ k. record { machine = k.machine; members = k.members.items; terminal = k.terminal } };
+}
+
+/// Adds a process that another one makes to the group of that one.
+fn join(members: &mut Vec<Member>, pid: u32, child: u32)
+    requires { vec_len members.old < vec_capacity members.old }
+    ensures { members.new.items ≡ with_fork members.old.items pid child }
+{
+    if let Some(member) = member_at(members.as_slice(), pid) {
+        members.push_reserved(new_member(member, child));
+    }
 }
 
 /// Writes to the terminal.
@@ -72,7 +89,7 @@ impl Kernel {
     ghost use Rattle.sh_tty.specs.Happenings.{bytes_of};
     ghost use Rattle.sh_kernel.specs.State.{KernelState, StandsAt, starting};
     ghost use Rattle.sh_kernel_descriptors.specs.Outcomes.{LacksWhereGiven};
-    ghost use Rattle.sh_kernel.specs.Outcomes.{Gives, GivesOrLacks, GivesRead};
+    ghost use Rattle.sh_kernel.specs.Outcomes.{Gives, GivesOrLacks, GivesRead, LacksWhereDone};
     ghost use Rattle.sh_kernel.specs.Calls.{close_call, dup_call, end_call, fork_call, here_call, open_call, pipe_call, put_back_call, read_call, set_aside_call, start_call, write_call};
 
     /// The first process, whose descriptors 0, 1 and 2 refer to one description of the terminal, over these files. Its
@@ -81,8 +98,11 @@ impl Kernel {
         ensures { IfOk result (λ kernel. StandsAt kernel (starting files)) }
     {
         let machine = Machine::new(alloc, files)?;
+        let mut members = Vec::with_capacity(alloc, 1)?;
+        members.push(Member::first(FIRST_PID))?;
         Ok(Kernel {
             machine,
+            members,
             terminal: Tty::new(alloc, FIRST_PID),
         })
     }
@@ -200,27 +220,52 @@ impl Kernel {
             → LacksWhereGiven result (fork_call s pid) }
         ensures terminal { self.new.terminal ≡ self.old.terminal }
     {
-        self.machine.fork(pid)
+        if !self.machine.lives(pid) {
+            return Err(KernelFault::NoProcess);
+        }
+        if !self.machine.may_fork() {
+            return Err(KernelFault::TooManyProcesses);
+        }
+        self.members.reserve(1)?;
+        let child = self.machine.fork(pid)?;
+        join(&mut self.members, pid, child);
+        Ok(child)
     }
 
-    /// Ends a process with an exit status, by its own call (XSH _exit): all its descriptors are closed, and
-    /// its children have the parent 1 from then on. `NoProcess` where no such process lives. Takes no memory.
+    /// Ends a process with an exit status, by its own call (XSH _exit): all its descriptors are closed, its children
+    /// have the parent 1 from then on, and its parent gets CHLD. Where this leaves a group orphaned that has a stopped
+    /// member, each member of that group gets HUP, and then CONT.
+    ///
+    /// `NoProcess` where no such process lives; else `NoMemory`.
     pub fn end(&mut self, pid: u32, status: u8) -> Result<(), KernelFault>
         ensures state { (s : KernelState) → StandsAt self.old s
-            → Gives result self.new (end_call s pid status) }
+            → GivesOrLacks result self.new s (end_call s pid status) }
+        ensures room { (s : KernelState) → StandsAt self.old s
+            → LacksWhereGiven result (end_call s pid status) }
         ensures terminal { self.new.terminal ≡ self.old.terminal }
     {
-        self.machine.end(pid, status)
+        if !self.machine.lives(pid) {
+            return Err(KernelFault::NoProcess);
+        }
+        match self.machine.end(&mut self.members, pid, status) {
+            Ok(()) => Ok(()),
+            Err(lack) => Err(KernelFault::NoMemory(lack)),
+        }
     }
 
-    /// A process starts a program: what it has set aside is closed (XSH exec, `FD_CLOEXEC`). `NoProcess` where no such
-    /// process lives. Takes no memory.
+    /// A process starts a program: what it has set aside is closed (XSH exec, `FD_CLOEXEC`), and what it caught has its
+    /// default action. `NoProcess` where no such process lives. Takes no memory.
     pub fn start_program(&mut self, pid: u32) -> Result<(), KernelFault>
         ensures state { (s : KernelState) → StandsAt self.old s
             → Gives result self.new (start_call s pid) }
         ensures terminal { self.new.terminal ≡ self.old.terminal }
     {
-        self.machine.start_program(pid)
+        if !self.machine.lives(pid) {
+            return Err(KernelFault::NoProcess);
+        }
+        self.machine.start_program(pid);
+        start_program(&mut self.members, pid);
+        Ok(())
     }
 
     /// Reads up to the buffer's length into its front, and says how many bytes these are; 0 is the end of the
@@ -256,13 +301,13 @@ impl Kernel {
     /// result.
     ///
     /// `BadDescriptor` where the process has no such descriptor, or it isn't open for writing; `WouldWait` at
-    /// a pipe without room; `BrokenPipe` at a pipe without a reader: the process was sent SIGPIPE, which
-    /// ended it; `File` with `TooLarge` where a file would be too long; else `NoMemory`.
+    /// a pipe without room; `BrokenPipe` at a pipe without a reader: the process was sent SIGPIPE, which ends it
+    /// unless it ignores or catches that; `File` with `TooLarge` where a file would be too long; else `NoMemory`.
     pub fn write(&mut self, pid: u32, number: u8, bytes: &[u8]) -> Result<usize, KernelFault>
         ensures state { (s : KernelState) → StandsAt self.old s
             → GivesOrLacks result self.new s (write_call s pid number bytes.now) }
         ensures room { (s : KernelState) → StandsAt self.old s
-            → LacksWhereGiven result (write_call s pid number bytes.now) }
+            → LacksWhereDone result (write_call s pid number bytes.now) }
         ensures terminal { Extends self.old.terminal.bytes self.new.terminal.bytes }
     {
         if self
@@ -271,7 +316,10 @@ impl Kernel {
         {
             return show(&mut self.terminal, bytes);
         }
-        self.machine.write(pid, number, bytes)
+        match self.machine.write(pid, number, bytes) {
+            Err(KernelFault::BrokenPipe) => self.break_pipe(pid),
+            given => given,
+        }
     }
 
     /// Succeeds where all these children of a process have ended (XSH waitpid); [`Kernel::status`] tells how

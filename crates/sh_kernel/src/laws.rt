@@ -1,8 +1,9 @@
 //! Laws of requests, over all states.
-ghost use Rattle.sh_kernel.specs.Laws.{ListsChangeOnlyReached, ListsLeaveOwned, ListsLeaveTheTerminal, ListsOnlyGrow, ListsOnlyGrowTheTerminal, ListsReachNoMore, OwnedStaysOwned, RequestsChangeOnlyReached, RequestsOnlyGrow, RequestsReachNoMore, TerminalIsReached, TerminalOnlyGrows};
+ghost use Rattle.sh_kernel.specs.Laws.{KeysOnlyGrow, KeysOnlyGrowTheTerminal, ListsChangeOnlyReached, ListsLeaveOwned, ListsLeaveTheTerminal, ListsOnlyGrow, ListsOnlyGrowTheTerminal, ListsReachNoMore, OwnedStaysOwned, RequestsChangeOnlyReached, RequestsOnlyGrow, RequestsReachNoMore, TerminalIsReached, TerminalOnlyGrows};
 
 /// Law: a request changes only pipes, files and descriptions to which its process's descriptors refer, and
-/// files that it opens. It changes neither the descriptors nor the status of another process that was there.
+/// files that it opens. It changes neither the descriptors nor the status of another process that was there; unless
+/// it sends a signal: then it may also change the status of others that live, and close what those have that it ends.
 /// The same holds of a list of requests of one process.
 pub fn requests_change_what_is_reached()
     ensures one { RequestsChangeOnlyReached }
@@ -24,8 +25,9 @@ pub fn the_terminal_is_reached()
     ensures list { ListsLeaveTheTerminal }
 {}
 
-/// Law: after a request, and after a list of them, the terminal shows what it showed, and perhaps more.
+/// Law: after a request, after a list of them, and after a key the terminal shows what it showed, and perhaps more.
 pub fn the_terminal_only_grows()
+    ensures key { KeysOnlyGrowTheTerminal }
     ensures one { TerminalOnlyGrows }
     ensures list { ListsOnlyGrowTheTerminal }
 {}
@@ -37,10 +39,11 @@ pub fn owned_stays_owned()
     ensures list { ListsLeaveOwned }
 {}
 
-/// Law: after a request, and after a list of them, each description is still of the same target, and each
-/// path names what it named. The lists of processes, descriptions, pipes and nodes are at least as long as
+/// Law: after a request, after a list of them, and after a key each description is still of the same target, and
+/// each path names what it named. The lists of processes, descriptions, pipes and nodes are at least as long as
 /// they were.
 pub fn numbers_only_grow()
+    ensures key { KeysOnlyGrow }
     ensures one { RequestsOnlyGrow }
     ensures list { ListsOnlyGrow }
 {}

@@ -1,5 +1,6 @@
 //! The machine under the processes.
 mod asking;
+mod processes;
 
 ghost use Rattle.sh_base.specs.Memory.{no_memory};
 ghost use Rattle.std.specs.Prelude.{◌≡◌};
@@ -7,11 +8,10 @@ ghost use Rattle.std.specs.Prelude.{length, ◌+◌, ◌<◌, ◌≢◌, IfErr, 
 
 use sh_files::{FileFault, Files, MAX_LENGTH, Opening};
 use sh_kernel_descriptors::{
-    Channel, Closing, Description, DescriptorRef, Entry, FIRST_PID, Held, KernelFault, Process,
-    Status, Target, add, add_pipe, close, copy_all, described, description_of, fault_of_file, find,
-    has_reader, has_writer, is_allowed, is_description, lives, may_fork, move_to, read_file,
-    read_pipe, refer, rename, set_status, target_of, the_terminal, to_terminal, write_node,
-    write_pipe, write_start,
+    Channel, Closing, Description, DescriptorRef, Entry, Held, KernelFault, Process, Status,
+    Target, add, add_pipe, close, described, description_of, fault_of_file, find, has_reader,
+    has_writer, is_allowed, is_description, lives, move_to, read_file, read_pipe, refer, rename,
+    target_of, the_terminal, to_terminal, write_node, write_pipe, write_start,
 };
 use slab::Slab;
 use std::alloc::{AllocError, Global};
@@ -72,18 +72,17 @@ impl Model for Machine {
 }
 
 impl Machine {
-    ghost use Rattle.sh_kernel_descriptors.specs.Machine.{end_call, fork_call, start_call};
     ghost use Rattle.sh_kernel_descriptors.specs.Naming.{after_renaming, with_number, with_pipe, close_call, dup_call, pipe_call, put_back, put_back_call, set_aside_call};
     ghost use Rattle.sh_kernel_descriptors.specs.Opening.{for_reading, here_call, open_call, open_result};
     ghost use Rattle.sh_files.specs.Nodes.{nameless, opened};
     ghost use Rattle.sh_kernel_descriptors.specs.Starting.{starting};
     ghost use Rattle.sh_kernel_descriptors.specs.Kept.{Among, description_at, target_at};
-    ghost use Rattle.sh_kernel_descriptors.specs.Machine.{MachineState, after_close, after_end};
+    ghost use Rattle.sh_kernel_descriptors.specs.Machine.{MachineState, after_close};
     ghost use Rattle.sh_kernel_descriptors.specs.Outcomes.{GivesReadTo, GivesTo, LacksWhereGiven};
     ghost use Rattle.sh_kernel.specs.Machine.{GivesOrLacks, StandsAt};
     ghost use Rattle.sh_kernel_descriptors.specs.Reading.{on_pipes, read_call, read_target};
     ghost use Rattle.sh_kernel_descriptors.specs.Descriptors as names;
-    ghost use Rattle.sh_kernel_descriptors.specs.Writing.{broken_pipe, write_call, write_end, write_file, write_pipe, write_target};
+    ghost use Rattle.sh_kernel_descriptors.specs.Writing.{write_call, write_end, write_file, write_pipe, write_target};
     ghost use Rattle.sh_kernel_descriptors.specs.Writing.{write_node as node_written};
 
     /// The first process, whose descriptors 0, 1 and 2 refer to one description of the terminal, over these files. The
@@ -201,25 +200,6 @@ impl Machine {
         );
     }
 
-    /// Gives a process that has ended a status; its descriptors are closed.
-    fn finish(&mut self, pid: u32, status: Status)
-        ensures { (s : MachineState) → StandsAt self.old s
-            → StandsAt self.new (after_end s pid status) }
-    {
-        self.close_each(pid, Closing::All);
-        set_status(&mut self.processes, pid, status);
-    }
-
-    /// Ends the process that writes to a pipe without a reader (SIGPIPE).
-    fn break_pipe(&mut self, pid: u32) -> Result<usize, KernelFault>
-        ensures memory { IfErr result (λ fault. fault ≢ KernelFault.NoMemory no_memory) }
-        ensures gives { (s : MachineState) → StandsAt self.old s
-            → GivesTo (StandsAt self.new) result (broken_pipe s pid) }
-    {
-        self.finish(pid, Status::Signaled(13));
-        Err(KernelFault::BrokenPipe)
-    }
-
     /// Writes to a pipe that has a reader.
     fn fill(&mut self, pipe: usize, bytes: &[u8]) -> Result<usize, KernelFault>
         ensures memory { IfErr result (λ fault. fault ≢ KernelFault.NoMemory no_memory) }
@@ -248,22 +228,16 @@ impl Machine {
     }
 
     /// Writes to a pipe whose end to write to is at a key.
-    fn write_end(
-        &mut self,
-        pid: u32,
-        pipe: usize,
-        key: usize,
-        bytes: &[u8],
-    ) -> Result<usize, KernelFault>
+    fn write_end(&mut self, pipe: usize, key: usize, bytes: &[u8]) -> Result<usize, KernelFault>
         ensures memory { IfErr result (λ fault. fault ≢ KernelFault.NoMemory no_memory) }
         ensures gives { (s : MachineState) → StandsAt self.old s
             → target_at self.old.entries key ≡ Some (Target.WriteEnd pipe)
-            → GivesTo (StandsAt self.new) result (write_end s pid pipe bytes.now) }
+            → GivesTo (StandsAt self.new) result (write_end s pipe bytes.now) }
     {
         if self.is_read(pipe, key) {
             return self.fill(pipe, bytes);
         }
-        self.break_pipe(pid)
+        Err(KernelFault::BrokenPipe)
     }
 
     /// Writes into a file by a descriptor, whose description's offset moves to the end of what was written.
@@ -295,7 +269,6 @@ impl Machine {
     /// Writes some bytes by a descriptor that is open for writing.
     fn write_target(
         &mut self,
-        pid: u32,
         h: Held,
         description: Description,
         bytes: &[u8],
@@ -304,9 +277,9 @@ impl Machine {
         ensures call { (s : MachineState) → StandsAt self.old s → Among h self.old.held
             → description_at self.old.entries h.key ≡ Some description
             → GivesOrLacks result self.new s
-            (write_target s pid bytes.now h.descriptor.description description description.target) }
+            (write_target s bytes.now h.descriptor.description description description.target) }
         ensures room { (s : MachineState) → StandsAt self.old s → LacksWhereGiven result
-            (write_target s pid bytes.now h.descriptor.description description description.target) }
+            (write_target s bytes.now h.descriptor.description description description.target) }
     {
         match description.target {
             Target::File(node) => {
@@ -316,7 +289,7 @@ impl Machine {
             Target::Terminal => Err(KernelFault::BadDescriptor),
             Target::Null => Ok(bytes.len()),
             Target::ReadEnd(_) => Err(KernelFault::BadDescriptor),
-            Target::WriteEnd(pipe) => self.write_end(pid, pipe, h.key, bytes),
+            Target::WriteEnd(pipe) => self.write_end(pipe, h.key, bytes),
         }
     }
 
@@ -324,9 +297,8 @@ impl Machine {
     /// and to a pipe as its rule says (XSH write). A write of no bytes answers 0 and has no other result.
     ///
     /// `BadDescriptor` where the process has no such descriptor, or it isn't open for writing or refers to
-    /// the terminal; `WouldWait` at a pipe without room; `BrokenPipe` at a pipe without a reader: the process
-    /// was sent SIGPIPE, which ended it; `File` with `TooLarge` where a file would be too long; else
-    /// `NoMemory`.
+    /// the terminal; `WouldWait` at a pipe without room; `BrokenPipe` at a pipe without a reader, whose writer
+    /// is then to be sent SIGPIPE; `File` with `TooLarge` where a file would be too long; else `NoMemory`.
     pub(crate) fn write(&mut self, pid: u32, number: u8, bytes: &[u8]) -> Result<usize, KernelFault>
         ensures call { (s : MachineState) → StandsAt self.old s
             → GivesOrLacks result self.new s (write_call s pid number bytes.now) }
@@ -345,7 +317,7 @@ impl Machine {
         if bytes.is_empty() {
             return Ok(0);
         }
-        self.write_target(pid, h, description, bytes)
+        self.write_target(h, description, bytes)
     }
 
     /// Closes a descriptor (XSH close); a pipe goes with the last descriptor that refers to one of its ends.
@@ -648,57 +620,5 @@ impl Machine {
     {
         self.close_each(pid, Closing::Named(DescriptorRef::Number(number)));
         self.renumber(pid, DescriptorRef::Aside(aside), Some(number));
-    }
-
-    /// Makes a process (XSH fork), and answers its number. The new process has the descriptors of `pid`, but
-    /// for those that are set aside. They refer to the same descriptions, so the processes share offsets.
-    /// `NoProcess` where no such process lives; `TooManyProcesses` where [`MAX_LIVE`](crate::MAX_LIVE) live
-    /// already, or the number would be above [`MAX_PID`](crate::MAX_PID); else `NoMemory`.
-    pub(crate) fn fork(&mut self, pid: u32) -> Result<u32, KernelFault>
-        ensures call { (s : MachineState) → StandsAt self.old s
-            → GivesOrLacks result self.new s (fork_call s pid) }
-        ensures room { (s : MachineState) → StandsAt self.old s
-            → LacksWhereGiven result (fork_call s pid) }
-    {
-        if !lives(&self.processes, pid) {
-            return Err(KernelFault::NoProcess);
-        }
-        if !may_fork(&self.processes) {
-            return Err(KernelFault::TooManyProcesses);
-        }
-        self.processes.reserve(1)?;
-        let child = FIRST_PID + self.processes.len() as u32;
-        copy_all(self.alloc, &mut self.held, &mut self.entries, pid, child)?;
-        self.processes.push_reserved(Process {
-            maker: pid,
-            status: Status::Running,
-        });
-        Ok(child)
-    }
-
-    /// Ends a process with an exit status, by its own call (XSH _exit): all its descriptors are closed.
-    /// `NoProcess` where no such process lives. Takes no memory.
-    pub(crate) fn end(&mut self, pid: u32, status: u8) -> Result<(), KernelFault>
-        ensures { (s : MachineState) → StandsAt self.old s
-            → GivesTo (StandsAt self.new) result (end_call s pid status) }
-    {
-        if !lives(&self.processes, pid) {
-            return Err(KernelFault::NoProcess);
-        }
-        self.finish(pid, Status::Exited(status));
-        Ok(())
-    }
-
-    /// A process starts a program: what it has set aside is closed (XSH exec, FD_CLOEXEC). `NoProcess` where no such
-    /// process lives. Takes no memory.
-    pub(crate) fn start_program(&mut self, pid: u32) -> Result<(), KernelFault>
-        ensures { (s : MachineState) → StandsAt self.old s
-            → GivesTo (StandsAt self.new) result (start_call s pid) }
-    {
-        if !lives(&self.processes, pid) {
-            return Err(KernelFault::NoProcess);
-        }
-        self.close_each(pid, Closing::Asides);
-        Ok(())
     }
 }

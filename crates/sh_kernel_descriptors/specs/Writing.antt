@@ -10,13 +10,12 @@ use Rattle.sh_pipe.specs.declared.PipeFault.{PipeFault}
 use Rattle.sh_kernel_descriptors.specs.Outcomes.{Done, success, refusal, fault_of_file, fault_of_pipe}
 use Rattle.sh_kernel_descriptors.specs.Descriptors.{description_number, has_reader}
 use Rattle.sh_kernel_descriptors.specs.Closings.{Pipes}
-use Rattle.sh_kernel_descriptors.specs.Machine.{MachineState, after_end}
+use Rattle.sh_kernel_descriptors.specs.Machine.{MachineState}
 use Rattle.sh_kernel_descriptors.specs.Reading.{at_place, with_offset, on_pipes}
 use Rattle.sh_kernel_descriptors.specs.declared.descriptor.DescriptorRef.TheVariants.{Number}
 use Rattle.sh_kernel_descriptors.specs.declared.description.Description.{Description}
 use Rattle.sh_kernel_descriptors.specs.declared.description.Target.{Target}
 use Rattle.sh_kernel_descriptors.specs.declared.description.Target.TheVariants.{File, Terminal, Null, ReadEnd, WriteEnd}
-use Rattle.sh_kernel_descriptors.specs.declared.process.Status.TheVariants.{Signaled}
 use Rattle.sh_kernel_descriptors.specs.declared.fault.KernelFault.{KernelFault}
 use Rattle.sh_kernel_descriptors.specs.declared.fault.KernelFault.TheVariants.{BadDescriptor, BrokenPipe}
 
@@ -67,35 +66,32 @@ write_pipe_of ps pipe bytes (Some slot) = at_place ps pipe (write_slot bytes slo
 abbrev pub write_pipe : Pipes → ℕ → List ℕ → Done Pipes ℕ
 write_pipe ps pipe bytes = write_pipe_of ps pipe bytes (slice_get ps pipe)
 
--- the writer to a pipe without a reader is sent SIGPIPE (13), which ends it
-abbrev pub broken_pipe : MachineState → ℕ → Done MachineState ℕ
-broken_pipe s pid = record { answer = Err BrokenPipe; after = after_end s pid (Signaled 13) }
-
-abbrev pub write_end : MachineState → ℕ → ℕ → List ℕ → Done MachineState ℕ
-write_end s pid pipe bytes =
-    if has_reader s.descriptors s.descriptions pipe then on_pipes s (write_pipe s.pipes pipe bytes) else broken_pipe s pid
+-- a pipe without a reader refuses; the writer is also sent SIGPIPE, which is the kernel's part
+abbrev pub write_end : MachineState → ℕ → List ℕ → Done MachineState ℕ
+write_end s pipe bytes =
+    if has_reader s.descriptors s.descriptions pipe then on_pipes s (write_pipe s.pipes pipe bytes) else refusal s BrokenPipe
 
 -- ---- the call
-abbrev pub write_target : MachineState → ℕ → List ℕ → ℕ → Description → Target → Done MachineState ℕ
-write_target s pid bytes k e (File node) =
+abbrev pub write_target : MachineState → List ℕ → ℕ → Description → Target → Done MachineState ℕ
+write_target s bytes k e (File node) =
     write_file s k node bytes (write_node s.files node (write_start s.files node e.append e.offset) bytes)
-write_target s pid bytes k e Terminal = refusal s BadDescriptor
-write_target s pid bytes k e Null = success (length bytes) s
-write_target s pid bytes k e (ReadEnd pipe) = refusal s BadDescriptor
-write_target s pid bytes k e (WriteEnd pipe) = write_end s pid pipe bytes
+write_target s bytes k e Terminal = refusal s BadDescriptor
+write_target s bytes k e Null = success (length bytes) s
+write_target s bytes k e (ReadEnd pipe) = refusal s BadDescriptor
+write_target s bytes k e (WriteEnd pipe) = write_end s pipe bytes
 
 -- a write of no bytes has no other result
-abbrev pub write_described : MachineState → ℕ → List ℕ → ℕ → Option Description → Done MachineState ℕ
-write_described s pid bytes k None = refusal s BadDescriptor
-write_described s pid bytes k (Some e) =
+abbrev pub write_described : MachineState → List ℕ → ℕ → Option Description → Done MachineState ℕ
+write_described s bytes k None = refusal s BadDescriptor
+write_described s bytes k (Some e) =
     if e.writable
-    then (if is_empty bytes then success 0 s else write_target s pid bytes k e e.target)
+    then (if is_empty bytes then success 0 s else write_target s bytes k e e.target)
     else refusal s BadDescriptor
 
-abbrev pub write_found : MachineState → ℕ → List ℕ → Option ℕ → Done MachineState ℕ
-write_found s pid bytes None = refusal s BadDescriptor
-write_found s pid bytes (Some k) = write_described s pid bytes k (slice_get s.descriptions k)
+abbrev pub write_found : MachineState → List ℕ → Option ℕ → Done MachineState ℕ
+write_found s bytes None = refusal s BadDescriptor
+write_found s bytes (Some k) = write_described s bytes k (slice_get s.descriptions k)
 
 -- the process writes by its descriptor what can be written at once
 abbrev pub write_call : MachineState → ℕ → ℕ → List ℕ → Done MachineState ℕ
-write_call s pid number bytes = write_found s pid bytes (description_number s.descriptors pid (Number number))
+write_call s pid number bytes = write_found s bytes (description_number s.descriptors pid (Number number))

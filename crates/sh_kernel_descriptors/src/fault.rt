@@ -9,7 +9,7 @@ use sh_pipe::PipeFault;
 use std::alloc::AllocError;
 use thiserror::Error;
 
-/// Why a call on a kernel was refused. After a refusal nothing has changed, but for [`KernelFault::BrokenPipe`].
+/// Why a call on a kernel was refused. After a refusal nothing has changed, but that [`KernelFault::BrokenPipe`] comes with a signal.
 #[derive(Clone, Copy, Debug, PartialEq, Eq, Error)]
 pub enum KernelFault {
     /// The process has no such descriptor, or it isn't open for that (EBADF).
@@ -27,7 +27,7 @@ pub enum KernelFault {
     /// The call can't be done yet.
     #[error("the call would wait")]
     WouldWait,
-    /// The pipe has no reader (EPIPE). The writer was sent SIGPIPE, which ended it.
+    /// The pipe has no reader (EPIPE). The writer was sent SIGPIPE, which ends it unless it ignores or catches that signal.
     #[error("broken pipe")]
     BrokenPipe,
     /// The files refuse it.

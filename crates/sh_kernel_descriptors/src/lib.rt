@@ -25,8 +25,8 @@ pub use naming::{MAX_DESCRIPTORS, add, add_pipe, is_allowed, is_description, ref
 pub use opening::{description_of, is_of_terminal, target_of, the_terminal, to_terminal};
 pub use process::{Process, Status};
 pub use processes::{
-    FIRST_PID, MAX_LIVE, MAX_PID, all_children, all_ended, copy_all, lives, may_fork, parent_at,
-    set_status, status_at,
+    FIRST_PID, MAX_LIVE, MAX_PID, all_children, all_ended, copy_all, has_ended, lives, may_fork,
+    parent_at, set_status, status_at,
 };
 pub use reading::{read_file, read_pipe};
 pub use waiting::{is_running, read_pipe_waits, write_pipe_waits};

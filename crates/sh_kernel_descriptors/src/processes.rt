@@ -182,7 +182,8 @@ fn is_child(all: &[Process], pid: u32, child: u32) -> bool
     process_at(all, child).is_some_and(|process| process.maker == pid)
 }
 
-fn has_ended(all: &[Process], pid: u32) -> bool
+/// Whether there was a process of this number, and it has ended.
+pub fn has_ended(all: &[Process], pid: u32) -> bool
     ensures { result ≡ processes.has_ended all.now pid }
 {
     process_at(all, pid).is_some_and(|process| !is_living(&process))

@@ -7,15 +7,17 @@
 //!   `ready`, `group`, `group NUMBER`, `shown`, one after another.
 use crate::steps::{bytes_of, count, is, number_of, process, say, truth, word};
 use sh_rows::RowFault;
-use sh_tty::{Signal, Tty, TtyFault};
+use sh_signal::Signal;
+use sh_tty::{Tty, TtyFault};
 use std::alloc::Global;
 
-/// The letter of a signal's key.
+/// The letter of a signal's key; `?` where no key raises the signal.
 fn letter(signal: Signal) -> u8 {
     match signal {
         Signal::Interrupt => b'C',
         Signal::Quit => b'Q',
-        Signal::Suspend => b'Z',
+        Signal::TerminalStop => b'Z',
+        _ => b'?',
     }
 }
 
@@ -159,13 +161,19 @@ pub(crate) fn answers(alloc: Global, steps: &[u8]) -> Result<Vec<u8>, RowFault> 
     Ok(said)
 }
 
-/// The numbers of the signals of keys.
+/// The numbers of the signals that keys raise; 0 where a key raises none.
 pub(crate) fn numbers(alloc: Global) -> Result<Vec<u8>, RowFault> {
+    let mut tty = Tty::new(alloc, 100);
     let mut said = Vec::new(alloc);
-    for signal in [Signal::Interrupt, Signal::Quit, Signal::Suspend] {
-        let number = signal.number();
+    for key in [3u8, 28, 26] {
+        let number = match tty.key(key) {
+            Ok(Some(signal)) => signal.number(),
+            Ok(None) => 0,
+            Err(_) => return Err(RowFault::NoMemory),
+        };
         let text = format!(in alloc; "{number}")?;
         say(&mut said, text.as_bytes())?;
     }
+    drop(tty);
     Ok(said)
 }

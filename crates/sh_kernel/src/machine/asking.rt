@@ -155,9 +155,9 @@ impl Machine {
 
     /// Whether a write by the description at a key would wait.
     fn write_target_waits(&self, key: usize, description: Description, count: usize) -> bool
-        ensures { (s : MachineState) → StandsAt self.now s → (bytes : List ℕ) (pid k : ℕ)
+        ensures { (s : MachineState) → StandsAt self.now s → (bytes : List ℕ) (k : ℕ)
             → length bytes ≡ count → description_at self.now.entries key ≡ Some description
-            → result ≡ waits (write_target s pid bytes k description description.target).answer }
+            → result ≡ waits (write_target s bytes k description description.target).answer }
     {
         match description.target {
             Target::WriteEnd(pipe) => {
