@@ -34,5 +34,4 @@ abbrev pub written_by : Piece → Finish → WriteOutcome → Active
 written_by piece finish given.Whole = after_writing finish
 written_by piece finish (given.Part count) = Next (Writing (record piece { bytes = drop count piece.bytes }) finish)
 written_by piece finish given.Wait = Next (Writing piece finish)
-written_by piece finish given.Ended = Next (Writing piece finish)
 written_by piece finish given.Failed = unwritten finish

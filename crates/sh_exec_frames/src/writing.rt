@@ -72,7 +72,6 @@ pub fn after_write(
             Ok(Active::Next(Action::Writing(rest, finish)))
         },
         WriteOutcome::Wait => Ok(Active::Next(Action::Writing(piece, finish))),
-        WriteOutcome::Ended => Ok(Active::Next(Action::Writing(piece, finish))),
         WriteOutcome::Failed => unwritten(alloc, finish),
     }
 }

@@ -24,14 +24,15 @@ pub record Taking : Type 0 where
 unfoldable pub take_bytes : KernelState → ℕ → DescriptorRef → ℕ → Taking
 take_bytes s pid name count = let d = read_call s pid name count in record { told = taken_by d.answer; after = d.after }
 
--- a write to a pipe without a reader ends its process (XSH write, SIGPIPE)
+-- a write to a pipe without a reader fails; the kernel also sends SIGPIPE, which ends the process that neither ignores nor catches it (XSH
+-- write, EPIPE)
 abbrev pub refused_by : KernelFault → WriteOutcome
 refused_by fault.BadDescriptor = given.Failed
 refused_by fault.NoProcess = given.Failed
 refused_by fault.TooManyProcesses = given.Failed
 refused_by fault.TooManyDescriptors = given.Failed
 refused_by fault.WouldWait = given.Wait
-refused_by fault.BrokenPipe = given.Ended
+refused_by fault.BrokenPipe = given.Failed
 refused_by (fault.File f) = given.Failed
 refused_by (fault.NoMemory _) = given.Failed
 

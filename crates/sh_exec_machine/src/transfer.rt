@@ -30,9 +30,7 @@ pub enum WriteOutcome {
     Part(usize),
     /// None yet.
     Wait,
-    /// Its process was ended by a signal.
-    Ended,
-    /// It failed.
+    /// It failed; at a pipe without a reader the process was also sent SIGPIPE.
     Failed,
 }
 
@@ -90,7 +88,7 @@ fn refused(fault: KernelFault) -> WriteOutcome
         KernelFault::TooManyProcesses => WriteOutcome::Failed,
         KernelFault::TooManyDescriptors => WriteOutcome::Failed,
         KernelFault::WouldWait => WriteOutcome::Wait,
-        KernelFault::BrokenPipe => WriteOutcome::Ended,
+        KernelFault::BrokenPipe => WriteOutcome::Failed,
         KernelFault::File(_) => WriteOutcome::Failed,
         KernelFault::NoMemory(_) => WriteOutcome::Failed,
     }

@@ -27,7 +27,10 @@ use Rattle.sh_exec_forms.specs.Moves.{move_run}
 use Rattle.sh_exec_forms.specs.Stacks.{run_in}
 use Rattle.sh_exec_frames.specs.Frames.{root_forms}
 use Rattle.sh_exec_forms.specs.Running.{InterpreterState, Run, At}
+use Rattle.sh_kernel.specs.Calls.{after_set_action}
 use Rattle.sh_kernel.specs.State.{KernelKept, KernelState, StandsAt}
+use Rattle.sh_kernel_signals.specs.declared.member.SignalAction.TheVariants.{Ignored}
+use Rattle.sh_signal.specs.declared.signal.Signal.TheVariants.{Interrupt, Quit}
 use Rattle.sh_syntax.specs.declared.tree.AndOr.{AndOr}
 use Rattle.sh_syntax.specs.declared.tree.Command.{Command}
 use Rattle.sh_syntax.specs.declared.tree.CompoundList.{CompoundList}
@@ -93,6 +96,19 @@ stage_input Sequential before aside shell s = record { aside = aside; after = s 
 stage_input Asynchronous [] aside shell s = null_laid shell.vars.directory s shell.pid
 stage_input Asynchronous (child ∷ children) aside shell s = record { aside = aside; after = s }
 
+-- where there is no job control the processes of an asynchronous list ignore INT and QUIT (2.12)
+abbrev pub is_beside : Separator → Bool
+is_beside Sequential = false
+is_beside Asynchronous = true
+
+abbrev pub ignoring_keys : KernelState → (pid : ℕ) → KernelState
+ignoring_keys s pid = after_set_action (after_set_action s pid Interrupt Ignored) pid Quit Ignored
+
+abbrev pub guarded : (beside : Bool) → (child : Option ℕ) → KernelState → KernelState
+guarded false child s = s
+guarded true None s = s
+guarded true (Some child) s = ignoring_keys s child
+
 abbrev pub is_more : List Command → Bool
 is_more commands = not (nat_eq (length commands) 0)
 
@@ -108,7 +124,7 @@ unfoldable pub stage_one : KernelState → Shell → Command → Stages → Turn
 stage_one s shell command stages =
     let l = stage_input stages.separator stages.children stages.aside shell s in
     let f = fork_of l.after shell.pid l.aside (is_more stages.commands) in
-    stage_by f.after shell command (record stages { aside = f.aside }) f.child
+    stage_by (guarded (is_beside stages.separator) f.child f.after) shell command (record stages { aside = f.aside }) f.child
 
 abbrev pub stage_from : KernelState → Shell → Stages → List Command → Turned
 stage_from s shell stages [] = with_child s shell (At (Next (Waiting stages.children))) None
@@ -126,7 +142,7 @@ list_by s shell list None = with_child s shell (At (fatal cannot_fork)) None
 unfoldable pub list_turn : KernelState → Shell → AndOr → Turned
 list_turn s shell list =
     let l = null_laid shell.vars.directory s shell.pid in
-    let f = fork_of l.after shell.pid l.aside false in list_by f.after shell list f.child
+    let f = fork_of l.after shell.pid l.aside false in list_by (guarded true f.child f.after) shell list f.child
 
 -- ---- a command substitution (2.6.3)
 -- where it can't have a process, what the command changed is undone after the message

@@ -7,7 +7,7 @@ ghost use Rattle.sh_exec_command.specs.Expanding as expanding;
 ghost use Rattle.sh_exec_actions.specs.Preparing.{ahead};
 ghost use Rattle.sh_exec_actions.specs.Statuses.{unexcused};
 ghost use Rattle.sh_exec_machine.specs.Forking.{HasForked, HasLaid, null_laid};
-ghost use Rattle.sh_exec_shell.specs.Forks.{IsTurned, begun_substitution, child_of, fork_turn, in_process, inherited, inheriting, inside, is_more, list_by, list_turn, made_place, made_shell, program_by, stage_by, stage_from, stage_input, stage_one, stage_shell, stage_turn, stage_place, substitute_turn, substitution_by, with_child, fork_failure};
+ghost use Rattle.sh_exec_shell.specs.Forks.{IsTurned, begun_substitution, child_of, fork_turn, guarded, ignoring_keys, in_process, inherited, inheriting, inside, is_beside, is_more, list_by, list_turn, made_place, made_shell, program_by, stage_by, stage_from, stage_input, stage_one, stage_shell, stage_turn, stage_place, substitute_turn, substitution_by, with_child, fork_failure};
 ghost use Rattle.sh_exec_forms.specs.Bodies.{body_of, stage_run};
 ghost use Rattle.sh_exec_forms.specs.Entering.{and_or_run};
 ghost use Rattle.sh_exec_forms.specs.Moves.{move_run};
@@ -31,6 +31,8 @@ use sh_exec_machine::{Forked, fork_process, lay_null_input};
 use sh_exec_parts::Queue;
 use sh_exec_parts::message::cannot_fork;
 use sh_kernel::Kernel;
+use sh_kernel_signals::SignalAction;
+use sh_signal::Signal;
 use sh_syntax::tree::{AndOr, Command, CompoundList, Separator};
 use std::alloc::Global;
 use std::slice;
@@ -228,6 +230,40 @@ fn stage_input(
     }
 }
 
+/// Whether the shell goes on beside a list.
+fn is_beside(separator: Separator) -> bool
+    ensures { result ≡ is_beside separator }
+{
+    match separator {
+        Separator::Sequential => false,
+        Separator::Asynchronous => true,
+    }
+}
+
+/// A process ignores the signals of two keys.
+fn ignore_keys(kernel: &mut Kernel, pid: u32)
+    ensures state { (s : KernelState) → StandsAt kernel.old s
+        → StandsAt kernel.new (ignoring_keys s pid) }
+    ensures terminal { kernel.new.terminal ≡ kernel.old.terminal }
+{
+    kernel.set_action(pid, Signal::Interrupt, SignalAction::Ignored);
+    kernel.set_action(pid, Signal::Quit, SignalAction::Ignored);
+}
+
+/// Where the shell goes on beside a process that it made, that one ignores INT and QUIT, as there is no job control (XCU 2.12).
+fn guard(kernel: &mut Kernel, is_beside: bool, child: Option<u32>)
+    ensures state { (s : KernelState) → StandsAt kernel.old s
+        → StandsAt kernel.new (guarded is_beside child s) }
+    ensures terminal { kernel.new.terminal ≡ kernel.old.terminal }
+{
+    if !is_beside {
+        return;
+    }
+    if let Some(child) = child {
+        ignore_keys(kernel, child);
+    }
+}
+
 /// The process of a stage is made.
 fn put_stage(
     alloc: Global,
@@ -294,6 +330,7 @@ fn stage_one(
             return Err(lack);
         },
     };
+    guard(kernel, is_beside(separator), forked.child);
     match forked.child {
         Some(child) => {
             let made = match put_stage(alloc, shell, ignores_failure, command, child) {
@@ -408,6 +445,7 @@ pub(crate) fn list_turn(
             return Err(lack);
         },
     };
+    guard(kernel, true, forked.child);
     match forked.child {
         Some(child) => {
             let made = put_list(alloc, shell, ignores_failure, list, child)?;

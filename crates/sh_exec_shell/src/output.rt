@@ -11,7 +11,7 @@ use sh_base::NoMemory;
 use sh_builtin::Shell;
 use sh_exec_actions::{Action, Active, Finish};
 use sh_exec_frames::after_write;
-use sh_exec_machine::give_bytes;
+use sh_exec_machine::{end_process, give_bytes};
 use sh_exec_parts::message::Piece;
 use sh_kernel::Kernel;
 use std::alloc::Global;
@@ -36,11 +36,11 @@ pub(crate) fn write_turn(
 
 /// The end of the process.
 #[tactic(auto, unfolding(crate::specs::Acting::end_turn))]
-pub(crate) fn end_turn(kernel: &mut Kernel, shell: &Shell, status: u8) -> Active
-    ensures state { (s : KernelState) → StandsAt kernel.old s
-        → IsActed kernel.new shell.now (Run.At result) (end_turn s shell.now status) }
+pub(crate) fn end_turn(kernel: &mut Kernel, shell: &Shell, status: u8) -> Result<Active, NoMemory>
+    ensures state { (s : KernelState) → StandsAt kernel.old s → IfOk result (λ active.
+        IsActed kernel.new shell.now (Run.At active) (end_turn s shell.now status)) }
     ensures terminal { kernel.new.terminal.bytes ≡ kernel.old.terminal.bytes }
 {
-    let _ended = kernel.end(shell.pid, status);
-    Active::Next(Action::Ending(status))
+    end_process(kernel, shell.pid, status)?;
+    Ok(Active::Next(Action::Ending(status)))
 }

@@ -359,7 +359,10 @@ fn act_place(
             let active = trap(alloc, kernel, shell, frames, status)?;
             Ok((active, None))
         },
-        Action::Ending(status) => Ok((end_turn(kernel, shell, status), None)),
+        Action::Ending(status) => {
+            let active = end_turn(kernel, shell, status)?;
+            Ok((active, None))
+        },
     }
 }
 
