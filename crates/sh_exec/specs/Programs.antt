@@ -48,7 +48,6 @@ abbrev pub write_by : {S : Type 0} → Meaning S → List ℕ → S → WriteOut
 write_by m bytes program given.Whole = asking m program answer.Done
 write_by m bytes program (given.Part count) = asks (Write (drop count bytes)) program
 write_by m bytes program given.Wait = asks (Write bytes) program
-write_by m bytes program given.Ended = asks (Write bytes) program
 write_by m bytes program given.Failed = asking m program answer.Failed
 
 unfoldable pub write_turn : {S : Type 0} → Meaning S → KernelState → ℕ → List ℕ → S → Left (ProgramState S)
@@ -57,7 +56,7 @@ write_turn m s pid bytes program = let g = give_bytes s pid 1 bytes in with_next
 unfoldable pub end_turn : {S : Type 0} → KernelState → ℕ → ℕ → S → Left (ProgramState S)
 end_turn s pid status program = with_next (end_call s pid status).after (asks (End status) program)
 
--- no signal stops a process yet, so one that asks to be stopped goes on at once
+-- no script can continue a process yet, so one that asks to be stopped goes on at once
 abbrev pub ask_turn : {S : Type 0} → Meaning S → KernelState → ℕ → Ask → S → Left (ProgramState S)
 ask_turn m s pid (Read count) program = read_turn m s pid count program
 ask_turn m s pid (Write bytes) program = write_turn m s pid bytes program

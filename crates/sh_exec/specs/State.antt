@@ -2,6 +2,7 @@
 use Rattle.std.specs.Prelude.{ℕ, ◌==◌, List, [], ◌∷◌, Option, Some, None, find, if◌then◌else◌}
 use Rattle.sh_files.specs.Nodes.{FileMap}
 use Rattle.sh_kernel.specs.State as kernel
+use Rattle.sh_kernel.specs.Calls.{after_key}
 use Rattle.sh_kernel.specs.State.{KernelState}
 use Rattle.sh_kernel_descriptors.specs.Processes.{lives, status_at}
 use Rattle.sh_kernel_descriptors.specs.declared.process.Status.{Status}
@@ -11,6 +12,7 @@ use Rattle.sh_tty.specs.Happenings.{bytes_of}
 use Rattle.sh_exec.specs.Choice.{choice}
 use Rattle.sh_exec.specs.Processes.{TasksTurned, living, runnable_pids, turn_among, with_child}
 use Rattle.sh_exec.specs.declared.event.Event.{Event}
+use Rattle.sh_exec.specs.declared.event.Event.TheVariants.{Run, Next, Key}
 use Rattle.sh_exec.specs.declared.jobs.Jobs.{Jobs}
 use Rattle.sh_exec.specs.Tasks.{first_pid, first_task, pid_of}
 use Rattle.sh_exec.specs.declared.settings.Settings.{Settings}
@@ -57,9 +59,22 @@ abbrev pub turn_of : {S : Type 0} → Meaning S → State S → Option ℕ → S
 turn_of m s None = s
 turn_of m s (Some pid) = after_turn m s pid
 
--- one event: a turn of the process that it chooses, and nothing where none is runnable
+-- a turn of the process that the event chooses, and nothing where none is runnable
+abbrev pub chosen_turn : {S : Type 0} → Meaning S → State S → Event → State S
+chosen_turn m s event = turn_of m s (choice event s.last (runnables s))
+
+-- a key comes to the terminal, and may end processes; after the first shell's end it changes nothing
+abbrev pub with_key : {S : Type 0} → State S → ℕ → State S
+with_key s byte = let machine = after_key s.machine byte in record s { machine = machine; tasks = living machine s.tasks }
+
+abbrev pub typed : {S : Type 0} → State S → ℕ → State S
+typed s byte = if lives s.machine.machine.processes first_pid then with_key s byte else s
+
+-- one event
 abbrev pub step : {S : Type 0} → Meaning S → State S → Event → State S
-step m s event = turn_of m s (choice event s.last (runnables s))
+step m s (Run place) = chosen_turn m s (Run place)
+step m s Next = chosen_turn m s Next
+step m s (Key byte) = typed s byte
 
 -- events in order
 abbrev pub run : {S : Type 0} → Meaning S → State S → List Event → State S

@@ -6,7 +6,7 @@ ghost use Rattle.sh_exec.specs.Programs.{HasLeft, ask_turn, asking, asks, end_tu
 
 use sh_base::NoMemory;
 use sh_base::sequence::Text;
-use sh_exec_machine::{ReadOutcome, WriteOutcome, give_bytes, take_bytes};
+use sh_exec_machine::{ReadOutcome, WriteOutcome, end_process, give_bytes, take_bytes};
 use sh_kernel::{DescriptorRef, Kernel};
 use sh_stock::{Answer, Ask, Stock};
 use std::alloc::Global;
@@ -85,7 +85,6 @@ fn write_by<S: Stock>(
             Ok(Ask::Write(rest))
         },
         WriteOutcome::Wait => Ok(Ask::Write(bytes)),
-        WriteOutcome::Ended => Ok(Ask::Write(bytes)),
         WriteOutcome::Failed => asking(alloc, program, Answer::Failed),
     }
 }
@@ -111,14 +110,18 @@ fn write_turn<S: Stock>(
 
 /// A program ends.
 #[tactic(auto, unfolding(crate::specs::Programs::end_turn))]
-fn end_turn<S: Stock>(kernel: &mut Kernel, pid: u32, status: u8, _program: &mut S) -> Ask
-    ensures state { (s : KernelState) → StandsAt kernel.old s
-        → HasLeft kernel.new (asks result _program.new)
-        (end_turn s pid status _program.old) }
+fn end_turn<S: Stock>(
+    kernel: &mut Kernel,
+    pid: u32,
+    status: u8,
+    _program: &mut S,
+) -> Result<Ask, NoMemory>
+    ensures state { (s : KernelState) → StandsAt kernel.old s → IfOk result (λ ask.
+        HasLeft kernel.new (asks ask _program.new) (end_turn s pid status _program.old)) }
     ensures terminal { kernel.new.terminal.bytes ≡ kernel.old.terminal.bytes }
 {
-    let _ended = kernel.end(pid, status);
-    Ask::End(status)
+    end_process(kernel, pid, status)?;
+    Ok(Ask::End(status))
 }
 
 /// One turn of a program in the process `pid`: what it asks is done, and it takes the answer.
@@ -153,7 +156,7 @@ pub(crate) fn ask_turn<S: Stock>(
             Ok(next)
         },
         Ask::End(status) => {
-            let next = end_turn(kernel, pid, status, program);
+            let next = end_turn(kernel, pid, status, program)?;
             Ok(next)
         },
     }

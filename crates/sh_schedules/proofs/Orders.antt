@@ -2,7 +2,7 @@
 use Rattle.std.proofs.Common.{◌≡◌, ℕ, zero, suc, ◌-◌, ◌<◌, ◌≤◌, ◌⊎◌, inl, inr, Bool, true, false, nat_eq, Option, Some, None, List, [], ◌∷◌, ◌++◌, length, refl, sym, ap, ◌∙◌, subst, arith, if◌then◌else◌}
 use Rattle.std.proofs.lemmas.Bool.{eqb-true, eqb-false, ltb-true}
 use Rattle.sh_exec.specs.declared.event.Event.{Event}
-use Rattle.sh_exec.specs.declared.event.Event.TheVariants.{Run, Next}
+use Rattle.sh_exec.specs.declared.event.Event.TheVariants.{Run, Next, Key}
 use Rattle.sh_schedules.specs.Schedules.{IsSchedule, Machine, cost, cost_by, last_place, place_of}
 use Rattle.sh_schedules.specs.Choices.{In, begun, begun_by, choices, choices_by, of_choices, others_below, places_below, schedules}
 
@@ -245,3 +245,4 @@ complete w k (suc n) s (Run p ∷ es) h =
     (fit_is_choice (last_place w s) (length (w.runnable s)) k p h.turns.0 fits)
     (complete w (k - cost w s (Run p)) n (w.step s (Run p)) es (rest_of w k n s p es h))
 complete w k (suc n) s (Next ∷ es) h = absurd h.turns.0
+complete w k (suc n) s (Key byte ∷ es) h = absurd h.turns.0

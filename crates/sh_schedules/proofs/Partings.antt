@@ -1,7 +1,7 @@
 -- Where two schedules part, as far as they have turns in common.
 use Rattle.std.proofs.Common.{◌≡◌, ◌≢◌, ◌⊎◌, inl, inr, ℕ, zero, suc, ◌+◌, ◌-◌, ◌<◌, ◌≤◌, List, [], ◌∷◌, length, Bool, true, false, Option, Some, None, refl, sym, ap, ◌∙◌, subst, arith, if◌then◌else◌, slice_get}
 use Rattle.sh_exec.specs.declared.event.Event.{Event}
-use Rattle.sh_exec.specs.declared.event.Event.TheVariants.{Run, Next}
+use Rattle.sh_exec.specs.declared.event.Event.TheVariants.{Run, Next, Key}
 use Rattle.sh_exec.specs.State.{State}
 use Rattle.sh_world.specs.World.{WorldKept, WorldStands}
 use Rattle.sh_schedules.specs.Schedules.{AreTurns, IsTurn, Machine, end_of}
@@ -77,15 +77,19 @@ within (p ∷ ps) (suc i) h = within ps i (omega arith)
 moves : {A : Type 0} (w : Machine A) (s : A) (e : Event) → IsTurn w s e → (pid : ℕ) × (mover w s e ≡ Some pid)
 moves w s (Run place) h = within (w.runnable s) place h
 moves w s Next h = absurd h
+moves w s (Key byte) h = absurd h
 
 same_event : {A : Type 0} (w : Machine A) (s : A) (e f : Event) → IsTurn w s e → is_same_turn e f ≡ true → e ≡ f
 same_event w s (Run place) (Run other) h same = let e : place ≡ other = grind (same, arith) in ap Run e
 same_event w s (Run place) Next h same = cc
+same_event w s (Run place) (Key byte) h same = cc
 same_event w s Next f h same = absurd h
+same_event w s (Key byte) f h same = absurd h
 
 none_left : {A : Type 0} (w : Machine A) (n : ℕ) (s : A) (e : Event) (es : List Event) → IsOver w n s [] → IsTurn w s e → length (e ∷ es) ≤ n → ⊥
 none_left w n s (Run place) es (inl none) turn few = let no : length (w.runnable s) ≡ 0 = ap length none in omega arith
 none_left w n s Next es (inl none) turn few = turn
+none_left w n s (Key byte) es (inl none) turn few = turn
 none_left w n s e es (inr all) turn few = omega arith
 
 part_here : {A : Type 0} (w : Machine A) (s : A) (common : ℕ) (e f : Event) (es fs : List Event) → is_same_turn e f ≡ false → IsTurn w s e → IsTurn w s f → DoesPart w s common (e ∷ es) (f ∷ fs)

@@ -1,21 +1,27 @@
 -- Where two schedules part: the first turn that they give to different processes.
 use Rattle.std.specs.Prelude.{◌≡◌, ◌≢◌, ℕ, ◌+◌, List, [], ◌∷◌, Bool, true, false, Option, Some, None, if◌then◌else◌, nat_eq, slice_get}
 use Rattle.sh_exec.specs.declared.event.Event.{Event}
-use Rattle.sh_exec.specs.declared.event.Event.TheVariants.{Run, Next}
+use Rattle.sh_exec.specs.declared.event.Event.TheVariants.{Run, Next, Key}
 use Rattle.sh_schedules.specs.Schedules.{IsSchedule, Machine}
 use Rattle.sh_schedules.specs.declared.parting.Parting.{Parting}
 
--- the events name the same place
+-- the events name the same place; a schedule has no keys
 abbrev pub is_same_turn : Event → Event → Bool
 is_same_turn (Run place) (Run other) = nat_eq place other
 is_same_turn (Run place) Next = false
+is_same_turn (Run place) (Key byte) = false
 is_same_turn Next (Run other) = false
 is_same_turn Next Next = true
+is_same_turn Next (Key byte) = false
+is_same_turn (Key byte) (Run other) = false
+is_same_turn (Key byte) Next = false
+is_same_turn (Key byte) (Key other) = nat_eq byte other
 
 -- the process that an event gives the turn to, by its place among those that can take one
 abbrev pub mover : {A : Type 0} → Machine A → A → Event → Option ℕ
 mover w s (Run place) = slice_get (w.runnable s) place
 mover w s Next = None
+mover w s (Key byte) = None
 
 abbrev pub parting_by : (common : ℕ) → Option ℕ → Option ℕ → Option Parting
 parting_by common None second = None

@@ -1,7 +1,7 @@
 -- The schedules of a machine whose processes take turns, and how many of the turns are preemptions.
 use Rattle.std.specs.Prelude.{◌≡◌, ℕ, ◌+◌, ◌<◌, ◌≤◌, ◌⊎◌, List, [], ◌∷◌, length, Option, Some, None, if◌then◌else◌, nat_eq, ◌==◌, position}
 use Rattle.sh_exec.specs.declared.event.Event.{Event}
-use Rattle.sh_exec.specs.declared.event.Event.TheVariants.{Run, Next}
+use Rattle.sh_exec.specs.declared.event.Event.TheVariants.{Run, Next, Key}
 
 -- a machine: what an event makes of a state, which processes can take a turn there, and which one took the last turn
 pub record Machine (A : Type 0) : Type 0 where
@@ -30,6 +30,7 @@ cost_by (Some here) place = if nat_eq place here then 0 else 1
 abbrev pub cost : {A : Type 0} → Machine A → A → Event → ℕ
 cost w s (Run place) = cost_by (last_place w s) place
 cost w s Next = 0
+cost w s (Key byte) = 0
 
 -- how many of the turns are preemptions
 abbrev pub preemptions : {A : Type 0} → Machine A → A → List Event → ℕ
@@ -40,6 +41,7 @@ preemptions w s (e ∷ es) = cost w s e + preemptions w (w.step s e) es
 abbrev pub IsTurn : {A : Type 0} → Machine A → A → Event → Type 0
 IsTurn w s (Run place) = place < length (w.runnable s)
 IsTurn w s Next = ⊥
+IsTurn w s (Key byte) = ⊥
 
 abbrev pub AreTurns : {A : Type 0} → Machine A → A → List Event → Type 0
 AreTurns w s [] = Unit {0}

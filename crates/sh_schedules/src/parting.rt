@@ -35,7 +35,10 @@ fn is_same_turn(one: Event, other: Event) -> bool
     match (one, other) {
         (Event::Run(place), Event::Run(other)) => place == other,
         (Event::Next, Event::Next) => true,
+        (Event::Key(byte), Event::Key(other)) => byte == other,
         (Event::Run(_), Event::Next) | (Event::Next, Event::Run(_)) => false,
+        (Event::Run(_), Event::Key(_)) | (Event::Key(_), Event::Run(_)) => false,
+        (Event::Next, Event::Key(_)) | (Event::Key(_), Event::Next) => false,
     }
 }
 
@@ -48,6 +51,7 @@ fn mover<S: Stock>(world: &World<S>, event: Event) -> Result<Option<u32>, NoMemo
     match event {
         Event::Run(place) => Ok(pids.get(place as usize).copied()),
         Event::Next => Ok(None),
+        Event::Key(_) => Ok(None),
     }
 }
 

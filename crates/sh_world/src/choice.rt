@@ -34,5 +34,6 @@ pub(crate) fn choose(event: Event, last: Option<u32>, runnable: &[u32]) -> Optio
     match event {
         Event::Run(k) => runnable.get(k as usize % runnable.len()).copied(),
         Event::Next => next_pid(last, runnable),
+        Event::Key(_) => None,
     }
 }

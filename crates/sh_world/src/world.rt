@@ -1,10 +1,10 @@
 //! A world: processes over a kernel, moved by events.
-ghost use Rattle.std.specs.Prelude.{◌≡◌, ℕ, ◌<◌, List, OnOk, OnErr, IsErr, IfOk, Some, None, length, take, option_copied, option_map};
+ghost use Rattle.std.specs.Prelude.{◌≡◌, ℕ, ◌<◌, List, OnOk, OnErr, IsErr, IfOk, Option, Some, None, length, take, option_copied, option_map};
 ghost use Rattle.sh_kernel.specs.State.{KernelState, StandsAt};
 ghost use Rattle.sh_tty.specs.Terminal.{Extends};
 ghost use Rattle.sh_exec.specs.Choice.{choice};
 ghost use Rattle.sh_world.specs.World.{IsSpent, PartsStand, WorldKept, WorldStands, shown_of};
-ghost use Rattle.sh_exec.specs.State.{State, after_turn, end_of, ended_of, files_of, run, runnables, start, status_of, step, task_of, terminal_of, turn_of};
+ghost use Rattle.sh_exec.specs.State.{State, after_turn, chosen_turn, end_of, ended_of, files_of, run, runnables, start, status_of, step, task_of, terminal_of, turn_of, typed};
 
 use crate::choice::choose;
 use crate::tasks::{is_living, keep_living, put_child, runnable_pids, task_among, turn_among};
@@ -98,6 +98,38 @@ fn turn<S: Stock>(
     Ok(())
 }
 
+/// The turn of the process that an event chooses.
+fn chosen_turn<S: Stock>(
+    alloc: Global,
+    event: Event,
+    kernel: &mut Kernel,
+    tasks: &mut Vec<Task<S>>,
+    last: &mut Option<u32>,
+) -> Result<(), NoMemory>
+    ensures step { (s : State S) → PartsStand kernel.old tasks.old.items last.old s
+        → OnOk result (PartsStand kernel.new tasks.new.items last.new (chosen_turn S.meaning s event)) }
+    ensures extends { Extends kernel.old.terminal.bytes kernel.new.terminal.bytes }
+{
+    let Some(pid) = chosen_by(alloc, event, kernel, tasks.as_slice(), *last)? else {
+        return Ok(());
+    };
+    turn(alloc, kernel, tasks, last, pid)?;
+    Ok(())
+}
+
+/// A key comes to the terminal.
+fn press<S: Stock>(kernel: &mut Kernel, tasks: &mut Vec<Task<S>>, byte: u8) -> Result<(), NoMemory>
+    ensures step { (last : Option ℕ) (s : State S) → PartsStand kernel.old tasks.old.items last s
+        → OnOk result (PartsStand kernel.new tasks.new.items last (typed s byte)) }
+    ensures extends { Extends kernel.old.terminal.bytes kernel.new.terminal.bytes }
+{
+    if is_living(kernel, FIRST_PID) {
+        kernel.key(byte)?;
+        keep_living(kernel, tasks);
+    }
+    Ok(())
+}
+
 /// What one event does.
 fn happen<S: Stock>(
     alloc: Global,
@@ -110,11 +142,11 @@ fn happen<S: Stock>(
         → OnOk result (PartsStand kernel.new tasks.new.items last.new (step S.meaning s event)) }
     ensures extends { Extends kernel.old.terminal.bytes kernel.new.terminal.bytes }
 {
-    let Some(pid) = chosen_by(alloc, event, kernel, tasks.as_slice(), *last)? else {
-        return Ok(());
-    };
-    turn(alloc, kernel, tasks, last, pid)?;
-    Ok(())
+    match event {
+        Event::Run(place) => chosen_turn(alloc, Event::Run(place), kernel, tasks, last),
+        Event::Next => chosen_turn(alloc, Event::Next, kernel, tasks, last),
+        Event::Key(byte) => press(kernel, tasks, byte),
+    }
 }
 
 impl<S: Stock> World<S> {
@@ -256,7 +288,7 @@ impl<S: Stock> World<S> {
         runnable_of(self.alloc, &self.kernel, self.tasks.as_slice())
     }
 
-    /// The process to which an event gives the next turn; `None` where none can take one. The only error is want of memory, which may have been
+    /// The process to which an event gives the next turn; `None` where none can take one, and for a key. The only error is want of memory, which may have been
     /// wanting before.
     pub fn chosen(&self, event: Event) -> Result<Option<u32>, NoMemory>
         ensures view { (s : State S) → WorldStands self.now s → IfOk result (λ pid.
