@@ -1,5 +1,5 @@
 -- What a turn changes.
-use Rattle.std.proofs.Common.{◌≡◌, ℕ, ◌<◌, List, [], ◌∷◌, ◌++◌, Bool, false, ◌||◌, Option, None, refl, sym, ap, ◌∙◌, subst, arith}
+use Rattle.std.proofs.Common.{◌≡◌, ℕ, ◌<◌, List, [], ◌∷◌, ◌++◌, Bool, true, false, ◌||◌, Option, Some, None, refl, sym, ap, ◌∙◌, subst, arith}
 use Rattle.sh_exec.specs.Turns.{turn}
 use Rattle.sh_exec.specs.Tasks.{pid_of}
 use Rattle.sh_exec.specs.declared.task.Task.{Task}
@@ -9,8 +9,10 @@ use Rattle.sh_laws.proofs.RequestLists.{changes_reached, reaches_as_before}
 use Rattle.sh_laws.proofs.Reaching.{forking_reaches}
 use Rattle.sh_laws.proofs.Unmade.{unmade_stay, unmade_stay_forking}
 use Rattle.sh_exec_machine.specs.Forking.{fork_of}
+use Rattle.sh_exec_shell.specs.Forks.{guarded}
+use Rattle.sh_kernel_descriptors.specs.Machine.{MachineState}
 use Rattle.sh_kernel_descriptors.specs.Processes.{next_pid}
-use Rattle.sh_kernel.specs.Laws.{ChangesOnlyReached, OnlyGrows, ReachesNoMore, opens}
+use Rattle.sh_kernel.specs.Laws.{ChangesOnlyReached, OnlyGrows, ReachesNoMore, opens, sends}
 use Rattle.sh_kernel.specs.Requests.{Request, after_request}
 use Rattle.sh_kernel.specs.State.{KernelState}
 use Rattle.sh_kernel.proofs.Frames.{requests_change}
@@ -18,20 +20,43 @@ use Rattle.sh_kernel.proofs.Growing.{grows_then, requests_grow}
 use Rattle.sh_kernel.proofs.Lists.{or_left, or_right}
 use Rattle.sh_kernel.proofs.Reached.{changes_then, lists_grow, reach_no_more, reaches_then}
 use Rattle.sh_stock.specs.Asking.{Meaning}
-use Rattle.sh_laws.specs.Requests.{ByRequests, ChangesByRequests, after_all, directory_of, number_of, opens_by}
+use Rattle.sh_laws.specs.Requests.{ByRequests, ChangesByRequests, after_all, directory_of, number_of, opens_by, sends_by}
 use Rattle.sh_laws.proofs.Lists.{by_then, fork_by, opens_append, own_more}
 use Rattle.sh_laws.proofs.Processes.{turn_keeps}
-use Rattle.sh_laws.proofs.TurnRequests.{IsForked, IsKept}
+use Rattle.sh_laws.proofs.TurnRequests.{IsForked, IsKept, after_making}
 
 both_false : (a b : Bool) → a ≡ false → b ≡ false → (a || b) ≡ false
 both_false a b h k = ap (λ (x : Bool). x || b) h ∙ k
 
--- what is true along a turn: the files that may have changed are among those that its requests opened
+sends_append : (s : KernelState) (rs more : List (ℕ × Request)) → sends_by s (rs ++ more) ≡ (sends_by s rs || sends_by (after_all s rs) more)
+sends_append s [] more = refl
+sends_append s (r ∷ rs) more =
+    ap (λ (b : Bool). sends s r.0 r.1 || b) (sends_append (after_request s r.0 r.1) rs more) ∙ or_assoc (sends s r.0 r.1) (sends_by (after_request s r.0 r.1) rs) (sends_by (after_all s (r ∷ rs)) more)
+  where
+    or_assoc : (a b c : Bool) → (a || (b || c)) ≡ ((a || b) || c)
+    or_assoc true b c = refl
+    or_assoc false b c = refl
+
+-- signals that a new process ignores change nothing that it has open
+guarded_machine : (beside : Bool) (child : Option ℕ) (s : KernelState) → (guarded beside child s).machine ≡ s.machine
+guarded_machine false child s = refl
+guarded_machine true None s = refl
+guarded_machine true (Some child) s = refl
+
+-- what isn't quiet was told
+told : (a b : Bool) → (a ≡ false → b ≡ false) → b ≡ true → a ≡ true
+told true b quiet h = refl
+told false b quiet h = let none = quiet refl in absurd (cc)
+
+-- what is true along a turn: the files that may have changed are among those that its requests opened; and if a signal was sent, one of the
+-- requests sent it
 record Along (s : KernelState) (pid : ℕ) (directory : List ℕ) (made : Option ℕ) (t : KernelState) : Type 0 where
   asked : ByRequests pid made directory s t
   op : ℕ → Bool
   within : (node : ℕ) → opens_by s asked.0 node ≡ false → op node ≡ false
-  changes : ChangesOnlyReached pid op s.machine t.machine
+  sent : Bool
+  quiet : sends_by s asked.0 ≡ false → sent ≡ false
+  changes : ChangesOnlyReached pid sent op s.machine t.machine
   less : ReachesNoMore pid op s.machine t.machine
   grows : OnlyGrows s.machine t.machine
   unmade : UnmadeReachNothing t.machine
@@ -52,6 +77,13 @@ module _ (s : KernelState) (pid : ℕ) (directory : List ℕ) (born : pid < next
       both_false (op node) (opens t.machine r node) (within node (or_left (opens_by s rs node) (opens_by (after_all s rs) (x ∷ []) node) two))
       (subst (λ (u : KernelState). opens u.machine r node ≡ false) (sym is) (or_left (opens (after_all s rs).machine r node) false last))
 
+  one_quiet : (t : KernelState) (rs : List (ℕ × Request)) (r : Request) (sent : Bool) → t ≡ after_all s rs → (sends_by s rs ≡ false → sent ≡ false) → sends_by s (rs ++ of_process pid r ∷ []) ≡ false → (sent || sends t pid r) ≡ false
+  one_quiet t rs r sent is quiet h =
+      let x = of_process pid r in
+      let two = sym (sends_append s rs (x ∷ [])) ∙ h in
+      let last = or_right (sends_by s rs) (sends_by (after_all s rs) (x ∷ [])) two in
+      both_false sent (sends t pid r) (quiet (or_left (sends_by s rs) (sends_by (after_all s rs) (x ∷ [])) two)) (subst (λ (u : KernelState). sends u pid r ≡ false) (sym is) (or_left (sends (after_all s rs) pid r) false last))
+
   one_along : (made : Option ℕ) → IsKept directory pid (Along s pid directory made)
   one_along made t r f a =
       let u = after_request t pid r in
@@ -59,25 +91,33 @@ module _ (s : KernelState) (pid : ℕ) (directory : List ℕ) (born : pid < next
         asked = own_more pid directory made s t r f a.asked;
         op = λ node. a.op node || opens t.machine r node;
         within = one_within t a.asked.0 r a.op a.asked.1.1 a.within;
-        changes = changes_then pid a.op (opens t.machine r) s.machine t.machine u.machine a.grows a.less a.changes (requests_change t pid r);
+        sent = a.sent || sends t pid r;
+        quiet = one_quiet t a.asked.0 r a.sent a.asked.1.1 a.quiet;
+        changes = changes_then pid a.sent (sends t pid r) a.op (opens t.machine r) s.machine t.machine u.machine a.grows a.less a.changes (requests_change t pid r);
         less = reaches_then pid a.op (opens t.machine r) s.machine t.machine u.machine a.grows a.less (reach_no_more t pid r);
         grows = grows_then s.machine t.machine u.machine a.grows (requests_grow t pid r);
         unmade = unmade_stay t pid r (still_born t a.grows) a.unmade;
       }
 
   forks_along : IsForked pid (Along s pid directory)
-  forks_along t before writes a =
-      let u = (fork_of t pid before writes).after in
-      let child = (fork_of t pid before writes).child in
-      let more = fork_by pid directory t before writes in
+  forks_along t before writes beside a =
+      let f = fork_of t pid before writes in
+      let u = after_making t pid before writes beside in
+      let same : u.machine ≡ f.after.machine = guarded_machine beside f.child f.after in
+      let more = fork_by pid directory t before writes beside in
+      let changes = subst (λ (m : MachineState). ChangesOnlyReached pid false (λ node. false) t.machine m) (sym same) (forking_changes t pid before writes a.unmade) in
+      let less = subst (λ (m : MachineState). ReachesNoMore pid (λ node. false) t.machine m) (sym same) (forking_reaches t pid before writes a.unmade) in
+      let grows = subst (λ (m : MachineState). OnlyGrows t.machine m) (sym same) (forking_grows t pid before writes) in
       record {
-        asked = by_then pid directory child s t u a.asked more;
+        asked = by_then pid directory f.child s t u a.asked more;
         op = λ node. a.op node || false;
         within = λ node h. both_false (a.op node) false (a.within node (or_left (opens_by s a.asked.0 node) (opens_by (after_all s a.asked.0) more.0 node) (sym (opens_append s a.asked.0 more.0 node) ∙ h))) refl;
-        changes = changes_then pid a.op (λ node. false) s.machine t.machine u.machine a.grows a.less a.changes (forking_changes t pid before writes a.unmade);
-        less = reaches_then pid a.op (λ node. false) s.machine t.machine u.machine a.grows a.less (forking_reaches t pid before writes a.unmade);
-        grows = grows_then s.machine t.machine u.machine a.grows (forking_grows t pid before writes);
-        unmade = unmade_stay_forking t pid before writes (still_born t a.grows) a.unmade;
+        sent = a.sent || false;
+        quiet = λ h. both_false a.sent false (a.quiet (or_left (sends_by s a.asked.0) (sends_by (after_all s a.asked.0) more.0) (sym (sends_append s a.asked.0 more.0) ∙ h))) refl;
+        changes = changes_then pid a.sent false a.op (λ node. false) s.machine t.machine u.machine a.grows a.less a.changes changes;
+        less = reaches_then pid a.op (λ node. false) s.machine t.machine u.machine a.grows a.less less;
+        grows = grows_then s.machine t.machine u.machine a.grows grows;
+        unmade = subst (λ (m : MachineState). UnmadeReachNothing m) (sym same) (unmade_stay_forking t pid before writes (still_born t a.grows) a.unmade);
       }
 
   start_along : UnmadeReachNothing s.machine → Along s pid directory None s
@@ -85,7 +125,9 @@ module _ (s : KernelState) (pid : ℕ) (directory : List ℕ) (born : pid < next
     asked = ([], (tt, refl));
     op = λ node. false;
     within = λ node h. refl;
-    changes = changes_reached s pid [] (λ node. refl);
+    sent = false;
+    quiet = λ h. refl;
+    changes = changes_reached s pid [] (λ node. refl) refl;
     less = reaches_as_before s pid [] (λ node. refl);
     grows = lists_grow s pid [];
     unmade = none;
@@ -99,11 +141,13 @@ module _ (s : KernelState) (pid : ℕ) (directory : List ℕ) (born : pid < next
         of_process = a.asked.1.0;
         after = a.asked.1.1;
         changes = record {
-          pipes = c.pipes;
+          pipes = λ pipe within h none. c.pipes pipe within h (λ sent. none (told (sends_by s a.asked.0) a.sent a.quiet sent));
           files = λ node within h unopened. c.files node within h (a.within node unopened);
           descriptions = c.descriptions;
-          descriptors = c.descriptors;
-          processes = c.processes;
+          descriptors = λ q n born alive. c.descriptors q n born (λ sent. alive (told (sends_by s a.asked.0) a.sent a.quiet sent));
+          processes = λ q n born none. c.processes q n born (a.quiet none);
+          makers = c.makers;
+          ended = c.ended;
         };
       }
 

@@ -55,7 +55,7 @@ use Rattle.sh_builtin_regular.specs.declared.waiting.Awaited.{Awaited}
 use Rattle.sh_builtin_regular.specs.declared.waiting.Awaited.TheVariants as awaited
 use Rattle.sh_builtin_regular.specs.declared.waiting.ProcessWait.{ProcessWait}
 use Rattle.sh_exec_frames.specs.LineReading.{line_by, line_ended, line_goes_on, line_read_by, most_read, read_line_turn}
-use Rattle.sh_exec_shell.specs.Forks.{begun_substitution, fork_turn, is_more, list_by, list_turn, made_shell, program_by, stage_by, stage_from, stage_input, stage_one, stage_shell, stage_turn, substitute_turn, substitution_by}
+use Rattle.sh_exec_shell.specs.Forks.{begun_substitution, fork_turn, guarded, is_beside, is_more, list_by, list_turn, made_shell, program_by, stage_by, stage_from, stage_input, stage_one, stage_shell, stage_turn, substitute_turn, substitution_by}
 use Rattle.sh_exec_shell.specs.Reduction.{act_at, act_place, expanded_by, reduce}
 use Rattle.sh_kernel.specs.State.{KernelState}
 use Rattle.sh_kernel_descriptors.specs.declared.descriptor.DescriptorRef.TheVariants.{Aside, Number}
@@ -343,7 +343,7 @@ stage_from_keeps s shell stages [] f = f
 stage_from_keeps s shell stages (command ∷ commands) f =
     let l = stage_input stages.separator stages.children stages.aside shell s in
     let forked = fork_of l.after shell.pid l.aside (is_more commands) in
-    stage_by_keeps forked.after shell command (record stages { commands = commands; aside = forked.aside }) forked.child f
+    stage_by_keeps (guarded (is_beside stages.separator) forked.child forked.after) shell command (record stages { commands = commands; aside = forked.aside }) forked.child f
 
 stage_keeps : (s : KernelState) (shell : Shell) (stages : Stages) → Keeps shell → ActedKeeps (stage_turn s shell stages).left
 unfolding stage_turn
@@ -358,7 +358,7 @@ unfolding list_turn
 list_keeps s shell list f =
     let l = null_laid shell.vars.directory s shell.pid in
     let forked = fork_of l.after shell.pid l.aside false in
-    list_by_keeps forked.after shell list forked.child f
+    list_by_keeps (guarded true forked.child forked.after) shell list forked.child f
 
 substitution_keeps : (s : KernelState) (shell : Shell) (program : CompoundList) (substitution : Substitution) (o : Option ℕ) → Keeps shell
     → ActedKeeps (substitution_by s shell program substitution o).left

@@ -106,7 +106,7 @@ module _ {S : Type 0} (m : Meaning S) where
 
   runs_number : (s : KernelState) (interpreter : InterpreterState) (o : Option ProgramStart) → pid_of (runs_by m s interpreter o).task ≡ interpreter.shell.pid
   runs_number s interpreter None =
-      (shell_keeps interpreter.shell.vars.directory interpreter.shell.pid (λ made t. Unit {0}) (λ made t r from p. tt) (λ t before writes p. tt) s interpreter refl refl tt).0
+      (shell_keeps interpreter.shell.vars.directory interpreter.shell.pid (λ made t. Unit {0}) (λ made t r from p. tt) (λ t before writes beside p. tt) s interpreter refl refl tt).0
   runs_number s interpreter (Some start) =
       let l = start_turn m s interpreter.shell start in started_in_number l.machine interpreter l.next (start_number s interpreter.shell start start.fields)
 

@@ -7,15 +7,15 @@ use Rattle.sh_kernel_descriptors.specs.Machine as machine
 use Rattle.sh_kernel_descriptors.specs.Machine.{MachineState}
 use Rattle.sh_kernel_descriptors.specs.Naming.{close_found, dup_found, is_allowed, is_description, with_number}
 use Rattle.sh_kernel_descriptors.specs.Outcomes.{success, refusal}
-use Rattle.sh_kernel_descriptors.specs.Processes.{copies, is_living, lives, may_fork, next_pid}
+use Rattle.sh_kernel_descriptors.specs.Processes.{copies, has_ended, is_ended, is_living, lives, may_fork, next_pid, process_at}
 use Rattle.sh_kernel_descriptors.specs.declared.description.Description.{Description}
 use Rattle.sh_kernel_descriptors.specs.declared.descriptor.DescriptorRef.{DescriptorRef}
 use Rattle.sh_kernel_descriptors.specs.declared.descriptor.DescriptorRef.TheVariants.{Number}
 use Rattle.sh_kernel_descriptors.specs.declared.fault.KernelFault.TheVariants.{NoProcess, TooManyDescriptors, TooManyProcesses}
 use Rattle.sh_kernel_descriptors.specs.declared.process.Process.{Process}
 use Rattle.sh_kernel.specs.State.{KernelState}
-use Rattle.sh_kernel.specs.Calls.{fork_call}
-use Rattle.sh_kernel.specs.Laws.{ChangesOnlyReached, IsOwned, OnlyGrows, ReachesNoMore, opens_any}
+use Rattle.sh_kernel.specs.Calls.{fork_call, with_new_process}
+use Rattle.sh_kernel.specs.Laws.{ChangesOnlyReached, IsOwned, OnlyGrows, ReachesNoMore, opens_any, sends_any}
 use Rattle.sh_kernel.specs.Reaching.{is_end, is_file, reaches}
 use Rattle.sh_kernel.specs.Requests.{Request, Duplicate, Fork, MakePipe, SetAside, after_request, after_requests}
 use Rattle.sh_kernel.proofs.Growing.{grows_then, requests_grow}
@@ -60,6 +60,34 @@ all_open_none None true (Some aside) s pid node = refl
 all_open_none (Some before) false (Some aside) s pid node = refl
 all_open_none (Some before) true (Some aside) s pid node = refl
 
+-- ---- nor does one send a signal
+fork_sends_none : (before : Option ℕ) (writes : Bool) (s : KernelState) (pid : ℕ) → sends_any s pid (with_fork before writes) ≡ false
+fork_sends_none None false s pid = refl
+fork_sends_none None true s pid = refl
+fork_sends_none (Some aside) false s pid = refl
+fork_sends_none (Some aside) true s pid = refl
+
+child_sends_none : (before : Option ℕ) (writes : Bool) (s : KernelState) (pid : ℕ) → sends_any s pid (in_child before writes) ≡ false
+child_sends_none None false s pid = refl
+child_sends_none None true s pid = refl
+child_sends_none (Some aside) false s pid = refl
+child_sends_none (Some aside) true s pid = refl
+
+pub behind_sends_none : (child aside : Option ℕ) (s : KernelState) (pid : ℕ) → sends_any s pid (behind_fork child aside) ≡ false
+behind_sends_none (Some child) aside s pid = refl
+behind_sends_none None None s pid = refl
+behind_sends_none None (Some aside) s pid = refl
+
+all_send_none : (before : Option ℕ) (writes : Bool) (aside : Option ℕ) (s : KernelState) (pid : ℕ) → sends_any s pid (with_fork before writes ++ behind_fork None aside) ≡ false
+all_send_none None false None s pid = refl
+all_send_none None true None s pid = refl
+all_send_none (Some before) false None s pid = refl
+all_send_none (Some before) true None s pid = refl
+all_send_none None false (Some aside) s pid = refl
+all_send_none None true (Some aside) s pid = refl
+all_send_none (Some before) false (Some aside) s pid = refl
+all_send_none (Some before) true (Some aside) s pid = refl
+
 -- ---- up to the fork another process reaches no more
 keeps_laying : (writes : Bool) (s : KernelState) (pid p : ℕ) → pid ≢ p → Keeps p s.machine (after_requests s pid (laying writes)).machine
 keeps_laying false s pid p n = keeps_same p s.machine
@@ -99,8 +127,8 @@ pub made : (s : KernelState) (pid child : ℕ) → result_ok (fork_call s pid).a
 made s pid child h = of_tests (lives s.machine.processes pid) (may_fork s.machine.processes) refl h
   where
     of_tests : (a b : Bool) → lives s.machine.processes pid ≡ a
-        → result_ok (cond a (cond b (success (next_pid s.machine.processes) (machine.after_fork s.machine pid)) (refusal s.machine TooManyProcesses)) (refusal s.machine NoProcess)).answer ≡ Some child
-        → IsMade s.machine pid child (cond a (cond b (success (next_pid s.machine.processes) (machine.after_fork s.machine pid)) (refusal s.machine TooManyProcesses)) (refusal s.machine NoProcess)).after
+        → result_ok (cond a (cond b (success (next_pid s.machine.processes) (with_new_process s pid)) (refusal s TooManyProcesses)) (refusal s NoProcess)).answer ≡ Some child
+        → IsMade s.machine pid child (cond a (cond b (success (next_pid s.machine.processes) (with_new_process s pid)) (refusal s TooManyProcesses)) (refusal s NoProcess)).after.machine
     of_tests true true is h = let same : next_pid s.machine.processes ≡ child = cc in record { number = sym same; maker = is_there s.machine.processes pid is; after = refl }
     of_tests true false is h = absurd (cc)
     of_tests false b is h = absurd (cc)
@@ -143,14 +171,15 @@ pub record Made (pid child : ℕ) (a b c d e : MachineState) : Type 0 where
   pub none : reaches b.descriptors child (λ k. true) ≡ false
   pub made : IsMade b pid child c
   pub grows_fork : OnlyGrows b c
-  pub changes : ChangesOnlyReached pid (λ node. false) a c
+  pub changes : ChangesOnlyReached pid false (λ node. false) a c
   pub less : ReachesNoMore pid (λ node. false) a c
   pub number : child ≡ next_pid a.processes
   pub grows : OnlyGrows a c
-  pub inside : ChangesOnlyReached child (λ node. false) c d
+  pub inside : ChangesOnlyReached child false (λ node. false) c d
   pub descriptions : d.descriptions ≡ c.descriptions
+  pub less_inside : ReachesNoMore child (λ node. false) c d
   pub grows_inside : OnlyGrows c d
-  pub last : ChangesOnlyReached pid (λ node. false) d e
+  pub last : ChangesOnlyReached pid false (λ node. false) d e
   pub last_less : ReachesNoMore pid (λ node. false) d e
 
 made_less : (m : MachineState) (pid child : ℕ) (new : MachineState) (test : ℕ → Bool) → IsMade m pid child new → reaches m.descriptors child (λ k. true) ≡ false → reaches m.descriptors pid test ≡ false → reaches new.descriptors child test ≡ false
@@ -171,13 +200,13 @@ pub maker_none : (pid child : ℕ) (a b c d e : MachineState) → Made pid child
 maker_none pid child a b c d e w test h =
     let old = w.made.maker in
     let there : pid < next_pid c.processes = omega (arith, old, w.grows_fork.processes) in
-    same_own c.descriptors d.descriptors pid test (w.inside.descriptors pid (maker_apart b pid child c w.made) there) ∙ h
+    same_own c.descriptors d.descriptors pid test (w.inside.descriptors pid (maker_apart b pid child c w.made) there (λ sent. absurd (cc))) ∙ h
 
 same_descriptions : (m : MachineState) (pid child : ℕ) (new : MachineState) → IsMade m pid child new → new.descriptions ≡ m.descriptions
 same_descriptions m pid child new is = ap (λ (t : MachineState). t.descriptions) is.after
 
 -- tests on descriptions
-child_none_at : (f : List Description → ℕ → Bool) (pid child : ℕ) (a b c d e : MachineState) → Made pid child a b c d e → reaches b.descriptors pid (f b.descriptions) ≡ false → reaches c.descriptors child (f c.descriptions) ≡ false
+pub child_none_at : (f : List Description → ℕ → Bool) (pid child : ℕ) (a b c d e : MachineState) → Made pid child a b c d e → reaches b.descriptors pid (f b.descriptions) ≡ false → reaches c.descriptors child (f c.descriptions) ≡ false
 child_none_at f pid child a b c d e w h =
     child_none pid child a b c d e w (f c.descriptions) (ap (λ (es : List Description). reaches b.descriptors pid (f es)) (same_descriptions b pid child c w.made) ∙ h)
 
@@ -185,14 +214,17 @@ pub maker_none_at : (f : List Description → ℕ → Bool) (pid child : ℕ) (a
 maker_none_at f pid child a b c d e w h =
     maker_none pid child a b c d e w (f d.descriptions) (ap (λ (es : List Description). reaches c.descriptors pid (f es)) w.descriptions ∙ h)
 
-changed : (pid child : ℕ) (a b c d e : MachineState) → Made pid child a b c d e → ChangesOnlyReached pid (λ node. false) a e
+ended_still : (ps ps' : List Process) (q : ℕ) → process_at ps' q ≡ process_at ps q → has_ended ps q ≡ true → has_ended ps' q ≡ true
+ended_still ps ps' q same h = ap (λ (o : Option Process). is_ended o) same ∙ h
+
+changed : (pid child : ℕ) (a b c d e : MachineState) → Made pid child a b c d e → ChangesOnlyReached pid false (λ node. false) a e
 changed pid child a b c d e w = record {
-  pipes = λ q within h.
+  pipes = λ q within h ended.
       let at_c : q < length c.pipes = omega (arith, within, w.grows.pipes) in
       let at_d : q < length d.pipes = omega (arith, at_c, w.grows_inside.pipes) in
-      w.last.pipes q at_d (maker_none_at (λ es. is_end es q) pid child a b c d e w (w.less.pipes q within h))
-      ∙ w.inside.pipes q at_c (child_none_at (λ es. is_end es q) pid child a b c d e w (w.ready.pipes q within h))
-      ∙ w.changes.pipes q within h;
+      w.last.pipes q at_d (maker_none_at (λ es. is_end es q) pid child a b c d e w (w.less.pipes q within h)) (λ sent. absurd (cc))
+      ∙ w.inside.pipes q at_c (child_none_at (λ es. is_end es q) pid child a b c d e w (w.ready.pipes q within h)) (λ sent. absurd (cc))
+      ∙ w.changes.pipes q within h (λ sent. absurd (cc));
   files = λ node within h unopened.
       let at_c : node < length c.files.nodes = omega (arith, within, w.grows.files) in
       let at_d : node < length d.files.nodes = omega (arith, at_c, w.grows_inside.files) in
@@ -205,16 +237,24 @@ changed pid child a b c d e w = record {
       w.last.descriptions k at_d (maker_none pid child a b c d e w (λ j. j == k) (w.less.descriptions k within h))
       ∙ w.inside.descriptions k at_c (child_none pid child a b c d e w (λ j. j == k) (w.ready.descriptions k within h))
       ∙ w.changes.descriptions k within h;
-  descriptors = λ q n born.
+  descriptors = λ q n born alive.
       let at = w.number in
       let at_c : q < next_pid c.processes = omega (arith, born, w.grows.processes) in
       let at_d : q < next_pid d.processes = omega (arith, at_c, w.grows_inside.processes) in
-      w.last.descriptors q n at_d ∙ w.inside.descriptors q (omega (arith, at, born)) at_c ∙ w.changes.descriptors q n born;
-  processes = λ q n born.
+      w.last.descriptors q n at_d (λ sent. absurd (cc)) ∙ w.inside.descriptors q (omega (arith, at, born)) at_c (λ sent. absurd (cc)) ∙ w.changes.descriptors q n born (λ sent. absurd (cc));
+  processes = λ q n born quiet.
       let at = w.number in
       let at_c : q < next_pid c.processes = omega (arith, born, w.grows.processes) in
       let at_d : q < next_pid d.processes = omega (arith, at_c, w.grows_inside.processes) in
-      w.last.processes q n at_d ∙ w.inside.processes q (omega (arith, at, born)) at_c ∙ w.changes.processes q n born;
+      w.last.processes q n at_d refl ∙ w.inside.processes q (omega (arith, at, born)) at_c refl ∙ w.changes.processes q n born refl;
+  makers = λ q born.
+      let at_c : q < next_pid c.processes = omega (arith, born, w.grows.processes) in
+      let at_d : q < next_pid d.processes = omega (arith, at_c, w.grows_inside.processes) in
+      w.last.makers q at_d ∙ w.inside.makers q at_c ∙ w.changes.makers q born;
+  ended = λ q h.
+      let at_c = ended_still a.processes c.processes q (w.changes.ended q h) h in
+      let at_d = ended_still c.processes d.processes q (w.inside.ended q at_c) at_c in
+      w.last.ended q at_d ∙ w.inside.ended q at_c ∙ w.changes.ended q h;
 }
 
 -- ---- of the requests
@@ -227,8 +267,9 @@ MadeBy s pid before writes child last =
 pub made_by : (s : KernelState) (pid : ℕ) (before : Option ℕ) (writes : Bool) (child : ℕ) (last : List Request) → new_process s pid before writes ≡ Some child
     → reaches s.machine.descriptors (next_pid s.machine.processes) (λ k. true) ≡ false
     → ((t : KernelState) (node : ℕ) → opens_any t pid last node ≡ false)
+    → ((t : KernelState) → sends_any t pid last ≡ false)
     → MadeBy s pid before writes child last
-made_by s pid before writes child last is none last_none =
+made_by s pid before writes child last is none last_none last_quiet =
     let ready = after_requests s pid (before_fork before writes) in
     let c = after_requests s pid (with_fork before writes) in
     let d = after_requests c child (in_child before writes) in
@@ -242,44 +283,45 @@ made_by s pid before writes child last is none last_none =
       none = keeps.fails (λ k. true) (ap (λ (n : ℕ). reaches s.machine.descriptors n (λ k. true)) number ∙ none);
       made = new;
       grows_fork = subst (λ (t : KernelState). OnlyGrows ready.machine t.machine) step (requests_grow ready pid Fork);
-      changes = changes_reached s pid (with_fork before writes) (fork_opens_none before writes s pid);
+      changes = changes_reached s pid (with_fork before writes) (fork_opens_none before writes s pid) (fork_sends_none before writes s pid);
       less = reaches_as_before s pid (with_fork before writes) (fork_opens_none before writes s pid);
       number = number;
       grows = lists_grow s pid (with_fork before writes);
-      inside = changes_reached c child (in_child before writes) (child_opens_none before writes c child);
+      inside = changes_reached c child (in_child before writes) (child_opens_none before writes c child) (child_sends_none before writes c child);
+      less_inside = reaches_as_before c child (in_child before writes) (child_opens_none before writes c child);
       descriptions = child_descriptions before writes c child;
       grows_inside = lists_grow c child (in_child before writes);
-      last = changes_reached d pid last (last_none d);
+      last = changes_reached d pid last (last_none d) (last_quiet d);
       last_less = reaches_as_before d pid last (last_none d);
     }
 
 with_child : (s : KernelState) (pid : ℕ) (before : Option ℕ) (writes : Bool) (child : ℕ) (last : List Request) → MadeBy s pid before writes child last
-    → ChangesOnlyReached pid (λ node. false) s.machine (after_both s pid (with_fork before writes) (Some child) (in_child before writes) last).machine
+    → ChangesOnlyReached pid false (λ node. false) s.machine (after_both s pid (with_fork before writes) (Some child) (in_child before writes) last).machine
 with_child s pid before writes child last w =
     let c = after_requests s pid (with_fork before writes) in
     let d = after_requests c child (in_child before writes) in
     changed pid child s.machine (after_requests s pid (before_fork before writes)).machine c.machine d.machine (after_requests d pid last).machine w
 
 without_child : (s : KernelState) (pid : ℕ) (before : Option ℕ) (writes : Bool) (aside : Option ℕ)
-    → ChangesOnlyReached pid (λ node. false) s.machine (after_both s pid (with_fork before writes) None (in_child before writes) (behind_fork None aside)).machine
+    → ChangesOnlyReached pid false (λ node. false) s.machine (after_both s pid (with_fork before writes) None (in_child before writes) (behind_fork None aside)).machine
 without_child s pid before writes aside =
-    subst (λ (t : KernelState). ChangesOnlyReached pid (λ node. false) s.machine t.machine) (after_requests-append s pid (with_fork before writes) (behind_fork None aside))
-    (changes_reached s pid (with_fork before writes ++ behind_fork None aside) (all_open_none before writes aside s pid))
+    subst (λ (t : KernelState). ChangesOnlyReached pid false (λ node. false) s.machine t.machine) (after_requests-append s pid (with_fork before writes) (behind_fork None aside))
+    (changes_reached s pid (with_fork before writes ++ behind_fork None aside) (all_open_none before writes aside s pid) (all_send_none before writes aside s pid))
 
 by_child : (s : KernelState) (pid : ℕ) (before : Option ℕ) (writes : Bool) (child aside : Option ℕ) → new_process s pid before writes ≡ child
     → reaches s.machine.descriptors (next_pid s.machine.processes) (λ k. true) ≡ false
-    → ChangesOnlyReached pid (λ node. false) s.machine (after_both s pid (with_fork before writes) child (in_child before writes) (behind_fork child aside)).machine
+    → ChangesOnlyReached pid false (λ node. false) s.machine (after_both s pid (with_fork before writes) child (in_child before writes) (behind_fork child aside)).machine
 by_child s pid before writes None aside is none = without_child s pid before writes aside
 by_child s pid before writes (Some child) aside is none =
     let last = behind_fork (Some child) aside in
-    with_child s pid before writes child last (made_by s pid before writes child last is none (λ t node. behind_opens_none (Some child) aside t pid node))
+    with_child s pid before writes child last (made_by s pid before writes child last is none (λ t node. behind_opens_none (Some child) aside t pid node) (λ t. behind_sends_none (Some child) aside t pid))
 
 pub after_is : (s : KernelState) (pid : ℕ) (before : Option ℕ) (writes : Bool) → (fork_of s pid before writes).after ≡ after_both s pid (with_fork before writes) (new_process s pid before writes) (in_child before writes) (behind_fork (new_process s pid before writes) (end_aside s pid writes))
 after_is s pid before writes = ap (λ (f : Forked). f.after) (forked_is s pid before writes)
 
-pub forking_changes : (s : KernelState) (pid : ℕ) (before : Option ℕ) (writes : Bool) → UnmadeReachNothing s.machine → ChangesOnlyReached pid (λ node. false) s.machine (fork_of s pid before writes).after.machine
+pub forking_changes : (s : KernelState) (pid : ℕ) (before : Option ℕ) (writes : Bool) → UnmadeReachNothing s.machine → ChangesOnlyReached pid false (λ node. false) s.machine (fork_of s pid before writes).after.machine
 forking_changes s pid before writes none =
-    subst (λ (t : KernelState). ChangesOnlyReached pid (λ node. false) s.machine t.machine) (sym (after_is s pid before writes)) (by_child s pid before writes (new_process s pid before writes) (end_aside s pid writes) refl (none (next_pid s.machine.processes) (omega arith)))
+    subst (λ (t : KernelState). ChangesOnlyReached pid false (λ node. false) s.machine t.machine) (sym (after_is s pid before writes)) (by_child s pid before writes (new_process s pid before writes) (end_aside s pid writes) refl (none (next_pid s.machine.processes) (omega arith)))
 
 -- ---- numbers only grow
 pub child_grows : (t : KernelState) (child : Option ℕ) (inside : List Request) → OnlyGrows t.machine (after_child t child inside).machine

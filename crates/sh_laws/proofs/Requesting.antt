@@ -1,11 +1,12 @@
 -- Files behind the requests of a process.
-use Rattle.std.proofs.Common.{ℕ, List, [], ◌∷◌, subst}
+use Rattle.std.proofs.Common.{ℕ, List, [], ◌∷◌, subst, sym}
 use Rattle.sh_files.specs.Whole.{IsWhole}
 use Rattle.sh_files.proofs.Changed.{write_whole}
 use Rattle.sh_files.proofs.Nameless.{nameless_whole}
 use Rattle.sh_kernel_descriptors.specs.Machine.{MachineState}
 use Rattle.sh_kernel.specs.Requests.{Request, after_request, after_requests}
 use Rattle.sh_kernel.specs.State.{KernelState}
+use Rattle.sh_kernel.proofs.Endings.{endings}
 use Rattle.sh_kernel.proofs.Requesting.{by_cases}
 use Rattle.sh_laws.specs.Rooted.{AreRooted, IsRooted}
 use Rattle.sh_laws.proofs.Opening.{opened_whole}
@@ -21,7 +22,7 @@ request_keeps s pid r i w =
       pipe = λ k pipe slot held e. w;
       file = λ k node start end bytes files held at is. write_whole s.machine.files files node start bytes w is;
       closes = λ closing. w;
-      ends = λ status. w;
+      signals = λ ps pids only signalled. subst IsWhole (sym (endings s.machine ps pids).files) w;
       numbers = λ number k held. w;
       renames = λ name number. w;
       back = λ k number. w;

@@ -66,7 +66,7 @@ use Rattle.sh_builtin_regular.specs.declared.waiting.WaitStep.{WaitStep}
 use Rattle.sh_builtin_regular.specs.declared.waiting.WaitStep.TheVariants.{Over, Waits}
 use Rattle.sh_builtin.specs.Shells.{without_process}
 use Rattle.sh_exec_frames.specs.LineReading.{fields_given, line_by, line_ended, line_goes_on, line_read_by, most_read, read_line_turn}
-use Rattle.sh_exec_shell.specs.Forks.{begun_substitution, Turned, fork_failure, fork_turn, inherited, is_more, list_by, list_turn, made_place, program_by, stage_by, stage_from, stage_input, stage_one, stage_place, stage_turn, substitute_turn, substitution_by}
+use Rattle.sh_exec_shell.specs.Forks.{begun_substitution, Turned, fork_failure, fork_turn, guarded, inherited, is_beside, is_more, list_by, list_turn, made_place, program_by, stage_by, stage_from, stage_input, stage_one, stage_place, stage_turn, substitute_turn, substitution_by}
 use Rattle.sh_exec_shell.specs.Reduction.{act_at, act_place, at_root, expanded_by, reduce, shell_turn}
 use Rattle.sh_exec_machine.specs.Waits.{wait_status}
 use Rattle.sh_files.specs.Nodes.{FileMap}
@@ -264,7 +264,6 @@ written_by_holds : (piece : Piece) (finish : Finish) (told : WriteOutcome) → A
 written_by_holds piece finish given.Whole = after_writing_holds finish
 written_by_holds piece finish (given.Part count) = tt
 written_by_holds piece finish given.Wait = tt
-written_by_holds piece finish given.Ended = tt
 written_by_holds piece finish given.Failed = unwritten_holds finish
 
 write_holds : (s : KernelState) (shell : Shell) (piece : Piece) (finish : Finish) → ActedHolds (write_turn s shell piece finish)
@@ -321,7 +320,7 @@ stage_from_holds s shell stages _ f no_commands = (tt, tt)
 stage_from_holds s shell stages _ f (more_commands command commands c b) =
     let l = stage_input stages.separator stages.children stages.aside shell s in
     let forked = fork_of l.after shell.pid l.aside (is_more commands) in
-    stage_by_holds forked.after shell command (record stages { commands = commands; aside = forked.aside }) forked.child f c b
+    stage_by_holds (guarded (is_beside stages.separator) forked.child forked.after) shell command (record stages { commands = commands; aside = forked.aside }) forked.child f c b
 
 stage_holds : (s : KernelState) (shell : Shell) (stages : Stages) → FunctionsHold shell.functions → CommandsBegin stages.commands → TurnedHolds (stage_turn s shell stages)
 unfolding stage_turn
@@ -336,7 +335,7 @@ unfolding list_turn
 list_holds s shell list f a =
     let l = null_laid shell.vars.directory s shell.pid in
     let forked = fork_of l.after shell.pid l.aside false in
-    list_by_holds forked.after shell list forked.child f a
+    list_by_holds (guarded true forked.child forked.after) shell list forked.child f a
 
 failure_holds : (wants : ToExpand) → MoveHolds (fork_failure wants)
 failure_holds (Words command in_place status) = tt

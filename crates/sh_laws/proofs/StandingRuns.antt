@@ -2,7 +2,7 @@
 use Rattle.std.proofs.Common.{◌≡◌, ℕ, List, [], ◌∷◌, true, false, Option, Some, None, refl}
 use Rattle.std.specs.List.{filter}
 use Rattle.std.specs.Prelude.{codes, cond, length, nat_eq, nat_le, ◌&&◌}
-use Rattle.sh_exec.specs.Tasks.{first_place, pid_of}
+use Rattle.sh_exec.specs.Tasks.{first_pid, first_place, pid_of}
 use Rattle.sh_exec.specs.Turns.{turn}
 use Rattle.sh_exec.specs.TurnActions.{turn_action_at, turn_action_for, turn_action_in, turn_action_of}
 use Rattle.sh_exec.specs.declared.turn_action.TurnAction.{TurnAction}
@@ -20,7 +20,10 @@ use Rattle.sh_laws.specs.BeforeAction.{AreBeforeActions, HaveActions, IsBeforeAc
 use Rattle.sh_stock.specs.Asking.{Meaning}
 use Rattle.sh_exec.specs.Choice.{choice}
 use Rattle.sh_exec.specs.Scripts.{place_by, script_place, unreadable}
-use Rattle.sh_exec.specs.State.{State, run, runnables, start, step, turn_of}
+use Rattle.sh_exec.specs.State.{State, chosen_turn, run, runnables, start, step, turn_of, typed, with_key}
+use Rattle.sh_exec.specs.declared.event.Event.TheVariants as event
+use Rattle.sh_kernel.specs.Calls.{after_key}
+use Rattle.sh_kernel_descriptors.specs.Processes.{lives}
 use Rattle.sh_exec.specs.Processes.{TasksTurned, behind, is_living, turn_among, turned_first, with_child}
 use Rattle.sh_exec.specs.declared.event.Event.{Event}
 use Rattle.sh_exec.specs.declared.settings.Settings.{Settings}
@@ -77,9 +80,22 @@ module _ {S : Type 0} (m : Meaning S) where
       let stand = among_stand s.machine pid s.tasks h in
       living_stand t.machine (with_child t.tasks t.child) (with_child_stand t.tasks t.child stand.0 stand.1)
 
+  chosen_stand : (s : State S) (event : Event) → TasksStand s.tasks → TasksStand (chosen_turn m s event).tasks
+  chosen_stand s event h = turned_stand s (choice event s.last (runnables s)) h
+
+  typed_stand : (s : State S) (byte : ℕ) → TasksStand s.tasks → TasksStand (typed s byte).tasks
+  typed_stand s byte h =
+      choose (λ (t : State S). TasksStand t.tasks) (lives s.machine.machine.processes first_pid) (with_key s byte) s
+      (λ e. living_stand (after_key s.machine byte) s.tasks h) (λ e. h)
+
+  step_stand : (s : State S) (event : Event) → TasksStand s.tasks → TasksStand (step m s event).tasks
+  step_stand s (event.Run place) h = chosen_stand s (event.Run place) h
+  step_stand s event.Next h = chosen_stand s event.Next h
+  step_stand s (event.Key byte) h = typed_stand s byte h
+
   pub run_stands : (s : State S) (events : List Event) → TasksStand s.tasks → TasksStand (run m s events).tasks
   run_stands s [] h = h
-  run_stands s (event ∷ events) h = run_stands (step m s event) events (turned_stand s (choice event s.last (runnables s)) h)
+  run_stands s (event ∷ events) h = run_stands (step m s event) events (step_stand s event h)
 
   tasks_next : (tasks : List (Task S)) → TasksStand tasks → AreBeforeActions tasks
   tasks_next [] h = tt

@@ -19,16 +19,27 @@ use Rattle.sh_laws.proofs.Undoing.{undoing_is}
 use Rattle.sh_kernel_descriptors.specs.declared.descriptor.DescriptorRef.{DescriptorRef}
 use Rattle.sh_kernel_descriptors.specs.declared.fault.KernelFault.{KernelFault}
 use Rattle.sh_kernel.specs.Calls.{set_aside_call}
-use Rattle.sh_kernel.specs.Requests.{Request, Fork, Read, SetAside, Write, after_request, after_requests}
+use Rattle.sh_kernel.specs.Requests.{Request, Fork, Read, SetAction, SetAside, Write, after_request, after_requests}
+use Rattle.sh_kernel_signals.specs.declared.member.SignalAction.TheVariants.{Ignored}
+use Rattle.sh_signal.specs.declared.signal.Signal.TheVariants.{Interrupt, Quit}
+use Rattle.sh_exec_shell.specs.Forks.{guarded}
 use Rattle.sh_kernel.specs.State.{KernelState}
 use Rattle.sh_laws.specs.Requests.{IsFrom}
 
 abbrev pub IsKept : List ℕ → ℕ → (KernelState → Type 0) → Type 0
 IsKept directory pid P = (s : KernelState) (r : Request) → IsFrom directory r → P s → P (after_request s pid r)
 
+-- a process that ignores INT and QUIT from now on
+abbrev pub ignoring_requests : List Request
+ignoring_requests = SetAction Interrupt Ignored ∷ SetAction Quit Ignored ∷ []
+
+-- a process makes another one, which may be to ignore some signals
+abbrev pub after_making : KernelState → ℕ → (before : Option ℕ) → (writes beside : Bool) → KernelState
+after_making s pid before writes beside = let f = fork_of s pid before writes in guarded beside f.child f.after
+
 -- what is kept where a process makes another one, whose number is told
 abbrev pub IsForked : ℕ → (Option ℕ → KernelState → Type 0) → Type 0
-IsForked pid P = (s : KernelState) (before : Option ℕ) (writes : Bool) → P None s → P (fork_of s pid before writes).child (fork_of s pid before writes).after
+IsForked pid P = (s : KernelState) (before : Option ℕ) (writes beside : Bool) → P None s → P (fork_of s pid before writes).child (after_making s pid before writes beside)
 
 module _ (directory : List ℕ) where
   abbrev pub ListFrom : List Request → Type 0
@@ -123,10 +134,18 @@ module _ (directory : List ℕ) where
     child_keeps s None rs a p = p
     child_keeps s (Some child) rs a p = list_keeps child (P (Some child)) (inside child) rs a s (born s child p)
 
-    pub fork_keeps : IsForked pid P
-    fork_keeps s before writes p =
+    made_keeps : (s : KernelState) (before : Option ℕ) (writes : Bool) → P None s → P (fork_of s pid before writes).child (fork_of s pid before writes).after
+    made_keeps s before writes p =
         let child = new_process s pid before writes in
         let first = list_keeps pid (P None) (kept None) (with_fork before writes) (with_fork_from before writes) s p in
         let with_child = child_keeps (after_requests s pid (with_fork before writes)) child (in_child before writes) (in_child_from before writes) first in
         let all = list_keeps pid (P child) (kept child) (behind_fork child (end_aside s pid writes)) (behind_fork_from child (end_aside s pid writes)) (after_child (after_requests s pid (with_fork before writes)) child (in_child before writes)) with_child in
         subst (λ (f : Forked). P f.child f.after) (sym (forked_is s pid before writes)) all
+
+    guarded_keeps : (beside : Bool) (child : Option ℕ) (s : KernelState) → P child s → P child (guarded beside child s)
+    guarded_keeps false child s p = p
+    guarded_keeps true None s p = p
+    guarded_keeps true (Some child) s p = list_keeps child (P (Some child)) (inside child) ignoring_requests (tt, (tt, tt)) s p
+
+    pub fork_keeps : IsForked pid P
+    fork_keeps s before writes beside p = guarded_keeps beside (fork_of s pid before writes).child (fork_of s pid before writes).after (made_keeps s before writes p)

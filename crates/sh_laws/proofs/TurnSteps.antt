@@ -41,7 +41,7 @@ use Rattle.sh_builtin_regular.specs.declared.waiting.Awaited.{Awaited}
 use Rattle.sh_builtin_regular.specs.declared.waiting.Awaited.TheVariants as awaited
 use Rattle.sh_builtin_regular.specs.declared.waiting.ProcessWait.{ProcessWait}
 use Rattle.sh_exec_frames.specs.LineReading.{line_by, line_ended, line_goes_on, line_read_by, most_read, read_line_turn}
-use Rattle.sh_exec_shell.specs.Forks.{Turned, begun_substitution, fork_turn, inherited, is_more, list_by, list_turn, made_shell, program_by, stage_by, stage_from, stage_input, stage_one, stage_shell, stage_turn, substitute_turn, substitution_by}
+use Rattle.sh_exec_shell.specs.Forks.{Turned, begun_substitution, fork_turn, guarded, inherited, is_beside, is_more, list_by, list_turn, made_shell, program_by, stage_by, stage_from, stage_input, stage_one, stage_shell, stage_turn, substitute_turn, substitution_by}
 use Rattle.sh_exec_frames.specs.Reporting.{behind}
 use Rattle.sh_exec_forms.specs.Builtins.{builtin_effect, call, effect_at, evaluation, performed}
 use Rattle.sh_exec_forms.specs.Forms.{Acted, with_run, after, after_by, after_status, after_leave, loop_left, onward, condition_run, at_action, undone}
@@ -340,7 +340,7 @@ module _ (directory : List ℕ) (pid : ℕ) (P : Option ℕ → KernelState → 
   fork_turn_keeps : (s : KernelState) (shell : Shell) (prepared : ExpandedCommand) → shell.pid ≡ pid → P None s → Leaves (fork_turn s shell prepared)
   unfolding fork_turn
   fork_turn_keeps s shell prepared e p =
-      let f = fork_of s shell.pid None false in program_keeps f.after shell prepared f.child e (own_forks shell e s None false p)
+      let f = fork_of s shell.pid None false in program_keeps f.after shell prepared f.child e (own_forks shell e s None false false p)
 
   stage_by_keeps : (s : KernelState) (shell : Shell) (command : Command) (stages : Stages) (o : Option ℕ) → shell.pid ≡ pid → P o s → Leaves (stage_by s shell command stages o)
   stage_by_keeps s shell command stages None e p = (e, p)
@@ -353,7 +353,7 @@ module _ (directory : List ℕ) (pid : ℕ) (P : Option ℕ → KernelState → 
       let l = stage_input stages.separator stages.children stages.aside shell s in
       let f = fork_of l.after shell.pid l.aside (is_more commands) in
       let laid = input_keeps directory pid (P None) (kept None) stages.separator stages.children stages.aside s shell e d p in
-      stage_by_keeps f.after shell command (record stages { commands = commands; aside = f.aside }) f.child e (own_forks shell e l.after l.aside (is_more commands) laid)
+      stage_by_keeps (guarded (is_beside stages.separator) f.child f.after) shell command (record stages { commands = commands; aside = f.aside }) f.child e (own_forks shell e l.after l.aside (is_more commands) (is_beside stages.separator) laid)
 
   stage_turn_keeps : (s : KernelState) (shell : Shell) (stages : Stages) → shell.pid ≡ pid → shell.vars.directory ≡ directory → P None s → Leaves (stage_turn s shell stages)
   unfolding stage_turn
@@ -368,7 +368,7 @@ module _ (directory : List ℕ) (pid : ℕ) (P : Option ℕ → KernelState → 
   list_turn_keeps s shell list e d p =
       let l = null_laid shell.vars.directory s shell.pid in
       let f = fork_of l.after shell.pid l.aside false in
-      list_by_keeps f.after shell list f.child e (own_forks shell e l.after l.aside false (null_keeps directory pid (P None) (kept None) s shell e d p))
+      list_by_keeps (guarded true f.child f.after) shell list f.child e (own_forks shell e l.after l.aside false true (null_keeps directory pid (P None) (kept None) s shell e d p))
 
   substitution_keeps : (s : KernelState) (shell : Shell) (program : CompoundList) (substitution : Substitution) (o : Option ℕ) → shell.pid ≡ pid → P o s → Leaves (substitution_by s shell program substitution o)
   substitution_keeps s shell program substitution None e p = (e, p)
@@ -378,7 +378,7 @@ module _ (directory : List ℕ) (pid : ℕ) (P : Option ℕ → KernelState → 
   unfolding substitute_turn
   substitute_keeps s shell program wants pending e p =
       let f = fork_of s shell.pid None true in
-      substitution_keeps f.after shell program (begun_substitution wants pending f.aside) f.child e (own_forks shell e s None true p)
+      substitution_keeps f.after shell program (begun_substitution wants pending f.aside) f.child e (own_forks shell e s None true false p)
 
   expanded_keeps : (s : KernelState) (shell : Shell) (x : Expanded) → shell.pid ≡ pid → P None s → Leaves (expanded_by s shell x)
   expanded_keeps s shell (expanded.Need program wants pending) e p = substitute_keeps s shell program wants pending e p

@@ -5,18 +5,19 @@ use Rattle.sh_kernel_descriptors.specs.Closings.{descriptors_left}
 use Rattle.sh_kernel_descriptors.specs.Machine.{MachineState, after_fork}
 use Rattle.sh_kernel_descriptors.specs.Naming.{with_number, with_pipe}
 use Rattle.sh_kernel_descriptors.specs.Opening.{for_reading, with_node}
-use Rattle.sh_kernel_descriptors.specs.Processes.{copies, is_copied, next_pid, of_process, process_at, with_status_of}
+use Rattle.sh_kernel_descriptors.specs.Processes.{copies, is_copied, next_pid, of_process}
 use Rattle.sh_kernel_descriptors.specs.Starting.{to_terminal}
-use Rattle.sh_kernel_descriptors.specs.declared.descriptor.Closing.TheVariants.{Named, All}
+use Rattle.sh_kernel_descriptors.specs.declared.descriptor.Closing.TheVariants.{Named}
 use Rattle.sh_kernel_descriptors.specs.declared.descriptor.Descriptor.{Descriptor}
 use Rattle.sh_kernel_descriptors.specs.declared.descriptor.DescriptorRef.TheVariants.{Number, Aside}
 use Rattle.sh_kernel_descriptors.specs.declared.process.Process.{Process}
-use Rattle.sh_kernel_descriptors.specs.declared.process.Status.{Status}
+use Rattle.sh_kernel_signals.specs.Laws.{OnlyStatuses}
+use Rattle.sh_kernel.specs.Signals.{with_processes}
 use Rattle.sh_kernel.specs.State.{KernelState, starting}
 use Rattle.sh_kernel.specs.Reaching.{reaches}
 use Rattle.sh_kernel.specs.Requests.{Request, Fork, after_request, after_requests}
 use Rattle.sh_kernel.proofs.Growing.{requests_grow}
-use Rattle.sh_kernel.proofs.Lists.{length_set}
+use Rattle.sh_kernel.proofs.Endings.{endings}
 use Rattle.sh_kernel.proofs.Reached.{lists_grow}
 use Rattle.sh_kernel.proofs.Requesting.{by_cases}
 use Rattle.sh_exec_machine.specs.Forking as forking
@@ -40,9 +41,11 @@ copies_others (d ∷ ds) pid child p test n = of_test (is_copied pid d) (copies_
     of_test false rest = rest
     of_test true rest = reaches_append (of_process child d ∷ []) (copies ds pid child) p test (of_another (of_process child d) p test n) rest
 
-status_length : (ps : List Process) (pid : ℕ) (status : Status) (o : Option Process) → length (with_status_of ps pid status o) ≡ length ps
-status_length ps pid status None = refl
-status_length ps pid status (Some q) = length_set ps _ _
+unmade_signals : (m : MachineState) (ps : List Process) (pids : List ℕ) → OnlyStatuses m.processes ps → UnmadeReachNothing m → UnmadeReachNothing (with_processes m ps pids)
+unmade_signals m ps pids only h p past =
+    let e = endings m ps pids in
+    let same : length (with_processes m ps pids).processes ≡ length m.processes = ap (λ (xs : List Process). length xs) e.processes ∙ only.count in
+    e.reaches_less p (λ j. true) (h p (omega (arith, past, same)))
 
 unmade_number : (m : MachineState) (pid number k : ℕ) → pid < next_pid m.processes → UnmadeReachNothing m → UnmadeReachNothing (with_number m pid number k)
 unmade_number m pid number k born h p past =
@@ -63,9 +66,7 @@ unmade_stay s pid r born h =
       pipe = λ k pipe slot held end. h;
       file = λ k node start end bytes files held file written. h;
       closes = λ closing p past. reaches_others_left pid closing m.descriptors p (λ j. true) (h p past);
-      ends = λ status p past.
-          let same = status_length m.processes pid status (process_at m.processes pid) in
-          reaches_others_left pid All m.descriptors p (λ j. true) (h p (omega (arith, past, same)));
+      signals = λ ps pids only signalled. unmade_signals m ps pids only h;
       numbers = λ number k held. unmade_number m pid number k born h;
       renames = λ name number p past. reaches_renamed m.descriptors pid name number p (λ j. true) (h p past);
       back = λ k number p past. reaches_renamed (descriptors_left pid (Named (Number number)) m.descriptors) pid (Aside k) (Some number) p (λ j. true) (reaches_others_left pid (Named (Number number)) m.descriptors p (λ j. true) (h p past));

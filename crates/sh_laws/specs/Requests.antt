@@ -5,7 +5,8 @@ use Rattle.sh_exec.specs.declared.task.Task.{Task}
 use Rattle.sh_exec.specs.declared.task.Task.TheVariants.{Runs, Asks}
 use Rattle.sh_exec_forms.specs.Running.{InterpreterState}
 use Rattle.sh_laws.specs.Rooted.{OpensFrom}
-use Rattle.sh_kernel.specs.Laws.{ChangesOnlyReached, opens}
+use Rattle.sh_kernel.specs.Laws.{ChangesOnlyReached, opens, sends}
+use Rattle.sh_kernel.specs.Calls.{after_key}
 use Rattle.sh_kernel.specs.Requests.{Request, after_request}
 use Rattle.sh_kernel.specs.State.{KernelState}
 use Rattle.sh_tty.specs.Happenings.{bytes_of}
@@ -45,16 +46,34 @@ abbrev pub opens_by : KernelState → List (ℕ × Request) → ℕ → Bool
 opens_by s [] node = false
 opens_by s (r ∷ rs) node = opens s.machine r.1 node || opens_by (after_request s r.0 r.1) rs node
 
+-- one of the requests sends a signal
+abbrev pub sends_by : KernelState → List (ℕ × Request) → Bool
+sends_by s [] = false
+sends_by s (r ∷ rs) = sends s r.0 r.1 || sends_by (after_request s r.0 r.1) rs
+
 -- the same, and of what was there nothing changed but what the process reached at first or what its requests opened
 pub record ChangesByRequests (pid : ℕ) (made : Option ℕ) (directory : List ℕ) (s t : KernelState) : Type 0 where
   pub requests : List (ℕ × Request)
   pub of_process : AllBy pid made directory requests
   pub after : t ≡ after_all s requests
-  pub changes : ChangesOnlyReached pid (opens_by s requests) s.machine t.machine
+  pub changes : ChangesOnlyReached pid (sends_by s requests) (opens_by s requests) s.machine t.machine
 
--- the second state comes from the first by requests of processes, from whatever directories
-abbrev pub ComesByRequests : KernelState → KernelState → Type 0
-ComesByRequests s t = (rs : List (ℕ × Request)) × (t ≡ after_all s rs)
+-- what changes a kernel: a request of a process, or a key of the terminal
+pub data Change : Type 0 where
+  Asked : (pid : ℕ) → (request : Request) → Change
+  Pressed : (byte : ℕ) → Change
+
+abbrev pub after_change : KernelState → Change → KernelState
+after_change s (Asked pid request) = after_request s pid request
+after_change s (Pressed byte) = after_key s byte
+
+abbrev pub after_changes : KernelState → List Change → KernelState
+after_changes s [] = s
+after_changes s (c ∷ cs) = after_changes (after_change s c) cs
+
+-- the second state comes from the first by requests of processes, from whatever directories, and by keys
+abbrev pub ComesByChanges : KernelState → KernelState → Type 0
+ComesByChanges s t = (cs : List Change) × (t ≡ after_changes s cs)
 
 -- what the terminal shows goes on
 abbrev pub Shows : KernelState → KernelState → Type 0

@@ -1,7 +1,7 @@
 -- Requests by the directories that they open files from.
 use Rattle.std.specs.Prelude.{◌≡◌, ℕ, List, [], ◌∷◌, true}
 use Rattle.sh_files_image.specs.Paths.{begins_at_root}
-use Rattle.sh_kernel.specs.Requests.{Request, Close, Duplicate, End, Fork, Here, MakePipe, Open, PutBack, Read, SetAside, StartProgram, Write}
+use Rattle.sh_kernel.specs.Requests.{Request, Close, Duplicate, End, Fork, Here, Kill, MakePipe, Open, PutBack, Read, SetAction, SetAside, SetForeground, SetGroup, StartProgram, TakeSignal, Write}
 
 -- where the request opens a file, the directory that the path goes from passes the test
 abbrev pub OpensFrom : (List ℕ → Type 0) → Request → Type 0
@@ -17,6 +17,11 @@ OpensFrom Passes (PutBack aside number) = Unit {0}
 OpensFrom Passes Fork = Unit {0}
 OpensFrom Passes StartProgram = Unit {0}
 OpensFrom Passes (End status) = Unit {0}
+OpensFrom Passes (Kill to signal) = Unit {0}
+OpensFrom Passes (SetAction signal action) = Unit {0}
+OpensFrom Passes TakeSignal = Unit {0}
+OpensFrom Passes (SetGroup member group) = Unit {0}
+OpensFrom Passes (SetForeground group) = Unit {0}
 
 -- that directory begins at the root
 abbrev pub IsRooted : Request → Type 0

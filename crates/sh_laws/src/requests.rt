@@ -42,7 +42,7 @@ pub fn forking_is_requests()
 /// stays that process's, and numbers only grow.
 pub fn undoing_changes_what_is_reached()
     ensures changes { (stay : Bool) (pid : ℕ) (us : List Undone) (s : KernelState)
-        → ChangesOnlyReached pid (λ node. false) s.machine (after_redirections stay pid us s).machine }
+        → ChangesOnlyReached pid false (λ node. false) s.machine (after_redirections stay pid us s).machine }
     ensures owned { (stay : Bool) (owner pid : ℕ) (us : List Undone) (s : KernelState) (test : ℕ → Bool) → pid ≢ owner → ((k : ℕ) → test k ≡ true → k < length s.machine.descriptions) → IsOwned owner test s.machine.descriptors → IsOwned owner test (after_redirections stay pid us s).machine.descriptors }
     ensures grows { (stay : Bool) (pid : ℕ) (us : List Undone) (s : KernelState)
         → OnlyGrows s.machine (after_redirections stay pid us s).machine }
@@ -53,7 +53,7 @@ pub fn undoing_changes_what_is_reached()
 /// descriptor is of a process still to come. What another process alone has stays that process's, so the new
 /// process doesn't come to have it; and numbers only grow.
 pub fn forking_changes_what_is_reached()
-    ensures changes { (s : KernelState) (pid : ℕ) (before : Option ℕ) (writes : Bool) → UnmadeReachNothing s.machine → ChangesOnlyReached pid (λ node. false) s.machine (fork_of s pid before writes).after.machine }
+    ensures changes { (s : KernelState) (pid : ℕ) (before : Option ℕ) (writes : Bool) → UnmadeReachNothing s.machine → ChangesOnlyReached pid false (λ node. false) s.machine (fork_of s pid before writes).after.machine }
     ensures owned { (s : KernelState) (owner pid : ℕ) (before : Option ℕ) (writes : Bool)
         (test : ℕ → Bool) → pid ≢ owner → owner < next_pid s.machine.processes
         → ((k : ℕ) → test k ≡ true → k < length s.machine.descriptions)

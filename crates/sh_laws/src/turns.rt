@@ -11,7 +11,7 @@ ghost use Rattle.sh_laws.specs.Forking.{UnmadeReachNothing};
 ghost use Rattle.sh_kernel_descriptors.specs.Processes.{next_pid};
 ghost use Rattle.sh_kernel.specs.Laws.{OnlyGrows};
 ghost use Rattle.sh_kernel.specs.State.{KernelState};
-ghost use Rattle.sh_laws.specs.Requests.{ByRequests, ChangesByRequests, ComesByRequests, Shows, directory_of, number_of};
+ghost use Rattle.sh_laws.specs.Requests.{ByRequests, ChangesByRequests, ComesByChanges, Shows, directory_of, number_of};
 ghost use Rattle.sh_exec.specs.State.{State, run, start};
 ghost use Rattle.sh_exec.specs.declared.event.Event.{Event};
 ghost use Rattle.sh_exec.specs.declared.settings.Settings.{Settings};
@@ -33,8 +33,9 @@ pub fn turns_keep_numbers<S: Stock>()
 
 /// Law: by its turn a process changes only pipes and files that its descriptors refer to or that it opens. It
 /// changes only open file descriptions that its descriptors refer to, and neither the descriptors nor the
-/// status of another process that was there. Premises: the process is there, and no descriptor is of a
-/// process that is still to come.
+/// status of another process that was there; unless it sends a signal, as by its end: then it may also change the
+/// status of others that live, and close what those have that it ends. Premises: the process is there, and no
+/// descriptor is of a process that is still to come.
 pub fn turns_change_what_is_reached<S: Stock>()
     ensures { (s : KernelState) (task : Task S) → pid_of task < next_pid s.machine.processes
         → UnmadeReachNothing s.machine
@@ -43,10 +44,10 @@ pub fn turns_change_what_is_reached<S: Stock>()
 {}
 
 /// Law: whatever the events, and so under every schedule, the kernel's state after them comes from the state
-/// before them by requests of processes alone.
+/// before them by requests of processes and by keys alone.
 pub fn runs_are_requests<S: Stock>()
     ensures { (s : State S) (events : List Event)
-        → ComesByRequests s.machine (run S.meaning s events).machine }
+        → ComesByChanges s.machine (run S.meaning s events).machine }
 {}
 
 /// Law: under events the numbers of processes, open file descriptions, pipes and files only grow. The target
