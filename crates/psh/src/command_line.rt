@@ -19,7 +19,9 @@ fn report_option<'a>(alloc: Global) -> Arg<'a> {
 /// The options and operands of psh but for its words.
 fn command_without_words<'a>(alloc: Global) -> Result<Command<'a>, AllocError> {
     Command::new(alloc, PROGRAM)
-        .about("Runs a shell script over a modelled machine, by stated turns of its processes")
+        .about(
+            "Runs a shell script over a modelled machine, by stated turns of its processes and stated keys",
+        )
         .no_binary_name(true)
         .arg(text_option(alloc))?
         .arg(letters_option(alloc))?

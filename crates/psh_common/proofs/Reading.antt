@@ -1,9 +1,9 @@
 -- Numbers and lines of events.
-use Rattle.std.proofs.Common.{◌≡◌, ℕ, ◌+◌, ◌<◌, ◌≤◌, List, [], ◌∷◌, ◌++◌, append_assoc, true, false, length, Option, Some, None, IfSome, Ok, Err, nat_lt, refl, sym, ap, ◌∙◌, arith, if◌then◌else◌}
+use Rattle.std.proofs.Common.{◌≡◌, ℕ, ◌+◌, ◌<◌, ◌≤◌, ◌==◌, List, [], ◌∷◌, ◌++◌, append_assoc, true, false, length, Option, Some, None, IfSome, Ok, Err, nat_lt, refl, sym, ap, ◌∙◌, arith, if◌then◌else◌}
 use Rattle.std.specs.Prelude.{option_map}
 use Rattle.std.proofs.lemmas.Bool.Decides.{nat_tests}
 use Rattle.psh_common.specs.Lines.{further_parts, parts}
-use Rattle.psh_common.specs.Events.{Outcome, behind, events_in, line_turns, next_turns, run_turns, size_of, with_line}
+use Rattle.psh_common.specs.Events.{Outcome, behind, events_in, key_turns, line_turns, named_line, next_turns, run_turns, size_of, with_line}
 use Rattle.psh_common.specs.declared.events.EventFault.TheVariants.{BadEvent}
 use Rattle.psh_common.specs.declared.events.Turns.{Turns}
 use Rattle.psh_common.proofs.Lines.{parts-some}
@@ -15,6 +15,14 @@ next_turns-more xs first rest h = let p = parts-some 32 rest in sym (ap next_tur
 pub run_turns-more : (xs first ys second rest : List ℕ) → parts 32 xs ≡ first ∷ parts 32 ys → parts 32 ys ≡ second ∷ parts 32 rest → None ≡ run_turns (parts 32 xs)
 run_turns-more xs first ys second rest h k =
     let p = parts-some 32 rest in sym (ap run_turns (h ∙ ap (λ zs. first ∷ zs) (k ∙ ap (λ zs. second ∷ zs) p.are)))
+
+pub key_turns-more : (xs first rest : List ℕ) → parts 32 xs ≡ first ∷ parts 32 rest → None ≡ key_turns (parts 32 xs)
+key_turns-more xs first rest h = let p = parts-some 32 rest in sym (ap key_turns (h ∙ ap (λ ys. first ∷ ys) p.are))
+
+-- a line that isn't empty
+pub line_named : (xs : List ℕ) → (length xs == 0) ≡ false → line_turns xs ≡ named_line xs
+line_named [] h = absurd (cc)
+line_named (x ∷ xs) h = refl
 
 -- ---- lines
 abbrev pub left_events : ℕ → ℕ → Option (List ℕ) → Outcome

@@ -1,8 +1,8 @@
-//! The file of events: lines `run K [N]` and `next [N]`.
+//! The file of events: lines `run K [N]`, `next [N]`, `key HH` and `type TEXT`.
 ghost use Rattle.sh_base.specs.Memory.{no_memory};
 ghost use Rattle.std.specs.Prelude.{◌≡◌, ◌≢◌, ◌==◌, ◌+◌, ◌^◌, ◌<◌, ◌≤◌, ◌∷◌, ◌++◌, IfNone, IfOk, IfErr, IfSome, OnOk, OnErr, None, Some, Ok, Err, length, option_map, position};
 ghost use Rattle.psh_common.specs.Lines.{further_parts, parts};
-ghost use Rattle.psh_common.specs.Events.{events_of, line_turns, next_turns, number, place_of, run_turns, size_of, so_often, times_of, turns_of};
+ghost use Rattle.psh_common.specs.Events.{digit_of, events_of, is_typed, key_of, key_once, key_turns, key_with, line_turns, named_line, next_turns, number, place_of, run_turns, size_of, so_often, times_of, turns_of, typed_turns};
 ghost use Rattle.psh_common.specs.declared.events.EventFault.TheVariants as fault;
 
 use sh_base::NoMemory;
@@ -142,6 +142,51 @@ fn next_turns(words: Option<&[u8]>) -> Option<Turns>
     }
 }
 
+/// What a hexadecimal digit of either case stands for.
+fn digit_of(digit: u8) -> Option<u8>
+    ensures value { result ≡ digit_of digit }
+    ensures small { IfSome result (λ value. value < 16) }
+{
+    match digit {
+        b'0'..=b'9' => Some(digit - b'0'),
+        b'a'..=b'f' => Some(digit - b'a' + 10),
+        b'A'..=b'F' => Some(digit - b'A' + 10),
+        _ => None,
+    }
+}
+
+/// A key, once.
+fn key_once(byte: u8) -> Turns
+    ensures { result ≡ key_once byte }
+{
+    Turns {
+        event: Event::Key(byte),
+        times: 1,
+    }
+}
+
+/// A key of these two digits.
+fn key_of(digits: &[u8]) -> Option<Turns>
+    ensures { result ≡ key_of digits.now }
+{
+    let [high, low] = digits else {
+        return None;
+    };
+    let high = digit_of(*high)?;
+    let low = digit_of(*low)?;
+    Some(key_once(16 * high + low))
+}
+
+/// What follows `key`: `HH`.
+fn key_turns(words: Option<&[u8]>) -> Option<Turns>
+    ensures { result ≡ key_turns (further_parts 32 (option_map (λ rest. rest.now) words.entry)) }
+{
+    match cut(words?, b' ') {
+        (digits, None) => key_of(digits),
+        (_, Some(_)) => None,
+    }
+}
+
 /// The event of a line, and how often it comes.
 fn turns_of(line: &[u8]) -> Option<Turns>
     ensures { result ≡ turns_of line.now }
@@ -153,7 +198,48 @@ fn turns_of(line: &[u8]) -> Option<Turns>
     if name == b"next".as_slice() {
         return next_turns(words);
     }
+    if name == b"key".as_slice() {
+        return key_turns(words);
+    }
     None
+}
+
+/// Whether a line is `type`, one space and what is typed.
+fn is_typed(line: &[u8]) -> bool
+    ensures { result ≡ is_typed line.now }
+{
+    line.starts_with(b"type ")
+}
+
+/// Adds a key for each byte that is typed.
+fn add_typed(all: &mut Vec<Turns>, text: &[u8]) -> Result<(), EventFault>
+    ensures ok { OnOk result (all.new.items ≡ all.old.items ++ typed_turns text.now) }
+    ensures refused { IfErr result (λ fault. fault ≡ EventFault.NoMemory no_memory) }
+{
+    let mut rest = text;
+    'bytes: while let Some((byte, others)) = rest.split_first() {
+        all.push(key_once(*byte))?;
+        rest = others;
+    }
+    Ok(())
+}
+
+/// Adds the event of a line that isn't empty, or the keys that it types.
+fn add_named(all: &mut Vec<Turns>, text: &[u8], line: u64) -> Result<(), EventFault>
+    ensures ok { OnOk result
+        (option_map (λ turns. all.old.items ++ turns) (named_line text.now) ≡ Some all.new.items) }
+    ensures refused { IfErr result (λ fault.
+        fault ≢ EventFault.NoMemory no_memory → (fault ≡ EventFault.BadEvent line)
+        × (named_line text.now ≡ None)) }
+{
+    if is_typed(text) {
+        return add_typed(all, &text[5..]);
+    }
+    let Some(turns) = turns_of(text) else {
+        return Err(EventFault::BadEvent { line });
+    };
+    all.push(turns)?;
+    Ok(())
 }
 
 /// Adds the event of a line, if it has one, after the others.
@@ -167,11 +253,7 @@ fn add_line(all: &mut Vec<Turns>, text: &[u8], line: u64) -> Result<(), EventFau
     if text.is_empty() {
         return Ok(());
     }
-    let Some(turns) = turns_of(text) else {
-        return Err(EventFault::BadEvent { line });
-    };
-    all.push(turns)?;
-    Ok(())
+    add_named(all, text, line)
 }
 
 /// How many bytes a line has, with its newline where something follows it.

@@ -25,6 +25,17 @@ fn put_count(out: &mut Vec<u8>, count: u64, thing: &[u8]) -> Result<(), NoMemory
     Ok(())
 }
 
+/// The digits of a byte.
+const DIGITS: &[u8; 16] = b"0123456789abcdef";
+
+/// Adds the line of a key, but for its newline.
+fn put_key(out: &mut Vec<u8>, byte: u8) -> Result<(), NoMemory> {
+    out.extend_from_slice(b"key ")?;
+    out.push(DIGITS[usize::from(byte / 16)])?;
+    out.push(DIGITS[usize::from(byte % 16)])?;
+    Ok(())
+}
+
 /// Adds the lines of events, as psh reads them.
 fn put_events(out: &mut Vec<u8>, events: &[Event]) -> Result<(), NoMemory> {
     for event in events {
@@ -34,6 +45,7 @@ fn put_events(out: &mut Vec<u8>, events: &[Event]) -> Result<(), NoMemory> {
                 put_number(out, u64::from(*place))?;
             },
             Event::Next => out.extend_from_slice(b"next")?,
+            Event::Key(byte) => put_key(out, *byte)?,
         }
         out.push(b'\n')?;
     }

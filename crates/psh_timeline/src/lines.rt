@@ -1,6 +1,6 @@
 //! A run as lines.
 use crate::names::{put_action, put_fate, put_number};
-use crate::record::{Record, Row, Turn};
+use crate::record::{Cause, Record, Row, Turn};
 use sh_base::NoMemory;
 use sh_base::sequence::Text;
 use std::alloc::Global;
@@ -17,10 +17,16 @@ fn put_byte(out: &mut Vec<u8>, byte: u8) -> Result<(), NoMemory> {
         b' '..=b'~' => out.push(byte)?,
         _ => {
             out.extend_from_slice(b"\\x")?;
-            out.push(DIGITS[usize::from(byte / 16)])?;
-            out.push(DIGITS[usize::from(byte % 16)])?;
+            put_digits(out, byte)?;
         },
     }
+    Ok(())
+}
+
+/// Adds the two hexadecimal digits of a byte.
+fn put_digits(out: &mut Vec<u8>, byte: u8) -> Result<(), NoMemory> {
+    out.push(DIGITS[usize::from(byte / 16)])?;
+    out.push(DIGITS[usize::from(byte % 16)])?;
     Ok(())
 }
 
@@ -75,13 +81,21 @@ fn put_made(out: &mut Vec<u8>, row: Option<&Row>) -> Result<(), NoMemory> {
 
 /// Adds the line of a turn, but for its number.
 fn put_turn(out: &mut Vec<u8>, record: &Record, turn: &Turn, turns: usize) -> Result<(), NoMemory> {
-    put_process(out, record.rows.get(turn.process), turns)?;
-    out.push(b'\t')?;
-    put_action(out, turn.action)?;
-    if let Some(made) = turn.made {
-        put_made(out, record.rows.get(made))?;
+    match turn.cause {
+        Cause::Turn(by) => {
+            put_process(out, record.rows.get(by.process), turns)?;
+            out.push(b'\t')?;
+            put_action(out, by.action)?;
+            if let Some(made) = turn.made {
+                put_made(out, record.rows.get(made))?;
+            }
+            put_fate(out, by.status)?;
+        },
+        Cause::Key(byte) => {
+            out.extend_from_slice(b"-\tterminal\tkey ")?;
+            put_digits(out, byte)?;
+        },
     }
-    put_fate(out, turn.status)?;
     out.push(b'\t')?;
     put_escaped(out, turn.written.as_slice())?;
     out.push(b'\n')?;
@@ -89,7 +103,7 @@ fn put_turn(out: &mut Vec<u8>, record: &Record, turn: &Turn, turns: usize) -> Re
 }
 
 /// A run as lines, one a turn: its number from 1 on, the number of the process, what the process runs, what it does, and what the terminal
-/// gets, with tabs between them.
+/// gets, with tabs between them. A key has a line of its own, with `-` and `terminal` in place of a process.
 pub fn lines_of(alloc: Global, record: &Record) -> Result<Vec<u8>, NoMemory> {
     let mut out = Vec::new(alloc);
     let mut turns = 0usize;

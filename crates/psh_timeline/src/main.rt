@@ -47,7 +47,8 @@ fn refuse_events(rt: &HostRuntime, fault: EventFault) -> u8 {
     }
 }
 
-/// What happens in a world by these turns, up to the first event that moves no process.
+/// What happens in a world by these events. Those that do nothing are left out; of a line that says an event several times, those
+/// after the first that does nothing would do nothing either.
 fn record_in(
     rt: &HostRuntime,
     world: &mut World<Program>,
@@ -55,9 +56,7 @@ fn record_in(
 ) -> Result<Record, NoMemory> {
     let mut record = Record::new(rt.alloc())?;
     for turns in all {
-        if !note_events(rt.alloc(), world, turns.event, turns.times, &mut record)? {
-            break;
-        }
+        let _all = note_events(rt.alloc(), world, turns.event, turns.times, &mut record)?;
     }
     Ok(record)
 }

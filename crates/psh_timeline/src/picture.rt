@@ -1,7 +1,7 @@
 //! A run as a picture: a row for each process, a column for each turn, in bands one below the other.
 use crate::lines::{put_command, put_escaped};
 use crate::names::{LEGEND, letter, put_number};
-use crate::record::{Record, Row, Turn};
+use crate::record::{Cause, Record, Row, Turn};
 use crate::svg::{self, Point};
 use sh_base::NoMemory;
 use std::alloc::Global;
@@ -191,23 +191,50 @@ fn put_written(out: &mut Vec<u8>, alloc: Global, at: Point, turn: &Turn) -> Resu
     svg::put_text_down(out, at, &text)
 }
 
-/// Adds the line from a turn to the process that it made.
+/// Adds the line from a turn of a process to the process that it made.
 fn put_made(
+    out: &mut Vec<u8>,
+    record: &Record,
+    band: Band,
+    middle: Point,
+    process: usize,
+    made: Option<usize>,
+) -> Result<(), NoMemory> {
+    let Some(made) = made else {
+        return Ok(());
+    };
+    let from = middle.off(0, height_of(record, band, process));
+    let to = middle.off(0, height_of(record, band, made));
+    svg::put_line(out, from, to)
+}
+
+/// Adds the mark of a turn: its box with its letter, and the line to the process that it made. A key has none.
+fn put_mark(
     out: &mut Vec<u8>,
     record: &Record,
     band: Band,
     middle: Point,
     turn: &Turn,
 ) -> Result<(), NoMemory> {
-    let Some(made) = turn.made else {
+    let Cause::Turn(by) = turn.cause else {
         return Ok(());
     };
-    let from = middle.off(0, height_of(record, band, turn.process));
-    let to = middle.off(0, height_of(record, band, made));
-    svg::put_line(out, from, to)
+    put_made(out, record, band, middle, by.process, turn.made)?;
+    let below = height_of(record, band, by.process);
+    let box_corner = Point {
+        x: middle.x.saturating_sub(BOX / 2),
+        y: middle.y.saturating_add(below).saturating_sub(BOX / 2),
+    };
+    svg::put_box(out, box_corner, BOX, BOX, !turn.written.is_empty())?;
+    svg::put_text(
+        out,
+        middle.off(0, below.saturating_add(4)),
+        true,
+        letter(by.action).as_bytes(),
+    )
 }
 
-/// Adds a turn: its number, its box with its letter, the line to the process that it made, and what the terminal gets.
+/// Adds a turn: its number, its mark, and what the terminal gets.
 fn put_turn(
     alloc: Global,
     out: &mut Vec<u8>,
@@ -219,19 +246,7 @@ fn put_turn(
 ) -> Result<(), NoMemory> {
     let middle = column_of(band, corner, number).off(COLUMN / 2, 0);
     put_turn_number(out, alloc, middle, number)?;
-    put_made(out, record, band, middle, turn)?;
-    let below = height_of(record, band, turn.process);
-    let box_corner = Point {
-        x: middle.x.saturating_sub(BOX / 2),
-        y: middle.y.saturating_add(below).saturating_sub(BOX / 2),
-    };
-    svg::put_box(out, box_corner, BOX, BOX, !turn.written.is_empty())?;
-    svg::put_text(
-        out,
-        middle.off(0, below.saturating_add(4)),
-        true,
-        letter(turn.action).as_bytes(),
-    )?;
+    put_mark(out, record, band, middle, turn)?;
     let rows = rows_in(record, band)
         .saturating_mul(ROW)
         .saturating_add(ABOVE);

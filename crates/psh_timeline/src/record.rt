@@ -6,19 +6,35 @@ use sh_stock::Stock;
 use sh_world::{Event, Status, TurnAction, World};
 use std::alloc::Global;
 
-/// One turn.
-#[derive(Drop)]
-pub struct Turn {
-    /// The place of the process that took it, among all that ever were.
+/// A turn of a process.
+#[derive(Clone, Copy)]
+pub struct Move {
+    /// The place of the process, among all that ever were.
     pub process: usize,
     /// What it did.
     pub action: TurnAction,
+    /// How the process stood after it.
+    pub status: Status,
+}
+
+/// What an event was.
+#[derive(Clone, Copy)]
+pub enum Cause {
+    /// A turn of a process.
+    Turn(Move),
+    /// A key, with its byte.
+    Key(u8),
+}
+
+/// What one event did.
+#[derive(Drop)]
+pub struct Turn {
+    /// What the event was.
+    pub cause: Cause,
     /// The place of the process that it made, if it made one.
     pub made: Option<usize>,
     /// What the terminal got.
     pub written: Text,
-    /// How the process stood after it.
-    pub status: Status,
 }
 
 /// A process.
@@ -39,7 +55,7 @@ pub struct Row {
 /// What happened in a run.
 #[derive(Drop)]
 pub struct Record {
-    /// The turns in their order.
+    /// The turns and keys in their order.
     pub turns: Vec<Turn>,
     /// The processes in the order of their numbers.
     pub rows: Vec<Row>,
@@ -72,24 +88,31 @@ impl Record {
         Ok(Some(place))
     }
 
-    /// Adds a turn, in which its process may have started a program.
-    fn add_turn(&mut self, turn: Turn, words: Option<Sequence<Text>>) -> Result<(), NoMemory> {
-        let process = turn.process;
-        let has_ended = has_ended(turn.status);
-        self.turns.push(turn)?;
+    /// The process of this place started a program of these words in the last turn.
+    fn start(&mut self, process: usize, words: Sequence<Text>) {
         let turns = self.turns.len();
         if let Some(row) = self.rows.get_mut(process) {
-            row.go_on(turns, has_ended, words);
+            row.words = words;
+            row.started = turns;
         }
-        Ok(())
+    }
+
+    /// Notes which processes the last turn, or a key, has ended.
+    fn note_ends<S: Stock>(&mut self, world: &World<S>) {
+        let turns = self.turns.len();
+        for row in self.rows.iter_mut() {
+            if row.ended.is_none() && has_ended(world.status(row.pid)) {
+                row.ended = Some(turns);
+            }
+        }
     }
 }
 
 /// Whether a process with this status has ended.
-fn has_ended(status: Status) -> bool {
+fn has_ended(status: Option<Status>) -> bool {
     match status {
-        Status::Exited(_) | Status::Signaled(_) => true,
-        Status::Running | Status::Stopped(_) => false,
+        Some(Status::Exited(_) | Status::Signaled(_)) => true,
+        Some(Status::Running | Status::Stopped(_)) | None => false,
     }
 }
 
@@ -102,17 +125,6 @@ impl Row {
             made,
             started: 0,
             ended: None,
-        }
-    }
-
-    /// The process took the last of so many turns.
-    fn go_on(&mut self, turns: usize, has_ended: bool, words: Option<Sequence<Text>>) {
-        if has_ended {
-            self.ended = Some(turns);
-        }
-        if let Some(words) = words {
-            self.words = words;
-            self.started = turns;
         }
     }
 }
@@ -139,35 +151,88 @@ fn prospect_of<S: Stock>(alloc: Global, world: &World<S>, pid: u32) -> Result<Pr
     Ok(Prospect { action, words })
 }
 
-/// Gives a world one event, and notes the turn, if it is one. The answer is whether it is.
+/// What a terminal got since it showed so many bytes.
+fn written_since<S: Stock>(
+    alloc: Global,
+    world: &World<S>,
+    shown: usize,
+) -> Result<Text, NoMemory> {
+    Ok(Text::copy_of(alloc, world.terminal().get(shown..).unwrap_or(&[]))?)
+}
+
+/// Gives a world a key, and notes what it did. The answer is whether the first shell lived.
+fn note_key<S: Stock>(
+    alloc: Global,
+    world: &mut World<S>,
+    byte: u8,
+    record: &mut Record,
+) -> Result<bool, NoMemory> {
+    if world.ended().is_some() {
+        return Ok(false);
+    }
+    let shown = world.terminal().len();
+    world.apply(Event::Key(byte))?;
+    let written = written_since(alloc, world, shown)?;
+    record.turns.push(Turn {
+        cause: Cause::Key(byte),
+        made: None,
+        written,
+    })?;
+    record.note_ends(world);
+    Ok(true)
+}
+
+/// Gives a world the event that moves this process, and notes the turn.
+fn note_turn<S: Stock>(
+    alloc: Global,
+    world: &mut World<S>,
+    event: Event,
+    pid: u32,
+    record: &mut Record,
+) -> Result<(), NoMemory> {
+    let Prospect { action, words } = prospect_of(alloc, world, pid)?;
+    let shown = world.terminal().len();
+    world.apply(event)?;
+    let process = pid.saturating_sub(FIRST_PID) as usize;
+    let made = record.add_made(alloc, world)?;
+    let written = written_since(alloc, world, shown)?;
+    let status = world.status(pid).unwrap_or(Status::Running);
+    let cause = Cause::Turn(Move {
+        process,
+        action,
+        status,
+    });
+    record.turns.push(Turn {
+        cause,
+        made,
+        written,
+    })?;
+    if let Some(words) = words {
+        record.start(process, words);
+    }
+    record.note_ends(world);
+    Ok(())
+}
+
+/// Gives a world one event, and notes what it did. The answer is whether it did something: whether a process moved, or a key came
+/// while the first shell lived.
 fn note_event<S: Stock>(
     alloc: Global,
     world: &mut World<S>,
     event: Event,
     record: &mut Record,
 ) -> Result<bool, NoMemory> {
+    if let Event::Key(byte) = event {
+        return note_key(alloc, world, byte, record);
+    }
     let Some(pid) = world.chosen(event)? else {
         return Ok(false);
     };
-    let Prospect { action, words } = prospect_of(alloc, world, pid)?;
-    let shown = world.terminal().len();
-    world.apply(event)?;
-    let process = pid.saturating_sub(FIRST_PID) as usize;
-    let made = record.add_made(alloc, world)?;
-    let written = Text::copy_of(alloc, world.terminal().get(shown..).unwrap_or(&[]))?;
-    let status = world.status(pid).unwrap_or(Status::Running);
-    let turn = Turn {
-        process,
-        action,
-        made,
-        written,
-        status,
-    };
-    record.add_turn(turn, words)?;
+    note_turn(alloc, world, event, pid, record)?;
     Ok(true)
 }
 
-/// Gives a world an event so often, and notes the turns. The answer is whether all were turns.
+/// Gives a world an event so often, and notes what it did. The answer is whether it did something each time.
 pub fn note_events<S: Stock>(
     alloc: Global,
     world: &mut World<S>,
