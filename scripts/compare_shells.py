@@ -1,7 +1,7 @@
 #!/usr/bin/env python3
 """Runs scripts made at random by psh and by real shells, and shows those in which psh stands alone.
 
-usage: compare_shells.py words|documents|processes|lists|errexit|case|builtins|functions|traps|texts|input|asynchronous
+usage: compare_shells.py words|documents|processes|lists|errexit|case|builtins|functions|traps|texts|input|asynchronous|signals
                          [COUNT [SEED]]
 
 `words` expands words of every form, nested, with several IFS and positional parameters, into the fields that a program
@@ -14,7 +14,8 @@ In all of these every fourth compound command has redirections, and commands in 
 functions with bodies of every form, calls and unsets them, and has `return` and `eval`, some of it under `set -e`. `traps` sets
 traps on the exit of the shell, of subshells, substitutions and stages, and leaves these in every way, some under `set -e`. `texts` writes
 dot scripts and runs them, and has `exec`. `input` reads lines from files, here-documents and pipes, with several IFS and in loops, and has
-`command`. `asynchronous` starts asynchronous lists of every form and waits for them. Scripts do nothing whose result depends on the order of turns.
+`command`. `asynchronous` starts asynchronous lists of every form and waits for them. `signals` sets traps on signals that the
+shell sends itself and that its processes send it, and has processes that signals end. Scripts do nothing whose result depends on the order of turns.
 
 Shown is a script where no real shell gives what psh gives, and one where four or more agree with one another and not with
 psh; diagnostics are left out, since their texts differ. The shells are those of dash, bash, yash, mksh and busybox that are
@@ -29,10 +30,11 @@ import tempfile
 
 from random_asynchronous import Asynchronous
 from random_scripts import SOURCES
+from random_signals import Signals
 
 TOP = os.path.dirname(os.path.dirname(os.path.abspath(__file__)))
 PSH = os.environ.get("PSH", f"{TOP}/out/psh")
-KINDS = SOURCES | {"asynchronous": Asynchronous}
+KINDS = SOURCES | {"asynchronous": Asynchronous, "signals": Signals}
 SHELLS = [["dash"], ["bash", "--posix"], ["yash", "-o", "posixly-correct"], ["mksh"], ["busybox", "ash"]]
 # (another user runs the shells as itself)
 NOBODY = [] if os.geteuid() else ["setpriv", "--reuid=65534", "--regid=65534", "--clear-groups", "--no-new-privs"]
@@ -44,10 +46,13 @@ SCRIPTS = {
     "vars": 'echo "v:$x:$y:$#"\n',
     "st7": "exit 7\n",
     "sub": 'x=$(cat)\necho "[$x]"\n',
+    # sends a signal to itself, and to the shell that waits for it
+    "me": 'kill -s "$1" $$\necho on\n',
+    "up": 'kill -s "$1" $PPID\n',
 }
-STOCK = ["cat", "count", "echo", "false", "having", "head", "true"]
+STOCK = ["cat", "count", "echo", "false", "having", "head", "spin", "true"]
 # (`wc -c` alone would ask for the length of a file, and leave what it was to read to those after it)
-STAND_IN = {"having": 'exec grep -F -- "$1"\n', "count": 'cat | wc -c | tr -d " "\n'}
+STAND_IN = {"having": 'exec grep -F -- "$1"\n', "count": 'cat | wc -c | tr -d " "\n', "spin": "exec sleep 60\n"}
 FILES = {"in": "apple\nplum\npear\nplum pie\n", "a": "A\n", "long": "0123456789\n" * 60, "nl": "no newline"}
 
 

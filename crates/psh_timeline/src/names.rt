@@ -7,7 +7,8 @@ use sh_world::{Status, TurnAction};
 fn phrase(action: TurnAction) -> &'static str {
     match action {
         TurnAction::ReadCommand => "reads a command",
-        TurnAction::TakeTrap => "takes the trap on EXIT",
+        TurnAction::TakeTrap => "takes a trap",
+        TurnAction::SendSignal => "sends a signal",
         TurnAction::DefineFunction => "defines a function",
         TurnAction::Expand => "expands words",
         TurnAction::Assign => "assigns",
@@ -30,6 +31,7 @@ pub fn letter(action: TurnAction) -> &'static str {
     match action {
         TurnAction::ReadCommand => "c",
         TurnAction::TakeTrap => "t",
+        TurnAction::SendSignal => "k",
         TurnAction::DefineFunction => "d",
         TurnAction::Expand => "x",
         TurnAction::Assign => "a",

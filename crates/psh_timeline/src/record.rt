@@ -143,7 +143,11 @@ fn prospect_of<S: Stock>(alloc: Global, world: &World<S>, pid: u32) -> Result<Pr
             words: None,
         });
     };
-    let action = task.action().unwrap_or(TurnAction::Idle);
+    let action = if world.takes_trap(pid) {
+        TurnAction::TakeTrap
+    } else {
+        task.action().unwrap_or(TurnAction::Idle)
+    };
     let words = match task.starting() {
         Some(words) => Some(Sequence::from_vec(copies_of(alloc, words)?)),
         None => None,

@@ -6,12 +6,12 @@ use Rattle.sh_builtin.specs.Running.{BuiltIn, built_in, with_outcome}
 use Rattle.sh_builtin.specs.declared.builtin.Builtin.{Builtin}
 use Rattle.sh_builtin.specs.declared.invocation.Invocation.{Invocation}
 use Rattle.sh_builtin.specs.declared.outcome.Completion.{Completion}
-use Rattle.sh_builtin.specs.declared.outcome.Completion.TheVariants.{Done, Left, Runs, Reads, Waits}
+use Rattle.sh_builtin.specs.declared.outcome.Completion.TheVariants.{Done, Kills, Left, Runs, Reads, Waits}
 use Rattle.sh_builtin.specs.declared.outcome.Leave.{Leave}
 use Rattle.sh_builtin.specs.declared.outcome.Leave.TheVariants as leave
 use Rattle.sh_builtin.specs.declared.outcome.Outcome.{Outcome}
 use Rattle.sh_builtin.specs.declared.shell.Shell.{Shell}
-use Rattle.sh_kernel_descriptors.specs.Machine.{MachineState}
+use Rattle.sh_kernel.specs.State.{KernelState}
 
 abbrev pub by_name : Builtin → Invocation
 by_name builtin = record { builtin = builtin; is_special = is_special builtin }
@@ -33,12 +33,13 @@ regular_completion (Left l) = regular_leave l
 regular_completion (Runs how text) = Runs (record how { is_special = false }) text
 regular_completion (Reads reader) = Reads reader
 regular_completion (Waits awaited) = Waits awaited
+regular_completion (Kills ask) = Kills ask
 
 abbrev pub outcome_as : (is_special : Bool) → Outcome → Outcome
 outcome_as true outcome = outcome
 outcome_as false outcome = record outcome { status = regular_completion outcome.status }
 
--- ---- with its arguments, in a shell's process on this machine
-unfoldable pub invoked : MachineState → Shell → (last : ℕ) → Invocation → List (List ℕ) → BuiltIn
-invoked machine shell last invocation arguments =
-    let b = built_in machine shell last invocation.builtin arguments in with_outcome b.shell (outcome_as invocation.is_special b.outcome)
+-- ---- with its arguments, in a shell's process of this kernel
+unfoldable pub invoked : KernelState → Shell → (last : ℕ) → Invocation → List (List ℕ) → BuiltIn
+invoked s shell last invocation arguments =
+    let b = built_in s shell last invocation.builtin arguments in with_outcome b.shell (outcome_as invocation.is_special b.outcome)

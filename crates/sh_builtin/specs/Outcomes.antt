@@ -4,7 +4,7 @@ use Rattle.sh_builtin.specs.Builtins.{is_special, name_of}
 use Rattle.sh_builtin.specs.Messages.{fault_text, line_of, status_of}
 use Rattle.sh_builtin.specs.declared.builtin.Builtin.{Builtin}
 use Rattle.sh_builtin.specs.declared.outcome.Completion.{Completion}
-use Rattle.sh_builtin.specs.declared.outcome.Completion.TheVariants.{Done, Left, Reads, Runs, Waits}
+use Rattle.sh_builtin.specs.declared.outcome.Completion.TheVariants.{Done, Kills, Left, Reads, Runs, Waits}
 use Rattle.sh_builtin.specs.declared.outcome.Leave.{Leave}
 use Rattle.sh_builtin.specs.declared.outcome.Leave.TheVariants as leave
 use Rattle.sh_builtin.specs.declared.outcome.Outcome.{Outcome}
@@ -13,12 +13,19 @@ use Rattle.sh_builtin_environment.specs.declared.outcome.BuiltinFault.{BuiltinFa
 use Rattle.sh_builtin_environment.specs.declared.outcome.BuiltinFault.TheVariants as fault
 use Rattle.sh_builtin_environment.specs.declared.outcome.Outcome.{Outcome as Answer}
 use Rattle.sh_builtin_environment.specs.declared.outcome.Outcome.TheVariants as answer
+use Rattle.sh_builtin_jobs.specs.declared.run.KillAsk.{KillAsk}
 use Rattle.sh_builtin_regular.specs.declared.reader.LineReader.{LineReader}
 use Rattle.sh_builtin_regular.specs.declared.waiting.Awaited.{Awaited}
+use Rattle.sh_kernel_signals.specs.Sets.{no_signals}
+use Rattle.sh_kernel_signals.specs.declared.set.SignalSet.{SignalSet}
 
 -- its output, its messages, and how it ends
 abbrev pub outcome : List ℕ → List (List ℕ) → Completion → Outcome
-outcome out err status = record { out = out; err = err; status = status }
+outcome out err status = record { signals = no_signals; out = out; err = err; status = status }
+
+-- the signals whose traps it has set
+abbrev pub with_signals : Outcome → SignalSet → Outcome
+with_signals outcome signals = record outcome { signals = signals }
 
 abbrev pub done : ℕ → Outcome
 done status = outcome [] [] (Done status)
@@ -37,6 +44,9 @@ reading reader = outcome [] [] (Reads reader)
 
 abbrev pub waiting : Awaited → Outcome
 waiting awaited = outcome [] [] (Waits awaited)
+
+abbrev pub killing : KillAsk → Outcome
+killing ask = outcome [] [] (Kills ask)
 
 -- the status of a shell that is left so; break and continue leave no shell
 abbrev pub shell_status : Leave → ℕ

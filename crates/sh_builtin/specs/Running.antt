@@ -4,9 +4,9 @@ use Rattle.std.specs.List.{join_with_byte}
 use Rattle.sh_builtin.specs.Commands.{command_outcome}
 use Rattle.sh_builtin.specs.Functions.{unset_by}
 use Rattle.sh_builtin.specs.Loops.{leave_with, loop_with, operands_of}
-use Rattle.sh_builtin.specs.Outcomes.{done, misuse, outcome_of, output, reading, refusal, running, waiting}
+use Rattle.sh_builtin.specs.Outcomes.{done, misuse, killing, outcome, outcome_of, output, reading, refusal, running, waiting, with_signals}
 use Rattle.sh_builtin.specs.declared.builtin.Builtin.{Builtin}
-use Rattle.sh_builtin.specs.declared.builtin.Builtin.TheVariants.{Bracket, Break, Cd, Colon, Command, Continue, Dot, Echo, Eval, Exec, Exit, Export, False, Pwd, Read, ReadOnly, Return, Set, Shift, Test, Trap, True, Unset, Wait}
+use Rattle.sh_builtin.specs.declared.builtin.Builtin.TheVariants.{Bracket, Break, Cd, Colon, Command, Continue, Dot, Echo, Eval, Exec, Exit, Export, False, Kill, Pwd, Read, ReadOnly, Return, Set, Shift, Test, Trap, True, Unset, Wait}
 use Rattle.sh_builtin.specs.declared.outcome.Leave.TheVariants as leave
 use Rattle.sh_builtin.specs.declared.outcome.Outcome.{Outcome}
 use Rattle.sh_builtin.specs.declared.outcome.TextOrigin.TheVariants as origin
@@ -22,6 +22,14 @@ use Rattle.sh_builtin_environment.specs.Unsetting.{functions_to_unset, unset_ran
 use Rattle.sh_builtin_environment.specs.declared.attribute.Attribute.TheVariants as attribute
 use Rattle.sh_builtin_environment.specs.declared.outcome.BuiltinFault.{BuiltinFault}
 use Rattle.sh_builtin_environment.specs.declared.outcome.BuiltinFault.TheVariants as fault
+use Rattle.sh_builtin_jobs.specs.KillRuns.{kill_start}
+use Rattle.sh_builtin_jobs.specs.KillWords.{kill_of}
+use Rattle.sh_builtin_jobs.specs.SignalWords.{signal_line, signal_lines}
+use Rattle.sh_builtin_jobs.specs.declared.command.KillCommand.{KillCommand}
+use Rattle.sh_builtin_jobs.specs.declared.command.KillCommand.TheVariants as command
+use Rattle.sh_builtin_jobs.specs.declared.run.KillStep.{KillStep}
+use Rattle.sh_builtin_jobs.specs.declared.run.KillStep.TheVariants as kill
+use Rattle.sh_builtin_jobs.specs.declared.target.JobControl.{JobControl}
 use Rattle.sh_builtin_regular.specs.Brackets.{bracket_operands}
 use Rattle.sh_builtin_regular.specs.Conditional.{verdict_of}
 use Rattle.sh_builtin_regular.specs.declared.conditional.Verdict.{Verdict}
@@ -36,9 +44,13 @@ use Rattle.sh_builtin_regular.specs.declared.waiting.WaitStep.TheVariants as ste
 use Rattle.sh_builtin_regular.specs.Waits.{wait_of}
 use Rattle.sh_files.specs.Nodes.{FileMap}
 use Rattle.sh_files.specs.Search.{dot_script}
+use Rattle.sh_builtin.specs.declared.outcome.Completion.TheVariants as completion
+use Rattle.sh_kernel.specs.State.{KernelState}
 use Rattle.sh_kernel_descriptors.specs.Machine.{MachineState}
 use Rattle.sh_kernel_descriptors.specs.Terminals.{is_terminal}
 use Rattle.sh_kernel_descriptors.specs.declared.descriptor.DescriptorRef.TheVariants.{Number}
+use Rattle.sh_kernel_signals.specs.Groups.{member_at}
+use Rattle.std.specs.Option.{option_map_or}
 use Rattle.sh_vars.specs.Environment.{Environment, value_of}
 
 -- the shell after a built-in, and what that comes to
@@ -59,7 +71,7 @@ ran builtin shell r = with_outcome (with_vars shell r.environment) (outcome_of b
 
 -- of what trap leaves
 abbrev pub trapped : Shell → Trapped → BuiltIn
-trapped shell t = with_outcome (record shell { traps = t.traps }) (outcome_of Trap t.outcome)
+trapped shell t = with_outcome (record shell { traps = t.left.traps }) (with_signals (outcome_of Trap t.outcome) t.left.signals)
 
 -- ---- unset -f removes functions
 abbrev pub without_functions : Shell → List (List ℕ) → Shell
@@ -110,6 +122,23 @@ abbrev pub wait_outcome : Result WaitStart BuiltinFault → Outcome
 wait_outcome (Ok start) = wait_start start
 wait_outcome (Err why) = refusal Wait why
 
+-- ---- kill writes names, or has signals sent; there is no job control, and there are no jobs (XCU kill)
+abbrev pub control_of : KernelState → (pid : ℕ) → JobControl
+control_of s pid = record { is_on = false; own_group = option_map_or (λ m. m.group) (member_at s.members pid) 0 }
+
+abbrev pub kill_step : KillStep → Outcome
+kill_step (kill.Asks ask) = killing ask
+kill_step (kill.Over report) = outcome [] report.messages (completion.Done report.status)
+
+abbrev pub kill_does : KernelState → (pid : ℕ) → KillCommand → Outcome
+kill_does s pid command.Names = output signal_lines
+kill_does s pid (command.Name signal) = output (signal_line signal)
+kill_does s pid (command.Send send) = kill_step (kill_start (control_of s pid) s.machine.processes [] send)
+
+abbrev pub kill_outcome : KernelState → (pid : ℕ) → Result KillCommand BuiltinFault → Outcome
+kill_outcome s pid (Ok asked) = kill_does s pid asked
+kill_outcome s pid (Err why) = refusal Kill why
+
 -- ---- test: 0 where the condition holds, else 1; descriptors go from 0 to 31
 abbrev pub truth : Bool → ℕ
 truth true = 0
@@ -140,28 +169,29 @@ bracket_outcome machine shell (Some operands) = test_outcome machine shell Brack
 
 -- ---- a built-in with its arguments, in a shell's process on this machine; `last` is the status with which exit and return leave where
 -- they have no operand; exec comes here with wrong options alone, and command where it runs no other command
-unfoldable pub built_in : MachineState → Shell → (last : ℕ) → Builtin → List (List ℕ) → BuiltIn
-built_in machine shell last Bracket arguments = with_outcome shell (bracket_outcome machine shell (bracket_operands arguments))
-built_in machine shell last Break arguments = with_outcome shell (loop_with Break leave.Break (operands_of arguments))
-built_in machine shell last Cd arguments = ran Cd shell (cd_ran machine.files shell.vars arguments)
-built_in machine shell last Colon arguments = with_outcome shell (done 0)
-built_in machine shell last Command arguments = with_outcome shell (command_outcome machine.files shell (options_and_operands (codes "v") arguments))
-built_in machine shell last Continue arguments = with_outcome shell (loop_with Continue leave.Continue (operands_of arguments))
-built_in machine shell last Dot arguments = with_outcome shell (dot_outcome machine.files shell.vars (options_and_operands [] arguments))
-built_in machine shell last Echo arguments = with_outcome shell (echo_outcome arguments)
-built_in machine shell last Eval arguments = with_outcome shell (eval_outcome arguments)
-built_in machine shell last Exec arguments = with_outcome shell (misuse Exec)
-built_in machine shell last Exit arguments = with_outcome shell (leave_with Exit leave.Exit last (operands_of arguments))
-built_in machine shell last Export arguments = ran Export shell (mark_ran attribute.Export shell.vars arguments)
-built_in machine shell last False arguments = with_outcome shell (done 1)
-built_in machine shell last Pwd arguments = with_outcome shell (outcome_of Pwd (pwd_outcome shell.vars arguments))
-built_in machine shell last Read arguments = with_outcome shell (read_outcome (reader_of arguments))
-built_in machine shell last ReadOnly arguments = ran ReadOnly shell (mark_ran attribute.ReadOnly shell.vars arguments)
-built_in machine shell last Return arguments = with_outcome shell (leave_with Return leave.Return last (operands_of arguments))
-built_in machine shell last Set arguments = ran Set shell (set_ran shell.vars arguments)
-built_in machine shell last Shift arguments = ran Shift shell (shift_ran shell.vars arguments)
-built_in machine shell last Test arguments = with_outcome shell (test_outcome machine shell Test arguments)
-built_in machine shell last Trap arguments = trapped shell (trap_ran shell.traps arguments)
-built_in machine shell last True arguments = with_outcome shell (done 0)
-built_in machine shell last Unset arguments = ran Unset (without_functions shell arguments) (unset_ran shell.vars arguments)
-built_in machine shell last Wait arguments = with_outcome shell (wait_outcome (wait_of shell.known arguments))
+unfoldable pub built_in : KernelState → Shell → (last : ℕ) → Builtin → List (List ℕ) → BuiltIn
+built_in s shell last Bracket arguments = with_outcome shell (bracket_outcome s.machine shell (bracket_operands arguments))
+built_in s shell last Break arguments = with_outcome shell (loop_with Break leave.Break (operands_of arguments))
+built_in s shell last Cd arguments = ran Cd shell (cd_ran s.machine.files shell.vars arguments)
+built_in s shell last Colon arguments = with_outcome shell (done 0)
+built_in s shell last Command arguments = with_outcome shell (command_outcome s.machine.files shell (options_and_operands (codes "v") arguments))
+built_in s shell last Continue arguments = with_outcome shell (loop_with Continue leave.Continue (operands_of arguments))
+built_in s shell last Dot arguments = with_outcome shell (dot_outcome s.machine.files shell.vars (options_and_operands [] arguments))
+built_in s shell last Echo arguments = with_outcome shell (echo_outcome arguments)
+built_in s shell last Eval arguments = with_outcome shell (eval_outcome arguments)
+built_in s shell last Exec arguments = with_outcome shell (misuse Exec)
+built_in s shell last Exit arguments = with_outcome shell (leave_with Exit leave.Exit last (operands_of arguments))
+built_in s shell last Export arguments = ran Export shell (mark_ran attribute.Export shell.vars arguments)
+built_in s shell last False arguments = with_outcome shell (done 1)
+built_in s shell last Kill arguments = with_outcome shell (kill_outcome s shell.pid (kill_of arguments))
+built_in s shell last Pwd arguments = with_outcome shell (outcome_of Pwd (pwd_outcome shell.vars arguments))
+built_in s shell last Read arguments = with_outcome shell (read_outcome (reader_of arguments))
+built_in s shell last ReadOnly arguments = ran ReadOnly shell (mark_ran attribute.ReadOnly shell.vars arguments)
+built_in s shell last Return arguments = with_outcome shell (leave_with Return leave.Return last (operands_of arguments))
+built_in s shell last Set arguments = ran Set shell (set_ran shell.vars arguments)
+built_in s shell last Shift arguments = ran Shift shell (shift_ran shell.vars arguments)
+built_in s shell last Test arguments = with_outcome shell (test_outcome s.machine shell Test arguments)
+built_in s shell last Trap arguments = trapped shell (trap_ran shell.fixed shell.traps arguments)
+built_in s shell last True arguments = with_outcome shell (done 0)
+built_in s shell last Unset arguments = ran Unset (without_functions shell arguments) (unset_ran shell.vars arguments)
+built_in s shell last Wait arguments = with_outcome shell (wait_outcome (wait_of shell.known arguments))

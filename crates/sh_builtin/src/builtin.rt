@@ -1,11 +1,13 @@
 //! Built-in utilities.
 ghost use Rattle.std.specs.Prelude.{◌≡◌, ◌++◌, IfOk};
 ghost use Rattle.sh_builtin.specs.Builtins.{builtin_of, is_named, is_special, name_of, row_of, row_seen, regular, special};
+ghost use Rattle.sh_builtin.specs.Outcomes.{outcome_of, with_signals};
 ghost use Rattle.sh_builtin.specs.Running.{built_in, echo_outcome, eval_outcome, joined, with_outcome, without_functions};
 ghost use Rattle.sh_kernel.specs.State.{KernelState, StandsAt};
 
 use crate::command::command;
 use crate::dot::dot;
+use crate::killing::kill;
 use crate::leaving::{break_with, continue_with, exit_with, operands_of, return_with};
 use crate::outcome::{Outcome, TextOrigin};
 use crate::reading::read;
@@ -15,7 +17,7 @@ use crate::waiting::wait;
 use sh_base::NoMemory;
 use sh_base::sequence::{Sequence, Text};
 use sh_builtin_environment::{
-    Attribute, cd, functions_to_unset, mark, pwd, set, shift, trap, unset,
+    Attribute, TrapOutcome, cd, functions_to_unset, mark, pwd, set, shift, trap, unset,
 };
 use sh_kernel::Kernel;
 use std::alloc::Global;
@@ -39,6 +41,7 @@ pub enum Builtin {
     Exit,
     Export,
     False,
+    Kill,
     Pwd,
     Read,
     ReadOnly,
@@ -82,7 +85,7 @@ impl Row {
 }
 
 /// All of them.
-const BUILTINS: [Builtin; 24] = [
+const BUILTINS: [Builtin; 25] = [
     Builtin::Bracket,
     Builtin::Break,
     Builtin::Cd,
@@ -96,6 +99,7 @@ const BUILTINS: [Builtin; 24] = [
     Builtin::Exit,
     Builtin::Export,
     Builtin::False,
+    Builtin::Kill,
     Builtin::Pwd,
     Builtin::Read,
     Builtin::ReadOnly,
@@ -128,6 +132,7 @@ impl Builtin {
             Builtin::Exit => Row::special(b"exit"),
             Builtin::Export => Row::special(b"export"),
             Builtin::False => Row::regular(b"false"),
+            Builtin::Kill => Row::regular(b"kill"),
             Builtin::Pwd => Row::regular(b"pwd"),
             Builtin::Read => Row::regular(b"read"),
             Builtin::ReadOnly => Row::special(b"readonly"),
@@ -188,7 +193,7 @@ impl Builtin {
         arguments: &[Text],
     ) -> Result<Outcome, NoMemory>
         ensures { (s : KernelState) → StandsAt kernel.now s → IfOk result (λ outcome.
-            with_outcome shell.new outcome ≡ built_in s.machine shell.old last self arguments.now) }
+            with_outcome shell.new outcome ≡ built_in s shell.old last self arguments.now) }
     {
         match self {
             Builtin::Bracket => bracket(alloc, kernel, shell, arguments),
@@ -210,6 +215,7 @@ impl Builtin {
                 Outcome::of(alloc, Builtin::Export, answer)
             },
             Builtin::False => Ok(Outcome::done(alloc, 1)),
+            Builtin::Kill => kill(alloc, kernel, shell.pid, arguments),
             Builtin::Pwd => {
                 let answer = pwd(alloc, &shell.vars, arguments)?;
                 Outcome::of(alloc, Builtin::Pwd, answer)
@@ -227,8 +233,8 @@ impl Builtin {
             Builtin::Shift => Outcome::of(alloc, Builtin::Shift, shift(&mut shell.vars, arguments)),
             Builtin::Test => test(alloc, kernel, shell, Builtin::Test, arguments),
             Builtin::Trap => {
-                let answer = trap(alloc, &mut shell.traps, arguments)?;
-                Outcome::of(alloc, Builtin::Trap, answer)
+                let trapped = trap(alloc, &mut shell.traps, shell.fixed, arguments)?;
+                trap_outcome(alloc, trapped)
             },
             Builtin::True => Ok(Outcome::done(alloc, 0)),
             Builtin::Unset => {
@@ -248,6 +254,16 @@ fn remove_functions(shell: &mut Shell, arguments: &[Text])
     if let Some(names) = functions_to_unset(arguments) {
         shell.functions.remove_all(names);
     }
+}
+
+/// What trap comes to.
+fn trap_outcome(alloc: Global, trapped: TrapOutcome) -> Result<Outcome, NoMemory>
+    ensures { IfOk result (λ outcome.
+        outcome ≡ with_signals (outcome_of Builtin.Trap trapped.outcome) trapped.signals) }
+{
+    let TrapOutcome { signals, outcome } = trapped;
+    let outcome = Outcome::of(alloc, Builtin::Trap, outcome)?;
+    Ok(outcome.with_signals(signals))
 }
 
 /// echo with its arguments (XCU echo).

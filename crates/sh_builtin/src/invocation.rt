@@ -48,6 +48,7 @@ fn regular_completion(completion: Completion) -> Completion
         },
         Completion::Reads(reader) => Completion::Reads(reader),
         Completion::Waits(awaited) => Completion::Waits(awaited),
+        Completion::Kills(ask) => Completion::Kills(ask),
     }
 }
 
@@ -58,8 +59,14 @@ fn outcome_as(is_special: bool, outcome: Outcome) -> Outcome
     if is_special {
         return outcome;
     }
-    let Outcome { out, err, status } = outcome;
+    let Outcome {
+        signals,
+        out,
+        err,
+        status,
+    } = outcome;
     Outcome {
+        signals,
         out,
         err,
         status: regular_completion(status),
@@ -99,7 +106,7 @@ impl Invocation {
         arguments: &[Text],
     ) -> Result<Outcome, NoMemory>
         ensures { (s : KernelState) → StandsAt kernel.now s → IfOk result (λ outcome.
-            with_outcome shell.new outcome ≡ invoked s.machine shell.old last self arguments.now) }
+            with_outcome shell.new outcome ≡ invoked s shell.old last self arguments.now) }
     {
         let outcome = self.builtin.run(alloc, kernel, shell, last, arguments)?;
         Ok(outcome_as(self.is_special, outcome))

@@ -1,13 +1,15 @@
 //! What built-ins come to.
 ghost use Rattle.std.specs.Prelude.{◌≡◌, IfOk};
-ghost use Rattle.sh_builtin.specs.Outcomes.{done, failure, left, misuse, output, outcome_of, reading, refusal, running, shell_status, waiting};
+ghost use Rattle.sh_builtin.specs.Outcomes.{done, failure, killing, left, misuse, output, outcome_of, reading, refusal, running, shell_status, waiting, with_signals};
 
 use crate::builtin::Builtin;
 use crate::message::{fault_line, status_of};
 use sh_base::NoMemory;
 use sh_base::sequence::{Sequence, Text};
 use sh_builtin_environment::BuiltinFault;
+use sh_builtin_jobs::KillAsk;
 use sh_builtin_regular::{Awaited, LineReader};
+use sh_kernel_signals::SignalSet;
 use std::alloc::Global;
 
 /// How commands are left before their end.
@@ -71,12 +73,16 @@ pub enum Completion {
     Reads(LineReader),
     /// The shell waits first (XCU wait).
     Waits(Awaited),
+    /// A signal is sent first, to what each operand names (XCU kill).
+    Kills(KillAsk),
 }
 
-/// What a built-in comes to, beside what it changes of the shell. In this order it writes `out`, writes each message of `err`, and
-/// ends.
+/// What a built-in comes to, beside what it changes of the shell. In this order it sets what the process does with `signals`,
+/// writes `out`, writes each message of `err`, and ends.
 #[derive(Debug, Drop)]
 pub struct Outcome {
+    /// The signals whose traps it has set: before all else the process is to do with each of them what its trap says (XCU 2.15 trap).
+    pub signals: SignalSet,
     /// The bytes that are written to descriptor 1, in one write. Where there are none, nothing is written, also to a closed descriptor.
     pub out: Text,
     /// The messages that are then written to descriptor 2, each in a write of its own. Each is whole, with `psh: ` and a newline.
@@ -91,6 +97,7 @@ impl Outcome {
         ensures { result ≡ done status }
     {
         Outcome {
+            signals: SignalSet::new(),
             out: Sequence::new(alloc),
             err: Sequence::new(alloc),
             status: Completion::Done(status),
@@ -102,6 +109,7 @@ impl Outcome {
         ensures { result ≡ output text }
     {
         Outcome {
+            signals: SignalSet::new(),
             out: text,
             err: Sequence::new(alloc),
             status: Completion::Done(0),
@@ -113,6 +121,7 @@ impl Outcome {
         ensures { result ≡ left leave }
     {
         Outcome {
+            signals: SignalSet::new(),
             out: Sequence::new(alloc),
             err: Sequence::new(alloc),
             status: Completion::Left(leave),
@@ -124,6 +133,7 @@ impl Outcome {
         ensures { result ≡ running origin text }
     {
         Outcome {
+            signals: SignalSet::new(),
             out: Sequence::new(alloc),
             err: Sequence::new(alloc),
             status: Completion::Runs(
@@ -141,6 +151,7 @@ impl Outcome {
         ensures { result ≡ reading reader }
     {
         Outcome {
+            signals: SignalSet::new(),
             out: Sequence::new(alloc),
             err: Sequence::new(alloc),
             status: Completion::Reads(reader),
@@ -152,9 +163,40 @@ impl Outcome {
         ensures { result ≡ waiting awaited }
     {
         Outcome {
+            signals: SignalSet::new(),
             out: Sequence::new(alloc),
             err: Sequence::new(alloc),
             status: Completion::Waits(awaited),
+        }
+    }
+
+    /// Has a signal sent first.
+    pub(crate) fn killing(alloc: Global, ask: KillAsk) -> Outcome
+        ensures { result ≡ killing ask }
+    {
+        Outcome {
+            signals: SignalSet::new(),
+            out: Sequence::new(alloc),
+            err: Sequence::new(alloc),
+            status: Completion::Kills(ask),
+        }
+    }
+
+    /// The same, and the traps of these signals were set.
+    pub(crate) fn with_signals(self, signals: SignalSet) -> Outcome
+        ensures { result ≡ with_signals self signals }
+    {
+        let Outcome {
+            out,
+            err,
+            status,
+            ..
+        } = self;
+        Outcome {
+            signals,
+            out,
+            err,
+            status,
         }
     }
 
@@ -171,6 +213,7 @@ impl Outcome {
         let mut err = Sequence::new(alloc);
         err.push(line)?;
         Ok(Outcome {
+            signals: SignalSet::new(),
             out: Sequence::new(alloc),
             err,
             status: failure(builtin.is_special(), status),

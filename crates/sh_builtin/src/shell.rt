@@ -7,6 +7,7 @@ use crate::functions::Functions;
 use sh_base::NoMemory;
 use sh_base::sequence::Sequence;
 use sh_builtin_environment::Traps;
+use sh_kernel_signals::SignalSet;
 use sh_vars::Vars;
 use std::alloc::Global;
 use std::mem;
@@ -24,6 +25,8 @@ pub struct Shell {
     pub traps: Traps,
     /// The processes of its asynchronous lists for which `wait` hasn't waited (XCU 2.9.3.1).
     pub known: Sequence<u32>,
+    /// The signals that were ignored when it started, if it isn't interactive: `trap` does nothing on them (XCU 2.15 trap).
+    pub fixed: SignalSet,
 }
 
 impl Shell {
@@ -68,6 +71,7 @@ impl Shell {
                 functions,
                 traps,
                 known,
+                fixed: self.fixed,
             }),
             Err(error) => {
                 drop(traps);

@@ -23,7 +23,7 @@ pub use options::parse_options;
 pub use outcome::{BuiltinFault, Outcome};
 pub use setting::set;
 pub use shifting::shift;
-pub use trapping::trap;
+pub use trapping::{TrapOutcome, trap};
 pub use traps::{Traps, copy_of_action};
 pub use unsetting::{functions_to_unset, unset};
 pub use variables::{may_set, set_variable};

@@ -7,13 +7,13 @@ use Rattle.sh_builtin_jobs.specs.declared.run.KillAsk.{KillAsk}
 use Rattle.sh_builtin_jobs.specs.declared.run.KillStep.{KillStep}
 use Rattle.sh_builtin_jobs.specs.declared.run.KillStep.TheVariants.{Asks, Over}
 use Rattle.sh_builtin_jobs.specs.declared.target.JobControl.{JobControl}
-use Rattle.sh_builtin_jobs.specs.declared.target.KillTarget.{KillTarget}
 use Rattle.sh_jobs.specs.declared.fault.JobFault.{JobFault}
 use Rattle.sh_jobs.specs.declared.job.Job.{Job}
 use Rattle.sh_kernel_descriptors.specs.declared.process.Process.{Process}
+use Rattle.sh_kernel_signals.specs.declared.target.SignalTarget.{SignalTarget}
 
 -- ---- what is said of an operand: of one that names no job, and of one that reaches no process
-abbrev pub said_of : Result KillTarget JobFault → (is_reached : Bool) → Option (List ℕ)
+abbrev pub said_of : Result SignalTarget JobFault → (is_reached : Bool) → Option (List ℕ)
 said_of (Err fault) is_reached = Some (fault_text fault)
 said_of (Ok target) true = None
 said_of (Ok target) false = Some (codes "no such process")

@@ -19,4 +19,4 @@ pub use laws::{each_operand_is_served, names_and_statuses_name_signals};
 pub use listing::{JobsCommand, JobsNamed, job_lines, jobs_listed, jobs_of, tell_listed};
 pub use names::{signal_line, signal_lines};
 pub use run::{KillAsk, KillReport, KillStep, kill_start};
-pub use target::{JobControl, KillTarget, kill_target};
+pub use target::{JobControl, kill_target};

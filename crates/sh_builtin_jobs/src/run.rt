@@ -5,11 +5,12 @@ ghost use Rattle.sh_kernel.specs.State.{KernelState, StandsAt};
 
 use crate::command::KillSend;
 use crate::message::{fault_text, message_about};
-use crate::target::{JobControl, KillTarget, kill_target};
+use crate::target::{JobControl, kill_target};
 use sh_base::NoMemory;
 use sh_base::sequence::{Sequence, Text, copies_of};
 use sh_jobs::{JobFault, Jobs};
 use sh_kernel::Kernel;
+use sh_kernel_signals::SignalTarget;
 use std::alloc::Global;
 
 /// An operand of `kill`, for which the kernel is asked: the signal goes to its target, if there is one, and the answer is whether a process
@@ -23,7 +24,7 @@ pub struct KillAsk {
     /// The operand.
     pub word: Text,
     /// The processes that it names, or why it names no job: then nothing is sent.
-    pub target: Result<KillTarget, JobFault>,
+    pub target: Result<SignalTarget, JobFault>,
     /// What is to be said of the operands before it.
     pub messages: Sequence<Text>,
 }
@@ -47,7 +48,7 @@ pub enum KillStep {
 }
 
 /// What is said of an operand, if anything is.
-fn said_of(target: &Result<KillTarget, JobFault>, is_reached: bool) -> Option<&'static [u8]>
+fn said_of(target: &Result<SignalTarget, JobFault>, is_reached: bool) -> Option<&'static [u8]>
     ensures { option_map (λ text. text.now) result ≡ said_of target.now is_reached }
 {
     match target {
@@ -129,8 +130,8 @@ fn next_step(
 /// A copy of what an operand names.
 fn copy_of_target(
     alloc: Global,
-    target: &Result<KillTarget, JobFault>,
-) -> Result<Result<KillTarget, JobFault>, NoMemory>
+    target: &Result<SignalTarget, JobFault>,
+) -> Result<Result<SignalTarget, JobFault>, NoMemory>
     ensures { IfOk result (λ copy. copy ≡ target.now) }
 {
     match target {

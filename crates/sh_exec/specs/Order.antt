@@ -24,11 +24,11 @@ abbrev pub pids_of : {S : Type 0} → List (Task S) → List ℕ
 pids_of tasks = map pid_of tasks
 
 -- what the process of each pid is about to do
-abbrev pub actions_of : {S : Type 0} → List (Task S) → ℕ → Option Action
-actions_of [] pid = None
-actions_of (task ∷ tasks) pid = if nat_eq (pid_of task) pid then Some (action_of task) else actions_of tasks pid
+abbrev pub actions_of : {S : Type 0} → KernelState → List (Task S) → ℕ → Option Action
+actions_of s [] pid = None
+actions_of s (task ∷ tasks) pid = if nat_eq (pid_of task) pid then Some (action_of s task) else actions_of s tasks pid
 
 -- the list of runnable pids rises, and has every process that can take a turn and no other
 pub record ListsRunnable {S : Type 0} (s : KernelState) (tasks : List (Task S)) (pids : List ℕ) : Type 0 where
   pub rises : Rises pids
-  pub all : (pid : ℕ) → has pids pid ≡ is_runnable s (actions_of tasks) pid
+  pub all : (pid : ℕ) → has pids pid ≡ is_runnable s (actions_of s tasks) pid

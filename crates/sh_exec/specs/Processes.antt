@@ -12,7 +12,7 @@ use Rattle.sh_exec.specs.declared.task.Task.{Task}
 
 -- those that can take a turn
 abbrev pub pid_before : {S : Type 0} → KernelState → Task S → List ℕ → List ℕ
-pid_before s task pids = if can_do s (pid_of task) (action_of task) then pid_of task ∷ pids else pids
+pid_before s task pids = if can_do s (pid_of task) (action_of s task) then pid_of task ∷ pids else pids
 
 abbrev pub runnable_pids : {S : Type 0} → KernelState → List (Task S) → List ℕ
 runnable_pids s [] = []

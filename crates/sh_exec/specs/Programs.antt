@@ -5,14 +5,17 @@ use Rattle.sh_exec_machine.specs.declared.transfer.WriteOutcome.{WriteOutcome}
 use Rattle.sh_exec_machine.specs.declared.transfer.WriteOutcome.TheVariants as given
 use Rattle.sh_exec_machine.specs.declared.transfer.ReadOutcome.{ReadOutcome}
 use Rattle.sh_exec_machine.specs.declared.transfer.ReadOutcome.TheVariants as taken
-use Rattle.sh_kernel.specs.Calls.{end_call}
+use Rattle.sh_kernel.specs.Calls.{end_call, kill_call}
 use Rattle.sh_kernel.specs.State.{KernelKept, KernelState, StandsAt}
 use Rattle.sh_kernel_descriptors.specs.declared.descriptor.DescriptorRef.TheVariants.{Number}
 use Rattle.sh_stock.specs.Asking.{Meaning}
 use Rattle.sh_stock.specs.declared.asking.Answer.{Answer}
 use Rattle.sh_stock.specs.declared.asking.Answer.TheVariants as answer
 use Rattle.sh_stock.specs.declared.asking.Ask.{Ask}
-use Rattle.sh_stock.specs.declared.asking.Ask.TheVariants.{Read, Write, Stop, Idle, End}
+use Rattle.sh_kernel_signals.specs.declared.target.SignalTarget.TheVariants.{Process}
+use Rattle.sh_signal.specs.declared.signal.Signal.TheVariants.{Stop}
+use Rattle.sh_stock.specs.declared.asking.Ask.TheVariants as ask
+use Rattle.sh_stock.specs.declared.asking.Ask.TheVariants.{Read, Write, Idle, End}
 
 -- a program, and what it asks
 pub record ProgramState (S : Type 0) : Type 0 where
@@ -56,11 +59,14 @@ write_turn m s pid bytes program = let g = give_bytes s pid 1 bytes in with_next
 unfoldable pub end_turn : {S : Type 0} → KernelState → ℕ → ℕ → S → Left (ProgramState S)
 end_turn s pid status program = with_next (end_call s pid status).after (asks (End status) program)
 
--- no script can continue a process yet, so one that asks to be stopped goes on at once
+-- a program that asks to be stopped sends itself STOP, and goes on once it is continued
+unfoldable pub stop_turn : {S : Type 0} → Meaning S → KernelState → ℕ → S → Left (ProgramState S)
+stop_turn m s pid program = with_next (kill_call s (Process pid) Stop).after (asking m program answer.Done)
+
 abbrev pub ask_turn : {S : Type 0} → Meaning S → KernelState → ℕ → Ask → S → Left (ProgramState S)
 ask_turn m s pid (Read count) program = read_turn m s pid count program
 ask_turn m s pid (Write bytes) program = write_turn m s pid bytes program
-ask_turn m s pid Stop program = with_next s (asking m program answer.Done)
+ask_turn m s pid ask.Stop program = stop_turn m s pid program
 ask_turn m s pid Idle program = with_next s (asking m program answer.Done)
 ask_turn m s pid (End status) program = end_turn s pid status program
 

@@ -19,11 +19,15 @@ use Rattle.sh_exec_actions.specs.declared.action.Active.{Active}
 use Rattle.sh_exec_actions.specs.declared.action.Active.TheVariants.{Acting, Calling, Evaluating, Next, Done, Leaving}
 use Rattle.sh_exec_actions.specs.declared.action.ProgramStart.{ProgramStart}
 use Rattle.sh_exec_actions.specs.declared.action.Action.{Action}
-use Rattle.sh_exec_actions.specs.declared.action.Action.TheVariants.{Reading, Expanding, ReadSubstitution, WaitSubstitution, ReadLine, Awaiting, Redirecting, Forking, Starting, ForkStage, ForkList, AssignLoopVariable, Defining, Waiting, Writing, Trapping, Ending}
+use Rattle.sh_exec_actions.specs.declared.action.Action.TheVariants.{Reading, Expanding, ReadSubstitution, WaitSubstitution, ReadLine, Awaiting, SendSignal, Redirecting, Forking, Starting, ForkStage, ForkList, AssignLoopVariable, Defining, Waiting, Writing, Trapping, Ending}
 use Rattle.sh_exec_forms.specs.Running.{At}
 use Rattle.sh_kernel.specs.Calls.{start_call}
 use Rattle.sh_kernel.specs.State.{KernelState}
 use Rattle.sh_kernel_descriptors.specs.Processes.{parent_at}
+use Rattle.sh_kernel_signals.specs.Groups.{member_at}
+use Rattle.sh_kernel_signals.specs.Sets.{no_signals}
+use Rattle.sh_kernel_signals.specs.declared.set.SignalSet.{SignalSet}
+use Rattle.std.specs.Option.{option_map_or}
 use Rattle.sh_stock.specs.Asking.{Meaning}
 use Rattle.sh_stock.specs.declared.asking.Answer.TheVariants as answer
 use Rattle.sh_vars.specs.Environment.{Environment, value_of}
@@ -55,10 +59,14 @@ stock_start m s shell start None = failure s start.ends_shell (cannot_execute st
 abbrev pub parent_of : KernelState → ℕ → ℕ
 parent_of s pid = unwrap_or (parent_at s.machine.processes pid) 1
 
--- a script is run by a new shell in this process, which has no functions and no traps, and knows no processes
+-- a script is run by a new shell in this process, which has no functions and no traps, and knows no processes; what the process ignored
+-- before it goes on ignoring (2.15 trap)
+abbrev pub ignored_by : KernelState → (pid : ℕ) → SignalSet
+ignored_by s pid = option_map_or (λ m. m.ignored) (member_at s.members pid) no_signals
+
 abbrev pub script_shell : KernelState → Shell → List ℕ → List (List ℕ) → Shell
 script_shell s shell path operands =
-    record { pid = shell.pid; vars = script_environment shell.vars path operands shell.pid (parent_of s shell.pid); functions = []; traps = none_set; known = [] }
+    record { pid = shell.pid; vars = script_environment shell.vars path operands shell.pid (parent_of s shell.pid); functions = []; traps = none_set; known = []; fixed = ignored_by s shell.pid }
 
 abbrev pub script_start : {S : Type 0} → KernelState → Shell → List ℕ → List ℕ → List (List ℕ) → Left (Started S)
 script_start s shell path text operands =
@@ -95,6 +103,7 @@ starting_at (ReadSubstitution substitution) = None
 starting_at (WaitSubstitution substitution) = None
 starting_at (ReadLine reader) = None
 starting_at (Awaiting awaited) = None
+starting_at (SendSignal ask) = None
 starting_at (Redirecting p) = None
 starting_at (Forking p) = None
 starting_at (Starting start) = Some start

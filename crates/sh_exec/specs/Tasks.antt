@@ -14,6 +14,7 @@ use Rattle.sh_exec_forms.specs.Stacks as shell
 use Rattle.sh_exec_forms.specs.Running.{At}
 use Rattle.sh_exec_actions.specs.declared.form.Frame.{Frame}
 use Rattle.sh_files.specs.Nodes.{FileMap}
+use Rattle.sh_kernel_signals.specs.Sets.{no_signals}
 use Rattle.sh_vars.specs.Environment.{Environment, with_options, with_positional, with_zero}
 use Rattle.sh_vars.specs.Starting.{starting}
 
@@ -38,7 +39,7 @@ first_place image (Script path) = script_place image path
 -- it is before its first action
 abbrev pub first_task : {S : Type 0} → FileMap → Settings → Task S
 first_task image settings = Runs (record {
-  shell = record { pid = first_pid; vars = environment_of settings; functions = []; traps = none_set; known = [] };
+  shell = record { pid = first_pid; vars = environment_of settings; functions = []; traps = none_set; known = []; fixed = no_signals };
   run = At (Next (first_place image settings.source));
 })
 

@@ -1,5 +1,10 @@
--- What a process does in its next turn, by the place at which it stands, in the standard's words.
-use Rattle.std.specs.Prelude.{List, ℕ, length, Option, Some, None}
+-- What a process does in its next turn, by the place at which it stands, in the standard's words; the action of a trap on a signal may come
+-- before it.
+use Rattle.std.specs.Option.{is_some}
+use Rattle.std.specs.Prelude.{List, ℕ, length, Bool, false, Option, Some, None}
+use Rattle.sh_builtin.specs.declared.shell.Shell.{Shell}
+use Rattle.sh_exec_turns.specs.Traps.{trap_before}
+use Rattle.sh_kernel.specs.State.{KernelState}
 use Rattle.sh_exec.specs.declared.task.Task.{Task}
 use Rattle.sh_exec.specs.declared.task.Task.TheVariants.{Runs, Asks}
 use Rattle.sh_exec.specs.declared.turn_action.TurnAction.{TurnAction}
@@ -7,7 +12,7 @@ use Rattle.sh_exec.specs.declared.turn_action.TurnAction.TheVariants as turn
 use Rattle.sh_exec_actions.specs.declared.action.Active.{Active}
 use Rattle.sh_exec_actions.specs.declared.action.Active.TheVariants.{Acting, Calling, Evaluating, Next, Done, Leaving}
 use Rattle.sh_exec_actions.specs.declared.action.Action.{Action}
-use Rattle.sh_exec_actions.specs.declared.action.Action.TheVariants.{Reading, Expanding, ReadSubstitution, WaitSubstitution, ReadLine, Awaiting, Redirecting, Forking, Starting, ForkStage, ForkList, AssignLoopVariable, Defining, Waiting, Writing, Trapping, Ending}
+use Rattle.sh_exec_actions.specs.declared.action.Action.TheVariants.{Reading, Expanding, ReadSubstitution, WaitSubstitution, ReadLine, Awaiting, SendSignal, Redirecting, Forking, Starting, ForkStage, ForkList, AssignLoopVariable, Defining, Waiting, Writing, Trapping, Ending}
 use Rattle.sh_exec_actions.specs.declared.action.ToExpand.{ToExpand}
 use Rattle.sh_exec_actions.specs.declared.action.ToExpand.TheVariants.{Words, Values, Redirects, ForWords, CaseWord, CasePattern}
 use Rattle.sh_exec_forms.specs.Running.{active_of}
@@ -29,6 +34,7 @@ turn_action_at (ReadSubstitution substitution) = turn.ReadSubstitution
 turn_action_at (WaitSubstitution substitution) = turn.Wait
 turn_action_at (ReadLine reader) = turn.Read
 turn_action_at (Awaiting awaited) = turn.Wait
+turn_action_at (SendSignal ask) = turn.SendSignal
 turn_action_at (Redirecting p) = turn.Redirect
 turn_action_at (Forking p) = turn.Fork
 turn_action_at (Starting start) = turn.StartProgram
@@ -62,6 +68,19 @@ abbrev pub turn_action_of : {S : Type 0} → Task S → Option TurnAction
 turn_action_of (Runs interpreter) = turn_action_in (active_of interpreter.run)
 turn_action_of (Asks pid ask program) = Some (turn_action_for ask)
 
+-- ---- whether the action of a trap on a signal comes before that (2.12)
+abbrev pub takes_trap_in : KernelState → Shell → Active → Bool
+takes_trap_in s shell (Next place) = is_some (trap_before s shell place)
+takes_trap_in s shell (Acting invocation fields) = false
+takes_trap_in s shell (Calling body fields) = false
+takes_trap_in s shell (Evaluating how text) = false
+takes_trap_in s shell (Done ended) = false
+takes_trap_in s shell (Leaving status) = false
+
+abbrev pub takes_trap : {S : Type 0} → KernelState → Task S → Bool
+takes_trap s (Runs interpreter) = takes_trap_in s interpreter.shell (active_of interpreter.run)
+takes_trap s (Asks pid ask program) = false
+
 -- ---- the words of the program that is started in the next turn, its name first
 abbrev pub words_at : Action → Option (List (List ℕ))
 words_at (Starting start) = Some start.fields
@@ -71,6 +90,7 @@ words_at (ReadSubstitution substitution) = None
 words_at (WaitSubstitution substitution) = None
 words_at (ReadLine reader) = None
 words_at (Awaiting awaited) = None
+words_at (SendSignal ask) = None
 words_at (Redirecting p) = None
 words_at (Forking p) = None
 words_at (ForkStage stages) = None

@@ -6,6 +6,7 @@ ghost use Rattle.sh_exec.specs.Actions.{action_at, action_in, action_for, awaiti
 use sh_builtin_regular::Awaited;
 use sh_exec_actions::{Action, Active};
 use sh_kernel::{DescriptorRef, Next};
+use sh_signal::Signal;
 use sh_stock::Ask;
 use std::slice;
 
@@ -20,18 +21,21 @@ fn collecting(aside: Option<usize>) -> Next<'static>
 }
 
 /// The built-in `wait` waits for one process, or for all that the shell knows.
-fn awaiting<'a>(known: &'a [u32], awaited: &'a Awaited) -> Next<'a>
-    ensures { action_of result ≡ awaiting known.now awaited.now }
+fn awaiting<'a>(caught: Option<Signal>, known: &'a [u32], awaited: &'a Awaited) -> Next<'a>
+    ensures { action_of result ≡ awaiting caught known.now awaited.now }
 {
+    if caught.is_some() {
+        return Next::Other;
+    }
     match awaited {
         Awaited::All => Next::Wait(known),
         Awaited::Process(wait) => Next::Wait(slice::from_ref(&wait.process)),
     }
 }
 
-/// What is done at a place, where the shell knows these processes.
-fn action_at<'a>(known: &'a [u32], place: &'a Action) -> Next<'a>
-    ensures { action_of result ≡ action_at known.now place.now }
+/// What is done at a place, where the shell has caught this signal and knows these processes.
+fn action_at<'a>(caught: Option<Signal>, known: &'a [u32], place: &'a Action) -> Next<'a>
+    ensures { action_of result ≡ action_at caught known.now place.now }
 {
     match place {
         Action::Reading(_, _) => Next::Other,
@@ -39,7 +43,8 @@ fn action_at<'a>(known: &'a [u32], place: &'a Action) -> Next<'a>
         Action::ReadSubstitution(substitution) => collecting(substitution.aside),
         Action::WaitSubstitution(substitution) => Next::Wait(substitution.children.as_slice()),
         Action::ReadLine(_) => Next::Read(DescriptorRef::Number(0)),
-        Action::Awaiting(awaited) => awaiting(known, awaited),
+        Action::Awaiting(awaited) => awaiting(caught, known, awaited),
+        Action::SendSignal(_) => Next::Other,
         Action::Redirecting(_) => Next::Other,
         Action::Forking(_) => Next::Other,
         Action::Starting(_) => Next::Other,
@@ -54,12 +59,16 @@ fn action_at<'a>(known: &'a [u32], place: &'a Action) -> Next<'a>
     }
 }
 
-/// What a shell at this active place does, where it knows these processes.
-pub(crate) fn action_in<'a>(known: &'a [u32], active: &'a Active) -> Next<'a>
-    ensures { action_of result ≡ action_in known.now active.now }
+/// What a shell at this active place does, where it has caught this signal and knows these processes.
+pub(crate) fn action_in<'a>(
+    caught: Option<Signal>,
+    known: &'a [u32],
+    active: &'a Active,
+) -> Next<'a>
+    ensures { action_of result ≡ action_in caught known.now active.now }
 {
     match active {
-        Active::Next(place) => action_at(known, place),
+        Active::Next(place) => action_at(caught, known, place),
         Active::Acting(_, _) => Next::Other,
         Active::Calling(_, _) => Next::Other,
         Active::Evaluating(_, _) => Next::Other,

@@ -1,13 +1,16 @@
 //! A turn of a program.
-ghost use Rattle.std.specs.Prelude.{◌≡◌, IfOk, drop};
+ghost use Rattle.std.specs.Prelude.{◌≡◌, IfOk, OnOk, drop};
+ghost use Rattle.sh_kernel.specs.Calls.{kill_call};
 ghost use Rattle.sh_kernel.specs.State.{KernelState, StandsAt};
 ghost use Rattle.sh_tty.specs.Terminal.{Extends};
-ghost use Rattle.sh_exec.specs.Programs.{HasLeft, ask_turn, asking, asks, end_turn, read_by, read_turn, write_by, write_turn};
+ghost use Rattle.sh_exec.specs.Programs.{HasLeft, ask_turn, asking, asks, end_turn, read_by, read_turn, stop_turn, write_by, write_turn};
 
 use sh_base::NoMemory;
 use sh_base::sequence::Text;
 use sh_exec_machine::{ReadOutcome, WriteOutcome, end_process, give_bytes, take_bytes};
-use sh_kernel::{DescriptorRef, Kernel};
+use sh_kernel::{DescriptorRef, Kernel, KernelFault};
+use sh_kernel_signals::SignalTarget;
+use sh_signal::Signal;
 use sh_stock::{Answer, Ask, Stock};
 use std::alloc::Global;
 
@@ -124,6 +127,37 @@ fn end_turn<S: Stock>(
     Ok(Ask::End(status))
 }
 
+/// Sends a process STOP.
+fn stop(kernel: &mut Kernel, pid: u32) -> Result<(), NoMemory>
+    ensures state { (s : KernelState) → StandsAt kernel.old s
+        → OnOk result (StandsAt kernel.new (kill_call s (SignalTarget.Process pid) Signal.Stop).after) }
+    ensures terminal { kernel.new.terminal ≡ kernel.old.terminal }
+{
+    let to = SignalTarget::Process(pid);
+    match kernel.kill(&to, Signal::Stop) {
+        Ok(()) => Ok(()),
+        Err(KernelFault::NoMemory(lack)) => Err(lack),
+        Err(_) => Ok(()),
+    }
+}
+
+/// A program stops itself.
+#[tactic(auto, unfolding(crate::specs::Programs::stop_turn))]
+fn stop_turn<S: Stock>(
+    alloc: Global,
+    kernel: &mut Kernel,
+    pid: u32,
+    program: &mut S,
+) -> Result<Ask, NoMemory>
+    ensures state { (s : KernelState) → StandsAt kernel.old s → IfOk result (λ ask.
+        HasLeft kernel.new (asks ask program.new) (stop_turn S.meaning s pid program.old)) }
+    ensures terminal { kernel.new.terminal ≡ kernel.old.terminal }
+{
+    stop(kernel, pid)?;
+    let ask = asking(alloc, program, Answer::Done)?;
+    Ok(ask)
+}
+
 /// One turn of a program in the process `pid`: what it asks is done, and it takes the answer.
 #[tactic(auto, using(crate::proofs::Extending::unchanged))]
 pub(crate) fn ask_turn<S: Stock>(
@@ -148,7 +182,7 @@ pub(crate) fn ask_turn<S: Stock>(
             Ok(next)
         },
         Ask::Stop => {
-            let next = asking(alloc, program, Answer::Done)?;
+            let next = stop_turn(alloc, kernel, pid, program)?;
             Ok(next)
         },
         Ask::Idle => {

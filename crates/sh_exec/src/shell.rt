@@ -18,6 +18,7 @@ fn starting_at(place: &Action) -> Option<&ProgramStart>
         Action::WaitSubstitution(_) => None,
         Action::ReadLine(_) => None,
         Action::Awaiting(_) => None,
+        Action::SendSignal(_) => None,
         Action::Redirecting(_) => None,
         Action::Forking(_) => None,
         Action::Starting(start) => Some(start),

@@ -6,7 +6,7 @@ ghost use Rattle.sh_kernel.specs.Calls.{start_call};
 ghost use Rattle.sh_kernel.specs.State.{KernelState, StandsAt};
 ghost use Rattle.sh_exec_parts.specs.Messages as messages;
 ghost use Rattle.sh_exec.specs.Programs.{HasLeft, asking};
-ghost use Rattle.sh_exec.specs.Starting.{located_for, parent_of, program_in, script_shell, script_start, start_named, start_turn, started_by, stock_start};
+ghost use Rattle.sh_exec.specs.Starting.{ignored_by, located_for, parent_of, program_in, script_shell, script_start, start_named, start_turn, started_by, stock_start};
 
 use crate::program::asking;
 use crate::task::Task;
@@ -21,6 +21,7 @@ use sh_exec_parts::script_environment;
 use sh_exec_shell::Interpreter;
 use sh_files::{Files, Located, locate};
 use sh_kernel::Kernel;
+use sh_kernel_signals::SignalSet;
 use sh_stock::{Answer, Stock};
 use sh_vars::Vars;
 use std::alloc::Global;
@@ -106,6 +107,16 @@ fn parent_of(kernel: &Kernel, pid: u32) -> u32
     }
 }
 
+/// The signals that a process ignores.
+fn ignored_by(kernel: &Kernel, pid: u32) -> SignalSet
+    ensures { (s : KernelState) → StandsAt kernel.now s → result ≡ ignored_by s pid }
+{
+    match kernel.member(pid) {
+        Some(member) => member.ignored,
+        None => SignalSet::new(),
+    }
+}
+
 /// A script.
 fn start_script<S: Stock>(
     alloc: Global,
@@ -123,6 +134,7 @@ fn start_script<S: Stock>(
     let parent = parent_of(kernel, pid);
     let vars = script_environment(alloc, &shell.vars, path, operands, pid, parent)?;
     let traps = Traps::new(alloc)?;
+    let fixed = ignored_by(kernel, pid);
     close_aside(kernel, pid);
     let shell = Shell {
         pid,
@@ -130,6 +142,7 @@ fn start_script<S: Stock>(
         functions: Functions::new(alloc),
         traps,
         known: Sequence::new(alloc),
+        fixed,
     };
     Ok(Started::Becomes(Task::Runs(Interpreter::reading(alloc, shell, text))))
 }

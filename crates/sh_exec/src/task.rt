@@ -7,7 +7,7 @@ ghost use Rattle.sh_tty.specs.Terminal.{Extends};
 ghost use Rattle.sh_exec_shell.specs.Reduction.{shell_turn};
 ghost use Rattle.sh_exec.specs.Actions.{action_of};
 ghost use Rattle.sh_exec.specs.Tasks.{first_place, first_task, frames_of, pid_of};
-ghost use Rattle.sh_exec.specs.TurnActions.{starting_words, turn_action_of};
+ghost use Rattle.sh_exec.specs.TurnActions.{starting_words, takes_trap, turn_action_of};
 ghost use Rattle.sh_exec.specs.Turns.{IsTurned, by_shell, made_task, runs_by, task_behind, turn};
 
 use crate::action::{action_in, asked};
@@ -16,16 +16,18 @@ use crate::script::script_place;
 use crate::settings::{Settings, Source};
 use crate::shell::starting_of;
 use crate::start::{Started, start_turn};
-use crate::turn_action::{TurnAction, turn_action_for, turn_action_in, words_in};
+use crate::turn_action::{TurnAction, takes_trap_in, turn_action_for, turn_action_in, words_in};
 use sh_base::NoMemory;
 use sh_base::sequence::{Sequence, Text};
 use sh_builtin::{Functions, Shell};
 use sh_builtin_environment::Traps;
 use sh_exec_actions::{Action, Frame, ProgramStart};
+use sh_exec_frames::pending_signal;
 use sh_exec_parts::Rest;
 use sh_exec_shell::Interpreter;
 use sh_files::Files;
 use sh_kernel::{FIRST_PID, Kernel, Next};
+use sh_kernel_signals::SignalSet;
 use sh_stock::{Ask, CopyStock, Stock};
 use sh_vars::Vars;
 use std::alloc::Global;
@@ -126,6 +128,7 @@ impl<S: Stock> Task<S> {
             functions: Functions::new(alloc),
             traps,
             known: Sequence::new(alloc),
+            fixed: SignalSet::new(),
         };
         Ok(Task::Runs(Interpreter::at(alloc, shell, place)))
     }
@@ -181,14 +184,27 @@ impl<S: Stock> Task<S> {
         }
     }
 
-    /// What the process does in its next turn, for those who look on. After each turn a process stands before an action, so it is `Some` for each
-    /// process of a world. Takes no memory.
+    /// What the process does in its next turn, for those who look on, unless [a trap](Task::takes_trap) on a signal comes before that. After each
+    /// turn a process stands before an action, so it is `Some` for each process of a world. Takes no memory.
     pub fn action(&self) -> Option<TurnAction>
         ensures { result ≡ turn_action_of self.now }
     {
         match self {
             Task::Runs(interpreter) => turn_action_in(interpreter.active()),
             Task::Asks { ask, .. } => Some(turn_action_for(ask)),
+        }
+    }
+
+    /// Whether the process takes a trap on a signal in its next turn (XCU 2.12): it reads the first command of the trap's action, and does what
+    /// [`Task::action`] tells after the whole action. Takes no memory.
+    pub fn takes_trap(&self, kernel: &Kernel) -> bool
+        ensures { (s : KernelState) → StandsAt kernel.now s → result ≡ takes_trap s self.now }
+    {
+        match self {
+            Task::Runs(interpreter) => {
+                takes_trap_in(kernel, interpreter.shell(), interpreter.active())
+            },
+            Task::Asks { .. } => false,
         }
     }
 
@@ -204,12 +220,14 @@ impl<S: Stock> Task<S> {
     }
 
     /// What the process does in its next turn.
-    fn next(&self) -> Next<'_>
-        ensures { next.action_of result ≡ action_of self.now }
+    fn next(&self, kernel: &Kernel) -> Next<'_>
+        ensures { (s : KernelState) → StandsAt kernel.now s → next.action_of result ≡ action_of s self.now }
     {
         match self {
             Task::Runs(interpreter) => {
-                action_in(interpreter.shell().known.as_slice(), interpreter.active())
+                let shell = interpreter.shell();
+                let caught = pending_signal(kernel, shell);
+                action_in(caught, shell.known.as_slice(), interpreter.active())
             },
             Task::Asks { ask, .. } => asked(ask),
         }
@@ -218,9 +236,9 @@ impl<S: Stock> Task<S> {
     /// Whether it can take a turn: it is neither stopped nor ended, and its next action need not wait. Takes no memory.
     pub fn is_runnable(&self, kernel: &Kernel) -> bool
         ensures { (s : KernelState) → StandsAt kernel.now s
-            → result ≡ can_do s (pid_of self.now) (action_of self.now) }
+            → result ≡ can_do s (pid_of self.now) (action_of s self.now) }
     {
-        kernel.runnable(self.pid(), self.next())
+        kernel.runnable(self.pid(), self.next(kernel))
     }
 }
 

@@ -1,9 +1,13 @@
 //! What a process does in its next turn, for those who look on.
 ghost use Rattle.std.specs.Prelude.{◌≡◌, option_map};
-ghost use Rattle.sh_exec.specs.TurnActions.{turn_action_at, turn_action_for, turn_action_in, turn_action_of_expansion, words_at, words_in};
+ghost use Rattle.sh_kernel.specs.State.{KernelState, StandsAt};
+ghost use Rattle.sh_exec.specs.TurnActions.{takes_trap_in, turn_action_at, turn_action_for, turn_action_in, turn_action_of_expansion, words_at, words_in};
 
 use sh_base::sequence::Text;
+use sh_builtin::Shell;
 use sh_exec_actions::{Action, Active, ToExpand};
+use sh_exec_turns::is_interrupted;
+use sh_kernel::Kernel;
 use sh_stock::Ask;
 
 /// What a process does in its next turn.
@@ -11,7 +15,7 @@ use sh_stock::Ask;
 pub enum TurnAction {
     /// A shell reads the next complete command of a text, or finds that none follows (XCU 2.1).
     ReadCommand,
-    /// A shell takes its trap on EXIT: it reads the first command of the trap's action (2.15 trap).
+    /// A shell takes a trap: it reads the first command of the trap's action (2.15 trap).
     TakeTrap,
     /// A shell defines a function (2.9.5).
     DefineFunction,
@@ -41,7 +45,9 @@ pub enum TurnAction {
     },
     /// A shell waits until processes have ended.
     Wait,
-    /// A program is to be stopped, as by SIGSTOP.
+    /// A shell sends a signal, for the built-in `kill` (XCU kill).
+    SendSignal,
+    /// A program stops itself, as by SIGSTOP.
     Stop,
     /// A program does nothing.
     Idle,
@@ -74,6 +80,7 @@ fn at(place: &Action) -> TurnAction
         Action::WaitSubstitution(_) => TurnAction::Wait,
         Action::ReadLine(_) => TurnAction::Read,
         Action::Awaiting(_) => TurnAction::Wait,
+        Action::SendSignal(_) => TurnAction::SendSignal,
         Action::Redirecting(_) => TurnAction::Redirect,
         Action::Forking(_) => TurnAction::Fork,
         Action::Starting(_) => TurnAction::StartProgram,
@@ -118,6 +125,21 @@ pub(crate) fn turn_action_for(ask: &Ask) -> TurnAction
         Ask::Stop => TurnAction::Stop,
         Ask::Idle => TurnAction::Idle,
         Ask::End(status) => TurnAction::End(*status),
+    }
+}
+
+/// Whether the action of a trap on a signal comes before what a shell at this active place does.
+pub(crate) fn takes_trap_in(kernel: &Kernel, shell: &Shell, active: &Active) -> bool
+    ensures { (s : KernelState) → StandsAt kernel.now s
+        → result ≡ takes_trap_in s shell.now active.now }
+{
+    match active {
+        Active::Next(place) => is_interrupted(kernel, shell, place),
+        Active::Acting(_, _) => false,
+        Active::Calling(_, _) => false,
+        Active::Evaluating(_, _) => false,
+        Active::Done(_) => false,
+        Active::Leaving(_) => false,
     }
 }
 

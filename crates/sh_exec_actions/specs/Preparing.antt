@@ -49,6 +49,7 @@ nameless items = record {
   assignments = assignments_of items;
   undo = no_undo;
   status = 0;
+  has_words = false;
 }
 
 abbrev pub wants_of : Bool → Command → ToExpand
@@ -118,6 +119,7 @@ prepared_of env functions items fields status =
       assignments = assignments_of items;
       undo = no_undo;
       status = status;
+      has_words = true;
     }
 
 -- ---- what it does, once all else is done

@@ -3,6 +3,7 @@ use crate::status::CommandStatus;
 use sh_base::sequence::{Sequence, Text};
 use sh_base::shared::Shared;
 use sh_builtin::{Builtin, Completion, Invocation, Leave, TextRun};
+use sh_builtin_jobs::KillAsk;
 use sh_builtin_regular::{Awaited, LineReader};
 use sh_exec_machine::Undone;
 use sh_exec_parts::message::Piece;
@@ -64,6 +65,8 @@ pub struct ExpandedCommand {
     pub undo: Undo,
     /// The status of its last command substitution, 0 without one.
     pub status: u8,
+    /// Whether words were expanded before its redirections and assignments: not where it consists of assignments alone.
+    pub has_words: bool,
 }
 
 /// A `for` loop (2.9.4.2) whose words are expanded.
@@ -196,6 +199,8 @@ pub enum Action {
     ReadLine(LineReader),
     /// Wait for the built-in `wait` (XCU wait).
     Awaiting(Awaited),
+    /// Send a signal to what an operand of the built-in `kill` names (XCU kill).
+    SendSignal(KillAsk),
     /// Do the next redirection of a command (2.7).
     Redirecting(ExpandedCommand),
     /// Make the process that runs a program.

@@ -110,6 +110,7 @@ impl Copying for ExpandedCommand {
                 assignments,
                 undo,
                 status: self.status,
+                has_words: self.has_words,
             }),
             Err(lack) => {
                 drop(undo);
@@ -277,6 +278,7 @@ fn copy_completion(alloc: Global, status: &Completion) -> Result<Completion, NoM
         Completion::Runs(origin, text) => Ok(Completion::Runs(*origin, text.copy(alloc)?)),
         Completion::Reads(reader) => Ok(Completion::Reads(reader.copy(alloc)?)),
         Completion::Waits(awaited) => Ok(Completion::Waits(awaited.copy(alloc)?)),
+        Completion::Kills(ask) => Ok(Completion::Kills(ask.copy(alloc)?)),
     }
 }
 
@@ -349,6 +351,7 @@ impl Copying for Action {
             },
             Action::ReadLine(reader) => Ok(Action::ReadLine(reader.copy(alloc)?)),
             Action::Awaiting(awaited) => Ok(Action::Awaiting(awaited.copy(alloc)?)),
+            Action::SendSignal(ask) => Ok(Action::SendSignal(ask.copy(alloc)?)),
             Action::Redirecting(command) => Ok(Action::Redirecting(command.copy(alloc)?)),
             Action::Forking(command) => Ok(Action::Forking(command.copy(alloc)?)),
             Action::Starting(start) => { Ok(Action::Starting(start.copy(alloc)?)) },

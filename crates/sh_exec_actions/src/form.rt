@@ -1,8 +1,9 @@
 //! Running forms. A copy of one is equal to it.
 ghost use Rattle.std.specs.Prelude.{◌≡◌, IfOk};
 
-use crate::action::{ForLoop, Undo};
+use crate::action::{Action, ForLoop, Undo};
 use crate::status::CommandStatus;
+use crate::suspended::Suspended;
 use sh_base::NoMemory;
 use sh_base::sequence::{Sequence, Text, copies_of};
 use sh_base::shared::Shared;
@@ -112,8 +113,18 @@ pub enum Form {
     Evaluation(TextRun),
     /// The action of a trap on EXIT (2.15 trap), in a shell that ends with this status after it.
     Trapped(u8),
+    /// The action of a trap on a signal (2.15 trap): what `$?` was before it, and the action of the shell that comes after it.
+    Interruption(u8, Suspended<Action>),
     /// All of a process that was made where failures are ignored: they are ignored there too (2.15, set -e).
     FailuresIgnored,
+}
+
+/// A copy of the action of a trap on a signal.
+fn copy_interruption(alloc: Global, status: u8, next: &Action) -> Result<Form, NoMemory>
+    ensures { IfOk result (λ form. form ≡ Form.Interruption status next.now) }
+{
+    let next = next.copy(alloc)?;
+    Ok(Form::Interruption(status, Suspended::new(alloc, next)?))
 }
 
 impl Copying for Form {
@@ -135,6 +146,7 @@ impl Copying for Form {
             },
             Form::Evaluation(how) => Ok(Form::Evaluation(*how)),
             Form::Trapped(status) => Ok(Form::Trapped(*status)),
+            Form::Interruption(status, next) => copy_interruption(alloc, *status, next.get()),
             Form::FailuresIgnored => Ok(Form::FailuresIgnored),
         }
     }

@@ -7,6 +7,7 @@ mod copying;
 mod form;
 mod preparing;
 pub mod status;
+mod suspended;
 
 pub use action::{
     Action, Active, Case, CaseBranch, Expanded, ExpandedCommand, Finish, ForLoop, Move, Pending,
@@ -17,3 +18,4 @@ pub use preparing::{
     begin_command, failing, first_place, go_ahead, no_undo, not_done, perform, prepare,
 };
 pub use status::CommandStatus;
+pub use suspended::Suspended;

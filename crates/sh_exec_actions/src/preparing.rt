@@ -56,6 +56,7 @@ fn nameless(alloc: Global, items: &[SimpleItem]) -> Result<ExpandedCommand, NoMe
         assignments: Queue::new(assignments),
         undo: no_undo(alloc),
         status: 0,
+        has_words: false,
     })
 }
 
@@ -233,6 +234,7 @@ pub fn prepare(
         assignments: Queue::new(assignments),
         undo: no_undo(alloc),
         status,
+        has_words: true,
     })
 }
 

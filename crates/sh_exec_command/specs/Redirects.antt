@@ -1,5 +1,5 @@
 -- The redirections of a compound command (XCU 2.9.4): their words are expanded in one turn, before any of them is done.
-use Rattle.std.specs.Prelude.{ℕ, List, [], map, Option}
+use Rattle.std.specs.Prelude.{true, ℕ, List, [], map, Option}
 use Rattle.sh_exec_parts.specs.Messages.{fault_text}
 use Rattle.sh_exec_parts.specs.Redirections.{redirections_of}
 use Rattle.sh_exec_parts.specs.Simple.{Opened, compound_redirects, redirect_wanted}
@@ -48,6 +48,7 @@ redirected env command fields = record {
   assignments = [];
   undo = no_undo;
   status = 0;
+  has_words = true;
 }
 
 abbrev pub redirects_by : Command → Pending → expanding.Result → Turn

@@ -119,6 +119,7 @@ fn note(
         assignments,
         undo,
         status,
+        has_words,
     } = prepared;
     let undo = undo_with(alloc, &role, vars, undo, name)?;
     Ok(ExpandedCommand {
@@ -128,6 +129,7 @@ fn note(
         assignments,
         undo,
         status,
+        has_words,
     })
 }
 

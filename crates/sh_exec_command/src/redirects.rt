@@ -68,6 +68,7 @@ fn redirected(
         assignments: Queue::new(Sequence::new(alloc)),
         undo: no_undo(alloc),
         status: 0,
+        has_words: true,
     })
 }
 

@@ -1,4 +1,5 @@
 pub mod Alone
+pub mod Built
 pub mod Entered
 pub mod Inside
 pub mod Outward

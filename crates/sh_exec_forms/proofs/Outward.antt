@@ -5,7 +5,7 @@ use Rattle.sh_builtin.specs.declared.outcome.Leave.{Leave}
 use Rattle.sh_builtin.specs.declared.shell.Shell.{Shell}
 use Rattle.sh_exec_actions.specs.declared.action.Active.{Active}
 use Rattle.sh_exec_actions.specs.declared.status.CommandStatus.{CommandStatus}
-use Rattle.sh_exec_forms.specs.Builtins.{effect_at}
+use Rattle.sh_exec_forms.specs.Builtins.{effect_at, machine_at}
 use Rattle.sh_exec_forms.specs.Forms.{Acted, HasGone, HasPerformed, IsActed, IsOnWay, after, after_leave, after_status, at_action, exits_on_error, outward, step_run, with_run, within, within_run}
 use Rattle.sh_exec_forms.specs.Stacks.{Goes, IsFewer, Leaves, active_in, is_over, run_in, run_of}
 use Rattle.sh_exec_forms.specs.Running.{Run, At, In}
@@ -125,13 +125,14 @@ within_stays errexit around (In form run) h = refl
 
 -- what isn't over runs at its place, inside the forms that were entered
 pub performed_inward : (kernel : KernelKept) (s : KernelState) (old shell : Shell) (now before : List Form) (active next : Active)
-    → StandsAt kernel s → HasPerformed shell now before (Inward next) (effect_at before s old active)
+    → StandsAt kernel (machine_at before s old active) → HasPerformed shell now before (Inward next) (effect_at before s old active)
     → IsActed kernel shell (run_of now next) (at_action [] s old (run_of before active))
 performed_inward kernel s old shell now before active next k h =
     let p = effect_at before s old active in
+    let m = machine_at before s old active in
     let whole = by_forms before s old (At active)
-    ∙ ap (λ run. outward before (with_run s p.shell run)) (within_stays (exits_on_error p.shell) before p.run h.goes.1)
-    ∙ stays before s p.shell p.run h.goes.1 in
+    ∙ ap (λ run. outward before (with_run m p.shell run)) (within_stays (exits_on_error p.shell) before p.run h.goes.1)
+    ∙ stays before m p.shell p.run h.goes.1 in
     record {
       state = subst (λ (a : Acted). StandsAt kernel a.machine) (sym whole) k;
       shell_is = h.shell_is ∙ ap (λ (a : Acted). a.shell) (sym whole);
@@ -141,13 +142,14 @@ performed_inward kernel s old shell now before active next k h =
 -- what is over goes outward
 pub performed_outward : (later : KernelKept) (s : KernelState) (old shell after_shell : Shell) (now before : List Form) (active next bounded : Active) (ran : Run)
     → HasPerformed shell now before (Outward next) (effect_at before s old active) → bounded ≡ within (exits_on_error shell) now next
-    → IsActed later after_shell ran (outward now (with_run s shell (At bounded)))
+    → IsActed later after_shell ran (outward now (with_run (machine_at before s old active) shell (At bounded)))
     → IsActed later after_shell ran (at_action [] s old (run_of before active))
 performed_outward later s old shell after_shell now before active next bounded ran h b a =
     let p = effect_at before s old active in
+    let m = machine_at before s old active in
     let whole = by_forms before s old (At active)
-    ∙ ap (λ run. outward before (with_run s p.shell (within_run (exits_on_error p.shell) before run))) h.goes.1
-    ∙ ap (λ this. outward before (with_run s this (At (within (exits_on_error this) before next)))) (sym h.shell_is)
-    ∙ ap (λ forms. outward forms (with_run s shell (At (within (exits_on_error shell) forms next)))) (sym h.goes.0)
-    ∙ ap (λ this. outward now (with_run s shell (At this))) (sym b) in
+    ∙ ap (λ run. outward before (with_run m p.shell (within_run (exits_on_error p.shell) before run))) h.goes.1
+    ∙ ap (λ this. outward before (with_run m this (At (within (exits_on_error this) before next)))) (sym h.shell_is)
+    ∙ ap (λ forms. outward forms (with_run m shell (At (within (exits_on_error shell) forms next)))) (sym h.goes.0)
+    ∙ ap (λ this. outward now (with_run m shell (At this))) (sym b) in
     subst (IsActed later after_shell ran) (sym whole) a

@@ -14,6 +14,7 @@ use Rattle.sh_exec_command.specs.Expanding.{fatal}
 use Rattle.sh_exec_forms.specs.Entering.{command_run}
 use Rattle.sh_exec_frames.specs.Frames.{last_for, levels_left}
 use Rattle.sh_exec_frames.specs.Reporting.{behind}
+use Rattle.sh_exec_frames.specs.Signals.{after_traps}
 use Rattle.sh_exec_forms.specs.Running.{Run, At, In}
 use Rattle.sh_exec_parts.specs.Messages.{refusal_text}
 use Rattle.sh_exec_parts.specs.declared.message.Refusal.TheVariants as refusal
@@ -57,8 +58,22 @@ performed levels shell (Leaving leave) = with_active shell (Leaving leave)
 -- ---- a built-in acts inside some forms, the innermost first
 unfoldable pub builtin_effect : (around : List Form) → KernelState → Shell → Invocation → List (List ℕ) → Performed
 builtin_effect around s shell invocation fields =
-    let d = invoked s.machine shell (last_for around invocation.builtin shell.vars.special.status) invocation (drop 1 fields) in
+    let d = invoked s shell (last_for around invocation.builtin shell.vars.special.status) invocation (drop 1 fields) in
     performed (levels_left around) d.shell (behind invocation.builtin d.outcome)
+
+-- its process then does with the signals whose traps it has set what these say (2.15 trap)
+unfoldable pub builtin_machine : (around : List Form) → KernelState → Shell → Invocation → List (List ℕ) → KernelState
+builtin_machine around s shell invocation fields =
+    let d = invoked s shell (last_for around invocation.builtin shell.vars.special.status) invocation (drop 1 fields) in
+    after_traps s d.shell d.outcome.signals
+
+abbrev pub machine_at : (around : List Form) → KernelState → Shell → Active → KernelState
+machine_at around s shell (Acting invocation fields) = builtin_machine around s shell invocation fields
+machine_at around s shell (Calling body fields) = s
+machine_at around s shell (Evaluating how text) = s
+machine_at around s shell (Next place) = s
+machine_at around s shell (Done ended) = s
+machine_at around s shell (Leaving leave) = s
 
 abbrev pub effect_at : (around : List Form) → KernelState → Shell → Active → Performed
 effect_at around s shell (Acting invocation fields) = builtin_effect around s shell invocation fields

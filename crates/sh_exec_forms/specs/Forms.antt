@@ -15,14 +15,14 @@ use Rattle.sh_exec_actions.specs.declared.action.Action.TheVariants.{Ending, Rea
 use Rattle.sh_exec_actions.specs.declared.action.Undo.{Undo}
 use Rattle.sh_exec_actions.specs.declared.status.CommandStatus.{CommandStatus}
 use Rattle.sh_exec_machine.specs.Undoing as descriptors
-use Rattle.sh_exec_forms.specs.Builtins.{Performed, effect_at, with_parameters}
+use Rattle.sh_exec_forms.specs.Builtins.{Performed, effect_at, machine_at, with_parameters}
 use Rattle.sh_exec_forms.specs.Entering.{items_run, with_others, list_run, pipeline_run}
 use Rattle.sh_exec_forms.specs.Stacks.{Goes, run_of}
 use Rattle.sh_exec_frames.specs.Frames.{ends_action, may_return, has_loop, is_failure_ignored}
 use Rattle.sh_exec_forms.specs.Running.{Run, At, In}
 use Rattle.sh_exec_actions.specs.declared.form.Branches.{Branches}
 use Rattle.sh_exec_actions.specs.declared.form.Form.{Form}
-use Rattle.sh_exec_actions.specs.declared.form.Form.TheVariants.{Text, Commands, Joined, Negated, Restoring, If, Condition, Body, ForBody, Call, Evaluation, Trapped, FailuresIgnored}
+use Rattle.sh_exec_actions.specs.declared.form.Form.TheVariants.{Text, Commands, Joined, Negated, Restoring, If, Condition, Body, ForBody, Call, Evaluation, Trapped, Interruption, FailuresIgnored}
 use Rattle.sh_exec_actions.specs.declared.form.Loop.{Loop}
 use Rattle.sh_exec_forms.specs.declared.step.Step.{Step}
 use Rattle.sh_exec_forms.specs.declared.step.Step.TheVariants.{Outward, Inward}
@@ -181,7 +181,8 @@ after_text around origin.Eval leave shell = Leaving leave
 after_text around origin.DotScript leave shell = after_call around leave shell
 
 -- the next command of a text is read, behind this status; `$?` is the status of the command before (2.5.2). Behind the action of a trap on
--- EXIT the shell ends with the status that it was to have, unless the action leaves the shell (2.15 trap)
+-- EXIT the shell ends with the status that it was to have, unless the action leaves the shell; behind that of a trap on a signal it goes on
+-- where it was, and `$?` is what it was (2.15 trap)
 -- around: the forms round this one, the innermost first
 abbrev pub after_status : (around : List Form) → Form → KernelState → Shell → CommandStatus → Acted
 after_status around (Text rest) s shell ended = with_run s shell (At (Next (Reading rest ended.status)))
@@ -196,6 +197,7 @@ after_status around (ForBody series) s shell ended = with_run s (behind_status s
 after_status around (Call positional) s shell ended = with_run s (with_parameters shell positional) (At (returned around shell ended.status))
 after_status around (Evaluation how) s shell ended = with_run s shell (At (Done ended))
 after_status around (Trapped status) s shell ended = with_run s shell (At (Next (Ending status)))
+after_status around (Interruption status next) s shell ended = with_run s (behind_status shell status) (At (Next next))
 after_status around FailuresIgnored s shell ended = with_run s shell (At (Done ended))
 
 abbrev pub after_leave : (around : List Form) → Form → KernelState → Shell → Leave → Acted
@@ -212,6 +214,7 @@ after_leave around (ForBody series) s shell leave =
 after_leave around (Call positional) s shell leave = with_run s (with_parameters shell positional) (At (after_call around leave shell))
 after_leave around (Evaluation how) s shell leave = with_run s shell (At (after_text around how.origin leave shell))
 after_leave around (Trapped status) s shell leave = with_run s shell (At (Next (Ending (shell_status leave))))
+after_leave around (Interruption status next) s shell leave = with_run s shell (At (Leaving leave))
 after_leave around FailuresIgnored s shell leave = with_run s shell (At (Leaving leave))
 
 abbrev pub after_by : (around : List Form) → Form → KernelState → Shell → Run → Acted
@@ -230,7 +233,8 @@ after around form a = after_by around form a.machine a.shell a.run
 -- a built-in acts, a text is entered, and statuses go outward until the place is an action
 abbrev pub at_action : (around : List Form) → KernelState → Shell → Run → Acted
 at_action around s shell (At active) =
-    let p = effect_at around s shell active in with_run s p.shell (within_run (exits_on_error p.shell) around p.run)
+    let p = effect_at around s shell active in
+    with_run (machine_at around s shell active) p.shell (within_run (exits_on_error p.shell) around p.run)
 at_action around s shell (In form run) = after around form (at_action (form ∷ around) s shell run)
 
 -- a shell goes on at a step behind what a built-in did, inside the forms that there were before

@@ -1,7 +1,7 @@
 //! Built-ins act, and functions and texts are entered.
 ghost use Rattle.std.specs.Prelude.{◌≡◌, ◌∷◌, IfOk, OnOk, drop};
 ghost use Rattle.sh_exec_command.specs.Expanding.{fatal};
-ghost use Rattle.sh_exec_forms.specs.Builtins.{builtin_effect, call, effect_at, evaluation, performed, with_parameters};
+ghost use Rattle.sh_exec_forms.specs.Builtins.{builtin_effect, builtin_machine, call, effect_at, evaluation, machine_at, performed, with_parameters};
 ghost use Rattle.sh_exec_forms.specs.Forms.{HasPerformed};
 ghost use Rattle.sh_exec_frames.specs.Frames.{last_for, levels_left};
 ghost use Rattle.sh_exec_frames.specs.Reporting.{behind};
@@ -17,7 +17,7 @@ use sh_base::shared::Shared;
 use sh_builtin::{Invocation, Shell, TextRun};
 use sh_exec_actions::{Action, Active, Form};
 use sh_exec_command::fatal_message;
-use sh_exec_frames::{Frames, behind};
+use sh_exec_frames::{Frames, behind, heed_traps};
 use sh_exec_parts::Rest;
 use sh_exec_parts::message::{Refusal, refused};
 use sh_kernel::Kernel;
@@ -143,21 +143,25 @@ fn step_at(
 }
 
 /// A built-in acts.
-#[tactic(auto, unfolding(crate::specs::Builtins::builtin_effect))]
+#[tactic(auto, unfolding(crate::specs::Builtins::builtin_effect, crate::specs::Builtins::builtin_machine))]
 fn build(
     alloc: Global,
-    kernel: &Kernel,
+    kernel: &mut Kernel,
     shell: &mut Shell,
     frames: &mut Frames,
     invocation: Invocation,
     fields: &[Text],
 ) -> Result<Step, NoMemory>
-    ensures { (s : KernelState) → StandsAt kernel.now s → IfOk result (λ step.
+    ensures performed { (s : KernelState) → StandsAt kernel.old s → IfOk result (λ step.
         HasPerformed shell.new frames.new frames.old step
         (builtin_effect frames.old s shell.old invocation fields.now)) }
+    ensures state { (s : KernelState) → StandsAt kernel.old s → OnOk result
+        (StandsAt kernel.new (builtin_machine frames.old s shell.old invocation fields.now)) }
+    ensures terminal { kernel.new.terminal ≡ kernel.old.terminal }
 {
     let last = frames.last_for(invocation.builtin, shell.vars.status());
     let outcome = invocation.run(alloc, kernel, shell, last, arguments_of(fields))?;
+    heed_traps(kernel, shell, outcome.signals);
     let step = step_at(alloc, shell, frames, behind(invocation.builtin, outcome))?;
     Ok(step)
 }
@@ -165,14 +169,17 @@ fn build(
 /// Where a shell goes on from its active place, where a built-in has acted and a text is entered if one is to.
 pub(crate) fn perform(
     alloc: Global,
-    kernel: &Kernel,
+    kernel: &mut Kernel,
     shell: &mut Shell,
     frames: &mut Frames,
     active: Active,
 ) -> Result<Step, NoMemory>
-    ensures { (s : KernelState) → StandsAt kernel.now s → IfOk result (λ step.
+    ensures performed { (s : KernelState) → StandsAt kernel.old s → IfOk result (λ step.
         HasPerformed shell.new frames.new frames.old step
         (effect_at frames.old s shell.old active)) }
+    ensures state { (s : KernelState) → StandsAt kernel.old s → OnOk result
+        (StandsAt kernel.new (machine_at frames.old s shell.old active)) }
+    ensures terminal { kernel.new.terminal ≡ kernel.old.terminal }
 {
     match active {
         Active::Acting(invocation, fields) => {

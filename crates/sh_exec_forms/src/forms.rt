@@ -246,6 +246,10 @@ fn end_form(
         },
         Form::Evaluation(_) => Ok(Step::Outward(Active::Done(ended))),
         Form::Trapped(status) => Ok(Step::Inward(Active::Next(Action::Ending(status)))),
+        Form::Interruption(status, next) => {
+            shell.vars.set_status(status);
+            Ok(Step::Inward(Active::Next(next.into_inner())))
+        },
         Form::FailuresIgnored => Ok(Step::Outward(Active::Done(ended))),
     }
 }
@@ -297,6 +301,7 @@ fn leave_form(
         Form::Trapped(_) => {
             Ok(Step::Inward(Active::Next(Action::Ending(leave.shell_status()))))
         },
+        Form::Interruption(_, _) => Ok(Step::Outward(Active::Leaving(leave))),
         Form::FailuresIgnored => Ok(Step::Outward(Active::Leaving(leave))),
     }
 }

@@ -3,7 +3,7 @@ use Rattle.std.specs.Prelude.{ℕ, ◌-◌, Bool, true, false, Option, Some, Non
 use Rattle.sh_builtin.specs.declared.outcome.TextOrigin.{TextOrigin}
 use Rattle.sh_builtin.specs.declared.outcome.TextOrigin.TheVariants.{Eval, DotScript}
 use Rattle.sh_exec_actions.specs.declared.form.Form.{Form}
-use Rattle.sh_exec_actions.specs.declared.form.Form.TheVariants.{Text, Commands, Joined, Negated, Restoring, If, Condition, Body, ForBody, Call, Evaluation, Trapped, FailuresIgnored}
+use Rattle.sh_exec_actions.specs.declared.form.Form.TheVariants.{Text, Commands, Joined, Negated, Restoring, If, Condition, Body, ForBody, Call, Evaluation, Trapped, Interruption, FailuresIgnored}
 
 -- ---- loops (2.9.4), and the bodies of functions (2.9.5)
 abbrev pub is_loop : Form → Bool
@@ -19,6 +19,7 @@ is_loop (ForBody series) = true
 is_loop (Call positional) = false
 is_loop (Evaluation how) = false
 is_loop (Trapped status) = false
+is_loop (Interruption status next) = false
 is_loop FailuresIgnored = false
 
 -- a function doesn't see the loops of its caller
@@ -35,6 +36,7 @@ is_call (ForBody series) = false
 is_call (Call positional) = true
 is_call (Evaluation how) = false
 is_call (Trapped status) = false
+is_call (Interruption status next) = false
 is_call FailuresIgnored = false
 
 abbrev pub is_dot_script : TextOrigin → Bool
@@ -55,6 +57,7 @@ takes_return (ForBody series) = false
 takes_return (Call positional) = true
 takes_return (Evaluation how) = is_dot_script how.origin
 takes_return (Trapped status) = false
+takes_return (Interruption status next) = false
 takes_return FailuresIgnored = false
 
 -- ---- whether a text that is refused right inside a form ends a shell that isn't interactive (2.8.1): not where `command` has it run
@@ -71,6 +74,7 @@ refusal_ends (ForBody series) = true
 refusal_ends (Call positional) = true
 refusal_ends (Evaluation how) = how.is_special
 refusal_ends (Trapped status) = true
+refusal_ends (Interruption status next) = true
 refusal_ends FailuresIgnored = true
 
 -- ---- whether `set -e` takes no notice of a failure inside a form, whatever is around it (2.15, set): in a condition, in a pipeline of an
@@ -88,6 +92,7 @@ ignores_failure (ForBody series) = false
 ignores_failure (Call positional) = false
 ignores_failure (Evaluation how) = false
 ignores_failure (Trapped status) = false
+ignores_failure (Interruption status next) = false
 ignores_failure FailuresIgnored = true
 
 -- ---- calls of functions, texts that are run (2.15 dot, eval), and actions of traps, inside one another: with none around there may be so
@@ -109,6 +114,7 @@ levels_inside (ForBody series) levels = levels
 levels_inside (Call positional) levels = levels - 1
 levels_inside (Evaluation how) levels = levels - 1
 levels_inside (Trapped status) levels = levels - 1
+levels_inside (Interruption status next) levels = levels - 1
 levels_inside FailuresIgnored levels = levels
 
 -- ---- the action of a trap: what `$?` was before it (2.15 trap)
@@ -125,4 +131,5 @@ before_trap (ForBody series) = None
 before_trap (Call positional) = None
 before_trap (Evaluation how) = None
 before_trap (Trapped status) = Some status
+before_trap (Interruption status next) = Some status
 before_trap FailuresIgnored = None

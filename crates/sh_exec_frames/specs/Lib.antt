@@ -7,3 +7,4 @@ pub mod Writing
 pub mod Placed
 pub mod LineReading
 pub mod Awaiting
+pub mod Signals

@@ -3,8 +3,9 @@ ghost use Rattle.std.specs.Prelude.{◌≡◌, ◌∷◌, []};
 ghost use Rattle.sh_kernel.specs.State.{KernelState, StandsAt};
 ghost use Rattle.sh_exec_frames.specs.Placed.{IsPlaced};
 ghost use Rattle.sh_exec_machine.specs.Waits.{wait_status};
-ghost use Rattle.sh_exec_frames.specs.Awaiting.{all_by, await_turn, operand_by, operand_ended, step_place};
+ghost use Rattle.sh_exec_frames.specs.Awaiting.{all_by, await_ended, await_turn, operand_by, operand_ended, step_place};
 
+use crate::signals::pending_signal;
 use sh_builtin::Shell;
 use sh_builtin_regular::{Awaited, ProcessWait, WaitStep};
 use sh_exec_actions::{Action, Active, CommandStatus};
@@ -56,14 +57,28 @@ fn all(kernel: &Kernel, shell: &mut Shell) -> Active
     }
 }
 
-/// The turn of a wait of the built-in wait. Takes no memory.
+/// What is waited for may have ended.
+fn ended(kernel: &Kernel, shell: &mut Shell, awaited: Awaited) -> Active
+    ensures { (s : KernelState) → StandsAt kernel.now s
+        → IsPlaced kernel.now shell.new result (await_ended s shell.old awaited) }
+{
+    match awaited {
+        Awaited::All => all(kernel, shell),
+        Awaited::Process(wait) => operand(kernel, shell, wait),
+    }
+}
+
+/// The turn of a wait of the built-in wait: a signal that the shell has caught ends the waiting. Takes no memory.
 #[tactic(auto, unfolding(crate::specs::Awaiting::await_turn))]
 pub fn await_turn(kernel: &Kernel, shell: &mut Shell, awaited: Awaited) -> Active
     ensures { (s : KernelState) → StandsAt kernel.now s
         → IsPlaced kernel.now shell.new result (await_turn s shell.old awaited) }
 {
-    match awaited {
-        Awaited::All => all(kernel, shell),
-        Awaited::Process(wait) => operand(kernel, shell, wait),
+    match pending_signal(kernel, shell) {
+        Some(signal) => {
+            drop(awaited);
+            Active::Done(CommandStatus::unexcused(128 + signal.number()))
+        },
+        None => ended(kernel, shell, awaited),
     }
 }

@@ -142,6 +142,7 @@ impl Frames {
             Builtin::Exit => before_action(self.frames.as_slice(), false).unwrap_or(last),
             Builtin::Export => last,
             Builtin::False => last,
+            Builtin::Kill => last,
             Builtin::Pwd => last,
             Builtin::Read => last,
             Builtin::ReadOnly => last,

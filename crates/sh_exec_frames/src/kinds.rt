@@ -25,6 +25,7 @@ pub(crate) fn is_call(form: &Form) -> bool
         Form::Call(_) => true,
         Form::Evaluation(_) => false,
         Form::Trapped(_) => false,
+        Form::Interruption(_, _) => false,
         Form::FailuresIgnored => false,
     }
 }
@@ -76,6 +77,7 @@ pub(crate) fn is_loop(form: &Form) -> bool
         Form::Call(_) => false,
         Form::Evaluation(_) => false,
         Form::Trapped(_) => false,
+        Form::Interruption(_, _) => false,
         Form::FailuresIgnored => false,
     }
 }
@@ -97,6 +99,7 @@ pub(crate) fn ignores_failure(form: &Form) -> bool
         Form::Call(_) => false,
         Form::Evaluation(_) => false,
         Form::Trapped(_) => false,
+        Form::Interruption(_, _) => false,
         Form::FailuresIgnored => true,
     }
 }
@@ -118,6 +121,7 @@ pub(crate) fn levels_inside(form: &Form, levels: u16) -> u16
         Form::Call(_) => levels.saturating_sub(1),
         Form::Evaluation(_) => levels.saturating_sub(1),
         Form::Trapped(_) => levels.saturating_sub(1),
+        Form::Interruption(_, _) => levels.saturating_sub(1),
         Form::FailuresIgnored => levels,
     }
 }
@@ -139,6 +143,7 @@ pub(crate) fn before_trap(form: &Form) -> Option<u8>
         Form::Call(_) => None,
         Form::Evaluation(_) => None,
         Form::Trapped(status) => Some(*status),
+        Form::Interruption(status, _) => Some(*status),
         Form::FailuresIgnored => None,
     }
 }

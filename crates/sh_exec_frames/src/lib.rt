@@ -7,6 +7,7 @@ mod frames;
 mod kinds;
 mod line;
 mod reporting;
+mod signals;
 mod waiting;
 mod writing;
 
@@ -15,5 +16,6 @@ pub use frames::Frames;
 pub use kinds::MOST_LEVELS;
 pub use line::read_line_turn;
 pub use reporting::behind;
+pub use signals::{heed_traps, pending_action, pending_signal, signal_turn};
 pub use waiting::{answer_turn, wait_turn};
 pub use writing::after_write;

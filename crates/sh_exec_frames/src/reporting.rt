@@ -18,6 +18,7 @@ fn at_completion(status: Completion) -> Active
         Completion::Runs(how, text) => Active::Evaluating(how, text),
         Completion::Reads(reader) => Active::Next(Action::ReadLine(reader)),
         Completion::Waits(awaited) => Active::Next(Action::Awaiting(awaited)),
+        Completion::Kills(ask) => Active::Next(Action::SendSignal(ask)),
     }
 }
 

@@ -19,7 +19,7 @@ use Rattle.sh_exec_actions.specs.declared.action.ToExpand.{ToExpand}
 use Rattle.sh_exec_actions.specs.declared.action.ToExpand.TheVariants.{Words, Values, Redirects, ForWords, CaseWord, CasePattern}
 use Rattle.sh_exec_machine.specs.Forking.{Laid, fork_of, null_laid}
 use Rattle.sh_exec_forms.specs.Forms.{Acted, with_run}
-use Rattle.sh_exec_shell.specs.Acting.{in_forms}
+use Rattle.sh_exec_turns.specs.Acting.{in_forms}
 use Rattle.sh_exec_actions.specs.declared.form.Form.{Form}
 use Rattle.sh_exec_forms.specs.Bodies.{body_of, stage_run}
 use Rattle.sh_exec_forms.specs.Entering.{and_or_run}

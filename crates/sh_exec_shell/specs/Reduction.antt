@@ -1,5 +1,5 @@
 -- One turn of a shell: inward to its active place, the action there, and outward again.
-use Rattle.std.specs.Prelude.{List, [], ◌∷◌, None}
+use Rattle.std.specs.Prelude.{ℕ, List, [], ◌∷◌, Option, Some, None}
 use Rattle.sh_exec_command.specs.Expanding.{Turn}
 use Rattle.sh_builtin.specs.Outcomes.{shell_status}
 use Rattle.sh_builtin.specs.declared.shell.Shell.{Shell}
@@ -10,12 +10,14 @@ use Rattle.sh_exec_actions.specs.declared.action.Active.TheVariants.{Acting, Cal
 use Rattle.sh_exec_actions.specs.declared.action.Expanded.{Expanded}
 use Rattle.sh_exec_actions.specs.declared.action.Expanded.TheVariants as expanded
 use Rattle.sh_exec_actions.specs.declared.action.Action.{Action}
-use Rattle.sh_exec_actions.specs.declared.action.Action.TheVariants.{Reading, Expanding, ReadSubstitution, WaitSubstitution, ReadLine, Awaiting, Redirecting, Forking, Starting, ForkStage, ForkList, AssignLoopVariable, Defining, Waiting, Writing, Trapping, Ending}
-use Rattle.sh_exec_shell.specs.Acting.{collect_turn, defined, end_turn, ending, expand_turn, given_round, next, read_turn, redirect_turn, trap_turn, write_turn}
+use Rattle.sh_exec_actions.specs.declared.action.Action.TheVariants.{Reading, Expanding, ReadSubstitution, WaitSubstitution, ReadLine, Awaiting, SendSignal, Redirecting, Forking, Starting, ForkStage, ForkList, AssignLoopVariable, Defining, Waiting, Writing, Trapping, Ending}
+use Rattle.sh_exec_turns.specs.Acting.{collect_turn, defined, end_turn, ending, expand_turn, given_round, next, read_turn, redirect_turn, trap_turn, write_turn}
 use Rattle.sh_exec_frames.specs.Awaiting.{await_turn}
 use Rattle.sh_exec_frames.specs.LineReading.{read_line_turn}
 use Rattle.sh_exec_frames.specs.Placed.{Placed}
+use Rattle.sh_exec_frames.specs.Signals.{signal_turn}
 use Rattle.sh_exec_frames.specs.Waiting.{answer_turn, wait_turn}
+use Rattle.sh_exec_turns.specs.Traps.{interruption, trap_before}
 use Rattle.sh_exec_shell.specs.Forks.{Turned, fork_turn, inheriting, list_turn, stage_turn, substitute_turn}
 use Rattle.sh_exec_forms.specs.Forms.{Acted, with_run, after, at_action}
 use Rattle.sh_exec_forms.specs.Moves.{move_run}
@@ -46,6 +48,7 @@ act_place around s shell (ReadSubstitution substitution) = plain (collect_turn s
 act_place around s shell (WaitSubstitution substitution) = plain (with_run s shell (next (answer_turn s shell.pid substitution)))
 act_place around s shell (ReadLine reader) = placed (read_line_turn s shell reader)
 act_place around s shell (Awaiting awaited) = placed (await_turn s shell awaited)
+act_place around s shell (SendSignal ask) = placed (signal_turn s shell ask)
 act_place around s shell (Redirecting p) = plain (redirect_turn s shell p)
 act_place around s shell (Forking p) = fork_turn s shell p
 act_place around s shell (Starting start) = plain (with_run s shell (next (Starting start)))
@@ -58,11 +61,16 @@ act_place around s shell (Writing piece finish) = plain (write_turn s shell piec
 act_place around s shell (Trapping status) = plain (trap_turn s shell status)
 act_place around s shell (Ending status) = plain (end_turn s shell status)
 
+-- the action of a trap may come before it
+abbrev pub act_behind : (around : List Form) → KernelState → Shell → Action → (trap : Option (List ℕ)) → Turned
+act_behind around s shell place None = act_place around s shell place
+act_behind around s shell place (Some text) = plain (interruption around s shell place text)
+
 abbrev pub act_at : (around : List Form) → KernelState → Shell → Active → Turned
 act_at around s shell (Acting invocation fields) = plain (with_run s shell (At (Acting invocation fields)))
 act_at around s shell (Calling body fields) = plain (with_run s shell (At (Calling body fields)))
 act_at around s shell (Evaluating how text) = plain (with_run s shell (At (Evaluating how text)))
-act_at around s shell (Next place) = act_place around s shell place
+act_at around s shell (Next place) = act_behind around s shell place (trap_before s shell place)
 act_at around s shell (Done ended) = plain (with_run s shell (At (Done ended)))
 act_at around s shell (Leaving leave) = plain (with_run s shell (At (Leaving leave)))
 

@@ -2,7 +2,7 @@
 ghost use Rattle.std.specs.Prelude.{◌≡◌, IfOk, OnOk};
 ghost use Rattle.sh_kernel.specs.State.{KernelState, StandsAt};
 ghost use Rattle.sh_tty.specs.Terminal.{Extends};
-ghost use Rattle.sh_exec_shell.specs.Acting.{ending};
+ghost use Rattle.sh_exec_turns.specs.Acting.{ending};
 ghost use Rattle.sh_exec_shell.specs.Forks.{IsTurned};
 ghost use Rattle.sh_exec_shell.specs.Reduction.{at_root, reduce, shell_turn, with_root};
 ghost use Rattle.sh_exec_forms.specs.Stacks.{frames_of, path_of, run_of};

@@ -2,10 +2,7 @@
 #![tactic(auto)]
 
 mod forks;
-mod input;
 mod interpreter;
-mod output;
-mod redirecting;
 mod turn;
 
 pub use interpreter::Interpreter;

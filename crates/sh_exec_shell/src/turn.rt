@@ -2,98 +2,36 @@
 ghost use Rattle.std.specs.Prelude.{◌≡◌, [], IfOk};
 ghost use Rattle.sh_kernel.specs.State.{KernelState, StandsAt};
 ghost use Rattle.sh_tty.specs.Terminal.{Extends};
-ghost use Rattle.sh_exec_command.specs.Expanding as expanding;
-ghost use Rattle.sh_exec_command.specs.Reading.{next_command};
-ghost use Rattle.sh_exec_forms.specs.Forms.{IsActed, behind_status};
+ghost use Rattle.sh_exec_forms.specs.Forms.{IsActed};
 ghost use Rattle.sh_exec_command.specs.Series.{give_turn};
-ghost use Rattle.sh_exec_shell.specs.Acting.{after_refusal, defined, expand_turn, given_round, in_forms, is_fatal, read_turn, round_run, trap_turn, without_trap};
+ghost use Rattle.sh_exec_turns.specs.Acting.{defined, expand_turn, given_round, in_forms, round_run};
 ghost use Rattle.sh_exec_shell.specs.Forks.{IsTurned, inheriting, inside};
-ghost use Rattle.sh_exec_shell.specs.Reduction.{act_at, act_place, expanded_by, expansion, plain, reduce};
+ghost use Rattle.sh_exec_shell.specs.Reduction.{act_at, act_behind, act_place, expanded_by, expansion, plain, reduce};
+ghost use Rattle.sh_exec_turns.specs.Traps.{trap_before};
 ghost use Rattle.sh_exec_forms.specs.Running.{Run};
 ghost use Rattle.sh_exec_forms.specs.Stacks.{run_in, run_of};
-ghost use Rattle.sh_exec_frames.specs.Frames.{ends_shell, is_failure_ignored};
+ghost use Rattle.sh_exec_frames.specs.Frames.{is_failure_ignored};
 
 use crate::forks::{fork_turn, list_turn, stage_turn, substitute_turn};
-use crate::input::collect_turn;
 use crate::interpreter::Interpreter;
-use crate::output::{end_turn, write_turn};
-use crate::redirecting::redirect_turn;
 use sh_base::NoMemory;
 use sh_base::shared::Shared;
 use sh_builtin::{Functions, Shell};
-use sh_builtin_environment::copy_of_action;
-use sh_exec_actions::status::ERROR;
-use sh_exec_actions::{
-    Action, Active, CommandStatus, Expanded, ForLoop, Form, Pending, ToExpand, failing,
-};
+use sh_exec_actions::{Action, Active, CommandStatus, Expanded, ForLoop, Form, Pending, ToExpand};
 use sh_exec_command::{
-    Found, Round, assign_turn, case_turn, define_turn, find_command, give_turn, pattern_turn,
-    redirects_turn, series_turn, words_turn,
+    Round, assign_turn, case_turn, define_turn, give_turn, pattern_turn, redirects_turn,
+    series_turn, words_turn,
 };
-use sh_exec_forms::{enter, enter_list, go_to, settle};
-use sh_exec_frames::{Frames, answer_turn, await_turn, read_line_turn, wait_turn};
-use sh_exec_parts::message::{Refusal, refused};
-use sh_exec_parts::{Queue, Rest};
+use sh_exec_forms::{enter_list, go_to, settle};
+use sh_exec_frames::{Frames, answer_turn, await_turn, read_line_turn, signal_turn, wait_turn};
+use sh_exec_turns::{
+    collect_turn, end_turn, interrupt, read, redirect_turn, trap, trap_before, write_turn,
+};
 use sh_files::Files;
 use sh_kernel::Kernel;
-use sh_signal::Condition;
 use sh_syntax::tree::Command;
 use sh_vars::Vars;
 use std::alloc::Global;
-
-/// Whether a text that is refused ends the shell, where one that `command` has run may not.
-fn is_fatal(ends_shell: bool, why: Refusal) -> bool
-    ensures { result ≡ is_fatal ends_shell why }
-{
-    match why {
-        Refusal::Syntax => ends_shell,
-        Refusal::BadSubstitution => ends_shell,
-        Refusal::TooDeep => true,
-    }
-}
-
-/// A text is refused.
-fn refuse(alloc: Global, ends_shell: bool, why: Refusal) -> Result<Active, NoMemory>
-    ensures { IfOk result (λ active. active ≡ after_refusal ends_shell why) }
-{
-    let finish = failing(is_fatal(ends_shell, why), ERROR);
-    let piece = refused(alloc, why)?;
-    Ok(Active::Next(Action::Writing(piece, finish)))
-}
-
-/// A reading turn.
-fn read(
-    alloc: Global,
-    frames: &mut Frames,
-    rest: Rest,
-    status: u8,
-    vars: &Vars,
-) -> Result<Active, NoMemory>
-    ensures { IfOk result (λ active. run_of frames.new active
-        ≡ run_in frames.old (read_turn (ends_shell frames.old) vars.now status (next_command rest))) }
-{
-    match find_command(alloc, rest)? {
-        Found::Nothing => Ok(Active::Done(CommandStatus::unexcused(status))),
-        Found::Command(tree, rest) => {
-            let items = Queue::new(tree.into_items());
-            match frames.push(Form::Text(rest)) {
-                Ok(()) => {},
-                Err(lack) => {
-                    drop(items);
-                    return Err(lack);
-                },
-            }
-            let step = enter(
-                alloc,
-                frames,
-                items,
-                CommandStatus::unexcused(vars.status()),
-            )?;
-            Ok(step.into_active())
-        },
-        Found::Fault(why) => refuse(alloc, frames.ends_shell(), why),
-    }
-}
 
 /// An expansion turn.
 fn expand(
@@ -235,42 +173,6 @@ fn define(
     Ok(Active::Done(CommandStatus::unexcused(0)))
 }
 
-/// A shell's trap on EXIT is taken, and `$?` is the status with which the shell is to end.
-fn take_trap(shell: &mut Shell, status: u8)
-    ensures { shell.new ≡ behind_status (without_trap shell.old) status }
-{
-    shell.traps.set(Condition::Exit, None);
-    shell.vars.set_status(status);
-}
-
-/// The turn in which a shell that is to end reads the first command of its action on EXIT (XCU 2.15 trap).
-#[tactic(auto, unfolding(crate::specs::Acting::trap_turn))]
-fn trap(
-    alloc: Global,
-    kernel: &Kernel,
-    shell: &mut Shell,
-    frames: &mut Frames,
-    status: u8,
-) -> Result<Active, NoMemory>
-    ensures { (s : KernelState) → StandsAt kernel.now s → IfOk result (λ active.
-        IsActed kernel.now shell.new (run_of frames.new active)
-        (in_forms frames.old (trap_turn s shell.old status))) }
-{
-    let Some(text) = copy_of_action(alloc, shell.traps.action(Condition::Exit))? else {
-        return Ok(Active::Next(Action::Ending(status)));
-    };
-    match frames.push(Form::Trapped(status)) {
-        Ok(()) => {},
-        Err(lack) => {
-            drop(text);
-            return Err(lack);
-        },
-    }
-    take_trap(shell, status);
-    let active = read(alloc, frames, Rest::new(text), 0, &shell.vars)?;
-    Ok(active)
-}
-
 /// The action at a place.
 fn act_place(
     alloc: Global,
@@ -307,6 +209,10 @@ fn act_place(
             Ok((active, None))
         },
         Action::Awaiting(awaited) => Ok((await_turn(kernel, shell, awaited), None)),
+        Action::SendSignal(ask) => {
+            let active = signal_turn(alloc, kernel, shell, ask)?;
+            Ok((active, None))
+        },
         Action::Redirecting(prepared) => {
             let active = redirect_turn(alloc, kernel, shell, frames, prepared)?;
             Ok((active, None))
@@ -366,6 +272,36 @@ fn act_place(
     }
 }
 
+/// The action at a place, or that of a trap before it.
+fn act_next(
+    alloc: Global,
+    kernel: &mut Kernel,
+    shell: &mut Shell,
+    frames: &mut Frames,
+    place: Action,
+) -> Result<(Active, Option<Interpreter>), NoMemory>
+    ensures state { (s : KernelState) → StandsAt kernel.old s → IfOk result (λ r.
+        IsTurned kernel.new shell.new (run_of frames.new r.0) r.1
+        (inside frames.old (inheriting (is_failure_ignored frames.old)
+        (act_behind frames.old s shell.old place (trap_before s shell.old place))))) }
+    ensures terminal { Extends kernel.old.terminal.bytes kernel.new.terminal.bytes }
+{
+    match trap_before(alloc, kernel, shell, &place) {
+        Ok(Some(text)) => {
+            let active = interrupt(alloc, kernel, shell, frames, place, text)?;
+            Ok((active, None))
+        },
+        Ok(None) => {
+            let (active, child) = act_place(alloc, kernel, shell, frames, place)?;
+            Ok((active, child))
+        },
+        Err(lack) => {
+            drop(place);
+            Err(lack)
+        },
+    }
+}
+
 /// The action of an active place.
 fn act(
     alloc: Global,
@@ -382,7 +318,7 @@ fn act(
 {
     match active {
         Active::Next(place) => {
-            let (active, child) = act_place(alloc, kernel, shell, frames, place)?;
+            let (active, child) = act_next(alloc, kernel, shell, frames, place)?;
             Ok((active, child))
         },
         Active::Acting(invocation, fields) => Ok((Active::Acting(invocation, fields), None)),

@@ -20,7 +20,7 @@ use Rattle.sh_kernel_descriptors.specs.declared.description.Target.{Target}
 use Rattle.sh_kernel_descriptors.specs.declared.description.Target.TheVariants.{File, Terminal, Null, ReadEnd, WriteEnd}
 use Rattle.sh_kernel_descriptors.specs.declared.fault.KernelFault.TheVariants.{BadDescriptor, BrokenPipe}
 use Rattle.sh_kernel.specs.Reaching.{reaches, is_end, is_file, is_node}
-use Rattle.sh_kernel.proofs.Lists.{or_left, or_right}
+use Rattle.sh_kernel_machine.proofs.Lists.{or_left, or_right}
 
 -- a description that passes wherever the process reaches one that passes
 pub record IsHeld (ds : List Descriptor) (pid k : ℕ) : Type 0 where

@@ -7,8 +7,9 @@ use Rattle.sh_kernel_descriptors.specs.declared.description.Description.{Descrip
 use Rattle.sh_kernel_descriptors.specs.declared.process.Process.{Process}
 use Rattle.sh_kernel.specs.Laws.{IsOwned}
 use Rattle.sh_kernel.specs.Reaching.{is_end, reaches}
-use Rattle.sh_kernel.specs.Signals.{after_ending, after_endings, with_processes}
-use Rattle.sh_kernel.proofs.Closing.{filter_owned, others_left, pipes_left_length, pipes_left_other, reaches_left, true≢false}
+use Rattle.sh_kernel_machine.specs.Signals.{after_ending, after_endings, with_processes}
+use Rattle.sh_kernel_machine.proofs.Closing.{others_left, pipes_left_length, true≢false}
+use Rattle.sh_kernel.proofs.Closing.{filter_owned, pipes_left_other, reaches_left}
 
 -- of these processes those that have ended closed all their descriptors, and nothing else happened
 pub record Endings (m : MachineState) (ps : List Process) (m' : MachineState) : Type 0 where

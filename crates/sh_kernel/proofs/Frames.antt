@@ -32,15 +32,16 @@ use Rattle.sh_kernel_descriptors.specs.declared.description.Target.TheVariants.{
 use Rattle.sh_kernel_descriptors.specs.declared.process.Process.{Process}
 use Rattle.sh_kernel_signals.specs.Laws.{OnlyStatuses}
 use Rattle.sh_kernel.specs.Laws.{ChangesOnlyReached, RequestsChangeOnlyReached, is_opened, opens, sends}
-use Rattle.sh_kernel.specs.Signals.{with_processes}
+use Rattle.sh_kernel_machine.specs.Signals.{with_processes}
 use Rattle.sh_kernel.specs.Reaching.{is_end, is_file, reaches}
 use Rattle.sh_kernel.specs.Requests.{Request, Open}
 use Rattle.sh_kernel.proofs.Cases.{IsHeld}
-use Rattle.sh_kernel.proofs.Closing.{goes_own, others_left, pipes_left_other, reaches_left, true≢false}
+use Rattle.sh_kernel_machine.proofs.Closing.{goes_own, others_left, true≢false}
+use Rattle.sh_kernel.proofs.Closing.{pipes_left_other, reaches_left}
 use Rattle.sh_kernel.proofs.Endings.{endings}
-use Rattle.sh_kernel.proofs.Lists.{apart, false_of, front_place, or_left, or_right, other_place}
+use Rattle.sh_kernel_machine.proofs.Lists.{apart, false_of, front_place, or_left, or_right, other_place}
 use Rattle.sh_kernel.proofs.Requesting.{by_cases}
-use Rattle.sh_kernel.proofs.Nameless.{nameless_other}
+use Rattle.sh_kernel_machine.proofs.Nameless.{nameless_other}
 
 -- ---- places
 pub moved_other : (es : List Description) (k offset j : ℕ) → k ≢ j → slice_get (with_offset es k offset) j ≡ slice_get es j

@@ -36,13 +36,14 @@ use Rattle.sh_signal.specs.declared.signal.Signal.{Signal}
 use Rattle.sh_tty.specs.Happenings as tty
 use Rattle.sh_tty.specs.Keys.{key_of, signal_of}
 use Rattle.sh_kernel.specs.Calls.{after_raising}
-use Rattle.sh_kernel.specs.Signals.{after_signal, table_of, with_processes}
+use Rattle.sh_kernel_machine.specs.Signals.{with_processes}
+use Rattle.sh_kernel.specs.Signals.{after_signal, table_of}
 use Rattle.sh_kernel.specs.State.{KernelState}
-use Rattle.sh_kernel.proofs.Closing.{pipes_left_length}
+use Rattle.sh_kernel_machine.proofs.Closing.{pipes_left_length}
 use Rattle.sh_kernel.proofs.Endings.{endings}
 use Rattle.sh_kernel.proofs.Requesting.{by_cases}
-use Rattle.sh_kernel.proofs.Nameless.{nameless_length, nameless_paths}
-use Rattle.sh_kernel.proofs.Lists.{front_place, length_set}
+use Rattle.sh_kernel_machine.proofs.Nameless.{nameless_length, nameless_paths}
+use Rattle.sh_kernel_machine.proofs.Lists.{front_place, length_set}
 
 pub grows_same : (m : MachineState) → OnlyGrows m m
 grows_same m = record { targets = λ _ _. refl; descriptions = omega arith; pipes = omega arith; processes = omega arith; files = omega arith; paths = λ _ _ h. h }

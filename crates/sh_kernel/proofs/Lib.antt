@@ -1,8 +1,5 @@
-pub mod FileWaits
-pub mod Lists
 pub mod Closing
 pub mod Endings
-pub mod Nameless
 pub mod Cases
 pub mod Requesting
 pub mod Growing
@@ -12,5 +9,3 @@ pub mod Screens
 pub mod Reached
 pub mod Terminals
 pub mod Extending
-pub mod Standing
-pub mod Ending

@@ -13,7 +13,8 @@ use Rattle.sh_kernel_descriptors.specs.declared.descriptor.DescriptorRef.{Descri
 use Rattle.sh_kernel_descriptors.specs.declared.descriptor.DescriptorRef.TheVariants.{Number, Aside}
 use Rattle.sh_kernel.specs.Laws.{IsOwned, OwnedStaysOwned}
 use Rattle.sh_kernel.specs.Reaching.{reaches}
-use Rattle.sh_kernel.proofs.Closing.{filter_owned, true≢false}
+use Rattle.sh_kernel_machine.proofs.Closing.{true≢false}
+use Rattle.sh_kernel.proofs.Closing.{filter_owned}
 use Rattle.sh_kernel.proofs.Endings.{endings}
 use Rattle.sh_kernel.proofs.Requesting.{by_cases}
 

@@ -27,12 +27,13 @@ use Rattle.sh_kernel.specs.State.{KernelState}
 use Rattle.sh_kernel.specs.Laws.{ChangesOnlyReached, ListsChangeOnlyReached, ListsLeaveOwned, ListsOnlyGrow, ListsReachNoMore, OnlyGrows, ReachesNoMore, RequestsReachNoMore, is_opened, opens, opens_any, sends, sends_any, target_at}
 use Rattle.sh_kernel.specs.Reaching.{is_end, is_file, is_node, reaches}
 use Rattle.sh_kernel.specs.Requests.{Request, after_request, after_requests}
-use Rattle.sh_kernel.specs.Signals.{with_processes}
-use Rattle.sh_kernel.proofs.Closing.{reaches_left, true≢false}
+use Rattle.sh_kernel_machine.specs.Signals.{with_processes}
+use Rattle.sh_kernel_machine.proofs.Closing.{true≢false}
+use Rattle.sh_kernel.proofs.Closing.{reaches_left}
 use Rattle.sh_kernel.proofs.Endings.{endings}
 use Rattle.sh_kernel.proofs.Frames.{keeps_same, more_fails, new_ends, opened_end, reaches_no_more, reaches_one_more, requests_change}
 use Rattle.sh_kernel.proofs.Growing.{grows_same, grows_then, moved_length, requests_grow}
-use Rattle.sh_kernel.proofs.Lists.{false_of, or_left, or_right}
+use Rattle.sh_kernel_machine.proofs.Lists.{false_of, or_left, or_right}
 use Rattle.sh_kernel.proofs.Owning.{owned_stays}
 use Rattle.sh_kernel.proofs.Requesting.{by_cases}
 

@@ -32,7 +32,8 @@ use Rattle.sh_tty.specs.Keys.{read_of}
 use Rattle.sh_kernel.specs.State.{KernelState}
 use Rattle.sh_kernel.specs.Calls.{broken_pipe, is_broken, on_machine, read_terminal, with_new_process, with_program, write_terminal}
 use Rattle.sh_kernel.specs.Laws.{sends}
-use Rattle.sh_kernel.specs.Signals.{after_exit, after_signal, table_of, with_processes}
+use Rattle.sh_kernel_machine.specs.Signals.{with_processes}
+use Rattle.sh_kernel.specs.Signals.{after_exit, after_signal, table_of}
 use Rattle.sh_kernel.specs.Requests.{Request, Read, Write, Close, Duplicate, MakePipe, Open, Here, SetAside, PutBack, Fork, StartProgram, End, Kill, SetAction, TakeSignal, SetGroup, SetForeground, after_request}
 use Rattle.sh_kernel_descriptors.specs.Reading as reading
 use Rattle.sh_kernel_descriptors.specs.Writing as writing

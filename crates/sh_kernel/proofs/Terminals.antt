@@ -23,12 +23,12 @@ use Rattle.sh_kernel.specs.Reaching.{is_screen, reaches}
 use Rattle.sh_kernel.specs.Requests.{Request, after_request}
 use Rattle.sh_kernel.specs.State.{KernelState}
 use Rattle.sh_kernel_descriptors.specs.declared.description.Description.{Description}
-use Rattle.sh_kernel.specs.Signals.{with_processes}
+use Rattle.sh_kernel_machine.specs.Signals.{with_processes}
 use Rattle.sh_kernel.proofs.Endings.{endings}
 use Rattle.sh_kernel.proofs.Frames.{more_fails, reaches_no_more}
 use Rattle.sh_kernel.proofs.Growing.{moved_length, requests_grow}
-use Rattle.sh_kernel.proofs.Lists.{false_of, or_left, or_right}
-use Rattle.sh_kernel.proofs.Nameless.{file_in, made}
+use Rattle.sh_kernel_machine.proofs.Lists.{false_of, or_left, or_right}
+use Rattle.sh_kernel_machine.proofs.Nameless.{file_in, made}
 use Rattle.sh_kernel.proofs.Reached.{past_all, still_fails, unreached}
 use Rattle.sh_kernel.proofs.Requesting.{by_cases}
 use Rattle.sh_kernel.proofs.Screens.{terminal_grows, terminal_stays}

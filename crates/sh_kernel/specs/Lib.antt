@@ -1,4 +1,3 @@
-pub mod Machine
 pub mod State
 pub mod Signals
 pub mod Calls

@@ -5,7 +5,7 @@ use Rattle.sh_kernel_descriptors.specs.Machine.{MachineState}
 use Rattle.sh_kernel_descriptors.specs.Starting as machine
 use Rattle.sh_kernel_signals.specs.Changes.{first_member}
 use Rattle.sh_kernel_signals.specs.declared.member.Member.{Member}
-use Rattle.sh_kernel.specs.Machine as kept
+use Rattle.sh_kernel_machine.specs.Machine as kept
 use Rattle.sh_tty.specs.Happenings.{Happening}
 use Rattle.sh_tty.specs.Terminal as tty
 

@@ -8,10 +8,10 @@ ghost use Rattle.sh_tty.specs.Terminal.{Extends};
 
 mod signals;
 
-use crate::machine::Machine;
 use crate::next::Next;
 use sh_files::{Files, Opening};
 use sh_kernel_descriptors::{DescriptorRef, Entry, FIRST_PID, KernelFault, Status};
+use sh_kernel_machine::Machine;
 use sh_kernel_signals::{Member, SignalTarget, member_at, new_member, start_program};
 use sh_pipe::Pipe;
 use sh_signal::Signal;

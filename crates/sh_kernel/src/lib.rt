@@ -3,7 +3,6 @@
 
 mod kernel;
 mod laws;
-mod machine;
 mod next;
 
 pub use kernel::Kernel;

@@ -58,7 +58,7 @@ after_signal_to t signal pid = after_notice (after_receipt t signal pid) pid (st
 abbrev pub reaches : SignalTarget → Member → Bool
 reaches (target.Process pid) m = m.pid == pid
 reaches (target.Group group) m = m.group == group
-reaches (target.Processes pids) m = list_any (λ pid. m.pid == pid) pids.now
+reaches (target.Processes pids) m = list_any (λ pid. m.pid == pid) pids
 
 abbrev pub is_reached : SignalTarget → Option Member → Bool
 is_reached to None = false

@@ -4,7 +4,7 @@ ghost use Rattle.sh_kernel_signals.specs.Delivery.{after_action, after_continuin
 ghost use Rattle.sh_signal.specs.Signals.{signals};
 
 use crate::member::{Member, SignalAction};
-use crate::set::{SIGNALS, SignalSet};
+use crate::set::SignalSet;
 use sh_kernel_descriptors::Status;
 use sh_signal::{DefaultAction, Signal};
 
@@ -141,7 +141,7 @@ fn after_continuing(is_orphaned: bool, to: Recipient) -> Recipient
     ensures { result ≡ after_continuing is_orphaned to }
 {
     let running = after_delivery(is_orphaned, running_again(to), Signal::Continue);
-    after_each_kept(is_orphaned, to.member.kept, &SIGNALS, running)
+    after_each_kept(is_orphaned, to.member.kept, &Signal::all(), running)
 }
 
 /// A stopped process after a signal that does this by default.

@@ -114,19 +114,19 @@ fn is_one_of(pids: &[u32], pid: u32) -> bool
 }
 
 /// Whether a signal reaches a member.
-fn reaches(to: SignalTarget<'_>, member: &Member) -> bool
-    ensures { result ≡ reaches to.entry member.now }
+fn reaches(to: &SignalTarget, member: &Member) -> bool
+    ensures { result ≡ reaches to.now member.now }
 {
     match to {
-        SignalTarget::Process(pid) => member.pid == pid,
-        SignalTarget::Group(group) => member.group == group,
-        SignalTarget::Processes(pids) => is_one_of(pids, member.pid),
+        SignalTarget::Process(pid) => member.pid == *pid,
+        SignalTarget::Group(group) => member.group == *group,
+        SignalTarget::Processes(pids) => is_one_of(pids.as_slice(), member.pid),
     }
 }
 
 /// Whether a signal reaches the process of a number.
-fn is_reached(to: SignalTarget<'_>, member: Option<Member>) -> bool
-    ensures { result ≡ is_reached to.entry member }
+fn is_reached(to: &SignalTarget, member: Option<Member>) -> bool
+    ensures { result ≡ is_reached to.now member }
 {
     match member {
         Some(member) => reaches(to, &member),
@@ -138,12 +138,12 @@ fn is_reached(to: SignalTarget<'_>, member: Option<Member>) -> bool
 fn send_each(
     processes: &mut Vec<Process>,
     members: &mut Vec<Member>,
-    to: SignalTarget<'_>,
+    to: &SignalTarget,
     signal: Signal,
     pids: &[u32],
 )
     ensures { record { processes = processes.new.items; members = members.new.items }
-        ≡ after_signal_to_each (record { processes = processes.old.items; members = members.old.items }) to.entry signal pids.now }
+        ≡ after_signal_to_each (record { processes = processes.old.items; members = members.old.items }) to.now signal pids.now }
 {
     let mut rest = pids;
     'pids: while let Some((pid, others)) = rest.split_first() {
@@ -215,8 +215,8 @@ fn hang_up(processes: &mut Vec<Process>, members: &mut Vec<Member>, pids: &[u32]
         ≡ after_hang_up (record { processes = processes.old.items; members = members.old.items }) pids.now group }
 {
     let to = SignalTarget::Group(group);
-    send_each(processes, members, to, Signal::Hangup, pids);
-    send_each(processes, members, to, Signal::Continue, pids);
+    send_each(processes, members, &to, Signal::Hangup, pids);
+    send_each(processes, members, &to, Signal::Continue, pids);
 }
 
 /// Hangs up the groups that are orphaned now.
@@ -264,8 +264,8 @@ fn settle(processes: &mut Vec<Process>, members: &mut Vec<Member>, pids: &[u32],
 }
 
 /// Whether a signal would reach a process that lives. Takes no memory.
-pub fn is_any_reached(members: &[Member], to: SignalTarget<'_>) -> bool
-    ensures { result ≡ list_any (reaches to.entry) members.now }
+pub fn is_any_reached(members: &[Member], to: &SignalTarget) -> bool
+    ensures { result ≡ list_any (reaches to.now) members.now }
 {
     members.iter().any(|member| reaches(to, member))
 }
@@ -275,7 +275,7 @@ pub fn is_any_reached(members: &[Member], to: SignalTarget<'_>) -> bool
 pub fn send_prepared(
     processes: &mut Vec<Process>,
     members: &mut Vec<Member>,
-    to: SignalTarget<'_>,
+    to: &SignalTarget,
     signal: Signal,
     pids: &[u32],
     at_risk: &[u32],
@@ -283,7 +283,7 @@ pub fn send_prepared(
     requires { (pids.now ≡ pids_of members.old.items)
         × (at_risk.now ≡ groups_at_risk (record { processes = processes.old.items; members = members.old.items })) }
     ensures { record { processes = processes.new.items; members = members.new.items }
-        ≡ after_send (record { processes = processes.old.items; members = members.old.items }) to.entry signal }
+        ≡ after_send (record { processes = processes.old.items; members = members.old.items }) to.now signal }
 {
     send_each(processes, members, to, signal, pids);
     settle(processes, members, pids, at_risk);
@@ -297,11 +297,11 @@ pub fn send(
     alloc: Global,
     processes: &mut Vec<Process>,
     members: &mut Vec<Member>,
-    to: SignalTarget<'_>,
+    to: &SignalTarget,
     signal: Signal,
 ) -> Result<(), NoMemory>
     ensures ok { OnOk result (record { processes = processes.new.items; members = members.new.items }
-        ≡ after_send (record { processes = processes.old.items; members = members.old.items }) to.entry signal) }
+        ≡ after_send (record { processes = processes.old.items; members = members.old.items }) to.now signal) }
     ensures processes { OnErr result (processes.new.items ≡ processes.old.items) }
     ensures members { OnErr result (members.new.items ≡ members.old.items) }
 {

@@ -11,26 +11,6 @@ pub struct SignalSet {
     bits: u32,
 }
 
-/// All signals, by their numbers.
-pub(crate) const SIGNALS: [Signal; 16] = [
-    Signal::Hangup,
-    Signal::Interrupt,
-    Signal::Quit,
-    Signal::Abort,
-    Signal::Kill,
-    Signal::User1,
-    Signal::User2,
-    Signal::Pipe,
-    Signal::Alarm,
-    Signal::Terminate,
-    Signal::Child,
-    Signal::Continue,
-    Signal::Stop,
-    Signal::TerminalStop,
-    Signal::TerminalInput,
-    Signal::TerminalOutput,
-];
-
 /// The bit of a signal.
 fn bit_of(signal: Signal) -> u32
     ensures { result ≡ bit_of signal }
@@ -109,6 +89,6 @@ impl SignalSet {
     pub fn lowest(self) -> Option<Signal>
         ensures { result ≡ lowest self }
     {
-        first_of(self, &SIGNALS)
+        first_of(self, &Signal::all())
     }
 }

@@ -17,7 +17,7 @@ use Rattle.sh_kernel.specs.Requests.{Request, after_request}
 use Rattle.sh_kernel.specs.State.{KernelState}
 use Rattle.sh_kernel.proofs.Frames.{requests_change}
 use Rattle.sh_kernel.proofs.Growing.{grows_then, requests_grow}
-use Rattle.sh_kernel.proofs.Lists.{or_left, or_right}
+use Rattle.sh_kernel_machine.proofs.Lists.{or_left, or_right}
 use Rattle.sh_kernel.proofs.Reached.{changes_then, lists_grow, reach_no_more, reaches_then}
 use Rattle.sh_stock.specs.Asking.{Meaning}
 use Rattle.sh_laws.specs.Requests.{ByRequests, ChangesByRequests, after_all, directory_of, number_of, opens_by, sends_by}

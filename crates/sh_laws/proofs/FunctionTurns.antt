@@ -16,7 +16,7 @@ use Rattle.sh_builtin_regular.specs.Lines.{Progress, bytes_taken}
 use Rattle.sh_builtin_regular.specs.declared.reader.LineReader.{LineReader}
 use Rattle.sh_exec_actions.specs.Statuses.{unexcused}
 use Rattle.sh_exec_actions.specs.declared.action.Action.{Action}
-use Rattle.sh_exec_actions.specs.declared.action.Action.TheVariants.{Reading, Expanding, ReadSubstitution, WaitSubstitution, ReadLine, Awaiting, Redirecting, Forking, Starting, ForkStage, ForkList, AssignLoopVariable, Defining, Waiting, Writing, Trapping, Ending}
+use Rattle.sh_exec_actions.specs.declared.action.Action.TheVariants.{Reading, Expanding, ReadSubstitution, WaitSubstitution, ReadLine, Awaiting, SendSignal, Redirecting, Forking, Starting, ForkStage, ForkList, AssignLoopVariable, Defining, Waiting, Writing, Trapping, Ending}
 use Rattle.sh_exec_actions.specs.declared.action.Active.{Active}
 use Rattle.sh_exec_actions.specs.declared.action.Active.TheVariants.{Acting, Calling, Evaluating, Next, Done, Leaving}
 use Rattle.sh_exec_actions.specs.declared.action.Expanded.{Expanded}
@@ -29,7 +29,7 @@ use Rattle.sh_exec_actions.specs.declared.action.Substitution.{Substitution}
 use Rattle.sh_exec_actions.specs.declared.action.ToExpand.{ToExpand}
 use Rattle.sh_exec_actions.specs.declared.action.Undo.{Undo}
 use Rattle.sh_exec_actions.specs.declared.form.Form.{Form}
-use Rattle.sh_exec_actions.specs.declared.form.Form.TheVariants.{Text, Commands, Joined, Negated, Restoring, If, Condition, Body, ForBody, Call, Evaluation, Trapped, FailuresIgnored}
+use Rattle.sh_exec_actions.specs.declared.form.Form.TheVariants.{Text, Commands, Joined, Negated, Restoring, If, Condition, Body, ForBody, Call, Evaluation, Trapped, Interruption, FailuresIgnored}
 use Rattle.sh_exec_actions.specs.declared.status.CommandStatus.{CommandStatus}
 use Rattle.sh_exec_command.specs.Defining.{define_by, define_turn}
 use Rattle.sh_exec_command.specs.Series.{rest_of_series}
@@ -48,15 +48,20 @@ use Rattle.sh_exec_machine.specs.declared.transfer.ReadOutcome.TheVariants as ta
 use Rattle.sh_exec_parts.specs.Simple.{Opened}
 use Rattle.sh_exec_parts.specs.declared.message.Piece.{Piece}
 use Rattle.sh_exec_parts.specs.declared.redirection.Redirection.{Redirection}
-use Rattle.sh_exec_shell.specs.Acting.{after_collection, collect_by, collect_end, collect_from, collect_turn, end_turn, expand_turn, next, redirect_from, redirect_one, redirect_turn, trap_by, trap_turn, with_written, write_turn}
+use Rattle.sh_exec_turns.specs.Acting.{after_collection, collect_by, collect_end, collect_from, collect_turn, end_turn, expand_turn, next, redirect_from, redirect_one, redirect_turn, trap_by, trap_turn, with_written, write_turn}
 use Rattle.sh_exec_frames.specs.Placed.{Placed}
-use Rattle.sh_exec_frames.specs.Awaiting.{all_by, await_turn, operand_by}
+use Rattle.sh_builtin_jobs.specs.declared.run.KillAsk.{KillAsk}
+use Rattle.sh_exec_frames.specs.Awaiting.{all_by, await_by, await_ended, await_turn, operand_by}
+use Rattle.sh_exec_frames.specs.Signals.{pending_signal, signal_turn}
+use Rattle.sh_exec_turns.specs.Traps.{interrupted, interruption, shell_before, trap_before}
+use Rattle.sh_kernel.specs.Calls.{after_take_signal}
+use Rattle.sh_signal.specs.declared.signal.Signal.{Signal}
 use Rattle.sh_builtin_regular.specs.declared.waiting.Awaited.{Awaited}
 use Rattle.sh_builtin_regular.specs.declared.waiting.Awaited.TheVariants as awaited
 use Rattle.sh_builtin_regular.specs.declared.waiting.ProcessWait.{ProcessWait}
 use Rattle.sh_exec_frames.specs.LineReading.{line_by, line_ended, line_goes_on, line_read_by, most_read, read_line_turn}
 use Rattle.sh_exec_shell.specs.Forks.{begun_substitution, fork_turn, guarded, is_beside, is_more, list_by, list_turn, made_shell, program_by, stage_by, stage_from, stage_input, stage_one, stage_shell, stage_turn, substitute_turn, substitution_by}
-use Rattle.sh_exec_shell.specs.Reduction.{act_at, act_place, expanded_by, reduce}
+use Rattle.sh_exec_shell.specs.Reduction.{act_at, act_behind, act_place, expanded_by, reduce}
 use Rattle.sh_kernel.specs.State.{KernelState}
 use Rattle.sh_kernel_descriptors.specs.declared.descriptor.DescriptorRef.TheVariants.{Aside, Number}
 use Rattle.sh_syntax.specs.declared.tree.AndOr.{AndOr}
@@ -109,7 +114,7 @@ unset_hold functions (Some names) h = without_all_hold functions names h
 abbrev Keeps : Shell → Type 0
 Keeps shell = FunctionsHold shell.functions
 
-built_in_keeps : (s : KernelState) (shell : Shell) (last : ℕ) (b : Builtin) (arguments : List (List ℕ)) → Keeps shell → Keeps (built_in s.machine shell last b arguments).shell
+built_in_keeps : (s : KernelState) (shell : Shell) (last : ℕ) (b : Builtin) (arguments : List (List ℕ)) → Keeps shell → Keeps (built_in s shell last b arguments).shell
 unfolding built_in
 built_in_keeps s shell last builtin.Bracket arguments f = f
 built_in_keeps s shell last builtin.Break arguments f = f
@@ -124,6 +129,7 @@ built_in_keeps s shell last builtin.Exec arguments f = f
 built_in_keeps s shell last builtin.Exit arguments f = f
 built_in_keeps s shell last builtin.Export arguments f = f
 built_in_keeps s shell last builtin.False arguments f = f
+built_in_keeps s shell last builtin.Kill arguments f = f
 built_in_keeps s shell last builtin.Pwd arguments f = f
 built_in_keeps s shell last builtin.Read arguments f = f
 built_in_keeps s shell last builtin.ReadOnly arguments f = f
@@ -156,7 +162,7 @@ effect_keeps : (around : List Form) (s : KernelState) (shell : Shell) (active : 
 unfolding builtin_effect invoked
 effect_keeps around s shell (Acting i fields) f =
     let last = last_for around i.builtin shell.vars.special.status in
-    let d = invoked s.machine shell last i (drop 1 fields) in
+    let d = invoked s shell last i (drop 1 fields) in
     performed_keeps (levels_left around) d.shell (behind i.builtin d.outcome) (built_in_keeps s shell last i.builtin (drop 1 fields) f)
 effect_keeps around s shell (Calling body fields) f = call_keeps (levels_left around) shell body (drop 1 fields) f
 effect_keeps around s shell (Evaluating how text) f = evaluation_keeps (levels_left around) shell how text f
@@ -182,6 +188,7 @@ ended_keeps around (ForBody series) s shell status f = f
 ended_keeps around (Call positional) s shell status f = f
 ended_keeps around (Evaluation how) s shell status f = f
 ended_keeps around (Trapped before) s shell status f = f
+ended_keeps around (Interruption before next) s shell status f = f
 ended_keeps around FailuresIgnored s shell status f = f
 
 loop_left_keeps : (looped : Bool) (l : Leave) (s : KernelState) (shell : Shell) (next : Run) → Keeps shell → Keeps (loop_left s shell next (onward looped l)).shell
@@ -208,6 +215,7 @@ left_keeps around (ForBody series) s shell l f = loop_left_keeps (has_loop aroun
 left_keeps around (Call positional) s shell l f = f
 left_keeps around (Evaluation how) s shell l f = f
 left_keeps around (Trapped before) s shell l f = f
+left_keeps around (Interruption before next) s shell l f = f
 left_keeps around FailuresIgnored s shell l f = f
 
 after_by_keeps : (around : List Form) (form : Form) (s : KernelState) (shell : Shell) (run : Run) → Keeps shell → Keeps (after_by around form s shell run).shell
@@ -284,10 +292,22 @@ all_keeps : (s : KernelState) (shell : Shell) (o : Option ℕ) → Keeps shell �
 all_keeps s shell None f = f
 all_keeps s shell (Some status) f = f
 
+await_ended_keeps : (s : KernelState) (shell : Shell) (a : Awaited) → Keeps shell → PlacedKeeps (await_ended s shell a)
+await_ended_keeps s shell awaited.All f = all_keeps s shell (wait_status s shell.pid shell.known) f
+await_ended_keeps s shell (awaited.Process wait) f = operand_keeps s shell wait (wait_status s shell.pid (wait.process ∷ [])) f
+
+await_by_keeps : (s : KernelState) (shell : Shell) (a : Awaited) (caught : Option Signal) → Keeps shell → PlacedKeeps (await_by s shell a caught)
+await_by_keeps s shell a None f = await_ended_keeps s shell a f
+await_by_keeps s shell a (Some signal) f = f
+
 await_keeps : (s : KernelState) (shell : Shell) (a : Awaited) → Keeps shell → PlacedKeeps (await_turn s shell a)
 unfolding await_turn
-await_keeps s shell awaited.All f = all_keeps s shell (wait_status s shell.pid shell.known) f
-await_keeps s shell (awaited.Process wait) f = operand_keeps s shell wait (wait_status s shell.pid (wait.process ∷ [])) f
+await_keeps s shell a f = await_by_keeps s shell a (pending_signal s shell) f
+
+-- ---- a signal is sent
+signal_keeps : (s : KernelState) (shell : Shell) (a : KillAsk) → Keeps shell → PlacedKeeps (signal_turn s shell a)
+unfolding signal_turn
+signal_keeps s shell a f = f
 
 -- ---- redirections, writes, and the end
 redirect_from_keeps : (s : KernelState) (shell : Shell) (p : ExpandedCommand) (redirections : List Redirection) → Keeps shell → ActedKeeps (redirect_from s shell p redirections)
@@ -315,6 +335,36 @@ trap_by_keeps s shell status (Some text) f = f
 trap_keeps : (s : KernelState) (shell : Shell) (status : ℕ) → Keeps shell → ActedKeeps (trap_turn s shell status)
 unfolding trap_turn
 trap_keeps s shell status f = trap_by_keeps s shell status (action_of shell.traps Exit) f
+
+-- ---- a trap on a signal
+before_keeps : (shell : Shell) (place : Action) → Keeps shell → Keeps (shell_before shell place)
+before_keeps shell (Reading rest status) f = f
+before_keeps shell (Expanding wants pending) f = f
+before_keeps shell (ReadSubstitution substitution) f = f
+before_keeps shell (WaitSubstitution substitution) f = f
+before_keeps shell (ReadLine reader) f = f
+before_keeps shell (Awaiting awaited) f = f
+before_keeps shell (SendSignal ask) f = f
+before_keeps shell (Redirecting p) f = f
+before_keeps shell (Forking p) f = f
+before_keeps shell (Starting start) f = f
+before_keeps shell (ForkStage stages) f = f
+before_keeps shell (ForkList list) f = f
+before_keeps shell (AssignLoopVariable series) f = f
+before_keeps shell (Defining definition) f = f
+before_keeps shell (Waiting children) f = f
+before_keeps shell (Writing piece finish) f = f
+before_keeps shell (Trapping status) f = f
+before_keeps shell (Ending status) f = f
+
+interrupted_keeps : (levels : ℕ) (s : KernelState) (shell : Shell) (place : Action) (text : List ℕ) → Keeps shell → ActedKeeps (interrupted levels s shell place text)
+interrupted_keeps zero s shell place text f = f
+interrupted_keeps (suc levels) s shell place text f = f
+
+interruption_keeps : (around : List Form) (s : KernelState) (shell : Shell) (place : Action) (text : List ℕ) → Keeps shell → ActedKeeps (interruption around s shell place text)
+unfolding interruption
+interruption_keeps around s shell place text f =
+    interrupted_keeps (levels_left around) (after_take_signal s shell.pid) (shell_before shell place) place text (before_keeps shell place f)
 
 -- ---- processes that are made
 program_keeps : (s : KernelState) (shell : Shell) (p : ExpandedCommand) (o : Option ℕ) → Keeps shell → ActedKeeps (program_by s shell p o).left
@@ -385,6 +435,7 @@ place_keeps around s shell (ReadSubstitution substitution) h f = collect_keeps s
 place_keeps around s shell (WaitSubstitution substitution) h f = f
 place_keeps around s shell (ReadLine reader) h f = line_keeps s shell reader f
 place_keeps around s shell (Awaiting awaited) h f = await_keeps s shell awaited f
+place_keeps around s shell (SendSignal ask) h f = signal_keeps s shell ask f
 place_keeps around s shell (Redirecting p) h f = redirect_keeps s shell p f
 place_keeps around s shell (Forking p) h f = fork_keeps s shell p f
 place_keeps around s shell (Starting start) h f = f
@@ -397,11 +448,16 @@ place_keeps around s shell (Writing piece finish) h f = write_keeps s shell piec
 place_keeps around s shell (Trapping status) h f = trap_keeps s shell status f
 place_keeps around s shell (Ending status) h f = end_keeps s shell status f
 
+behind_keeps : (around : List Form) (s : KernelState) (shell : Shell) (place : Action) (trap : Option (List ℕ)) → PlaceHolds place → Keeps shell
+    → ActedKeeps (act_behind around s shell place trap).left
+behind_keeps around s shell place None h f = place_keeps around s shell place h f
+behind_keeps around s shell place (Some text) h f = interruption_keeps around s shell place text f
+
 active_keeps : (around : List Form) (s : KernelState) (shell : Shell) (active : Active) → ActiveStands active → Keeps shell → ActedKeeps (act_at around s shell active).left
 active_keeps around s shell (Acting b fields) h f = f
 active_keeps around s shell (Calling body fields) h f = f
 active_keeps around s shell (Evaluating how text) h f = f
-active_keeps around s shell (Next place) h f = place_keeps around s shell place h f
+active_keeps around s shell (Next place) h f = behind_keeps around s shell place (trap_before s shell place) h f
 active_keeps around s shell (Done status) h f = f
 active_keeps around s shell (Leaving l) h f = f
 

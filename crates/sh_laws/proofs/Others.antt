@@ -17,7 +17,7 @@ use Rattle.sh_kernel_descriptors.specs.declared.fault.KernelFault.TheVariants.{N
 use Rattle.sh_kernel.specs.State.{KernelState}
 use Rattle.sh_kernel.specs.Reaching.{reaches}
 use Rattle.sh_kernel.specs.Requests.{MakePipe, PutBack, SetAside, after_request}
-use Rattle.sh_kernel.proofs.Lists.{false_of, or_left, or_right}
+use Rattle.sh_kernel_machine.proofs.Lists.{false_of, or_left, or_right}
 
 -- ---- descriptors that go and come
 pub reaches_others_left : (pid : ℕ) (closing : Closing) (ds : List Descriptor) (p : ℕ) (test : ℕ → Bool) → reaches ds p test ≡ false → reaches (descriptors_left pid closing ds) p test ≡ false

@@ -1,6 +1,6 @@
 -- Turns of processes, shells and programs.
 use Rattle.std.proofs.Common.{◌≡◌, ℕ, List, [], ◌∷◌, Option, Some, None, option_map, refl, sym, subst}
-use Rattle.sh_exec.specs.Programs.{ask_turn, end_turn, read_turn, write_turn}
+use Rattle.sh_exec.specs.Programs.{ask_turn, end_turn, read_turn, stop_turn, write_turn}
 use Rattle.sh_exec.specs.Starting.{NamedStart, located_for, start_by, start_named, start_turn, started_by, starting_in, stock_start}
 use Rattle.sh_exec_actions.specs.declared.action.ProgramStart.{ProgramStart}
 use Rattle.sh_exec.specs.Turns.{Turned, by_shell, made_task, runs_by, started_in, turn}
@@ -14,8 +14,10 @@ use Rattle.sh_files.specs.declared.search.Located.{Located}
 use Rattle.sh_files.specs.declared.search.Located.TheVariants as located
 use Rattle.sh_exec_forms.specs.Running.{InterpreterState, active_of}
 use Rattle.sh_kernel_descriptors.specs.declared.descriptor.DescriptorRef.TheVariants.{Number}
-use Rattle.sh_kernel.specs.Requests.{End, StartProgram}
+use Rattle.sh_kernel.specs.Requests.{End, Kill, StartProgram}
 use Rattle.sh_kernel.specs.State.{KernelState}
+use Rattle.sh_kernel_signals.specs.declared.target.SignalTarget.TheVariants.{Process}
+use Rattle.sh_signal.specs.declared.signal.Signal.TheVariants.{Stop}
 use Rattle.sh_stock.specs.Asking.{Meaning}
 use Rattle.sh_stock.specs.declared.asking.Ask.{Ask}
 use Rattle.sh_stock.specs.declared.asking.Ask.TheVariants as ask
@@ -51,10 +53,10 @@ module _ {S : Type 0} (m : Meaning S) (directory : List ℕ) (pid : ℕ) (P : Op
       started_keeps s shell (record { name = name; operands = operands; ends_shell = start.ends_shell }) (located_for s.machine.files shell.vars name) e p
 
   ask_keeps : (s : KernelState) (n : ℕ) (a : Ask) (program : S) → n ≡ pid → P None s → P None (ask_turn m s n a program).machine
-  unfolding read_turn write_turn end_turn
+  unfolding read_turn write_turn stop_turn end_turn
   ask_keeps s n (ask.Read count) program e p = take_keeps directory n (P None) (own_kept n e) s (Number 0) count p
   ask_keeps s n (ask.Write bytes) program e p = give_keeps directory n (P None) (own_kept n e) s 1 bytes p
-  ask_keeps s n ask.Stop program e p = p
+  ask_keeps s n ask.Stop program e p = own_kept n e s (Kill (Process n) Stop) tt p
   ask_keeps s n ask.Idle program e p = p
   ask_keeps s n (ask.End status) program e p = own_kept n e s (End status) tt p
 

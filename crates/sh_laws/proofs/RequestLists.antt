@@ -3,7 +3,7 @@ use Rattle.std.proofs.Common.{◌≡◌, ℕ, false, List, [], ◌∷◌, ◌++�
 use Rattle.sh_kernel.specs.State.{KernelState}
 use Rattle.sh_kernel.specs.Laws.{ChangesOnlyReached, ReachesNoMore, opens_any, sends_any}
 use Rattle.sh_kernel.specs.Requests.{Request, after_request, after_requests}
-use Rattle.sh_kernel.proofs.Closing.{true≢false}
+use Rattle.sh_kernel_machine.proofs.Closing.{true≢false}
 use Rattle.sh_kernel.proofs.Reached.{lists_change, lists_reach_no_more}
 
 pub after_requests-append : (s : KernelState) (pid : ℕ) (rs more : List Request) → after_requests s pid (rs ++ more) ≡ after_requests (after_requests s pid rs) pid more

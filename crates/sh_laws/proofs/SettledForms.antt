@@ -29,7 +29,7 @@ use Rattle.sh_exec_frames.specs.Frames.{ends_action, may_return, has_loop, is_fa
 use Rattle.sh_exec_forms.specs.Running.{Run, At, In}
 use Rattle.sh_exec_actions.specs.declared.form.Branches.{Branches}
 use Rattle.sh_exec_actions.specs.declared.form.Form.{Form}
-use Rattle.sh_exec_actions.specs.declared.form.Form.TheVariants.{Text, Commands, Joined, Negated, Restoring, If, Condition, Body, ForBody, Call, Evaluation, Trapped, FailuresIgnored}
+use Rattle.sh_exec_actions.specs.declared.form.Form.TheVariants.{Text, Commands, Joined, Negated, Restoring, If, Condition, Body, ForBody, Call, Evaluation, Trapped, Interruption, FailuresIgnored}
 use Rattle.sh_exec_actions.specs.declared.form.Loop.{Loop}
 use Rattle.sh_kernel.specs.State.{KernelState}
 use Rattle.sh_syntax.specs.declared.tree.Command.{Command}
@@ -162,6 +162,7 @@ completion_follows (completion.Left l) = tt
 completion_follows (completion.Runs how text) = tt
 completion_follows (completion.Reads reader) = tt
 completion_follows (completion.Waits awaited) = tt
+completion_follows (completion.Kills ask) = tt
 
 said_follows : (messages : List (List ℕ)) (status : Completion) → ActiveFollows (said messages status)
 said_follows [] status = completion_follows status
@@ -184,6 +185,9 @@ follows_holds (Calling body fields) f = absurd f
 follows_holds (Evaluating how text) f = tt
 follows_holds (Done status) f = tt
 follows_holds (Leaving leave) f = tt
+
+pub said_holds : (messages : List (List ℕ)) (status : Completion) → ActiveHolds (said messages status)
+said_holds messages status = follows_holds (said messages status) (said_follows messages status)
 
 pub reported_holds : (report : Report) → ActiveHolds (reported report)
 reported_holds report = follows_holds (reported report) (reported_follows report)
@@ -243,6 +247,7 @@ status_settled around (ForBody series) s shell status h = given_by_settled serie
 status_settled around (Call positional) s shell status h = returned_settled around shell status.status
 status_settled around (Evaluation how) s shell status h = tt
 status_settled around (Trapped before) s shell status h = tt
+status_settled around (Interruption before next) s shell status h = h
 status_settled around FailuresIgnored s shell status h = tt
 
 leave_settled : (around : List Form) (form : Form) (s : KernelState) (shell : Shell) (l : Leave) → FormHolds form → ActedSettled (after_leave around form s shell l)
@@ -258,6 +263,7 @@ leave_settled around (ForBody series) s shell l h = left_settled (has_loop aroun
 leave_settled around (Call positional) s shell l h = call_left_settled around l shell
 leave_settled around (Evaluation how) s shell l h = text_left_settled around how.origin l shell
 leave_settled around (Trapped before) s shell l h = tt
+leave_settled around (Interruption before next) s shell l h = tt
 leave_settled around FailuresIgnored s shell l h = tt
 
 after_by_settled : (around : List Form) (form : Form) (s : KernelState) (shell : Shell) (run : Run) → FormHolds form → Settled run → ActedSettled (after_by around form s shell run)
@@ -277,7 +283,7 @@ after_settled around form a h p = after_by_settled around form a.machine a.shell
 effect_settled : (around : List Form) (s : KernelState) (shell : Shell) (active : Active) → ActiveHolds active → Settled (effect_at around s shell active).run
 unfolding builtin_effect
 effect_settled around s shell (Acting i fields) h =
-    let acted = invoked s.machine shell (last_for around i.builtin shell.vars.special.status) i (drop 1 fields) in
+    let acted = invoked s shell (last_for around i.builtin shell.vars.special.status) i (drop 1 fields) in
     performed_settled (levels_left around) acted.shell (behind i.builtin acted.outcome) (behind_follows i.builtin acted.outcome)
 effect_settled around s shell (Calling body fields) h = call_settled (levels_left around) shell body (drop 1 fields) h
 effect_settled around s shell (Evaluating how text) h = evaluation_settled (levels_left around) shell how text

@@ -1,5 +1,5 @@
 -- A turn of a shell that stands before an action leaves it before one, and so does the shell that it makes.
-use Rattle.std.proofs.Common.{◌≡◌, ℕ, List, [], ◌∷◌, ◌++◌, length, Option, Some, None, Bool, true, false, sym, subst}
+use Rattle.std.proofs.Common.{◌≡◌, ℕ, zero, suc, List, [], ◌∷◌, ◌++◌, length, Option, Some, None, Bool, true, false, sym, subst}
 use Rattle.std.specs.Prelude.{Result, Ok, Err, nat_eq}
 use Rattle.sh_builtin.specs.Functions.{Named}
 use Rattle.sh_builtin.specs.Outcomes.{shell_status}
@@ -26,7 +26,7 @@ use Rattle.sh_exec_actions.specs.declared.action.Move.{Move}
 use Rattle.sh_exec_actions.specs.declared.action.Move.TheVariants as move
 use Rattle.sh_exec_actions.specs.declared.action.Pending.{Pending}
 use Rattle.sh_exec_actions.specs.declared.action.Action.{Action}
-use Rattle.sh_exec_actions.specs.declared.action.Action.TheVariants.{Reading, Expanding, ReadSubstitution, WaitSubstitution, ReadLine, Awaiting, Redirecting, Forking, Starting, ForkStage, ForkList, AssignLoopVariable, Defining, Waiting, Writing, Trapping, Ending}
+use Rattle.sh_exec_actions.specs.declared.action.Action.TheVariants.{Reading, Expanding, ReadSubstitution, WaitSubstitution, ReadLine, Awaiting, SendSignal, Redirecting, Forking, Starting, ForkStage, ForkList, AssignLoopVariable, Defining, Waiting, Writing, Trapping, Ending}
 use Rattle.sh_exec_actions.specs.declared.action.ExpandedCommand.{ExpandedCommand}
 use Rattle.sh_exec_actions.specs.declared.action.Role.TheVariants.{Program}
 use Rattle.sh_exec_actions.specs.declared.action.Stages.{Stages}
@@ -39,7 +39,7 @@ use Rattle.sh_exec_forms.specs.Entering.{form_entry, form_of_command, form_run, 
 use Rattle.sh_exec_forms.specs.Moves.{move_run}
 use Rattle.sh_exec_forms.proofs.Entered.{list_is}
 use Rattle.sh_exec_forms.specs.Forms.{Acted, behind_status, with_run}
-use Rattle.sh_exec_frames.specs.Frames.{ends_shell, is_failure_ignored}
+use Rattle.sh_exec_frames.specs.Frames.{ends_shell, is_failure_ignored, levels_left}
 use Rattle.sh_exec_actions.specs.declared.form.Form.{Form}
 use Rattle.sh_exec_forms.specs.Running.{Run, At, In, InterpreterState}
 use Rattle.sh_exec_machine.specs.Forking.{fork_of, null_laid}
@@ -53,11 +53,22 @@ use Rattle.sh_exec_machine.specs.declared.undone.Undone.{Undone}
 use Rattle.sh_exec_parts.specs.declared.message.Piece.{Piece}
 use Rattle.sh_exec_parts.specs.declared.redirection.Redirection.{Redirection}
 use Rattle.sh_exec_parts.specs.declared.simple.Assignment.{Assignment}
-use Rattle.sh_exec_shell.specs.Acting.{after_collection, collect_by, collect_end, collect_from, collect_turn, end_turn, ending_by, expand_turn, keeps, next, read_turn, redirect_by, redirect_from, redirect_one, redirect_turn, round_run, trap_by, trap_turn, with_undo, with_written, without_trap, write_turn}
+use Rattle.sh_exec_turns.specs.Acting.{after_collection, collect_by, collect_end, collect_from, collect_turn, end_turn, ending_by, expand_turn, keeps, next, read_turn, redirect_by, redirect_from, redirect_one, redirect_turn, round_run, trap_by, trap_turn, with_undo, with_written, without_trap, write_turn}
 use Rattle.sh_exec_frames.specs.Waiting.{answer_by, answer_turn, wait_by, wait_turn, with_substitution}
 use Rattle.sh_exec_frames.specs.Writing.{after_writing, unwritten, written_by}
 use Rattle.sh_exec_frames.specs.Placed.{Placed}
-use Rattle.sh_exec_frames.specs.Awaiting.{all_by, await_turn, operand_by, step_place}
+use Rattle.sh_builtin.specs.Running.{control_of}
+use Rattle.sh_builtin.specs.declared.outcome.Completion.TheVariants as completion
+use Rattle.sh_builtin_jobs.specs.KillRuns.{kill_next}
+use Rattle.sh_builtin_jobs.specs.declared.run.KillAsk.{KillAsk}
+use Rattle.sh_builtin_jobs.specs.declared.run.KillStep.{KillStep}
+use Rattle.sh_builtin_jobs.specs.declared.run.KillStep.TheVariants as kill
+use Rattle.sh_exec_frames.specs.Awaiting.{all_by, await_by, await_ended, await_turn, operand_by, step_place}
+use Rattle.sh_exec_frames.specs.Signals as signals
+use Rattle.sh_exec_frames.specs.Signals.{after_sending, is_reached, pending_signal, signal_turn}
+use Rattle.sh_exec_turns.specs.Traps.{interrupted, interruption, shell_before, trap_before}
+use Rattle.sh_kernel.specs.Calls.{after_take_signal}
+use Rattle.sh_signal.specs.declared.signal.Signal.{Signal}
 use Rattle.sh_builtin_regular.specs.declared.waiting.Awaited.{Awaited}
 use Rattle.sh_builtin_regular.specs.declared.waiting.Awaited.TheVariants as awaited
 use Rattle.sh_builtin_regular.specs.declared.waiting.ProcessWait.{ProcessWait}
@@ -67,7 +78,7 @@ use Rattle.sh_builtin_regular.specs.declared.waiting.WaitStep.TheVariants.{Over,
 use Rattle.sh_builtin.specs.Shells.{without_process}
 use Rattle.sh_exec_frames.specs.LineReading.{fields_given, line_by, line_ended, line_goes_on, line_read_by, most_read, read_line_turn}
 use Rattle.sh_exec_shell.specs.Forks.{begun_substitution, Turned, fork_failure, fork_turn, guarded, inherited, is_beside, is_more, list_by, list_turn, made_place, program_by, stage_by, stage_from, stage_input, stage_one, stage_place, stage_turn, substitute_turn, substitution_by}
-use Rattle.sh_exec_shell.specs.Reduction.{act_at, act_place, at_root, expanded_by, reduce, shell_turn}
+use Rattle.sh_exec_shell.specs.Reduction.{act_at, act_behind, act_place, at_root, expanded_by, reduce, shell_turn}
 use Rattle.sh_exec_machine.specs.Waits.{wait_status}
 use Rattle.sh_files.specs.Nodes.{FileMap}
 use Rattle.sh_kernel.specs.State.{KernelState}
@@ -87,7 +98,7 @@ use Rattle.sh_laws.specs.Beginnings.{AndOrBegins, CommandBegins, CommandsBegin, 
 use Rattle.sh_laws.proofs.BegunCommands.{and_or_stands, form_stands, list_stands}
 use Rattle.sh_laws.proofs.BegunProcesses.{body_stands, stage_stands}
 use Rattle.sh_laws.proofs.CommandTurns.{ActiveHolds, CommandHolds, ExpandedHolds, MoveHolds, RoundHolds, TurnHolds, ahead_holds, assign_holds, case_holds, choose, give_holds, next_holds, not_done_holds, pattern_holds, redirects_hold, series_hold, words_hold}
-use Rattle.sh_laws.proofs.SettledForms.{Holds, Settled, after_settled, at_action_settled, items_settled, reported_holds, settled_holds, stands_holds}
+use Rattle.sh_laws.proofs.SettledForms.{Holds, Settled, after_settled, at_action_settled, items_settled, reported_holds, said_holds, settled_holds, stands_holds}
 
 -- what an action leaves, before it is settled
 abbrev pub ActedHolds : Acted → Type 0
@@ -201,10 +212,28 @@ all_holds : (s : KernelState) (shell : Shell) (o : Option ℕ) → PlacedHolds (
 all_holds s shell None = tt
 all_holds s shell (Some status) = tt
 
+await_ended_holds : (s : KernelState) (shell : Shell) (a : Awaited) → PlacedHolds (await_ended s shell a)
+await_ended_holds s shell awaited.All = all_holds s shell (wait_status s shell.pid shell.known)
+await_ended_holds s shell (awaited.Process wait) = operand_holds s shell wait (wait_status s shell.pid (wait.process ∷ []))
+
+await_by_holds : (s : KernelState) (shell : Shell) (a : Awaited) (caught : Option Signal) → PlacedHolds (await_by s shell a caught)
+await_by_holds s shell a None = await_ended_holds s shell a
+await_by_holds s shell a (Some signal) = tt
+
 await_holds : (s : KernelState) (shell : Shell) (a : Awaited) → PlacedHolds (await_turn s shell a)
 unfolding await_turn
-await_holds s shell awaited.All = all_holds s shell (wait_status s shell.pid shell.known)
-await_holds s shell (awaited.Process wait) = operand_holds s shell wait (wait_status s shell.pid (wait.process ∷ []))
+await_holds s shell a = await_by_holds s shell a (pending_signal s shell)
+
+-- ---- a signal is sent
+kill_step_holds : (step : KillStep) → ActiveHolds (signals.step_place step)
+kill_step_holds (kill.Asks ask) = tt
+kill_step_holds (kill.Over report) = said_holds report.messages (completion.Done report.status)
+
+signal_holds : (s : KernelState) (shell : Shell) (a : KillAsk) → PlacedHolds (signal_turn s shell a)
+unfolding signal_turn
+signal_holds s shell a =
+    let after = after_sending s a.send.signal a.target in
+    kill_step_holds (kill_next (control_of after shell.pid) after.machine.processes [] a (is_reached s a.target))
 
 -- ---- waits
 with_status_holds : (wants : ToExpand) (status : ℕ) → WantsHold wants → WantsHold (with_substitution wants status)
@@ -287,6 +316,16 @@ trap_by_holds s shell status (Some text) =
 trap_holds : (s : KernelState) (shell : Shell) (status : ℕ) → ActedHolds (trap_turn s shell status)
 unfolding trap_turn
 trap_holds s shell status = trap_by_holds s shell status (action_of shell.traps Exit)
+
+-- ---- a trap on a signal: so does what its action's first command holds, and the shell goes on at its place
+interrupted_holds : (levels : ℕ) (s : KernelState) (shell : Shell) (place : Action) (text : List ℕ) → PlaceHolds place → ActedHolds (interrupted levels s shell place text)
+interrupted_holds zero s shell place text h = tt
+interrupted_holds (suc levels) s shell place text h = (h, read_holds true shell.vars 0 (next_command text) (next_holds text))
+
+interruption_holds : (around : List Form) (s : KernelState) (shell : Shell) (place : Action) (text : List ℕ) → PlaceHolds place
+    → ActedHolds (interruption around s shell place text)
+unfolding interruption
+interruption_holds around s shell place text h = interrupted_holds (levels_left around) (after_take_signal s shell.pid) (shell_before shell place) place text h
 
 -- ---- processes that are made, each with the shell's functions
 program_holds : (s : KernelState) (shell : Shell) (p : ExpandedCommand) (o : Option ℕ) → FunctionsHold shell.functions → PlaceHolds (Forking p) → TurnedHolds (program_by s shell p o)
@@ -371,6 +410,7 @@ place_holds around s shell (ReadSubstitution substitution) f h = (collect_holds 
 place_holds around s shell (WaitSubstitution substitution) f h = (answer_holds s shell.pid substitution h, tt)
 place_holds around s shell (ReadLine reader) f h = (line_holds s shell reader, tt)
 place_holds around s shell (Awaiting awaited) f h = (await_holds s shell awaited, tt)
+place_holds around s shell (SendSignal ask) f h = (signal_holds s shell ask, tt)
 place_holds around s shell (Redirecting p) f h = (redirect_holds s shell p h, tt)
 place_holds around s shell (Forking p) f h = fork_holds s shell p f h
 place_holds around s shell (Starting start) f h = (tt, tt)
@@ -383,11 +423,16 @@ place_holds around s shell (Writing piece finish) f h = (write_holds s shell pie
 place_holds around s shell (Trapping status) f h = (trap_holds s shell status, tt)
 place_holds around s shell (Ending status) f h = (end_holds s shell status, tt)
 
+behind_holds : (around : List Form) (s : KernelState) (shell : Shell) (place : Action) (trap : Option (List ℕ)) → FunctionsHold shell.functions → PlaceHolds place
+    → TurnedHolds (act_behind around s shell place trap)
+behind_holds around s shell place None f h = place_holds around s shell place f h
+behind_holds around s shell place (Some text) f h = (interruption_holds around s shell place text h, tt)
+
 active_holds : (around : List Form) (s : KernelState) (shell : Shell) (active : Active) → FunctionsHold shell.functions → ActiveStands active → TurnedHolds (act_at around s shell active)
 active_holds around s shell (Acting invocation fields) f h = absurd h
 active_holds around s shell (Calling body fields) f h = absurd h
 active_holds around s shell (Evaluating how text) f h = absurd h
-active_holds around s shell (Next place) f h = place_holds around s shell place f h
+active_holds around s shell (Next place) f h = behind_holds around s shell place (trap_before s shell place) f h
 active_holds around s shell (Done status) f h = absurd h
 active_holds around s shell (Leaving l) f h = absurd h
 

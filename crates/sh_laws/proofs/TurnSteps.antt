@@ -23,7 +23,7 @@ use Rattle.sh_exec_actions.specs.declared.action.Expanded.TheVariants as expande
 use Rattle.sh_exec_actions.specs.declared.action.Finish.{Finish}
 use Rattle.sh_exec_actions.specs.declared.action.Pending.{Pending}
 use Rattle.sh_exec_actions.specs.declared.action.Action.{Action}
-use Rattle.sh_exec_actions.specs.declared.action.Action.TheVariants.{Reading, Expanding, ReadSubstitution, WaitSubstitution, ReadLine, Awaiting, Redirecting, Forking, Starting, ForkStage, ForkList, AssignLoopVariable, Defining, Waiting, Writing, Trapping, Ending}
+use Rattle.sh_exec_actions.specs.declared.action.Action.TheVariants.{Reading, Expanding, ReadSubstitution, WaitSubstitution, ReadLine, Awaiting, SendSignal, Redirecting, Forking, Starting, ForkStage, ForkList, AssignLoopVariable, Defining, Waiting, Writing, Trapping, Ending}
 use Rattle.sh_exec_actions.specs.declared.action.ExpandedCommand.{ExpandedCommand}
 use Rattle.sh_exec_actions.specs.declared.action.Stages.{Stages}
 use Rattle.sh_exec_actions.specs.declared.action.Substitution.{Substitution}
@@ -34,29 +34,38 @@ use Rattle.sh_exec_machine.specs.Transfers.{take_bytes}
 use Rattle.sh_exec_machine.specs.Waits.{wait_status}
 use Rattle.sh_exec_machine.specs.declared.transfer.ReadOutcome.{ReadOutcome}
 use Rattle.sh_exec_machine.specs.declared.transfer.ReadOutcome.TheVariants as taken
-use Rattle.sh_exec_shell.specs.Acting.{collect_by, collect_end, collect_from, collect_turn, after_collection, end_turn, expand_turn, keeps, next, redirect_from, redirect_one, redirect_turn, trap_by, trap_turn, with_written, write_turn}
+use Rattle.sh_exec_turns.specs.Acting.{collect_by, collect_end, collect_from, collect_turn, after_collection, end_turn, expand_turn, keeps, next, redirect_from, redirect_one, redirect_turn, trap_by, trap_turn, with_written, write_turn}
 use Rattle.sh_exec_frames.specs.Placed.{Placed}
-use Rattle.sh_exec_frames.specs.Awaiting.{all_by, await_turn, operand_by}
+use Rattle.sh_builtin_environment.specs.TrapMaps.{TrapMap}
+use Rattle.sh_builtin_jobs.specs.declared.run.KillAsk.{KillAsk}
+use Rattle.sh_exec_frames.specs.Signals.{after_sending, after_trap_in, after_trap_set, after_traps, after_traps_in, pending_signal, signal_action, signal_turn}
+use Rattle.sh_exec_turns.specs.Traps.{interrupted, interruption, shell_before, trap_before}
+use Rattle.sh_jobs.specs.declared.fault.JobFault.{JobFault}
+use Rattle.sh_kernel_signals.specs.Sets.{has}
+use Rattle.sh_kernel_signals.specs.declared.set.SignalSet.{SignalSet}
+use Rattle.sh_kernel_signals.specs.declared.target.SignalTarget.{SignalTarget}
+use Rattle.sh_signal.specs.Signals.{signals}
+use Rattle.sh_signal.specs.declared.signal.Signal.{Signal}
+use Rattle.sh_exec_frames.specs.Awaiting.{all_by, await_by, await_ended, await_turn, operand_by}
 use Rattle.sh_builtin_regular.specs.declared.waiting.Awaited.{Awaited}
 use Rattle.sh_builtin_regular.specs.declared.waiting.Awaited.TheVariants as awaited
 use Rattle.sh_builtin_regular.specs.declared.waiting.ProcessWait.{ProcessWait}
 use Rattle.sh_exec_frames.specs.LineReading.{line_by, line_ended, line_goes_on, line_read_by, most_read, read_line_turn}
 use Rattle.sh_exec_shell.specs.Forks.{Turned, begun_substitution, fork_turn, guarded, inherited, is_beside, is_more, list_by, list_turn, made_shell, program_by, stage_by, stage_from, stage_input, stage_one, stage_shell, stage_turn, substitute_turn, substitution_by}
 use Rattle.sh_exec_frames.specs.Reporting.{behind}
-use Rattle.sh_exec_forms.specs.Builtins.{builtin_effect, call, effect_at, evaluation, performed}
+use Rattle.sh_exec_forms.specs.Builtins.{builtin_effect, builtin_machine, call, effect_at, machine_at, evaluation, performed}
 use Rattle.sh_exec_forms.specs.Forms.{Acted, with_run, after, after_by, after_status, after_leave, loop_left, onward, condition_run, at_action, undone}
 use Rattle.sh_builtin_environment.specs.TrapMaps.{action_of}
-use Rattle.sh_signal.specs.declared.condition.Condition.TheVariants.{Exit}
+use Rattle.sh_signal.specs.declared.condition.Condition.TheVariants.{Caught, Exit}
 use Rattle.sh_exec_frames.specs.Frames.{has_loop, is_failure_ignored, last_for, levels_left}
-use Rattle.sh_exec_shell.specs.Reduction.{act_at, act_place, expanded_by, reduce, shell_turn}
+use Rattle.sh_exec_shell.specs.Reduction.{act_at, act_behind, act_place, expanded_by, reduce, shell_turn}
 use Rattle.sh_exec_forms.specs.Running.{InterpreterState, Run, At, In}
 use Rattle.sh_exec_actions.specs.declared.form.Form.{Form}
-use Rattle.sh_exec_actions.specs.declared.form.Form.TheVariants.{Text, Commands, Joined, Negated, Restoring, If, Condition, Body, ForBody, Call, Evaluation, Trapped, FailuresIgnored}
-use Rattle.sh_kernel_descriptors.specs.Machine.{MachineState}
+use Rattle.sh_exec_actions.specs.declared.form.Form.TheVariants.{Text, Commands, Joined, Negated, Restoring, If, Condition, Body, ForBody, Call, Evaluation, Trapped, Interruption, FailuresIgnored}
 use Rattle.sh_kernel_descriptors.specs.declared.descriptor.DescriptorRef.TheVariants.{Aside, Number}
 use Rattle.sh_exec_parts.specs.Redirections.{to_read}
-use Rattle.sh_kernel.specs.Calls.{set_aside_call}
-use Rattle.sh_kernel.specs.Requests.{Close, End, Open, SetAside, after_request}
+use Rattle.sh_kernel.specs.Calls.{after_take_signal, set_aside_call}
+use Rattle.sh_kernel.specs.Requests.{Close, End, Kill, Open, SetAction, SetAside, TakeSignal, after_request}
 use Rattle.sh_kernel_descriptors.specs.declared.fault.KernelFault.{KernelFault}
 use Rattle.sh_kernel.specs.State.{KernelState}
 use Rattle.sh_syntax.specs.declared.tree.AndOr.{AndOr}
@@ -68,32 +77,33 @@ use Rattle.sh_laws.specs.Requests.{made_number}
 use Rattle.sh_laws.proofs.TurnRequests.{IsForked, IsKept, give_keeps, redirect_keeps, take_keeps, undo_keeps}
 
 -- ---- a built-in acts in its shell's process
-built_in_number : (machine : MachineState) (shell : Shell) (last : ℕ) (b : Builtin) (arguments : List (List ℕ)) → (built_in machine shell last b arguments).shell.pid ≡ shell.pid
+built_in_number : (s : KernelState) (shell : Shell) (last : ℕ) (b : Builtin) (arguments : List (List ℕ)) → (built_in s shell last b arguments).shell.pid ≡ shell.pid
 unfolding built_in
-built_in_number machine shell last builtin.Bracket arguments = refl
-built_in_number machine shell last builtin.Break arguments = refl
-built_in_number machine shell last builtin.Cd arguments = refl
-built_in_number machine shell last builtin.Colon arguments = refl
-built_in_number machine shell last builtin.Command arguments = refl
-built_in_number machine shell last builtin.Continue arguments = refl
-built_in_number machine shell last builtin.Dot arguments = refl
-built_in_number machine shell last builtin.Echo arguments = refl
-built_in_number machine shell last builtin.Eval arguments = refl
-built_in_number machine shell last builtin.Exec arguments = refl
-built_in_number machine shell last builtin.Exit arguments = refl
-built_in_number machine shell last builtin.Export arguments = refl
-built_in_number machine shell last builtin.False arguments = refl
-built_in_number machine shell last builtin.Pwd arguments = refl
-built_in_number machine shell last builtin.Read arguments = refl
-built_in_number machine shell last builtin.ReadOnly arguments = refl
-built_in_number machine shell last builtin.Return arguments = refl
-built_in_number machine shell last builtin.Set arguments = refl
-built_in_number machine shell last builtin.Shift arguments = refl
-built_in_number machine shell last builtin.Test arguments = refl
-built_in_number machine shell last builtin.Trap arguments = refl
-built_in_number machine shell last builtin.True arguments = refl
-built_in_number machine shell last builtin.Unset arguments = refl
-built_in_number machine shell last builtin.Wait arguments = refl
+built_in_number s shell last builtin.Bracket arguments = refl
+built_in_number s shell last builtin.Break arguments = refl
+built_in_number s shell last builtin.Cd arguments = refl
+built_in_number s shell last builtin.Colon arguments = refl
+built_in_number s shell last builtin.Command arguments = refl
+built_in_number s shell last builtin.Continue arguments = refl
+built_in_number s shell last builtin.Dot arguments = refl
+built_in_number s shell last builtin.Echo arguments = refl
+built_in_number s shell last builtin.Eval arguments = refl
+built_in_number s shell last builtin.Exec arguments = refl
+built_in_number s shell last builtin.Exit arguments = refl
+built_in_number s shell last builtin.Export arguments = refl
+built_in_number s shell last builtin.False arguments = refl
+built_in_number s shell last builtin.Kill arguments = refl
+built_in_number s shell last builtin.Pwd arguments = refl
+built_in_number s shell last builtin.Read arguments = refl
+built_in_number s shell last builtin.ReadOnly arguments = refl
+built_in_number s shell last builtin.Return arguments = refl
+built_in_number s shell last builtin.Set arguments = refl
+built_in_number s shell last builtin.Shift arguments = refl
+built_in_number s shell last builtin.Test arguments = refl
+built_in_number s shell last builtin.Trap arguments = refl
+built_in_number s shell last builtin.True arguments = refl
+built_in_number s shell last builtin.Unset arguments = refl
+built_in_number s shell last builtin.Wait arguments = refl
 
 evaluation_number : (levels : ℕ) (shell : Shell) (how : TextRun) (text : List ℕ) → (evaluation levels shell how text).shell.pid ≡ shell.pid
 evaluation_number zero shell how text = refl
@@ -115,13 +125,33 @@ effect_number : (around : List Form) (s : KernelState) (shell : Shell) (active :
 unfolding builtin_effect invoked
 effect_number around s shell (Acting i fields) =
     let last = last_for around i.builtin shell.vars.special.status in
-    let d = invoked s.machine shell last i (drop 1 fields) in
-    performed_number (levels_left around) d.shell (behind i.builtin d.outcome) ∙ built_in_number s.machine shell last i.builtin (drop 1 fields)
+    let d = invoked s shell last i (drop 1 fields) in
+    performed_number (levels_left around) d.shell (behind i.builtin d.outcome) ∙ built_in_number s shell last i.builtin (drop 1 fields)
 effect_number around s shell (Calling body fields) = call_number (levels_left around) shell body (drop 1 fields)
 effect_number around s shell (Evaluating how text) = evaluation_number (levels_left around) shell how text
 effect_number around s shell (Next place) = refl
 effect_number around s shell (Done status) = refl
 effect_number around s shell (Leaving leave) = refl
+
+before_number : (shell : Shell) (place : Action) → (shell_before shell place).pid ≡ shell.pid
+before_number shell (Reading rest status) = refl
+before_number shell (Expanding wants pending) = refl
+before_number shell (ReadSubstitution substitution) = refl
+before_number shell (WaitSubstitution substitution) = refl
+before_number shell (ReadLine reader) = refl
+before_number shell (Awaiting awaited) = refl
+before_number shell (SendSignal ask) = refl
+before_number shell (Redirecting p) = refl
+before_number shell (Forking p) = refl
+before_number shell (Starting start) = refl
+before_number shell (ForkStage stages) = refl
+before_number shell (ForkList list) = refl
+before_number shell (AssignLoopVariable series) = refl
+before_number shell (Defining definition) = refl
+before_number shell (Waiting children) = refl
+before_number shell (Writing piece finish) = refl
+before_number shell (Trapping status) = refl
+before_number shell (Ending status) = refl
 
 -- a process has the same number where failures are ignored
 inherited_number : (ignored : Bool) (child : Option InterpreterState) → made_number child ≡ made_number (inherited ignored child)
@@ -157,6 +187,7 @@ module _ (directory : List ℕ) (pid : ℕ) (P : KernelState → Type 0) (kept :
   ended_keeps around (Call positional) s shell status e p = (e, p)
   ended_keeps around (Evaluation how) s shell status e p = (e, p)
   ended_keeps around (Trapped before) s shell status e p = (e, p)
+  ended_keeps around (Interruption before next) s shell status e p = (e, p)
   ended_keeps around FailuresIgnored s shell status e p = (e, p)
 
   loop_left_keeps : (looped : Bool) (leave : Leave) (s : KernelState) (shell : Shell) (next : Run) → shell.pid ≡ pid → P s → Keeps (loop_left s shell next (onward looped leave))
@@ -183,6 +214,7 @@ module _ (directory : List ℕ) (pid : ℕ) (P : KernelState → Type 0) (kept :
   left_keeps around (Call positional) s shell leave e p = (e, p)
   left_keeps around (Evaluation how) s shell leave e p = (e, p)
   left_keeps around (Trapped before) s shell leave e p = (e, p)
+  left_keeps around (Interruption before next) s shell leave e p = (e, p)
   left_keeps around FailuresIgnored s shell leave e p = (e, p)
 
   after_by_keeps : (around : List Form) (form : Form) (s : KernelState) (shell : Shell) (run : Run) → shell.pid ≡ pid → P s → Keeps (after_by around form s shell run)
@@ -198,8 +230,33 @@ module _ (directory : List ℕ) (pid : ℕ) (P : KernelState → Type 0) (kept :
   unfolding after
   after_keeps around form a k = after_by_keeps around form a.machine a.shell a.run k.0 k.1
 
+  -- ---- a built-in has set traps
+  trap_in_keeps : (set : SignalSet) (s : KernelState) (n : ℕ) (traps : TrapMap) (signal : Signal) → n ≡ pid → P s → P (after_trap_in set s n traps signal)
+  trap_in_keeps set s n traps signal e p = at (has set signal)
+    where
+      at : (b : Bool) → P (if b then after_trap_set s n traps signal else s)
+      at true = subst (λ q. IsKept directory q P) (sym e) kept s (SetAction signal (signal_action (action_of traps (Caught signal)))) tt p
+      at false = p
+
+  traps_in_keeps : (set : SignalSet) (s : KernelState) (n : ℕ) (traps : TrapMap) (those : List Signal) → n ≡ pid → P s → P (after_traps_in set s n traps those)
+  traps_in_keeps set s n traps [] e p = p
+  traps_in_keeps set s n traps (signal ∷ others) e p =
+      traps_in_keeps set (after_trap_in set s n traps signal) n traps others e (trap_in_keeps set s n traps signal e p)
+
+  machine_keeps : (around : List Form) (s : KernelState) (shell : Shell) (active : Active) → shell.pid ≡ pid → P s → P (machine_at around s shell active)
+  unfolding builtin_machine after_traps invoked
+  machine_keeps around s shell (Acting i fields) e p =
+      let last = last_for around i.builtin shell.vars.special.status in
+      let d = invoked s shell last i (drop 1 fields) in
+      traps_in_keeps d.outcome.signals s d.shell.pid d.shell.traps signals (built_in_number s shell last i.builtin (drop 1 fields) ∙ e) p
+  machine_keeps around s shell (Calling body fields) e p = p
+  machine_keeps around s shell (Evaluating how text) e p = p
+  machine_keeps around s shell (Next place) e p = p
+  machine_keeps around s shell (Done status) e p = p
+  machine_keeps around s shell (Leaving leave) e p = p
+
   settled_keeps : (around : List Form) (s : KernelState) (shell : Shell) (run : Run) → shell.pid ≡ pid → P s → Keeps (at_action around s shell run)
-  settled_keeps around s shell (At active) e p = (effect_number around s shell active ∙ e, p)
+  settled_keeps around s shell (At active) e p = (effect_number around s shell active ∙ e, machine_keeps around s shell active e p)
   settled_keeps around s shell (In form run) e p =
       after_keeps around form (at_action (form ∷ around) s shell run) (settled_keeps (form ∷ around) s shell run e p)
 
@@ -265,10 +322,27 @@ module _ (directory : List ℕ) (pid : ℕ) (P : KernelState → Type 0) (kept :
   all_keeps s shell None e p = (e, p)
   all_keeps s shell (Some status) e p = (e, p)
 
+  await_ended_keeps : (s : KernelState) (shell : Shell) (a : Awaited) → shell.pid ≡ pid → P s → KeepsPlaced (await_ended s shell a)
+  await_ended_keeps s shell awaited.All e p = all_keeps s shell (wait_status s shell.pid shell.known) e p
+  await_ended_keeps s shell (awaited.Process wait) e p = operand_keeps s shell wait (wait_status s shell.pid (wait.process ∷ [])) e p
+
+  await_by_keeps : (s : KernelState) (shell : Shell) (a : Awaited) (caught : Option Signal) → shell.pid ≡ pid → P s → KeepsPlaced (await_by s shell a caught)
+  await_by_keeps s shell a None e p = await_ended_keeps s shell a e p
+  await_by_keeps s shell a (Some signal) e p = (e, p)
+
   await_keeps : (s : KernelState) (shell : Shell) (a : Awaited) → shell.pid ≡ pid → P s → KeepsPlaced (await_turn s shell a)
   unfolding await_turn
-  await_keeps s shell awaited.All e p = all_keeps s shell (wait_status s shell.pid shell.known) e p
-  await_keeps s shell (awaited.Process wait) e p = operand_keeps s shell wait (wait_status s shell.pid (wait.process ∷ [])) e p
+  await_keeps s shell a e p = await_by_keeps s shell a (pending_signal s shell) e p
+
+  -- ---- a signal is sent
+  sending_keeps : (s : KernelState) (shell : Shell) (signal : Option Signal) (target : Result SignalTarget JobFault) → shell.pid ≡ pid → P s → P (after_sending s signal target)
+  sending_keeps s shell None target e p = p
+  sending_keeps s shell (Some signal) (Err fault) e p = p
+  sending_keeps s shell (Some signal) (Ok target) e p = own shell e s (Kill target signal) tt p
+
+  signal_keeps : (s : KernelState) (shell : Shell) (a : KillAsk) → shell.pid ≡ pid → P s → KeepsPlaced (signal_turn s shell a)
+  unfolding signal_turn
+  signal_keeps s shell a e p = (e, sending_keeps s shell a.send.signal a.target e p)
 
   -- ---- /dev/null is laid for an asynchronous list
   set_by_keeps : (r : Result ℕ KernelFault) (s : KernelState) → P s → P (set_by r s).after
@@ -316,6 +390,17 @@ module _ (directory : List ℕ) (pid : ℕ) (P : KernelState → Type 0) (kept :
   trap_keeps : (s : KernelState) (shell : Shell) (status : ℕ) → shell.pid ≡ pid → P s → Keeps (trap_turn s shell status)
   unfolding trap_turn
   trap_keeps s shell status e p = trap_by_keeps s shell status (action_of shell.traps Exit) e p
+
+  -- ---- a trap on a signal
+  interrupted_keeps : (levels : ℕ) (s : KernelState) (shell : Shell) (place : Action) (text : List ℕ) → shell.pid ≡ pid → P s → Keeps (interrupted levels s shell place text)
+  interrupted_keeps zero s shell place text e p = (e, p)
+  interrupted_keeps (suc levels) s shell place text e p = (e, p)
+
+  interruption_keeps : (around : List Form) (s : KernelState) (shell : Shell) (place : Action) (text : List ℕ) → shell.pid ≡ pid → P s
+      → Keeps (interruption around s shell place text)
+  unfolding interruption
+  interruption_keeps around s shell place text e p =
+      interrupted_keeps (levels_left around) (after_take_signal s shell.pid) (shell_before shell place) place text (before_number shell place ∙ e) (own shell e s TakeSignal tt p)
 
 -- ---- processes that are made
 made_keeps_pid : (separator : Separator) (shell : Shell) (children : List ℕ) → (made_shell separator shell children).pid ≡ shell.pid
@@ -393,6 +478,7 @@ module _ (directory : List ℕ) (pid : ℕ) (P : Option ℕ → KernelState → 
   place_keeps around s shell (WaitSubstitution substitution) e d p = (e, p)
   place_keeps around s shell (ReadLine reader) e d p = line_keeps directory pid (P None) (kept None) s shell reader e p
   place_keeps around s shell (Awaiting awaited) e d p = await_keeps directory pid (P None) (kept None) s shell awaited e p
+  place_keeps around s shell (SendSignal ask) e d p = signal_keeps directory pid (P None) (kept None) s shell ask e p
   place_keeps around s shell (Redirecting prepared) e d p = redirect_turn_keeps directory pid (P None) (kept None) s shell prepared e d p
   place_keeps around s shell (Forking prepared) e d p = fork_turn_keeps s shell prepared e p
   place_keeps around s shell (Starting start) e d p = (e, p)
@@ -405,11 +491,16 @@ module _ (directory : List ℕ) (pid : ℕ) (P : Option ℕ → KernelState → 
   place_keeps around s shell (Trapping status) e d p = trap_keeps directory pid (P None) (kept None) s shell status e p
   place_keeps around s shell (Ending status) e d p = end_keeps directory pid (P None) (kept None) s shell status e p
 
+  behind_keeps : (around : List Form) (s : KernelState) (shell : Shell) (place : Action) (trap : Option (List ℕ)) → shell.pid ≡ pid → shell.vars.directory ≡ directory → P None s
+      → Leaves (act_behind around s shell place trap)
+  behind_keeps around s shell place None e d p = place_keeps around s shell place e d p
+  behind_keeps around s shell place (Some text) e d p = interruption_keeps directory pid (P None) (kept None) around s shell place text e p
+
   active_keeps : (around : List Form) (s : KernelState) (shell : Shell) (active : Active) → shell.pid ≡ pid → shell.vars.directory ≡ directory → P None s → Leaves (act_at around s shell active)
   active_keeps around s shell (Acting b fields) e d p = (e, p)
   active_keeps around s shell (Calling body fields) e d p = (e, p)
   active_keeps around s shell (Evaluating how text) e d p = (e, p)
-  active_keeps around s shell (Next place) e d p = place_keeps around s shell place e d p
+  active_keeps around s shell (Next place) e d p = behind_keeps around s shell place (trap_before s shell place) e d p
   active_keeps around s shell (Done status) e d p = (e, p)
   active_keeps around s shell (Leaving leave) e d p = (e, p)
 

@@ -3,7 +3,7 @@ use Rattle.std.proofs.Common.{◌≡◌, ◌≢◌, ℕ, ◌<◌, Bool, true, fa
 use Rattle.sh_kernel.specs.State.{KernelState}
 use Rattle.sh_kernel.specs.Requests.{Request, after_request, after_requests}
 use Rattle.sh_kernel.specs.Laws.{ChangesOnlyReached, IsOwned, OnlyGrows, opens, opens_any, sends, sends_any}
-use Rattle.sh_kernel.proofs.Lists.{or_left, or_right}
+use Rattle.sh_kernel_machine.proofs.Lists.{or_left, or_right}
 use Rattle.sh_kernel.proofs.Reached.{lists_grow, lists_leave_owned}
 use Rattle.sh_exec_machine.specs.declared.undone.Undone.{Undone}
 use Rattle.sh_exec_machine.specs.declared.undone.Undone.TheVariants.{Restore, Close}

@@ -12,7 +12,7 @@ use Rattle.sh_exec_command.specs.declared.found.Found.TheVariants as found
 use Rattle.sh_exec_actions.specs.declared.action.Active.{Active}
 use Rattle.sh_exec_actions.specs.declared.action.Active.TheVariants.{Acting, Calling, Evaluating, Next, Done, Leaving}
 use Rattle.sh_exec_actions.specs.declared.action.Action.{Action}
-use Rattle.sh_exec_actions.specs.declared.action.Action.TheVariants.{Reading, Expanding, ReadSubstitution, WaitSubstitution, ReadLine, Awaiting, Redirecting, Forking, Starting, ForkStage, ForkList, AssignLoopVariable, Defining, Waiting, Writing, Trapping, Ending}
+use Rattle.sh_exec_actions.specs.declared.action.Action.TheVariants.{Reading, Expanding, ReadSubstitution, WaitSubstitution, ReadLine, Awaiting, SendSignal, Redirecting, Forking, Starting, ForkStage, ForkList, AssignLoopVariable, Defining, Waiting, Writing, Trapping, Ending}
 use Rattle.sh_exec_actions.specs.declared.action.Role.{Role}
 use Rattle.sh_exec_actions.specs.declared.action.Role.TheVariants.{NoCommandName, Builtin, Function, Program, Exec, Compound, Subshell}
 use Rattle.sh_exec_actions.specs.declared.action.CaseBranch.{CaseBranch}
@@ -21,7 +21,7 @@ use Rattle.sh_exec_actions.specs.declared.action.ToExpand.TheVariants.{Words, Va
 use Rattle.sh_exec_forms.specs.Forms.{Acted}
 use Rattle.sh_exec_forms.specs.Running.{InterpreterState, Run, At, In, active_of}
 use Rattle.sh_exec_actions.specs.declared.form.Form.{Form}
-use Rattle.sh_exec_actions.specs.declared.form.Form.TheVariants.{Text, Commands, Joined, Negated, Restoring, If, Condition, Body, ForBody, Call, Evaluation, Trapped, FailuresIgnored}
+use Rattle.sh_exec_actions.specs.declared.form.Form.TheVariants.{Text, Commands, Joined, Negated, Restoring, If, Condition, Body, ForBody, Call, Evaluation, Trapped, Interruption, FailuresIgnored}
 use Rattle.sh_exec_actions.specs.declared.form.Loop.{Loop}
 use Rattle.sh_exec_parts.specs.declared.simple.Assignment.{Assignment}
 use Rattle.sh_expand.specs.Parts.{parts_of}
@@ -85,6 +85,7 @@ PlaceHolds (ReadSubstitution substitution) = WantsHold substitution.wants
 PlaceHolds (WaitSubstitution substitution) = WantsHold substitution.wants
 PlaceHolds (ReadLine reader) = Unit {0}
 PlaceHolds (Awaiting awaited) = Unit {0}
+PlaceHolds (SendSignal ask) = Unit {0}
 PlaceHolds (Redirecting p) = RoleHolds p.role × AssignmentsHold p.assignments
 PlaceHolds (Forking p) = (p.role ≡ Program) × AssignmentsHold p.assignments
 PlaceHolds (Starting start) = Unit {0}
@@ -114,6 +115,7 @@ FormHolds (ForBody series) = ListBegins series.body
 FormHolds (Call positional) = Unit {0}
 FormHolds (Evaluation how) = Unit {0}
 FormHolds (Trapped status) = Unit {0}
+FormHolds (Interruption status next) = PlaceHolds next
 FormHolds FailuresIgnored = Unit {0}
 
 -- ---- what runs has an action next, and holds only such syntax

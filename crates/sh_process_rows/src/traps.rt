@@ -4,6 +4,7 @@ use crate::outcomes::{put_next, words_of};
 use sh_base::NoMemory;
 use sh_base::sequence::{Sequence, Text};
 use sh_builtin_environment::{Outcome, Traps, trap};
+use sh_kernel_signals::SignalSet;
 use sh_rows::RowFault;
 use sh_signal::{Condition, DefaultAction, Signal};
 use std::alloc::Global;
@@ -34,7 +35,8 @@ fn run(alloc: Global, traps: &mut Traps, words: &[Text]) -> Result<Outcome, NoMe
             .map_or(b"".as_slice(), |word| word.as_slice());
         return action_of(alloc, traps, word);
     }
-    trap(alloc, traps, arguments)
+    let trapped = trap(alloc, traps, SignalSet::new(), arguments)?;
+    Ok(trapped.outcome)
 }
 
 /// What commands come to, one after another.

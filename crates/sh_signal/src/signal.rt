@@ -1,6 +1,6 @@
 //! Signals.
 ghost use Rattle.std.specs.Prelude.{◌≡◌};
-ghost use Rattle.sh_signal.specs.Signals.{default_of, name_of, signal_with_name, number_of, signal_with_number};
+ghost use Rattle.sh_signal.specs.Signals.{default_of, name_of, signal_with_name, number_of, signal_with_number, signals};
 
 /// A signal (XBD 13, signal.h).
 #[derive(Clone, Copy, Debug, PartialEq, Eq)]
@@ -52,7 +52,34 @@ pub enum DefaultAction {
     Stop,
 }
 
+/// All of them, by their numbers.
+const SIGNALS: [Signal; 16] = [
+    Signal::Hangup,
+    Signal::Interrupt,
+    Signal::Quit,
+    Signal::Abort,
+    Signal::Kill,
+    Signal::User1,
+    Signal::User2,
+    Signal::Pipe,
+    Signal::Alarm,
+    Signal::Terminate,
+    Signal::Child,
+    Signal::Continue,
+    Signal::Stop,
+    Signal::TerminalStop,
+    Signal::TerminalInput,
+    Signal::TerminalOutput,
+];
+
 impl Signal {
+    /// All signals, in the order of their numbers.
+    pub fn all() -> [Signal; 16]
+        ensures { result ≡ signals }
+    {
+        SIGNALS
+    }
+
     /// Its number, from 1 to 22.
     pub fn number(self) -> u8
         ensures { result ≡ number_of self }

@@ -1,8 +1,10 @@
 //! A world: processes over a kernel, moved by events.
-ghost use Rattle.std.specs.Prelude.{◌≡◌, ℕ, ◌<◌, List, OnOk, OnErr, IsErr, IfOk, Option, Some, None, length, take, option_copied, option_map};
+ghost use Rattle.std.specs.Prelude.{◌≡◌, ℕ, ◌<◌, List, false, OnOk, OnErr, IsErr, IfOk, Option, Some, None, length, take, option_copied, option_map};
 ghost use Rattle.sh_kernel.specs.State.{KernelState, StandsAt};
 ghost use Rattle.sh_tty.specs.Terminal.{Extends};
+ghost use Rattle.std.specs.Option.{option_map_or};
 ghost use Rattle.sh_exec.specs.Choice.{choice};
+ghost use Rattle.sh_exec.specs.TurnActions.{takes_trap};
 ghost use Rattle.sh_world.specs.World.{IsSpent, PartsStand, WorldKept, WorldStands, shown_of};
 ghost use Rattle.sh_exec.specs.State.{State, after_turn, chosen_turn, end_of, ended_of, files_of, run, runnables, start, status_of, step, task_of, terminal_of, turn_of, typed};
 
@@ -326,6 +328,19 @@ impl<S: Stock> World<S> {
             None
         } else {
             task_among(self.tasks.as_slice(), pid)
+        }
+    }
+
+    /// Whether the process of this number takes a trap on a signal in its next turn, before what `Task::action` tells (XCU 2.12). `false` where no
+    /// such process lives, and once memory was wanting. Takes no memory.
+    pub fn takes_trap(&self, pid: u32) -> bool
+        ensures view { (s : State S) → WorldStands self.now s
+            → result ≡ option_map_or (takes_trap s.machine) (task_of s pid) false }
+        ensures spent { IsSpent self.now → result ≡ false }
+    {
+        match self.task(pid) {
+            Some(task) => task.takes_trap(&self.kernel),
+            None => false,
         }
     }
 

@@ -46,9 +46,9 @@ impl Kernel {
     ghost use Rattle.sh_kernel.specs.State.{KernelState, StandsAt};
 
     /// Sends a signal to each process that it reaches. The only error is want of memory, after which nothing has changed.
-    pub(super) fn send(&mut self, to: SignalTarget<'_>, signal: Signal) -> Result<(), NoMemory>
+    pub(super) fn send(&mut self, to: &SignalTarget, signal: Signal) -> Result<(), NoMemory>
         ensures ok { (s : KernelState) → StandsAt self.old s
-            → OnOk result (StandsAt self.new (after_signal s to.entry signal)) }
+            → OnOk result (StandsAt self.new (after_signal s to.now signal)) }
         ensures err { (s : KernelState) → StandsAt self.old s
             → OnErr result (StandsAt self.new s) }
         ensures terminal { self.new.terminal ≡ self.old.terminal }
@@ -93,7 +93,7 @@ impl Kernel {
         };
         let to = SignalTarget::Group(self.terminal.foreground());
         self.machine
-            .send(&mut self.members, to, signal, pids, at_risk);
+            .send(&mut self.members, &to, signal, pids, at_risk);
     }
 
     /// Sends SIGPIPE to the writer to a pipe without a reader, and answers so.
@@ -102,7 +102,8 @@ impl Kernel {
             → GivesOrLacks result self.new s (broken_pipe s pid) }
         ensures terminal { self.new.terminal ≡ self.old.terminal }
     {
-        match self.send(SignalTarget::Process(pid), Signal::Pipe) {
+        let to = SignalTarget::Process(pid);
+        match self.send(&to, Signal::Pipe) {
             Ok(()) => Err(KernelFault::BrokenPipe),
             Err(lack) => Err(KernelFault::NoMemory(lack)),
         }
@@ -113,11 +114,11 @@ impl Kernel {
     /// get HUP and CONT, where they have a stopped member.
     ///
     /// `NoProcess` where it reaches none that lives; else `NoMemory`.
-    pub fn kill(&mut self, to: SignalTarget<'_>, signal: Signal) -> Result<(), KernelFault>
+    pub fn kill(&mut self, to: &SignalTarget, signal: Signal) -> Result<(), KernelFault>
         ensures state { (s : KernelState) → StandsAt self.old s
-            → GivesOrLacks result self.new s (kill_call s to.entry signal) }
+            → GivesOrLacks result self.new s (kill_call s to.now signal) }
         ensures room { (s : KernelState) → StandsAt self.old s
-            → LacksWhereGiven result (kill_call s to.entry signal) }
+            → LacksWhereGiven result (kill_call s to.now signal) }
         ensures terminal { self.new.terminal ≡ self.old.terminal }
     {
         if !self.is_any_reached(to) {
@@ -130,8 +131,8 @@ impl Kernel {
     }
 
     /// Whether a signal would reach a process that lives (XSH kill with signal 0). Takes no memory.
-    pub fn is_any_reached(&self, to: SignalTarget<'_>) -> bool
-        ensures { (s : KernelState) → StandsAt self.now s → result ≡ list_any (reaches to.entry) s.members }
+    pub fn is_any_reached(&self, to: &SignalTarget) -> bool
+        ensures { (s : KernelState) → StandsAt self.now s → result ≡ list_any (reaches to.now) s.members }
     {
         is_any_reached(self.members.as_slice(), to)
     }

@@ -7,5 +7,6 @@ use Rattle.sh_signal.specs.declared.signal.Signal.TheVariants.{Continue}
 pub returns : goal.returns
 returns c =
     c.after_each_kept.ensures
+    ∙ ap (λ all. after_each_kept c.args.is_orphaned c.args.to.member.kept all c.after_delivery-running.result) c.all.ensures
     ∙ ap (after_each_kept c.args.is_orphaned c.args.to.member.kept signals)
     (c.after_delivery-running.ensures ∙ ap (λ r. after_delivery c.args.is_orphaned r Continue) c.running_again.ensures)

@@ -1,0 +1,100 @@
+-- Traps on signals (XCU 2.15 trap, 2.12): before which actions of a shell that of a trap may come, and the turn in which it is taken.
+use Rattle.std.specs.Prelude.{ℕ, zero, suc, List, [], ◌∷◌, Bool, true, false, not, Option, Some, None, if◌then◌else◌}
+use Rattle.sh_builtin.specs.declared.shell.Shell.{Shell}
+use Rattle.sh_exec_actions.specs.declared.action.Action.{Action}
+use Rattle.sh_exec_actions.specs.declared.action.Action.TheVariants.{Reading, Expanding, ReadSubstitution, WaitSubstitution, ReadLine, Awaiting, SendSignal, Redirecting, Forking, Starting, ForkStage, ForkList, AssignLoopVariable, Defining, Waiting, Writing, Trapping, Ending}
+use Rattle.sh_exec_actions.specs.declared.action.Pending.{Pending}
+use Rattle.sh_exec_actions.specs.declared.action.ToExpand.{ToExpand}
+use Rattle.sh_exec_actions.specs.declared.action.ToExpand.TheVariants.{Words, Values, Redirects, ForWords, CaseWord, CasePattern}
+use Rattle.sh_exec_actions.specs.declared.form.Form.{Form}
+use Rattle.sh_exec_actions.specs.declared.form.Form.TheVariants.{Interruption}
+use Rattle.sh_exec_command.specs.Expanding.{fatal}
+use Rattle.sh_exec_command.specs.Reading.{next_command}
+use Rattle.sh_exec_forms.specs.Forms.{Acted, behind_status, with_run}
+use Rattle.sh_exec_forms.specs.Running.{At, In}
+use Rattle.sh_exec_frames.specs.Frames.{levels_left}
+use Rattle.sh_exec_frames.specs.Signals.{pending_action}
+use Rattle.sh_exec_parts.specs.Messages.{refusal_text}
+use Rattle.sh_exec_parts.specs.Simple.{compound_redirects}
+use Rattle.sh_exec_parts.specs.declared.message.Refusal.TheVariants as refusal
+use Rattle.sh_exec_turns.specs.Acting.{read_turn}
+use Rattle.sh_kernel.specs.Calls.{after_take_signal}
+use Rattle.sh_kernel.specs.State.{KernelState}
+
+abbrev pub is_none : {A : Type 0} → List A → Bool
+is_none [] = true
+is_none (a ∷ others) = false
+
+-- ---- the first expansion of a command: that of its words and those of its redirections; its assignments, where it has nothing else
+abbrev pub is_first : ToExpand → Bool
+is_first (Words command in_place status) = true
+is_first (Values command) = not command.has_words
+is_first (Redirects command) = true
+is_first (ForWords command) = is_none (compound_redirects command)
+is_first (CaseWord command) = is_none (compound_redirects command)
+is_first (CasePattern case) = false
+
+-- where a substitution has been needed, this isn't the beginning of the expansion
+abbrev pub is_begun : Option Pending → Bool
+is_begun None = false
+is_begun (Some pending) = true
+
+abbrev pub begins : ToExpand → Option Pending → Bool
+begins wants pending = if is_begun pending then false else is_first wants
+
+-- ---- the action of a trap comes where a command would begin: before a reading, a definition, the next round of a for, the first expansion of
+-- a command, and the first process of a pipeline, a subshell or an asynchronous list. So it comes after a command that runs in the
+-- foreground (2.12)
+abbrev pub may_interrupt : Action → Bool
+may_interrupt (Reading rest status) = true
+may_interrupt (Expanding wants pending) = begins wants pending
+may_interrupt (ReadSubstitution substitution) = false
+may_interrupt (WaitSubstitution substitution) = false
+may_interrupt (ReadLine reader) = false
+may_interrupt (Awaiting awaited) = false
+may_interrupt (SendSignal ask) = false
+may_interrupt (Redirecting p) = false
+may_interrupt (Forking p) = false
+may_interrupt (Starting start) = false
+may_interrupt (ForkStage stages) = is_none stages.children
+may_interrupt (ForkList list) = true
+may_interrupt (AssignLoopVariable series) = true
+may_interrupt (Defining definition) = true
+may_interrupt (Waiting children) = false
+may_interrupt (Writing piece finish) = false
+may_interrupt (Trapping status) = true
+may_interrupt (Ending status) = false
+
+-- the action that comes before this one: that of the pending signal with the lowest number
+abbrev pub trap_before : KernelState → Shell → Action → Option (List ℕ)
+trap_before s shell place = if may_interrupt place then pending_action s shell else None
+
+-- ---- its first command is read in this turn; behind it the shell goes on at its place, and `$?` is again what it was
+abbrev pub interrupted : (levels : ℕ) → KernelState → Shell → Action → (text : List ℕ) → Acted
+interrupted zero s shell place text = with_run s shell (At (fatal (refusal_text refusal.TooDeep)))
+interrupted (suc levels) s shell place text =
+    with_run s shell (In (Interruption shell.vars.special.status place) (read_turn true shell.vars 0 (next_command text)))
+
+-- where the shell is to end, `$?` is the status with which it is to
+abbrev pub shell_before : Shell → Action → Shell
+shell_before shell (Reading rest status) = shell
+shell_before shell (Expanding wants pending) = shell
+shell_before shell (ReadSubstitution substitution) = shell
+shell_before shell (WaitSubstitution substitution) = shell
+shell_before shell (ReadLine reader) = shell
+shell_before shell (Awaiting awaited) = shell
+shell_before shell (SendSignal ask) = shell
+shell_before shell (Redirecting p) = shell
+shell_before shell (Forking p) = shell
+shell_before shell (Starting start) = shell
+shell_before shell (ForkStage stages) = shell
+shell_before shell (ForkList list) = shell
+shell_before shell (AssignLoopVariable series) = shell
+shell_before shell (Defining definition) = shell
+shell_before shell (Waiting children) = shell
+shell_before shell (Writing piece finish) = shell
+shell_before shell (Trapping status) = behind_status shell status
+shell_before shell (Ending status) = shell
+
+unfoldable pub interruption : (around : List Form) → KernelState → Shell → Action → (text : List ℕ) → Acted
+interruption around s shell place text = interrupted (levels_left around) (after_take_signal s shell.pid) (shell_before shell place) place text

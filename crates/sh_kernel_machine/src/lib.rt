@@ -1,0 +1,6 @@
+//! What a kernel keeps of its processes: descriptors, open file descriptions, pipes and files.
+#![tactic(auto)]
+
+mod machine;
+
+pub use machine::Machine;
