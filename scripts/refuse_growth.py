@@ -71,6 +71,8 @@ ROWS = [
     ("IFS=:; while read -r x y; do echo \"[$x] [$y]\"; done <<E\na\\b:c:d\n e\nE\ncommand export v=1 w; command -v cat ./two; x=1 command eval fi; x=1 command exec 3>f; { exec 4>g; } 2>h; command exec none; echo $?", 110),
     ("read a b; readonly r; read x r; command -v ./two; command -v echo; command . none; command exec echo b$a", 60),
     ("exec 3>f 4<in; (exec cat <&4) | exec having b >&3; exec 3>&-; cat <f; trap 'echo t' EXIT; (x=1 exec two c); x=1 exec none 2>&1", 70),
+    ("trap 'echo \"a $?\"' USR1; trap '' USR2; (kill -s USR1 $$; kill -USR2 $$ 0 none); kill -0 $$ 999 || echo $?; for i in a b; do kill -s USR1 $$; echo $i; done | cat", 50),
+    ("trap 'trap \"echo b\" USR2; x=$(kill -s USR2 $$); echo a' USR1; yes >/dev/null & y=$!; (kill -s USR1 $$) & wait $y; echo $?; kill -s STOP $y; kill -CONT $y; kill $y; wait $y 2>f; echo $?; trap 'exit 4' TERM; kill $$; echo no", 70),
 ]
 
 # scripts of the image that the shell runs, and their turns
