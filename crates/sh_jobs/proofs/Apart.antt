@@ -32,7 +32,7 @@ launched_apart jobs group pids text state event apart =
     pushed jobs (new_job (free_number jobs) group pids text state event) apart least.from_one least.free
 
 -- ---- jobs that keep their numbers
-taken_mapped : (change : Job → Job) → ((job : Job) → (change job).number ≡ job.number) → (jobs : List Job) (n : ℕ) → is_taken (map change jobs) n ≡ is_taken jobs n
+pub taken_mapped : (change : Job → Job) → ((job : Job) → (change job).number ≡ job.number) → (jobs : List Job) (n : ℕ) → is_taken (map change jobs) n ≡ is_taken jobs n
 taken_mapped change same [] n = refl
 taken_mapped change same (job ∷ jobs) n =
     ap (λ m. (m == n) || is_taken (map change jobs) n) (same job) ∙ ap (λ b. (job.number == n) || b) (taken_mapped change same jobs n)

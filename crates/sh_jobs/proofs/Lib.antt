@@ -3,4 +3,5 @@ pub mod Apart
 pub mod Best
 pub mod Changed
 pub mod Fitting
+pub mod Marked
 pub mod Numbers

@@ -1,6 +1,8 @@
 -- Laws of tables of jobs: which job is the current one and which has changed, and that no two jobs have one number.
 use Rattle.std.specs.Prelude.{◌≡◌, ℕ, ◌≤◌, List, [], ◌∷◌, true, false, Option, Some, None, ◌⊎◌}
+use Rattle.sh_kernel.specs.Changes.{Changes}
 use Rattle.sh_kernel_descriptors.specs.declared.process.Process.{Process}
+use Rattle.sh_jobs.specs.Moments.{brought_up}
 use Rattle.sh_jobs.specs.News.{has_changed, next_changed, without_told}
 use Rattle.sh_jobs.specs.Order.{current_of, is_ahead, previous_of, rank_of}
 use Rattle.sh_jobs.specs.Table.{after_note, after_telling, is_taken, with_launch, without}
@@ -75,3 +77,10 @@ RemovalsKeepApart = (jobs : List Job) (number : ℕ) → AreApart jobs → AreAp
 
 abbrev pub ClearingsKeepApart : Type 0
 ClearingsKeepApart = (ps : List Process) (jobs : List Job) → AreApart jobs → AreApart (without_told ps jobs)
+
+abbrev pub BringingUpKeepsApart : Type 0
+BringingUpKeepsApart = (changes : Changes) (jobs : List Job) → AreApart jobs → AreApart (brought_up changes jobs)
+
+-- ---- what is up to date stays so
+abbrev pub BringingTwiceIsOnce : Type 0
+BringingTwiceIsOnce = (changes : Changes) (jobs : List Job) → brought_up changes (brought_up changes jobs) ≡ brought_up changes jobs

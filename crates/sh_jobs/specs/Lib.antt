@@ -1,6 +1,8 @@
 pub mod Ids
 pub mod Laws
 pub mod Lines
+pub mod Marks
+pub mod Moments
 pub mod News
 pub mod Order
 pub mod States

@@ -21,7 +21,8 @@ pub struct Job {
     pub text: Text,
     /// The state that was last told to the user, if one was.
     pub told: Option<JobState>,
-    /// The number of the event at which one of its processes last started, stopped or went on.
+    /// When one of its processes last started, stopped or went on: a number that is greater for a later change, as an event's number or the
+    /// kernel's moment.
     pub changed: u64,
 }
 

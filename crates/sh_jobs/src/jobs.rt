@@ -3,6 +3,7 @@ ghost use Rattle.std.specs.Prelude.{◌≡◌, [], IfOk, OnErr, OnOk, option_map
 ghost use Rattle.sh_kernel.specs.State.{KernelState, StandsAt};
 ghost use Rattle.sh_jobs.specs.Ids.{job_of_id};
 ghost use Rattle.sh_jobs.specs.Lines.{report_of};
+ghost use Rattle.sh_jobs.specs.Moments.{brought_up};
 ghost use Rattle.sh_jobs.specs.News.{next_changed, without_told};
 ghost use Rattle.sh_jobs.specs.States.{state_of};
 ghost use Rattle.sh_jobs.specs.Table.{IsLeastFree, after_note, after_telling, free_number, job_at, numbers_of, with_launch, without};
@@ -11,10 +12,12 @@ use crate::fault::JobFault;
 use crate::ids::find;
 use crate::job::{Job, copies};
 use crate::line::{JobForm, line_of};
+use crate::marks::Marks;
+use crate::moments::bring_up_to_date;
 use crate::news::{next_changed, remove_told};
 use crate::stages::state_of;
 use crate::state::JobState;
-use crate::table::{free_number, note, numbers_of, remove, tell};
+use crate::table::{note, numbers_of, remove, tell};
 use sh_base::NoMemory;
 use sh_base::sequence::{Sequence, Text};
 use sh_kernel::Kernel;
@@ -28,15 +31,19 @@ use std::marker::Model;
 #[derive(Debug, Drop)]
 pub struct Jobs {
     jobs: Vec<Job>,
+    marks: Marks,
 }
 
 impl Model for Jobs {
     ghost use Rattle.std.specs.Prelude.{List};
     ghost use Rattle.sh_jobs.specs.declared.job.Job.{Job};
+    ghost use Rattle.sh_jobs.specs.Marks.{AreMarked};
 
     ghost Value = { List Job };
 
     ghost view = { λ table. table.jobs.items };
+
+    ghost invariant = { λ table. AreMarked table.jobs.items table.marks.marks.items table.marks.filled };
 }
 
 impl Jobs {
@@ -46,12 +53,13 @@ impl Jobs {
     {
         Jobs {
             jobs: Vec::new(alloc),
+            marks: Marks::new(alloc),
         }
     }
 
     /// Adds a job of these processes, in the order of the stages, and gives its number: the least one from 1 on that no job has (XCU 2.11).
-    /// It is launched at this event. `told` is the state that the user knows, if any. The only error is want of memory, after which the
-    /// table is as it was.
+    /// `event` is its last change: a number that is greater for a later change, as an event's number or the kernel's moment. `told` is the
+    /// state that the user knows, if any. The only error is want of memory, after which the table is as it was.
     pub fn launch(
         &mut self,
         alloc: Global,
@@ -68,7 +76,7 @@ impl Jobs {
     {
         let pids = Sequence::copy_of(alloc, pids)?;
         let text = Text::copy_of(alloc, text)?;
-        let number = free_number(self.jobs.as_slice());
+        let number = self.marks.free_number(alloc, self.jobs.as_slice())?;
         self.jobs.push(Job {
             number,
             group,
@@ -77,6 +85,7 @@ impl Jobs {
             told,
             changed: event,
         })?;
+        self.marks.filled = number;
         Ok(number)
     }
 
@@ -85,6 +94,14 @@ impl Jobs {
         ensures { self.new ≡ after_note self.old pid event }
     {
         note(self.jobs.as_mut_slice(), pid, event);
+    }
+
+    /// Each job has its last change at the moment, by the kernel's clock, at which one of its processes last started, stopped or went on (XBD
+    /// chapter 3, Job ID). To be called before the current or the previous job is asked for. Takes no memory.
+    pub fn bring_up_to_date(&mut self, kernel: &Kernel)
+        ensures { (s : KernelState) → StandsAt kernel.now s → self.new ≡ brought_up s.changes self.old }
+    {
+        bring_up_to_date(kernel, self.jobs.as_mut_slice());
     }
 
     /// The job of this number, `None` where there is none. Takes no memory.
@@ -162,6 +179,7 @@ impl Jobs {
         ensures { self.new ≡ without self.old number }
     {
         remove(&mut self.jobs, number);
+        self.marks.forget();
     }
 
     /// Removes the jobs that are done and whose present states were the ones last told (XCU 2.11, XCU jobs). Takes no memory.
@@ -169,6 +187,7 @@ impl Jobs {
         ensures { (s : KernelState) → StandsAt kernel.now s → self.new ≡ without_told s.machine.processes self.old }
     {
         remove_told(kernel, &mut self.jobs);
+        self.marks.forget();
     }
 
     /// A copy, which is equal. The only error is want of memory.
@@ -176,6 +195,9 @@ impl Jobs {
         ensures { IfOk result (λ jobs. jobs ≡ self.now) }
     {
         let jobs = copies(alloc, self.jobs.as_slice())?;
-        Ok(Jobs { jobs })
+        Ok(Jobs {
+            jobs,
+            marks: Marks::new(alloc),
+        })
     }
 }

@@ -1,5 +1,5 @@
 //! Laws of tables of jobs.
-ghost use Rattle.sh_jobs.specs.Laws.{ClearingsKeepApart, CurrentIsFirst, LaunchesKeepApart, NextIsLeast, NoneIsNext, NotesKeepApart, PreviousIsNext, RemovalsKeepApart, TellingsKeepApart};
+ghost use Rattle.sh_jobs.specs.Laws.{BringingTwiceIsOnce, BringingUpKeepsApart, ClearingsKeepApart, CurrentIsFirst, LaunchesKeepApart, NextIsLeast, NoneIsNext, NotesKeepApart, PreviousIsNext, RemovalsKeepApart, TellingsKeepApart};
 
 /// Law: the current job is one of the table, and no job is ahead of it; no job but the current one is ahead of the previous one.
 pub fn current_is_ahead_of_all()
@@ -20,4 +20,10 @@ pub fn numbers_stay_apart()
     ensures tell { TellingsKeepApart }
     ensures remove { RemovalsKeepApart }
     ensures remove_told { ClearingsKeepApart }
+    ensures bring_up_to_date { BringingUpKeepsApart }
+{}
+
+/// Law: a table that is up to date with a kernel stays as it is when it is brought up to date with that kernel once more.
+pub fn bringing_up_twice_is_once()
+    ensures { BringingTwiceIsOnce }
 {}

@@ -79,9 +79,10 @@ fn last_ending(kernel: &Kernel, pids: &[u32]) -> Ending
     }
 }
 
-/// The state of a job of these processes (XBD chapter 3, Job).
+/// The state of a job of these processes (XBD chapter 3, Job, XCU jobs). A process that never was counts as one that exited with 0. Takes no
+/// memory.
 #[tactic(auto, unfolding(crate::specs::States::state_of))]
-pub(crate) fn state_of(kernel: &Kernel, pids: &[u32]) -> JobState
+pub fn state_of(kernel: &Kernel, pids: &[u32]) -> JobState
     ensures { (s : KernelState) → StandsAt kernel.now s → result ≡ state_of s.machine.processes pids.now }
 {
     if any_runs(kernel, pids) {

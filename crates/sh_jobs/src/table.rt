@@ -1,7 +1,7 @@
 //! The table of jobs, as a list.
 ghost use Rattle.std.specs.Prelude.{◌≡◌, ◌==◌, not, ◌++◌, ◌≤◌, OnErr, IfOk, OnOk, length, nat_le, option_map, position};
 ghost use Rattle.std.specs.List.{list_any};
-ghost use Rattle.sh_jobs.specs.Table.{IsLeastFree, after_note, after_telling, free_number, has_number, is_taken, numbers_of, place_of, with_number, without};
+ghost use Rattle.sh_jobs.specs.Table.{after_note, after_telling, has_number, is_taken, numbers_of, place_of, with_number, without};
 
 use crate::job::Job;
 use crate::state::JobState;
@@ -13,21 +13,6 @@ pub(crate) fn is_taken(jobs: &[Job], number: usize) -> bool
     ensures { result ≡ is_taken jobs.now number }
 {
     jobs.iter().any(|job| job.number == number)
-}
-
-/// The least number from 1 on that no job has.
-pub(crate) fn free_number(jobs: &[Job]) -> usize
-    ensures value { result ≡ free_number jobs.now }
-    ensures least { IsLeastFree jobs.now result }
-{
-    let mut number = 1;
-    'numbers: for _ in 0..jobs.len() {
-        if !is_taken(jobs, number) {
-            return number;
-        }
-        number += 1;
-    }
-    number
 }
 
 /// Each job that has this process has changed at this event.

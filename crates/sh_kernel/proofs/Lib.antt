@@ -1,6 +1,7 @@
 pub mod Closing
 pub mod Endings
 pub mod Cases
+pub mod Lacking
 pub mod Requesting
 pub mod Growing
 pub mod Frames
@@ -9,3 +10,6 @@ pub mod Screens
 pub mod Reached
 pub mod Terminals
 pub mod Extending
+pub mod Noting
+pub mod Ends
+pub mod Standing

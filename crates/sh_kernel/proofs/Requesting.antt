@@ -25,12 +25,15 @@ use Rattle.sh_kernel_signals.specs.declared.target.SignalTarget.{SignalTarget}
 use Rattle.sh_kernel_signals.specs.declared.target.SignalTarget.TheVariants as target
 use Rattle.sh_kernel_signals.proofs.Statuses.{ends_change, signals_change}
 use Rattle.sh_signal.specs.declared.signal.Signal.{Signal}
-use Rattle.sh_signal.specs.declared.signal.Signal.TheVariants.{Pipe}
+use Rattle.sh_signal.specs.declared.signal.Signal.TheVariants.{Pipe, TerminalInput}
 use Rattle.sh_kernel_descriptors.specs.declared.fault.KernelFault.TheVariants.{NoProcess, TooManyProcesses, TooManyDescriptors}
 use Rattle.sh_tty.specs.Happenings.{entries_of}
 use Rattle.sh_tty.specs.Keys.{read_of}
 use Rattle.sh_kernel.specs.State.{KernelState}
-use Rattle.sh_kernel.specs.Calls.{broken_pipe, is_broken, on_machine, read_terminal, with_new_process, with_program, write_terminal}
+use Rattle.sh_kernel.specs.Access.{is_raising}
+use Rattle.sh_kernel.specs.declared.access.Access.{Access}
+use Rattle.sh_kernel.specs.declared.access.Access.TheVariants.{Granted, Raises, Refused}
+use Rattle.sh_kernel.specs.Calls.{access, broken_pipe, is_broken, on_machine, read_by, read_terminal, with_new_process, with_program, write_terminal}
 use Rattle.sh_kernel.specs.Laws.{sends}
 use Rattle.sh_kernel_machine.specs.Signals.{with_processes}
 use Rattle.sh_kernel.specs.Signals.{after_exit, after_signal, table_of}
@@ -141,6 +144,17 @@ module _ (m : MachineState) (pid : ℕ) (sent : Bool) (r : Request) (P : Machine
   writes : WriteChanges m pid P
   writes = record { same = c.same; file = c.file; pipe = c.pipe }
 
+  terminal_read_cases : (s : KernelState) (count : ℕ) (o : Option (List ℕ)) → P (read_terminal (record s { machine = m }) count o).after.machine
+  terminal_read_cases s count None = c.same
+  terminal_read_cases s count (Some bytes) = c.same
+
+  read_cases : (s : KernelState) (name : DescriptorRef) (count : ℕ) (a : Bool) (x : Access) → (a && is_raising x) ≡ sent
+      → P (cond a (read_by (record s { machine = m }) count x) (on_machine (record s { machine = m }) (reading.read_call m pid name count))).after.machine
+  read_cases s name count true Granted e = terminal_read_cases s count (read_of count (entries_of s.terminal))
+  read_cases s name count true (Raises group) e = signalled s (target.Group group) TerminalInput (sym e)
+  read_cases s name count true Refused e = c.same
+  read_cases s name count false x e = read_by_cases m pid P name count reads
+
   write_cases : (s : KernelState) (number : ℕ) (bytes : List ℕ) (a b : Bool)
       → is_broken (cond a (write_terminal (record s { machine = m }) bytes) (cond b (broken_pipe (record s { machine = m }) pid) (on_machine (record s { machine = m }) (writing.write_call m pid number bytes)))).answer ≡ sent
       → P (cond a (write_terminal (record s { machine = m }) bytes) (cond b (broken_pipe (record s { machine = m }) pid) (on_machine (record s { machine = m }) (writing.write_call m pid number bytes)))).after.machine
@@ -149,12 +163,7 @@ module _ (m : MachineState) (pid : ℕ) (sent : Bool) (r : Request) (P : Machine
   write_cases s number bytes false false e = write_by_cases m pid P number bytes writes
 
   pub machine_by_cases : (r' : Request) → r ≡ r' → (s : KernelState) → sends (record s { machine = m }) pid r' ≡ sent → P (after_request (record s { machine = m }) pid r').machine
-  machine_by_cases (Read name count) is s e = of_test (reads_terminal m pid name) (read_of count (entries_of s.terminal))
-    where
-      of_test : (a : Bool) (o : Option (List ℕ)) → P (cond a (read_terminal (record s { machine = m }) count o) (on_machine (record s { machine = m }) (reading.read_call m pid name count))).after.machine
-      of_test true None = c.same
-      of_test true (Some bytes) = c.same
-      of_test false o = read_by_cases m pid P name count reads
+  machine_by_cases (Read name count) is s e = read_cases s name count (reads_terminal m pid name) (access (record s { machine = m }) pid) e
   machine_by_cases (Write number bytes) is s e = write_cases s number bytes (writes_terminal m pid (Number number)) (is_broken (writing.write_call m pid number bytes).answer) e
   machine_by_cases (Close name) is s e = close_cases name (description_number m.descriptors pid name)
   machine_by_cases (Duplicate name to) is s e = dup_cases to name (description_number m.descriptors pid name) refl

@@ -19,7 +19,9 @@ use Rattle.sh_kernel_descriptors.specs.Outcomes.{refusal, success}
 use Rattle.sh_kernel_descriptors.specs.Processes.{lives, may_fork, next_pid}
 use Rattle.sh_kernel_descriptors.specs.declared.fault.KernelFault.TheVariants.{NoProcess, TooManyProcesses}
 use Rattle.sh_kernel_signals.specs.Sending.{reaches as reached}
-use Rattle.sh_kernel.specs.Calls.{after_raising, broken_pipe, is_broken, on_machine, read_terminal, with_new_process, with_program, write_machine, write_terminal}
+use Rattle.sh_kernel.specs.declared.access.Access.{Access}
+use Rattle.sh_kernel.specs.declared.access.Access.TheVariants.{Granted, Raises, Refused}
+use Rattle.sh_kernel.specs.Calls.{access, after_raising, broken_pipe, is_broken, on_machine, read_by, read_terminal, with_new_process, with_program, write_machine, write_terminal}
 use Rattle.sh_kernel.specs.Signals.{after_exit, after_signal}
 use Rattle.sh_kernel.specs.Laws.{KeysOnlyGrowTheTerminal, TerminalIsReached, TerminalOnlyGrows}
 use Rattle.sh_kernel.specs.Reaching.{is_screen, reaches}
@@ -52,7 +54,7 @@ pub terminal_stays : TerminalIsReached
 terminal_stays s pid (Read name count) h =
     let m = s.machine in
     let off : reads_terminal m pid name ≡ false = fails_here m pid name (λ e. e.readable) h (description_number m.descriptors pid name) refl in
-    ap (λ (b : Bool). (cond b (read_terminal s count (read_of count (entries_of s.terminal))) (on_machine s (reading.read_call m pid name count))).after.terminal) off
+    ap (λ (b : Bool). (cond b (read_by s count (access s pid)) (on_machine s (reading.read_call m pid name count))).after.terminal) off
 terminal_stays s pid (Write number bytes) h =
     let m = s.machine in
     let off : writes_terminal m pid (Number number) ≡ false = fails_here m pid (Number number) (λ e. e.writable) h (description_number m.descriptors pid (Number number)) refl in
@@ -82,11 +84,16 @@ read_shows : (s : KernelState) (count : ℕ) (o : Option (List ℕ)) → bytes_o
 read_shows s count None = sym (append-nil _)
 read_shows s count (Some bytes) = sym (append-nil _)
 
+access_shows : (s : KernelState) (count : ℕ) (x : Access) → bytes_of (read_by s count x).after.terminal ≡ bytes_of s.terminal ++ []
+access_shows s count Granted = read_shows s count (read_of count (entries_of s.terminal))
+access_shows s count (Raises group) = sym (append-nil _)
+access_shows s count Refused = sym (append-nil _)
+
 pub terminal_grows : TerminalOnlyGrows
 terminal_grows s pid (Read name count) = (
   [],
-  elim (reads_terminal s.machine pid name) as (λ b. bytes_of (cond b (read_terminal s count (read_of count (entries_of s.terminal))) (on_machine s (reading.read_call s.machine pid name count))).after.terminal ≡ bytes_of s.terminal ++ []) [
-    | true ↦ read_shows s count (read_of count (entries_of s.terminal))
+  elim (reads_terminal s.machine pid name) as (λ b. bytes_of (cond b (read_by s count (access s pid)) (on_machine s (reading.read_call s.machine pid name count))).after.terminal ≡ bytes_of s.terminal ++ []) [
+    | true ↦ access_shows s count (access s pid)
     | false ↦ sym (append-nil _)
   ],
 )

@@ -1,5 +1,5 @@
 -- Each call of a kernel as one change of its state.
-use Rattle.std.specs.Prelude.{ℕ, List, ◌∷◌, length, Bool, true, false, Option, Some, None, Result, Ok, Err, if◌then◌else◌}
+use Rattle.std.specs.Prelude.{ℕ, List, ◌∷◌, ◌&&◌, length, Bool, true, false, Option, Some, None, Result, Ok, Err, if◌then◌else◌}
 use Rattle.std.specs.List.{list_any}
 use Rattle.sh_files.specs.declared.opening.Opening.{Opening}
 use Rattle.sh_kernel_descriptors.specs.Outcomes.{Done, success, refusal}
@@ -14,19 +14,23 @@ use Rattle.sh_kernel_descriptors.specs.declared.descriptor.Closing.TheVariants.{
 use Rattle.sh_kernel_descriptors.specs.declared.descriptor.DescriptorRef.{DescriptorRef}
 use Rattle.sh_kernel_descriptors.specs.declared.descriptor.DescriptorRef.TheVariants.{Number}
 use Rattle.sh_kernel_descriptors.specs.declared.fault.KernelFault.{KernelFault}
-use Rattle.sh_kernel_descriptors.specs.declared.fault.KernelFault.TheVariants.{BadDescriptor, BrokenPipe, File, NoMemory, NoProcess, TooManyDescriptors, TooManyProcesses, WouldWait}
+use Rattle.sh_kernel_descriptors.specs.declared.fault.KernelFault.TheVariants.{BadDescriptor, BrokenPipe, File, InputOutput, NoMemory, NoProcess, TooManyDescriptors, TooManyProcesses, WouldWait}
 use Rattle.sh_kernel_signals.specs.Changes.{after_start, after_taking, with_action, with_change, with_fork, with_group}
 use Rattle.sh_kernel_signals.specs.Sending.{reaches}
 use Rattle.sh_kernel_signals.specs.declared.member.SignalAction.{SignalAction}
 use Rattle.sh_kernel_signals.specs.declared.target.SignalTarget.{SignalTarget}
 use Rattle.sh_kernel_signals.specs.declared.target.SignalTarget.TheVariants.{Group, Process}
 use Rattle.sh_signal.specs.declared.signal.Signal.{Signal}
-use Rattle.sh_signal.specs.declared.signal.Signal.TheVariants.{Pipe}
+use Rattle.sh_signal.specs.declared.signal.Signal.TheVariants.{Pipe, TerminalInput}
 use Rattle.sh_tty.specs.Happenings as tty
 use Rattle.sh_tty.specs.Happenings.{Took, Wrote, entries_of}
 use Rattle.sh_tty.specs.Keys.{key_of, read_of, signal_of}
-use Rattle.sh_kernel.specs.Signals.{after_exit, after_signal}
+use Rattle.sh_kernel.specs.Access.{access_of, is_raising}
+use Rattle.sh_kernel.specs.Changes.{with_start}
+use Rattle.sh_kernel.specs.Signals.{after_exit, after_signal, table_of}
 use Rattle.sh_kernel.specs.State.{KernelState}
+use Rattle.sh_kernel.specs.declared.access.Access.{Access}
+use Rattle.sh_kernel.specs.declared.access.Access.TheVariants.{Granted, Raises, Refused}
 
 -- a call that the terminal has no part in
 abbrev pub on_machine : {A : Type 0} → KernelState → Done MachineState A → Done KernelState A
@@ -37,11 +41,28 @@ abbrev pub read_terminal : KernelState → ℕ → Option (List ℕ) → Done Ke
 read_terminal s n None = refusal s WouldWait
 read_terminal s n (Some bytes) = success bytes (record s { terminal = Took n ∷ s.terminal })
 
+-- a read from a background group: TTIN goes to the group, and the read stays to be done
+abbrev pub background_read : {A : Type 0} → KernelState → (group : ℕ) → Done KernelState A
+background_read s group = record { answer = Err WouldWait; after = after_signal s (Group group) TerminalInput }
+
+-- whether there is something to read or not, who reads from the background doesn't get it (XBD 11.1.4)
+abbrev pub read_by : KernelState → ℕ → Access → Done KernelState (List ℕ)
+read_by s n Granted = read_terminal s n (read_of n (entries_of s.terminal))
+read_by s n (Raises group) = background_read s group
+read_by s n Refused = refusal s InputOutput
+
+abbrev pub access : KernelState → (pid : ℕ) → Access
+access s pid = access_of (table_of s) s.foreground pid
+
 abbrev pub read_call : KernelState → ℕ → DescriptorRef → ℕ → Done KernelState (List ℕ)
 read_call s pid name n =
     if reads_terminal s.machine pid name
-    then read_terminal s n (read_of n (entries_of s.terminal))
+    then read_by s n (access s pid)
     else on_machine s (reading.read_call s.machine pid name n)
+
+-- the read sends TTIN
+abbrev pub raises_input : KernelState → ℕ → DescriptorRef → Bool
+raises_input s pid name = reads_terminal s.machine pid name && is_raising (access s pid)
 
 -- ---- write
 abbrev pub write_terminal : KernelState → List ℕ → Done KernelState ℕ
@@ -54,6 +75,7 @@ is_broken_pipe TooManyProcesses = false
 is_broken_pipe TooManyDescriptors = false
 is_broken_pipe WouldWait = false
 is_broken_pipe BrokenPipe = true
+is_broken_pipe InputOutput = false
 is_broken_pipe (File fault) = false
 is_broken_pipe (NoMemory lack) = false
 
@@ -99,7 +121,8 @@ put_back_call s pid aside number = on_machine s (naming.put_back_call s.machine 
 -- ---- processes
 -- a new process with this one's descriptors, in its group
 abbrev pub with_new_process : KernelState → ℕ → KernelState
-with_new_process s pid = record s { machine = after_fork s.machine pid; members = with_fork s.members pid (next_pid s.machine.processes) }
+with_new_process s pid =
+    record s { machine = after_fork s.machine pid; members = with_fork s.members pid (next_pid s.machine.processes); changes = with_start s.changes }
 
 abbrev pub fork_call : KernelState → ℕ → Done KernelState ℕ
 fork_call s pid =

@@ -12,7 +12,7 @@ use Rattle.sh_kernel_descriptors.specs.Processes.{has_ended, next_pid, process_a
 use Rattle.sh_kernel_descriptors.specs.declared.descriptor.Descriptor.{Descriptor}
 use Rattle.sh_kernel_descriptors.specs.declared.description.Description.{Description}
 use Rattle.sh_kernel_descriptors.specs.declared.description.Target.{Target}
-use Rattle.sh_kernel.specs.Calls.{after_key, is_broken, write_call}
+use Rattle.sh_kernel.specs.Calls.{after_key, is_broken, raises_input, write_call}
 use Rattle.sh_kernel.specs.State.{KernelState}
 use Rattle.sh_kernel.specs.Requests.{Request, Read, Write, Close, Duplicate, MakePipe, Open, Here, SetAside, PutBack, Fork, StartProgram, End, Kill, SetAction, TakeSignal, SetGroup, SetForeground, after_request, after_requests}
 use Rattle.sh_kernel.specs.Reaching.{reaches, is_end, is_file, is_screen}
@@ -43,9 +43,10 @@ opens m (SetGroup member group) node = false
 opens m (SetForeground group) node = false
 
 -- ---- what a request signals
--- the request sends a signal, if only that of its process's end to the parent; a write does where the pipe has no reader
+-- the request sends a signal, if only that of its process's end to the parent; a read does where it raises TTIN, and a write where the pipe
+-- has no reader
 abbrev pub sends : KernelState → ℕ → Request → Bool
-sends s pid (Read name count) = false
+sends s pid (Read name count) = raises_input s pid name
 sends s pid (Write number bytes) = is_broken (write_call s pid number bytes).answer
 sends s pid (Close name) = false
 sends s pid (Duplicate name to) = false

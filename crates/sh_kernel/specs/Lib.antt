@@ -1,5 +1,7 @@
+pub mod Changes
 pub mod State
 pub mod Signals
+pub mod Access
 pub mod Calls
 pub mod Outcomes
 pub mod Turns

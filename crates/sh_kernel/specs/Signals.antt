@@ -1,10 +1,12 @@
--- What signals come to in a kernel: processes stop, go on and end, and those that end close what they have open.
+-- What signals come to in a kernel: processes stop, go on and end, and those that end close what they have open; it is noted when they
+-- stopped or went on.
 use Rattle.std.specs.Prelude.{ℕ}
 use Rattle.sh_kernel_machine.specs.Signals.{with_processes}
 use Rattle.sh_kernel_signals.specs.Groups.{ProcessTable}
 use Rattle.sh_kernel_signals.specs.Sending.{after_end, after_send, pids_of}
 use Rattle.sh_kernel_signals.specs.declared.target.SignalTarget.{SignalTarget}
 use Rattle.sh_signal.specs.declared.signal.Signal.{Signal}
+use Rattle.sh_kernel.specs.Changes.{changed}
 use Rattle.sh_kernel.specs.State.{KernelState}
 
 -- all processes, and those that live as members of groups
@@ -12,7 +14,12 @@ abbrev pub table_of : KernelState → ProcessTable
 table_of s = record { processes = s.machine.processes; members = s.members }
 
 abbrev pub with_table : KernelState → ProcessTable → KernelState
-with_table s t = record s { machine = with_processes s.machine t.processes (pids_of s.members); members = t.members }
+with_table s t =
+    record s {
+      machine = with_processes s.machine t.processes (pids_of s.members);
+      members = t.members;
+      changes = changed s.changes s.machine.processes t.processes (pids_of s.members);
+    }
 
 -- a signal is sent to each process that it reaches (XSH kill)
 abbrev pub after_signal : KernelState → SignalTarget → Signal → KernelState

@@ -1,4 +1,5 @@
--- A kernel: its processes with what they have open, their groups and signals, its files, and its terminal.
+-- A kernel: its processes with what they have open, their groups and signals, when each last started, stopped or went on, its files, and
+-- its terminal.
 use Rattle.std.specs.Prelude.{◌≡◌, ℕ, List, [], ◌∷◌}
 use Rattle.sh_files.specs.Nodes.{FileMap}
 use Rattle.sh_kernel_descriptors.specs.Machine.{MachineState}
@@ -8,6 +9,7 @@ use Rattle.sh_kernel_signals.specs.declared.member.Member.{Member}
 use Rattle.sh_kernel_machine.specs.Machine as kept
 use Rattle.sh_tty.specs.Happenings.{Happening}
 use Rattle.sh_tty.specs.Terminal as tty
+use Rattle.sh_kernel.specs.Changes.{Changes, no_changes}
 
 -- the processes that live are members of groups; the terminal is the list of all that happened to it, the newest first; its foreground
 -- process group has a number
@@ -16,12 +18,14 @@ pub record KernelState : Type 0 where
   pub members : List Member
   pub terminal : List Happening
   pub foreground : ℕ
+  pub changes : Changes
 
 -- what a kernel keeps of its state
 pub record KernelKept : Type 0 where
   pub machine : kept.MachineKept
   pub members : List Member
   pub terminal : tty.TtyKept
+  pub changes : Changes
 
 -- what is kept is that of this state
 pub record StandsAt (k : KernelKept) (s : KernelState) : Type 0 where
@@ -29,7 +33,8 @@ pub record StandsAt (k : KernelKept) (s : KernelState) : Type 0 where
   pub members : k.members ≡ s.members
   pub terminal : tty.StandsAt k.terminal s.terminal
   pub foreground : k.terminal.foreground ≡ s.foreground
+  pub changes : k.changes ≡ s.changes
 
 -- the first process alone, whose group is the foreground group
 abbrev pub starting : FileMap → KernelState
-starting files = record { machine = machine.starting files; members = first_member 100 ∷ []; terminal = []; foreground = 100 }
+starting files = record { machine = machine.starting files; members = first_member 100 ∷ []; terminal = []; foreground = 100; changes = no_changes }

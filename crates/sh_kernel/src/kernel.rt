@@ -1,16 +1,24 @@
 //! The kernel.
 ghost use Rattle.sh_base.specs.Memory.{no_memory};
-ghost use Rattle.std.specs.Prelude.{◌≡◌, ◌<◌, ◌∷◌, ℕ, List, IfErr, IfOk, OnErr, OnOk, length, vec_capacity, vec_len};
+ghost use Rattle.std.specs.Prelude.{◌≡◌, ◌<◌, ◌∷◌, ◌&&◌, ℕ, List, IfErr, IfOk, OnErr, OnOk, length, not, vec_capacity, vec_len};
+ghost use Rattle.sh_kernel_descriptors.specs.Waiting.{waits};
+ghost use Rattle.sh_kernel.specs.Turns.{is_any_running};
 ghost use Rattle.sh_kernel_signals.specs.Changes.{with_fork};
 ghost use Rattle.sh_tty.specs.Happenings.{Happening};
 ghost use Rattle.sh_tty.specs.Terminal as tty;
 ghost use Rattle.sh_tty.specs.Terminal.{Extends};
 
+mod reading;
 mod signals;
 
+use crate::changes::{Changes, stopped_of};
 use crate::next::Next;
+use sh_base::NoMemory;
 use sh_files::{Files, Opening};
-use sh_kernel_descriptors::{DescriptorRef, Entry, FIRST_PID, KernelFault, Status};
+use sh_kernel_descriptors::{
+    DescriptorRef, Entry, FIRST_PID, KernelFault, Process, Status, all_children, is_running,
+    status_at,
+};
 use sh_kernel_machine::Machine;
 use sh_kernel_signals::{Member, SignalTarget, member_at, new_member, start_program};
 use sh_pipe::Pipe;
@@ -29,13 +37,17 @@ use std::marker::Model;
 ///
 /// A kernel stands at a state, and each call is one change of that state by the process that makes the call.
 /// After each refusal the kernel stands at the same state as before, but for [`KernelFault::BrokenPipe`],
-/// with which the process was sent SIGPIPE.
+/// with which the process was sent SIGPIPE, and for a background process that reads from the terminal, whose group was
+/// sent SIGTTIN.
 #[derive(Drop)]
 pub struct Kernel {
+    alloc: Global,
     machine: Machine,
     /// The processes that live.
     members: Vec<Member>,
     terminal: Tty,
+    /// When each process last started, stopped or went on.
+    changes: Changes,
 }
 
 impl Model for Kernel {
@@ -47,7 +59,7 @@ impl Model for Kernel {
 
     ghost coded = { Prim.hlevel (codes, map_code) };
 
-    ghost view = { λ k. record { machine = k.machine; members = k.members.items; terminal = k.terminal } };
+    ghost view = { λ k. record { machine = k.machine; members = k.members.items; terminal = k.terminal; changes = k.changes.changes } };
 }
 
 /// Adds a process that another one makes to the group of that one.
@@ -58,6 +70,25 @@ fn join(members: &mut Vec<Member>, pid: u32, child: u32)
     if let Some(member) = member_at(members.as_slice(), pid) {
         members.push_reserved(new_member(member, child));
     }
+}
+
+/// Whether a call with this answer would wait.
+fn waits(answer: Result<(), KernelFault>) -> bool
+    ensures { result ≡ waits answer }
+{
+    match answer {
+        Ok(()) => false,
+        Err(fault) => fault.is_wait(),
+    }
+}
+
+/// Whether one of these processes is neither stopped nor ended.
+fn is_any_running(processes: &[Process], awaited: &[u32]) -> bool
+    ensures { result ≡ is_any_running processes.now awaited.now }
+{
+    awaited
+        .iter()
+        .any(|child| is_running(status_at(processes, *child)))
 }
 
 /// Writes to the terminal.
@@ -84,13 +115,14 @@ impl Kernel {
     ghost use Rattle.sh_kernel_descriptors.specs.Machine.{wait_answer};
     ghost use Rattle.sh_kernel_descriptors.specs.Processes.{parent_at, status_at};
     ghost use Rattle.sh_kernel_descriptors.specs.Terminals.{is_terminal};
-    ghost use Rattle.sh_kernel_descriptors.specs.Waiting.{waits};
-    ghost use Rattle.sh_kernel.specs.Turns.{action_of, action_waits, can_do};
+    ghost use Rattle.sh_kernel.specs.Changes.{changed_at};
+    ghost use Rattle.sh_kernel.specs.Turns.{action_of, action_waits, can_do, untraced_answer};
     ghost use Rattle.sh_tty.specs.Happenings.{bytes_of};
     ghost use Rattle.sh_kernel.specs.State.{KernelState, StandsAt, starting};
     ghost use Rattle.sh_kernel_descriptors.specs.Outcomes.{LacksWhereGiven};
-    ghost use Rattle.sh_kernel.specs.Outcomes.{Gives, GivesOrLacks, GivesRead, LacksWhereDone};
-    ghost use Rattle.sh_kernel.specs.Calls.{close_call, dup_call, end_call, fork_call, here_call, open_call, pipe_call, put_back_call, read_call, set_aside_call, start_call, write_call};
+    ghost use Rattle.sh_kernel.specs.Outcomes.{Gives, GivesOrLacks, GivesReadOrLacks, LacksWhereDone, LacksWhereRaised};
+    ghost use Rattle.sh_kernel.specs.Signals.{after_exit};
+    ghost use Rattle.sh_kernel.specs.Calls.{close_call, dup_call, end_call, fork_call, here_call, open_call, pipe_call, put_back_call, raises_input, read_call, set_aside_call, start_call, write_call};
 
     /// The first process, whose descriptors 0, 1 and 2 refer to one description of the terminal, over these files. Its
     /// process group is the foreground group. The only error is want of memory.
@@ -98,12 +130,15 @@ impl Kernel {
         ensures { IfOk result (λ kernel. StandsAt kernel (starting files)) }
     {
         let machine = Machine::new(alloc, files)?;
+        let changes = Changes::new(alloc)?;
         let mut members = Vec::with_capacity(alloc, 1)?;
         members.push(Member::first(FIRST_PID))?;
         Ok(Kernel {
+            alloc,
             machine,
             members,
             terminal: Tty::new(alloc, FIRST_PID),
+            changes,
         })
     }
 
@@ -227,9 +262,26 @@ impl Kernel {
             return Err(KernelFault::TooManyProcesses);
         }
         self.members.reserve(1)?;
+        self.changes.reserve()?;
         let child = self.machine.fork(pid)?;
         join(&mut self.members, pid, child);
+        self.changes.start();
         Ok(child)
+    }
+
+    /// Ends a process that lives. That stops no other one, so only those that were stopped before can have changed. The only error is
+    /// want of memory, after which nothing has changed.
+    fn exit(&mut self, pid: u32, status: u8) -> Result<(), NoMemory>
+        ensures ok { (s : KernelState) → StandsAt self.old s
+            → OnOk result (StandsAt self.new (after_exit s pid status)) }
+        ensures err { (s : KernelState) → StandsAt self.old s
+            → OnErr result (StandsAt self.new s) }
+        ensures terminal { self.new.terminal ≡ self.old.terminal }
+    {
+        let stopped = stopped_of(self.alloc, &self.machine, self.members.as_slice())?;
+        self.machine.end(&mut self.members, pid, status)?;
+        self.changes.note(&self.machine, stopped.as_slice());
+        Ok(())
     }
 
     /// Ends a process with an exit status, by its own call (XSH _exit): all its descriptors are closed, its children
@@ -247,7 +299,7 @@ impl Kernel {
         if !self.machine.lives(pid) {
             return Err(KernelFault::NoProcess);
         }
-        match self.machine.end(&mut self.members, pid, status) {
+        match self.exit(pid, status) {
             Ok(()) => Ok(()),
             Err(lack) => Err(KernelFault::NoMemory(lack)),
         }
@@ -272,9 +324,15 @@ impl Kernel {
     /// file, or an end of file that was typed (XSH read). The offset of a file's description moves by as many
     /// bytes. From the terminal one line is read at most.
     ///
-    /// `BadDescriptor` where the process has no such descriptor, or it isn't open for reading; `WouldWait` at
-    /// an empty pipe that has a writer, and at a terminal without a line that was handed over. Takes no
-    /// memory.
+    /// A process of a background group doesn't get what there is at the terminal (XBD 11.1.4): its group is sent SIGTTIN,
+    /// which stops a process unless it ignores or catches that, and the read stays to be done. Where the reader ignores
+    /// SIGTTIN, or its group is orphaned, the read fails and no signal is sent.
+    ///
+    /// `BadDescriptor` where the process has no such descriptor, or it isn't open for reading; `WouldWait` at an empty
+    /// pipe that has a writer, at a terminal without a line that was handed over, and with SIGTTIN; `InputOutput` where a
+    /// background read fails; `NoMemory` only in the place of SIGTTIN. But for SIGTTIN a refusal changes nothing; the
+    /// buffer is as it was.
+    #[tactic(auto, using(crate::proofs::Lacking::read_takes_no_memory))]
     pub fn read(
         &mut self,
         pid: u32,
@@ -282,15 +340,13 @@ impl Kernel {
         buf: &mut [u8],
     ) -> Result<usize, KernelFault>
         ensures state { (s : KernelState) → StandsAt self.old s
-            → GivesRead result buf.old buf.new self.new (read_call s pid name (length buf.old)) }
+            → GivesReadOrLacks result buf.old buf.new self.new s (read_call s pid name (length buf.old)) }
+        ensures room { (s : KernelState) → StandsAt self.old s
+            → LacksWhereRaised result (raises_input s pid name) }
         ensures terminal { self.new.terminal.bytes ≡ self.old.terminal.bytes }
     {
         if self.machine.reads_terminal(pid, name) {
-            return match self.terminal.read(buf) {
-                Ok(count) => Ok(count),
-                Err(TtyFault::WouldWait) => Err(KernelFault::WouldWait),
-                Err(TtyFault::NoMemory(lack)) => Err(KernelFault::NoMemory(lack)),
-            };
+            return self.read_terminal(pid, buf);
         }
         self.machine.read(pid, name, buf)
     }
@@ -332,6 +388,23 @@ impl Kernel {
         self.machine.wait(pid, awaited)
     }
 
+    /// Succeeds where each of these children of a process has ended or is stopped (XSH waitpid with WUNTRACED);
+    /// [`Kernel::status`] tells which. `NoProcess` where one of them is no child of the process; `WouldWait` where one
+    /// runs. Takes no memory.
+    pub fn wait_untraced(&self, pid: u32, awaited: &[u32]) -> Result<(), KernelFault>
+        ensures { (s : KernelState) → StandsAt self.now s
+            → result ≡ untraced_answer s.machine.processes pid awaited.now }
+    {
+        let processes = self.machine.processes();
+        if !all_children(processes, pid, awaited) {
+            return Err(KernelFault::NoProcess);
+        }
+        if is_any_running(processes, awaited) {
+            return Err(KernelFault::WouldWait);
+        }
+        Ok(())
+    }
+
     /// Whether a process runs, is stopped or has ended; `None` where no process ever had this number. Takes
     /// no memory.
     pub fn status(&self, pid: u32) -> Option<Status>
@@ -339,6 +412,14 @@ impl Kernel {
             → result ≡ status_at s.machine.processes pid }
     {
         self.machine.status(pid)
+    }
+
+    /// When a process last started, stopped or went on (XBD chapter 3, Job ID): a greater number is a later one. 0 where no process ever
+    /// had this number, and for the first one until it is stopped. Takes no memory.
+    pub fn changed(&self, pid: u32) -> u64
+        ensures { (s : KernelState) → StandsAt self.now s → result ≡ changed_at s.changes pid }
+    {
+        self.changes.at(pid)
     }
 
     /// The number of a process's parent (XSH getppid): 1 where the process that made it has ended; `None`
@@ -392,13 +473,13 @@ impl Kernel {
         self.machine.pipe_of(key)
     }
 
-    /// Whether a read would wait.
+    /// Whether a read would wait, and send no signal.
     fn read_waits(&self, pid: u32, name: DescriptorRef) -> bool
         ensures { (s : KernelState) → StandsAt self.now s → (n : ℕ)
-            → result ≡ waits (read_call s pid name n).answer }
+            → result ≡ (waits (read_call s pid name n).answer && not (raises_input s pid name)) }
     {
         if self.machine.reads_terminal(pid, name) {
-            return !self.terminal.is_readable();
+            return self.terminal_waits(pid);
         }
         self.machine.read_waits(pid, name)
     }
@@ -425,24 +506,14 @@ impl Kernel {
         match next {
             Next::Read(name) => self.read_waits(pid, name),
             Next::Write(number, count) => self.write_waits(pid, number, count),
-            Next::Wait(awaited) => self.wait_waits(pid, awaited),
+            Next::Wait(awaited) => waits(self.wait(pid, awaited)),
+            Next::WaitUntraced(awaited) => waits(self.wait_untraced(pid, awaited)),
             Next::Other => false,
         }
     }
 
-    /// Whether a wait would wait.
-    fn wait_waits(&self, pid: u32, awaited: &[u32]) -> bool
-        ensures { (s : KernelState) → StandsAt self.now s
-            → result ≡ waits (wait_answer s.machine.processes pid awaited.now) }
-    {
-        match self.wait(pid, awaited) {
-            Ok(()) => false,
-            Err(fault) => fault.is_wait(),
-        }
-    }
-
     /// Whether a process can take a turn: it is neither stopped nor ended, and what it is about to do would not answer
-    /// `WouldWait`. Takes no memory.
+    /// `WouldWait`, unless it is a read that sends SIGTTIN. Takes no memory.
     #[tactic(auto, unfolding(crate::specs::Turns::can_do))]
     pub fn runnable(&self, pid: u32, next: Next<'_>) -> bool
         ensures { (s : KernelState) → StandsAt self.now s

@@ -1,6 +1,8 @@
 //! A kernel: processes, descriptors, open file descriptions, pipes, files and one terminal.
 #![tactic(auto)]
 
+mod access;
+mod changes;
 mod kernel;
 mod laws;
 mod next;

@@ -10,6 +10,8 @@ pub enum Next<'a> {
     Write(u8, usize),
     /// It waits until all these children have ended.
     Wait(&'a [u32]),
+    /// It waits until each of these children has ended or is stopped.
+    WaitUntraced(&'a [u32]),
     /// It does something that never waits.
     Other,
 }

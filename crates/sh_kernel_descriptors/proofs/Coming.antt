@@ -1,15 +1,17 @@
 -- One more descriptor at an entry, and a new entry.
-use Rattle.std.proofs.Common.{◌≡◌, ◌≢◌, ℕ, zero, suc, ◌+◌, ◌<◌, ◌≤◌, List, [], ◌∷◌, ◌++◌, length, Bool, true, false, ◌==◌, cond, min, Option, Some, None, slice_get, refl, sym, ap, ◌∙◌, inl, inr, arith, subst, eq-eqb}
+use Rattle.std.proofs.Common.{◌≡◌, ◌≢◌, ◌⊎◌, nat_le, ℕ, zero, suc, ◌+◌, ◌<◌, ◌≤◌, List, [], ◌∷◌, ◌++◌, length, Bool, true, false, ◌==◌, cond, min, Option, Some, None, slice_get, refl, sym, ap, ◌∙◌, inl, inr, arith, subst, eq-eqb}
 use Rattle.std.proofs.lemmas.Bool.{eqb-true}
+use Rattle.std.proofs.lemmas.Bool.Decides.{nat_tests}
 use Rattle.std.specs.Option.{option_map}
 use Rattle.slab.specs.Slab.{Slab, Updates, get}
-use Rattle.sh_kernel_descriptors.specs.Counts.{raised}
+use Rattle.sh_kernel_descriptors.specs.Counts.{fits, held_left, raised, stays}
+use Rattle.sh_kernel_descriptors.specs.declared.descriptor.Closing.{Closing}
 use Rattle.sh_kernel_descriptors.specs.Kept.{Among, IsCounted, Linked, count_of, description_at, named}
 use Rattle.sh_kernel_descriptors.specs.declared.description.Description.{Description}
 use Rattle.sh_kernel_descriptors.specs.declared.kept.Entry.{Entry}
 use Rattle.sh_kernel_descriptors.specs.declared.kept.Held.{Held}
-use Rattle.sh_kernel_descriptors.proofs.Giving.{Stands, linked_within, stands}
-use Rattle.sh_kernel_descriptors.proofs.Leaving.{is_named, not_gone}
+use Rattle.sh_kernel_descriptors.proofs.Giving.{Stands, among_append, counted_same, in_front, in_rest, linked_within, stands}
+use Rattle.sh_kernel_descriptors.proofs.Leaving.{is_named, named_append, not_gone}
 use Rattle.sh_kernel_descriptors.proofs.Places.{apart, false_of, front_place}
 
 -- ---- one more
@@ -37,12 +39,12 @@ named_some : (h : Held) (hs : List Held) → Among h hs → named h.key hs ≢ 0
 named_some h hs a e = let n = is_named h hs a in absurd (omega (arith, e, n.1))
 
 -- what is at the other keys is the same, so that all descriptions are
-pub counted_shared : (hs : List Held) (entries entries' : Slab Entry) (to h : Held) → length hs < 18446744073709551615 → h.key ≡ to.key → get entries' to.key ≡ raised (get entries to.key) → ((k : ℕ) → k ≢ to.key → get entries' k ≡ get entries k) → Among to hs → IsCounted entries hs → IsCounted entries' (h ∷ hs)
+pub counted_shared : (hs : List Held) (entries entries' : Slab Entry) (to h : Held) → named to.key hs < 18446744073709551615 → h.key ≡ to.key → get entries' to.key ≡ raised (get entries to.key) → ((k : ℕ) → k ≢ to.key → get entries' k ≡ get entries k) → Among to hs → IsCounted entries hs → IsCounted entries' (h ∷ hs)
 counted_shared hs entries entries' to h small same at others a c k = of_test (to.key == k) refl
   where
     at_key : to.key ≡ k → option_map (λ e. e.count) (get entries' k) ≡ count_of (suc (named k hs))
     at_key e = subst (λ j. option_map (λ x. x.count) (get entries' j) ≡ count_of (suc (named j hs))) e
-        (ap (λ o. option_map (λ x. x.count) o) at ∙ raised_counts (get entries to.key) (named to.key hs) (omega (arith, small, named_within to.key hs)) (named_some to hs a) (c to.key))
+        (ap (λ o. option_map (λ x. x.count) o) at ∙ raised_counts (get entries to.key) (named to.key hs) small (named_some to hs a) (c to.key))
 
     of_test : (b : Bool) → (to.key == k) ≡ b → option_map (λ e. e.count) (get entries' k) ≡ count_of (cond (h.key == k) (suc (named k hs)) (named k hs))
     of_test true e =
@@ -106,7 +108,7 @@ no_description : (o : Option Entry) → option_map (λ e. e.description) o ≡ N
 no_description None e = refl
 no_description (Some x) e = absurd (cc)
 
-below : (hs : List Held) (entries : Slab Entry) (es : List Description) (h : Held) → IsCounted entries hs → Linked hs entries es → Among h hs → h.descriptor.description < length es
+pub below : (hs : List Held) (entries : Slab Entry) (es : List Description) (h : Held) → IsCounted entries hs → Linked hs entries es → Among h hs → h.descriptor.description < length es
 below hs entries es h c l a =
     let n = is_named h hs a in
     in_place es h.descriptor.description (λ e. not_gone (get entries h.key) (named h.key hs) n.0 n.1 (c h.key) (no_description (get entries h.key) (l.descriptions h a ∙ e)))
@@ -155,3 +157,63 @@ linked_behind hs entries es h l = record { descriptions = λ g a. l.descriptions
 pub length_more : (es : List Description) (d : Description) → length (es ++ d ∷ []) ≡ length es + 1
 length_more [] d = omega arith
 length_more (e ∷ es) d = omega (arith, length_more es d)
+
+-- more descriptions were made since
+pub linked_longer : (hs : List Held) (entries : Slab Entry) (es more : List Description) → IsCounted entries hs → Linked hs entries es → Linked hs entries (es ++ more)
+linked_longer hs entries es more c l = record {
+  descriptions = λ h a. l.descriptions h a ∙ sym (front_place es more h.descriptor.description (below hs entries es h c l a));
+  keys = l.keys;
+}
+
+-- ---- the new descriptor stands at the end of its table
+last_first : (more left : List Held) (h : Held) (k : ℕ) → named k (h ∷ (more ++ left)) ≡ named k (more ++ (left ++ h ∷ []))
+last_first more left h k = of_test (h.key == k) (named_append k more (left ++ h ∷ [])) (named_append k left (h ∷ [])) (named_append k more left)
+  where
+    of_test : (b : Bool) → named k (more ++ (left ++ h ∷ [])) ≡ named k more + named k (left ++ h ∷ []) → named k (left ++ h ∷ []) ≡ named k left + cond b 1 0 → named k (more ++ left) ≡ named k more + named k left
+        → cond b (suc (named k (more ++ left))) (named k (more ++ left)) ≡ named k (more ++ (left ++ h ∷ []))
+    of_test true e f g = omega (arith, e, f, g)
+    of_test false e f g = omega (arith, e, f, g)
+
+among_first : (more left : List Held) (h g : Held) → Among g (more ++ (left ++ h ∷ [])) → Among g (h ∷ (more ++ left))
+among_first more left h g a = of_side (among_append more (left ++ h ∷ []) g a)
+  where
+    of_end : Among g left ⊎ Among g (h ∷ []) → Among g (h ∷ (more ++ left))
+    of_end (inl b) = inr (in_rest more left g b)
+    of_end (inr (inl e)) = inl e
+    of_end (inr (inr b)) = absurd b
+
+    of_side : Among g more ⊎ Among g (left ++ h ∷ []) → Among g (h ∷ (more ++ left))
+    of_side (inl b) = inr (in_front more left g b)
+    of_side (inr b) = of_end (among_append left (h ∷ []) g b)
+
+pub counted_last : (more left new : List Held) (h : Held) (entries : Slab Entry) → new ≡ left ++ h ∷ [] → IsCounted entries (h ∷ (more ++ left)) → IsCounted entries (more ++ new)
+counted_last more left new h entries e c = subst (λ xs. IsCounted entries (more ++ xs)) (sym e) (counted_same (h ∷ (more ++ left)) (more ++ (left ++ h ∷ [])) entries (λ k. last_first more left h k) c)
+
+pub linked_last : (more left new : List Held) (h : Held) (entries : Slab Entry) (es : List Description) → new ≡ left ++ h ∷ [] → Linked (h ∷ (more ++ left)) entries es → Linked (more ++ new) entries es
+linked_last more left new h entries es e l =
+    subst (λ xs. Linked (more ++ xs) entries es) (sym e) (linked_within (h ∷ (more ++ left)) (more ++ (left ++ h ∷ [])) entries es (λ i a. stands i (h ∷ (more ++ left)) (among_first more left h i a)) l)
+
+-- ---- so few are counted that one more can be
+left_fewer : (pid : ℕ) (closing : Closing) (k : ℕ) (hs : List Held) → named k (held_left pid closing hs) ≤ named k hs
+left_fewer pid closing k [] = omega arith
+left_fewer pid closing k (h ∷ hs) = of_tests (stays pid closing h) (h.key == k) refl (left_fewer pid closing k hs)
+  where
+    of_tests : (b t : Bool) → (h.key == k) ≡ t → named k (held_left pid closing hs) ≤ named k hs → named k (cond b (h ∷ held_left pid closing hs) (held_left pid closing hs)) ≤ cond t (suc (named k hs)) (named k hs)
+    of_tests true true e le = let s = ap (λ x. cond x (suc (named k (held_left pid closing hs))) (named k (held_left pid closing hs))) e in omega (arith, s, le)
+    of_tests true false e le = let s = ap (λ x. cond x (suc (named k (held_left pid closing hs))) (named k (held_left pid closing hs))) e in omega (arith, s, le)
+    of_tests false true e le = omega (arith, le)
+    of_tests false false e le = le
+
+few : (o : Option Entry) (n : ℕ) → fits 1 o ≡ true → option_map (λ e. e.count) o ≡ count_of n → n < 18446744073709551615
+few o zero f c = omega arith
+few None (suc n) f c = absurd (cc)
+few (Some e) (suc n) f c = let t : e.count ≡ suc n = cc in within (nat_le (e.count + 1) 18446744073709551615) refl f t
+  where
+    within : (b : Bool) → nat_le (e.count + 1) 18446744073709551615 ≡ b → b ≡ true → e.count ≡ suc n → suc n < 18446744073709551615
+    within b g h t = let u : nat_le (e.count + 1) 18446744073709551615 ≡ true = g ∙ h in grind (arith, nat_tests)
+
+pub few_left : (pid : ℕ) (closing : Closing) (more hs hs' : List Held) (entries : Slab Entry) (key : ℕ) → hs' ≡ held_left pid closing hs → fits 1 (get entries key) ≡ true → IsCounted entries (more ++ hs) → named key (more ++ hs') < 18446744073709551615
+few_left pid closing more hs hs' entries key e f c =
+    let all = few (get entries key) (named key (more ++ hs)) f (c key) in
+    let same : named key hs' ≡ named key (held_left pid closing hs) = ap (λ xs. named key xs) e in
+    omega (arith, all, same, named_append key more hs, named_append key more hs', left_fewer pid closing key hs)

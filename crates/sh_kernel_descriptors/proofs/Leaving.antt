@@ -2,19 +2,16 @@
 use Rattle.std.proofs.Common.{◌≡◌, ◌⊎◌, ℕ, zero, suc, ◌+◌, ◌-◌, List, [], ◌∷◌, ◌++◌, Bool, true, false, ◌&&◌, ◌==◌, cond, Option, Some, None, not, nat_le, refl, sym, ap, ◌∙◌, inl, inr, arith, subst, eq-eqb}
 use Rattle.std.specs.Option.{option_map}
 use Rattle.slab.specs.Slab.{Slab, get}
-use Rattle.sh_pipe.specs.Pipe.{PipeState}
 use Rattle.sh_kernel_descriptors.specs.Closings as closings
-use Rattle.sh_kernel_descriptors.specs.Closings.{Pipes}
-use Rattle.sh_kernel_descriptors.specs.Counts.{closes, held_left, lowered, pipe_left, released, stays}
-use Rattle.sh_kernel_descriptors.specs.Kept.{Among, IsCounted, Linked, PipesAgree, count_of, description_at, listed, named, pipe_kept}
+use Rattle.sh_kernel_descriptors.specs.Counts.{closes, held_left, lowered, released, stays}
+use Rattle.sh_kernel_descriptors.specs.Kept.{Among, IsCounted, Linked, count_of, description_at, listed, named}
 use Rattle.sh_kernel_descriptors.specs.declared.descriptor.Closing.{Closing}
 use Rattle.sh_kernel_descriptors.specs.declared.description.Description.{Description}
 use Rattle.sh_kernel_descriptors.specs.declared.kept.Entry.{Entry}
 use Rattle.sh_kernel_descriptors.specs.declared.kept.Held.{Held}
-use Rattle.sh_kernel_descriptors.proofs.Ends.{all_go}
 
 -- ---- lists
-listed_of : (pid : ℕ) (closing : Closing) (hs : List Held) → listed (held_left pid closing hs) ≡ closings.descriptors_left pid closing (listed hs)
+pub listed_of : (pid : ℕ) (closing : Closing) (hs : List Held) → listed (held_left pid closing hs) ≡ closings.descriptors_left pid closing (listed hs)
 listed_of pid closing [] = refl
 listed_of pid closing (h ∷ hs) = of_test (stays pid closing h) (listed_of pid closing hs)
   where
@@ -108,7 +105,7 @@ none_left pid closing k (h ∷ hs) = of_test (closes pid closing k h) (none_left
     of_test true e = e
     of_test false e = e
 
-released_thins : (pid : ℕ) (closing : Closing) (k : ℕ) (hs : List Held) (o : Option Entry) → Thins o (released pid closing k hs o)
+pub released_thins : (pid : ℕ) (closing : Closing) (k : ℕ) (hs : List Held) (o : Option Entry) → Thins o (released pid closing k hs o)
 released_thins pid closing k [] o = inr refl
 released_thins pid closing k (h ∷ hs) o = of_test (closes pid closing k h) (released_thins pid closing k hs)
   where
@@ -149,10 +146,6 @@ linked_left pid closing hs hs' entries entries' e r more es c l =
       descriptions = λ h a. still (more ++ hs') entries entries' h c' a (subst (λ o. Thins (get entries h.key) o) (sym (r h.key)) (released_thins pid closing h.key hs (get entries h.key))) ∙ l.descriptions h (within h a);
       keys = λ h i a b. l.keys h i (within h a) (within i b);
     }
-
-pub pipes_left : (pid : ℕ) (closing : Closing) (hs : List Held) (entries : Slab Entry) (pipes pipes' : List (ℕ × PipeState)) → ((p : ℕ) → pipe_kept pipes' p ≡ pipe_left pid closing hs entries p hs (pipe_kept pipes p)) → (es : List Description) (ps : Pipes) → Linked hs entries es → PipesAgree pipes ps → PipesAgree pipes' (closings.pipes_left pid closing (listed hs) es ps)
-pipes_left pid closing hs entries pipes pipes' r es ps l agree p =
-    r p ∙ all_go pid closing hs entries es p ps (pipe_kept pipes p) l (agree p)
 
 pub map_same : (o : Option Held) → option_map (λ (h : Held). h) o ≡ o
 map_same None = refl

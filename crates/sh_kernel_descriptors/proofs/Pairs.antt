@@ -8,6 +8,10 @@ use Rattle.sh_kernel_descriptors.specs.Closings.{pipe_of}
 use Rattle.sh_kernel_descriptors.specs.Counts as counts
 use Rattle.sh_kernel_descriptors.specs.Counts.{closes, joined, lowered, moved, raised, released, shared}
 use Rattle.sh_kernel_descriptors.specs.Descriptors as names
+use Rattle.sh_kernel_descriptors.specs.Gone.{Added}
+use Rattle.sh_kernel_descriptors.specs.declared.descriptor.Closing.TheVariants.{Named}
+use Rattle.sh_kernel_descriptors.specs.declared.descriptor.DescriptorRef.TheVariants.{Number}
+use Rattle.sh_kernel_descriptors.proofs.Leaving.{Thins, released_thins}
 use Rattle.sh_kernel_descriptors.specs.Kept.{Among, IsCounted, IsPaired, Linked, count_of, description_at, end_at, listed, named, other_at, target_at}
 use Rattle.sh_kernel_descriptors.specs.declared.descriptor.Closing.{Closing}
 use Rattle.sh_kernel_descriptors.specs.declared.description.Description.{Description}
@@ -36,6 +40,8 @@ back x y t o p (inr s) e q = sym s ∙ e
 still_paired : (made : ℕ) (entries entries' : Slab Entry) → ((k : ℕ) → Tame (end_at entries k) (end_at entries' k)) → IsPaired made entries → IsPaired made entries'
 still_paired made entries entries' same pair = record {
   keys = λ p k j o o' r w. pair.keys p k j o o' (back (end_at entries k) (end_at entries' k) (ReadEnd p) o p (same k) r refl) (back (end_at entries j) (end_at entries' j) (WriteEnd p) o' p (same j) w refl);
+  reads = λ p k j o o' r w. pair.reads p k j o o' (back (end_at entries k) (end_at entries' k) (ReadEnd p) o p (same k) r refl) (back (end_at entries j) (end_at entries' j) (ReadEnd p) o' p (same j) w refl);
+  writes = λ p k j o o' r w. pair.writes p k j o o' (back (end_at entries k) (end_at entries' k) (WriteEnd p) o p (same k) r refl) (back (end_at entries j) (end_at entries' j) (WriteEnd p) o' p (same j) w refl);
   numbers = λ p k t o e q. pair.numbers p k t o (back (end_at entries k) (end_at entries' k) t o p (same k) e q) q;
 }
 
@@ -128,74 +134,186 @@ paired_new entries entries' key e u made none pair = still_paired made entries e
         ap (λ y. pipe_of y) (sym (target_of (e.description.target, e.other) (x, o) g)) ∙ none)
     of_test k false t = inr (ap (λ o. end_in o) (u.others k (λ s. apart key k t (sym s))))
 
-paired_ends : (p first second : ℕ) (entries entries' : Slab Entry) → end_at entries' first ≡ Some (ReadEnd p, Some second) → end_at entries' second ≡ Some (WriteEnd p, Some first) → ((k : ℕ) → k ≢ first → k ≢ second → end_at entries' k ≡ end_at entries k)
+paired_ends : (p first second : ℕ) (entries entries' : Slab Entry)
+    → ((k : ℕ) → ((k ≡ second) × (end_at entries' k ≡ Some (WriteEnd p, Some first))) ⊎ (((k ≡ first) × (end_at entries' k ≡ Some (ReadEnd p, Some second))) ⊎ Tame (end_at entries k) (end_at entries' k)))
     → IsPaired p entries → IsPaired (p + 1) entries'
-paired_ends p first second entries entries' reads writes others pair = record {
+paired_ends p first second entries entries' place pair = record {
   keys = λ q k j o o' r w. of_keys q k j o o' r w (place k) (place j);
+  reads = λ q k j o o' r w. of_reads q k j o o' r w (place k) (place j);
+  writes = λ q k j o o' r w. of_writes q k j o o' r w (place k) (place j);
   numbers = λ q k t o e f. of_number q k t o e f (place k);
 }
   where
     Place : ℕ → Type 0
-    Place k = (k ≡ first) ⊎ ((k ≡ second) ⊎ (end_at entries' k ≡ end_at entries k))
+    Place k = ((k ≡ second) × (end_at entries' k ≡ Some (WriteEnd p, Some first))) ⊎ (((k ≡ first) × (end_at entries' k ≡ Some (ReadEnd p, Some second))) ⊎ Tame (end_at entries k) (end_at entries' k))
 
-    place : (k : ℕ) → Place k
-    place k = of_tests (k == first) (k == second) refl refl
-      where
-        of_tests : (a b : Bool) → (k == first) ≡ a → (k == second) ≡ b → Place k
-        of_tests true b e f = inl (eqb-true k first e)
-        of_tests false true e f = inr (inl (eqb-true k second f))
-        of_tests false false e f = inr (inr (others k (apart k first e) (apart k second f)))
-
-    at_first : (k : ℕ) (x : End) → k ≡ first → end_at entries' k ≡ Some x → Some (ReadEnd p, Some second) ≡ Some x
-    at_first k x e f = sym reads ∙ ap (λ i. end_at entries' i) (sym e) ∙ f
-
-    at_second : (k : ℕ) (x : End) → k ≡ second → end_at entries' k ≡ Some x → Some (WriteEnd p, Some first) ≡ Some x
-    at_second k x e f = sym writes ∙ ap (λ i. end_at entries' i) (sym e) ∙ f
-
-    older : (q k : ℕ) (t : Target) (o : Option ℕ) → end_at entries' k ≡ end_at entries k → end_at entries' k ≡ Some (t, o) → pipe_of t ≡ Some q → q < p
-    older q k t o s e f = pair.numbers q k t o (sym s ∙ e) f
+    older : (q k : ℕ) (t : Target) (o : Option ℕ) → Tame (end_at entries k) (end_at entries' k) → end_at entries' k ≡ Some (t, o) → pipe_of t ≡ Some q → q < p
+    older q k t o s e f = pair.numbers q k t o (back (end_at entries k) (end_at entries' k) t o q s e f) f
 
     of_keys : (q k j : ℕ) (o o' : Option ℕ) → end_at entries' k ≡ Some (ReadEnd q, o) → end_at entries' j ≡ Some (WriteEnd q, o') → Place k → Place j → (o ≡ Some j) × (o' ≡ Some k)
-    of_keys q k j o o' r w (inl a) (inl b) = absurd (clash p q (target_of (ReadEnd p, Some second) (WriteEnd q, o') (at_first j (WriteEnd q, o') b w)))
-    of_keys q k j o o' r w (inl a) (inr (inl b)) = (
-      sym (other_of (ReadEnd p, Some second) (ReadEnd q, o) (at_first k (ReadEnd q, o) a r)) ∙ ap (λ i. Some i) (sym b),
-      sym (other_of (WriteEnd p, Some first) (WriteEnd q, o') (at_second j (WriteEnd q, o') b w)) ∙ ap (λ i. Some i) (sym a),
+    of_keys q k j o o' r w (inl a) b = absurd (clash q p (sym (target_of (WriteEnd p, Some first) (ReadEnd q, o) (sym a.1 ∙ r))))
+    of_keys q k j o o' r w (inr (inl a)) (inl b) = (
+      sym (other_of (ReadEnd p, Some second) (ReadEnd q, o) (sym a.1 ∙ r)) ∙ ap (λ i. Some i) (sym b.0),
+      sym (other_of (WriteEnd p, Some first) (WriteEnd q, o') (sym b.1 ∙ w)) ∙ ap (λ i. Some i) (sym a.0),
     )
-    of_keys q k j o o' r w (inl a) (inr (inr s)) =
-        let e = number_of (ReadEnd p) (ReadEnd q) p q (target_of (ReadEnd p, Some second) (ReadEnd q, o) (at_first k (ReadEnd q, o) a r)) refl refl in
+    of_keys q k j o o' r w (inr (inl a)) (inr (inl b)) = absurd (clash p q (target_of (ReadEnd p, Some second) (WriteEnd q, o') (sym b.1 ∙ w)))
+    of_keys q k j o o' r w (inr (inl a)) (inr (inr s)) =
+        let e = number_of (ReadEnd p) (ReadEnd q) p q (target_of (ReadEnd p, Some second) (ReadEnd q, o) (sym a.1 ∙ r)) refl refl in
         absurd (omega (arith, e, older q j (WriteEnd q) o' s w refl))
-    of_keys q k j o o' r w (inr (inl a)) b = absurd (clash q p (sym (target_of (WriteEnd p, Some first) (ReadEnd q, o) (at_second k (ReadEnd q, o) a r))))
-    of_keys q k j o o' r w (inr (inr s)) (inl b) = absurd (clash p q (target_of (ReadEnd p, Some second) (WriteEnd q, o') (at_first j (WriteEnd q, o') b w)))
-    of_keys q k j o o' r w (inr (inr s)) (inr (inl b)) =
-        let e = number_of (WriteEnd p) (WriteEnd q) p q (target_of (WriteEnd p, Some first) (WriteEnd q, o') (at_second j (WriteEnd q, o') b w)) refl refl in
+    of_keys q k j o o' r w (inr (inr s)) (inl b) =
+        let e = number_of (WriteEnd p) (WriteEnd q) p q (target_of (WriteEnd p, Some first) (WriteEnd q, o') (sym b.1 ∙ w)) refl refl in
         absurd (omega (arith, e, older q k (ReadEnd q) o s r refl))
-    of_keys q k j o o' r w (inr (inr s)) (inr (inr t)) = pair.keys q k j o o' (sym s ∙ r) (sym t ∙ w)
+    of_keys q k j o o' r w (inr (inr s)) (inr (inl b)) = absurd (clash p q (target_of (ReadEnd p, Some second) (WriteEnd q, o') (sym b.1 ∙ w)))
+    of_keys q k j o o' r w (inr (inr s)) (inr (inr t)) =
+        pair.keys q k j o o' (back (end_at entries k) (end_at entries' k) (ReadEnd q) o q s r refl) (back (end_at entries j) (end_at entries' j) (WriteEnd q) o' q t w refl)
+
+    of_reads : (q k j : ℕ) (o o' : Option ℕ) → end_at entries' k ≡ Some (ReadEnd q, o) → end_at entries' j ≡ Some (ReadEnd q, o') → Place k → Place j → k ≡ j
+    of_reads q k j o o' r w (inl a) b = absurd (clash q p (sym (target_of (WriteEnd p, Some first) (ReadEnd q, o) (sym a.1 ∙ r))))
+    of_reads q k j o o' r w (inr (inl a)) (inl b) = absurd (clash q p (sym (target_of (WriteEnd p, Some first) (ReadEnd q, o') (sym b.1 ∙ w))))
+    of_reads q k j o o' r w (inr (inl a)) (inr (inl b)) = a.0 ∙ sym b.0
+    of_reads q k j o o' r w (inr (inl a)) (inr (inr s)) =
+        let e = number_of (ReadEnd p) (ReadEnd q) p q (target_of (ReadEnd p, Some second) (ReadEnd q, o) (sym a.1 ∙ r)) refl refl in
+        absurd (omega (arith, e, older q j (ReadEnd q) o' s w refl))
+    of_reads q k j o o' r w (inr (inr s)) (inl b) = absurd (clash q p (sym (target_of (WriteEnd p, Some first) (ReadEnd q, o') (sym b.1 ∙ w))))
+    of_reads q k j o o' r w (inr (inr s)) (inr (inl b)) =
+        let e = number_of (ReadEnd p) (ReadEnd q) p q (target_of (ReadEnd p, Some second) (ReadEnd q, o') (sym b.1 ∙ w)) refl refl in
+        absurd (omega (arith, e, older q k (ReadEnd q) o s r refl))
+    of_reads q k j o o' r w (inr (inr s)) (inr (inr t)) =
+        pair.reads q k j o o' (back (end_at entries k) (end_at entries' k) (ReadEnd q) o q s r refl) (back (end_at entries j) (end_at entries' j) (ReadEnd q) o' q t w refl)
+
+    of_writes : (q k j : ℕ) (o o' : Option ℕ) → end_at entries' k ≡ Some (WriteEnd q, o) → end_at entries' j ≡ Some (WriteEnd q, o') → Place k → Place j → k ≡ j
+    of_writes q k j o o' r w (inl a) (inl b) = a.0 ∙ sym b.0
+    of_writes q k j o o' r w (inl a) (inr (inl b)) = absurd (clash p q (target_of (ReadEnd p, Some second) (WriteEnd q, o') (sym b.1 ∙ w)))
+    of_writes q k j o o' r w (inl a) (inr (inr s)) =
+        let e = number_of (WriteEnd p) (WriteEnd q) p q (target_of (WriteEnd p, Some first) (WriteEnd q, o) (sym a.1 ∙ r)) refl refl in
+        absurd (omega (arith, e, older q j (WriteEnd q) o' s w refl))
+    of_writes q k j o o' r w (inr (inl a)) b = absurd (clash p q (target_of (ReadEnd p, Some second) (WriteEnd q, o) (sym a.1 ∙ r)))
+    of_writes q k j o o' r w (inr (inr s)) (inl b) =
+        let e = number_of (WriteEnd p) (WriteEnd q) p q (target_of (WriteEnd p, Some first) (WriteEnd q, o') (sym b.1 ∙ w)) refl refl in
+        absurd (omega (arith, e, older q k (WriteEnd q) o s r refl))
+    of_writes q k j o o' r w (inr (inr s)) (inr (inl b)) = absurd (clash p q (target_of (ReadEnd p, Some second) (WriteEnd q, o') (sym b.1 ∙ w)))
+    of_writes q k j o o' r w (inr (inr s)) (inr (inr t)) =
+        pair.writes q k j o o' (back (end_at entries k) (end_at entries' k) (WriteEnd q) o q s r refl) (back (end_at entries j) (end_at entries' j) (WriteEnd q) o' q t w refl)
 
     of_number : (q k : ℕ) (t : Target) (o : Option ℕ) → end_at entries' k ≡ Some (t, o) → pipe_of t ≡ Some q → Place k → q < p + 1
     of_number q k t o e f (inl a) =
-        let same = number_of (ReadEnd p) t p q (target_of (ReadEnd p, Some second) (t, o) (at_first k (t, o) a e)) refl f in omega (arith, same)
+        let same = number_of (WriteEnd p) t p q (target_of (WriteEnd p, Some first) (t, o) (sym a.1 ∙ e)) refl f in omega (arith, same)
     of_number q k t o e f (inr (inl a)) =
-        let same = number_of (WriteEnd p) t p q (target_of (WriteEnd p, Some first) (t, o) (at_second k (t, o) a e)) refl f in omega (arith, same)
+        let same = number_of (ReadEnd p) t p q (target_of (ReadEnd p, Some second) (t, o) (sym a.1 ∙ e)) refl f in omega (arith, same)
     of_number q k t o e f (inr (inr s)) = omega (arith, older q k t o s e f)
 
--- two new ends, the first of which is told the key of the second
-pub paired_two : (p first second : ℕ) (d d' : Description) (s0 s1 s2 s3 : Slab Entry) → d.target ≡ ReadEnd p → d'.target ≡ WriteEnd p
-    → Updates s0 s1 first (Some (record { description = d; count = 1; other = None })) → get s1 second ≡ None → Updates s1 s2 second (Some (record { description = d'; count = 1; other = Some first }))
-    → get s3 first ≡ joined second (get s2 first) → ((k : ℕ) → k ≢ first → get s3 k ≡ get s2 k) → IsPaired p s0 → IsPaired (p + 1) s3
-paired_two p first second d d' s0 s1 s2 s3 reads writes u free v at others pair = paired_ends p first second s0 s3 read written kept pair
+-- an end to read from a new pipe
+pub paired_first : (p key : ℕ) (entries entries' : Slab Entry) (e : Entry) → e.description.target ≡ ReadEnd p → Updates entries entries' key (Some e) → IsPaired p entries → IsPaired (p + 1) entries'
+paired_first p key entries entries' e is u pair = record {
+  keys = λ q k j o o' r w. of_keys q k j o o' r w (place k) (place j);
+  reads = λ q k j o o' r w. of_reads q k j o o' r w (place k) (place j);
+  writes = λ q k j o o' r w. of_writes q k j o o' r w (place k) (place j);
+  numbers = λ q k t o x f. of_number q k t o x f (place k);
+}
   where
-    differ : first ≡ second → ⊥
-    differ e =
-        let f : None ≡ Some (record { description = d; count = 1; other = None }) = sym free ∙ ap (λ k. get s1 k) (sym e) ∙ u.changed in absurd (cc)
+    Place : ℕ → Type 0
+    Place k = ((k ≡ key) × (end_at entries' k ≡ Some (ReadEnd p, e.other))) ⊎ (end_at entries' k ≡ end_at entries k)
 
-    read : end_at s3 first ≡ Some (ReadEnd p, Some second)
-    read = ap (λ o. end_in o) (at ∙ ap (λ o. joined second o) (v.others first differ ∙ u.changed)) ∙ ap (λ t. Some (t, Some second)) reads
+    place : (k : ℕ) → Place k
+    place k = of_test (key == k) refl
+      where
+        of_test : (b : Bool) → (key == k) ≡ b → Place k
+        of_test true t =
+            let s : key ≡ k = eqb-true key k t in
+            inl (sym s, ap (λ j. end_at entries' j) (sym s) ∙ ap (λ o. end_in o) u.changed ∙ ap (λ x. Some (x, e.other)) is)
+        of_test false t = inr (ap (λ o. end_in o) (u.others k (λ s. apart key k t (sym s))))
 
-    written : end_at s3 second ≡ Some (WriteEnd p, Some first)
-    written = ap (λ o. end_in o) (others second (λ e. differ (sym e)) ∙ v.changed) ∙ ap (λ t. Some (t, Some first)) writes
+    older : (q k : ℕ) (t : Target) (o : Option ℕ) → end_at entries' k ≡ end_at entries k → end_at entries' k ≡ Some (t, o) → pipe_of t ≡ Some q → q < p
+    older q k t o s x f = pair.numbers q k t o (sym s ∙ x) f
 
-    kept : (k : ℕ) → k ≢ first → k ≢ second → end_at s3 k ≡ end_at s0 k
-    kept k m n = ap (λ o. end_in o) (others k m ∙ v.others k n ∙ u.others k m)
+    of_keys : (q k j : ℕ) (o o' : Option ℕ) → end_at entries' k ≡ Some (ReadEnd q, o) → end_at entries' j ≡ Some (WriteEnd q, o') → Place k → Place j → (o ≡ Some j) × (o' ≡ Some k)
+    of_keys q k j o o' r w (inl a) (inl b) = absurd (clash p q (target_of (ReadEnd p, e.other) (WriteEnd q, o') (sym b.1 ∙ w)))
+    of_keys q k j o o' r w (inl a) (inr s) =
+        let x = number_of (ReadEnd p) (ReadEnd q) p q (target_of (ReadEnd p, e.other) (ReadEnd q, o) (sym a.1 ∙ r)) refl refl in
+        absurd (omega (arith, x, older q j (WriteEnd q) o' s w refl))
+    of_keys q k j o o' r w (inr s) (inl b) = absurd (clash p q (target_of (ReadEnd p, e.other) (WriteEnd q, o') (sym b.1 ∙ w)))
+    of_keys q k j o o' r w (inr s) (inr t) = pair.keys q k j o o' (sym s ∙ r) (sym t ∙ w)
+
+    of_reads : (q k j : ℕ) (o o' : Option ℕ) → end_at entries' k ≡ Some (ReadEnd q, o) → end_at entries' j ≡ Some (ReadEnd q, o') → Place k → Place j → k ≡ j
+    of_reads q k j o o' r w (inl a) (inl b) = a.0 ∙ sym b.0
+    of_reads q k j o o' r w (inl a) (inr s) =
+        let x = number_of (ReadEnd p) (ReadEnd q) p q (target_of (ReadEnd p, e.other) (ReadEnd q, o) (sym a.1 ∙ r)) refl refl in
+        absurd (omega (arith, x, older q j (ReadEnd q) o' s w refl))
+    of_reads q k j o o' r w (inr s) (inl b) =
+        let x = number_of (ReadEnd p) (ReadEnd q) p q (target_of (ReadEnd p, e.other) (ReadEnd q, o') (sym b.1 ∙ w)) refl refl in
+        absurd (omega (arith, x, older q k (ReadEnd q) o s r refl))
+    of_reads q k j o o' r w (inr s) (inr t) = pair.reads q k j o o' (sym s ∙ r) (sym t ∙ w)
+
+    of_writes : (q k j : ℕ) (o o' : Option ℕ) → end_at entries' k ≡ Some (WriteEnd q, o) → end_at entries' j ≡ Some (WriteEnd q, o') → Place k → Place j → k ≡ j
+    of_writes q k j o o' r w (inl a) b = absurd (clash p q (target_of (ReadEnd p, e.other) (WriteEnd q, o) (sym a.1 ∙ r)))
+    of_writes q k j o o' r w (inr s) (inl b) = absurd (clash p q (target_of (ReadEnd p, e.other) (WriteEnd q, o') (sym b.1 ∙ w)))
+    of_writes q k j o o' r w (inr s) (inr t) = pair.writes q k j o o' (sym s ∙ r) (sym t ∙ w)
+
+    of_number : (q k : ℕ) (t : Target) (o : Option ℕ) → end_at entries' k ≡ Some (t, o) → pipe_of t ≡ Some q → Place k → q < p + 1
+    of_number q k t o x f (inl a) =
+        let same = number_of (ReadEnd p) t p q (target_of (ReadEnd p, e.other) (t, o) (sym a.1 ∙ x)) refl f in omega (arith, same)
+    of_number q k t o x f (inr s) = omega (arith, older q k t o s x f)
+
+-- two new ends, between which descriptors were closed; then the first is told the key of the second
+pub paired_two : (p first second pid from to : ℕ) (d d' : Description) (hs hs' : List Held) (s0 s2 s4 s5 : Slab Entry) → d.target ≡ ReadEnd p → d'.target ≡ WriteEnd p
+    → Added pid from hs s0 s2 first (record { description = d; count = 1; other = None }) → Added pid to hs' s2 s4 second (record { description = d'; count = 1; other = Some first })
+    → get s5 first ≡ joined second (get s4 first) → ((k : ℕ) → k ≢ first → get s5 k ≡ get s4 k) → IsPaired p s0 → IsPaired (p + 1) s5
+paired_two p first second pid from to d d' hs hs' s0 s2 s4 s5 reads writes one two at others pair = paired_ends p first second s0 s5 place pair
+  where
+    Place : ℕ → Type 0
+    Place k = ((k ≡ second) × (end_at s5 k ≡ Some (WriteEnd p, Some first))) ⊎ (((k ≡ first) × (end_at s5 k ≡ Some (ReadEnd p, Some second))) ⊎ Tame (end_at s0 k) (end_at s5 k))
+
+    written : end_at s4 second ≡ Some (WriteEnd p, Some first)
+    written = ap (λ o. end_in o) two.updates.changed ∙ ap (λ t. Some (t, Some first)) writes
+
+    at_second : (b : Bool) → (second == first) ≡ b → end_at s5 second ≡ Some (WriteEnd p, Some first)
+    at_second true t =
+        let s : second ≡ first = eqb-true second first t in
+        ap (λ k. end_at s5 k) s ∙ ap (λ o. end_in o) (at ∙ ap (λ k. joined second (get s4 k)) (sym s) ∙ ap (λ o. joined second o) two.updates.changed) ∙ ap (λ x. Some (x, Some second)) writes ∙ ap (λ k. Some (WriteEnd p, Some k)) s
+    at_second false t = ap (λ o. end_in o) (others second (apart second first t)) ∙ written
+
+    -- what the first number referred to may have been closed again
+    told : (o : Option Entry) → (o ≡ None) ⊎ (option_map (λ e. e.description) o ≡ Some d) → (end_in (joined second o) ≡ None) ⊎ (end_in (joined second o) ≡ Some (ReadEnd p, Some second))
+    told None s = inl refl
+    told (Some e) (inl s) = absurd (cc)
+    told (Some e) (inr s) = inr (let t : e.description ≡ d = cc in ap (λ x. Some (x.target, Some second)) t ∙ ap (λ x. Some (x, Some second)) reads)
+
+    at_first : (second == first) ≡ false → Place first
+    at_first t = of_told (told (get s4 first) left)
+      where
+        same : get s4 first ≡ get two.between first
+        same = two.updates.others first (λ s. apart second first t (sym s))
+
+        thinned : Thins (get s2 first) (get two.between first)
+        thinned = subst (λ o. Thins (get s2 first) o) (sym (two.gone first)) (released_thins pid (Named (Number to)) first hs' (get s2 first))
+
+        of_thins : Thins (get s2 first) (get two.between first) → (get s4 first ≡ None) ⊎ (option_map (λ (e : Entry). e.description) (get s4 first) ≡ Some d)
+        of_thins (inl n) = inl (same ∙ n)
+        of_thins (inr s) = inr (ap (λ o. option_map (λ (e : Entry). e.description) o) same ∙ s ∙ ap (λ o. option_map (λ (e : Entry). e.description) o) one.updates.changed)
+
+        left : (get s4 first ≡ None) ⊎ (option_map (λ (e : Entry). e.description) (get s4 first) ≡ Some d)
+        left = of_thins thinned
+
+        of_told : (end_in (joined second (get s4 first)) ≡ None) ⊎ (end_in (joined second (get s4 first)) ≡ Some (ReadEnd p, Some second)) → Place first
+        of_told (inl n) = inr (inr (gone (end_at s0 first) (end_at s5 first) (ap (λ o. end_in o) at ∙ n)))
+        of_told (inr s) = inr (inl (refl, ap (λ o. end_in o) at ∙ s))
+
+    elsewhere : (k : ℕ) → k ≢ first → k ≢ second → Tame (end_at s0 k) (end_at s5 k)
+    elsewhere k m n =
+        subst (λ y. Tame (end_at s0 k) y) (sym (ap (λ o. end_in o) (others k m ∙ two.updates.others k n)))
+        (and_then (end_at s0 k) (end_at s2 k) (end_at two.between k)
+        (subst (λ y. Tame (end_at s0 k) y) (sym (ap (λ o. end_in o) (one.updates.others k m)))
+        (subst (λ o. Tame (end_at s0 k) (end_in o)) (sym (one.gone k)) (releases pid (Named (Number from)) k hs (get s0 k))))
+        (subst (λ o. Tame (end_at s2 k) (end_in o)) (sym (two.gone k)) (releases pid (Named (Number to)) k hs' (get s2 k))))
+
+    place : (k : ℕ) → Place k
+    place k = of_tests (k == second) (k == first) (second == first) refl refl refl
+      where
+        of_tests : (a b c : Bool) → (k == second) ≡ a → (k == first) ≡ b → (second == first) ≡ c → Place k
+        of_tests true b c e f g = inl (eqb-true k second e, ap (λ j. end_at s5 j) (eqb-true k second e) ∙ at_second (second == first) refl)
+        of_tests false true true e f g = absurd (apart k second e (eqb-true k first f ∙ sym (eqb-true second first g)))
+        of_tests false true false e f g = subst (λ j. Place j) (sym (eqb-true k first f)) (at_first g)
+        of_tests false false c e f g = inr (inr (elsewhere k (apart k first f) (apart k second e)))
 
 -- the first is told, so nothing else changes
 joins : (key : ℕ) (o : Option Entry) → option_map (λ e. e.description) (joined key o) ≡ option_map (λ e. e.description) o
@@ -221,7 +339,7 @@ counted_joined hs entries entries' key other at others c k = of_test (key == k) 
     of_test false e = ap (λ o. option_map (λ x. x.count) o) (others k (λ t. apart key k e (sym t))) ∙ c k
 
 -- ---- whether the other end is open
-named_among : (key : ℕ) (hs : List Held) (n : ℕ) → named key hs ≡ suc n → (h : Held) × Among h hs × (h.key ≡ key)
+pub named_among : (key : ℕ) (hs : List Held) (n : ℕ) → named key hs ≡ suc n → (h : Held) × Among h hs × (h.key ≡ key)
 named_among key [] n e = absurd (cc)
 named_among key (h ∷ hs) n e = of_test (h.key == key) refl (named_among key hs) e
   where
@@ -237,7 +355,7 @@ is_there key hs entries x c e = of_count (named key hs) refl
     of_count zero t = let f : Some x.count ≡ None = sym (ap (λ o. option_map (λ y. y.count) o) e) ∙ c key ∙ ap (λ n. count_of n) t in absurd (cc)
     of_count (suc n) t = named_among key hs n t
 
-any_true : (f : Held → Bool) (hs : List Held) (h : Held) → Among h hs → f h ≡ true → list_any f hs ≡ true
+pub any_true : (f : Held → Bool) (hs : List Held) (h : Held) → Among h hs → f h ≡ true → list_any f hs ≡ true
 any_true f [] h a t = absurd a
 any_true f (g ∷ hs) h (inl e) t = ap (λ b. b || list_any f hs) (ap (λ x. f x) e ∙ t)
 any_true f (g ∷ hs) h (inr a) t = ap (λ b. f g || b) (any_true f hs h a t) ∙ or_true (f g)
@@ -268,19 +386,19 @@ end_is : (o : Option Entry) (t : Target) → option_map (λ d. d.target) (option
 end_is None t e = absurd (cc)
 end_is (Some x) t e = ap (λ (y : Option Target). option_map (λ z. (z, x.other)) y) e
 
+pub read_there : (pipe : ℕ) (o : Option Entry) → option_map_or (λ t. names.reads_from pipe t) (option_map (λ d. d.target) (option_map (λ e. e.description) o)) false ≡ true → end_in o ≡ Some (ReadEnd pipe, option_and_then (λ e. e.other) o)
+read_there pipe None e = absurd (cc)
+read_there pipe (Some x) e = ap (λ t. Some (t, x.other)) (read_target pipe x.description.target e)
+
+pub written_there : (pipe : ℕ) (o : Option Entry) → option_map_or (λ t. names.writes_to pipe t) (option_map (λ d. d.target) (option_map (λ e. e.description) o)) false ≡ true → end_in o ≡ Some (WriteEnd pipe, option_and_then (λ e. e.other) o)
+written_there pipe None e = absurd (cc)
+written_there pipe (Some x) e = ap (λ t. Some (t, x.other)) (write_target pipe x.description.target e)
+
 module _ (made : ℕ) (hs : List Held) (entries : Slab Entry) (es : List Description) (pipe key : ℕ) (pair : IsPaired made entries) (counted : IsCounted entries hs) (linked : Linked hs entries es) where
   -- an entry of which this holds is named
   seen : (test : Target → Bool) (k : ℕ) (o : Option Entry) → get entries k ≡ o → option_map_or (λ (t : Target). test t) (option_map (λ (d : Description). d.target) (option_map (λ (e : Entry). e.description) o)) false ≡ true → (h : Held) × Among h hs × (h.key ≡ k)
   seen test k None e t = absurd (cc)
   seen test k (Some x) e t = is_there k hs entries x counted e
-
-  read_there : (k : ℕ) (o : Option Entry) → option_map_or (λ t. names.reads_from pipe t) (option_map (λ d. d.target) (option_map (λ e. e.description) o)) false ≡ true → end_in o ≡ Some (ReadEnd pipe, option_and_then (λ e. e.other) o)
-  read_there k None e = absurd (cc)
-  read_there k (Some x) e = ap (λ t. Some (t, x.other)) (read_target pipe x.description.target e)
-
-  written_there : (k : ℕ) (o : Option Entry) → option_map_or (λ t. names.writes_to pipe t) (option_map (λ d. d.target) (option_map (λ e. e.description) o)) false ≡ true → end_in o ≡ Some (WriteEnd pipe, option_and_then (λ e. e.other) o)
-  written_there k None e = absurd (cc)
-  written_there k (Some x) e = ap (λ t. Some (t, x.other)) (write_target pipe x.description.target e)
 
   pub reads : target_at entries key ≡ Some (WriteEnd pipe) → counts.is_read_end pipe (counts.other_target entries key) ≡ names.has_reader (listed hs) es pipe
   reads at = of_test (counts.is_read_end pipe (counts.other_target entries key)) refl ∙ readers hs entries es pipe linked
@@ -294,7 +412,7 @@ module _ (made : ℕ) (hs : List Held) (entries : Slab Entry) (es : List Descrip
       none : (h : Held) (b : Bool) → counts.is_reader entries pipe h ≡ b → counts.is_read_end pipe (counts.other_target entries key) ≡ false → counts.is_reader entries pipe h ≡ false
       none h false e t = e
       none h true e t =
-          let both = pair.keys pipe h.key key (other_at entries h.key) (other_at entries key) (read_there h.key (get entries h.key) e) (end_is (get entries key) (WriteEnd pipe) at) in
+          let both = pair.keys pipe h.key key (other_at entries h.key) (other_at entries key) (read_there pipe (get entries h.key) e) (end_is (get entries key) (WriteEnd pipe) at) in
           let f : true ≡ false = sym e ∙ sym (ap (λ o. counts.is_read_end pipe (option_and_then (λ k. target_at entries k) o)) both.1) ∙ t in absurd (cc)
 
       of_test : (b : Bool) → counts.is_read_end pipe (counts.other_target entries key) ≡ b → counts.is_read_end pipe (counts.other_target entries key) ≡ list_any (counts.is_reader entries pipe) hs
@@ -313,7 +431,7 @@ module _ (made : ℕ) (hs : List Held) (entries : Slab Entry) (es : List Descrip
       none : (h : Held) (b : Bool) → counts.is_writer entries pipe h ≡ b → counts.is_write_end pipe (counts.other_target entries key) ≡ false → counts.is_writer entries pipe h ≡ false
       none h false e t = e
       none h true e t =
-          let both = pair.keys pipe key h.key (other_at entries key) (other_at entries h.key) (end_is (get entries key) (ReadEnd pipe) at) (written_there h.key (get entries h.key) e) in
+          let both = pair.keys pipe key h.key (other_at entries key) (other_at entries h.key) (end_is (get entries key) (ReadEnd pipe) at) (written_there pipe (get entries h.key) e) in
           let f : true ≡ false = sym e ∙ sym (ap (λ o. counts.is_write_end pipe (option_and_then (λ k. target_at entries k) o)) both.0) ∙ t in absurd (cc)
 
       of_test : (b : Bool) → counts.is_write_end pipe (counts.other_target entries key) ≡ b → counts.is_write_end pipe (counts.other_target entries key) ≡ list_any (counts.is_writer entries pipe) hs
@@ -323,6 +441,8 @@ module _ (made : ℕ) (hs : List Held) (entries : Slab Entry) (es : List Descrip
 -- ---- where nothing is kept
 pub none_paired : (entries : Slab Entry) → ((k : ℕ) → get entries k ≡ None) → IsPaired 0 entries
 none_paired entries free = record {
+  reads = λ p k j o o' r w. let f : None ≡ Some (ReadEnd p, o) = sym (ap (λ x. end_in x) (free k)) ∙ r in absurd (cc);
+  writes = λ p k j o o' r w. let f : None ≡ Some (WriteEnd p, o) = sym (ap (λ x. end_in x) (free k)) ∙ r in absurd (cc);
   keys = λ p k j o o' r w. let f : None ≡ Some (ReadEnd p, o) = sym (ap (λ x. end_in x) (free k)) ∙ r in absurd (cc);
   numbers = λ p k t o e q. let f : None ≡ Some (t, o) = sym (ap (λ x. end_in x) (free k)) ∙ e in absurd (cc);
 }

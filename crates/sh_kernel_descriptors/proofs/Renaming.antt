@@ -1,5 +1,5 @@
 -- A descriptor gets another number: its description and its entry stay.
-use Rattle.std.proofs.Common.{◌≡◌, ℕ, zero, suc, List, [], ◌∷◌, ◌==◌, ◌+◌, length, nat_lt, not, cond, Option, Some, None, position, slice_get, slice_set, refl, sym, ap, ◌∙◌, inl, inr, subst}
+use Rattle.std.proofs.Common.{◌≡◌, ◌⊎◌, ℕ, zero, suc, List, [], ◌∷◌, ◌++◌, ◌==◌, ◌+◌, length, nat_lt, not, cond, Option, Some, None, position, slice_get, slice_set, refl, sym, ap, ◌∙◌, inl, inr, subst}
 use Rattle.std.specs.List.{position_or_len}
 use Rattle.std.specs.Option.{option_map}
 use Rattle.slab.specs.Slab.{Slab}
@@ -12,7 +12,8 @@ use Rattle.sh_kernel_descriptors.specs.declared.descriptor.DescriptorRef.{Descri
 use Rattle.sh_kernel_descriptors.specs.declared.description.Description.{Description}
 use Rattle.sh_kernel_descriptors.specs.declared.kept.Entry.{Entry}
 use Rattle.sh_kernel_descriptors.specs.declared.kept.Held.{Held}
-use Rattle.sh_kernel_descriptors.proofs.Giving.{Stands, counted_same, linked_within, stands}
+use Rattle.sh_kernel_descriptors.proofs.Giving.{Stands, among_append, counted_same, in_front, in_rest, linked_within, stands}
+use Rattle.sh_kernel_descriptors.proofs.Leaving.{named_append}
 
 place_of : (pid : ℕ) (name : DescriptorRef) (hs : List Held) → position_or_len (is_of_name pid name) hs ≡ position_or_len (names.is_named pid name) (listed hs)
 place_of pid name [] = refl
@@ -97,10 +98,22 @@ among_renamed pid name number hs g a = of_place (position (is_of_name pid name) 
 pub listed_rename : (pid : ℕ) (name : DescriptorRef) (number : Option ℕ) (hs hs' : List Held) → hs' ≡ renamed hs pid name number → listed hs' ≡ naming.after_renaming (listed hs) pid name number
 listed_rename pid name number hs hs' e = ap (λ xs. listed xs) e ∙ listed_renamed pid name number hs
 
-pub counted_rename : (pid : ℕ) (name : DescriptorRef) (number : Option ℕ) (hs hs' : List Held) → hs' ≡ renamed hs pid name number → (entries : Slab Entry) → IsCounted entries hs → IsCounted entries hs'
-counted_rename pid name number hs hs' e entries c =
-    subst (λ xs. IsCounted entries xs) (sym e) (counted_same hs (renamed hs pid name number) entries (λ k. named_renamed k pid name number hs) c)
+pub counted_rename : (pid : ℕ) (name : DescriptorRef) (number : Option ℕ) (hs hs' : List Held) → hs' ≡ renamed hs pid name number → (more : List Held) (entries : Slab Entry) → IsCounted entries (more ++ hs) → IsCounted entries (more ++ hs')
+counted_rename pid name number hs hs' e more entries c =
+    let same : (k : ℕ) → named k (more ++ hs) ≡ named k (more ++ renamed hs pid name number) = λ k.
+    named_append k more hs ∙ ap (λ n. named k more + n) (named_renamed k pid name number hs) ∙ sym (named_append k more (renamed hs pid name number)) in
+    subst (λ xs. IsCounted entries (more ++ xs)) (sym e) (counted_same (more ++ hs) (more ++ renamed hs pid name number) entries same c)
 
-pub linked_rename : (pid : ℕ) (name : DescriptorRef) (number : Option ℕ) (hs hs' : List Held) → hs' ≡ renamed hs pid name number → (entries : Slab Entry) (es : List Description) → Linked hs entries es → Linked hs' entries es
-linked_rename pid name number hs hs' e entries es l =
-    subst (λ xs. Linked xs entries es) (sym e) (linked_within hs (renamed hs pid name number) entries es (among_renamed pid name number hs) l)
+pub linked_rename : (pid : ℕ) (name : DescriptorRef) (number : Option ℕ) (hs hs' : List Held) → hs' ≡ renamed hs pid name number → (more : List Held) (entries : Slab Entry) (es : List Description) → Linked (more ++ hs) entries es → Linked (more ++ hs') entries es
+linked_rename pid name number hs hs' e more entries es l =
+    subst (λ xs. Linked (more ++ xs) entries es) (sym e) (linked_within (more ++ hs) (more ++ renamed hs pid name number) entries es within l)
+  where
+    behind : (g : Held) → Stands g hs → Stands g (more ++ hs)
+    behind g s = (s.0, in_rest more hs s.0 s.1, s.2, s.3)
+
+    of_side : (g : Held) → Among g more ⊎ Among g (renamed hs pid name number) → Stands g (more ++ hs)
+    of_side g (inl a) = stands g (more ++ hs) (in_front more hs g a)
+    of_side g (inr a) = behind g (among_renamed pid name number hs g a)
+
+    within : (g : Held) → Among g (more ++ renamed hs pid name number) → Stands g (more ++ hs)
+    within g a = of_side g (among_append more (renamed hs pid name number) g a)

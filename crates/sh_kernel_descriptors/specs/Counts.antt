@@ -1,22 +1,21 @@
 -- How what is kept changes at one key, or at one number of a pipe, as descriptors come and go.
 use Rattle.std.specs.Prelude as prelude
-use Rattle.std.specs.Prelude.{ℕ, ◌==◌, ◌&&◌, ◌||◌, ◌+◌, ◌-◌, ◌++◌, List, [], ◌∷◌, map, filter, min, Bool, true, false, not, Option, Some, None, if◌then◌else◌, nat_le, position, slice_get, slice_set}
-use Rattle.std.specs.List.{list_any}
+use Rattle.std.specs.Prelude.{ℕ, ◌==◌, ◌&&◌, ◌+◌, ◌-◌, ◌++◌, List, [], ◌∷◌, map, filter, length, min, Bool, true, false, not, Option, Some, None, if◌then◌else◌, nat_le, position, slice_get, slice_set}
+use Rattle.std.specs.List.{list_all}
 use Rattle.std.specs.Option.{option_and_then, option_map, option_map_or}
-use Rattle.slab.specs.Slab.{Slab}
-use Rattle.sh_pipe.specs.Pipe.{PipeState}
+use Rattle.slab.specs.Slab.{Slab, get}
 use Rattle.sh_kernel_descriptors.specs.Descriptors.{is_named, reads_from, writes_to}
 use Rattle.sh_kernel_descriptors.specs.declared.descriptor.DescriptorRef.{DescriptorRef}
 use Rattle.sh_kernel_descriptors.specs.Closings as closings
 use Rattle.sh_kernel_descriptors.specs.declared.description.Description.{Description}
-use Rattle.sh_kernel_descriptors.specs.Kept.{number_at, other_at, target_at}
+use Rattle.sh_kernel_descriptors.specs.Kept.{other_at, target_at}
 use Rattle.sh_kernel_descriptors.specs.Naming as naming
 use Rattle.sh_kernel_descriptors.specs.Processes as processes
 use Rattle.sh_kernel_descriptors.specs.declared.descriptor.Closing.TheVariants.{Named}
 use Rattle.sh_kernel_descriptors.specs.declared.descriptor.Descriptor.{Descriptor}
 use Rattle.sh_kernel_descriptors.specs.declared.descriptor.DescriptorRef.TheVariants.{Number}
 use Rattle.sh_kernel_descriptors.specs.declared.description.Target.{Target}
-use Rattle.sh_kernel_descriptors.specs.declared.description.Target.TheVariants.{ReadEnd, WriteEnd}
+use Rattle.sh_kernel_descriptors.specs.declared.description.Target.TheVariants.{File, Terminal, Null, ReadEnd, WriteEnd}
 use Rattle.sh_kernel_descriptors.specs.declared.descriptor.Closing.{Closing}
 use Rattle.sh_kernel_descriptors.specs.declared.kept.Entry.{Entry}
 use Rattle.sh_kernel_descriptors.specs.declared.kept.Held.{Held}
@@ -29,6 +28,14 @@ raised (Some e) = Some (record e { count = min (e.count + 1) 1844674407370955161
 abbrev pub lowered : Option Entry → Option Entry
 lowered None = None
 lowered (Some e) = if nat_le e.count 1 then None else Some (record e { count = e.count - 1 })
+
+-- so many descriptors more can be counted
+abbrev pub fits : ℕ → Option Entry → Bool
+fits n None = true
+fits n (Some e) = nat_le (e.count + n) 18446744073709551615
+
+abbrev pub may_come : Slab Entry → List Held → Bool
+may_come entries hs = list_all (λ h. fits (length hs) (get entries h.key)) hs
 
 -- what is at a key after each of these descriptors came
 abbrev pub shared : ℕ → List Held → Option Entry → Option Entry
@@ -110,24 +117,33 @@ is_reader entries p h = is_read_end p (target_at entries h.key)
 abbrev pub is_writer : Slab Entry → ℕ → Held → Bool
 is_writer entries p h = is_write_end p (target_at entries h.key)
 
-abbrev pub is_end : Slab Entry → ℕ → Held → Bool
-is_end entries p h = is_reader entries p h || is_writer entries p h
+-- ---- a pipe goes with the last descriptor that refers to one of its ends
+-- one descriptor at most names the entry
+abbrev pub is_last : Option Entry → Bool
+is_last None = true
+is_last (Some e) = nat_le e.count 1
 
-abbrev pub holds : ℕ → Closing → Slab Entry → ℕ → Held → Bool
-holds pid closing entries p h = stays pid closing h && is_end entries p h
+abbrev pub ending_pipe : (last : Bool) → (is_open : Bool) → ℕ → Option ℕ
+ending_pipe last is_open p = if last && not is_open then Some p else None
 
-abbrev pub is_held : ℕ → Closing → List Held → Slab Entry → ℕ → Bool
-is_held pid closing hs entries p = list_any (holds pid closing entries p) hs
+abbrev pub ending_of : (last : Bool) → (other : Option Target) → Option Target → Option ℕ
+ending_of last other None = None
+ending_of last other (Some (File node)) = None
+ending_of last other (Some Terminal) = None
+ending_of last other (Some Null) = None
+ending_of last other (Some (ReadEnd p)) = ending_pipe last (is_write_end p other) p
+ending_of last other (Some (WriteEnd p)) = ending_pipe last (is_read_end p other) p
 
--- the pipe is let go with a descriptor
-abbrev pub goes_with : ℕ → Closing → List Held → Slab Entry → ℕ → Held → Bool
-goes_with pid closing hs entries p h =
-    closings.goes pid closing h.descriptor && (option_map_or (λ q. q == p) (number_at entries h.key) false && not (is_held pid closing hs entries p))
+-- the pipe that goes with one descriptor less at a key: it was the last one of an end, and the other end isn't open
+abbrev pub ending : Slab Entry → ℕ → Option ℕ
+ending entries key = ending_of (is_last (get entries key)) (other_target entries key) (target_at entries key)
 
--- what is at a pipe's number after this part of the descriptors was gone through
-abbrev pub pipe_left : ℕ → Closing → List Held → Slab Entry → ℕ → List Held → Option PipeState → Option PipeState
-pipe_left pid closing all entries p [] o = o
-pipe_left pid closing all entries p (h ∷ hs) o = pipe_left pid closing all entries p hs (if goes_with pid closing all entries p h then None else o)
+abbrev pub is_pipe : ℕ → Option ℕ → Bool
+is_pipe p o = option_map_or (λ q. q == p) o false
+
+-- the descriptor is closed, and takes the pipe along
+abbrev pub takes : ℕ → Closing → Slab Entry → ℕ → Held → Bool
+takes pid closing entries p h = closings.goes pid closing h.descriptor && is_pipe p (ending entries h.key)
 
 -- ---- a new pipe
 abbrev pub with_ends : ℕ → List Description → List Description

@@ -1,6 +1,6 @@
 -- What is kept of descriptors, open file descriptions and pipes: those that are referred to. All that were ever made are
 -- listed by number; what is kept agrees with these lists on all that descriptors name.
-use Rattle.std.specs.Prelude.{◌≡◌, ◌<◌, ◌⊎◌, ℕ, zero, suc, ◌==◌, List, [], ◌∷◌, Option, Some, None, if◌then◌else◌, slice_get}
+use Rattle.std.specs.Prelude.{◌≡◌, ◌<◌, ◌⊎◌, ℕ, zero, suc, ◌==◌, List, [], ◌∷◌, false, ⊤, Option, Some, None, if◌then◌else◌, slice_get}
 use Rattle.std.specs.Option.{option_map, option_and_then}
 use Rattle.std.specs.Ordering.{nat_cmp}
 use Rattle.std.specs.BTreeMap.{is_at}
@@ -24,6 +24,14 @@ listed (h ∷ hs) = h.descriptor ∷ listed hs
 abbrev pub Among : Held → List Held → Type 0
 Among h [] = ⊥
 Among h (g ∷ gs) = (g ≡ h) ⊎ Among h gs
+
+abbrev pub Within : List Held → List Held → Type 0
+Within hs all = (h : Held) → Among h hs → Among h all
+
+-- none of these descriptors is this process's
+abbrev pub NoneOf : ℕ → List Held → Type 0
+NoneOf pid [] = ⊤
+NoneOf pid (h ∷ hs) = ((h.descriptor.pid == pid) ≡ false) × NoneOf pid hs
 
 -- ---- counts
 -- how many descriptors, numbered or set aside, name the entry of a key
@@ -61,9 +69,11 @@ other_at entries key = option_and_then (λ e. e.other) (slab.get entries key)
 abbrev pub end_at : Slab Entry → ℕ → Option (Target × Option ℕ)
 end_at entries key = option_map (λ e. (e.description.target, e.other)) (slab.get entries key)
 
--- where both ends of a pipe are kept, each has the key of the other; and so many pipes were ever made
+-- where both ends of a pipe are kept, each has the key of the other; no end is kept under two keys; and so many pipes were ever made
 pub record IsPaired (made : ℕ) (entries : Slab Entry) : Type 0 where
   pub keys : (pipe reads writes : ℕ) (o o' : Option ℕ) → end_at entries reads ≡ Some (ReadEnd pipe, o) → end_at entries writes ≡ Some (WriteEnd pipe, o') → (o ≡ Some writes) × (o' ≡ Some reads)
+  pub reads : (pipe k j : ℕ) (o o' : Option ℕ) → end_at entries k ≡ Some (ReadEnd pipe, o) → end_at entries j ≡ Some (ReadEnd pipe, o') → k ≡ j
+  pub writes : (pipe k j : ℕ) (o o' : Option ℕ) → end_at entries k ≡ Some (WriteEnd pipe, o) → end_at entries j ≡ Some (WriteEnd pipe, o') → k ≡ j
   pub numbers : (pipe key : ℕ) (target : Target) (o : Option ℕ) → end_at entries key ≡ Some (target, o) → pipe_of target ≡ Some pipe → pipe < made
 
 -- ---- pipes

@@ -3,6 +3,7 @@ pub mod Waiting
 pub mod Descriptors
 pub mod Closings
 pub mod Processes
+pub mod Living
 pub mod Machine
 pub mod Reading
 pub mod Writing
@@ -12,3 +13,4 @@ pub mod Starting
 pub mod Terminals
 pub mod Kept
 pub mod Counts
+pub mod Gone

@@ -5,7 +5,7 @@ use Rattle.sh_pipe.specs.declared.PipeFault.TheVariants as pipe
 use Rattle.sh_kernel_descriptors.specs.declared.process.Status.{Status}
 use Rattle.sh_kernel_descriptors.specs.declared.process.Status.TheVariants.{Running, Stopped, Exited, Signaled}
 use Rattle.sh_kernel_descriptors.specs.declared.fault.KernelFault.{KernelFault}
-use Rattle.sh_kernel_descriptors.specs.declared.fault.KernelFault.TheVariants.{BadDescriptor, NoProcess, TooManyProcesses, TooManyDescriptors, WouldWait, BrokenPipe, File, NoMemory}
+use Rattle.sh_kernel_descriptors.specs.declared.fault.KernelFault.TheVariants.{BadDescriptor, NoProcess, TooManyProcesses, TooManyDescriptors, WouldWait, BrokenPipe, InputOutput, File, NoMemory}
 
 abbrev pub pipe_waits : Result ℕ PipeFault → Bool
 pipe_waits (Ok n) = false
@@ -19,6 +19,7 @@ is_wait TooManyProcesses = false
 is_wait TooManyDescriptors = false
 is_wait WouldWait = true
 is_wait BrokenPipe = false
+is_wait InputOutput = false
 is_wait (File fault) = false
 is_wait (NoMemory _) = false
 

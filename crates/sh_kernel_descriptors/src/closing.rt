@@ -1,16 +1,18 @@
 //! Finding and closing descriptors.
-ghost use Rattle.std.specs.Prelude.{◌≡◌, ◌≤◌, ◌++◌, ◌==◌, ℕ, List, None, Some, if◌then◌else◌, vec_len, vec_capacity};
+ghost use Rattle.std.specs.Prelude.{◌≡◌, ◌≤◌, ◌++◌, ℕ, List, None, Some, if◌then◌else◌, vec_len, vec_capacity};
 ghost use Rattle.sh_kernel_descriptors.specs.Descriptors as names;
 ghost use Rattle.sh_kernel_descriptors.specs.Closings as closings;
 ghost use Rattle.sh_kernel_descriptors.specs.Closings.{Pipes};
 ghost use Rattle.sh_kernel_descriptors.specs.Counts as counts;
-ghost use Rattle.sh_kernel_descriptors.specs.Kept.{IsCounted, IsPaired, Linked, PipesAgree, listed, number_at, pipe_kept, target_at};
+ghost use Rattle.sh_kernel_descriptors.specs.Kept.{IsCounted, IsPaired, Linked, NoneOf, PipesAgree, listed, number_at, pipe_kept, target_at};
+ghost use Rattle.sh_kernel_descriptors.specs.Gone.{Gone};
+ghost use Rattle.slab.specs.Slab as slab;
 ghost use Rattle.sh_kernel_descriptors.specs.declared.description.Description.{Description as TheDescription};
 
 use crate::channel::Channel;
 use crate::description::Target;
 use crate::descriptor::{Closing, Descriptor, DescriptorRef};
-use crate::kept::{Entry, Held, described, other_of, release_each};
+use crate::kept::{Entry, Held, described, is_last, other_of, release};
 use slab::Slab;
 use std::collections::BTreeMap;
 
@@ -133,72 +135,77 @@ pub fn pipe_named(entries: &Slab<Entry>, key: usize) -> Option<usize>
     pipe_of(described(entries, key)?.target)
 }
 
-fn is_end(entries: &Slab<Entry>, pipe: usize, h: &Held) -> bool
-    ensures { result ≡ counts.is_end entries.now pipe h.now }
+/// The pipe of an end, where the end goes and the other one isn't open.
+fn ending_pipe(is_last: bool, is_open: bool, pipe: usize) -> Option<usize>
+    ensures { result ≡ counts.ending_pipe is_last is_open pipe }
 {
-    let target = target_at(entries, h.key);
-    is_read_end(pipe, target) || is_write_end(pipe, target)
+    if is_last && !is_open {
+        return Some(pipe);
+    }
+    None
 }
 
-/// Whether a descriptor stays and refers to an end of the pipe.
-fn holds(pid: u32, closing: Closing, entries: &Slab<Entry>, pipe: usize, h: &Held) -> bool
-    ensures { result ≡ counts.holds pid closing entries.now pipe h.now }
+/// The pipe that goes with one descriptor less at a key: it was the last one of an end, and none refers to the other end.
+fn ending(entries: &Slab<Entry>, key: usize) -> Option<usize>
+    ensures { result ≡ counts.ending entries.now key }
 {
-    stays(pid, closing, h) && is_end(entries, pipe, h)
+    let last = is_last(entries, key);
+    let other = other_target(entries, key);
+    match target_at(entries, key)? {
+        Target::File(_) => None,
+        Target::Terminal => None,
+        Target::Null => None,
+        Target::ReadEnd(pipe) => ending_pipe(last, is_write_end(pipe, other), pipe),
+        Target::WriteEnd(pipe) => ending_pipe(last, is_read_end(pipe, other), pipe),
+    }
 }
 
-/// Whether some descriptor that stays refers to an end of the pipe.
-fn is_held(pid: u32, closing: Closing, held: &[Held], entries: &Slab<Entry>, pipe: usize) -> bool
-    ensures { result ≡ counts.is_held pid closing held.now entries.now pipe }
-{
-    held.iter().any(|h| holds(pid, closing, entries, pipe, h))
-}
-
-/// Removes a pipe.
+/// Removes a pipe, where there is one.
 #[tactic(auto, using(crate::proofs::Ends::same_number))]
-fn remove(pipes: &mut BTreeMap<usize, Channel>, pipe: usize)
-    ensures { (p : ℕ) → pipe_kept pipes.new.entries p ≡ (if pipe == p then None else pipe_kept pipes.old.entries p) }
+fn remove(pipes: &mut BTreeMap<usize, Channel>, ending: Option<usize>)
+    ensures { (p : ℕ) → pipe_kept pipes.new.entries p ≡ (if counts.is_pipe p ending then None else pipe_kept pipes.old.entries p) }
 {
-    let _ = pipes.remove(&pipe);
+    if let Some(pipe) = ending {
+        let _ = pipes.remove(&pipe);
+    }
 }
 
-/// Removes the pipe of a descriptor that is closed, if no descriptor that stays refers to an end of it.
-fn let_go_of(
+/// Closes a descriptor, if it is one of those that go.
+fn close_one(
     pid: u32,
     closing: Closing,
-    held: &[Held],
-    entries: &Slab<Entry>,
-    pipes: &mut BTreeMap<usize, Channel>,
     h: &Held,
+    entries: &mut Slab<Entry>,
+    pipes: &mut BTreeMap<usize, Channel>,
 )
-    ensures { (p : ℕ) → pipe_kept pipes.new.entries p
-        ≡ (if counts.goes_with pid closing held.now entries.now p h.now then None else pipe_kept pipes.old.entries p) }
+    ensures at { (k : ℕ) → slab.get entries.new k
+        ≡ (if counts.closes pid closing k h.now then counts.lowered (slab.get entries.old k) else slab.get entries.old k) }
+    ensures pipes { (p : ℕ) → pipe_kept pipes.new.entries p
+        ≡ (if counts.takes pid closing entries.old p h.now then None else pipe_kept pipes.old.entries p) }
+    ensures room { (n : ℕ) → slab.HasRoomFor entries.old n → slab.HasRoomFor entries.new n }
 {
     if !goes(pid, closing, &h.descriptor) {
         return;
     }
-    let Some(pipe) = pipe_named(entries, h.key) else {
-        return;
-    };
-    if is_held(pid, closing, held, entries, pipe) {
-        return;
-    }
-    remove(pipes, pipe);
+    remove(pipes, ending(entries, h.key));
+    release(entries, h.key);
 }
 
-/// Removes the pipes to whose ends only descriptors that are closed refer.
-fn let_go_each(
+/// Closes those of these descriptors that go, one after another.
+#[tactic(auto, using(crate::proofs::Going::begins, crate::proofs::Going::ends))]
+fn close_each(
     pid: u32,
     closing: Closing,
     held: &[Held],
-    entries: &Slab<Entry>,
+    entries: &mut Slab<Entry>,
     pipes: &mut BTreeMap<usize, Channel>,
 )
-    ensures { (p : ℕ) → pipe_kept pipes.new.entries p
-        ≡ counts.pipe_left pid closing held.now entries.now p held.now (pipe_kept pipes.old.entries p) }
+    ensures { Gone pid closing held.now entries.old entries.new pipes.old.entries pipes.new.entries }
 {
-    for h in held {
-        let_go_of(pid, closing, held, entries, pipes, h);
+    let mut rest = held;
+    'held: while let Some((h, others)) = rest.split_first() {
+        close_one(pid, closing, h, entries, pipes);
+        rest = others;
     }
 }
 
@@ -211,9 +218,9 @@ fn keep(pid: u32, closing: Closing, held: &mut Vec<Held>)
     held.retain(|h| stays(pid, closing, h));
 }
 
-/// Closes descriptors of a process (XSH close). An entry goes with the last descriptor that refers to it, and a pipe
-/// with the last descriptor that refers to one of its ends. What further descriptors name, which are no longer or not
-/// yet in the list, stays.
+/// Closes descriptors of a process (XSH close), of which this is the table. An entry goes with the last descriptor that
+/// refers to it, and a pipe with the last descriptor that refers to one of its ends, of whatever process: that is known
+/// by the counts, and no other table is gone through.
 pub fn close(
     pid: u32,
     closing: Closing,
@@ -223,17 +230,20 @@ pub fn close(
 )
     ensures held { held.new.items ≡ counts.held_left pid closing held.old.items }
     ensures listed { listed held.new.items ≡ closings.descriptors_left pid closing (listed held.old.items) }
+    ensures at { (k : ℕ) → slab.get entries.new k ≡ counts.released pid closing k held.old.items (slab.get entries.old k) }
     ensures counted { (more : List Held) → IsCounted entries.old (more ++ held.old.items)
         → IsCounted entries.new (more ++ held.new.items) }
     ensures linked { (more : List Held) (es : List TheDescription) → IsCounted entries.old (more ++ held.old.items)
         → Linked (more ++ held.old.items) entries.old es → Linked (more ++ held.new.items) entries.new es }
     ensures paired { (made : ℕ) → IsPaired made entries.old → IsPaired made entries.new }
-    ensures pipes { (es : List TheDescription) (ps : Pipes) → Linked held.old.items entries.old es
-        → PipesAgree pipes.old.entries ps → PipesAgree pipes.new.entries (closings.pipes_left pid closing (listed held.old.items) es ps) }
+    ensures pipes { (more : List Held) (made : ℕ) (es : List TheDescription) (ps : Pipes) → NoneOf pid more
+        → IsPaired made entries.old → IsCounted entries.old (more ++ held.old.items)
+        → Linked (more ++ held.old.items) entries.old es → PipesAgree pipes.old.entries ps
+        → PipesAgree pipes.new.entries (closings.pipes_left pid closing (listed (more ++ held.old.items)) es ps) }
+    ensures room { (n : ℕ) → slab.HasRoomFor entries.old n → slab.HasRoomFor entries.new n }
     ensures len { vec_len held.new ≤ vec_len held.old }
     ensures capacity { vec_capacity held.new ≡ vec_capacity held.old }
 {
-    let_go_each(pid, closing, held, entries, pipes);
-    release_each(pid, closing, held, entries);
+    close_each(pid, closing, held, entries, pipes);
     keep(pid, closing, held);
 }

@@ -9,7 +9,8 @@ use sh_pipe::PipeFault;
 use std::alloc::AllocError;
 use thiserror::Error;
 
-/// Why a call on a kernel was refused. After a refusal nothing has changed, but that [`KernelFault::BrokenPipe`] comes with a signal.
+/// Why a call on a kernel was refused. After a refusal nothing has changed, but that [`KernelFault::BrokenPipe`] comes with a signal, and
+/// [`KernelFault::WouldWait`] may where a background process reads the terminal.
 #[derive(Clone, Copy, Debug, PartialEq, Eq, Error)]
 pub enum KernelFault {
     /// The process has no such descriptor, or it isn't open for that (EBADF).
@@ -30,6 +31,9 @@ pub enum KernelFault {
     /// The pipe has no reader (EPIPE). The writer was sent SIGPIPE, which ends it unless it ignores or catches that signal.
     #[error("broken pipe")]
     BrokenPipe,
+    /// A background process, which SIGTTIN can't stop, reads the terminal (EIO).
+    #[error("input/output error")]
+    InputOutput,
     /// The files refuse it.
     #[error("{0}")]
     File(FileFault),

@@ -1,14 +1,13 @@
 //! Descriptors and open file descriptions as they are kept.
-ghost use Rattle.std.specs.Prelude.{◌≡◌, ◌≢◌, ◌+◌, ℕ, List, None, Some, if◌then◌else◌};
+ghost use Rattle.std.specs.Prelude.{◌≡◌, ◌≢◌, ◌+◌, ℕ, List, None, Some};
 ghost use Rattle.slab.specs.Slab as slab;
 ghost use Rattle.sh_kernel_descriptors.specs.Kept.{Among, IsCounted, IsPaired, Linked, description_at, other_at};
 ghost use Rattle.sh_kernel_descriptors.specs.Reading.{with_offset};
 ghost use Rattle.sh_kernel_descriptors.specs.declared.description.Description.{Description as TheDescription};
-ghost use Rattle.sh_kernel_descriptors.specs.Counts.{closes, joined, lowered, moved, raised, released, shared};
+ghost use Rattle.sh_kernel_descriptors.specs.Counts.{fits, is_last, joined, lowered, moved, raised, shared};
 
-use crate::closing::goes;
 use crate::description::Description;
-use crate::descriptor::{Closing, Descriptor};
+use crate::descriptor::Descriptor;
 use slab::Slab;
 
 /// A descriptor that is kept, and the key of its open file description.
@@ -76,6 +75,16 @@ pub(crate) fn join(entries: &mut Slab<Entry>, key: usize, other: usize)
     }
 }
 
+/// Whether so many descriptors more can be counted that name the entry of a key.
+pub fn may_share(entries: &Slab<Entry>, key: usize, more: usize) -> bool
+    ensures { result ≡ fits more (slab.get entries.now key) }
+{
+    match entries.get(key) {
+        Some(entry) => entry.count <= usize::MAX - more,
+        None => true,
+    }
+}
+
 /// Counts one more descriptor, which names the entry that this one names.
 pub(crate) fn share(entries: &mut Slab<Entry>, h: &Held)
     ensures at { slab.get entries.new h.now.key ≡ raised (slab.get entries.old h.now.key) }
@@ -86,10 +95,21 @@ pub(crate) fn share(entries: &mut Slab<Entry>, h: &Held)
     }
 }
 
+/// Whether one descriptor at most names the entry of a key.
+pub(crate) fn is_last(entries: &Slab<Entry>, key: usize) -> bool
+    ensures { result ≡ is_last (slab.get entries.now key) }
+{
+    match entries.get(key) {
+        Some(entry) => entry.count <= 1,
+        None => true,
+    }
+}
+
 /// Counts one descriptor less at a key; the entry goes with the last one.
-fn release(entries: &mut Slab<Entry>, key: usize)
+pub(crate) fn release(entries: &mut Slab<Entry>, key: usize)
     ensures at { slab.get entries.new key ≡ lowered (slab.get entries.old key) }
     ensures others { (k : ℕ) → k ≢ key → slab.get entries.new k ≡ slab.get entries.old k }
+    ensures room { (n : ℕ) → slab.HasRoomFor entries.old n → slab.HasRoomFor entries.new n }
 {
     if let Some(entry) = entries.get_mut(key) {
         if entry.count > 1 {
@@ -106,25 +126,6 @@ pub(crate) fn share_each(held: &[Held], entries: &mut Slab<Entry>)
 {
     for h in held {
         share(entries, h);
-    }
-}
-
-/// Releases the entry of a descriptor that is closed.
-fn release_of(pid: u32, closing: Closing, h: &Held, entries: &mut Slab<Entry>)
-    ensures { (k : ℕ) → slab.get entries.new k
-        ≡ (if closes pid closing k h.now then lowered (slab.get entries.old k) else slab.get entries.old k) }
-{
-    if goes(pid, closing, &h.descriptor) {
-        release(entries, h.key);
-    }
-}
-
-/// Releases the entries of the descriptors that are closed.
-pub(crate) fn release_each(pid: u32, closing: Closing, held: &[Held], entries: &mut Slab<Entry>)
-    ensures { (k : ℕ) → slab.get entries.new k ≡ released pid closing k held.now (slab.get entries.old k) }
-{
-    for h in held {
-        release_of(pid, closing, h, entries);
     }
 }
 

@@ -1,13 +1,12 @@
 //! Processes by their numbers.
-ghost use Rattle.std.specs.Prelude.{◌≡◌, ◌≤◌, ◌<◌, ◌++◌, ℕ, List, length, drop, IfOk, OnOk, OnErr, vec_len, vec_capacity, option_copied};
-ghost use Rattle.slab.specs.Slab as slab;
+ghost use Rattle.std.specs.Prelude.{◌≡◌, ◌++◌, ℕ, List, IfOk, true};
 ghost use Rattle.sh_kernel_descriptors.specs.Counts as counts;
-ghost use Rattle.sh_kernel_descriptors.specs.Kept.{IsCounted, IsPaired, Linked, listed};
+ghost use Rattle.sh_kernel_descriptors.specs.Kept.{IsCounted, IsPaired, Linked, Within};
 ghost use Rattle.sh_kernel_descriptors.specs.declared.description.Description.{Description as TheDescription};
 ghost use Rattle.sh_kernel_descriptors.specs.Processes as processes;
 
 use crate::descriptor::Descriptor;
-use crate::kept::{Entry, Held, share_each};
+use crate::kept::{Entry, Held, may_share, share_each};
 use crate::process::{Process, Status};
 use slab::Slab;
 use std::alloc::{AllocError, Global};
@@ -38,7 +37,7 @@ pub fn status_at(all: &[Process], pid: u32) -> Option<Status>
     Some(process_at(all, pid)?.status)
 }
 
-fn is_live(status: Status) -> bool
+pub(crate) fn is_live(status: Status) -> bool
     ensures { result ≡ processes.is_live status }
 {
     match status {
@@ -62,20 +61,6 @@ pub fn lives(all: &[Process], pid: u32) -> bool
     process_at(all, pid).is_some_and(|process| is_living(&process))
 }
 
-fn live_count(all: &[Process]) -> usize
-    ensures { result ≡ processes.live_count all.now }
-{
-    all.iter().filter(|p| is_living(p)).count()
-}
-
-/// Whether there may be one more process: fewer than [`MAX_LIVE`] live, and its number is at most
-/// [`MAX_PID`].
-pub fn may_fork(all: &[Process]) -> bool
-    ensures { result ≡ processes.may_fork all.now }
-{
-    live_count(all) < MAX_LIVE && all.len() <= MAX_PID - FIRST_PID as usize
-}
-
 /// The number of the parent of a process; 1 where the process that made it has ended.
 pub fn parent_at(all: &[Process], pid: u32) -> Option<u32>
     ensures { result ≡ processes.parent_at all.now pid }
@@ -88,7 +73,7 @@ pub fn parent_at(all: &[Process], pid: u32) -> Option<u32>
 }
 
 /// Gives a process a status.
-pub fn set_status(all: &mut Vec<Process>, pid: u32, status: Status)
+pub(crate) fn set_status(all: &mut Vec<Process>, pid: u32, status: Status)
     ensures { all.new.items ≡ processes.with_status all.old.items pid status }
 {
     if pid < FIRST_PID {
@@ -120,7 +105,7 @@ fn is_copied(pid: u32, h: &Held) -> bool
     h.descriptor.pid == pid && h.descriptor.number.is_some()
 }
 
-/// The descriptors of a process that a fork copies, as those of another process.
+/// The descriptors of this table that a fork copies, as those of another process.
 fn copies(alloc: Global, held: &[Held], pid: u32, child: u32) -> Result<Vec<Held>, AllocError>
     ensures { IfOk result (λ v. v.items ≡ counts.copies held.now pid child) }
 {
@@ -130,50 +115,43 @@ fn copies(alloc: Global, held: &[Held], pid: u32, child: u32) -> Result<Vec<Held
         .collect(alloc)
 }
 
-/// Adds the descriptors that a fork copies to the list. The only error is want of memory, after which it is as it was.
-fn append_copies(
-    alloc: Global,
-    held: &mut Vec<Held>,
-    pid: u32,
-    child: u32,
-) -> Result<(), AllocError>
-    ensures ok { OnOk result (held.new.items ≡ held.old.items ++ counts.copies held.old.items pid child) }
-    ensures err { OnErr result (held.new.items ≡ held.old.items) }
+/// Whether these descriptors can be counted beside those that there are.
+fn may_come(entries: &Slab<Entry>, held: &[Held]) -> bool
+    ensures { result ≡ counts.may_come entries.now held.now }
 {
-    let mut more = copies(alloc, held, pid, child)?;
-    held.append(&mut more)
+    let more = held.len();
+    held.iter().all(|h| may_share(entries, h.key, more))
 }
 
-/// Counts the descriptors of the list from a place on.
-fn share_from(held: &[Held], from: usize, entries: &mut Slab<Entry>)
-    requires { from ≤ length held.now }
-    ensures short { length held.now < 18446744073709551615 }
-    ensures at { (k : ℕ) → slab.get entries.new k ≡ counts.shared k (drop from held.now) (slab.get entries.old k) }
-{
-    share_each(&held[from..], entries);
-}
-
-/// Adds the descriptors that a fork copies for the new process. The only error is want of memory, after which
-/// nothing has changed.
-pub fn copy_all(
+/// The table of a process that another one makes, of which this is the table (XSH fork): a copy of each descriptor but for
+/// those that are set aside. They aren't counted yet; [`share_copies`] does that. The only error is want of memory.
+pub fn copy_table(
     alloc: Global,
-    held: &mut Vec<Held>,
-    entries: &mut Slab<Entry>,
+    held: &[Held],
+    entries: &Slab<Entry>,
     pid: u32,
     child: u32,
-) -> Result<(), AllocError>
-    ensures listed { OnOk result (listed held.new.items ≡ listed held.old.items ++ processes.copies (listed held.old.items) pid child) }
-    ensures counted { OnOk result (IsCounted entries.old held.old.items → IsCounted entries.new held.new.items) }
-    ensures linked { OnOk result ((es : List TheDescription) → Linked held.old.items entries.old es
-        → Linked held.new.items entries.new es) }
-    ensures paired { OnOk result ((made : ℕ) → IsPaired made entries.old → IsPaired made entries.new) }
-    ensures held { OnErr result (held.new.items ≡ held.old.items) }
-    ensures entries { OnErr result (entries.new ≡ entries.old) }
+) -> Result<Vec<Held>, AllocError>
+    ensures items { IfOk result (λ v. v.items ≡ counts.copies held.now pid child) }
+    ensures room { IfOk result (λ v. counts.may_come entries.now v.items ≡ true) }
 {
-    let before = held.as_slice().len();
-    append_copies(alloc, held, pid, child)?;
-    share_from(held, before, entries);
-    Ok(())
+    let table = copies(alloc, held, pid, child)?;
+    if !may_come(entries, table.as_slice()) {
+        return Err(AllocError);
+    }
+    Ok(table)
+}
+
+/// Counts the descriptors that a fork copied, where [that can be done](copy_table).
+pub fn share_copies(copied: &[Held], entries: &mut Slab<Entry>)
+    ensures counted { (all hs : List Held) (pid child : ℕ) → copied.now ≡ counts.copies hs pid child
+        → counts.may_come entries.old copied.now ≡ true → Within hs all
+        → IsCounted entries.old all → IsCounted entries.new (all ++ copied.now) }
+    ensures linked { (all hs : List Held) (pid child : ℕ) (es : List TheDescription) → copied.now ≡ counts.copies hs pid child
+        → Within hs all → Linked all entries.old es → Linked (all ++ copied.now) entries.new es }
+    ensures paired { (made : ℕ) → IsPaired made entries.old → IsPaired made entries.new }
+{
+    share_each(copied, entries);
 }
 
 fn is_child(all: &[Process], pid: u32, child: u32) -> bool

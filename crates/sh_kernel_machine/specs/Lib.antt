@@ -1,2 +1,3 @@
+pub mod Tables
 pub mod Machine
 pub mod Signals

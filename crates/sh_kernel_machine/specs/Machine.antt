@@ -12,6 +12,7 @@ use Rattle.sh_kernel_descriptors.specs.declared.fault.KernelFault.TheVariants.{N
 use Rattle.sh_kernel_descriptors.specs.declared.kept.Entry.{Entry}
 use Rattle.sh_kernel_descriptors.specs.declared.kept.Held.{Held}
 use Rattle.sh_kernel_descriptors.specs.declared.process.Process.{Process}
+use Rattle.sh_kernel_machine.specs.Tables.{SameTables}
 
 -- a description is at a key, and its key may be used again; a pipe that is left is listed with its number. How many
 -- descriptions and pipes were ever made is counted
@@ -24,10 +25,10 @@ pub record MachineKept : Type 0 where
   pub piped : ℕ
   pub files : FileMap
 
--- what is kept agrees with all that was ever made, as far as descriptors name it
+-- what is kept agrees with all that was ever made, as far as descriptors name it; the descriptors of each process are kept in their order
 pub record StandsAt (kept : MachineKept) (s : MachineState) : Type 0 where
   pub processes : kept.processes ≡ s.processes
-  pub descriptors : listed kept.held ≡ s.descriptors
+  pub descriptors : SameTables (listed kept.held) s.descriptors
   pub descriptions : Linked kept.held kept.entries s.descriptions
   pub described : kept.described ≡ length s.descriptions
   pub pipes : PipesAgree kept.pipes s.pipes

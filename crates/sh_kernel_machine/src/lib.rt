@@ -2,5 +2,6 @@
 #![tactic(auto)]
 
 mod machine;
+mod tables;
 
 pub use machine::Machine;

@@ -4,14 +4,18 @@ mod processes;
 
 ghost use Rattle.sh_base.specs.Memory.{no_memory};
 ghost use Rattle.std.specs.Prelude.{◌≡◌};
-ghost use Rattle.std.specs.Prelude.{length, ◌+◌, ◌<◌, ◌≢◌, IfErr, IfNone, IfOk, IfSome, None, false, OnErr, OnOk, Some, ℕ, List, option_copied, slice_get};
+ghost use Rattle.std.specs.Prelude.{true, length, ◌+◌, ◌<◌, ◌≢◌, IfErr, IfNone, IfOk, IfSome, None, false, OnErr, OnOk, Some, ℕ, List, option_copied, slice_get};
 
+use crate::tables::{
+    Tables, add_in, add_pipe_in, close_in, end_in, find_in, first_table, refer_in, rename_in,
+    reserve_in,
+};
 use sh_files::{FileFault, Files, MAX_LENGTH, Opening};
 use sh_kernel_descriptors::{
-    Channel, Closing, Description, DescriptorRef, Entry, Held, KernelFault, Process, Status,
-    Target, add, add_pipe, close, described, description_of, fault_of_file, find, has_reader,
-    has_writer, is_allowed, is_description, lives, move_to, read_file, read_pipe, refer, rename,
-    target_of, the_terminal, to_terminal, write_node, write_pipe, write_start,
+    Channel, Closing, Description, DescriptorRef, Entry, Held, KernelFault, ProcessList, Target,
+    described, description_of, fault_of_file, has_reader, has_writer, is_allowed, is_description,
+    lives, may_share, move_to, read_file, read_pipe, target_of, the_terminal, write_node,
+    write_pipe, write_start,
 };
 use slab::Slab;
 use std::alloc::{AllocError, Global};
@@ -42,8 +46,9 @@ const FOR_READING: Opening = Opening {
 #[derive(Drop)]
 pub struct Machine {
     alloc: Global,
-    processes: Vec<Process>,
-    held: Vec<Held>,
+    processes: ProcessList,
+    /// The descriptors, each process's in a table of its own.
+    held: Tables,
     entries: Slab<Entry>,
     /// An element of no size for each description that was ever made. How many there are is the number of the next.
     described: Vec<()>,
@@ -56,6 +61,7 @@ pub struct Machine {
 impl Model for Machine {
     ghost use Rattle.std.specs.Prelude.{vec_len};
     ghost use Rattle.sh_kernel_machine.specs.Machine.{MachineKept};
+    ghost use Rattle.sh_kernel_machine.specs.Tables.{AreOwn, held_in};
     ghost use Rattle.sh_kernel_descriptors.specs.Kept.{IsCounted, IsPaired};
     ghost use Rattle.sh_files_image.specs.Codes.{map_code};
     ghost use Rattle.std.specs.Coded.{codes};
@@ -65,8 +71,8 @@ impl Model for Machine {
     ghost coded = { Prim.hlevel (codes, map_code) };
 
     ghost view = { λ m. record {
-      processes = m.processes.items;
-      held = m.held.items;
+      processes = m.processes.all;
+      held = held_in m.held.entries;
       entries = m.entries;
       described = vec_len m.described;
       pipes = m.pipes.entries;
@@ -74,7 +80,7 @@ impl Model for Machine {
       files = m.files;
     } };
 
-    ghost invariant = { λ m. IsCounted m.entries m.held.items × IsPaired (vec_len m.piped) m.entries };
+    ghost invariant = { λ m. IsCounted m.entries (held_in m.held.entries) × IsPaired (vec_len m.piped) m.entries × AreOwn m.held.entries };
 }
 
 impl Machine {
@@ -88,6 +94,8 @@ impl Machine {
     ghost use Rattle.sh_kernel_machine.specs.Machine.{GivesOrLacks, StandsAt};
     ghost use Rattle.sh_kernel_descriptors.specs.Reading.{on_pipes, read_call, read_target};
     ghost use Rattle.sh_kernel_descriptors.specs.Descriptors as names;
+    ghost use Rattle.sh_kernel_descriptors.specs.Counts as counts;
+    ghost use Rattle.std.specs.Option.{option_map};
     ghost use Rattle.sh_kernel_descriptors.specs.Writing.{write_call, write_end, write_file, write_pipe, write_target};
     ghost use Rattle.sh_kernel_descriptors.specs.Writing.{write_node as node_written};
 
@@ -96,13 +104,8 @@ impl Machine {
     pub fn new(alloc: Global, files: Files) -> Result<Self, AllocError>
         ensures { IfOk result (λ machine. StandsAt machine (starting files)) }
     {
-        let mut processes = Vec::with_capacity(alloc, 1)?;
-        processes.push(Process {
-            maker: 1,
-            status: Status::Running,
-        })?;
+        let processes = ProcessList::new(alloc)?;
         let mut entries = Slab::with_capacity(alloc, 1)?;
-        let mut held = Vec::with_capacity(alloc, 3)?;
         let mut described = Vec::with_capacity(alloc, 1)?;
         let key = entries.insert_reserved(Entry {
             description: the_terminal(),
@@ -110,18 +113,7 @@ impl Machine {
             other: None,
         });
         described.push_reserved(());
-        held.push(Held {
-            descriptor: to_terminal(0),
-            key,
-        })?;
-        held.push(Held {
-            descriptor: to_terminal(1),
-            key,
-        })?;
-        held.push(Held {
-            descriptor: to_terminal(2),
-            key,
-        })?;
+        let held = first_table(alloc, key)?;
         Ok(Machine {
             alloc,
             processes,
@@ -199,13 +191,21 @@ impl Machine {
         ensures { (s : MachineState) → StandsAt self.old s
             → StandsAt self.new (after_close s pid closing) }
     {
-        close(
+        close_in(
+            &mut self.held,
             pid,
             closing,
-            &mut self.held,
             &mut self.entries,
             &mut self.pipes,
         );
+    }
+
+    /// Closes all descriptors of a process, which keeps no table.
+    fn end_table(&mut self, pid: u32)
+        ensures { (s : MachineState) → StandsAt self.old s
+            → StandsAt self.new (after_close s pid Closing.All) }
+    {
+        end_in(&mut self.held, pid, &mut self.entries, &mut self.pipes);
     }
 
     /// Writes to a pipe that has a reader.
@@ -351,8 +351,9 @@ impl Machine {
         ensures some { (s : MachineState) → StandsAt self.now s → IfSome result (λ h.
             names.description_number s.descriptors pid name ≡ Some h.descriptor.description) }
         ensures among { IfSome result (λ h. Among h self.now.held) }
+        ensures found { result ≡ counts.find self.now.held pid name }
     {
-        find(&self.held, pid, name)
+        find_in(&self.held, pid, name)
     }
 
     /// The description to which a descriptor refers, which is kept.
@@ -366,7 +367,8 @@ impl Machine {
 
     /// The number of the description to which a descriptor refers.
     fn number_of(&self, pid: u32, name: DescriptorRef) -> Option<usize>
-        ensures { (s : MachineState) → StandsAt self.now s
+        ensures found { result ≡ option_map (λ h. h.descriptor.description) (counts.find self.now.held pid name) }
+        ensures number { (s : MachineState) → StandsAt self.now s
             → result ≡ names.description_number s.descriptors pid name }
     {
         match self.look(pid, name) {
@@ -404,18 +406,22 @@ impl Machine {
     /// Makes a number refer to the description to which a descriptor refers. The only error is want of memory, after
     /// which the machine is as it was.
     fn refer_to(&mut self, pid: u32, to: u8, h: Held) -> Result<(), AllocError>
-        requires { Among h self.old.held }
+        requires { Among h self.old.held
+            × (counts.stays pid (Closing.Named (DescriptorRef.Number to)) h ≡ true) }
         ensures ok { (s : MachineState) → StandsAt self.old s
             → OnOk result (StandsAt self.new (with_number s pid to h.descriptor.description)) }
         ensures err { (s : MachineState) → StandsAt self.old s
             → OnErr result (StandsAt self.new s) }
     {
-        self.held.reserve(1)?;
-        refer(
+        if !may_share(&self.entries, h.key, 1) {
+            return Err(AllocError);
+        }
+        reserve_in(&mut self.held, self.alloc, pid, 1)?;
+        refer_in(
+            &mut self.held,
             pid,
             to,
             h,
-            &mut self.held,
             &mut self.entries,
             &mut self.pipes,
         );
@@ -434,7 +440,7 @@ impl Machine {
         ensures room { (s : MachineState) → StandsAt self.old s
             → LacksWhereGiven result (pipe_call s pid from to) }
     {
-        if !lives(&self.processes, pid) {
+        if !lives(self.processes.as_slice(), pid) {
             return Err(KernelFault::NoProcess);
         }
         if !(is_allowed(from) && is_allowed(to)) {
@@ -453,18 +459,18 @@ impl Machine {
         ensures err { (s : MachineState) → StandsAt self.old s
             → OnErr result (StandsAt self.new s) }
     {
-        self.held.reserve(2)?;
+        reserve_in(&mut self.held, self.alloc, pid, 2)?;
         self.entries.reserve(2)?;
         self.described.reserve(2)?;
         self.piped.reserve(1)?;
-        add_pipe(
+        add_pipe_in(
+            &mut self.held,
             self.alloc,
             pid,
             from,
             to,
             self.described.len(),
             self.piped.len(),
-            &mut self.held,
             &mut self.entries,
             &mut self.pipes,
         )?;
@@ -493,7 +499,7 @@ impl Machine {
         ensures { (s : MachineState) → StandsAt self.old s → GivesOrLacks result self.new s
             (open_call s pid directory.now path.now how append number) }
     {
-        if !lives(&self.processes, pid) {
+        if !lives(self.processes.as_slice(), pid) {
             return Err(KernelFault::NoProcess);
         }
         if !is_allowed(number) {
@@ -515,7 +521,7 @@ impl Machine {
         ensures { (s : MachineState) → StandsAt self.old s → GivesOrLacks result self.new s
             (open_result s pid how append number (opened s.files directory.now path.now how)) }
     {
-        self.held.reserve(1)?;
+        reserve_in(&mut self.held, self.alloc, pid, 1)?;
         self.entries.reserve(1)?;
         self.described.reserve(1)?;
         let node = match self.files.open(directory, path, how) {
@@ -523,12 +529,12 @@ impl Machine {
             Err(fault) => return Err(fault_of_file(fault)),
         };
         let target = target_of(&self.files, node);
-        add(
+        add_in(
+            &mut self.held,
             pid,
             number,
             self.described.len(),
             description_of(target, how, append),
-            &mut self.held,
             &mut self.entries,
             &mut self.pipes,
         );
@@ -548,7 +554,7 @@ impl Machine {
         ensures room { (s : MachineState) → StandsAt self.old s
             → LacksWhereGiven result (here_call s pid bytes.now number) }
     {
-        if !lives(&self.processes, pid) {
+        if !lives(self.processes.as_slice(), pid) {
             return Err(KernelFault::NoProcess);
         }
         if !is_allowed(number) {
@@ -567,7 +573,7 @@ impl Machine {
         if bytes.len() > MAX_LENGTH {
             return Err(KernelFault::File(FileFault::TooLarge));
         }
-        self.held.reserve(1)?;
+        reserve_in(&mut self.held, self.alloc, pid, 1)?;
         self.entries.reserve(1)?;
         self.described.reserve(1)?;
         let body = Vec::from_slice(self.alloc, bytes)?;
@@ -576,12 +582,12 @@ impl Machine {
             Err(fault) => return Err(fault_of_file(fault)),
         };
         let target = target_of(&self.files, node);
-        add(
+        add_in(
+            &mut self.held,
             pid,
             number,
             self.described.len(),
             description_of(target, FOR_READING, false),
-            &mut self.held,
             &mut self.entries,
             &mut self.pipes,
         );
@@ -608,7 +614,7 @@ impl Machine {
         ensures { (s : MachineState) → StandsAt self.old s → StandsAt self.new
             (record s { descriptors = after_renaming s.descriptors pid name number }) }
     {
-        rename(&mut self.held, pid, name, number);
+        rename_in(&mut self.held, pid, name, number);
     }
 
     /// Gives a descriptor that was set aside a number again; what the number referred to is closed.

@@ -9,7 +9,9 @@ use crate::groups::{has_pid, has_stopped, is_orphaned, is_stopped, member_at};
 use crate::member::Member;
 use crate::target::SignalTarget;
 use sh_base::NoMemory;
-use sh_kernel_descriptors::{Process, Status, is_running, lives, parent_at, set_status, status_at};
+use sh_kernel_descriptors::{
+    Process, ProcessList, Status, is_running, lives, parent_at, status_at,
+};
 use sh_signal::Signal;
 use std::alloc::Global;
 
@@ -31,19 +33,19 @@ pub(crate) fn put_member(members: &mut Vec<Member>, member: Member)
 }
 
 /// Puts a process back to which a signal was sent.
-fn put_recipient(processes: &mut Vec<Process>, members: &mut Vec<Member>, to: Recipient)
-    ensures { record { processes = processes.new.items; members = members.new.items }
-        ≡ with_recipient (record { processes = processes.old.items; members = members.old.items }) to }
+fn put_recipient(processes: &mut ProcessList, members: &mut Vec<Member>, to: Recipient)
+    ensures { record { processes = processes.new.all; members = members.new.items }
+        ≡ with_recipient (record { processes = processes.old.all; members = members.old.items }) to }
 {
-    set_status(processes, to.member.pid, to.status);
+    processes.set_status(to.member.pid, to.status);
     put_member(members, to.member);
 }
 
 /// A process receives a signal.
 #[tactic(auto, unfolding(crate::specs::Sending::after_receipt))]
-fn receive(processes: &mut Vec<Process>, members: &mut Vec<Member>, signal: Signal, pid: u32)
-    ensures { record { processes = processes.new.items; members = members.new.items }
-        ≡ after_receipt (record { processes = processes.old.items; members = members.old.items }) signal pid }
+fn receive(processes: &mut ProcessList, members: &mut Vec<Member>, signal: Signal, pid: u32)
+    ensures { record { processes = processes.new.all; members = members.new.items }
+        ≡ after_receipt (record { processes = processes.old.all; members = members.old.items }) signal pid }
 {
     let Some(status) = status_at(processes.as_slice(), pid) else {
         return;
@@ -79,13 +81,13 @@ fn is_news(before: Option<Status>, after: Option<Status>) -> bool
 /// Tells the parent of a process, if that has ended or stopped since it had this status.
 #[tactic(auto, unfolding(crate::specs::Sending::after_notice))]
 fn tell_parent(
-    processes: &mut Vec<Process>,
+    processes: &mut ProcessList,
     members: &mut Vec<Member>,
     pid: u32,
     before: Option<Status>,
 )
-    ensures { record { processes = processes.new.items; members = members.new.items }
-        ≡ after_notice (record { processes = processes.old.items; members = members.old.items }) pid before }
+    ensures { record { processes = processes.new.all; members = members.new.items }
+        ≡ after_notice (record { processes = processes.old.all; members = members.old.items }) pid before }
 {
     if !is_news(before, status_at(processes.as_slice(), pid)) {
         return;
@@ -97,9 +99,9 @@ fn tell_parent(
 
 /// Sends a signal to a process.
 #[tactic(auto, unfolding(crate::specs::Sending::after_signal_to))]
-fn send_to(processes: &mut Vec<Process>, members: &mut Vec<Member>, signal: Signal, pid: u32)
-    ensures { record { processes = processes.new.items; members = members.new.items }
-        ≡ after_signal_to (record { processes = processes.old.items; members = members.old.items }) signal pid }
+fn send_to(processes: &mut ProcessList, members: &mut Vec<Member>, signal: Signal, pid: u32)
+    ensures { record { processes = processes.new.all; members = members.new.items }
+        ≡ after_signal_to (record { processes = processes.old.all; members = members.old.items }) signal pid }
 {
     let before = status_at(processes.as_slice(), pid);
     receive(processes, members, signal, pid);
@@ -136,14 +138,14 @@ fn is_reached(to: &SignalTarget, member: Option<Member>) -> bool
 
 /// Sends a signal to those of these processes that it reaches.
 fn send_each(
-    processes: &mut Vec<Process>,
+    processes: &mut ProcessList,
     members: &mut Vec<Member>,
     to: &SignalTarget,
     signal: Signal,
     pids: &[u32],
 )
-    ensures { record { processes = processes.new.items; members = members.new.items }
-        ≡ after_signal_to_each (record { processes = processes.old.items; members = members.old.items }) to.now signal pids.now }
+    ensures { record { processes = processes.new.all; members = members.new.items }
+        ≡ after_signal_to_each (record { processes = processes.old.all; members = members.old.items }) to.now signal pids.now }
 {
     let mut rest = pids;
     'pids: while let Some((pid, others)) = rest.split_first() {
@@ -210,9 +212,9 @@ fn first_abandoned(processes: &[Process], members: &[Member], groups: &[u32]) ->
 
 /// Sends HUP and then CONT to a group.
 #[tactic(auto, unfolding(crate::specs::Sending::after_hang_up))]
-fn hang_up(processes: &mut Vec<Process>, members: &mut Vec<Member>, pids: &[u32], group: u32)
-    ensures { record { processes = processes.new.items; members = members.new.items }
-        ≡ after_hang_up (record { processes = processes.old.items; members = members.old.items }) pids.now group }
+fn hang_up(processes: &mut ProcessList, members: &mut Vec<Member>, pids: &[u32], group: u32)
+    ensures { record { processes = processes.new.all; members = members.new.items }
+        ≡ after_hang_up (record { processes = processes.old.all; members = members.old.items }) pids.now group }
 {
     let to = SignalTarget::Group(group);
     send_each(processes, members, &to, Signal::Hangup, pids);
@@ -221,13 +223,13 @@ fn hang_up(processes: &mut Vec<Process>, members: &mut Vec<Member>, pids: &[u32]
 
 /// Hangs up the groups that are orphaned now.
 fn hang_up_each(
-    processes: &mut Vec<Process>,
+    processes: &mut ProcessList,
     members: &mut Vec<Member>,
     pids: &[u32],
     at_risk: &[u32],
 )
-    ensures { record { processes = processes.new.items; members = members.new.items }
-        ≡ after_hang_ups (record { processes = processes.old.items; members = members.old.items }) pids.now at_risk.now at_risk.now }
+    ensures { record { processes = processes.new.all; members = members.new.items }
+        ≡ after_hang_ups (record { processes = processes.old.all; members = members.old.items }) pids.now at_risk.now at_risk.now }
 {
     let mut at_most = at_risk;
     'groups: while let Some((_, others)) = at_most.split_first() {
@@ -255,9 +257,9 @@ fn leave(processes: &[Process], members: &mut Vec<Member>)
 
 /// What signals have left behind: groups that they orphaned, and processes that have ended.
 #[tactic(auto, unfolding(crate::specs::Sending::after_orphaning))]
-fn settle(processes: &mut Vec<Process>, members: &mut Vec<Member>, pids: &[u32], at_risk: &[u32])
-    ensures { record { processes = processes.new.items; members = members.new.items }
-        ≡ after_orphaning (record { processes = processes.old.items; members = members.old.items }) pids.now at_risk.now }
+fn settle(processes: &mut ProcessList, members: &mut Vec<Member>, pids: &[u32], at_risk: &[u32])
+    ensures { record { processes = processes.new.all; members = members.new.items }
+        ≡ after_orphaning (record { processes = processes.old.all; members = members.old.items }) pids.now at_risk.now }
 {
     hang_up_each(processes, members, pids, at_risk);
     leave(processes.as_slice(), members);
@@ -273,7 +275,7 @@ pub fn is_any_reached(members: &[Member], to: &SignalTarget) -> bool
 /// Sends a signal as [`send`] does, where the numbers of the members and the groups at risk were found before. Takes no memory.
 #[tactic(auto, unfolding(crate::specs::Sending::after_send))]
 pub fn send_prepared(
-    processes: &mut Vec<Process>,
+    processes: &mut ProcessList,
     members: &mut Vec<Member>,
     to: &SignalTarget,
     signal: Signal,
@@ -281,9 +283,9 @@ pub fn send_prepared(
     at_risk: &[u32],
 )
     requires { (pids.now ≡ pids_of members.old.items)
-        × (at_risk.now ≡ groups_at_risk (record { processes = processes.old.items; members = members.old.items })) }
-    ensures { record { processes = processes.new.items; members = members.new.items }
-        ≡ after_send (record { processes = processes.old.items; members = members.old.items }) to.now signal }
+        × (at_risk.now ≡ groups_at_risk (record { processes = processes.old.all; members = members.old.items })) }
+    ensures { record { processes = processes.new.all; members = members.new.items }
+        ≡ after_send (record { processes = processes.old.all; members = members.old.items }) to.now signal }
 {
     send_each(processes, members, to, signal, pids);
     settle(processes, members, pids, at_risk);
@@ -295,14 +297,14 @@ pub fn send_prepared(
 /// of memory, after which nothing has changed.
 pub fn send(
     alloc: Global,
-    processes: &mut Vec<Process>,
+    processes: &mut ProcessList,
     members: &mut Vec<Member>,
     to: &SignalTarget,
     signal: Signal,
 ) -> Result<(), NoMemory>
-    ensures ok { OnOk result (record { processes = processes.new.items; members = members.new.items }
-        ≡ after_send (record { processes = processes.old.items; members = members.old.items }) to.now signal) }
-    ensures processes { OnErr result (processes.new.items ≡ processes.old.items) }
+    ensures ok { OnOk result (record { processes = processes.new.all; members = members.new.items }
+        ≡ after_send (record { processes = processes.old.all; members = members.old.items }) to.now signal) }
+    ensures processes { OnErr result (processes.new.all ≡ processes.old.all) }
     ensures members { OnErr result (members.new.items ≡ members.old.items) }
 {
     let pids = pids_of(alloc, members.as_slice())?;
@@ -319,12 +321,12 @@ pub fn send(
 }
 
 /// A process ends by itself, and its parent gets CHLD.
-fn exit(processes: &mut Vec<Process>, members: &mut Vec<Member>, pid: u32, status: u8)
-    ensures { record { processes = processes.new.items; members = members.new.items }
-        ≡ with_exit (record { processes = processes.old.items; members = members.old.items }) pid status }
+fn exit(processes: &mut ProcessList, members: &mut Vec<Member>, pid: u32, status: u8)
+    ensures { record { processes = processes.new.all; members = members.new.items }
+        ≡ with_exit (record { processes = processes.old.all; members = members.old.items }) pid status }
 {
     let before = status_at(processes.as_slice(), pid);
-    set_status(processes, pid, Status::Exited(status));
+    processes.set_status(pid, Status::Exited(status));
     tell_parent(processes, members, pid, before);
 }
 
@@ -334,14 +336,14 @@ fn exit(processes: &mut Vec<Process>, members: &mut Vec<Member>, pid: u32, statu
 #[tactic(auto, unfolding(crate::specs::Sending::after_end))]
 pub fn end(
     alloc: Global,
-    processes: &mut Vec<Process>,
+    processes: &mut ProcessList,
     members: &mut Vec<Member>,
     pid: u32,
     status: u8,
 ) -> Result<(), NoMemory>
-    ensures ok { OnOk result (record { processes = processes.new.items; members = members.new.items }
-        ≡ after_end (record { processes = processes.old.items; members = members.old.items }) pid status) }
-    ensures processes { OnErr result (processes.new.items ≡ processes.old.items) }
+    ensures ok { OnOk result (record { processes = processes.new.all; members = members.new.items }
+        ≡ after_end (record { processes = processes.old.all; members = members.old.items }) pid status) }
+    ensures processes { OnErr result (processes.new.all ≡ processes.old.all) }
     ensures members { OnErr result (members.new.items ≡ members.old.items) }
 {
     let pids = pids_of(alloc, members.as_slice())?;

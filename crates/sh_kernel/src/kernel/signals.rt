@@ -1,5 +1,5 @@
 //! Signals, process groups and the foreground group.
-ghost use Rattle.std.specs.Prelude.{◌≡◌, ℕ, List, IfOk, OnErr, OnOk};
+ghost use Rattle.std.specs.Prelude.{◌≡◌, ℕ, List, IfOk, OnErr, OnOk, map};
 ghost use Rattle.sh_tty.specs.Happenings as happenings;
 ghost use Rattle.sh_tty.specs.Happenings.{Happening};
 ghost use Rattle.sh_tty.specs.Keys.{key_of, signal_of};
@@ -7,6 +7,7 @@ ghost use Rattle.sh_tty.specs.Terminal as tty;
 ghost use Rattle.sh_tty.specs.Terminal.{Extends};
 
 use super::Kernel;
+use crate::changes::{NumberedStatus, statuses_of};
 use sh_base::NoMemory;
 use sh_kernel_descriptors::KernelFault;
 use sh_kernel_signals::{
@@ -40,6 +41,7 @@ impl Kernel {
     ghost use Rattle.sh_kernel_signals.specs.Sending.{reaches};
     ghost use Rattle.std.specs.List.{list_any};
     ghost use Rattle.sh_kernel_signals.specs.Sending as sending;
+    ghost use Rattle.sh_kernel.specs.Changes.{numbered_status};
     ghost use Rattle.sh_kernel.specs.Calls.{after_key, after_raising, after_set_action, after_set_foreground, after_set_group, after_take_signal, broken_pipe, kill_call};
     ghost use Rattle.sh_kernel.specs.Outcomes.{GivesOrLacks};
     ghost use Rattle.sh_kernel.specs.Signals.{after_signal};
@@ -54,14 +56,36 @@ impl Kernel {
         ensures terminal { self.new.terminal ≡ self.old.terminal }
     {
         let (pids, at_risk) = self.machine.prepare(self.members.as_slice())?;
-        self.machine.send(
-            &mut self.members,
+        let before = statuses_of(self.alloc, &self.machine, pids.as_slice())?;
+        self.deliver(
             to,
             signal,
             pids.as_slice(),
             at_risk.as_slice(),
+            before.as_slice(),
         );
         Ok(())
+    }
+
+    /// Sends a signal to each process that it reaches, and notes which of these processes it has stopped or continued. Takes no memory.
+    fn deliver(
+        &mut self,
+        to: &SignalTarget,
+        signal: Signal,
+        pids: &[u32],
+        at_risk: &[u32],
+        before: &[NumberedStatus],
+    )
+        requires { (pids.now ≡ sending.pids_of self.old.members)
+            × (at_risk.now ≡ sending.groups_at_risk (record { processes = self.old.machine.processes; members = self.old.members }))
+            × (before.now ≡ map (numbered_status self.old.machine.processes) pids.now) }
+        ensures state { (s : KernelState) → StandsAt self.old s
+            → StandsAt self.new (after_signal s to.now signal) }
+        ensures terminal { self.new.terminal ≡ self.old.terminal }
+    {
+        self.machine
+            .send(&mut self.members, to, signal, pids, at_risk);
+        self.changes.note(&self.machine, before);
     }
 
     /// A key comes to the terminal, which takes it into the line that is being typed, and shows it. INTR, QUIT and SUSP
@@ -75,15 +99,28 @@ impl Kernel {
         ensures terminal { Extends self.old.terminal.bytes self.new.terminal.bytes }
     {
         let (pids, at_risk) = self.machine.prepare(self.members.as_slice())?;
+        let before = statuses_of(self.alloc, &self.machine, pids.as_slice())?;
         let raised = type_key(&mut self.terminal, byte)?;
-        self.raise(raised, pids.as_slice(), at_risk.as_slice());
+        self.raise(
+            raised,
+            pids.as_slice(),
+            at_risk.as_slice(),
+            before.as_slice(),
+        );
         Ok(())
     }
 
     /// Sends the foreground group the signal that a key raised.
-    fn raise(&mut self, raised: Option<Signal>, pids: &[u32], at_risk: &[u32])
+    fn raise(
+        &mut self,
+        raised: Option<Signal>,
+        pids: &[u32],
+        at_risk: &[u32],
+        before: &[NumberedStatus],
+    )
         requires { (pids.now ≡ sending.pids_of self.old.members)
-            × (at_risk.now ≡ sending.groups_at_risk (record { processes = self.old.machine.processes; members = self.old.members })) }
+            × (at_risk.now ≡ sending.groups_at_risk (record { processes = self.old.machine.processes; members = self.old.members }))
+            × (before.now ≡ map (numbered_status self.old.machine.processes) pids.now) }
         ensures state { (s : KernelState) → StandsAt self.old s
             → StandsAt self.new (after_raising s raised) }
         ensures terminal { self.new.terminal ≡ self.old.terminal }
@@ -92,8 +129,7 @@ impl Kernel {
             return;
         };
         let to = SignalTarget::Group(self.terminal.foreground());
-        self.machine
-            .send(&mut self.members, &to, signal, pids, at_risk);
+        self.deliver(&to, signal, pids, at_risk, before);
     }
 
     /// Sends SIGPIPE to the writer to a pipe without a reader, and answers so.

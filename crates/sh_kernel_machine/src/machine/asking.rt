@@ -4,8 +4,8 @@ ghost use Rattle.std.specs.Prelude.{◌≡◌, ℕ, List, Some, length, option_c
 use super::Machine;
 use sh_files::Files;
 use sh_kernel_descriptors::{
-    Description, DescriptorRef, Entry, KernelFault, Status, Target, all_children, all_ended,
-    is_of_terminal, is_running, parent_at, pipe_named, read_pipe_waits, status_at,
+    Description, DescriptorRef, Entry, KernelFault, Process, Status, Target, all_children,
+    all_ended, is_of_terminal, is_running, parent_at, pipe_named, read_pipe_waits, status_at,
     write_pipe_waits,
 };
 use sh_pipe::Pipe;
@@ -27,13 +27,21 @@ impl Machine {
     pub fn wait(&self, pid: u32, awaited: &[u32]) -> Result<(), KernelFault>
         ensures { result ≡ wait_answer self.now.processes pid awaited.now }
     {
-        if !all_children(&self.processes, pid, awaited) {
+        if !all_children(self.processes.as_slice(), pid, awaited) {
             return Err(KernelFault::NoProcess);
         }
-        if !all_ended(&self.processes, awaited) {
+        if !all_ended(self.processes.as_slice(), awaited) {
             return Err(KernelFault::WouldWait);
         }
         Ok(())
+    }
+
+    /// All processes that ever were, by their numbers from [`FIRST_PID`](sh_kernel_descriptors::FIRST_PID) on. They are
+    /// lent; takes no memory.
+    pub fn processes(&self) -> &[Process]
+        ensures { result.now ≡ self.now.processes }
+    {
+        self.processes.as_slice()
     }
 
     /// Whether a process runs, is stopped or has ended; `None` where no process ever had this number. Takes
@@ -41,7 +49,7 @@ impl Machine {
     pub fn status(&self, pid: u32) -> Option<Status>
         ensures { result ≡ status_at self.now.processes pid }
     {
-        status_at(&self.processes, pid)
+        status_at(self.processes.as_slice(), pid)
     }
 
     /// The number of a process's parent (XSH getppid): 1 where the process that made it has ended; `None`
@@ -49,7 +57,7 @@ impl Machine {
     pub fn parent(&self, pid: u32) -> Option<u32>
         ensures { result ≡ parent_at self.now.processes pid }
     {
-        parent_at(&self.processes, pid)
+        parent_at(self.processes.as_slice(), pid)
     }
 
     /// The files, lent. Takes no memory.
@@ -200,6 +208,6 @@ impl Machine {
     pub fn is_running(&self, pid: u32) -> bool
         ensures { result ≡ is_running (status_at self.now.processes pid) }
     {
-        is_running(status_at(&self.processes, pid))
+        is_running(status_at(self.processes.as_slice(), pid))
     }
 }

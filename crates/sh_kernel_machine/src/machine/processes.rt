@@ -2,10 +2,9 @@
 ghost use Rattle.std.specs.Prelude.{◌≡◌, IfOk, List, OnErr, OnOk, true, ℕ};
 
 use super::Machine;
+use crate::tables::fork_in;
 use sh_base::NoMemory;
-use sh_kernel_descriptors::{
-    Closing, FIRST_PID, Process, Status, copy_all, has_ended, lives, may_fork,
-};
+use sh_kernel_descriptors::{Closing, FIRST_PID, has_ended, lives};
 use sh_kernel_signals::{Member, SignalTarget, end, groups_at_risk, pids_of, send_prepared};
 use sh_signal::Signal;
 use std::alloc::AllocError;
@@ -23,7 +22,7 @@ impl Machine {
     pub fn lives(&self, pid: u32) -> bool
         ensures { result ≡ processes.lives self.now.processes pid }
     {
-        lives(&self.processes, pid)
+        lives(self.processes.as_slice(), pid)
     }
 
     /// Whether there may be one more process: fewer than [`MAX_LIVE`](sh_kernel_descriptors::MAX_LIVE) live, and the
@@ -31,7 +30,7 @@ impl Machine {
     pub fn may_fork(&self) -> bool
         ensures { result ≡ processes.may_fork self.now.processes }
     {
-        may_fork(&self.processes)
+        self.processes.may_fork()
     }
 
     /// Makes a process (XSH fork), and answers its number, which is above those of all others. The new process has the
@@ -47,13 +46,10 @@ impl Machine {
         ensures err { (s : MachineState) → StandsAt self.old s
             → OnErr result (StandsAt self.new s) }
     {
-        self.processes.reserve(1)?;
-        let child = FIRST_PID + self.processes.len() as u32;
-        copy_all(self.alloc, &mut self.held, &mut self.entries, pid, child)?;
-        self.processes.push_reserved(Process {
-            maker: pid,
-            status: Status::Running,
-        });
+        self.processes.reserve()?;
+        let child = FIRST_PID + self.processes.as_slice().len() as u32;
+        fork_in(&mut self.held, self.alloc, pid, child, &mut self.entries)?;
+        self.processes.start(pid);
         Ok(child)
     }
 
@@ -71,8 +67,8 @@ impl Machine {
         ensures { (s : MachineState) → StandsAt self.old s
             → StandsAt self.new (after_ending s pid) }
     {
-        if has_ended(&self.processes, pid) {
-            self.close_each(pid, Closing::All);
+        if has_ended(self.processes.as_slice(), pid) {
+            self.end_table(pid);
         }
     }
 
@@ -96,7 +92,7 @@ impl Machine {
             × (r.1.items ≡ sending.groups_at_risk (record { processes = self.now.processes; members = members.now }))) }
     {
         let pids = pids_of(self.alloc, members)?;
-        let at_risk = groups_at_risk(self.alloc, &self.processes, members)?;
+        let at_risk = groups_at_risk(self.alloc, self.processes.as_slice(), members)?;
         Ok((pids, at_risk))
     }
 

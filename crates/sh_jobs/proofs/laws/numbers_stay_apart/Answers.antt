@@ -1,4 +1,6 @@
 use Rattle.std.specs.Prelude.{not}
+use Rattle.std.proofs.Common.{refl}
+use Rattle.sh_jobs.specs.Moments.{job_brought_up}
 use Rattle.sh_jobs.specs.News.{is_over}
 use Rattle.sh_jobs.specs.Table.{has_number, job_after_note, job_after_telling}
 use Rattle.sh_jobs.proofs.Apart.{filtered, launched_apart, mapped, noted_keeps, told_keeps}
@@ -18,3 +20,6 @@ returns-clause-remove c = λ jobs number apart. filtered (λ job. not (has_numbe
 
 pub returns-clause-remove_told : goal.returns-clause-remove_told
 returns-clause-remove_told c = λ ps jobs apart. filtered (λ job. not (is_over ps job)) jobs apart
+
+pub returns-clause-bring_up_to_date : goal.returns-clause-bring_up_to_date
+returns-clause-bring_up_to_date c = λ changes jobs apart. mapped (job_brought_up changes) (λ job. refl) jobs apart

@@ -1,8 +1,0 @@
-use Rattle.std.proofs.Common.{◌≡◌, ℕ, drop}
-use Rattle.slab.specs.Slab as slab
-use Rattle.sh_kernel_descriptors.specs.Counts.{released}
-use Rattle.sh_kernel_descriptors.proofs.kept.release_each.Given as goal
-
-abbrev pub invariant-loop-h : goal.invariant-loop-h
-invariant-loop-h l =
-    (k : ℕ) → released l.pid l.closing k (drop l.h-index l.held) (slab.get l.entries k) ≡ released l.pid l.closing k l.held (slab.get l.fn.entries k)
