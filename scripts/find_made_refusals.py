@@ -18,6 +18,11 @@ LISTED = {
     ("sh_parse_words/src/build.rt", "return Err(AllocError);"),
     # A count of open levels, of which the same holds.
     ("sh_token_scanner/src/state.rt", "return Err(AllocError);"),
+    # A count of the descriptors of an open file description that has no place in a usize: they would not fit into memory.
+    ("sh_kernel_descriptors/src/processes.rt", "return Err(AllocError);"),
+    ("sh_kernel_machine/src/machine.rt", "return Err(AllocError);"),
+    # A process's table of descriptors isn't there though it was made just before, which can't be.
+    ("sh_kernel_machine/src/tables.rt", "None => Err(AllocError),"),
 }
 # Lines that make a refusal up, and lines that hand one on or name a type: each run looks whether they are told apart.
 MADE = ["return Err(AllocError);", "Err(_) => Err(NoMemory::from(AllocError)),", "x.ok_or(AllocError)?", "let it = AllocError;", "Err(AllocError {})"]

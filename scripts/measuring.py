@@ -1,7 +1,25 @@
 """What the benchmarks of the built program share: the instructions and the memory of a run, and files of events."""
-import os
 import subprocess
 import sys
+import tempfile
+
+# Runs a program and tells the most memory that it had, in KiB. A process that Python starts counts the memory of Python, which it has
+# until it runs the program; one that this small program starts doesn't.
+MEASURE = r"""
+#include <stdio.h>
+#include <sys/resource.h>
+#include <sys/wait.h>
+#include <unistd.h>
+int main(int count, char **words) {
+    struct rusage used;
+    int status;
+    pid_t child = fork();
+    if (child == 0) { execvp(words[1], words + 1); _exit(127); }
+    if (child < 0 || wait4(child, &status, 0, &used) != child) return 126;
+    fprintf(stderr, "%ld\n", used.ru_maxrss);
+    return WIFEXITED(status) ? WEXITSTATUS(status) : 125;
+}
+"""
 
 
 def write_events(path, turns):
@@ -25,8 +43,10 @@ def instructions(folder, words, statuses=(0,)):
 
 def memory(words):
     """The most memory that a run had, in KiB."""
-    process = subprocess.Popen(words, stdout=subprocess.DEVNULL)
-    _, status, usage = os.wait4(process.pid, 0)
-    if status:
-        sys.exit(f"{words}: {status}")
-    return usage.ru_maxrss
+    with tempfile.TemporaryDirectory() as folder:
+        measure = f"{folder}/measure"
+        subprocess.run(["cc", "-O1", "-x", "c", "-", "-o", measure], input=MEASURE, text=True, check=True)
+        ran = subprocess.run([measure, *words], stdout=subprocess.DEVNULL, stderr=subprocess.PIPE, text=True)
+    if ran.returncode:
+        sys.exit(f"{words}: {ran.returncode} {ran.stderr[-400:]}")
+    return int(ran.stderr.split()[-1])

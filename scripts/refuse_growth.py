@@ -73,6 +73,10 @@ ROWS = [
     ("exec 3>f 4<in; (exec cat <&4) | exec having b >&3; exec 3>&-; cat <f; trap 'echo t' EXIT; (x=1 exec two c); x=1 exec none 2>&1", 70),
     ("trap 'echo \"a $?\"' USR1; trap '' USR2; (kill -s USR1 $$; kill -USR2 $$ 0 none); kill -0 $$ 999 || echo $?; for i in a b; do kill -s USR1 $$; echo $i; done | cat", 50),
     ("trap 'trap \"echo b\" USR2; x=$(kill -s USR2 $$); echo a' USR1; yes >/dev/null & y=$!; (kill -s USR1 $$) & wait $y; echo $?; kill -s STOP $y; kill -CONT $y; kill $y; wait $y 2>f; echo $?; trap 'exit 4' TERM; kill $$; echo no", 70),
+    ("while :; do :; done & (exit 3) | { exit 4; } & jobs; jobs -l %1 %9 %?exit >f; wait %2 %7 %x; echo $?; kill -s STOP %1; jobs; kill -s CONT %1 %8; x=$(: & jobs); echo \"$x\"; kill %%; wait %1; echo $?; jobs", 150),
+    ("trap 'echo t' USR1; while :; do :; done & (kill -s USR1 $$) & wait %7 %1 2>f; echo $?; f() { : & wait %?:; jobs; }; f; (: & : & jobs -p %+); kill %1 %2", 120),
+    ("set -m; ! { kill -s STOP 0; echo a; } | cat; echo $?; jobs -l; kill -s CONT %1; wait %1; echo $?; f() (kill -s STOP 0; exit 3); f 2>f; echo $?; kill -s CONT %1; wait %1; echo $?; cat <f", 120),
+    ("set -m; cat & (trap '' TTIN; cat) & wait $!; echo $?; jobs; kill %1; kill -s CONT %1; wait %1; echo $?; x=$(cat <in) cat </none; yes | head -n 1", 100),
 ]
 
 # scripts of the image that the shell runs, and their turns

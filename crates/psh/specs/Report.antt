@@ -1,7 +1,7 @@
--- What `--report` tells behind the terminal's bytes: a newline, a line for each process in the order of their numbers, and the image of the
--- files. (The lines of the first shell's jobs will stand between; it has none yet.)
+-- What `--report` tells behind the terminal's bytes: a newline, a line for each process in the order of their numbers, the lines of the first
+-- shell's jobs as `jobs -l` writes them, and the image of the files.
 use Rattle.std.specs.Prelude.{ℕ, ◌+◌, List, [], ◌∷◌, ◌++◌, Bool, true, false, take}
-use Rattle.sh_exec.specs.State.{State, files_of, terminal_of}
+use Rattle.sh_exec.specs.State.{State, files_of, job_lines_of, terminal_of}
 use Rattle.sh_exec.specs.Tasks.{first_pid}
 use Rattle.sh_files.specs.Writing.{image_text}
 use Rattle.sh_kernel_descriptors.specs.declared.process.Process.{Process}
@@ -18,7 +18,7 @@ shown_processes ps = take 2147483548 ps
 
 -- ---- all of it
 abbrev pub report_of : {S : Type 0} → State S → List ℕ
-report_of s = 10 ∷ process_lines first_pid (shown_processes s.machine.machine.processes) ++ image_text (files_of s)
+report_of s = 10 ∷ process_lines first_pid (shown_processes s.machine.machine.processes) ++ job_lines_of s ++ image_text (files_of s)
 
 -- what is written of a state
 abbrev pub shown_text : {S : Type 0} → (report : Bool) → State S → List ℕ

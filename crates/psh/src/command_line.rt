@@ -8,12 +8,36 @@ use psh_common::{
 };
 use std::alloc::{AllocError, Global};
 
+/// What help says behind the options: what the two files hold, an example of each, and what the exit statuses mean.
+const HELP_ON_FILES: &str =
+    "IMAGE has the files of the machine. Its lines are `dir PATH` and `file PATH FLAGS LENGTH`;
+that many bytes and a newline follow:
+  psh image 1
+  dir /tmp
+  file /bin/cat r-x 12
+  #!stock cat
+
+  end
+
+EVENTS says who moves, and what is typed:
+  next 20   20 turns, each of the next process that can take one
+  run 0 3   3 turns of the first of the processes that can take one
+  key 03    the key with this byte, in hexadecimal: ^C
+  type ls   a key for each byte
+
+Example:
+  printf 'psh image 1\\nend\\n' >image; echo 'next 20' >events
+  psh -c 'echo hello' image events
+
+Exit status: 0 done, 1 IMAGE or EVENTS is refused, 2 wrong usage, 3 out of memory,
+4 a file can't be read or written. How the script ended --report tells.";
+
 /// The option that asks for a report.
 fn report_option<'a>(alloc: Global) -> Arg<'a> {
     Arg::new(alloc, "report")
         .long("report")
         .action(ArgAction::SetTrue)
-        .help("Tell of each process and of the files, behind the terminal's bytes")
+        .help("Tell of each process, of the jobs and of the files, behind the terminal's bytes")
 }
 
 /// The options and operands of psh but for its words.
@@ -23,6 +47,7 @@ fn command_without_words<'a>(alloc: Global) -> Result<Command<'a>, AllocError> {
             "Runs a shell script over a modelled machine, by stated turns of its processes and stated keys",
         )
         .no_binary_name(true)
+        .after_help(HELP_ON_FILES)
         .arg(text_option(alloc))?
         .arg(letters_option(alloc))?
         .arg(report_option(alloc))?

@@ -1,7 +1,7 @@
 //! The report on a world, which `--report` asks for.
 ghost use Rattle.std.specs.Prelude.{◌≡◌, ◌++◌, OnErr, OnOk};
 ghost use Rattle.sh_world.specs.World.{WorldStands};
-ghost use Rattle.sh_exec.specs.State.{State, files_of};
+ghost use Rattle.sh_exec.specs.State.{State, files_of, job_lines_of};
 ghost use Rattle.sh_files.specs.Writing.{image_text};
 ghost use Rattle.sh_exec.specs.Tasks.{first_pid};
 ghost use Rattle.psh.specs.Report.{process_lines, report_of, shown_processes};
@@ -31,6 +31,17 @@ fn put_processes<S: Stock>(text: &mut Vec<u8>, world: &World<S>) -> Result<(), N
     Ok(())
 }
 
+/// The lines of the first shell's jobs.
+fn put_jobs<S: Stock>(text: &mut Vec<u8>, world: &World<S>) -> Result<(), NoMemory>
+    ensures { (s : State S) → WorldStands world.now s → OnOk result
+        (text.new.items ≡ text.old.items ++ job_lines_of s) }
+{
+    if let Some(lines) = world.job_lines()? {
+        text.extend_from_slice(lines.as_slice())?;
+    }
+    Ok(())
+}
+
 /// The image of the files.
 fn put_files<S: Stock>(text: &mut Vec<u8>, world: &World<S>) -> Result<(), NoMemory>
     ensures { (s : State S) → WorldStands world.now s → OnOk result
@@ -55,6 +66,7 @@ pub fn put_report<S: Stock>(
 {
     let mut text = Vec::from_slice(alloc, b"\n")?;
     put_processes(&mut text, world)?;
+    put_jobs(&mut text, world)?;
     put_files(&mut text, world)?;
     out.extend_from_slice(&text)?;
     Ok(())

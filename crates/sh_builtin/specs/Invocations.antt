@@ -10,7 +10,7 @@ use Rattle.sh_builtin.specs.declared.outcome.Completion.TheVariants.{Done, Kills
 use Rattle.sh_builtin.specs.declared.outcome.Leave.{Leave}
 use Rattle.sh_builtin.specs.declared.outcome.Leave.TheVariants as leave
 use Rattle.sh_builtin.specs.declared.outcome.Outcome.{Outcome}
-use Rattle.sh_builtin.specs.declared.shell.Shell.{Shell}
+use Rattle.sh_builtin_shell.specs.declared.shell.Shell.{Shell}
 use Rattle.sh_kernel.specs.State.{KernelState}
 
 abbrev pub by_name : Builtin → Invocation

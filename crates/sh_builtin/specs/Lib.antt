@@ -1,9 +1,7 @@
 pub mod Builtins
 pub mod Commands
-pub mod Functions
 pub mod Invocations
 pub mod Messages
 pub mod Outcomes
 pub mod Loops
 pub mod Running
-pub mod Shells

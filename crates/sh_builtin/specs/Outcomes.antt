@@ -15,7 +15,7 @@ use Rattle.sh_builtin_environment.specs.declared.outcome.Outcome.{Outcome as Ans
 use Rattle.sh_builtin_environment.specs.declared.outcome.Outcome.TheVariants as answer
 use Rattle.sh_builtin_jobs.specs.declared.run.KillAsk.{KillAsk}
 use Rattle.sh_builtin_regular.specs.declared.reader.LineReader.{LineReader}
-use Rattle.sh_builtin_regular.specs.declared.waiting.Awaited.{Awaited}
+use Rattle.sh_builtin_wait.specs.declared.run.Awaited.{Awaited}
 use Rattle.sh_kernel_signals.specs.Sets.{no_signals}
 use Rattle.sh_kernel_signals.specs.declared.set.SignalSet.{SignalSet}
 
@@ -32,6 +32,9 @@ done status = outcome [] [] (Done status)
 
 abbrev pub output : List ℕ → Outcome
 output text = outcome text [] (Done 0)
+
+abbrev pub saying : List ℕ → (messages : List (List ℕ)) → ℕ → Outcome
+saying out messages status = outcome out messages (Done status)
 
 abbrev pub left : Leave → Outcome
 left leave = outcome [] [] (Left leave)

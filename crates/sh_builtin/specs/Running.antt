@@ -2,15 +2,15 @@
 use Rattle.std.specs.Prelude.{ℕ, List, [], ◌∷◌, ◌++◌, Bool, true, false, not, Option, Some, None, Result, Ok, Err, codes, nat_le, if◌then◌else◌}
 use Rattle.std.specs.List.{join_with_byte}
 use Rattle.sh_builtin.specs.Commands.{command_outcome}
-use Rattle.sh_builtin.specs.Functions.{unset_by}
+use Rattle.sh_builtin_shell.specs.Functions.{unset_by}
 use Rattle.sh_builtin.specs.Loops.{leave_with, loop_with, operands_of}
-use Rattle.sh_builtin.specs.Outcomes.{done, misuse, killing, outcome, outcome_of, output, reading, refusal, running, waiting, with_signals}
+use Rattle.sh_builtin.specs.Outcomes.{done, misuse, killing, outcome_of, output, reading, refusal, running, saying, waiting, with_signals}
 use Rattle.sh_builtin.specs.declared.builtin.Builtin.{Builtin}
-use Rattle.sh_builtin.specs.declared.builtin.Builtin.TheVariants.{Bracket, Break, Cd, Colon, Command, Continue, Dot, Echo, Eval, Exec, Exit, Export, False, Kill, Pwd, Read, ReadOnly, Return, Set, Shift, Test, Trap, True, Unset, Wait}
+use Rattle.sh_builtin.specs.declared.builtin.Builtin.TheVariants.{Bracket, Break, Cd, Colon, Command, Continue, Dot, Echo, Eval, Exec, Exit, Export, False, Jobs, Kill, Pwd, Read, ReadOnly, Return, Set, Shift, Test, Trap, True, Unset, Wait}
 use Rattle.sh_builtin.specs.declared.outcome.Leave.TheVariants as leave
 use Rattle.sh_builtin.specs.declared.outcome.Outcome.{Outcome}
 use Rattle.sh_builtin.specs.declared.outcome.TextOrigin.TheVariants as origin
-use Rattle.sh_builtin.specs.declared.shell.Shell.{Shell}
+use Rattle.sh_builtin_shell.specs.declared.shell.Shell.{Shell}
 use Rattle.sh_builtin_environment.specs.Directories.{cd_ran, pwd_outcome}
 use Rattle.sh_builtin_environment.specs.Marking.{mark_ran}
 use Rattle.sh_builtin_environment.specs.Options.{Parsed, options_and_operands}
@@ -24,9 +24,12 @@ use Rattle.sh_builtin_environment.specs.declared.outcome.BuiltinFault.{BuiltinFa
 use Rattle.sh_builtin_environment.specs.declared.outcome.BuiltinFault.TheVariants as fault
 use Rattle.sh_builtin_jobs.specs.KillRuns.{kill_start}
 use Rattle.sh_builtin_jobs.specs.KillWords.{kill_of}
+use Rattle.sh_builtin_jobs.specs.Listing.{after_listing, job_lines, jobs_listed, jobs_of}
 use Rattle.sh_builtin_jobs.specs.SignalWords.{signal_line, signal_lines}
 use Rattle.sh_builtin_jobs.specs.declared.command.KillCommand.{KillCommand}
 use Rattle.sh_builtin_jobs.specs.declared.command.KillCommand.TheVariants as command
+use Rattle.sh_builtin_jobs.specs.declared.listing.JobsCommand.{JobsCommand}
+use Rattle.sh_builtin_jobs.specs.declared.listing.JobsNamed.{JobsNamed}
 use Rattle.sh_builtin_jobs.specs.declared.run.KillStep.{KillStep}
 use Rattle.sh_builtin_jobs.specs.declared.run.KillStep.TheVariants as kill
 use Rattle.sh_builtin_jobs.specs.declared.target.JobControl.{JobControl}
@@ -36,21 +39,19 @@ use Rattle.sh_builtin_regular.specs.declared.conditional.Verdict.{Verdict}
 use Rattle.sh_builtin_regular.specs.declared.conditional.Verdict.TheVariants as verdict
 use Rattle.sh_builtin_regular.specs.Operands.{reader_of}
 use Rattle.sh_builtin_regular.specs.declared.reader.LineReader.{LineReader}
-use Rattle.sh_builtin_regular.specs.declared.waiting.Awaited.TheVariants as awaited
-use Rattle.sh_builtin_regular.specs.declared.waiting.WaitStart.{WaitStart}
-use Rattle.sh_builtin_regular.specs.declared.waiting.WaitStart.TheVariants as start
-use Rattle.sh_builtin_regular.specs.declared.waiting.WaitStep.{WaitStep}
-use Rattle.sh_builtin_regular.specs.declared.waiting.WaitStep.TheVariants as step
-use Rattle.sh_builtin_regular.specs.Waits.{wait_of}
+use Rattle.sh_builtin_shell.specs.Shells.{has_job_control, own_group, up_to_date}
+use Rattle.sh_builtin_wait.specs.declared.run.Awaited.TheVariants as awaited
+use Rattle.sh_builtin_wait.specs.declared.command.WaitStart.{WaitStart}
+use Rattle.sh_builtin_wait.specs.declared.command.WaitStart.TheVariants as start
+use Rattle.sh_builtin_wait.specs.declared.run.WaitStep.{WaitStep}
+use Rattle.sh_builtin_wait.specs.declared.run.WaitStep.TheVariants as step
+use Rattle.sh_builtin_wait.specs.Waits.{wait_of}
 use Rattle.sh_files.specs.Nodes.{FileMap}
 use Rattle.sh_files.specs.Search.{dot_script}
-use Rattle.sh_builtin.specs.declared.outcome.Completion.TheVariants as completion
 use Rattle.sh_kernel.specs.State.{KernelState}
 use Rattle.sh_kernel_descriptors.specs.Machine.{MachineState}
 use Rattle.sh_kernel_descriptors.specs.Terminals.{is_terminal}
 use Rattle.sh_kernel_descriptors.specs.declared.descriptor.DescriptorRef.TheVariants.{Number}
-use Rattle.sh_kernel_signals.specs.Groups.{member_at}
-use Rattle.std.specs.Option.{option_map_or}
 use Rattle.sh_vars.specs.Environment.{Environment, value_of}
 
 -- the shell after a built-in, and what that comes to
@@ -109,10 +110,20 @@ abbrev pub read_outcome : Result LineReader BuiltinFault → Outcome
 read_outcome (Ok reader) = reading reader
 read_outcome (Err why) = refusal Read why
 
--- ---- wait waits for the processes that its operands name, or for all, of those that the shell knows
+-- ---- jobs writes the lines of the jobs that its operands name, or of all; that tells their states, and what is done is forgotten (XCU jobs)
+abbrev pub listed : KernelState → Shell → JobsCommand → JobsNamed → BuiltIn
+listed s shell command named = with_outcome
+    (record shell { jobs = after_listing s.machine.processes shell.jobs command.form named.numbers })
+    (saying (job_lines s.machine.processes shell.jobs command.form named.numbers) named.messages named.status)
+
+abbrev pub jobs_ran : KernelState → Shell → Result JobsCommand BuiltinFault → BuiltIn
+jobs_ran s shell (Ok command) = listed s shell command (jobs_listed s.machine.processes shell.jobs command.ids)
+jobs_ran s shell (Err why) = with_outcome shell (refusal Jobs why)
+
+-- ---- wait waits for what its operands name, or for all processes that the shell knows
 abbrev pub wait_step : WaitStep → Outcome
-wait_step (step.Over status) = done status
-wait_step (step.Waits process) = waiting (awaited.Process process)
+wait_step (step.Over report) = saying [] report.messages report.status
+wait_step (step.Waits operand) = waiting (awaited.Operand operand)
 
 abbrev pub wait_start : WaitStart → Outcome
 wait_start start.All = waiting awaited.All
@@ -122,22 +133,28 @@ abbrev pub wait_outcome : Result WaitStart BuiltinFault → Outcome
 wait_outcome (Ok start) = wait_start start
 wait_outcome (Err why) = refusal Wait why
 
--- ---- kill writes names, or has signals sent; there is no job control, and there are no jobs (XCU kill)
-abbrev pub control_of : KernelState → (pid : ℕ) → JobControl
-control_of s pid = record { is_on = false; own_group = option_map_or (λ m. m.group) (member_at s.members pid) 0 }
+abbrev pub wait_ran : KernelState → Shell → List (List ℕ) → BuiltIn
+wait_ran s shell arguments = with_outcome shell (wait_outcome (wait_of s.machine.processes shell.jobs shell.known arguments))
+
+-- ---- kill writes names, or has signals sent (XCU kill)
+abbrev pub control_of : KernelState → Shell → JobControl
+control_of s shell = record { is_on = has_job_control shell; own_group = own_group s shell.pid }
 
 abbrev pub kill_step : KillStep → Outcome
 kill_step (kill.Asks ask) = killing ask
-kill_step (kill.Over report) = outcome [] report.messages (completion.Done report.status)
+kill_step (kill.Over report) = saying [] report.messages report.status
 
-abbrev pub kill_does : KernelState → (pid : ℕ) → KillCommand → Outcome
-kill_does s pid command.Names = output signal_lines
-kill_does s pid (command.Name signal) = output (signal_line signal)
-kill_does s pid (command.Send send) = kill_step (kill_start (control_of s pid) s.machine.processes [] send)
+abbrev pub kill_does : KernelState → Shell → KillCommand → Outcome
+kill_does s shell command.Names = output signal_lines
+kill_does s shell (command.Name signal) = output (signal_line signal)
+kill_does s shell (command.Send send) = kill_step (kill_start (control_of s shell) s.machine.processes shell.jobs send)
 
-abbrev pub kill_outcome : KernelState → (pid : ℕ) → Result KillCommand BuiltinFault → Outcome
-kill_outcome s pid (Ok asked) = kill_does s pid asked
-kill_outcome s pid (Err why) = refusal Kill why
+abbrev pub kill_outcome : KernelState → Shell → Result KillCommand BuiltinFault → Outcome
+kill_outcome s shell (Ok asked) = kill_does s shell asked
+kill_outcome s shell (Err why) = refusal Kill why
+
+abbrev pub kill_ran : KernelState → Shell → List (List ℕ) → BuiltIn
+kill_ran s shell arguments = with_outcome shell (kill_outcome s shell (kill_of arguments))
 
 -- ---- test: 0 where the condition holds, else 1; descriptors go from 0 to 31
 abbrev pub truth : Bool → ℕ
@@ -183,7 +200,8 @@ built_in s shell last Exec arguments = with_outcome shell (misuse Exec)
 built_in s shell last Exit arguments = with_outcome shell (leave_with Exit leave.Exit last (operands_of arguments))
 built_in s shell last Export arguments = ran Export shell (mark_ran attribute.Export shell.vars arguments)
 built_in s shell last False arguments = with_outcome shell (done 1)
-built_in s shell last Kill arguments = with_outcome shell (kill_outcome s shell.pid (kill_of arguments))
+built_in s shell last Jobs arguments = jobs_ran s (up_to_date s shell) (jobs_of arguments)
+built_in s shell last Kill arguments = kill_ran s (up_to_date s shell) arguments
 built_in s shell last Pwd arguments = with_outcome shell (outcome_of Pwd (pwd_outcome shell.vars arguments))
 built_in s shell last Read arguments = with_outcome shell (read_outcome (reader_of arguments))
 built_in s shell last ReadOnly arguments = ran ReadOnly shell (mark_ran attribute.ReadOnly shell.vars arguments)
@@ -194,4 +212,4 @@ built_in s shell last Test arguments = with_outcome shell (test_outcome s.machin
 built_in s shell last Trap arguments = trapped shell (trap_ran shell.fixed shell.traps arguments)
 built_in s shell last True arguments = with_outcome shell (done 0)
 built_in s shell last Unset arguments = ran Unset (without_functions shell arguments) (unset_ran shell.vars arguments)
-built_in s shell last Wait arguments = with_outcome shell (wait_outcome (wait_of shell.known arguments))
+built_in s shell last Wait arguments = wait_ran s (up_to_date s shell) arguments

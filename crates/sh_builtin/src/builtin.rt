@@ -7,11 +7,11 @@ ghost use Rattle.sh_kernel.specs.State.{KernelState, StandsAt};
 
 use crate::command::command;
 use crate::dot::dot;
+use crate::jobs::jobs;
 use crate::killing::kill;
 use crate::leaving::{break_with, continue_with, exit_with, operands_of, return_with};
 use crate::outcome::{Outcome, TextOrigin};
 use crate::reading::read;
-use crate::shell::Shell;
 use crate::testing::{bracket, test};
 use crate::waiting::wait;
 use sh_base::NoMemory;
@@ -19,6 +19,7 @@ use sh_base::sequence::{Sequence, Text};
 use sh_builtin_environment::{
     Attribute, TrapOutcome, cd, functions_to_unset, mark, pwd, set, shift, trap, unset,
 };
+use sh_builtin_shell::Shell;
 use sh_kernel::Kernel;
 use std::alloc::Global;
 
@@ -41,6 +42,7 @@ pub enum Builtin {
     Exit,
     Export,
     False,
+    Jobs,
     Kill,
     Pwd,
     Read,
@@ -85,7 +87,7 @@ impl Row {
 }
 
 /// All of them.
-const BUILTINS: [Builtin; 25] = [
+const BUILTINS: [Builtin; 26] = [
     Builtin::Bracket,
     Builtin::Break,
     Builtin::Cd,
@@ -99,6 +101,7 @@ const BUILTINS: [Builtin; 25] = [
     Builtin::Exit,
     Builtin::Export,
     Builtin::False,
+    Builtin::Jobs,
     Builtin::Kill,
     Builtin::Pwd,
     Builtin::Read,
@@ -132,6 +135,7 @@ impl Builtin {
             Builtin::Exit => Row::special(b"exit"),
             Builtin::Export => Row::special(b"export"),
             Builtin::False => Row::regular(b"false"),
+            Builtin::Jobs => Row::regular(b"jobs"),
             Builtin::Kill => Row::regular(b"kill"),
             Builtin::Pwd => Row::regular(b"pwd"),
             Builtin::Read => Row::regular(b"read"),
@@ -215,7 +219,8 @@ impl Builtin {
                 Outcome::of(alloc, Builtin::Export, answer)
             },
             Builtin::False => Ok(Outcome::done(alloc, 1)),
-            Builtin::Kill => kill(alloc, kernel, shell.pid, arguments),
+            Builtin::Jobs => jobs(alloc, kernel, shell, arguments),
+            Builtin::Kill => kill(alloc, kernel, shell, arguments),
             Builtin::Pwd => {
                 let answer = pwd(alloc, &shell.vars, arguments)?;
                 Outcome::of(alloc, Builtin::Pwd, answer)
@@ -242,7 +247,7 @@ impl Builtin {
                 let answer = unset(alloc, &mut shell.vars, arguments)?;
                 Outcome::of(alloc, Builtin::Unset, answer)
             },
-            Builtin::Wait => wait(alloc, shell.known.as_slice(), arguments),
+            Builtin::Wait => wait(alloc, kernel, shell, arguments),
         }
     }
 }

@@ -5,12 +5,11 @@ ghost use Rattle.sh_builtin_environment.specs.Options.{options_and_operands};
 ghost use Rattle.sh_files_image.specs.Paths.{absolute};
 
 use crate::builtin::Builtin;
-use crate::functions::Functions;
 use crate::outcome::Outcome;
-use crate::shell::Shell;
 use sh_base::NoMemory;
 use sh_base::sequence::Text;
 use sh_builtin_environment::parse_options;
+use sh_builtin_shell::{Functions, Shell};
 use sh_files::{Files, executable_path};
 use sh_files_image::absolute;
 use sh_token_grammar::class::TokenClass;

@@ -6,9 +6,9 @@ ghost use Rattle.sh_kernel.specs.State.{KernelState, StandsAt};
 
 use crate::builtin::Builtin;
 use crate::outcome::{Completion, Leave, Outcome, TextRun};
-use crate::shell::Shell;
 use sh_base::NoMemory;
 use sh_base::sequence::Text;
+use sh_builtin_shell::Shell;
 use sh_kernel::Kernel;
 use std::alloc::Global;
 

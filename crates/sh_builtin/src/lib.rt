@@ -4,21 +4,18 @@
 mod builtin;
 mod command;
 mod dot;
-mod functions;
 mod invocation;
+mod jobs;
 mod killing;
 mod leaving;
 pub mod message;
 mod outcome;
 mod reading;
-mod shell;
 mod testing;
 mod waiting;
 
 pub use builtin::Builtin;
 pub use command::behind_command;
-pub use functions::Functions;
 pub use invocation::Invocation;
 pub use killing::job_control;
 pub use outcome::{Completion, Leave, Outcome, TextOrigin, TextRun};
-pub use shell::Shell;

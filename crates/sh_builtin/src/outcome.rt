@@ -1,6 +1,6 @@
 //! What built-ins come to.
 ghost use Rattle.std.specs.Prelude.{◌≡◌, IfOk};
-ghost use Rattle.sh_builtin.specs.Outcomes.{done, failure, killing, left, misuse, output, outcome_of, reading, refusal, running, shell_status, waiting, with_signals};
+ghost use Rattle.sh_builtin.specs.Outcomes.{done, failure, killing, left, misuse, output, outcome_of, reading, refusal, running, saying, shell_status, waiting, with_signals};
 
 use crate::builtin::Builtin;
 use crate::message::{fault_line, status_of};
@@ -8,7 +8,8 @@ use sh_base::NoMemory;
 use sh_base::sequence::{Sequence, Text};
 use sh_builtin_environment::BuiltinFault;
 use sh_builtin_jobs::KillAsk;
-use sh_builtin_regular::{Awaited, LineReader};
+use sh_builtin_regular::LineReader;
+use sh_builtin_wait::Awaited;
 use sh_kernel_signals::SignalSet;
 use std::alloc::Global;
 
@@ -113,6 +114,18 @@ impl Outcome {
             out: text,
             err: Sequence::new(alloc),
             status: Completion::Done(0),
+        }
+    }
+
+    /// Writes a text and messages, and is done with a status.
+    pub(crate) fn saying(out: Text, messages: Sequence<Text>, status: u8) -> Outcome
+        ensures { result ≡ saying out messages status }
+    {
+        Outcome {
+            signals: SignalSet::new(),
+            out,
+            err: messages,
+            status: Completion::Done(status),
         }
     }
 

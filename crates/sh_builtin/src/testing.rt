@@ -6,10 +6,10 @@ ghost use Rattle.sh_kernel.specs.State.{KernelState, StandsAt};
 
 use crate::builtin::Builtin;
 use crate::outcome::Outcome;
-use crate::shell::Shell;
 use sh_base::NoMemory;
 use sh_base::sequence::Text;
 use sh_builtin_regular::{Verdict, bracket_operands, evaluate};
+use sh_builtin_shell::Shell;
 use sh_kernel::Kernel;
 use std::alloc::Global;
 

@@ -1,13 +1,17 @@
 //! The built-in wait (XCU wait).
 ghost use Rattle.std.specs.Prelude.{◌≡◌, IfOk};
-ghost use Rattle.sh_builtin.specs.Running.{wait_outcome, wait_start, wait_step};
-ghost use Rattle.sh_builtin_regular.specs.Waits.{wait_of};
+ghost use Rattle.sh_builtin.specs.Running.{wait_outcome, wait_ran, wait_start, wait_step, with_outcome};
+ghost use Rattle.sh_builtin_shell.specs.Shells.{up_to_date};
+ghost use Rattle.sh_builtin_wait.specs.Waits.{wait_of};
+ghost use Rattle.sh_kernel.specs.State.{KernelState, StandsAt};
 
 use crate::builtin::Builtin;
 use crate::outcome::Outcome;
 use sh_base::NoMemory;
-use sh_base::sequence::Text;
-use sh_builtin_regular::{Awaited, WaitStart, WaitStep, wait_of};
+use sh_base::sequence::{Sequence, Text};
+use sh_builtin_shell::Shell;
+use sh_builtin_wait::{Awaited, WaitStart, WaitStep, wait_of};
+use sh_kernel::Kernel;
 use std::alloc::Global;
 
 /// What the operands of wait come to.
@@ -15,8 +19,10 @@ fn wait_step(alloc: Global, step: WaitStep) -> Outcome
     ensures { result ≡ wait_step step }
 {
     match step {
-        WaitStep::Over(status) => Outcome::done(alloc, status),
-        WaitStep::Waits(process) => Outcome::waiting(alloc, Awaited::Process(process)),
+        WaitStep::Over(report) => {
+            Outcome::saying(Sequence::new(alloc), report.messages, report.status)
+        },
+        WaitStep::Waits(operand) => Outcome::waiting(alloc, Awaited::Operand(operand)),
     }
 }
 
@@ -30,12 +36,39 @@ fn wait_start(alloc: Global, start: WaitStart) -> Outcome
     }
 }
 
-/// wait with its arguments, in a shell that knows these processes.
-pub(crate) fn wait(alloc: Global, known: &[u32], arguments: &[Text]) -> Result<Outcome, NoMemory>
-    ensures { IfOk result (λ outcome. outcome ≡ wait_outcome (wait_of known.now arguments.now)) }
+/// wait with its arguments.
+fn wait_with(
+    alloc: Global,
+    kernel: &Kernel,
+    shell: &Shell,
+    arguments: &[Text],
+) -> Result<Outcome, NoMemory>
+    ensures { (s : KernelState) → StandsAt kernel.now s → IfOk result (λ outcome. outcome
+        ≡ wait_outcome (wait_of s.machine.processes shell.now.jobs shell.now.known arguments.now)) }
 {
-    match wait_of(alloc, known, arguments)? {
+    match wait_of(
+        alloc,
+        kernel,
+        &shell.jobs,
+        shell.known.as_slice(),
+        arguments,
+    )? {
         Ok(start) => Ok(wait_start(alloc, start)),
         Err(fault) => Outcome::refusal(alloc, Builtin::Wait, fault),
     }
+}
+
+/// wait with its arguments, in a shell whose jobs may have changed.
+pub(crate) fn wait(
+    alloc: Global,
+    kernel: &Kernel,
+    shell: &mut Shell,
+    arguments: &[Text],
+) -> Result<Outcome, NoMemory>
+    ensures { (s : KernelState) → StandsAt kernel.now s → IfOk result (λ outcome.
+        with_outcome shell.new outcome ≡ wait_ran s (up_to_date s shell.old) arguments.now) }
+{
+    shell.bring_jobs_up_to_date(kernel);
+    let outcome = wait_with(alloc, kernel, shell, arguments)?;
+    Ok(outcome)
 }

@@ -1,5 +1,5 @@
 -- trap (XCU 2.15): what its operands do to the traps.
-use Rattle.std.specs.Prelude.{ℕ, List, [], ◌∷◌, Bool, true, false, Option, Some, None, codes, if◌then◌else◌}
+use Rattle.std.specs.Prelude.{ℕ, List, [], ◌∷◌, Bool, false, Option, Some, None, codes, if◌then◌else◌}
 use Rattle.std.specs.Str.{bytes_eq}
 use Rattle.sh_base.specs.Decimals.{number_of}
 use Rattle.sh_signal.specs.Conditions.{condition_of}

@@ -4,4 +4,3 @@ pub mod Conditional
 pub mod Integers
 pub mod Lines
 pub mod Operands
-pub mod Waits

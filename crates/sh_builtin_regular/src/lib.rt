@@ -1,5 +1,4 @@
-//! Regular built-in utilities (XCU 1.6) that ask no kernel, each by itself: `test` and `[`, the line that `read` reads, and the processes
-//! that `wait` waits for.
+//! Regular built-in utilities (XCU 1.6) that ask no kernel, each by itself: `test` and `[`, and the line that `read` reads.
 #![tactic(auto)]
 
 mod assigning;
@@ -7,9 +6,7 @@ mod bracket;
 mod conditional;
 mod number;
 mod reader;
-mod waiting;
 
 pub use bracket::bracket_operands;
 pub use conditional::{Verdict, evaluate};
 pub use reader::LineReader;
-pub use waiting::{Awaited, ProcessWait, WaitStart, WaitStep, wait_of};

@@ -1,8 +1,8 @@
 -- A program's start in the process of a shell (XCU 2.9.1.4, 2.9.1.6): the search, and what the process then is.
-use Rattle.std.specs.Prelude.{ℕ, Bool, List, [], ◌∷◌, Option, Some, None, codes, unwrap_or}
+use Rattle.std.specs.Prelude.{ℕ, Bool, false, List, [], ◌∷◌, Option, Some, None, codes, unwrap_or}
 use Rattle.sh_exec_actions.specs.Preparing.{failing}
 use Rattle.sh_exec_actions.specs.Statuses as statuses
-use Rattle.sh_builtin.specs.declared.shell.Shell.{Shell}
+use Rattle.sh_builtin_shell.specs.declared.shell.Shell.{Shell}
 use Rattle.sh_builtin_environment.specs.TrapMaps.{none_set}
 use Rattle.sh_exec.specs.Programs.{Left, ProgramState, asking, with_next}
 use Rattle.sh_exec.specs.declared.start.Started.{Started}
@@ -59,14 +59,14 @@ stock_start m s shell start None = failure s start.ends_shell (cannot_execute st
 abbrev pub parent_of : KernelState → ℕ → ℕ
 parent_of s pid = unwrap_or (parent_at s.machine.processes pid) 1
 
--- a script is run by a new shell in this process, which has no functions and no traps, and knows no processes; what the process ignored
+-- a script is run by a new shell in this process, which has no functions, no traps and no jobs, and knows no processes; what the process ignored
 -- before it goes on ignoring (2.15 trap)
 abbrev pub ignored_by : KernelState → (pid : ℕ) → SignalSet
 ignored_by s pid = option_map_or (λ m. m.ignored) (member_at s.members pid) no_signals
 
 abbrev pub script_shell : KernelState → Shell → List ℕ → List (List ℕ) → Shell
 script_shell s shell path operands =
-    record { pid = shell.pid; vars = script_environment shell.vars path operands shell.pid (parent_of s shell.pid); functions = []; traps = none_set; known = []; fixed = ignored_by s shell.pid }
+    record { pid = shell.pid; vars = script_environment shell.vars path operands shell.pid (parent_of s shell.pid); functions = []; traps = none_set; known = []; background = []; jobs = []; is_first = false; fixed = ignored_by s shell.pid }
 
 abbrev pub script_start : {S : Type 0} → KernelState → Shell → List ℕ → List ℕ → List (List ℕ) → Left (Started S)
 script_start s shell path text operands =
@@ -111,7 +111,7 @@ starting_at (ForkStage stages) = None
 starting_at (ForkList list) = None
 starting_at (AssignLoopVariable series) = None
 starting_at (Defining definition) = None
-starting_at (Waiting children) = None
+starting_at (Waiting wait) = None
 starting_at (Writing piece finish) = None
 starting_at (Trapping status) = None
 starting_at (Ending status) = None

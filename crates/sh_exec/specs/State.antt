@@ -1,6 +1,12 @@
 -- The shell machine: its states, one event, a list of events, and what can be seen of a state.
 use Rattle.std.specs.Prelude.{ℕ, ◌==◌, List, [], ◌∷◌, Option, Some, None, find, if◌then◌else◌}
+use Rattle.std.specs.Option.{option_and_then, unwrap_or}
+use Rattle.sh_builtin_jobs.specs.Listing.{job_lines}
 use Rattle.sh_files.specs.Nodes.{FileMap}
+use Rattle.sh_jobs.specs.Moments.{brought_up}
+use Rattle.sh_jobs.specs.Table.{numbers_of}
+use Rattle.sh_jobs.specs.declared.job.Job.{Job}
+use Rattle.sh_jobs.specs.declared.line.JobForm.TheVariants.{Long}
 use Rattle.sh_kernel.specs.State as kernel
 use Rattle.sh_kernel.specs.Calls.{after_key}
 use Rattle.sh_kernel.specs.State.{KernelState}
@@ -13,23 +19,20 @@ use Rattle.sh_exec.specs.Choice.{choice}
 use Rattle.sh_exec.specs.Processes.{TasksTurned, living, runnable_pids, turn_among, with_child}
 use Rattle.sh_exec.specs.declared.event.Event.{Event}
 use Rattle.sh_exec.specs.declared.event.Event.TheVariants.{Run, Next, Key}
-use Rattle.sh_exec.specs.declared.jobs.Jobs.{Jobs}
-use Rattle.sh_exec.specs.Tasks.{first_pid, first_task, pid_of}
+use Rattle.sh_exec.specs.Tasks.{first_jobs, first_pid, first_task, pid_of}
 use Rattle.sh_exec.specs.declared.settings.Settings.{Settings}
 use Rattle.sh_exec.specs.declared.task.Task.{Task}
 
--- the machine with its files and its terminal, the processes that live, the first shell's jobs, and which process took a turn last
+-- the machine with its files and its terminal, the processes that live, and which process took a turn last
 pub record State (S : Type 0) : Type 0 where
   pub machine : KernelState
   pub tasks : List (Task S)
-  pub jobs : Jobs
   pub last : Option ℕ
 
 abbrev pub start : {S : Type 0} → FileMap → Settings → State S
 start image settings = record {
   machine = kernel.starting image;
   tasks = first_task image settings ∷ [];
-  jobs = record {};
   last = None;
 }
 
@@ -87,6 +90,17 @@ terminal_of s = bytes_of s.machine.terminal
 
 abbrev pub files_of : {S : Type 0} → State S → FileMap
 files_of s = s.machine.machine.files
+
+-- the first shell's jobs; none where its process has ended, or runs another program
+abbrev pub jobs_of : {S : Type 0} → State S → List Job
+jobs_of s = unwrap_or (option_and_then first_jobs (task_of s first_pid)) []
+
+-- their lines, as `jobs -l` writes them
+abbrev pub lines_of : KernelState → List Job → List ℕ
+lines_of s jobs = job_lines s.machine.processes jobs Long (numbers_of jobs)
+
+abbrev pub job_lines_of : {S : Type 0} → State S → List ℕ
+job_lines_of s = lines_of s.machine (brought_up s.machine.changes (jobs_of s))
 
 abbrev pub end_of : Option Status → Option Status
 end_of None = None

@@ -1,5 +1,5 @@
 -- Processes: their numbers, the first shell, and the running forms of a shell.
-use Rattle.std.specs.Prelude.{ℕ, List, []}
+use Rattle.std.specs.Prelude.{ℕ, List, [], true, Option, Some, None, if◌then◌else◌}
 use Rattle.sh_builtin_environment.specs.TrapMaps.{none_set}
 use Rattle.sh_exec.specs.Scripts.{script_place}
 use Rattle.sh_exec.specs.declared.settings.Settings.{Settings}
@@ -10,10 +10,12 @@ use Rattle.sh_exec.specs.declared.task.Task.TheVariants.{Runs, Asks}
 use Rattle.sh_exec_actions.specs.declared.action.Active.TheVariants.{Next}
 use Rattle.sh_exec_actions.specs.declared.action.Action.{Action}
 use Rattle.sh_exec_actions.specs.declared.action.Action.TheVariants.{Reading}
+use Rattle.sh_builtin_shell.specs.declared.shell.Shell.{Shell}
 use Rattle.sh_exec_forms.specs.Stacks as shell
 use Rattle.sh_exec_forms.specs.Running.{At}
 use Rattle.sh_exec_actions.specs.declared.form.Frame.{Frame}
 use Rattle.sh_files.specs.Nodes.{FileMap}
+use Rattle.sh_jobs.specs.declared.job.Job.{Job}
 use Rattle.sh_kernel_signals.specs.Sets.{no_signals}
 use Rattle.sh_vars.specs.Environment.{Environment, with_options, with_positional, with_zero}
 use Rattle.sh_vars.specs.Starting.{starting}
@@ -39,9 +41,17 @@ first_place image (Script path) = script_place image path
 -- it is before its first action
 abbrev pub first_task : {S : Type 0} → FileMap → Settings → Task S
 first_task image settings = Runs (record {
-  shell = record { pid = first_pid; vars = environment_of settings; functions = []; traps = none_set; known = []; fixed = no_signals };
+  shell = record { pid = first_pid; vars = environment_of settings; functions = []; traps = none_set; known = []; background = []; jobs = []; is_first = true; fixed = no_signals };
   run = At (Next (first_place image settings.source));
 })
+
+-- ---- the jobs of the first shell
+abbrev pub jobs_of_first : Shell → Option (List Job)
+jobs_of_first shell = if shell.is_first then Some shell.jobs else None
+
+abbrev pub first_jobs : {S : Type 0} → Task S → Option (List Job)
+first_jobs (Runs interpreter) = jobs_of_first interpreter.shell
+first_jobs (Asks pid ask program) = None
 
 -- ---- the running forms of a shell, the outermost first
 abbrev pub frames_of : {S : Type 0} → Task S → List Frame

@@ -2,7 +2,7 @@
 -- before it.
 use Rattle.std.specs.Option.{is_some}
 use Rattle.std.specs.Prelude.{List, ℕ, length, Bool, false, Option, Some, None}
-use Rattle.sh_builtin.specs.declared.shell.Shell.{Shell}
+use Rattle.sh_builtin_shell.specs.declared.shell.Shell.{Shell}
 use Rattle.sh_exec_turns.specs.Traps.{trap_before}
 use Rattle.sh_kernel.specs.State.{KernelState}
 use Rattle.sh_exec.specs.declared.task.Task.{Task}
@@ -42,7 +42,7 @@ turn_action_at (ForkStage stages) = turn.Fork
 turn_action_at (ForkList list) = turn.Fork
 turn_action_at (AssignLoopVariable series) = turn.SetLoopVariable
 turn_action_at (Defining definition) = turn.DefineFunction
-turn_action_at (Waiting children) = turn.Wait
+turn_action_at (Waiting wait) = turn.Wait
 turn_action_at (Writing piece finish) = turn.Write piece.descriptor (length piece.bytes)
 turn_action_at (Trapping status) = turn.TakeTrap
 turn_action_at (Ending status) = turn.End status
@@ -97,7 +97,7 @@ words_at (ForkStage stages) = None
 words_at (ForkList list) = None
 words_at (AssignLoopVariable series) = None
 words_at (Defining definition) = None
-words_at (Waiting children) = None
+words_at (Waiting wait) = None
 words_at (Writing piece finish) = None
 words_at (Trapping status) = None
 words_at (Ending status) = None

@@ -1,14 +1,13 @@
 //! What processes are about to do.
 ghost use Rattle.std.specs.Prelude.{◌≡◌};
 ghost use Rattle.sh_kernel.specs.Turns.{action_of};
-ghost use Rattle.sh_exec.specs.Actions.{action_at, action_in, action_for, awaiting, collecting};
+ghost use Rattle.sh_exec.specs.Actions.{action_at, action_in, action_for, awaiting, collecting, waiting};
 
-use sh_builtin_regular::Awaited;
-use sh_exec_actions::{Action, Active};
+use sh_builtin_wait::Awaited;
+use sh_exec_actions::{Action, Active, PipelineWait};
 use sh_kernel::{DescriptorRef, Next};
 use sh_signal::Signal;
 use sh_stock::Ask;
-use std::slice;
 
 /// Where the end of a pipe was set aside, a shell reads by it.
 fn collecting(aside: Option<usize>) -> Next<'static>
@@ -20,22 +19,32 @@ fn collecting(aside: Option<usize>) -> Next<'static>
     }
 }
 
-/// The built-in `wait` waits for one process, or for all that the shell knows.
-fn awaiting<'a>(caught: Option<Signal>, known: &'a [u32], awaited: &'a Awaited) -> Next<'a>
-    ensures { action_of result ≡ awaiting caught known.now awaited.now }
+/// The built-in `wait` waits for what an operand names, or for the processes of all asynchronous lists.
+fn awaiting<'a>(caught: Option<Signal>, background: &'a [u32], awaited: &'a Awaited) -> Next<'a>
+    ensures { action_of result ≡ awaiting caught background.now awaited.now }
 {
     if caught.is_some() {
         return Next::Other;
     }
     match awaited {
-        Awaited::All => Next::Wait(known),
-        Awaited::Process(wait) => Next::Wait(slice::from_ref(&wait.process)),
+        Awaited::All => Next::Wait(background),
+        Awaited::Operand(wait) => Next::Wait(wait.processes()),
     }
 }
 
-/// What is done at a place, where the shell has caught this signal and knows these processes.
-fn action_at<'a>(caught: Option<Signal>, known: &'a [u32], place: &'a Action) -> Next<'a>
-    ensures { action_of result ≡ action_at caught known.now place.now }
+/// With job control a shell waits for the processes of a pipeline also until they are stopped.
+fn waiting(wait: &PipelineWait) -> Next<'_>
+    ensures { action_of result ≡ waiting wait.now.children wait.now.job }
+{
+    match &wait.job {
+        None => Next::Wait(wait.children.as_slice()),
+        Some(_) => Next::WaitUntraced(wait.children.as_slice()),
+    }
+}
+
+/// What is done at a place, where the shell has caught this signal, and its asynchronous lists have these processes.
+fn action_at<'a>(caught: Option<Signal>, background: &'a [u32], place: &'a Action) -> Next<'a>
+    ensures { action_of result ≡ action_at caught background.now place.now }
 {
     match place {
         Action::Reading(_, _) => Next::Other,
@@ -43,7 +52,7 @@ fn action_at<'a>(caught: Option<Signal>, known: &'a [u32], place: &'a Action) ->
         Action::ReadSubstitution(substitution) => collecting(substitution.aside),
         Action::WaitSubstitution(substitution) => Next::Wait(substitution.children.as_slice()),
         Action::ReadLine(_) => Next::Read(DescriptorRef::Number(0)),
-        Action::Awaiting(awaited) => awaiting(caught, known, awaited),
+        Action::Awaiting(awaited) => awaiting(caught, background, awaited),
         Action::SendSignal(_) => Next::Other,
         Action::Redirecting(_) => Next::Other,
         Action::Forking(_) => Next::Other,
@@ -52,23 +61,23 @@ fn action_at<'a>(caught: Option<Signal>, known: &'a [u32], place: &'a Action) ->
         Action::ForkList(_) => Next::Other,
         Action::AssignLoopVariable(_) => Next::Other,
         Action::Defining(_) => Next::Other,
-        Action::Waiting(children) => Next::Wait(children.as_slice()),
+        Action::Waiting(wait) => waiting(wait),
         Action::Writing(piece, _) => Next::Write(piece.descriptor, piece.bytes.len()),
         Action::Trapping(_) => Next::Other,
         Action::Ending(_) => Next::Other,
     }
 }
 
-/// What a shell at this active place does, where it has caught this signal and knows these processes.
+/// What a shell at this active place does, where it has caught this signal, and its asynchronous lists have these processes.
 pub(crate) fn action_in<'a>(
     caught: Option<Signal>,
-    known: &'a [u32],
+    background: &'a [u32],
     active: &'a Active,
 ) -> Next<'a>
-    ensures { action_of result ≡ action_in caught known.now active.now }
+    ensures { action_of result ≡ action_in caught background.now active.now }
 {
     match active {
-        Active::Next(place) => action_at(caught, known, place),
+        Active::Next(place) => action_at(caught, background, place),
         Active::Acting(_, _) => Next::Other,
         Active::Calling(_, _) => Next::Other,
         Active::Evaluating(_, _) => Next::Other,

@@ -4,7 +4,6 @@
 
 mod action;
 mod event;
-mod jobs;
 pub mod laws;
 mod program;
 mod script;
@@ -15,7 +14,6 @@ mod task;
 mod turn_action;
 
 pub use event::Event;
-pub use jobs::Jobs;
 pub use settings::{Settings, Source};
 pub use start::Started;
 pub use task::Task;

@@ -12,14 +12,15 @@ use crate::program::asking;
 use crate::task::Task;
 use sh_base::NoMemory;
 use sh_base::sequence::{Sequence, Text};
-use sh_builtin::{Functions, Shell};
 use sh_builtin_environment::Traps;
+use sh_builtin_shell::{Functions, Shell};
 use sh_exec_actions::status::{CANNOT_EXECUTE, NOT_FOUND};
 use sh_exec_actions::{Action, ProgramStart, failing};
 use sh_exec_parts::message::{cannot_execute, not_found};
 use sh_exec_parts::script_environment;
 use sh_exec_shell::Interpreter;
 use sh_files::{Files, Located, locate};
+use sh_jobs::Jobs;
 use sh_kernel::Kernel;
 use sh_kernel_signals::SignalSet;
 use sh_stock::{Answer, Stock};
@@ -142,6 +143,9 @@ fn start_script<S: Stock>(
         functions: Functions::new(alloc),
         traps,
         known: Sequence::new(alloc),
+        background: Sequence::new(alloc),
+        jobs: Jobs::new(alloc),
+        is_first: false,
         fixed,
     };
     Ok(Started::Becomes(Task::Runs(Interpreter::reading(alloc, shell, text))))

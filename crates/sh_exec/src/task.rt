@@ -6,7 +6,7 @@ ghost use Rattle.sh_kernel.specs.Turns.{can_do};
 ghost use Rattle.sh_tty.specs.Terminal.{Extends};
 ghost use Rattle.sh_exec_shell.specs.Reduction.{shell_turn};
 ghost use Rattle.sh_exec.specs.Actions.{action_of};
-ghost use Rattle.sh_exec.specs.Tasks.{first_place, first_task, frames_of, pid_of};
+ghost use Rattle.sh_exec.specs.Tasks.{first_jobs, first_place, first_task, frames_of, jobs_of_first, pid_of};
 ghost use Rattle.sh_exec.specs.TurnActions.{starting_words, takes_trap, turn_action_of};
 ghost use Rattle.sh_exec.specs.Turns.{IsTurned, by_shell, made_task, runs_by, task_behind, turn};
 
@@ -19,13 +19,14 @@ use crate::start::{Started, start_turn};
 use crate::turn_action::{TurnAction, takes_trap_in, turn_action_for, turn_action_in, words_in};
 use sh_base::NoMemory;
 use sh_base::sequence::{Sequence, Text};
-use sh_builtin::{Functions, Shell};
 use sh_builtin_environment::Traps;
+use sh_builtin_shell::{Functions, Shell};
 use sh_exec_actions::{Action, Frame, ProgramStart};
 use sh_exec_frames::pending_signal;
 use sh_exec_parts::Rest;
 use sh_exec_shell::Interpreter;
 use sh_files::Files;
+use sh_jobs::Jobs;
 use sh_kernel::{FIRST_PID, Kernel, Next};
 use sh_kernel_signals::SignalSet;
 use sh_stock::{Ask, CopyStock, Stock};
@@ -104,6 +105,16 @@ fn start_in<S: Stock>(
     }
 }
 
+/// The jobs of a shell, if it is the first one.
+fn first_jobs(shell: &Shell) -> Option<&Jobs>
+    ensures { option_map (λ jobs. jobs.now) result ≡ jobs_of_first shell.now }
+{
+    if shell.is_first {
+        return Some(&shell.jobs);
+    }
+    None
+}
+
 impl<S: Stock> Task<S> {
     /// The first shell before its first action, started as the settings say, over the files of an image. The only error is
     /// want of memory.
@@ -128,9 +139,22 @@ impl<S: Stock> Task<S> {
             functions: Functions::new(alloc),
             traps,
             known: Sequence::new(alloc),
+            background: Sequence::new(alloc),
+            jobs: Jobs::new(alloc),
+            is_first: true,
             fixed: SignalSet::new(),
         };
         Ok(Task::Runs(Interpreter::at(alloc, shell, place)))
+    }
+
+    /// The jobs of the first shell, if that is what runs. Takes no memory.
+    pub fn jobs(&self) -> Option<&Jobs>
+        ensures { option_map (λ jobs. jobs.now) result ≡ first_jobs self.now }
+    {
+        match self {
+            Task::Runs(interpreter) => first_jobs(interpreter.shell()),
+            Task::Asks { .. } => None,
+        }
     }
 
     /// The number of the process. Takes no memory.
@@ -227,7 +251,7 @@ impl<S: Stock> Task<S> {
             Task::Runs(interpreter) => {
                 let shell = interpreter.shell();
                 let caught = pending_signal(kernel, shell);
-                action_in(caught, shell.known.as_slice(), interpreter.active())
+                action_in(caught, shell.background.as_slice(), interpreter.active())
             },
             Task::Asks { ask, .. } => asked(ask),
         }

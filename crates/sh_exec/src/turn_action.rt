@@ -4,7 +4,7 @@ ghost use Rattle.sh_kernel.specs.State.{KernelState, StandsAt};
 ghost use Rattle.sh_exec.specs.TurnActions.{takes_trap_in, turn_action_at, turn_action_for, turn_action_in, turn_action_of_expansion, words_at, words_in};
 
 use sh_base::sequence::Text;
-use sh_builtin::Shell;
+use sh_builtin_shell::Shell;
 use sh_exec_actions::{Action, Active, ToExpand};
 use sh_exec_turns::is_interrupted;
 use sh_kernel::Kernel;

@@ -4,7 +4,7 @@ use Rattle.sh_exec_actions.specs.Statuses as statuses
 use Rattle.std.specs.List.{list_any}
 use Rattle.sh_builtin.specs.Builtins.{builtin_of, is_named, is_special}
 use Rattle.sh_builtin.specs.Commands.{behind_command}
-use Rattle.sh_builtin.specs.Functions.{Named, body_of}
+use Rattle.sh_builtin_shell.specs.Functions.{Named, body_of}
 use Rattle.sh_builtin.specs.Invocations.{by_command, by_name}
 use Rattle.sh_builtin.specs.declared.builtin.Builtin.{Builtin}
 use Rattle.sh_builtin.specs.declared.builtin.Builtin.TheVariants.{Exec}
@@ -30,24 +30,24 @@ use Rattle.sh_exec_actions.specs.declared.action.ToExpand.{ToExpand}
 use Rattle.sh_exec_actions.specs.declared.action.ToExpand.TheVariants.{Words, Values}
 use Rattle.sh_kernel_descriptors.specs.declared.fault.KernelFault.{KernelFault}
 use Rattle.sh_syntax.specs.declared.tree.Command.{Command}
-use Rattle.sh_syntax.specs.declared.tree.SimpleItem.{SimpleItem}
 use Rattle.sh_vars.specs.Environment.{Environment}
 
-abbrev pub no_undo : Undo
-no_undo = record { descriptors = []; variables = []; redirections_stay = false }
+-- the command has changed nothing yet
+abbrev pub no_undo : Command → Undo
+no_undo command = record { command = command; descriptors = []; variables = []; redirections_stay = false }
 
 -- what exec redirects stays (2.15)
 abbrev pub staying : Undo → Undo
 staying undo = record undo { redirections_stay = true }
 
 -- ---- the first action: its words and those of its redirections are expanded; a command of assignments alone begins with these
-unfoldable pub nameless : List SimpleItem → ExpandedCommand
-nameless items = record {
+unfoldable pub nameless : Command → ExpandedCommand
+nameless command = record {
   role = role.NoCommandName;
   fields = [];
   redirections = [];
-  assignments = assignments_of items;
-  undo = no_undo;
+  assignments = assignments_of (items_of command);
+  undo = no_undo command;
   status = 0;
   has_words = false;
 }
@@ -56,7 +56,7 @@ abbrev pub wants_of : Bool → Command → ToExpand
 wants_of in_place command =
     if list_any is_word (items_of command) || list_any is_redirect (items_of command)
     then Words command in_place 0
-    else Values (nameless (items_of command))
+    else Values (nameless command)
 
 unfoldable pub first_place : Bool → Command → Action
 first_place in_place command = Expanding (wants_of in_place command) None
@@ -108,8 +108,9 @@ role_run functions words (Some behind) = role_behind behind
 abbrev pub fields_run : (words : List (List ℕ)) → (behind : Option (List (List ℕ))) → List (List ℕ)
 fields_run words behind = fields_of (unwrap_or behind words)
 
-unfoldable pub prepared_of : Environment → List Named → List SimpleItem → List (List ℕ) → ℕ → ExpandedCommand
-prepared_of env functions items fields status =
+unfoldable pub prepared_of : Environment → List Named → Command → List (List ℕ) → ℕ → ExpandedCommand
+prepared_of env functions command fields status =
+    let items = items_of command in
     let count = length (redirects_of items) in
     let words = word_fields fields count in
     record {
@@ -117,7 +118,7 @@ prepared_of env functions items fields status =
       fields = fields_run words (behind_command functions words);
       redirections = redirections_of env.options.no_clobber (redirects_of items) (redirect_fields fields count);
       assignments = assignments_of items;
-      undo = no_undo;
+      undo = no_undo command;
       status = status;
       has_words = true;
     }

@@ -4,13 +4,14 @@ use sh_base::sequence::{Sequence, Text};
 use sh_base::shared::Shared;
 use sh_builtin::{Builtin, Completion, Invocation, Leave, TextRun};
 use sh_builtin_jobs::KillAsk;
-use sh_builtin_regular::{Awaited, LineReader};
+use sh_builtin_regular::LineReader;
+use sh_builtin_wait::Awaited;
 use sh_exec_machine::Undone;
 use sh_exec_parts::message::Piece;
 use sh_exec_parts::redirection::Redirection;
 use sh_exec_parts::simple::Assignment;
 use sh_exec_parts::{Queue, Rest};
-use sh_syntax::tree::{AndOr, Command, CompoundList, Parts, Separator};
+use sh_syntax::tree::{AndOr, Command, CompoundList, Parts};
 use sh_vars::{Entry, Vars};
 
 /// What runs a command once its redirections and assignments are done.
@@ -46,6 +47,8 @@ pub enum Saved {
 /// last is undone first.
 #[derive(Drop)]
 pub struct Undo {
+    /// The command.
+    pub command: Shared<Command>,
     pub descriptors: Sequence<Undone>,
     pub variables: Sequence<Saved>,
     /// Whether the redirections stay, as those of `exec` (2.15): then what they had set aside is closed.
@@ -147,6 +150,16 @@ pub struct ProgramStart {
     pub ends_shell: bool,
 }
 
+/// How a shell goes on once each command of a pipeline has its process.
+#[derive(Drop)]
+pub enum Launch {
+    /// It waits for them (2.9.2). With job control (2.11) this is the text of the job that they become when they are suspended, from the first
+    /// process on.
+    Foreground(Option<Text>),
+    /// It goes on at once: they are the job of this asynchronous list (2.9.3.1).
+    Background(Shared<AndOr>),
+}
+
 /// A pipeline (2.9.2) whose processes are being made.
 #[derive(Drop)]
 pub struct Stages {
@@ -156,8 +169,17 @@ pub struct Stages {
     pub aside: Option<usize>,
     /// The processes so far.
     pub children: Sequence<u32>,
-    /// Whether the shell waits for them once all are made, or the pipeline is an asynchronous list (2.9.3.1).
-    pub separator: Separator,
+    /// How the shell goes on once all are made.
+    pub launch: Launch,
+}
+
+/// The processes of a pipeline, of a subshell or of a program for which a shell waits (2.9.2).
+#[derive(Drop)]
+pub struct PipelineWait {
+    /// The processes, the last of which gives the status.
+    pub children: Sequence<u32>,
+    /// With job control (2.11) the text of the job that they become when they are suspended; else none.
+    pub job: Option<Text>,
 }
 
 /// What a built-in has still to say, and how it ends then.
@@ -215,8 +237,8 @@ pub enum Action {
     AssignLoopVariable(ForLoop),
     /// Define the function of this function definition command (2.9.5).
     Defining(Shared<Command>),
-    /// Wait for the end of these processes, the last of which gives the status.
-    Waiting(Sequence<u32>),
+    /// Wait for the end of the processes of a pipeline, and with job control also for their stop.
+    Waiting(PipelineWait),
     /// Write.
     Writing(Piece, Finish),
     /// The shell is to end with this status: take its trap on EXIT before that (2.15 trap), and read its action.

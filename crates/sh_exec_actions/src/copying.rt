@@ -2,14 +2,17 @@
 ghost use Rattle.std.specs.Prelude.{◌≡◌, IfOk};
 
 use crate::action::{
-    Action, Active, Case, CaseBranch, ExpandedCommand, Finish, ForLoop, Pending, ProgramStart,
-    Report, Role, Saved, Stages, Substitution, ToExpand, Undo,
+    Action, Active, Case, CaseBranch, ExpandedCommand, Finish, ForLoop, Launch, Pending,
+    PipelineWait, ProgramStart, Report, Role, Saved, Stages, Substitution, ToExpand, Undo,
 };
 use sh_base::NoMemory;
 use sh_base::sequence::{Sequence, Text, copies_of};
+use sh_base::shared::Shared;
 use sh_builtin::Completion;
+use sh_exec_machine::Undone;
 use sh_exec_parts::message::Piece;
-use sh_exec_parts::{Copying, copy_all};
+use sh_exec_parts::{Copying, Queue, copy_all};
+use sh_syntax::tree::Command;
 use std::alloc::Global;
 
 impl Copying for Saved {
@@ -41,17 +44,32 @@ impl Copying for Role {
     }
 }
 
+/// Copies of what a command changed.
+fn copy_changes(alloc: Global, undo: &Undo) -> Result<(Sequence<Undone>, Sequence<Saved>), NoMemory>
+    ensures { IfOk result (λ copies. (copies.0 ≡ undo.now.descriptors) × (copies.1 ≡ undo.now.variables)) }
+{
+    let descriptors = Sequence::copy_of(alloc, undo.descriptors.as_slice())?;
+    match copy_all(alloc, undo.variables.as_slice()) {
+        Ok(variables) => Ok((descriptors, Sequence::from_vec(variables))),
+        Err(lack) => {
+            drop(descriptors);
+            Err(lack)
+        },
+    }
+}
+
 impl Copying for Undo {
     fn copy(&self, alloc: Global) -> Result<Undo, NoMemory> {
-        let descriptors = Sequence::copy_of(alloc, self.descriptors.as_slice())?;
-        match copy_all(alloc, self.variables.as_slice()) {
-            Ok(variables) => Ok(Undo {
+        let command = self.command.copy(alloc)?;
+        match copy_changes(alloc, self) {
+            Ok((descriptors, variables)) => Ok(Undo {
+                command,
                 descriptors,
-                variables: Sequence::from_vec(variables),
+                variables,
                 redirections_stay: self.redirections_stay,
             }),
             Err(lack) => {
-                drop(descriptors);
+                drop(command);
                 Err(lack)
             },
         }
@@ -250,16 +268,62 @@ impl Copying for Substitution {
     }
 }
 
+/// A copy of the text of a job, if there is one.
+fn copy_job(alloc: Global, job: &Option<Text>) -> Result<Option<Text>, NoMemory>
+    ensures { IfOk result (λ copy. copy ≡ job.now) }
+{
+    match job {
+        Some(text) => Ok(Some(text.copy(alloc)?)),
+        None => Ok(None),
+    }
+}
+
+impl Copying for Launch {
+    fn copy(&self, alloc: Global) -> Result<Launch, NoMemory> {
+        match self {
+            Launch::Foreground(job) => Ok(Launch::Foreground(copy_job(alloc, job)?)),
+            Launch::Background(list) => Ok(Launch::Background(list.copy(alloc)?)),
+        }
+    }
+}
+
+/// Copies of the commands of a pipeline that have no process yet, and of how the shell goes on then.
+fn copy_rest(alloc: Global, stages: &Stages) -> Result<(Queue<Shared<Command>>, Launch), NoMemory>
+    ensures { IfOk result (λ copies. (copies.0 ≡ stages.now.commands) × (copies.1 ≡ stages.now.launch)) }
+{
+    let launch = stages.launch.copy(alloc)?;
+    match stages.commands.copy(alloc) {
+        Ok(commands) => Ok((commands, launch)),
+        Err(lack) => {
+            drop(launch);
+            Err(lack)
+        },
+    }
+}
+
 impl Copying for Stages {
     fn copy(&self, alloc: Global) -> Result<Stages, NoMemory> {
         let children = Sequence::copy_of(alloc, self.children.as_slice())?;
-        match self.commands.copy(alloc) {
-            Ok(commands) => Ok(Stages {
+        match copy_rest(alloc, self) {
+            Ok((commands, launch)) => Ok(Stages {
                 commands,
                 aside: self.aside,
                 children,
-                separator: self.separator,
+                launch,
             }),
+            Err(lack) => {
+                drop(children);
+                Err(lack)
+            },
+        }
+    }
+}
+
+impl Copying for PipelineWait {
+    fn copy(&self, alloc: Global) -> Result<PipelineWait, NoMemory> {
+        let children = Sequence::copy_of(alloc, self.children.as_slice())?;
+        match copy_job(alloc, &self.job) {
+            Ok(job) => Ok(PipelineWait { children, job }),
             Err(lack) => {
                 drop(children);
                 Err(lack)
@@ -361,10 +425,7 @@ impl Copying for Action {
                 Ok(Action::AssignLoopVariable(series.copy(alloc)?))
             },
             Action::Defining(command) => Ok(Action::Defining(command.copy(alloc)?)),
-            Action::Waiting(children) => {
-                let children = Sequence::copy_of(alloc, children.as_slice())?;
-                Ok(Action::Waiting(children))
-            },
+            Action::Waiting(wait) => Ok(Action::Waiting(wait.copy(alloc)?)),
             Action::Writing(piece, finish) => copy_writing(alloc, piece, finish),
             Action::Trapping(status) => Ok(Action::Trapping(*status)),
             Action::Ending(status) => Ok(Action::Ending(*status)),

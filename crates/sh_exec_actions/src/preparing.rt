@@ -10,8 +10,9 @@ use crate::status::{CommandStatus, ERROR};
 use sh_base::NoMemory;
 use sh_base::sequence::{Sequence, Text, copies_of};
 use sh_base::shared::Shared;
-use sh_builtin::{Builtin, Functions, Invocation, behind_command};
+use sh_builtin::{Builtin, Invocation, behind_command};
 use sh_builtin_environment::parse_options;
+use sh_builtin_shell::Functions;
 use sh_exec_parts::Queue;
 use sh_exec_parts::message::not_redirected;
 use sh_exec_parts::redirection::prepared_redirections;
@@ -19,15 +20,16 @@ use sh_exec_parts::simple::{
     assignments_of, has_redirects, has_words, items_of, redirect_count, split_fields,
 };
 use sh_kernel_descriptors::KernelFault;
-use sh_syntax::tree::{Command, SimpleItem};
+use sh_syntax::tree::Command;
 use sh_vars::Vars;
 use std::alloc::Global;
 
-/// Nothing to undo.
-pub fn no_undo(alloc: Global) -> Undo
-    ensures { result ≡ no_undo }
+/// A command that has changed nothing yet. Takes no memory.
+pub fn no_undo(alloc: Global, command: Shared<Command>) -> Undo
+    ensures { result ≡ no_undo command }
 {
     Undo {
+        command,
         descriptors: Sequence::new(alloc),
         variables: Sequence::new(alloc),
         redirections_stay: false,
@@ -45,16 +47,22 @@ fn staying(undo: Undo) -> Undo
 
 /// A command of assignments alone.
 #[tactic(auto, unfolding(crate::specs::Preparing::nameless))]
-fn nameless(alloc: Global, items: &[SimpleItem]) -> Result<ExpandedCommand, NoMemory>
-    ensures { IfOk result (λ p. p ≡ nameless items.now) }
+fn nameless(alloc: Global, command: Shared<Command>) -> Result<ExpandedCommand, NoMemory>
+    ensures { IfOk result (λ p. p ≡ nameless command) }
 {
-    let assignments = assignments_of(alloc, items)?;
+    let assignments = match assignments_of(alloc, items_of(command.get())) {
+        Ok(assignments) => assignments,
+        Err(lack) => {
+            drop(command);
+            return Err(lack);
+        },
+    };
     Ok(ExpandedCommand {
         role: Role::NoCommandName,
         fields: Sequence::new(alloc),
         redirections: Queue::new(Sequence::new(alloc)),
         assignments: Queue::new(assignments),
-        undo: no_undo(alloc),
+        undo: no_undo(alloc, command),
         status: 0,
         has_words: false,
     })
@@ -71,7 +79,7 @@ fn wants_of(alloc: Global, in_place: bool, command: Shared<Command>) -> Result<T
             status: 0,
         });
     }
-    let prepared = nameless(alloc, items_of(command.get()))?;
+    let prepared = nameless(alloc, command)?;
     Ok(ToExpand::Values(prepared))
 }
 
@@ -215,24 +223,26 @@ pub fn prepare(
     alloc: Global,
     vars: &Vars,
     functions: &Functions,
-    items: &[SimpleItem],
+    command: &Shared<Command>,
     fields: &[Text],
     status: u8,
 ) -> Result<ExpandedCommand, NoMemory>
     ensures { IfOk result (λ p.
-        p ≡ prepared_of vars.now functions.now items.now fields.now status) }
+        p ≡ prepared_of vars.now functions.now command.now fields.now status) }
 {
+    let items = items_of(command.get());
     let (words, redirects) = split_fields(fields, redirect_count(items));
     let redirections = prepared_redirections(alloc, items, redirects, vars.options().no_clobber)?;
     let assignments = assignments_of(alloc, items)?;
     let behind = behind_command(functions, words);
     let role = role_run(functions, words, behind)?;
+    let fields = copies_of(alloc, fields_run(words, behind))?;
     Ok(ExpandedCommand {
         role,
-        fields: Sequence::from_vec(copies_of(alloc, fields_run(words, behind))?),
+        fields: Sequence::from_vec(fields),
         redirections,
         assignments: Queue::new(assignments),
-        undo: no_undo(alloc),
+        undo: no_undo(alloc, command.share()?),
         status,
         has_words: true,
     })

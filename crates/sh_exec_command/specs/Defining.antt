@@ -1,6 +1,6 @@
 -- A function definition (XCU 2.9.5): each call runs the compound command that is its body, with the redirections of that.
 use Rattle.std.specs.Prelude.{List}
-use Rattle.sh_builtin.specs.Functions.{Named, defined}
+use Rattle.sh_builtin_shell.specs.Functions.{Named, defined}
 use Rattle.sh_exec_parts.specs.Simple.{Opened}
 use Rattle.sh_syntax.specs.declared.tree.Command.{Command}
 use Rattle.sh_syntax.specs.declared.tree.Command.TheOpen as layer

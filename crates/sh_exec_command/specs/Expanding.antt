@@ -1,7 +1,7 @@
 -- The expansion turn of a simple command's words (XCU 2.9.1.1, steps 1 and 2): always from the first word, in the variables at
 -- its start, with the answers so far.
 use Rattle.std.specs.Prelude.{ℕ, List, [], Bool, Option, Some, None}
-use Rattle.sh_builtin.specs.Functions.{Named}
+use Rattle.sh_builtin_shell.specs.Functions.{Named}
 use Rattle.sh_exec_actions.specs.Statuses as statuses
 use Rattle.sh_exec_parts.specs.Messages.{fault_text, message}
 use Rattle.sh_exec_parts.specs.Simple.{items_of}
@@ -41,7 +41,7 @@ abbrev pub words_by : List Named → Command → (in_place : Bool) → (status :
 words_by functions command in_place status pending (expanding.Need program env) =
     record { environment = env; outcome = Need program (Words command in_place status) pending }
 words_by functions command in_place status pending (expanding.Fields fields env) =
-    record { environment = env; outcome = Go (first_move in_place (prepared_of env functions (items_of command) fields status)) }
+    record { environment = env; outcome = Go (first_move in_place (prepared_of env functions command fields status)) }
 words_by functions command in_place status pending (expanding.Stops fault env) =
     record { environment = env; outcome = Go (At (fatal (fault_text fault))) }
 

@@ -46,7 +46,7 @@ redirected env command fields = record {
   fields = [];
   redirections = redirections_of env.options.no_clobber (compound_redirects command) fields;
   assignments = [];
-  undo = no_undo;
+  undo = no_undo command;
   status = 0;
   has_words = true;
 }

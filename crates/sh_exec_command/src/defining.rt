@@ -1,12 +1,12 @@
 //! Function definitions.
 ghost use Rattle.std.specs.Prelude.{◌≡◌, OnOk};
-ghost use Rattle.sh_builtin.specs.Functions.{defined};
+ghost use Rattle.sh_builtin_shell.specs.Functions.{defined};
 ghost use Rattle.sh_exec_command.specs.Defining.{define_turn};
 ghost use Rattle.sh_syntax.specs.declared.tree.Command.TheVariants as command;
 
 use sh_base::NoMemory;
 use sh_base::shared::Shared;
-use sh_builtin::Functions;
+use sh_builtin_shell::Functions;
 use sh_syntax::tree::{Command, Compound, Name};
 use std::alloc::Global;
 

@@ -13,7 +13,7 @@ use crate::answers::expand;
 use sh_base::NoMemory;
 use sh_base::sequence::{Sequence, Text};
 use sh_base::shared::Shared;
-use sh_builtin::Functions;
+use sh_builtin_shell::Functions;
 use sh_exec_actions::status::ERROR;
 use sh_exec_actions::{
     Action, Active, Expanded, Finish, Move, Pending, ToExpand, begin_command, prepare,
@@ -89,10 +89,9 @@ fn begin(
 ) -> Result<Expanded, NoMemory>
     ensures { IfOk result (λ e.
         e ≡ Expanded.Go
-        (first_move in_place (prepared_of vars.now functions.now (items_of command) fields status))) }
+        (first_move in_place (prepared_of vars.now functions.now command fields status))) }
 {
-    let items = items_of(command.get());
-    let prepared = prepare(alloc, vars, functions, items, fields.as_slice(), status);
+    let prepared = prepare(alloc, vars, functions, &command, fields.as_slice(), status);
     drop(fields);
     drop(command);
     let next = begin_command(in_place, prepared?);

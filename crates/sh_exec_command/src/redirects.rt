@@ -66,7 +66,7 @@ fn redirected(
         fields: Sequence::new(alloc),
         redirections,
         assignments: Queue::new(Sequence::new(alloc)),
-        undo: no_undo(alloc),
+        undo: no_undo(alloc, command.share()?),
         status: 0,
         has_words: true,
     })

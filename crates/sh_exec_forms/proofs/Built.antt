@@ -4,7 +4,7 @@ use Rattle.sh_builtin.specs.Invocations.{invoked}
 use Rattle.sh_builtin.specs.Running.{with_outcome}
 use Rattle.sh_builtin.specs.declared.invocation.Invocation.{Invocation}
 use Rattle.sh_builtin.specs.declared.outcome.Outcome.{Outcome}
-use Rattle.sh_builtin.specs.declared.shell.Shell.{Shell}
+use Rattle.sh_builtin_shell.specs.declared.shell.Shell.{Shell}
 use Rattle.sh_exec_actions.specs.declared.action.Active.{Active}
 use Rattle.sh_exec_actions.specs.declared.action.Active.TheVariants.{Acting, Calling, Evaluating, Next, Done, Leaving}
 use Rattle.sh_exec_actions.specs.declared.form.Form.{Form}

@@ -21,7 +21,7 @@ use Rattle.sh_syntax.specs.declared.tree.CaseItem.{CaseItem}
 use Rattle.sh_syntax.specs.declared.tree.Name.{Name}
 use Rattle.sh_syntax.specs.declared.tree.Pipeline.{Pipeline}
 use Rattle.sh_syntax.specs.declared.tree.Redirect.{Redirect}
-use Rattle.sh_syntax.specs.declared.tree.Separator.TheVariants.{Sequential}
+use Rattle.sh_exec_actions.specs.declared.action.Launch.TheVariants.{Foreground}
 use Rattle.sh_syntax.specs.declared.tree.SimpleItem.{SimpleItem}
 use Rattle.sh_syntax.specs.declared.tree.Word.{Word}
 use Rattle.sh_syntax.specs.declared.tree.Command.TheFolds as folds
@@ -75,20 +75,20 @@ pub alone : (x : Pipeline) → (view.out-Pipeline x).rest ≡ [] → commands_ru
 alone x e = ap (λ rest. commands_step (to_enter (view.out-Pipeline x).first) (map to_enter rest)) e
 
 several_as : (first : Command) (rest : List Command) (next : Command) (others : List Command) → rest ≡ next ∷ others
-    → commands_step (to_enter first) (map to_enter rest) ≡ At (Next (staging Sequential (first ∷ rest)))
+    → commands_step (to_enter first) (map to_enter rest) ≡ At (Next (staging (Foreground None) (first ∷ rest)))
 several_as first rest next others e =
     ap (λ commands. commands_step (to_enter first) (map to_enter commands)) e
-    ∙ ap (λ commands. At (Next (staging Sequential (first ∷ next ∷ commands)))) (trees_beside command_entry others)
-    ∙ ap (λ commands. At (Next (staging Sequential (first ∷ commands)))) (sym e)
+    ∙ ap (λ commands. At (Next (staging (Foreground None) (first ∷ next ∷ commands)))) (trees_beside command_entry others)
+    ∙ ap (λ commands. At (Next (staging (Foreground None) (first ∷ commands)))) (sym e)
 
-pub several : (x : Pipeline) (next : Command) (others : List Command) → (view.out-Pipeline x).rest ≡ next ∷ others → commands_run x ≡ At (Next (staging Sequential (commands_of x)))
+pub several : (x : Pipeline) (next : Command) (others : List Command) → (view.out-Pipeline x).rest ≡ next ∷ others → commands_run x ≡ At (Next (staging (Foreground None) (commands_of x)))
 several x next others e = several_as (view.out-Pipeline x).first (view.out-Pipeline x).rest next others e
 
-long_as : (first : Command) (rest : List Command) → 1 ≤ length rest → commands_step (to_enter first) (map to_enter rest) ≡ At (Next (staging Sequential (first ∷ rest)))
+long_as : (first : Command) (rest : List Command) → 1 ≤ length rest → commands_step (to_enter first) (map to_enter rest) ≡ At (Next (staging (Foreground None) (first ∷ rest)))
 long_as first [] h = absurd (omega (arith, h))
 long_as first (next ∷ others) h = several_as first (next ∷ others) next others refl
 
-pub several_long : (x : Pipeline) → 1 ≤ length (view.out-Pipeline x).rest → commands_run x ≡ At (Next (staging Sequential (commands_of x)))
+pub several_long : (x : Pipeline) → 1 ≤ length (view.out-Pipeline x).rest → commands_run x ≡ At (Next (staging (Foreground None) (commands_of x)))
 several_long x h = long_as (view.out-Pipeline x).first (view.out-Pipeline x).rest h
 
 -- ---- compound commands
@@ -133,7 +133,7 @@ unfolding form_entry list_run
 group_entered list whole = ap (λ entry. form_entry entry whole) (sym (form.rolls-Group list)) ∙ ap (λ entry. entry whole) (folds.para-roll-CompoundForm Entry Entry (Unit {0}) (Unit {0}) (Unit {0}) Run (Unit {0}) Entry Run (Unit {0}) (Unit {0}) Run (Unit {0}) Run (Unit {0}) (Unit {0})
     command_step form_step no_entry no_entry no_entry and_or_step no_entry compound_step compound_list_step no_entry no_entry list_item_step no_entry pipeline_step no_entry no_entry (layer.Group list))
 
-pub subshell_entered : (list : CompoundList) (whole : Command) → form_entry (form.Subshell list) whole ≡ At (Next (staging Sequential (whole ∷ [])))
+pub subshell_entered : (list : CompoundList) (whole : Command) → form_entry (form.Subshell list) whole ≡ At (Next (staging (Foreground None) (whole ∷ [])))
 unfolding form_entry list_run
 subshell_entered list whole = ap (λ entry. form_entry entry whole) (sym (form.rolls-Subshell list)) ∙ ap (λ entry. entry whole) (folds.para-roll-CompoundForm Entry Entry (Unit {0}) (Unit {0}) (Unit {0}) Run (Unit {0}) Entry Run (Unit {0}) (Unit {0}) Run (Unit {0}) Run (Unit {0}) (Unit {0})
     command_step form_step no_entry no_entry no_entry and_or_step no_entry compound_step compound_list_step no_entry no_entry list_item_step no_entry pipeline_step no_entry no_entry (layer.Subshell list))

@@ -2,7 +2,7 @@
 use Rattle.std.proofs.Common.{◌≡◌, arith, length, List, [], ◌∷◌, Bool, false, refl, sym, ap, subst, ◌∙◌}
 use Rattle.sh_exec_actions.specs.declared.action.Active.TheVariants.{Acting, Calling, Evaluating, Next, Done, Leaving}
 use Rattle.sh_builtin.specs.declared.outcome.Leave.{Leave}
-use Rattle.sh_builtin.specs.declared.shell.Shell.{Shell}
+use Rattle.sh_builtin_shell.specs.declared.shell.Shell.{Shell}
 use Rattle.sh_exec_actions.specs.declared.action.Active.{Active}
 use Rattle.sh_exec_actions.specs.declared.status.CommandStatus.{CommandStatus}
 use Rattle.sh_exec_forms.specs.Builtins.{effect_at, machine_at}

@@ -5,6 +5,8 @@ use Rattle.sh_exec_actions.specs.Statuses.{unexcused}
 use Rattle.sh_exec_actions.specs.declared.action.Active.TheVariants.{Next, Done}
 use Rattle.sh_exec_actions.specs.declared.action.Action.{Action}
 use Rattle.sh_exec_actions.specs.declared.action.Action.TheVariants.{Defining, Expanding, ForkList, ForkStage}
+use Rattle.sh_exec_actions.specs.declared.action.Launch.{Launch}
+use Rattle.sh_exec_actions.specs.declared.action.Launch.TheVariants.{Foreground, Background}
 use Rattle.sh_exec_actions.specs.declared.action.ToExpand.TheVariants.{CaseWord, ForWords, Redirects}
 use Rattle.sh_exec_actions.specs.declared.status.CommandStatus.{CommandStatus}
 use Rattle.sh_exec_forms.specs.Running.{Run, At, In}
@@ -56,13 +58,13 @@ abbrev pub trees : {A B : Type 0} → List (A × B) → List A
 trees parts = map tree parts
 
 -- processes are made for these commands, one after another (2.9.2); the shell waits for them then, or goes on at once
-abbrev pub staging : Separator → List Command → Action
-staging separator commands = ForkStage (record { commands = commands; aside = None; children = []; separator = separator })
+abbrev pub staging : Launch → List Command → Action
+staging launch commands = ForkStage (record { commands = commands; aside = None; children = []; launch = launch })
 
 -- ---- compound commands (2.9.4): a subshell is a pipeline of one process
 abbrev pub form_step : Layer Run layer.CompoundForm-F → Entry
 form_step (layer.Group list) command = list.1
-form_step (layer.Subshell list) command = At (Next (staging Sequential (command ∷ [])))
+form_step (layer.Subshell list) command = At (Next (staging (Foreground None) (command ∷ [])))
 form_step (layer.If condition body else_ifs else_body) command =
     In (If (record { body = body.0; else_ifs = trees else_ifs; else_body = option_map tree else_body })) condition.1
 form_step (layer.Loop kind condition body) command =
@@ -103,7 +105,7 @@ command_step (layer.Function name body) command = At (Next (Defining command))
 -- ---- pipelines (2.9.2): a command alone runs in the shell, of several each in a process of its own
 abbrev pub commands_step : Command × Entry → List (Command × Entry) → Run
 commands_step command [] = command.1 command.0
-commands_step command (next ∷ others) = At (Next (staging Sequential (command.0 ∷ next.0 ∷ trees others)))
+commands_step command (next ∷ others) = At (Next (staging (Foreground None) (command.0 ∷ next.0 ∷ trees others)))
 
 abbrev pub with_negation : Bool → Run → Run
 with_negation false run = run
@@ -124,7 +126,7 @@ and_or_step list = with_others (trees list.rest) list.first.1
 -- one process, and so has a pipeline with `!`
 abbrev pub background_of : (is_negated : Bool) → List Connected → AndOr → Action
 background_of true others list = ForkList list
-background_of false [] list = staging Asynchronous (commands_of (view.out-AndOr list).first)
+background_of false [] list = staging (Background list) (commands_of (view.out-AndOr list).first)
 background_of false (next ∷ others) list = ForkList list
 
 abbrev pub in_background : AndOr → Action

@@ -4,7 +4,7 @@ use Rattle.sh_builtin.specs.Outcomes.{shell_status}
 use Rattle.sh_builtin.specs.declared.outcome.Leave.{Leave}
 use Rattle.sh_builtin.specs.declared.outcome.TextOrigin.{TextOrigin}
 use Rattle.sh_builtin.specs.declared.outcome.TextOrigin.TheVariants as origin
-use Rattle.sh_builtin.specs.declared.shell.Shell.{Shell}
+use Rattle.sh_builtin_shell.specs.declared.shell.Shell.{Shell}
 use Rattle.sh_builtin.specs.declared.outcome.Leave.TheVariants as leave
 use Rattle.sh_exec_command.specs.Series.{rest_of_series}
 use Rattle.sh_exec_command.specs.Undoing as variables

@@ -1,5 +1,5 @@
 -- What a shell's process runs: a tree of running forms, with the one place at which it acts.
-use Rattle.sh_builtin.specs.declared.shell.Shell.{Shell}
+use Rattle.sh_builtin_shell.specs.declared.shell.Shell.{Shell}
 use Rattle.sh_exec_actions.specs.declared.action.Active.{Active}
 use Rattle.sh_exec_actions.specs.declared.form.Form.{Form}
 

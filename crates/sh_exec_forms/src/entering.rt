@@ -12,7 +12,7 @@ use sh_base::NoMemory;
 use sh_base::sequence::Sequence;
 use sh_base::shared::Shared;
 use sh_exec_actions::{
-    Action, Active, Branches, CommandStatus, Form, Loop, Stages, ToExpand, first_place,
+    Action, Active, Branches, CommandStatus, Form, Launch, Loop, Stages, ToExpand, first_place,
 };
 use sh_exec_frames::Frames;
 use sh_exec_parts::{Queue, commands_of, is_negated};
@@ -23,24 +23,24 @@ use sh_syntax::tree::{
 use std::alloc::Global;
 
 /// Processes are to be made for these commands.
-fn staging(alloc: Global, separator: Separator, commands: Sequence<Shared<Command>>) -> Action
-    ensures { result ≡ staging separator commands }
+fn staging(alloc: Global, launch: Launch, commands: Sequence<Shared<Command>>) -> Action
+    ensures { result ≡ staging launch commands }
 {
     Action::ForkStage(Stages {
         commands: Queue::new(commands),
         aside: None,
         children: Sequence::new(alloc),
-        separator,
+        launch,
     })
 }
 
 /// A subshell, for which a process is to be made.
 fn subshell(alloc: Global, command: &Shared<Command>) -> Result<Active, NoMemory>
-    ensures { IfOk result (λ active. active ≡ Active.Next (staging Separator.Sequential (command.now ∷ []))) }
+    ensures { IfOk result (λ active. active ≡ Active.Next (staging (Launch.Foreground None) (command.now ∷ []))) }
 {
     let mut commands = Sequence::new(alloc);
     commands.push(command.share()?)?;
-    Ok(Active::Next(staging(alloc, Separator::Sequential, commands)))
+    Ok(Active::Next(staging(alloc, Launch::Foreground(None), commands)))
 }
 
 /// What an `if` runs after its condition.
@@ -271,10 +271,10 @@ pub(crate) fn enter_redirected(
 /// The commands of a pipeline of several.
 fn stages(alloc: Global, pipeline: &Pipeline) -> Result<Step, NoMemory>
     ensures { IfOk result (λ step.
-        step ≡ Step.Inward (Active.Next (staging Separator.Sequential (commands_of pipeline.now)))) }
+        step ≡ Step.Inward (Active.Next (staging (Launch.Foreground None) (commands_of pipeline.now)))) }
 {
     let commands = commands_of(alloc, pipeline)?;
-    Ok(Step::Inward(Active::Next(staging(alloc, Separator::Sequential, commands))))
+    Ok(Step::Inward(Active::Next(staging(alloc, Launch::Foreground(None), commands))))
 }
 
 /// The commands of a pipeline.
@@ -348,8 +348,14 @@ fn in_background(alloc: Global, list: &Shared<AndOr>) -> Result<Active, NoMemory
     if let Some(_) = list.get().rest.as_slice().split_first() {
         return Ok(Active::Next(Action::ForkList(list.share()?)));
     }
-    let commands = commands_of(alloc, pipeline)?;
-    Ok(Active::Next(staging(alloc, Separator::Asynchronous, commands)))
+    let launch = Launch::Background(list.share()?);
+    match commands_of(alloc, pipeline) {
+        Ok(commands) => Ok(Active::Next(staging(alloc, launch, commands))),
+        Err(lack) => {
+            drop(launch);
+            Err(lack)
+        },
+    }
 }
 
 /// An AND-OR list of a list.

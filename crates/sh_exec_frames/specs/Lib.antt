@@ -1,5 +1,6 @@
 pub mod Codes
 pub mod Frames
+pub mod JobTexts
 pub mod Kinds
 pub mod Reporting
 pub mod Waiting

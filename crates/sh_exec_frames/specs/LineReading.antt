@@ -1,6 +1,6 @@
 -- The reading of the built-in read (XCU read).
 use Rattle.std.specs.Prelude.{ℕ, List, length, nat_eq, Option, Some, None, if◌then◌else◌}
-use Rattle.sh_builtin.specs.declared.shell.Shell.{Shell}
+use Rattle.sh_builtin_shell.specs.declared.shell.Shell.{Shell}
 use Rattle.sh_builtin_regular.specs.Assigning.{line_assigned}
 use Rattle.sh_builtin_regular.specs.Lines.{Progress, bytes_taken}
 use Rattle.sh_builtin_regular.specs.declared.reader.LineReader.{LineReader}

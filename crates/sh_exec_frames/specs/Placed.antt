@@ -1,6 +1,6 @@
 -- What a turn leaves that enters no form: the machine, the shell, and the active place.
 use Rattle.std.specs.Prelude.{◌≡◌}
-use Rattle.sh_builtin.specs.declared.shell.Shell.{Shell}
+use Rattle.sh_builtin_shell.specs.declared.shell.Shell.{Shell}
 use Rattle.sh_exec_actions.specs.declared.action.Active.{Active}
 use Rattle.sh_kernel.specs.State.{KernelKept, KernelState, StandsAt}
 

@@ -1,11 +1,12 @@
 -- The signals of a shell's process: what it does with those whose traps are set (XCU 2.15 trap), the trap that is taken next, and the turns
 -- in which `kill` sends a signal (XCU kill).
-use Rattle.std.specs.Prelude.{ℕ, List, [], ◌∷◌, Bool, true, false, Option, Some, None, Result, Ok, Err, if◌then◌else◌}
+use Rattle.std.specs.Prelude.{ℕ, List, [], ◌∷◌, Bool, false, Option, Some, None, Result, Ok, Err, if◌then◌else◌}
 use Rattle.std.specs.List.{list_any}
 use Rattle.std.specs.Option.{option_and_then}
 use Rattle.sh_builtin.specs.Running.{control_of}
 use Rattle.sh_builtin.specs.declared.outcome.Completion.TheVariants as completion
-use Rattle.sh_builtin.specs.declared.shell.Shell.{Shell}
+use Rattle.sh_builtin_shell.specs.Shells.{up_to_date}
+use Rattle.sh_builtin_shell.specs.declared.shell.Shell.{Shell}
 use Rattle.sh_builtin_environment.specs.TrapMaps.{TrapMap, action_of}
 use Rattle.sh_builtin_jobs.specs.KillRuns.{kill_next}
 use Rattle.sh_builtin_jobs.specs.declared.run.KillAsk.{KillAsk}
@@ -74,8 +75,12 @@ abbrev pub step_place : KillStep → Active
 step_place (Asks ask) = Next (SendSignal ask)
 step_place (Over report) = said report.messages (completion.Done report.status)
 
+abbrev pub next_operand : KernelState → Shell → KillAsk → (is_reached : Bool) → Placed
+next_operand s shell ask is_reached =
+    at_place s shell (step_place (kill_next (control_of s shell) s.machine.processes shell.jobs ask is_reached))
+
 abbrev pub signal_sent : KernelState → Shell → KillAsk → (is_reached : Bool) → Placed
-signal_sent s shell ask is_reached = at_place s shell (step_place (kill_next (control_of s shell.pid) s.machine.processes [] ask is_reached))
+signal_sent s shell ask is_reached = next_operand s (up_to_date s shell) ask is_reached
 
 unfoldable pub signal_turn : KernelState → Shell → KillAsk → Placed
 signal_turn s shell ask = signal_sent (after_sending s ask.send.signal ask.target) shell ask (is_reached s ask.target)

@@ -1,15 +1,20 @@
 //! The running forms of a shell.
 ghost use Rattle.std.specs.Prelude.{◌≡◌, ◌∷◌, [], IfOk, MatchOption, OnOk, reverse};
+ghost use Rattle.sh_exec_frames.specs.JobTexts.{job_text};
 ghost use Rattle.sh_exec_frames.specs.Frames.{before_action, ends_action, ends_shell, forms_in, framed, has_loop, is_failure_ignored, last_for, levels_left, may_return, root_forms};
 
+use crate::job_text::job_text;
 use crate::kinds::{
     MOST_LEVELS, before_trap, ignores_failure, is_call, is_loop, levels_inside, refusal_ends,
     takes_return,
 };
 use sh_base::NoMemory;
+use sh_base::sequence::Text;
+use sh_base::shared::Shared;
 use sh_builtin::Builtin;
 use sh_exec_actions::{Form, Frame};
 use sh_exec_parts::copy_all;
+use sh_syntax::tree::Command;
 use std::alloc::Global;
 use std::marker::Model;
 
@@ -142,6 +147,7 @@ impl Frames {
             Builtin::Exit => before_action(self.frames.as_slice(), false).unwrap_or(last),
             Builtin::Export => last,
             Builtin::False => last,
+            Builtin::Jobs => last,
             Builtin::Kill => last,
             Builtin::Pwd => last,
             Builtin::Read => last,
@@ -169,6 +175,15 @@ impl Frames {
         ensures { result ≡ ends_action self.now }
     {
         ends_action(self.frames.as_slice())
+    }
+
+    /// The text of the job that the pipeline of these commands becomes when it is suspended directly inside them (XCU jobs, STDOUT): its tokens,
+    /// with its `!`. A subshell that is the body of a function has the text of the pipeline that called the function. The only error is want
+    /// of memory.
+    pub fn job_text(&self, alloc: Global, commands: &[Shared<Command>]) -> Result<Text, NoMemory>
+        ensures { IfOk result (λ text. text ≡ job_text self.now commands.now) }
+    {
+        job_text(alloc, self.frames.as_slice(), commands)
     }
 
     /// How many more texts and calls of functions there may be inside them, one in another. Looks at the innermost one only.

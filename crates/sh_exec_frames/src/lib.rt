@@ -4,6 +4,7 @@
 
 mod awaiting;
 mod frames;
+mod job_text;
 mod kinds;
 mod line;
 mod reporting;
@@ -17,5 +18,5 @@ pub use kinds::MOST_LEVELS;
 pub use line::read_line_turn;
 pub use reporting::behind;
 pub use signals::{heed_traps, pending_action, pending_signal, signal_turn};
-pub use waiting::{answer_turn, wait_turn};
+pub use waiting::{answer_turn, take_terminal_back, wait_turn};
 pub use writing::after_write;

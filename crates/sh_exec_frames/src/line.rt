@@ -7,8 +7,8 @@ ghost use Rattle.sh_exec_frames.specs.LineReading.{fields_given, line_by, line_e
 
 use sh_base::NoMemory;
 use sh_base::sequence::Text;
-use sh_builtin::Shell;
 use sh_builtin_regular::LineReader;
+use sh_builtin_shell::Shell;
 use sh_exec_actions::status::ERROR;
 use sh_exec_actions::{Action, Active, CommandStatus, Finish};
 use sh_exec_machine::{ReadOutcome, take_bytes};

@@ -4,18 +4,19 @@ ghost use Rattle.sh_builtin.specs.Running.{control_of};
 ghost use Rattle.sh_builtin_environment.specs.TrapMaps.{action_of};
 ghost use Rattle.sh_builtin_jobs.specs.KillRuns.{kill_next};
 ghost use Rattle.sh_exec_frames.specs.Placed.{IsPlaced};
-ghost use Rattle.sh_exec_frames.specs.Signals.{after_sending, after_trap_in, after_trap_set, after_traps, after_traps_in, is_reached, pending_action, pending_signal, signal_action, signal_sent, signal_turn, step_place};
+ghost use Rattle.sh_exec_frames.specs.Signals.{after_sending, after_trap_in, after_trap_set, after_traps, after_traps_in, is_reached, next_operand, pending_action, pending_signal, signal_action, signal_sent, signal_turn, step_place};
 ghost use Rattle.sh_kernel.specs.State.{KernelState, StandsAt};
 ghost use Rattle.sh_signal.specs.declared.condition.Condition.TheVariants as condition;
 
 use crate::reporting::reported;
 use sh_base::NoMemory;
-use sh_builtin::{Completion, Shell, job_control};
+use sh_builtin::{Completion, job_control};
 use sh_builtin_environment::Traps;
 use sh_builtin_jobs::{KillAsk, KillStep};
+use sh_builtin_shell::Shell;
 use sh_exec_actions::{Action, Active, Report};
 use sh_exec_parts::Queue;
-use sh_jobs::{JobFault, Jobs};
+use sh_jobs::JobFault;
 use sh_kernel::{Kernel, KernelFault};
 use sh_kernel_signals::{SignalAction, SignalSet, SignalTarget};
 use sh_signal::{Condition, Signal};
@@ -146,8 +147,8 @@ fn step_place(step: KillStep) -> Active
     }
 }
 
-/// The operand of kill is done with.
-fn sent(
+/// The next operand of kill is looked up.
+fn next_operand(
     alloc: Global,
     kernel: &Kernel,
     shell: &Shell,
@@ -155,12 +156,27 @@ fn sent(
     is_reached: bool,
 ) -> Result<Active, NoMemory>
     ensures { (s : KernelState) → StandsAt kernel.now s → IfOk result (λ active.
-        IsPlaced kernel.now shell.now active (signal_sent s shell.now ask is_reached)) }
+        IsPlaced kernel.now shell.now active (next_operand s shell.now ask is_reached)) }
 {
-    let jobs = Jobs::new(alloc);
-    let control = job_control(kernel, shell.pid);
-    let step = ask.go_on(alloc, control, kernel, &jobs, is_reached)?;
+    let control = job_control(kernel, shell);
+    let step = ask.go_on(alloc, control, kernel, &shell.jobs, is_reached)?;
     Ok(step_place(step))
+}
+
+/// The operand of kill is done with.
+fn sent(
+    alloc: Global,
+    kernel: &Kernel,
+    shell: &mut Shell,
+    ask: KillAsk,
+    is_reached: bool,
+) -> Result<Active, NoMemory>
+    ensures { (s : KernelState) → StandsAt kernel.now s → IfOk result (λ active.
+        IsPlaced kernel.now shell.new active (signal_sent s shell.old ask is_reached)) }
+{
+    shell.bring_jobs_up_to_date(kernel);
+    let active = next_operand(alloc, kernel, shell, ask, is_reached)?;
+    Ok(active)
 }
 
 /// The turn in which kill sends its signal to what an operand names (XCU kill). It may end or stop the shell itself. The only error is want of
@@ -169,11 +185,11 @@ fn sent(
 pub fn signal_turn(
     alloc: Global,
     kernel: &mut Kernel,
-    shell: &Shell,
+    shell: &mut Shell,
     ask: KillAsk,
 ) -> Result<Active, NoMemory>
     ensures state { (s : KernelState) → StandsAt kernel.old s → IfOk result (λ active.
-        IsPlaced kernel.new shell.now active (signal_turn s shell.now ask)) }
+        IsPlaced kernel.new shell.new active (signal_turn s shell.old ask)) }
     ensures terminal { kernel.new.terminal ≡ kernel.old.terminal }
 {
     let is_reached = is_reached(kernel, &ask.target);

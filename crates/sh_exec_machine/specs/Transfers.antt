@@ -33,6 +33,7 @@ refused_by fault.TooManyProcesses = given.Failed
 refused_by fault.TooManyDescriptors = given.Failed
 refused_by fault.WouldWait = given.Wait
 refused_by fault.BrokenPipe = given.Failed
+refused_by fault.InputOutput = given.Failed
 refused_by (fault.File f) = given.Failed
 refused_by (fault.NoMemory _) = given.Failed
 

@@ -64,6 +64,7 @@ pub fn take_bytes(
             buf.truncate(read);
             Ok(ReadOutcome::Bytes(Text::from_vec(buf)))
         }
+        Err(KernelFault::NoMemory(lack)) => Err(lack),
         Err(fault) => Ok(not_taken(fault)),
     }
 }
@@ -89,6 +90,7 @@ fn refused(fault: KernelFault) -> WriteOutcome
         KernelFault::TooManyDescriptors => WriteOutcome::Failed,
         KernelFault::WouldWait => WriteOutcome::Wait,
         KernelFault::BrokenPipe => WriteOutcome::Failed,
+        KernelFault::InputOutput => WriteOutcome::Failed,
         KernelFault::File(_) => WriteOutcome::Failed,
         KernelFault::NoMemory(_) => WriteOutcome::Failed,
     }

@@ -11,8 +11,9 @@ const UNKNOWN: u8 = 127;
 /// A process that a signal ended has this and the signal's number.
 const SIGNALED: u8 = 128;
 
-/// The exit status of a process that a signal ended.
-fn signal_status(signal: u8) -> u8
+/// The exit status by which a shell tells that a signal of this number ended or stopped a process (XCU 2.8.2): 128 and the number. Takes no
+/// memory.
+pub fn signal_status(signal: u8) -> u8
     ensures { result ≡ signal_status signal }
 {
     if signal < SIGNALED {

@@ -70,6 +70,7 @@ redirection_text kernel.TooManyProcesses = codes ": cannot open"
 redirection_text kernel.TooManyDescriptors = codes ": cannot open"
 redirection_text kernel.WouldWait = codes ": cannot open"
 redirection_text kernel.BrokenPipe = codes ": cannot open"
+redirection_text kernel.InputOutput = codes ": cannot open"
 redirection_text (kernel.File fault) = file_text fault
 redirection_text (kernel.NoMemory _) = codes ": cannot open"
 

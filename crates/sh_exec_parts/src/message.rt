@@ -175,6 +175,7 @@ fn redirection_text(fault: KernelFault) -> &'static [u8]
         KernelFault::TooManyDescriptors => b": cannot open",
         KernelFault::WouldWait => b": cannot open",
         KernelFault::BrokenPipe => b": cannot open",
+        KernelFault::InputOutput => b": cannot open",
         KernelFault::File(fault) => file_text(fault),
         KernelFault::NoMemory(_) => b": cannot open",
     }

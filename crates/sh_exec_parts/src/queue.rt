@@ -40,6 +40,15 @@ impl<T> Queue<T> {
         self.items.pop()
     }
 
+    /// The items in order. Takes no memory.
+    pub fn into_sequence(self) -> Sequence<T>
+        ensures { result ≡ self }
+    {
+        let mut items = self.items;
+        items.reverse();
+        Sequence::from_vec(items)
+    }
+
     /// Whether there is none.
     pub fn is_empty(&self) -> bool
         ensures { result ≡ nat_eq (length self.now) 0 }

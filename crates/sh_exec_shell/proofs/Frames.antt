@@ -1,7 +1,7 @@
 -- A shell's tree and the list of the forms round its place.
 use Rattle.std.proofs.Common.{◌≡◌, ◌<◌, ◌≤◌, arith, length, List, [], ◌∷◌, Option, reverse, refl, sym, ap, subst, ◌∙◌}
 use Rattle.std.proofs.lemmas.List.{length-reverse}
-use Rattle.sh_builtin.specs.declared.shell.Shell.{Shell}
+use Rattle.sh_builtin_shell.specs.declared.shell.Shell.{Shell}
 use Rattle.sh_exec_actions.specs.declared.action.Active.{Active}
 use Rattle.sh_exec_forms.specs.Forms.{Acted, IsActed, at_action, outward}
 use Rattle.sh_exec_forms.specs.Stacks.{forms_round, path_of, run_in, run_of}

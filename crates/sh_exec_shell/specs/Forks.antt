@@ -1,7 +1,7 @@
 -- The actions of a shell that make a process: of a program, of a stage of a pipeline, of an asynchronous list, of a command substitution.
-use Rattle.std.specs.Prelude.{◌≡◌, ℕ, List, [], ◌∷◌, ◌++◌, Bool, true, false, length, nat_eq, not, Option, Some, None}
-use Rattle.sh_builtin.specs.Shells.{after_launch, forked_shell}
-use Rattle.sh_builtin.specs.declared.shell.Shell.{Shell}
+use Rattle.std.specs.Prelude.{◌≡◌, ℕ, List, [], ◌∷◌, ◌++◌, Bool, true, false, length, nat_eq, not, Option, Some, None, if◌then◌else◌}
+use Rattle.sh_builtin_shell.specs.Shells.{after_launch, forked_shell, has_job_control}
+use Rattle.sh_builtin_shell.specs.declared.shell.Shell.{Shell}
 use Rattle.sh_exec_parts.specs.Messages.{cannot_fork}
 use Rattle.sh_exec_command.specs.Expanding.{fatal}
 use Rattle.sh_exec_actions.specs.Preparing.{ahead}
@@ -11,8 +11,10 @@ use Rattle.sh_exec_actions.specs.declared.action.Active.TheVariants.{Done, Next}
 use Rattle.sh_exec_actions.specs.declared.action.Move.{Move}
 use Rattle.sh_exec_actions.specs.declared.action.Move.TheVariants as move
 use Rattle.sh_exec_actions.specs.declared.action.Pending.{Pending}
-use Rattle.sh_exec_actions.specs.declared.action.Action.TheVariants.{ReadSubstitution, ForkStage, Waiting}
+use Rattle.sh_exec_actions.specs.declared.action.Action.TheVariants.{ReadSubstitution, ForkStage}
 use Rattle.sh_exec_actions.specs.declared.action.ExpandedCommand.{ExpandedCommand}
+use Rattle.sh_exec_actions.specs.declared.action.Launch.{Launch}
+use Rattle.sh_exec_actions.specs.declared.action.Launch.TheVariants.{Foreground, Background}
 use Rattle.sh_exec_actions.specs.declared.action.Stages.{Stages}
 use Rattle.sh_exec_actions.specs.declared.action.Substitution.{Substitution}
 use Rattle.sh_exec_actions.specs.declared.action.ToExpand.{ToExpand}
@@ -26,16 +28,18 @@ use Rattle.sh_exec_forms.specs.Entering.{and_or_run}
 use Rattle.sh_exec_forms.specs.Moves.{move_run}
 use Rattle.sh_exec_forms.specs.Stacks.{run_in}
 use Rattle.sh_exec_frames.specs.Frames.{root_forms}
+use Rattle.sh_exec_frames.specs.JobTexts.{job_text}
+use Rattle.sh_exec_frames.specs.Waiting.{terminal_back, waiting}
 use Rattle.sh_exec_forms.specs.Running.{InterpreterState, Run, At}
-use Rattle.sh_kernel.specs.Calls.{after_set_action}
+use Rattle.sh_kernel.specs.Calls.{after_set_action, after_set_foreground, after_set_group}
 use Rattle.sh_kernel.specs.State.{KernelKept, KernelState, StandsAt}
 use Rattle.sh_kernel_signals.specs.declared.member.SignalAction.TheVariants.{Ignored}
 use Rattle.sh_signal.specs.declared.signal.Signal.TheVariants.{Interrupt, Quit}
+use Rattle.sh_syntax.specs.Text.{and_or_tokens}
+use Rattle.sh_syntax.specs.Tokens.{text_of}
 use Rattle.sh_syntax.specs.declared.tree.AndOr.{AndOr}
 use Rattle.sh_syntax.specs.declared.tree.Command.{Command}
 use Rattle.sh_syntax.specs.declared.tree.CompoundList.{CompoundList}
-use Rattle.sh_syntax.specs.declared.tree.Separator.{Separator}
-use Rattle.sh_syntax.specs.declared.tree.Separator.TheVariants.{Sequential, Asynchronous}
 
 -- what a turn leaves, and what runs in the process that it made
 pub record Turned : Type 0 where
@@ -63,51 +67,93 @@ inherited ignored (Some child) = Some (record child { run = in_process ignored c
 abbrev pub inheriting : (ignored : Bool) → Turned → Turned
 inheriting ignored t = record t { child = inherited ignored t.child }
 
--- ---- a program (2.9.1.6)
-abbrev pub program_by : KernelState → Shell → ExpandedCommand → Option ℕ → Turned
-program_by s shell p (Some pid) = with_child s shell (At (Next (Waiting (pid ∷ [])))) (child_of pid shell (move_run (ahead p)))
-program_by s shell p None = with_child s shell (At (fatal cannot_fork)) None
+-- ---- groups (2.11): with job control the processes of a pipeline are a group, which the first of them names; that is the foreground group
+-- of the terminal where the shell waits for them
+abbrev pub leader : (before : List ℕ) → (child : ℕ) → ℕ
+leader [] child = child
+leader (first ∷ others) child = first
 
-unfoldable pub fork_turn : KernelState → Shell → ExpandedCommand → Turned
-fork_turn s shell p = let f = fork_of s shell.pid None false in program_by f.after shell p f.child
+abbrev pub given_terminal : (is_foreground : Bool) → (before : List ℕ) → (child : ℕ) → KernelState → KernelState
+given_terminal true [] child s = after_set_foreground s child
+given_terminal true (first ∷ others) child s = s
+given_terminal false before child s = s
 
--- ---- a stage (2.9.2), or a subshell: once all have a process the shell waits for them; of an asynchronous list (2.9.3.1) it knows them
--- then, and goes on at once with 0
-abbrev pub made_place : Separator → List ℕ → Active
-made_place Sequential children = Next (Waiting children)
-made_place Asynchronous children = Done (unexcused 0)
+abbrev pub in_group : (is_foreground : Bool) → (before : List ℕ) → (child : ℕ) → KernelState → KernelState
+in_group is_foreground before child s = given_terminal is_foreground before child (after_set_group s child (leader before child))
 
-abbrev pub made_shell : Separator → Shell → List ℕ → Shell
-made_shell Sequential shell children = shell
-made_shell Asynchronous shell children = after_launch shell children
-
-abbrev pub stage_place : Separator → List Command → Option ℕ → List ℕ → Active
-stage_place separator [] aside children = made_place separator children
-stage_place separator (command ∷ commands) aside children =
-    Next (ForkStage (record { commands = command ∷ commands; aside = aside; children = children; separator = separator }))
-
-abbrev pub stage_shell : Separator → List Command → Shell → List ℕ → Shell
-stage_shell separator [] shell children = made_shell separator shell children
-stage_shell separator (command ∷ commands) shell children = shell
-
--- the first process of an asynchronous list has nothing to read, as there is no job control; a further one reads from the pipe before it
-abbrev pub stage_input : Separator → (before : List ℕ) → (aside : Option ℕ) → Shell → KernelState → Laid
-stage_input Sequential before aside shell s = record { aside = aside; after = s }
-stage_input Asynchronous [] aside shell s = null_laid shell.vars.directory s shell.pid
-stage_input Asynchronous (child ∷ children) aside shell s = record { aside = aside; after = s }
+-- where none could be made the terminal is the shell's again
+abbrev pub with_control : (pid : ℕ) → (is_foreground : Bool) → (before : List ℕ) → Option ℕ → KernelState → KernelState
+with_control pid is_foreground before None s = terminal_back s pid
+with_control pid is_foreground before (Some child) s = in_group is_foreground before child s
 
 -- where there is no job control the processes of an asynchronous list ignore INT and QUIT (2.12)
-abbrev pub is_beside : Separator → Bool
-is_beside Sequential = false
-is_beside Asynchronous = true
-
 abbrev pub ignoring_keys : KernelState → (pid : ℕ) → KernelState
 ignoring_keys s pid = after_set_action (after_set_action s pid Interrupt Ignored) pid Quit Ignored
 
-abbrev pub guarded : (beside : Bool) → (child : Option ℕ) → KernelState → KernelState
-guarded false child s = s
-guarded true None s = s
-guarded true (Some child) s = ignoring_keys s child
+abbrev pub without_control : (is_foreground : Bool) → Option ℕ → KernelState → KernelState
+without_control true child s = s
+without_control false None s = s
+without_control false (Some child) s = ignoring_keys s child
+
+-- behind the fork of a process, after those of the same pipeline
+abbrev pub behind_fork_by : (control : Bool) → (pid : ℕ) → (is_foreground : Bool) → (before : List ℕ) → Option ℕ → KernelState → KernelState
+behind_fork_by true pid is_foreground before child s = with_control pid is_foreground before child s
+behind_fork_by false pid is_foreground before child s = without_control is_foreground child s
+
+abbrev pub behind_fork : Shell → (is_foreground : Bool) → (before : List ℕ) → Option ℕ → KernelState → KernelState
+behind_fork shell is_foreground before child s = behind_fork_by (has_job_control shell) shell.pid is_foreground before child s
+
+-- with job control the text of the job that a pipeline becomes when it is suspended is kept from its first process on
+abbrev pub job_of : Shell → (around : List Form) → List Command → Option (List ℕ)
+job_of shell around commands = if has_job_control shell then Some (job_text around commands) else None
+
+-- ---- a program (2.9.1.6)
+abbrev pub program_by : (around : List Form) → KernelState → Shell → ExpandedCommand → Option ℕ → Turned
+program_by around s shell p (Some pid) =
+    with_child s shell (At (waiting (pid ∷ []) (job_of shell around (p.undo.command ∷ [])))) (child_of pid shell (move_run (ahead p)))
+program_by around s shell p None = with_child s shell (At (fatal cannot_fork)) None
+
+unfoldable pub fork_turn : (around : List Form) → KernelState → Shell → ExpandedCommand → Turned
+fork_turn around s shell p =
+    let f = fork_of s shell.pid None false in program_by around (behind_fork shell true [] f.child f.after) shell p f.child
+
+-- ---- a stage (2.9.2), or a subshell: once all have a process the shell waits for them; of an asynchronous list (2.9.3.1) it knows them
+-- then, and goes on at once with 0
+abbrev pub made_place : Launch → List ℕ → Active
+made_place (Foreground job) children = waiting children job
+made_place (Background list) children = Done (unexcused 0)
+
+-- the text of an asynchronous list is that of its job (XCU jobs)
+abbrev pub with_job : KernelState → Shell → AndOr → List ℕ → Shell
+with_job s shell list children = after_launch s shell (text_of (and_or_tokens list)) children
+
+abbrev pub made_shell : KernelState → Launch → Shell → List ℕ → Shell
+made_shell s (Foreground job) shell children = shell
+made_shell s (Background list) shell children = with_job s shell list children
+
+abbrev pub stage_place : Launch → List Command → Option ℕ → List ℕ → Active
+stage_place launch [] aside children = made_place launch children
+stage_place launch (command ∷ commands) aside children =
+    Next (ForkStage (record { commands = command ∷ commands; aside = aside; children = children; launch = launch }))
+
+abbrev pub stage_shell : KernelState → Launch → List Command → Shell → List ℕ → Shell
+stage_shell s launch [] shell children = made_shell s launch shell children
+stage_shell s launch (command ∷ commands) shell children = shell
+
+-- without job control the first process of an asynchronous list has nothing to read
+abbrev pub background_input : (control : Bool) → KernelState → Shell → Laid
+background_input true s shell = record { aside = None; after = s }
+background_input false s shell = null_laid shell.vars.directory s shell.pid
+
+-- a further one reads from the pipe before it
+abbrev pub stage_input : Launch → (before : List ℕ) → (aside : Option ℕ) → Shell → KernelState → Laid
+stage_input (Foreground job) before aside shell s = record { aside = aside; after = s }
+stage_input (Background list) [] aside shell s = background_input (has_job_control shell) s shell
+stage_input (Background list) (child ∷ children) aside shell s = record { aside = aside; after = s }
+
+abbrev pub is_foreground : Launch → Bool
+is_foreground (Foreground job) = true
+is_foreground (Background list) = false
 
 abbrev pub is_more : List Command → Bool
 is_more commands = not (nat_eq (length commands) 0)
@@ -116,33 +162,40 @@ is_more commands = not (nat_eq (length commands) 0)
 abbrev pub stage_by : KernelState → Shell → Command → Stages → Option ℕ → Turned
 stage_by s shell command stages (Some pid) =
     let children = stages.children ++ pid ∷ [] in
-    with_child s (stage_shell stages.separator stages.commands shell children)
-    (At (stage_place stages.separator stages.commands stages.aside children)) (child_of pid shell (stage_run command))
+    with_child s (stage_shell s stages.launch stages.commands shell children)
+    (At (stage_place stages.launch stages.commands stages.aside children)) (child_of pid shell (stage_run command))
 stage_by s shell command stages None = with_child s shell (At (fatal cannot_fork)) None
 
 unfoldable pub stage_one : KernelState → Shell → Command → Stages → Turned
 stage_one s shell command stages =
-    let l = stage_input stages.separator stages.children stages.aside shell s in
+    let l = stage_input stages.launch stages.children stages.aside shell s in
     let f = fork_of l.after shell.pid l.aside (is_more stages.commands) in
-    stage_by (guarded (is_beside stages.separator) f.child f.after) shell command (record stages { aside = f.aside }) f.child
+    stage_by (behind_fork shell (is_foreground stages.launch) stages.children f.child f.after) shell command (record stages { aside = f.aside }) f.child
 
 abbrev pub stage_from : KernelState → Shell → Stages → List Command → Turned
-stage_from s shell stages [] = with_child s shell (At (Next (Waiting stages.children))) None
+stage_from s shell stages [] = with_child s shell (At (made_place stages.launch stages.children)) None
 stage_from s shell stages (command ∷ commands) = stage_one s shell command (record stages { commands = commands })
 
-unfoldable pub stage_turn : KernelState → Shell → Stages → Turned
-stage_turn s shell stages = stage_from s shell stages stages.commands
+-- the first process comes with the text
+abbrev pub launch_by : (around : List Form) → Shell → List Command → (before : List ℕ) → Launch → Launch
+launch_by around shell commands [] (Foreground job) = Foreground (job_of shell around commands)
+launch_by around shell commands [] (Background list) = Background list
+launch_by around shell commands (child ∷ children) launch = launch
+
+unfoldable pub stage_turn : (around : List Form) → KernelState → Shell → Stages → Turned
+stage_turn around s shell stages =
+    stage_from s shell (record stages { launch = launch_by around shell stages.commands stages.children stages.launch }) stages.commands
 
 -- ---- an asynchronous list (2.9.3.1) that has one process
 abbrev pub list_by : KernelState → Shell → AndOr → Option ℕ → Turned
 list_by s shell list (Some pid) =
-    with_child s (after_launch shell (pid ∷ [])) (At (Done (unexcused 0))) (child_of pid shell (and_or_run list))
+    with_child s (with_job s shell list (pid ∷ [])) (At (Done (unexcused 0))) (child_of pid shell (and_or_run list))
 list_by s shell list None = with_child s shell (At (fatal cannot_fork)) None
 
 unfoldable pub list_turn : KernelState → Shell → AndOr → Turned
 list_turn s shell list =
-    let l = null_laid shell.vars.directory s shell.pid in
-    let f = fork_of l.after shell.pid l.aside false in list_by (guarded true f.child f.after) shell list f.child
+    let l = background_input (has_job_control shell) s shell in
+    let f = fork_of l.after shell.pid l.aside false in list_by (behind_fork shell false [] f.child f.after) shell list f.child
 
 -- ---- a command substitution (2.6.3)
 -- where it can't have a process, what the command changed is undone after the message

@@ -2,7 +2,7 @@
 use Rattle.std.specs.Prelude.{ℕ, List, [], ◌∷◌, Option, Some, None}
 use Rattle.sh_exec_command.specs.Expanding.{Turn}
 use Rattle.sh_builtin.specs.Outcomes.{shell_status}
-use Rattle.sh_builtin.specs.declared.shell.Shell.{Shell}
+use Rattle.sh_builtin_shell.specs.declared.shell.Shell.{Shell}
 use Rattle.sh_exec_command.specs.Reading.{next_command}
 use Rattle.sh_exec_command.specs.Series.{give_turn}
 use Rattle.sh_exec_actions.specs.declared.action.Active.{Active}
@@ -50,13 +50,13 @@ act_place around s shell (ReadLine reader) = placed (read_line_turn s shell read
 act_place around s shell (Awaiting awaited) = placed (await_turn s shell awaited)
 act_place around s shell (SendSignal ask) = placed (signal_turn s shell ask)
 act_place around s shell (Redirecting p) = plain (redirect_turn s shell p)
-act_place around s shell (Forking p) = fork_turn s shell p
+act_place around s shell (Forking p) = fork_turn around s shell p
 act_place around s shell (Starting start) = plain (with_run s shell (next (Starting start)))
-act_place around s shell (ForkStage stages) = stage_turn s shell stages
+act_place around s shell (ForkStage stages) = stage_turn around s shell stages
 act_place around s shell (ForkList list) = list_turn s shell list
 act_place around s shell (AssignLoopVariable series) = plain (given_round s shell (give_turn shell.vars series))
 act_place around s shell (Defining definition) = plain (defined s shell definition)
-act_place around s shell (Waiting children) = plain (with_run s shell (At (wait_turn s shell.pid children)))
+act_place around s shell (Waiting wait) = placed (wait_turn s shell wait)
 act_place around s shell (Writing piece finish) = plain (write_turn s shell piece finish)
 act_place around s shell (Trapping status) = plain (trap_turn s shell status)
 act_place around s shell (Ending status) = plain (end_turn s shell status)

@@ -1,39 +1,40 @@
 //! The turns of a shell that make a process.
 ghost use Rattle.std.specs.Prelude.{◌≡◌, ◌++◌, ◌∷◌, [], IfOk, OnOk, true};
 ghost use Rattle.sh_kernel.specs.State.{KernelState, StandsAt};
-ghost use Rattle.sh_builtin.specs.Shells.{after_launch, forked_shell};
+ghost use Rattle.sh_builtin_shell.specs.Shells.{forked_shell, has_job_control};
 ghost use Rattle.sh_exec_parts.specs.Messages as messages;
 ghost use Rattle.sh_exec_command.specs.Expanding as expanding;
 ghost use Rattle.sh_exec_actions.specs.Preparing.{ahead};
 ghost use Rattle.sh_exec_actions.specs.Statuses.{unexcused};
 ghost use Rattle.sh_exec_machine.specs.Forking.{HasForked, HasLaid, null_laid};
-ghost use Rattle.sh_exec_shell.specs.Forks.{IsTurned, begun_substitution, child_of, fork_turn, guarded, ignoring_keys, in_process, inherited, inheriting, inside, is_beside, is_more, list_by, list_turn, made_place, made_shell, program_by, stage_by, stage_from, stage_input, stage_one, stage_shell, stage_turn, stage_place, substitute_turn, substitution_by, with_child, fork_failure};
+ghost use Rattle.sh_exec_shell.specs.Forks.{IsTurned, begun_substitution, child_of, background_input, behind_fork, fork_turn, in_process, inherited, inheriting, inside, is_foreground, is_more, job_of, launch_by, list_by, list_turn, made_place, made_shell, program_by, stage_by, stage_from, stage_input, stage_one, stage_shell, stage_turn, stage_place, substitute_turn, substitution_by, with_child, with_job, fork_failure};
 ghost use Rattle.sh_exec_forms.specs.Bodies.{body_of, stage_run};
 ghost use Rattle.sh_exec_forms.specs.Entering.{and_or_run};
 ghost use Rattle.sh_exec_forms.specs.Moves.{move_run};
 ghost use Rattle.sh_exec_forms.specs.Running.{Run};
 ghost use Rattle.sh_exec_forms.specs.Stacks.{run_in, run_of};
 ghost use Rattle.sh_exec_frames.specs.Frames.{is_failure_ignored, root_forms};
+ghost use Rattle.sh_exec_frames.specs.Waiting.{waiting};
 
+use crate::groups::settle_fork;
 use crate::interpreter::{Interpreter, interpreter_of};
 use sh_base::NoMemory;
 use sh_base::sequence::{Sequence, Text};
 use sh_base::shared::Shared;
-use sh_builtin::Shell;
+use sh_builtin_shell::Shell;
 use sh_exec_actions::{
-    Action, Active, CommandStatus, ExpandedCommand, Move, Pending, Stages, Substitution, ToExpand,
-    go_ahead,
+    Action, Active, CommandStatus, ExpandedCommand, Launch, Move, Pending, PipelineWait, Stages,
+    Substitution, ToExpand, go_ahead,
 };
 use sh_exec_command::fatal_message;
 use sh_exec_forms::{body_of, go_to, list_body, stage};
 use sh_exec_frames::Frames;
 use sh_exec_machine::{Forked, fork_process, lay_null_input};
-use sh_exec_parts::Queue;
 use sh_exec_parts::message::cannot_fork;
+use sh_exec_parts::{Copying, Queue};
 use sh_kernel::Kernel;
-use sh_kernel_signals::SignalAction;
-use sh_signal::Signal;
-use sh_syntax::tree::{AndOr, Command, CompoundList, Separator};
+use sh_syntax::text::command_text;
+use sh_syntax::tree::{AndOr, Command, CompoundList};
 use std::alloc::Global;
 use std::slice;
 
@@ -104,19 +105,86 @@ fn put_program(
     with_copy(alloc, child, shell, frames, active)
 }
 
+/// With job control the text of the job that a pipeline becomes when it is suspended.
+fn job_of(
+    alloc: Global,
+    shell: &Shell,
+    frames: &Frames,
+    commands: &[Shared<Command>],
+) -> Result<Option<Text>, NoMemory>
+    ensures { IfOk result (λ job. job ≡ job_of shell.now frames.now commands.now) }
+{
+    if shell.has_job_control() {
+        return Ok(Some(frames.job_text(alloc, commands)?));
+    }
+    Ok(None)
+}
+
+/// What the shell waits for that has made a program's process.
+fn program_wait(
+    alloc: Global,
+    shell: &Shell,
+    frames: &Frames,
+    command: &Shared<Command>,
+    child: u32,
+) -> Result<Active, NoMemory>
+    ensures { IfOk result (λ active. active ≡ waiting (child ∷ []) (job_of shell.now frames.now (command.now ∷ []))) }
+{
+    let job = job_of(alloc, shell, frames, slice::from_ref(command))?;
+    match one_more(Sequence::new(alloc), child) {
+        Ok(children) => Ok(Active::Next(Action::Waiting(PipelineWait { children, job }))),
+        Err(refusal) => {
+            drop(job);
+            Err(refusal)
+        },
+    }
+}
+
+/// A program's process is made, and the shell is to wait for it.
+fn begin_program(
+    alloc: Global,
+    shell: &Shell,
+    frames: &Frames,
+    prepared: ExpandedCommand,
+    child: u32,
+) -> Result<(Active, Interpreter), NoMemory>
+    ensures wait { IfOk result (λ begun.
+        begun.0 ≡ waiting (child ∷ []) (job_of shell.now frames.now (prepared.undo.command ∷ []))) }
+    ensures made { IfOk result (λ begun.
+        begun.1 ≡ record {
+          shell = forked_shell child shell.now;
+          run = in_process (is_failure_ignored frames.now) (move_run (ahead prepared));
+        }) }
+{
+    let wait = match program_wait(alloc, shell, frames, &prepared.undo.command, child) {
+        Ok(wait) => wait,
+        Err(lack) => {
+            drop(prepared);
+            return Err(lack);
+        },
+    };
+    match put_program(alloc, shell, frames.is_failure_ignored(), prepared, child) {
+        Ok(made) => Ok((wait, made)),
+        Err(refusal) => {
+            drop(wait);
+            Err(refusal)
+        },
+    }
+}
+
 /// The turn in which a program's process is made (XCU 2.9.1.6).
 #[tactic(auto, unfolding(crate::specs::Forks::fork_turn))]
 pub(crate) fn fork_turn(
     alloc: Global,
     kernel: &mut Kernel,
     shell: &Shell,
-    ignores_failure: bool,
+    frames: &Frames,
     prepared: ExpandedCommand,
 ) -> Result<(Active, Option<Interpreter>), NoMemory>
     ensures state { (s : KernelState) → StandsAt kernel.old s → IfOk result (λ r.
         IsTurned kernel.new shell.now (Run.At r.0) r.1
-        (inheriting ignores_failure (fork_turn s shell.now prepared))) }
-    ensures terminal { kernel.new.terminal ≡ kernel.old.terminal }
+        (inheriting (is_failure_ignored frames.now) (fork_turn frames.now s shell.now prepared))) }
+    ensures terminal { kernel.new.terminal.bytes ≡ kernel.old.terminal.bytes }
 {
     let forked = match fork_process(kernel, shell.pid, None, false) {
         Ok(forked) => forked,
@@ -125,16 +193,11 @@ pub(crate) fn fork_turn(
             return Err(lack);
         },
     };
+    settle_fork(kernel, shell, true, &[], forked.child);
     match forked.child {
         Some(child) => {
-            let made = put_program(alloc, shell, ignores_failure, prepared, child)?;
-            match one_more(Sequence::new(alloc), child) {
-                Ok(children) => Ok((Active::Next(Action::Waiting(children)), Some(made))),
-                Err(refusal) => {
-                    drop(made);
-                    Err(refusal)
-                },
-            }
+            let (wait, made) = begin_program(alloc, shell, frames, prepared, child)?;
+            Ok((wait, Some(made)))
         },
         None => {
             drop(prepared);
@@ -144,19 +207,40 @@ pub(crate) fn fork_turn(
     }
 }
 
+/// The processes of an asynchronous list are a job of the shell.
+fn put_job(
+    alloc: Global,
+    kernel: &Kernel,
+    shell: &mut Shell,
+    list: &AndOr,
+    children: &[u32],
+) -> Result<(), NoMemory>
+    ensures { (s : KernelState) → StandsAt kernel.now s
+        → OnOk result (shell.new ≡ with_job s shell.old list.now children.now) }
+{
+    let text = command_text(alloc, list)?;
+    shell.launch(alloc, kernel, text.as_slice(), children)
+}
+
 /// Where a pipeline goes on once all its commands have a process.
 fn made(
+    alloc: Global,
+    kernel: &Kernel,
     shell: &mut Shell,
-    separator: Separator,
+    launch: Launch,
     children: Sequence<u32>,
 ) -> Result<Active, NoMemory>
-    ensures place { IfOk result (λ active. active ≡ made_place separator children) }
-    ensures shell { OnOk result (shell.new ≡ made_shell separator shell.old children) }
+    ensures place { IfOk result (λ active. active ≡ made_place launch children) }
+    ensures shell { (s : KernelState) → StandsAt kernel.now s
+        → OnOk result (shell.new ≡ made_shell s launch shell.old children) }
 {
-    match separator {
-        Separator::Sequential => Ok(Active::Next(Action::Waiting(children))),
-        Separator::Asynchronous => {
-            shell.launch(children.as_slice())?;
+    match launch {
+        Launch::Foreground(job) => Ok(Active::Next(Action::Waiting(PipelineWait {
+            children,
+            job,
+        }))),
+        Launch::Background(list) => {
+            put_job(alloc, kernel, shell, list.get(), children.as_slice())?;
             Ok(Active::Done(CommandStatus::unexcused(0)))
         },
     }
@@ -164,103 +248,108 @@ fn made(
 
 /// Where a pipeline goes on after one of its processes.
 fn staged(
+    alloc: Global,
+    kernel: &Kernel,
     shell: &mut Shell,
-    separator: Separator,
-    commands: Queue<Shared<Command>>,
-    aside: Option<usize>,
-    children: Sequence<u32>,
+    stages: Stages,
 ) -> Result<Active, NoMemory>
     ensures place { IfOk result (λ active.
-        active ≡ stage_place separator commands aside children) }
-    ensures shell { OnOk result (shell.new ≡ stage_shell separator commands shell.old children) }
+        active ≡ stage_place stages.launch stages.commands stages.aside stages.children) }
+    ensures shell { (s : KernelState) → StandsAt kernel.now s
+        → OnOk result (shell.new ≡ stage_shell s stages.launch stages.commands shell.old stages.children) }
 {
-    if commands.is_empty() {
+    if stages.commands.is_empty() {
+        let Stages {
+            commands,
+            children,
+            launch,
+            ..
+        } = stages;
         drop(commands);
-        return made(shell, separator, children);
+        return made(alloc, kernel, shell, launch, children);
     }
-    Ok(Active::Next(Action::ForkStage(Stages {
-        commands,
-        aside,
-        children,
-        separator,
-    })))
+    Ok(Active::Next(Action::ForkStage(stages)))
 }
 
 /// Where a pipeline goes on after a process that was made.
 fn next_stage(
+    alloc: Global,
+    kernel: &Kernel,
     shell: &mut Shell,
-    separator: Separator,
-    commands: Queue<Shared<Command>>,
-    aside: Option<usize>,
-    children: Sequence<u32>,
+    stages: Stages,
     child: u32,
 ) -> Result<Active, NoMemory>
     ensures place { IfOk result (λ active.
-        active ≡ stage_place separator commands aside (children ++ child ∷ [])) }
-    ensures shell { OnOk result
-        (shell.new ≡ stage_shell separator commands shell.old (children ++ child ∷ [])) }
+        active ≡ stage_place stages.launch stages.commands stages.aside (stages.children ++ child ∷ [])) }
+    ensures shell { (s : KernelState) → StandsAt kernel.now s → OnOk result
+        (shell.new ≡ stage_shell s stages.launch stages.commands shell.old (stages.children ++ child ∷ [])) }
 {
+    let Stages {
+        commands,
+        aside,
+        children,
+        launch,
+    } = stages;
     match one_more(children, child) {
-        Ok(children) => staged(shell, separator, commands, aside, children),
+        Ok(children) => staged(
+            alloc,
+            kernel,
+            shell,
+            Stages {
+                commands,
+                aside,
+                children,
+                launch,
+            },
+        ),
         Err(refusal) => {
             drop(commands);
+            drop(launch);
             Err(refusal)
         },
     }
 }
 
-/// What the process of a stage reads, as it is set aside: of the first one of an asynchronous list nothing.
+/// What the first process of an asynchronous list reads, as it is set aside: nothing without job control.
+fn background_input(kernel: &mut Kernel, shell: &Shell) -> Result<Option<usize>, NoMemory>
+    ensures state { (s : KernelState) → StandsAt kernel.old s → IfOk result (λ input.
+        HasLaid kernel.new input (background_input (has_job_control shell.now) s shell.now)) }
+    ensures terminal { kernel.new.terminal ≡ kernel.old.terminal }
+{
+    if shell.has_job_control() {
+        return Ok(None);
+    }
+    lay_null_input(kernel, shell.pid, shell.vars.directory())
+}
+
+/// What the process of a stage reads, as it is set aside.
 fn stage_input(
     kernel: &mut Kernel,
     shell: &Shell,
-    separator: Separator,
+    launch: &Launch,
     before: &[u32],
     aside: Option<usize>,
 ) -> Result<Option<usize>, NoMemory>
     ensures state { (s : KernelState) → StandsAt kernel.old s → IfOk result (λ input.
-        HasLaid kernel.new input (stage_input separator before.now aside shell.now s)) }
+        HasLaid kernel.new input (stage_input launch.now before.now aside shell.now s)) }
     ensures terminal { kernel.new.terminal ≡ kernel.old.terminal }
 {
-    match separator {
-        Separator::Sequential => Ok(aside),
-        Separator::Asynchronous => match before {
-            [] => lay_null_input(kernel, shell.pid, shell.vars.directory()),
+    match launch {
+        Launch::Foreground(_) => Ok(aside),
+        Launch::Background(_) => match before {
+            [] => background_input(kernel, shell),
             [_, ..] => Ok(aside),
         },
     }
 }
 
-/// Whether the shell goes on beside a list.
-fn is_beside(separator: Separator) -> bool
-    ensures { result ≡ is_beside separator }
+/// Whether the shell waits for a pipeline.
+fn is_foreground(launch: &Launch) -> bool
+    ensures { result ≡ is_foreground launch.now }
 {
-    match separator {
-        Separator::Sequential => false,
-        Separator::Asynchronous => true,
-    }
-}
-
-/// A process ignores the signals of two keys.
-fn ignore_keys(kernel: &mut Kernel, pid: u32)
-    ensures state { (s : KernelState) → StandsAt kernel.old s
-        → StandsAt kernel.new (ignoring_keys s pid) }
-    ensures terminal { kernel.new.terminal ≡ kernel.old.terminal }
-{
-    kernel.set_action(pid, Signal::Interrupt, SignalAction::Ignored);
-    kernel.set_action(pid, Signal::Quit, SignalAction::Ignored);
-}
-
-/// Where the shell goes on beside a process that it made, that one ignores INT and QUIT, as there is no job control (XCU 2.12).
-fn guard(kernel: &mut Kernel, is_beside: bool, child: Option<u32>)
-    ensures state { (s : KernelState) → StandsAt kernel.old s
-        → StandsAt kernel.new (guarded is_beside child s) }
-    ensures terminal { kernel.new.terminal ≡ kernel.old.terminal }
-{
-    if !is_beside {
-        return;
-    }
-    if let Some(child) = child {
-        ignore_keys(kernel, child);
+    match launch {
+        Launch::Foreground(_) => true,
+        Launch::Background(_) => false,
     }
 }
 
@@ -304,44 +393,44 @@ fn stage_one(
     ensures state { (s : KernelState) → StandsAt kernel.old s → IfOk result (λ r.
         IsTurned kernel.new shell.new (Run.At r.0) r.1
         (inheriting ignores_failure (stage_one s shell.old command stages))) }
-    ensures terminal { kernel.new.terminal ≡ kernel.old.terminal }
+    ensures terminal { kernel.new.terminal.bytes ≡ kernel.old.terminal.bytes }
 {
-    let Stages {
-        commands,
-        aside,
-        children,
-        separator,
-    } = stages;
-    let input = match stage_input(kernel, shell, separator, children.as_slice(), aside) {
+    let mut stages = stages;
+    let before = stages.children.as_slice();
+    let input = match stage_input(kernel, shell, &stages.launch, before, stages.aside) {
         Ok(input) => input,
         Err(lack) => {
             drop(command);
-            drop(commands);
-            drop(children);
+            drop(stages);
             return Err(lack);
         },
     };
-    let forked = match fork_process(kernel, shell.pid, input, !commands.is_empty()) {
+    let forked = match fork_process(kernel, shell.pid, input, !stages.commands.is_empty()) {
         Ok(forked) => forked,
         Err(lack) => {
             drop(command);
-            drop(commands);
-            drop(children);
+            drop(stages);
             return Err(lack);
         },
     };
-    guard(kernel, is_beside(separator), forked.child);
+    settle_fork(
+        kernel,
+        shell,
+        is_foreground(&stages.launch),
+        stages.children.as_slice(),
+        forked.child,
+    );
     match forked.child {
         Some(child) => {
             let made = match put_stage(alloc, shell, ignores_failure, command, child) {
                 Ok(made) => made,
                 Err(refusal) => {
-                    drop(commands);
-                    drop(children);
+                    drop(stages);
                     return Err(refusal);
                 },
             };
-            match next_stage(shell, separator, commands, forked.aside, children, child) {
+            stages.aside = forked.aside;
+            match next_stage(alloc, kernel, shell, stages, child) {
                 Ok(active) => Ok((active, Some(made))),
                 Err(refusal) => {
                     drop(made);
@@ -351,17 +440,67 @@ fn stage_one(
         },
         None => {
             drop(command);
-            drop(commands);
-            drop(children);
+            drop(stages);
             let active = refused(alloc)?;
             Ok((active, None))
         },
     }
 }
 
-/// The turn in which the process of a pipeline's next stage is made (XCU 2.9.2).
-#[tactic(auto, unfolding(crate::specs::Forks::stage_turn))]
-pub(crate) fn stage_turn(
+/// With job control the text of the job that a pipeline becomes none of whose commands has a process yet.
+fn pipeline_job(
+    alloc: Global,
+    shell: &Shell,
+    frames: &Frames,
+    commands: &Queue<Shared<Command>>,
+) -> Result<Option<Text>, NoMemory>
+    ensures { IfOk result (λ job. job ≡ job_of shell.now frames.now commands.now) }
+{
+    let commands = commands.copy(alloc)?.into_sequence();
+    let job = job_of(alloc, shell, frames, commands.as_slice());
+    drop(commands);
+    job
+}
+
+/// How a pipeline was begun: with the first process comes the text of the job that it may become.
+fn launch_by(
+    alloc: Global,
+    shell: &Shell,
+    frames: &Frames,
+    commands: &Queue<Shared<Command>>,
+    before: &[u32],
+    launch: Launch,
+) -> Result<Launch, NoMemory>
+    ensures { IfOk result (λ begun. begun ≡ launch_by frames.now shell.now commands.now before.now launch) }
+{
+    match before {
+        [] => match launch {
+            Launch::Foreground(_) => {
+                Ok(Launch::Foreground(pipeline_job(alloc, shell, frames, commands)?))
+            },
+            Launch::Background(list) => Ok(Launch::Background(list)),
+        },
+        [_, ..] => Ok(launch),
+    }
+}
+
+/// A pipeline none of whose commands is left without a process.
+fn stage_done(stages: Stages) -> Active
+    ensures { result ≡ made_place stages.launch stages.children }
+{
+    let Stages {
+        children,
+        launch,
+        ..
+    } = stages;
+    match launch {
+        Launch::Foreground(job) => Active::Next(Action::Waiting(PipelineWait { children, job })),
+        Launch::Background(_) => Active::Done(CommandStatus::unexcused(0)),
+    }
+}
+
+/// The process of the next stage, if there is one.
+fn stage_from(
     alloc: Global,
     kernel: &mut Kernel,
     shell: &mut Shell,
@@ -370,15 +509,61 @@ pub(crate) fn stage_turn(
 ) -> Result<(Active, Option<Interpreter>), NoMemory>
     ensures state { (s : KernelState) → StandsAt kernel.old s → IfOk result (λ r.
         IsTurned kernel.new shell.new (Run.At r.0) r.1
-        (inheriting ignores_failure (stage_turn s shell.old stages))) }
-    ensures terminal { kernel.new.terminal ≡ kernel.old.terminal }
+        (inheriting ignores_failure (stage_from s shell.old stages stages.commands))) }
+    ensures terminal { kernel.new.terminal.bytes ≡ kernel.old.terminal.bytes }
 {
     let mut stages = stages;
     let Some(command) = stages.commands.take() else {
-        return Ok((Active::Next(Action::Waiting(stages.children)), None));
+        return Ok((stage_done(stages), None));
     };
     let (active, child) = stage_one(alloc, kernel, shell, ignores_failure, command, stages)?;
     Ok((active, child))
+}
+
+/// The turn in which the process of a pipeline's next stage is made (XCU 2.9.2).
+#[tactic(auto, unfolding(crate::specs::Forks::stage_turn))]
+pub(crate) fn stage_turn(
+    alloc: Global,
+    kernel: &mut Kernel,
+    shell: &mut Shell,
+    frames: &Frames,
+    stages: Stages,
+) -> Result<(Active, Option<Interpreter>), NoMemory>
+    ensures state { (s : KernelState) → StandsAt kernel.old s → IfOk result (λ r.
+        IsTurned kernel.new shell.new (Run.At r.0) r.1
+        (inheriting (is_failure_ignored frames.now) (stage_turn frames.now s shell.old stages))) }
+    ensures terminal { kernel.new.terminal.bytes ≡ kernel.old.terminal.bytes }
+{
+    let Stages {
+        commands,
+        aside,
+        children,
+        launch,
+    } = stages;
+    let launch = launch_by(alloc, shell, frames, &commands, children.as_slice(), launch);
+    match launch {
+        Ok(launch) => {
+            let stages = Stages {
+                commands,
+                aside,
+                children,
+                launch,
+            };
+            let (active, child) = stage_from(
+                alloc,
+                kernel,
+                shell,
+                frames.is_failure_ignored(),
+                stages,
+            )?;
+            Ok((active, child))
+        },
+        Err(lack) => {
+            drop(commands);
+            drop(children);
+            Err(lack)
+        },
+    }
 }
 
 /// The process of an asynchronous list is made.
@@ -386,34 +571,33 @@ fn put_list(
     alloc: Global,
     shell: &Shell,
     ignores_failure: bool,
-    list: Shared<AndOr>,
+    list: &AndOr,
     child: u32,
 ) -> Result<Interpreter, NoMemory>
     ensures { IfOk result (λ made.
         made ≡ record {
           shell = forked_shell child shell.now;
-          run = in_process ignores_failure (and_or_run list);
+          run = in_process ignores_failure (and_or_run list.now);
         }) }
 {
-    let mut frames = match Frames::of_process(alloc, ignores_failure) {
-        Ok(frames) => frames,
-        Err(lack) => {
-            drop(list);
-            return Err(lack);
-        },
-    };
-    let active = list_body(alloc, &mut frames, list.get());
-    drop(list);
-    let active = active?;
+    let mut frames = Frames::of_process(alloc, ignores_failure)?;
+    let active = list_body(alloc, &mut frames, list)?;
     with_copy(alloc, child, shell, frames, active)
 }
 
 /// The shell goes on beside the process of an asynchronous list.
-fn go_on_beside(shell: &mut Shell, child: u32) -> Result<Active, NoMemory>
-    ensures shell { OnOk result (shell.new ≡ after_launch shell.old (child ∷ [])) }
+fn go_on_beside(
+    alloc: Global,
+    kernel: &Kernel,
+    shell: &mut Shell,
+    list: &AndOr,
+    child: u32,
+) -> Result<Active, NoMemory>
+    ensures shell { (s : KernelState) → StandsAt kernel.now s
+        → OnOk result (shell.new ≡ with_job s shell.old list.now (child ∷ [])) }
     ensures place { IfOk result (λ active. active ≡ Active.Done (unexcused 0)) }
 {
-    shell.launch(slice::from_ref(&child))?;
+    put_job(alloc, kernel, shell, list, slice::from_ref(&child))?;
     Ok(Active::Done(CommandStatus::unexcused(0)))
 }
 
@@ -429,9 +613,9 @@ pub(crate) fn list_turn(
     ensures state { (s : KernelState) → StandsAt kernel.old s → IfOk result (λ r.
         IsTurned kernel.new shell.new (Run.At r.0) r.1
         (inheriting ignores_failure (list_turn s shell.old list))) }
-    ensures terminal { kernel.new.terminal ≡ kernel.old.terminal }
+    ensures terminal { kernel.new.terminal.bytes ≡ kernel.old.terminal.bytes }
 {
-    let input = match lay_null_input(kernel, shell.pid, shell.vars.directory()) {
+    let input = match background_input(kernel, shell) {
         Ok(input) => input,
         Err(lack) => {
             drop(list);
@@ -445,11 +629,11 @@ pub(crate) fn list_turn(
             return Err(lack);
         },
     };
-    guard(kernel, true, forked.child);
+    settle_fork(kernel, shell, false, &[], forked.child);
     match forked.child {
         Some(child) => {
-            let made = put_list(alloc, shell, ignores_failure, list, child)?;
-            match go_on_beside(shell, child) {
+            let made = put_list(alloc, shell, ignores_failure, list.get(), child)?;
+            match go_on_beside(alloc, kernel, shell, list.get(), child) {
                 Ok(active) => Ok((active, Some(made))),
                 Err(refusal) => {
                     drop(made);

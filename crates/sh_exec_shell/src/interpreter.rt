@@ -12,7 +12,7 @@ ghost use Rattle.sh_exec_forms.specs.Running.{Run, active_of, with_active};
 use crate::turn::reduce;
 use sh_base::NoMemory;
 use sh_base::sequence::Text;
-use sh_builtin::Shell;
+use sh_builtin_shell::Shell;
 use sh_exec_actions::{Action, Active, CommandStatus, Frame};
 use sh_exec_frames::Frames;
 use sh_exec_parts::{Copying, Rest};

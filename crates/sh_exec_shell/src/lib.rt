@@ -2,6 +2,7 @@
 #![tactic(auto)]
 
 mod forks;
+mod groups;
 mod interpreter;
 mod turn;
 

@@ -16,7 +16,7 @@ use crate::forks::{fork_turn, list_turn, stage_turn, substitute_turn};
 use crate::interpreter::Interpreter;
 use sh_base::NoMemory;
 use sh_base::shared::Shared;
-use sh_builtin::{Functions, Shell};
+use sh_builtin_shell::{Functions, Shell};
 use sh_exec_actions::{Action, Active, CommandStatus, Expanded, ForLoop, Form, Pending, ToExpand};
 use sh_exec_command::{
     Round, assign_turn, case_turn, define_turn, give_turn, pattern_turn, redirects_turn,
@@ -208,7 +208,10 @@ fn act_place(
             let active = read_line_turn(alloc, kernel, shell, reader)?;
             Ok((active, None))
         },
-        Action::Awaiting(awaited) => Ok((await_turn(kernel, shell, awaited), None)),
+        Action::Awaiting(awaited) => {
+            let active = await_turn(alloc, kernel, shell, awaited)?;
+            Ok((active, None))
+        },
         Action::SendSignal(ask) => {
             let active = signal_turn(alloc, kernel, shell, ask)?;
             Ok((active, None))
@@ -218,24 +221,12 @@ fn act_place(
             Ok((active, None))
         },
         Action::Forking(prepared) => {
-            let (active, child) = fork_turn(
-                alloc,
-                kernel,
-                shell,
-                frames.is_failure_ignored(),
-                prepared,
-            )?;
+            let (active, child) = fork_turn(alloc, kernel, shell, frames, prepared)?;
             Ok((active, child))
         },
         Action::Starting(start) => Ok((Active::Next(Action::Starting(start)), None)),
         Action::ForkStage(stages) => {
-            let (active, child) = stage_turn(
-                alloc,
-                kernel,
-                shell,
-                frames.is_failure_ignored(),
-                stages,
-            )?;
+            let (active, child) = stage_turn(alloc, kernel, shell, frames, stages)?;
             Ok((active, child))
         },
         Action::ForkList(list) => {
@@ -256,7 +247,10 @@ fn act_place(
             let active = define(alloc, kernel, shell, definition)?;
             Ok((active, None))
         },
-        Action::Waiting(children) => Ok((wait_turn(kernel, shell.pid, children), None)),
+        Action::Waiting(wait) => {
+            let active = wait_turn(alloc, kernel, shell, wait)?;
+            Ok((active, None))
+        },
         Action::Writing(piece, finish) => {
             let active = write_turn(alloc, kernel, shell, piece, finish)?;
             Ok((active, None))

@@ -1,8 +1,8 @@
 -- The actions of a shell that make no process.
 use Rattle.std.specs.Prelude.{ℕ, List, [], ◌∷◌, ◌++◌, Bool, true, false, length, nat_eq, Option, Some, None, Result, Ok, Err, if◌then◌else◌}
-use Rattle.sh_builtin.specs.Functions.{Named}
+use Rattle.sh_builtin_shell.specs.Functions.{Named}
 use Rattle.sh_exec_parts.specs.Messages.{message, refusal_text}
-use Rattle.sh_builtin.specs.declared.shell.Shell.{Shell}
+use Rattle.sh_builtin_shell.specs.declared.shell.Shell.{Shell}
 use Rattle.sh_builtin_environment.specs.TrapMaps.{action_of, with_action}
 use Rattle.sh_signal.specs.declared.condition.Condition.TheVariants.{Exit}
 use Rattle.sh_exec_parts.specs.declared.message.Piece.{Piece}

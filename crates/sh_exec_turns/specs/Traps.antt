@@ -1,6 +1,6 @@
 -- Traps on signals (XCU 2.15 trap, 2.12): before which actions of a shell that of a trap may come, and the turn in which it is taken.
 use Rattle.std.specs.Prelude.{ℕ, zero, suc, List, [], ◌∷◌, Bool, true, false, not, Option, Some, None, if◌then◌else◌}
-use Rattle.sh_builtin.specs.declared.shell.Shell.{Shell}
+use Rattle.sh_builtin_shell.specs.declared.shell.Shell.{Shell}
 use Rattle.sh_exec_actions.specs.declared.action.Action.{Action}
 use Rattle.sh_exec_actions.specs.declared.action.Action.TheVariants.{Reading, Expanding, ReadSubstitution, WaitSubstitution, ReadLine, Awaiting, SendSignal, Redirecting, Forking, Starting, ForkStage, ForkList, AssignLoopVariable, Defining, Waiting, Writing, Trapping, Ending}
 use Rattle.sh_exec_actions.specs.declared.action.Pending.{Pending}
@@ -60,7 +60,7 @@ may_interrupt (ForkStage stages) = is_none stages.children
 may_interrupt (ForkList list) = true
 may_interrupt (AssignLoopVariable series) = true
 may_interrupt (Defining definition) = true
-may_interrupt (Waiting children) = false
+may_interrupt (Waiting wait) = false
 may_interrupt (Writing piece finish) = false
 may_interrupt (Trapping status) = true
 may_interrupt (Ending status) = false
@@ -91,7 +91,7 @@ shell_before shell (ForkStage stages) = shell
 shell_before shell (ForkList list) = shell
 shell_before shell (AssignLoopVariable series) = shell
 shell_before shell (Defining definition) = shell
-shell_before shell (Waiting children) = shell
+shell_before shell (Waiting wait) = shell
 shell_before shell (Writing piece finish) = shell
 shell_before shell (Trapping status) = behind_status shell status
 shell_before shell (Ending status) = shell

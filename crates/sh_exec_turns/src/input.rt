@@ -6,7 +6,7 @@ ghost use Rattle.sh_exec_turns.specs.Acting.{collect_by, collect_end, collect_fr
 ghost use Rattle.sh_exec_forms.specs.Running.{Run};
 
 use sh_base::NoMemory;
-use sh_builtin::Shell;
+use sh_builtin_shell::Shell;
 use sh_exec_actions::{Action, Active, Substitution};
 use sh_exec_machine::{ReadOutcome, take_bytes};
 use sh_kernel::{DescriptorRef, Kernel};

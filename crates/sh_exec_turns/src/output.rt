@@ -8,7 +8,7 @@ ghost use Rattle.sh_exec_forms.specs.Running.{Run};
 ghost use Rattle.sh_exec_frames.specs.Writing.{written_by};
 
 use sh_base::NoMemory;
-use sh_builtin::Shell;
+use sh_builtin_shell::Shell;
 use sh_exec_actions::{Action, Active, Finish};
 use sh_exec_frames::after_write;
 use sh_exec_machine::{end_process, give_bytes};

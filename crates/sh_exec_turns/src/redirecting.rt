@@ -6,7 +6,7 @@ ghost use Rattle.sh_exec_turns.specs.Acting.{in_forms, keeps, with_undo, redirec
 ghost use Rattle.sh_exec_forms.specs.Stacks.{run_in, run_of};
 
 use sh_base::NoMemory;
-use sh_builtin::Shell;
+use sh_builtin_shell::Shell;
 use sh_exec_actions::{Active, ExpandedCommand, Role, go_ahead, not_done};
 use sh_exec_forms::go_to;
 use sh_exec_frames::Frames;

@@ -9,9 +9,10 @@ use Rattle.sh_laws.proofs.RequestLists.{changes_reached, reaches_as_before}
 use Rattle.sh_laws.proofs.Reaching.{forking_reaches}
 use Rattle.sh_laws.proofs.Unmade.{unmade_stay, unmade_stay_forking}
 use Rattle.sh_exec_machine.specs.Forking.{fork_of}
-use Rattle.sh_exec_shell.specs.Forks.{guarded}
+use Rattle.sh_exec_shell.specs.Forks.{behind_fork_by, given_terminal, leader}
 use Rattle.sh_kernel_descriptors.specs.Machine.{MachineState}
 use Rattle.sh_kernel_descriptors.specs.Processes.{next_pid}
+use Rattle.sh_kernel.specs.Calls.{after_set_group}
 use Rattle.sh_kernel.specs.Laws.{ChangesOnlyReached, OnlyGrows, ReachesNoMore, opens, sends}
 use Rattle.sh_kernel.specs.Requests.{Request, after_request}
 use Rattle.sh_kernel.specs.State.{KernelState}
@@ -37,11 +38,19 @@ sends_append s (r ∷ rs) more =
     or_assoc true b c = refl
     or_assoc false b c = refl
 
--- signals that a new process ignores change nothing that it has open
-guarded_machine : (beside : Bool) (child : Option ℕ) (s : KernelState) → (guarded beside child s).machine ≡ s.machine
-guarded_machine false child s = refl
-guarded_machine true None s = refl
-guarded_machine true (Some child) s = refl
+-- groups, and signals that a new process ignores, change nothing that it has open
+given_machine : (is_foreground : Bool) (others : List ℕ) (child : ℕ) (s : KernelState) → (given_terminal is_foreground others child s).machine ≡ s.machine
+given_machine true [] child s = refl
+given_machine true (first ∷ more) child s = refl
+given_machine false others child s = refl
+
+behind_machine : (control : Bool) (pid : ℕ) (is_foreground : Bool) (others : List ℕ) (child : Option ℕ) (s : KernelState)
+    → (behind_fork_by control pid is_foreground others child s).machine ≡ s.machine
+behind_machine true pid is_foreground others None s = refl
+behind_machine true pid is_foreground others (Some child) s = given_machine is_foreground others child (after_set_group s child (leader others child))
+behind_machine false pid true others child s = refl
+behind_machine false pid false others None s = refl
+behind_machine false pid false others (Some child) s = refl
 
 -- what isn't quiet was told
 told : (a b : Bool) → (a ≡ false → b ≡ false) → b ≡ true → a ≡ true
@@ -100,11 +109,11 @@ module _ (s : KernelState) (pid : ℕ) (directory : List ℕ) (born : pid < next
       }
 
   forks_along : IsForked pid (Along s pid directory)
-  forks_along t before writes beside a =
+  forks_along t before writes control is_foreground others a =
       let f = fork_of t pid before writes in
-      let u = after_making t pid before writes beside in
-      let same : u.machine ≡ f.after.machine = guarded_machine beside f.child f.after in
-      let more = fork_by pid directory t before writes beside in
+      let u = after_making t pid before writes control is_foreground others in
+      let same : u.machine ≡ f.after.machine = behind_machine control pid is_foreground others f.child f.after in
+      let more = fork_by pid directory t before writes control is_foreground others in
       let changes = subst (λ (m : MachineState). ChangesOnlyReached pid false (λ node. false) t.machine m) (sym same) (forking_changes t pid before writes a.unmade) in
       let less = subst (λ (m : MachineState). ReachesNoMore pid (λ node. false) t.machine m) (sym same) (forking_reaches t pid before writes a.unmade) in
       let grows = subst (λ (m : MachineState). OnlyGrows t.machine m) (sym same) (forking_grows t pid before writes) in

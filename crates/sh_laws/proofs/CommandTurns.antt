@@ -38,7 +38,7 @@ use Rattle.sh_builtin.specs.Builtins.{builtin_of, is_named, is_special}
 use Rattle.sh_builtin.specs.Invocations.{by_command, by_name}
 use Rattle.sh_builtin.specs.declared.invocation.Invocation.{Invocation}
 use Rattle.sh_builtin.specs.Commands.{behind_command}
-use Rattle.sh_builtin.specs.Functions.{Named, body_of, has_name}
+use Rattle.sh_builtin_shell.specs.Functions.{Named, body_of, has_name}
 use Rattle.sh_builtin.specs.declared.builtin.Builtin.{Builtin}
 use Rattle.sh_builtin.specs.declared.builtin.Builtin.TheVariants.{Exec}
 use Rattle.sh_builtin_environment.specs.Options.{Parsed, options_and_operands}
@@ -115,7 +115,7 @@ assignments_hold _ (more_words item others b r) = assigned_begins (view.out-Simp
 
 -- ---- its first action
 wants_hold : (b in_place : Bool) (command : Command) → CommandBegins command
-    → WantsHold (if b then wants.Words command in_place 0 else wants.Values (nameless (items_of command)))
+    → WantsHold (if b then wants.Words command in_place 0 else wants.Values (nameless command))
 unfolding nameless
 wants_hold true in_place command c = c
 wants_hold false in_place command c = (tt, assignments_hold (items_of command) (items_begin command c))
@@ -260,17 +260,18 @@ role_run_holds : (functions : List Named) (words : List (List ℕ)) (behind : Op
 role_run_holds functions words None h = role_holds functions words h
 role_run_holds functions words (Some behind) h = role_behind_holds behind
 
-prepared_holds : (env : Environment) (functions : List Named) (items : List SimpleItem) (fields : List (List ℕ)) (status : ℕ) → FunctionsHold functions → WordsBegin items
-    → CommandHolds (prepared_of env functions items fields status)
+prepared_holds : (env : Environment) (functions : List Named) (command : Command) (fields : List (List ℕ)) (status : ℕ) → FunctionsHold functions
+    → WordsBegin (items_of command) → CommandHolds (prepared_of env functions command fields status)
 unfolding prepared_of
-prepared_holds env functions items fields status h b =
+prepared_holds env functions command fields status h b =
+    let items = items_of command in
     let words = word_fields fields (length (redirects_of items)) in (role_run_holds functions words (behind_command functions words) h, assignments_hold items b)
 
 words_by_hold : (functions : List Named) (command : Command) (in_place : Bool) (status : ℕ) (pending : Pending) (r : expanding.Result) → FunctionsHold functions → CommandBegins command
     → ResultBegins r → TurnHolds (words_by functions command in_place status pending r)
 words_by_hold functions command in_place status pending (expanding.Need program env) h c b = (b, c)
 words_by_hold functions command in_place status pending (expanding.Fields fields env) h c b =
-    first_move_holds in_place (prepared_of env functions (items_of command) fields status) (prepared_holds env functions (items_of command) fields status h (items_begin command c))
+    first_move_holds in_place (prepared_of env functions command fields status) (prepared_holds env functions command fields status h (items_begin command c))
 words_by_hold functions command in_place status pending (expanding.Stops fault env) h c b = tt
 
 pub words_hold : (files : FileMap) (env : Environment) (functions : List Named) (command : Command) (in_place : Bool) (status : ℕ) (pending : Option Pending) → FunctionsHold functions

@@ -1,16 +1,16 @@
 -- The functions of a shell begin with an action after its turn where they did before it.
-use Rattle.std.proofs.Common.{ℕ, zero, suc, List, [], ◌∷◌, ◌++◌, length, Bool, true, false, Option, Some, None, sym, ap, subst, ◌∙◌}
+use Rattle.std.proofs.Common.{ℕ, zero, suc, List, [], ◌∷◌, ◌++◌, length, Bool, true, false, Option, Some, None, Result, Ok, Err, sym, ap, subst, ◌∙◌}
 use Rattle.std.specs.Prelude.{cond, drop, nat_eq, not}
 use Rattle.sh_base.specs.Names.{is_name}
-use Rattle.sh_builtin.specs.Functions.{Named, has_name, unset_by, without, without_all}
+use Rattle.sh_builtin_shell.specs.Functions.{Named, has_name, unset_by, without, without_all}
 use Rattle.sh_builtin.specs.Invocations.{invoked}
-use Rattle.sh_builtin.specs.Running.{built_in}
+use Rattle.sh_builtin.specs.Running.{built_in, jobs_ran}
 use Rattle.sh_builtin.specs.declared.outcome.TextRun.{TextRun}
 use Rattle.sh_builtin.specs.declared.builtin.Builtin.{Builtin}
 use Rattle.sh_builtin.specs.declared.builtin.Builtin.TheVariants as builtin
 use Rattle.sh_builtin.specs.declared.outcome.Leave.{Leave}
 use Rattle.sh_builtin.specs.declared.outcome.Leave.TheVariants as leave
-use Rattle.sh_builtin.specs.declared.shell.Shell.{Shell}
+use Rattle.sh_builtin_shell.specs.declared.shell.Shell.{Shell}
 use Rattle.sh_builtin_environment.specs.Unsetting.{functions_to_unset}
 use Rattle.sh_builtin_regular.specs.Lines.{Progress, bytes_taken}
 use Rattle.sh_builtin_regular.specs.declared.reader.LineReader.{LineReader}
@@ -40,7 +40,7 @@ use Rattle.sh_builtin_environment.specs.TrapMaps.{action_of}
 use Rattle.sh_signal.specs.declared.condition.Condition.TheVariants.{Exit}
 use Rattle.sh_exec_frames.specs.Frames.{has_loop, last_for, levels_left}
 use Rattle.sh_exec_forms.specs.Running.{Run, At, In}
-use Rattle.sh_exec_machine.specs.Forking.{fork_of, null_laid}
+use Rattle.sh_exec_machine.specs.Forking.{fork_of}
 use Rattle.sh_exec_machine.specs.Transfers.{take_bytes}
 use Rattle.sh_exec_machine.specs.Waits.{wait_status}
 use Rattle.sh_exec_machine.specs.declared.transfer.ReadOutcome.{ReadOutcome}
@@ -51,16 +51,26 @@ use Rattle.sh_exec_parts.specs.declared.redirection.Redirection.{Redirection}
 use Rattle.sh_exec_turns.specs.Acting.{after_collection, collect_by, collect_end, collect_from, collect_turn, end_turn, expand_turn, next, redirect_from, redirect_one, redirect_turn, trap_by, trap_turn, with_written, write_turn}
 use Rattle.sh_exec_frames.specs.Placed.{Placed}
 use Rattle.sh_builtin_jobs.specs.declared.run.KillAsk.{KillAsk}
-use Rattle.sh_exec_frames.specs.Awaiting.{all_by, await_by, await_ended, await_turn, operand_by}
+use Rattle.sh_exec_frames.specs.Awaiting.{all_by, await_by, await_ended, await_turn, operand_by, without_target}
+use Rattle.sh_builtin_shell.specs.Shells.{has_job_control}
+use Rattle.sh_exec_actions.specs.declared.action.PipelineWait.{PipelineWait}
 use Rattle.sh_exec_frames.specs.Signals.{pending_signal, signal_turn}
+use Rattle.sh_exec_frames.specs.Waiting.{controlled_by, wait_turn, wait_with}
+use Rattle.sh_jobs.specs.States.{state_of}
+use Rattle.sh_jobs.specs.declared.state.JobState.{JobState}
+use Rattle.sh_jobs.specs.declared.state.JobState.TheVariants.{Running, Suspended}
+use Rattle.sh_jobs.specs.declared.state.JobState.TheVariants as state
 use Rattle.sh_exec_turns.specs.Traps.{interrupted, interruption, shell_before, trap_before}
 use Rattle.sh_kernel.specs.Calls.{after_take_signal}
 use Rattle.sh_signal.specs.declared.signal.Signal.{Signal}
-use Rattle.sh_builtin_regular.specs.declared.waiting.Awaited.{Awaited}
-use Rattle.sh_builtin_regular.specs.declared.waiting.Awaited.TheVariants as awaited
-use Rattle.sh_builtin_regular.specs.declared.waiting.ProcessWait.{ProcessWait}
+use Rattle.sh_builtin_wait.specs.Waits.{processes_of}
+use Rattle.sh_builtin_wait.specs.declared.run.Awaited.{Awaited}
+use Rattle.sh_builtin_wait.specs.declared.run.Awaited.TheVariants as awaited
+use Rattle.sh_builtin_wait.specs.declared.run.OperandWait.{OperandWait}
+use Rattle.sh_builtin_wait.specs.declared.target.WaitTarget.{WaitTarget}
+use Rattle.sh_builtin_wait.specs.declared.target.WaitTarget.TheVariants as target
 use Rattle.sh_exec_frames.specs.LineReading.{line_by, line_ended, line_goes_on, line_read_by, most_read, read_line_turn}
-use Rattle.sh_exec_shell.specs.Forks.{begun_substitution, fork_turn, guarded, is_beside, is_more, list_by, list_turn, made_shell, program_by, stage_by, stage_from, stage_input, stage_one, stage_shell, stage_turn, substitute_turn, substitution_by}
+use Rattle.sh_exec_shell.specs.Forks.{background_input, begun_substitution, behind_fork, fork_turn, is_foreground, is_more, launch_by, list_by, list_turn, made_shell, program_by, stage_by, stage_from, stage_input, stage_one, stage_shell, stage_turn, substitute_turn, substitution_by}
 use Rattle.sh_exec_shell.specs.Reduction.{act_at, act_behind, act_place, expanded_by, reduce}
 use Rattle.sh_kernel.specs.State.{KernelState}
 use Rattle.sh_kernel_descriptors.specs.declared.descriptor.DescriptorRef.TheVariants.{Aside, Number}
@@ -71,11 +81,15 @@ use Rattle.sh_syntax.specs.declared.tree.Command.TheVariants as command
 use Rattle.sh_syntax.specs.declared.tree.Command.TheViews as view
 use Rattle.sh_syntax.specs.declared.tree.Compound.{Compound}
 use Rattle.sh_syntax.specs.declared.tree.CompoundList.{CompoundList}
-use Rattle.sh_syntax.specs.declared.tree.Separator.{Separator}
-use Rattle.sh_syntax.specs.declared.tree.Separator.TheVariants.{Sequential, Asynchronous}
+use Rattle.sh_exec_actions.specs.declared.action.Launch.{Launch}
+use Rattle.sh_exec_actions.specs.declared.action.Launch.TheVariants.{Foreground, Background}
 use Rattle.sh_laws.proofs.CommandTurns.{choose}
 use Rattle.sh_laws.specs.BeforeAction.{ActiveStands, FunctionsHold, PlaceHolds, RunStands}
 use Rattle.sh_laws.specs.Beginnings.{CommandBegins, FormBegins, RedirectsBegin, by_definition, by_form, by_words}
+use Rattle.sh_builtin_environment.specs.declared.outcome.BuiltinFault.{BuiltinFault}
+use Rattle.sh_builtin_jobs.specs.Listing.{jobs_of}
+use Rattle.sh_builtin_jobs.specs.declared.listing.JobsCommand.{JobsCommand}
+use Rattle.sh_builtin_shell.specs.Shells.{up_to_date}
 
 -- ---- some functions less, and one more
 without_hold : (functions : List Named) (name : List ℕ) → FunctionsHold functions → FunctionsHold (without functions name)
@@ -114,6 +128,10 @@ unset_hold functions (Some names) h = without_all_hold functions names h
 abbrev Keeps : Shell → Type 0
 Keeps shell = FunctionsHold shell.functions
 
+jobs_ran_keeps : (s : KernelState) (shell : Shell) (asked : Result JobsCommand BuiltinFault) → Keeps shell → Keeps (jobs_ran s shell asked).shell
+jobs_ran_keeps s shell (Ok command) f = f
+jobs_ran_keeps s shell (Err why) f = f
+
 built_in_keeps : (s : KernelState) (shell : Shell) (last : ℕ) (b : Builtin) (arguments : List (List ℕ)) → Keeps shell → Keeps (built_in s shell last b arguments).shell
 unfolding built_in
 built_in_keeps s shell last builtin.Bracket arguments f = f
@@ -129,6 +147,7 @@ built_in_keeps s shell last builtin.Exec arguments f = f
 built_in_keeps s shell last builtin.Exit arguments f = f
 built_in_keeps s shell last builtin.Export arguments f = f
 built_in_keeps s shell last builtin.False arguments f = f
+built_in_keeps s shell last builtin.Jobs arguments f = jobs_ran_keeps s (up_to_date s shell) (jobs_of arguments) f
 built_in_keeps s shell last builtin.Kill arguments f = f
 built_in_keeps s shell last builtin.Pwd arguments f = f
 built_in_keeps s shell last builtin.Read arguments f = f
@@ -284,17 +303,21 @@ unfolding read_line_turn
 line_keeps s shell reader f = let t = take_bytes s shell.pid (Number 0) (most_read s.machine shell.pid) in line_read_by_keeps t.after shell reader t.told f
 
 -- ---- what wait waits for
-operand_keeps : (s : KernelState) (shell : Shell) (wait : ProcessWait) (o : Option ℕ) → Keeps shell → PlacedKeeps (operand_by s shell wait o)
+target_keeps : (shell : Shell) (to : WaitTarget) → Keeps shell → Keeps (without_target shell to)
+target_keeps shell (target.Process pid) f = f
+target_keeps shell (target.Job number pids) f = f
+
+operand_keeps : (s : KernelState) (shell : Shell) (wait : OperandWait) (o : Option ℕ) → Keeps shell → PlacedKeeps (operand_by s shell wait o)
 operand_keeps s shell wait None f = f
-operand_keeps s shell wait (Some status) f = f
+operand_keeps s shell wait (Some status) f = target_keeps shell wait.target f
 
 all_keeps : (s : KernelState) (shell : Shell) (o : Option ℕ) → Keeps shell → PlacedKeeps (all_by s shell o)
 all_keeps s shell None f = f
 all_keeps s shell (Some status) f = f
 
 await_ended_keeps : (s : KernelState) (shell : Shell) (a : Awaited) → Keeps shell → PlacedKeeps (await_ended s shell a)
-await_ended_keeps s shell awaited.All f = all_keeps s shell (wait_status s shell.pid shell.known) f
-await_ended_keeps s shell (awaited.Process wait) f = operand_keeps s shell wait (wait_status s shell.pid (wait.process ∷ [])) f
+await_ended_keeps s shell awaited.All f = all_keeps s shell (wait_status s shell.pid shell.background) f
+await_ended_keeps s shell (awaited.Operand wait) f = operand_keeps s shell wait (wait_status s shell.pid (processes_of wait.target)) f
 
 await_by_keeps : (s : KernelState) (shell : Shell) (a : Awaited) (caught : Option Signal) → Keeps shell → PlacedKeeps (await_by s shell a caught)
 await_by_keeps s shell a None f = await_ended_keeps s shell a f
@@ -352,7 +375,7 @@ before_keeps shell (ForkStage stages) f = f
 before_keeps shell (ForkList list) f = f
 before_keeps shell (AssignLoopVariable series) f = f
 before_keeps shell (Defining definition) f = f
-before_keeps shell (Waiting children) f = f
+before_keeps shell (Waiting wait) f = f
 before_keeps shell (Writing piece finish) f = f
 before_keeps shell (Trapping status) f = f
 before_keeps shell (Ending status) f = f
@@ -366,38 +389,55 @@ unfolding interruption
 interruption_keeps around s shell place text f =
     interrupted_keeps (levels_left around) (after_take_signal s shell.pid) (shell_before shell place) place text (before_keeps shell place f)
 
+-- ---- a wait for a pipeline
+controlled_keeps : (s : KernelState) (shell : Shell) (children text : List ℕ) (state : JobState) → Keeps shell → PlacedKeeps (controlled_by s shell children text state)
+controlled_keeps s shell children text Running f = f
+controlled_keeps s shell children text (Suspended signal) f = f
+controlled_keeps s shell children text (state.Done ending) f = f
+
+wait_with_keeps : (s : KernelState) (shell : Shell) (children : List ℕ) (job : Option (List ℕ)) → Keeps shell → PlacedKeeps (wait_with s shell children job)
+wait_with_keeps s shell children None f = f
+wait_with_keeps s shell children (Some text) f = controlled_keeps s shell children text (state_of s.machine.processes children) f
+
+wait_keeps : (s : KernelState) (shell : Shell) (wait : PipelineWait) → Keeps shell → PlacedKeeps (wait_turn s shell wait)
+unfolding wait_turn
+wait_keeps s shell wait f = wait_with_keeps s shell wait.children wait.job f
+
 -- ---- processes that are made
-program_keeps : (s : KernelState) (shell : Shell) (p : ExpandedCommand) (o : Option ℕ) → Keeps shell → ActedKeeps (program_by s shell p o).left
-program_keeps s shell p None f = f
-program_keeps s shell p (Some child) f = f
+program_keeps : (around : List Form) (s : KernelState) (shell : Shell) (p : ExpandedCommand) (o : Option ℕ) → Keeps shell → ActedKeeps (program_by around s shell p o).left
+program_keeps around s shell p None f = f
+program_keeps around s shell p (Some child) f = f
 
-fork_keeps : (s : KernelState) (shell : Shell) (p : ExpandedCommand) → Keeps shell → ActedKeeps (fork_turn s shell p).left
+fork_keeps : (around : List Form) (s : KernelState) (shell : Shell) (p : ExpandedCommand) → Keeps shell → ActedKeeps (fork_turn around s shell p).left
 unfolding fork_turn
-fork_keeps s shell p f = let forked = fork_of s shell.pid None false in program_keeps forked.after shell p forked.child f
+fork_keeps around s shell p f =
+    let forked = fork_of s shell.pid None false in program_keeps around (behind_fork shell true [] forked.child forked.after) shell p forked.child f
 
-made_keeps : (separator : Separator) (shell : Shell) (children : List ℕ) → Keeps shell → Keeps (made_shell separator shell children)
-made_keeps Sequential shell children f = f
-made_keeps Asynchronous shell children f = f
+made_keeps : (s : KernelState) (launch : Launch) (shell : Shell) (children : List ℕ) → Keeps shell → Keeps (made_shell s launch shell children)
+made_keeps s (Foreground job) shell children f = f
+made_keeps s (Background list) shell children f = f
 
-stage_shell_keeps : (separator : Separator) (commands : List Command) (shell : Shell) (children : List ℕ) → Keeps shell → Keeps (stage_shell separator commands shell children)
-stage_shell_keeps separator [] shell children f = made_keeps separator shell children f
-stage_shell_keeps separator (command ∷ commands) shell children f = f
+stage_shell_keeps : (s : KernelState) (launch : Launch) (commands : List Command) (shell : Shell) (children : List ℕ) → Keeps shell → Keeps (stage_shell s launch commands shell children)
+stage_shell_keeps s launch [] shell children f = made_keeps s launch shell children f
+stage_shell_keeps s launch (command ∷ commands) shell children f = f
 
 stage_by_keeps : (s : KernelState) (shell : Shell) (command : Command) (stages : Stages) (o : Option ℕ) → Keeps shell → ActedKeeps (stage_by s shell command stages o).left
 stage_by_keeps s shell command stages None f = f
-stage_by_keeps s shell command stages (Some child) f = stage_shell_keeps stages.separator stages.commands shell (stages.children ++ child ∷ []) f
+stage_by_keeps s shell command stages (Some child) f = stage_shell_keeps s stages.launch stages.commands shell (stages.children ++ child ∷ []) f
 
 stage_from_keeps : (s : KernelState) (shell : Shell) (stages : Stages) (commands : List Command) → Keeps shell → ActedKeeps (stage_from s shell stages commands).left
 unfolding stage_one
 stage_from_keeps s shell stages [] f = f
 stage_from_keeps s shell stages (command ∷ commands) f =
-    let l = stage_input stages.separator stages.children stages.aside shell s in
+    let l = stage_input stages.launch stages.children stages.aside shell s in
     let forked = fork_of l.after shell.pid l.aside (is_more commands) in
-    stage_by_keeps (guarded (is_beside stages.separator) forked.child forked.after) shell command (record stages { commands = commands; aside = forked.aside }) forked.child f
+    stage_by_keeps (behind_fork shell (is_foreground stages.launch) stages.children forked.child forked.after) shell command
+    (record stages { commands = commands; aside = forked.aside }) forked.child f
 
-stage_keeps : (s : KernelState) (shell : Shell) (stages : Stages) → Keeps shell → ActedKeeps (stage_turn s shell stages).left
+stage_keeps : (around : List Form) (s : KernelState) (shell : Shell) (stages : Stages) → Keeps shell → ActedKeeps (stage_turn around s shell stages).left
 unfolding stage_turn
-stage_keeps s shell stages f = stage_from_keeps s shell stages stages.commands f
+stage_keeps around s shell stages f =
+    stage_from_keeps s shell (record stages { launch = launch_by around shell stages.commands stages.children stages.launch }) stages.commands f
 
 list_by_keeps : (s : KernelState) (shell : Shell) (list : AndOr) (o : Option ℕ) → Keeps shell → ActedKeeps (list_by s shell list o).left
 list_by_keeps s shell list None f = f
@@ -406,9 +446,9 @@ list_by_keeps s shell list (Some child) f = f
 list_keeps : (s : KernelState) (shell : Shell) (list : AndOr) → Keeps shell → ActedKeeps (list_turn s shell list).left
 unfolding list_turn
 list_keeps s shell list f =
-    let l = null_laid shell.vars.directory s shell.pid in
+    let l = background_input (has_job_control shell) s shell in
     let forked = fork_of l.after shell.pid l.aside false in
-    list_by_keeps (guarded true forked.child forked.after) shell list forked.child f
+    list_by_keeps (behind_fork shell false [] forked.child forked.after) shell list forked.child f
 
 substitution_keeps : (s : KernelState) (shell : Shell) (program : CompoundList) (substitution : Substitution) (o : Option ℕ) → Keeps shell
     → ActedKeeps (substitution_by s shell program substitution o).left
@@ -437,13 +477,13 @@ place_keeps around s shell (ReadLine reader) h f = line_keeps s shell reader f
 place_keeps around s shell (Awaiting awaited) h f = await_keeps s shell awaited f
 place_keeps around s shell (SendSignal ask) h f = signal_keeps s shell ask f
 place_keeps around s shell (Redirecting p) h f = redirect_keeps s shell p f
-place_keeps around s shell (Forking p) h f = fork_keeps s shell p f
+place_keeps around s shell (Forking p) h f = fork_keeps around s shell p f
 place_keeps around s shell (Starting start) h f = f
-place_keeps around s shell (ForkStage stages) h f = stage_keeps s shell stages f
+place_keeps around s shell (ForkStage stages) h f = stage_keeps around s shell stages f
 place_keeps around s shell (ForkList list) h f = list_keeps s shell list f
 place_keeps around s shell (AssignLoopVariable series) h f = f
 place_keeps around s shell (Defining definition) h f = define_hold shell.functions definition f h
-place_keeps around s shell (Waiting children) h f = f
+place_keeps around s shell (Waiting wait) h f = wait_keeps s shell wait f
 place_keeps around s shell (Writing piece finish) h f = write_keeps s shell piece finish f
 place_keeps around s shell (Trapping status) h f = trap_keeps s shell status f
 place_keeps around s shell (Ending status) h f = end_keeps s shell status f

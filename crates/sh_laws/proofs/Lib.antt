@@ -45,3 +45,4 @@ pub mod FunctionTurns
 pub mod ShellTurns
 pub mod ProcessTurns
 pub mod StandingRuns
+pub mod Terminals

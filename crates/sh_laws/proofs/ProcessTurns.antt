@@ -7,7 +7,7 @@ use Rattle.sh_exec.specs.declared.start.Started.{Started}
 use Rattle.sh_exec.specs.declared.start.Started.TheVariants.{Becomes, Refused}
 use Rattle.sh_exec.specs.declared.task.Task.{Task}
 use Rattle.sh_exec.specs.declared.task.Task.TheVariants.{Runs, Asks}
-use Rattle.sh_builtin.specs.declared.shell.Shell.{Shell}
+use Rattle.sh_builtin_shell.specs.declared.shell.Shell.{Shell}
 use Rattle.sh_files.specs.declared.search.Located.{Located}
 use Rattle.sh_files.specs.declared.search.Located.TheVariants as located
 use Rattle.sh_exec_actions.specs.declared.action.Action.{Action}

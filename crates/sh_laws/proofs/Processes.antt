@@ -9,7 +9,7 @@ use Rattle.sh_exec.specs.declared.start.Started.TheVariants.{Becomes, Refused}
 use Rattle.sh_exec.specs.Tasks.{pid_of}
 use Rattle.sh_exec.specs.declared.task.Task.{Task}
 use Rattle.sh_exec.specs.declared.task.Task.TheVariants.{Runs, Asks}
-use Rattle.sh_builtin.specs.declared.shell.Shell.{Shell}
+use Rattle.sh_builtin_shell.specs.declared.shell.Shell.{Shell}
 use Rattle.sh_files.specs.declared.search.Located.{Located}
 use Rattle.sh_files.specs.declared.search.Located.TheVariants as located
 use Rattle.sh_exec_forms.specs.Running.{InterpreterState, active_of}
@@ -108,7 +108,7 @@ module _ {S : Type 0} (m : Meaning S) where
 
   runs_number : (s : KernelState) (interpreter : InterpreterState) (o : Option ProgramStart) → pid_of (runs_by m s interpreter o).task ≡ interpreter.shell.pid
   runs_number s interpreter None =
-      (shell_keeps interpreter.shell.vars.directory interpreter.shell.pid (λ made t. Unit {0}) (λ made t r from p. tt) (λ t before writes beside p. tt) s interpreter refl refl tt).0
+      (shell_keeps interpreter.shell.vars.directory interpreter.shell.pid (λ made t. Unit {0}) (λ made t r from p. tt) (λ t before writes control is_foreground others p. tt) s interpreter refl refl tt).0
   runs_number s interpreter (Some start) =
       let l = start_turn m s interpreter.shell start in started_in_number l.machine interpreter l.next (start_number s interpreter.shell start start.fields)
 

@@ -5,7 +5,7 @@ use Rattle.sh_builtin.specs.Invocations.{invoked}
 use Rattle.sh_builtin.specs.declared.outcome.TextOrigin.{TextOrigin}
 use Rattle.sh_builtin.specs.declared.outcome.TextRun.{TextRun}
 use Rattle.sh_builtin.specs.declared.outcome.TextOrigin.TheVariants as origin
-use Rattle.sh_builtin.specs.declared.shell.Shell.{Shell}
+use Rattle.sh_builtin_shell.specs.declared.shell.Shell.{Shell}
 use Rattle.sh_builtin.specs.declared.outcome.Completion.{Completion}
 use Rattle.sh_builtin.specs.declared.outcome.Completion.TheVariants as completion
 use Rattle.sh_builtin.specs.declared.outcome.Outcome.{Outcome}

@@ -1,14 +1,14 @@
 -- A turn of a shell that stands before an action leaves it before one, and so does the shell that it makes.
-use Rattle.std.proofs.Common.{◌≡◌, ℕ, zero, suc, List, [], ◌∷◌, ◌++◌, length, Option, Some, None, Bool, true, false, sym, subst}
+use Rattle.std.proofs.Common.{◌≡◌, ℕ, zero, suc, ◌+◌, List, [], ◌∷◌, ◌++◌, length, Option, Some, None, Bool, true, false, sym, subst}
 use Rattle.std.specs.Prelude.{Result, Ok, Err, nat_eq}
-use Rattle.sh_builtin.specs.Functions.{Named}
+use Rattle.sh_builtin_shell.specs.Functions.{Named}
 use Rattle.sh_builtin.specs.Outcomes.{shell_status}
 use Rattle.sh_builtin_environment.specs.TrapMaps.{action_of}
 use Rattle.sh_builtin_regular.specs.Assigning.{line_assigned}
 use Rattle.sh_builtin_regular.specs.Lines.{Progress, bytes_taken}
 use Rattle.sh_builtin_regular.specs.declared.reader.LineReader.{LineReader}
 use Rattle.sh_signal.specs.declared.condition.Condition.TheVariants.{Exit}
-use Rattle.sh_builtin.specs.declared.shell.Shell.{Shell}
+use Rattle.sh_builtin_shell.specs.declared.shell.Shell.{Shell}
 use Rattle.sh_exec_actions.specs.Preparing.{ahead, ahead_by, final_move, performed_by}
 use Rattle.sh_exec_command.specs.Reading.{next_command}
 use Rattle.sh_exec_command.specs.Series.{give_turn}
@@ -42,7 +42,7 @@ use Rattle.sh_exec_forms.specs.Forms.{Acted, behind_status, with_run}
 use Rattle.sh_exec_frames.specs.Frames.{ends_shell, is_failure_ignored, levels_left}
 use Rattle.sh_exec_actions.specs.declared.form.Form.{Form}
 use Rattle.sh_exec_forms.specs.Running.{Run, At, In, InterpreterState}
-use Rattle.sh_exec_machine.specs.Forking.{fork_of, null_laid}
+use Rattle.sh_exec_machine.specs.Forking.{fork_of}
 use Rattle.sh_exec_machine.specs.Redirecting.{redirection_outcome}
 use Rattle.sh_exec_machine.specs.Transfers.{give_bytes, take_bytes}
 use Rattle.sh_exec_machine.specs.declared.transfer.ReadOutcome.{ReadOutcome}
@@ -54,7 +54,14 @@ use Rattle.sh_exec_parts.specs.declared.message.Piece.{Piece}
 use Rattle.sh_exec_parts.specs.declared.redirection.Redirection.{Redirection}
 use Rattle.sh_exec_parts.specs.declared.simple.Assignment.{Assignment}
 use Rattle.sh_exec_turns.specs.Acting.{after_collection, collect_by, collect_end, collect_from, collect_turn, end_turn, ending_by, expand_turn, keeps, next, read_turn, redirect_by, redirect_from, redirect_one, redirect_turn, round_run, trap_by, trap_turn, with_undo, with_written, without_trap, write_turn}
-use Rattle.sh_exec_frames.specs.Waiting.{answer_by, answer_turn, wait_by, wait_turn, with_substitution}
+use Rattle.sh_exec_actions.specs.declared.action.PipelineWait.{PipelineWait}
+use Rattle.sh_exec_frames.specs.Waiting.{answer_by, answer_turn, controlled_by, job_line, terminal_back, told, wait_by, wait_turn, wait_with, with_substitution}
+use Rattle.sh_exec_machine.specs.Waits.{signal_status}
+use Rattle.sh_jobs.specs.States.{state_of}
+use Rattle.sh_jobs.specs.Table.{free_number}
+use Rattle.sh_jobs.specs.declared.state.JobState.{JobState}
+use Rattle.sh_jobs.specs.declared.state.JobState.TheVariants.{Running, Suspended}
+use Rattle.sh_jobs.specs.declared.state.JobState.TheVariants as state
 use Rattle.sh_exec_frames.specs.Writing.{after_writing, unwritten, written_by}
 use Rattle.sh_exec_frames.specs.Placed.{Placed}
 use Rattle.sh_builtin.specs.Running.{control_of}
@@ -63,21 +70,22 @@ use Rattle.sh_builtin_jobs.specs.KillRuns.{kill_next}
 use Rattle.sh_builtin_jobs.specs.declared.run.KillAsk.{KillAsk}
 use Rattle.sh_builtin_jobs.specs.declared.run.KillStep.{KillStep}
 use Rattle.sh_builtin_jobs.specs.declared.run.KillStep.TheVariants as kill
-use Rattle.sh_exec_frames.specs.Awaiting.{all_by, await_by, await_ended, await_turn, operand_by, step_place}
+use Rattle.sh_exec_frames.specs.Awaiting.{all_by, await_by, await_ended, await_turn, operand_by, said_so_far, step_place, without_target}
 use Rattle.sh_exec_frames.specs.Signals as signals
 use Rattle.sh_exec_frames.specs.Signals.{after_sending, is_reached, pending_signal, signal_turn}
 use Rattle.sh_exec_turns.specs.Traps.{interrupted, interruption, shell_before, trap_before}
 use Rattle.sh_kernel.specs.Calls.{after_take_signal}
+use Rattle.sh_signal.specs.Signals.{number_of}
 use Rattle.sh_signal.specs.declared.signal.Signal.{Signal}
-use Rattle.sh_builtin_regular.specs.declared.waiting.Awaited.{Awaited}
-use Rattle.sh_builtin_regular.specs.declared.waiting.Awaited.TheVariants as awaited
-use Rattle.sh_builtin_regular.specs.declared.waiting.ProcessWait.{ProcessWait}
-use Rattle.sh_builtin_regular.specs.Waits.{next_wait}
-use Rattle.sh_builtin_regular.specs.declared.waiting.WaitStep.{WaitStep}
-use Rattle.sh_builtin_regular.specs.declared.waiting.WaitStep.TheVariants.{Over, Waits}
-use Rattle.sh_builtin.specs.Shells.{without_process}
+use Rattle.sh_builtin_wait.specs.Waits.{next_wait, processes_of}
+use Rattle.sh_builtin_wait.specs.declared.run.Awaited.{Awaited}
+use Rattle.sh_builtin_wait.specs.declared.run.Awaited.TheVariants as awaited
+use Rattle.sh_builtin_wait.specs.declared.run.OperandWait.{OperandWait}
+use Rattle.sh_builtin_wait.specs.declared.run.WaitStep.{WaitStep}
+use Rattle.sh_builtin_wait.specs.declared.run.WaitStep.TheVariants.{Over, Waits}
+use Rattle.sh_builtin_shell.specs.Shells.{after_suspension, has_job_control, up_to_date}
 use Rattle.sh_exec_frames.specs.LineReading.{fields_given, line_by, line_ended, line_goes_on, line_read_by, most_read, read_line_turn}
-use Rattle.sh_exec_shell.specs.Forks.{begun_substitution, Turned, fork_failure, fork_turn, guarded, inherited, is_beside, is_more, list_by, list_turn, made_place, program_by, stage_by, stage_from, stage_input, stage_one, stage_place, stage_turn, substitute_turn, substitution_by}
+use Rattle.sh_exec_shell.specs.Forks.{background_input, begun_substitution, behind_fork, Turned, fork_failure, fork_turn, inherited, is_foreground, is_more, launch_by, list_by, list_turn, made_place, program_by, stage_by, stage_from, stage_input, stage_one, stage_place, stage_turn, substitute_turn, substitution_by}
 use Rattle.sh_exec_shell.specs.Reduction.{act_at, act_behind, act_place, at_root, expanded_by, reduce, shell_turn}
 use Rattle.sh_exec_machine.specs.Waits.{wait_status}
 use Rattle.sh_files.specs.Nodes.{FileMap}
@@ -88,8 +96,8 @@ use Rattle.sh_syntax.specs.declared.tree.AndOr.{AndOr}
 use Rattle.sh_syntax.specs.declared.tree.Command.{Command}
 use Rattle.sh_syntax.specs.declared.tree.Command.TheViews as view
 use Rattle.sh_syntax.specs.declared.tree.CompoundList.{CompoundList}
-use Rattle.sh_syntax.specs.declared.tree.Separator.{Separator}
-use Rattle.sh_syntax.specs.declared.tree.Separator.TheVariants.{Sequential, Asynchronous}
+use Rattle.sh_exec_actions.specs.declared.action.Launch.{Launch}
+use Rattle.sh_exec_actions.specs.declared.action.Launch.TheVariants.{Foreground, Background}
 use Rattle.sh_vars.specs.Environment.{Environment}
 use Rattle.sh_laws.proofs.FunctionTurns.{functions_hold}
 use Rattle.sh_laws.proofs.NeededPrograms.{ItsItems}
@@ -201,24 +209,25 @@ line_holds s shell reader = let t = take_bytes s shell.pid (Number 0) (most_read
 
 -- ---- what wait waits for
 step_holds : (step : WaitStep) → ActiveHolds (step_place step)
-step_holds (Over status) = tt
+step_holds (Over report) = said_holds report.messages (completion.Done report.status)
 step_holds (Waits next) = tt
 
-operand_holds : (s : KernelState) (shell : Shell) (wait : ProcessWait) (o : Option ℕ) → PlacedHolds (operand_by s shell wait o)
+operand_holds : (s : KernelState) (shell : Shell) (wait : OperandWait) (o : Option ℕ) → PlacedHolds (operand_by s shell wait o)
 operand_holds s shell wait None = tt
-operand_holds s shell wait (Some status) = step_holds (next_wait (without_process shell wait.process).known wait.operands wait.taken status)
+operand_holds s shell wait (Some status) =
+    let left = up_to_date s (without_target shell wait.target) in step_holds (next_wait s.machine.processes left.jobs left.known wait status)
 
 all_holds : (s : KernelState) (shell : Shell) (o : Option ℕ) → PlacedHolds (all_by s shell o)
 all_holds s shell None = tt
 all_holds s shell (Some status) = tt
 
 await_ended_holds : (s : KernelState) (shell : Shell) (a : Awaited) → PlacedHolds (await_ended s shell a)
-await_ended_holds s shell awaited.All = all_holds s shell (wait_status s shell.pid shell.known)
-await_ended_holds s shell (awaited.Process wait) = operand_holds s shell wait (wait_status s shell.pid (wait.process ∷ []))
+await_ended_holds s shell awaited.All = all_holds s shell (wait_status s shell.pid shell.background)
+await_ended_holds s shell (awaited.Operand wait) = operand_holds s shell wait (wait_status s shell.pid (processes_of wait.target))
 
 await_by_holds : (s : KernelState) (shell : Shell) (a : Awaited) (caught : Option Signal) → PlacedHolds (await_by s shell a caught)
 await_by_holds s shell a None = await_ended_holds s shell a
-await_by_holds s shell a (Some signal) = tt
+await_by_holds s shell a (Some signal) = said_holds (said_so_far a) (completion.Done (128 + number_of signal))
 
 await_holds : (s : KernelState) (shell : Shell) (a : Awaited) → PlacedHolds (await_turn s shell a)
 unfolding await_turn
@@ -233,7 +242,7 @@ signal_holds : (s : KernelState) (shell : Shell) (a : KillAsk) → PlacedHolds (
 unfolding signal_turn
 signal_holds s shell a =
     let after = after_sending s a.send.signal a.target in
-    kill_step_holds (kill_next (control_of after shell.pid) after.machine.processes [] a (is_reached s a.target))
+    kill_step_holds (kill_next (control_of after shell) after.machine.processes (up_to_date after shell).jobs a (is_reached s a.target))
 
 -- ---- waits
 with_status_holds : (wants : ToExpand) (status : ℕ) → WantsHold wants → WantsHold (with_substitution wants status)
@@ -252,13 +261,29 @@ answer_holds : (s : KernelState) (pid : ℕ) (substitution : Substitution) → W
 unfolding answer_turn
 answer_holds s pid substitution h = answer_by_holds substitution (wait_status s pid substitution.children) h
 
-wait_by_holds : (children : List ℕ) (o : Option ℕ) → ActiveHolds (wait_by children o)
-wait_by_holds children None = tt
-wait_by_holds children (Some status) = tt
+wait_by_holds : (children : List ℕ) (job : Option (List ℕ)) (o : Option ℕ) → ActiveHolds (wait_by children job o)
+wait_by_holds children job None = tt
+wait_by_holds children job (Some status) = tt
 
-wait_holds : (s : KernelState) (pid : ℕ) (children : List ℕ) → ActiveHolds (wait_turn s pid children)
+told_holds : (line : Option (List ℕ)) (status : ℕ) → ActiveHolds (told line status)
+told_holds None status = tt
+told_holds (Some line) status = tt
+
+controlled_holds : (s : KernelState) (shell : Shell) (children text : List ℕ) (state : JobState) → PlacedHolds (controlled_by s shell children text state)
+controlled_holds s shell children text Running = tt
+controlled_holds s shell children text (Suspended signal) =
+    let t = terminal_back s shell.pid in
+    let up = up_to_date t shell in
+    told_holds (job_line t (after_suspension t up text children (Suspended signal)).jobs (free_number up.jobs)) (signal_status signal)
+controlled_holds s shell children text (state.Done ending) = wait_by_holds children (Some text) (wait_status s shell.pid children)
+
+wait_with_holds : (s : KernelState) (shell : Shell) (children : List ℕ) (job : Option (List ℕ)) → PlacedHolds (wait_with s shell children job)
+wait_with_holds s shell children None = wait_by_holds children None (wait_status s shell.pid children)
+wait_with_holds s shell children (Some text) = controlled_holds s shell children text (state_of s.machine.processes children)
+
+wait_holds : (s : KernelState) (shell : Shell) (wait : PipelineWait) → PlacedHolds (wait_turn s shell wait)
 unfolding wait_turn
-wait_holds s pid children = wait_by_holds children (wait_status s pid children)
+wait_holds s shell wait = wait_with_holds s shell wait.children wait.job
 
 -- ---- a redirection
 redirect_by_holds : (p : ExpandedCommand) (word : List ℕ) (r : Result (Unit {0}) KernelFault) (one : Option Undone) → CommandHolds p → Holds (redirect_by p word r one)
@@ -328,42 +353,48 @@ unfolding interruption
 interruption_holds around s shell place text h = interrupted_holds (levels_left around) (after_take_signal s shell.pid) (shell_before shell place) place text h
 
 -- ---- processes that are made, each with the shell's functions
-program_holds : (s : KernelState) (shell : Shell) (p : ExpandedCommand) (o : Option ℕ) → FunctionsHold shell.functions → PlaceHolds (Forking p) → TurnedHolds (program_by s shell p o)
+program_holds : (around : List Form) (s : KernelState) (shell : Shell) (p : ExpandedCommand) (o : Option ℕ) → FunctionsHold shell.functions → PlaceHolds (Forking p)
+    → TurnedHolds (program_by around s shell p o)
 unfolding ahead
-program_holds s shell p None f h = (tt, tt)
-program_holds s shell p (Some child) f h = (tt, (ahead_stands p p.redirections p.assignments h.0 h.1, f))
+program_holds around s shell p None f h = (tt, tt)
+program_holds around s shell p (Some child) f h = (tt, (ahead_stands p p.redirections p.assignments h.0 h.1, f))
 
-fork_holds : (s : KernelState) (shell : Shell) (p : ExpandedCommand) → FunctionsHold shell.functions → PlaceHolds (Forking p) → TurnedHolds (fork_turn s shell p)
+fork_holds : (around : List Form) (s : KernelState) (shell : Shell) (p : ExpandedCommand) → FunctionsHold shell.functions → PlaceHolds (Forking p)
+    → TurnedHolds (fork_turn around s shell p)
 unfolding fork_turn
-fork_holds s shell p f h = let forked = fork_of s shell.pid None false in program_holds forked.after shell p forked.child f h
+fork_holds around s shell p f h =
+    let forked = fork_of s shell.pid None false in program_holds around (behind_fork shell true [] forked.child forked.after) shell p forked.child f h
 
-made_holds : (separator : Separator) (children : List ℕ) → ActiveHolds (made_place separator children)
-made_holds Sequential children = tt
-made_holds Asynchronous children = tt
+made_holds : (launch : Launch) (children : List ℕ) → ActiveHolds (made_place launch children)
+made_holds (Foreground job) children = tt
+made_holds (Background list) children = tt
 
-stage_place_holds : (separator : Separator) (commands : List Command) (aside : Option ℕ) (children : List ℕ) → CommandsBegin commands
-    → ActiveHolds (stage_place separator commands aside children)
-stage_place_holds separator [] aside children b = made_holds separator children
-stage_place_holds separator (command ∷ commands) aside children b = b
+stage_place_holds : (launch : Launch) (commands : List Command) (aside : Option ℕ) (children : List ℕ) → CommandsBegin commands
+    → ActiveHolds (stage_place launch commands aside children)
+stage_place_holds launch [] aside children b = made_holds launch children
+stage_place_holds launch (command ∷ commands) aside children b = b
 
 stage_by_holds : (s : KernelState) (shell : Shell) (command : Command) (stages : Stages) (o : Option ℕ) → FunctionsHold shell.functions → CommandBegins command
     → CommandsBegin stages.commands → TurnedHolds (stage_by s shell command stages o)
 stage_by_holds s shell command stages None f c b = (tt, tt)
 stage_by_holds s shell command stages (Some child) f c b =
-    (stage_place_holds stages.separator stages.commands stages.aside (stages.children ++ child ∷ []) b, (stage_stands command c, f))
+    (stage_place_holds stages.launch stages.commands stages.aside (stages.children ++ child ∷ []) b, (stage_stands command c, f))
 
 stage_from_holds : (s : KernelState) (shell : Shell) (stages : Stages) (commands : List Command) → FunctionsHold shell.functions → CommandsBegin commands
     → TurnedHolds (stage_from s shell stages commands)
 unfolding stage_one
-stage_from_holds s shell stages _ f no_commands = (tt, tt)
+stage_from_holds s shell stages _ f no_commands = (made_holds stages.launch stages.children, tt)
 stage_from_holds s shell stages _ f (more_commands command commands c b) =
-    let l = stage_input stages.separator stages.children stages.aside shell s in
+    let l = stage_input stages.launch stages.children stages.aside shell s in
     let forked = fork_of l.after shell.pid l.aside (is_more commands) in
-    stage_by_holds (guarded (is_beside stages.separator) forked.child forked.after) shell command (record stages { commands = commands; aside = forked.aside }) forked.child f c b
+    stage_by_holds (behind_fork shell (is_foreground stages.launch) stages.children forked.child forked.after) shell command
+    (record stages { commands = commands; aside = forked.aside }) forked.child f c b
 
-stage_holds : (s : KernelState) (shell : Shell) (stages : Stages) → FunctionsHold shell.functions → CommandsBegin stages.commands → TurnedHolds (stage_turn s shell stages)
+stage_holds : (around : List Form) (s : KernelState) (shell : Shell) (stages : Stages) → FunctionsHold shell.functions → CommandsBegin stages.commands
+    → TurnedHolds (stage_turn around s shell stages)
 unfolding stage_turn
-stage_holds s shell stages f b = stage_from_holds s shell stages stages.commands f b
+stage_holds around s shell stages f b =
+    stage_from_holds s shell (record stages { launch = launch_by around shell stages.commands stages.children stages.launch }) stages.commands f b
 
 list_by_holds : (s : KernelState) (shell : Shell) (list : AndOr) (o : Option ℕ) → FunctionsHold shell.functions → AndOrBegins list → TurnedHolds (list_by s shell list o)
 list_by_holds s shell list None f a = (tt, tt)
@@ -372,9 +403,9 @@ list_by_holds s shell list (Some child) f a = (tt, (and_or_stands list a, f))
 list_holds : (s : KernelState) (shell : Shell) (list : AndOr) → FunctionsHold shell.functions → AndOrBegins list → TurnedHolds (list_turn s shell list)
 unfolding list_turn
 list_holds s shell list f a =
-    let l = null_laid shell.vars.directory s shell.pid in
+    let l = background_input (has_job_control shell) s shell in
     let forked = fork_of l.after shell.pid l.aside false in
-    list_by_holds (guarded true forked.child forked.after) shell list forked.child f a
+    list_by_holds (behind_fork shell false [] forked.child forked.after) shell list forked.child f a
 
 failure_holds : (wants : ToExpand) → MoveHolds (fork_failure wants)
 failure_holds (Words command in_place status) = tt
@@ -412,13 +443,13 @@ place_holds around s shell (ReadLine reader) f h = (line_holds s shell reader, t
 place_holds around s shell (Awaiting awaited) f h = (await_holds s shell awaited, tt)
 place_holds around s shell (SendSignal ask) f h = (signal_holds s shell ask, tt)
 place_holds around s shell (Redirecting p) f h = (redirect_holds s shell p h, tt)
-place_holds around s shell (Forking p) f h = fork_holds s shell p f h
+place_holds around s shell (Forking p) f h = fork_holds around s shell p f h
 place_holds around s shell (Starting start) f h = (tt, tt)
-place_holds around s shell (ForkStage stages) f h = stage_holds s shell stages f h
+place_holds around s shell (ForkStage stages) f h = stage_holds around s shell stages f h
 place_holds around s shell (ForkList list) f h = list_holds s shell list f h
 place_holds around s shell (AssignLoopVariable series) f h = (round_holds (give_turn shell.vars series).round (give_holds shell.vars series h), tt)
 place_holds around s shell (Defining definition) f h = (tt, tt)
-place_holds around s shell (Waiting children) f h = (wait_holds s shell.pid children, tt)
+place_holds around s shell (Waiting wait) f h = (wait_holds s shell wait, tt)
 place_holds around s shell (Writing piece finish) f h = (write_holds s shell piece finish, tt)
 place_holds around s shell (Trapping status) f h = (trap_holds s shell status, tt)
 place_holds around s shell (Ending status) f h = (end_holds s shell status, tt)

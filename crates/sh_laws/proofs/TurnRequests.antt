@@ -19,10 +19,11 @@ use Rattle.sh_laws.proofs.Undoing.{undoing_is}
 use Rattle.sh_kernel_descriptors.specs.declared.descriptor.DescriptorRef.{DescriptorRef}
 use Rattle.sh_kernel_descriptors.specs.declared.fault.KernelFault.{KernelFault}
 use Rattle.sh_kernel.specs.Calls.{set_aside_call}
-use Rattle.sh_kernel.specs.Requests.{Request, Fork, Read, SetAction, SetAside, Write, after_request, after_requests}
+use Rattle.sh_builtin_shell.specs.Shells.{own_group}
+use Rattle.sh_kernel.specs.Requests.{Request, Fork, Read, SetAction, SetAside, SetForeground, SetGroup, Write, after_request, after_requests}
 use Rattle.sh_kernel_signals.specs.declared.member.SignalAction.TheVariants.{Ignored}
 use Rattle.sh_signal.specs.declared.signal.Signal.TheVariants.{Interrupt, Quit}
-use Rattle.sh_exec_shell.specs.Forks.{guarded}
+use Rattle.sh_exec_shell.specs.Forks.{behind_fork_by, given_terminal, leader}
 use Rattle.sh_kernel.specs.State.{KernelState}
 use Rattle.sh_laws.specs.Requests.{IsFrom}
 
@@ -33,13 +34,16 @@ IsKept directory pid P = (s : KernelState) (r : Request) → IsFrom directory r 
 abbrev pub ignoring_requests : List Request
 ignoring_requests = SetAction Interrupt Ignored ∷ SetAction Quit Ignored ∷ []
 
--- a process makes another one, which may be to ignore some signals
-abbrev pub after_making : KernelState → ℕ → (before : Option ℕ) → (writes beside : Bool) → KernelState
-after_making s pid before writes beside = let f = fork_of s pid before writes in guarded beside f.child f.after
+-- a process makes another one, which may come into a group, or be to ignore some signals
+abbrev pub after_making : KernelState → ℕ → (before : Option ℕ) → (writes control is_foreground : Bool) → (others : List ℕ) → KernelState
+after_making s pid before writes control is_foreground others =
+    let f = fork_of s pid before writes in behind_fork_by control pid is_foreground others f.child f.after
 
 -- what is kept where a process makes another one, whose number is told
 abbrev pub IsForked : ℕ → (Option ℕ → KernelState → Type 0) → Type 0
-IsForked pid P = (s : KernelState) (before : Option ℕ) (writes beside : Bool) → P None s → P (fork_of s pid before writes).child (after_making s pid before writes beside)
+IsForked pid P =
+    (s : KernelState) (before : Option ℕ) (writes control is_foreground : Bool) (others : List ℕ) → P None s
+    → P (fork_of s pid before writes).child (after_making s pid before writes control is_foreground others)
 
 module _ (directory : List ℕ) where
   abbrev pub ListFrom : List Request → Type 0
@@ -142,10 +146,20 @@ module _ (directory : List ℕ) where
         let all = list_keeps pid (P child) (kept child) (behind_fork child (end_aside s pid writes)) (behind_fork_from child (end_aside s pid writes)) (after_child (after_requests s pid (with_fork before writes)) child (in_child before writes)) with_child in
         subst (λ (f : Forked). P f.child f.after) (sym (forked_is s pid before writes)) all
 
-    guarded_keeps : (beside : Bool) (child : Option ℕ) (s : KernelState) → P child s → P child (guarded beside child s)
-    guarded_keeps false child s p = p
-    guarded_keeps true None s p = p
-    guarded_keeps true (Some child) s p = list_keeps child (P (Some child)) (inside child) ignoring_requests (tt, (tt, tt)) s p
+    given_keeps : (is_foreground : Bool) (others : List ℕ) (child : ℕ) (s : KernelState) → P (Some child) s → P (Some child) (given_terminal is_foreground others child s)
+    given_keeps true [] child s p = kept (Some child) s (SetForeground child) tt p
+    given_keeps true (first ∷ more) child s p = p
+    given_keeps false others child s p = p
+
+    behind_keeps : (control is_foreground : Bool) (others : List ℕ) (child : Option ℕ) (s : KernelState) → P child s → P child (behind_fork_by control pid is_foreground others child s)
+    behind_keeps true is_foreground others None s p = kept None s (SetForeground (own_group s pid)) tt p
+    behind_keeps true is_foreground others (Some child) s p =
+        let group = leader others child in
+        given_keeps is_foreground others child (after_request s pid (SetGroup child group)) (kept (Some child) s (SetGroup child group) tt p)
+    behind_keeps false true others child s p = p
+    behind_keeps false false others None s p = p
+    behind_keeps false false others (Some child) s p = list_keeps child (P (Some child)) (inside child) ignoring_requests (tt, (tt, tt)) s p
 
     pub fork_keeps : IsForked pid P
-    fork_keeps s before writes beside p = guarded_keeps beside (fork_of s pid before writes).child (fork_of s pid before writes).after (made_keeps s before writes p)
+    fork_keeps s before writes control is_foreground others p =
+        let f = fork_of s pid before writes in behind_keeps control is_foreground others f.child f.after (made_keeps s before writes p)

@@ -7,10 +7,10 @@ use Rattle.sh_builtin.specs.declared.outcome.TextRun.{TextRun}
 use Rattle.sh_builtin.specs.declared.outcome.Leave.{Leave}
 use Rattle.sh_builtin.specs.declared.outcome.Leave.TheVariants as leave
 use Rattle.sh_builtin.specs.Invocations.{invoked}
-use Rattle.sh_builtin.specs.Running.{built_in}
+use Rattle.sh_builtin.specs.Running.{built_in, jobs_ran}
 use Rattle.sh_builtin.specs.declared.builtin.Builtin.{Builtin}
 use Rattle.sh_builtin.specs.declared.builtin.Builtin.TheVariants as builtin
-use Rattle.sh_builtin.specs.declared.shell.Shell.{Shell}
+use Rattle.sh_builtin_shell.specs.declared.shell.Shell.{Shell}
 use Rattle.sh_builtin_regular.specs.Lines.{Progress, bytes_taken}
 use Rattle.sh_builtin_regular.specs.declared.reader.LineReader.{LineReader}
 use Rattle.sh_exec_command.specs.Series.{rest_of_series}
@@ -46,12 +46,15 @@ use Rattle.sh_kernel_signals.specs.declared.set.SignalSet.{SignalSet}
 use Rattle.sh_kernel_signals.specs.declared.target.SignalTarget.{SignalTarget}
 use Rattle.sh_signal.specs.Signals.{signals}
 use Rattle.sh_signal.specs.declared.signal.Signal.{Signal}
-use Rattle.sh_exec_frames.specs.Awaiting.{all_by, await_by, await_ended, await_turn, operand_by}
-use Rattle.sh_builtin_regular.specs.declared.waiting.Awaited.{Awaited}
-use Rattle.sh_builtin_regular.specs.declared.waiting.Awaited.TheVariants as awaited
-use Rattle.sh_builtin_regular.specs.declared.waiting.ProcessWait.{ProcessWait}
+use Rattle.sh_exec_frames.specs.Awaiting.{all_by, await_by, await_ended, await_turn, operand_by, without_target}
+use Rattle.sh_builtin_wait.specs.Waits.{processes_of}
+use Rattle.sh_builtin_wait.specs.declared.run.Awaited.{Awaited}
+use Rattle.sh_builtin_wait.specs.declared.run.Awaited.TheVariants as awaited
+use Rattle.sh_builtin_wait.specs.declared.run.OperandWait.{OperandWait}
+use Rattle.sh_builtin_wait.specs.declared.target.WaitTarget.{WaitTarget}
+use Rattle.sh_builtin_wait.specs.declared.target.WaitTarget.TheVariants as target
 use Rattle.sh_exec_frames.specs.LineReading.{line_by, line_ended, line_goes_on, line_read_by, most_read, read_line_turn}
-use Rattle.sh_exec_shell.specs.Forks.{Turned, begun_substitution, fork_turn, guarded, inherited, is_beside, is_more, list_by, list_turn, made_shell, program_by, stage_by, stage_from, stage_input, stage_one, stage_shell, stage_turn, substitute_turn, substitution_by}
+use Rattle.sh_exec_shell.specs.Forks.{Turned, background_input, begun_substitution, behind_fork, fork_turn, inherited, is_foreground, is_more, launch_by, list_by, list_turn, made_shell, program_by, stage_by, stage_from, stage_input, stage_one, stage_shell, stage_turn, substitute_turn, substitution_by}
 use Rattle.sh_exec_frames.specs.Reporting.{behind}
 use Rattle.sh_exec_forms.specs.Builtins.{builtin_effect, builtin_machine, call, effect_at, machine_at, evaluation, performed}
 use Rattle.sh_exec_forms.specs.Forms.{Acted, with_run, after, after_by, after_status, after_leave, loop_left, onward, condition_run, at_action, undone}
@@ -65,18 +68,32 @@ use Rattle.sh_exec_actions.specs.declared.form.Form.TheVariants.{Text, Commands,
 use Rattle.sh_kernel_descriptors.specs.declared.descriptor.DescriptorRef.TheVariants.{Aside, Number}
 use Rattle.sh_exec_parts.specs.Redirections.{to_read}
 use Rattle.sh_kernel.specs.Calls.{after_take_signal, set_aside_call}
-use Rattle.sh_kernel.specs.Requests.{Close, End, Kill, Open, SetAction, SetAside, TakeSignal, after_request}
+use Rattle.sh_kernel.specs.Requests.{Close, End, Kill, Open, SetAction, SetAside, SetForeground, TakeSignal, after_request}
 use Rattle.sh_kernel_descriptors.specs.declared.fault.KernelFault.{KernelFault}
 use Rattle.sh_kernel.specs.State.{KernelState}
 use Rattle.sh_syntax.specs.declared.tree.AndOr.{AndOr}
 use Rattle.sh_syntax.specs.declared.tree.Command.{Command}
 use Rattle.sh_syntax.specs.declared.tree.CompoundList.{CompoundList}
-use Rattle.sh_syntax.specs.declared.tree.Separator.{Separator}
-use Rattle.sh_syntax.specs.declared.tree.Separator.TheVariants.{Sequential, Asynchronous}
+use Rattle.sh_exec_actions.specs.declared.action.Launch.{Launch}
+use Rattle.sh_exec_actions.specs.declared.action.Launch.TheVariants.{Foreground, Background}
 use Rattle.sh_laws.specs.Requests.{made_number}
 use Rattle.sh_laws.proofs.TurnRequests.{IsForked, IsKept, give_keeps, redirect_keeps, take_keeps, undo_keeps}
+use Rattle.sh_builtin_environment.specs.declared.outcome.BuiltinFault.{BuiltinFault}
+use Rattle.sh_builtin_jobs.specs.Listing.{jobs_of}
+use Rattle.sh_builtin_jobs.specs.declared.listing.JobsCommand.{JobsCommand}
+use Rattle.sh_builtin_shell.specs.Shells.{has_job_control, own_group, up_to_date}
+use Rattle.sh_exec_actions.specs.declared.action.PipelineWait.{PipelineWait}
+use Rattle.sh_exec_frames.specs.Waiting.{controlled_by, terminal_back, wait_turn, wait_with}
+use Rattle.sh_jobs.specs.States.{state_of}
+use Rattle.sh_jobs.specs.declared.state.JobState.{JobState}
+use Rattle.sh_jobs.specs.declared.state.JobState.TheVariants.{Running, Suspended}
+use Rattle.sh_jobs.specs.declared.state.JobState.TheVariants as state
 
 -- ---- a built-in acts in its shell's process
+jobs_ran_number : (s : KernelState) (shell : Shell) (asked : Result JobsCommand BuiltinFault) → (jobs_ran s shell asked).shell.pid ≡ shell.pid
+jobs_ran_number s shell (Ok command) = refl
+jobs_ran_number s shell (Err why) = refl
+
 built_in_number : (s : KernelState) (shell : Shell) (last : ℕ) (b : Builtin) (arguments : List (List ℕ)) → (built_in s shell last b arguments).shell.pid ≡ shell.pid
 unfolding built_in
 built_in_number s shell last builtin.Bracket arguments = refl
@@ -92,6 +109,7 @@ built_in_number s shell last builtin.Exec arguments = refl
 built_in_number s shell last builtin.Exit arguments = refl
 built_in_number s shell last builtin.Export arguments = refl
 built_in_number s shell last builtin.False arguments = refl
+built_in_number s shell last builtin.Jobs arguments = jobs_ran_number s (up_to_date s shell) (jobs_of arguments)
 built_in_number s shell last builtin.Kill arguments = refl
 built_in_number s shell last builtin.Pwd arguments = refl
 built_in_number s shell last builtin.Read arguments = refl
@@ -148,7 +166,7 @@ before_number shell (ForkStage stages) = refl
 before_number shell (ForkList list) = refl
 before_number shell (AssignLoopVariable series) = refl
 before_number shell (Defining definition) = refl
-before_number shell (Waiting children) = refl
+before_number shell (Waiting wait) = refl
 before_number shell (Writing piece finish) = refl
 before_number shell (Trapping status) = refl
 before_number shell (Ending status) = refl
@@ -314,17 +332,21 @@ module _ (directory : List ℕ) (pid : ℕ) (P : KernelState → Type 0) (kept :
       line_read_by_keeps t.after shell reader t.told e (take_keeps directory shell.pid P (own shell e) s (Number 0) count p)
 
   -- ---- what wait waits for
-  operand_keeps : (s : KernelState) (shell : Shell) (wait : ProcessWait) (o : Option ℕ) → shell.pid ≡ pid → P s → KeepsPlaced (operand_by s shell wait o)
+  target_number : (shell : Shell) (to : WaitTarget) → (without_target shell to).pid ≡ shell.pid
+  target_number shell (target.Process pid) = refl
+  target_number shell (target.Job number pids) = refl
+
+  operand_keeps : (s : KernelState) (shell : Shell) (wait : OperandWait) (o : Option ℕ) → shell.pid ≡ pid → P s → KeepsPlaced (operand_by s shell wait o)
   operand_keeps s shell wait None e p = (e, p)
-  operand_keeps s shell wait (Some status) e p = (e, p)
+  operand_keeps s shell wait (Some status) e p = (target_number shell wait.target ∙ e, p)
 
   all_keeps : (s : KernelState) (shell : Shell) (o : Option ℕ) → shell.pid ≡ pid → P s → KeepsPlaced (all_by s shell o)
   all_keeps s shell None e p = (e, p)
   all_keeps s shell (Some status) e p = (e, p)
 
   await_ended_keeps : (s : KernelState) (shell : Shell) (a : Awaited) → shell.pid ≡ pid → P s → KeepsPlaced (await_ended s shell a)
-  await_ended_keeps s shell awaited.All e p = all_keeps s shell (wait_status s shell.pid shell.known) e p
-  await_ended_keeps s shell (awaited.Process wait) e p = operand_keeps s shell wait (wait_status s shell.pid (wait.process ∷ [])) e p
+  await_ended_keeps s shell awaited.All e p = all_keeps s shell (wait_status s shell.pid shell.background) e p
+  await_ended_keeps s shell (awaited.Operand wait) e p = operand_keeps s shell wait (wait_status s shell.pid (processes_of wait.target)) e p
 
   await_by_keeps : (s : KernelState) (shell : Shell) (a : Awaited) (caught : Option Signal) → shell.pid ≡ pid → P s → KeepsPlaced (await_by s shell a caught)
   await_by_keeps s shell a None e p = await_ended_keeps s shell a e p
@@ -333,6 +355,23 @@ module _ (directory : List ℕ) (pid : ℕ) (P : KernelState → Type 0) (kept :
   await_keeps : (s : KernelState) (shell : Shell) (a : Awaited) → shell.pid ≡ pid → P s → KeepsPlaced (await_turn s shell a)
   unfolding await_turn
   await_keeps s shell a e p = await_by_keeps s shell a (pending_signal s shell) e p
+
+  -- ---- a wait for a pipeline
+  terminal_keeps : (s : KernelState) (shell : Shell) → shell.pid ≡ pid → P s → P (terminal_back s shell.pid)
+  terminal_keeps s shell e p = own shell e s (SetForeground (own_group s shell.pid)) tt p
+
+  controlled_keeps : (s : KernelState) (shell : Shell) (children text : List ℕ) (state : JobState) → shell.pid ≡ pid → P s → KeepsPlaced (controlled_by s shell children text state)
+  controlled_keeps s shell children text Running e p = (e, p)
+  controlled_keeps s shell children text (Suspended signal) e p = (e, terminal_keeps s shell e p)
+  controlled_keeps s shell children text (state.Done ending) e p = (e, terminal_keeps s shell e p)
+
+  wait_with_keeps : (s : KernelState) (shell : Shell) (children : List ℕ) (job : Option (List ℕ)) → shell.pid ≡ pid → P s → KeepsPlaced (wait_with s shell children job)
+  wait_with_keeps s shell children None e p = (e, p)
+  wait_with_keeps s shell children (Some text) e p = controlled_keeps s shell children text (state_of s.machine.processes children) e p
+
+  wait_keeps : (s : KernelState) (shell : Shell) (wait : PipelineWait) → shell.pid ≡ pid → P s → KeepsPlaced (wait_turn s shell wait)
+  unfolding wait_turn
+  wait_keeps s shell wait e p = wait_with_keeps s shell wait.children wait.job e p
 
   -- ---- a signal is sent
   sending_keeps : (s : KernelState) (shell : Shell) (signal : Option Signal) (target : Result SignalTarget JobFault) → shell.pid ≡ pid → P s → P (after_sending s signal target)
@@ -356,11 +395,15 @@ module _ (directory : List ℕ) (pid : ℕ) (P : KernelState → Type 0) (kept :
       let t = after_request s shell.pid call in
       set_by_keeps (set_aside_call t shell.pid 10).answer (after_request t shell.pid (SetAside 10)) (own shell e t (SetAside 10) tt (own shell e s call d p))
 
-  pub input_keeps : (separator : Separator) (before : List ℕ) (aside : Option ℕ) (s : KernelState) (shell : Shell) → shell.pid ≡ pid → shell.vars.directory ≡ directory → P s
-      → P (stage_input separator before aside shell s).after
-  input_keeps Sequential before aside s shell e d p = p
-  input_keeps Asynchronous [] aside s shell e d p = null_keeps s shell e d p
-  input_keeps Asynchronous (child ∷ children) aside s shell e d p = p
+  pub background_keeps : (control : Bool) (s : KernelState) (shell : Shell) → shell.pid ≡ pid → shell.vars.directory ≡ directory → P s → P (background_input control s shell).after
+  background_keeps true s shell e d p = p
+  background_keeps false s shell e d p = null_keeps s shell e d p
+
+  pub input_keeps : (launch : Launch) (before : List ℕ) (aside : Option ℕ) (s : KernelState) (shell : Shell) → shell.pid ≡ pid → shell.vars.directory ≡ directory → P s
+      → P (stage_input launch before aside shell s).after
+  input_keeps (Foreground job) before aside s shell e d p = p
+  input_keeps (Background list) [] aside s shell e d p = background_keeps (has_job_control shell) s shell e d p
+  input_keeps (Background list) (child ∷ children) aside s shell e d p = p
 
   -- ---- a redirection
   redirect_from_keeps : (s : KernelState) (shell : Shell) (prepared : ExpandedCommand) (redirections : List Redirection) → shell.pid ≡ pid → shell.vars.directory ≡ directory → P s → Keeps (redirect_from s shell prepared redirections)
@@ -403,13 +446,13 @@ module _ (directory : List ℕ) (pid : ℕ) (P : KernelState → Type 0) (kept :
       interrupted_keeps (levels_left around) (after_take_signal s shell.pid) (shell_before shell place) place text (before_number shell place ∙ e) (own shell e s TakeSignal tt p)
 
 -- ---- processes that are made
-made_keeps_pid : (separator : Separator) (shell : Shell) (children : List ℕ) → (made_shell separator shell children).pid ≡ shell.pid
-made_keeps_pid Sequential shell children = refl
-made_keeps_pid Asynchronous shell children = refl
+made_keeps_pid : (s : KernelState) (launch : Launch) (shell : Shell) (children : List ℕ) → (made_shell s launch shell children).pid ≡ shell.pid
+made_keeps_pid s (Foreground job) shell children = refl
+made_keeps_pid s (Background list) shell children = refl
 
-stage_keeps_pid : (separator : Separator) (commands : List Command) (shell : Shell) (children : List ℕ) → (stage_shell separator commands shell children).pid ≡ shell.pid
-stage_keeps_pid separator [] shell children = made_keeps_pid separator shell children
-stage_keeps_pid separator (command ∷ commands) shell children = refl
+stage_keeps_pid : (s : KernelState) (launch : Launch) (commands : List Command) (shell : Shell) (children : List ℕ) → (stage_shell s launch commands shell children).pid ≡ shell.pid
+stage_keeps_pid s launch [] shell children = made_keeps_pid s launch shell children
+stage_keeps_pid s launch (command ∷ commands) shell children = refl
 
 module _ (directory : List ℕ) (pid : ℕ) (P : Option ℕ → KernelState → Type 0) (kept : (made : Option ℕ) → IsKept directory pid (P made)) (forks : IsForked pid P) where
   abbrev pub Leaves : Turned → Type 0
@@ -418,31 +461,34 @@ module _ (directory : List ℕ) (pid : ℕ) (P : Option ℕ → KernelState → 
   own_forks : (shell : Shell) → shell.pid ≡ pid → IsForked shell.pid P
   own_forks shell e = subst (λ n. IsForked n P) (sym e) forks
 
-  program_keeps : (s : KernelState) (shell : Shell) (prepared : ExpandedCommand) (o : Option ℕ) → shell.pid ≡ pid → P o s → Leaves (program_by s shell prepared o)
-  program_keeps s shell prepared None e p = (e, p)
-  program_keeps s shell prepared (Some child) e p = (e, p)
+  program_keeps : (around : List Form) (s : KernelState) (shell : Shell) (prepared : ExpandedCommand) (o : Option ℕ) → shell.pid ≡ pid → P o s → Leaves (program_by around s shell prepared o)
+  program_keeps around s shell prepared None e p = (e, p)
+  program_keeps around s shell prepared (Some child) e p = (e, p)
 
-  fork_turn_keeps : (s : KernelState) (shell : Shell) (prepared : ExpandedCommand) → shell.pid ≡ pid → P None s → Leaves (fork_turn s shell prepared)
+  fork_turn_keeps : (around : List Form) (s : KernelState) (shell : Shell) (prepared : ExpandedCommand) → shell.pid ≡ pid → P None s → Leaves (fork_turn around s shell prepared)
   unfolding fork_turn
-  fork_turn_keeps s shell prepared e p =
-      let f = fork_of s shell.pid None false in program_keeps f.after shell prepared f.child e (own_forks shell e s None false false p)
+  fork_turn_keeps around s shell prepared e p =
+      let f = fork_of s shell.pid None false in
+      program_keeps around (behind_fork shell true [] f.child f.after) shell prepared f.child e (own_forks shell e s None false (has_job_control shell) true [] p)
 
   stage_by_keeps : (s : KernelState) (shell : Shell) (command : Command) (stages : Stages) (o : Option ℕ) → shell.pid ≡ pid → P o s → Leaves (stage_by s shell command stages o)
   stage_by_keeps s shell command stages None e p = (e, p)
-  stage_by_keeps s shell command stages (Some child) e p = (stage_keeps_pid stages.separator stages.commands shell (stages.children ++ child ∷ []) ∙ e, p)
+  stage_by_keeps s shell command stages (Some child) e p = (stage_keeps_pid s stages.launch stages.commands shell (stages.children ++ child ∷ []) ∙ e, p)
 
   stage_from_keeps : (s : KernelState) (shell : Shell) (stages : Stages) (commands : List Command) → shell.pid ≡ pid → shell.vars.directory ≡ directory → P None s → Leaves (stage_from s shell stages commands)
   unfolding stage_one
   stage_from_keeps s shell stages [] e d p = (e, p)
   stage_from_keeps s shell stages (command ∷ commands) e d p =
-      let l = stage_input stages.separator stages.children stages.aside shell s in
+      let l = stage_input stages.launch stages.children stages.aside shell s in
       let f = fork_of l.after shell.pid l.aside (is_more commands) in
-      let laid = input_keeps directory pid (P None) (kept None) stages.separator stages.children stages.aside s shell e d p in
-      stage_by_keeps (guarded (is_beside stages.separator) f.child f.after) shell command (record stages { commands = commands; aside = f.aside }) f.child e (own_forks shell e l.after l.aside (is_more commands) (is_beside stages.separator) laid)
+      let laid = input_keeps directory pid (P None) (kept None) stages.launch stages.children stages.aside s shell e d p in
+      stage_by_keeps (behind_fork shell (is_foreground stages.launch) stages.children f.child f.after) shell command (record stages { commands = commands; aside = f.aside }) f.child e
+      (own_forks shell e l.after l.aside (is_more commands) (has_job_control shell) (is_foreground stages.launch) stages.children laid)
 
-  stage_turn_keeps : (s : KernelState) (shell : Shell) (stages : Stages) → shell.pid ≡ pid → shell.vars.directory ≡ directory → P None s → Leaves (stage_turn s shell stages)
+  stage_turn_keeps : (around : List Form) (s : KernelState) (shell : Shell) (stages : Stages) → shell.pid ≡ pid → shell.vars.directory ≡ directory → P None s → Leaves (stage_turn around s shell stages)
   unfolding stage_turn
-  stage_turn_keeps s shell stages e d p = stage_from_keeps s shell stages stages.commands e d p
+  stage_turn_keeps around s shell stages e d p =
+      stage_from_keeps s shell (record stages { launch = launch_by around shell stages.commands stages.children stages.launch }) stages.commands e d p
 
   list_by_keeps : (s : KernelState) (shell : Shell) (list : AndOr) (o : Option ℕ) → shell.pid ≡ pid → P o s → Leaves (list_by s shell list o)
   list_by_keeps s shell list None e p = (e, p)
@@ -451,9 +497,10 @@ module _ (directory : List ℕ) (pid : ℕ) (P : Option ℕ → KernelState → 
   list_turn_keeps : (s : KernelState) (shell : Shell) (list : AndOr) → shell.pid ≡ pid → shell.vars.directory ≡ directory → P None s → Leaves (list_turn s shell list)
   unfolding list_turn
   list_turn_keeps s shell list e d p =
-      let l = null_laid shell.vars.directory s shell.pid in
+      let l = background_input (has_job_control shell) s shell in
       let f = fork_of l.after shell.pid l.aside false in
-      list_by_keeps (guarded true f.child f.after) shell list f.child e (own_forks shell e l.after l.aside false true (null_keeps directory pid (P None) (kept None) s shell e d p))
+      list_by_keeps (behind_fork shell false [] f.child f.after) shell list f.child e
+      (own_forks shell e l.after l.aside false (has_job_control shell) false [] (background_keeps directory pid (P None) (kept None) (has_job_control shell) s shell e d p))
 
   substitution_keeps : (s : KernelState) (shell : Shell) (program : CompoundList) (substitution : Substitution) (o : Option ℕ) → shell.pid ≡ pid → P o s → Leaves (substitution_by s shell program substitution o)
   substitution_keeps s shell program substitution None e p = (e, p)
@@ -463,7 +510,7 @@ module _ (directory : List ℕ) (pid : ℕ) (P : Option ℕ → KernelState → 
   unfolding substitute_turn
   substitute_keeps s shell program wants pending e p =
       let f = fork_of s shell.pid None true in
-      substitution_keeps f.after shell program (begun_substitution wants pending f.aside) f.child e (own_forks shell e s None true false p)
+      substitution_keeps f.after shell program (begun_substitution wants pending f.aside) f.child e (own_forks shell e s None true false true [] p)
 
   expanded_keeps : (s : KernelState) (shell : Shell) (x : Expanded) → shell.pid ≡ pid → P None s → Leaves (expanded_by s shell x)
   expanded_keeps s shell (expanded.Need program wants pending) e p = substitute_keeps s shell program wants pending e p
@@ -480,13 +527,13 @@ module _ (directory : List ℕ) (pid : ℕ) (P : Option ℕ → KernelState → 
   place_keeps around s shell (Awaiting awaited) e d p = await_keeps directory pid (P None) (kept None) s shell awaited e p
   place_keeps around s shell (SendSignal ask) e d p = signal_keeps directory pid (P None) (kept None) s shell ask e p
   place_keeps around s shell (Redirecting prepared) e d p = redirect_turn_keeps directory pid (P None) (kept None) s shell prepared e d p
-  place_keeps around s shell (Forking prepared) e d p = fork_turn_keeps s shell prepared e p
+  place_keeps around s shell (Forking prepared) e d p = fork_turn_keeps around s shell prepared e p
   place_keeps around s shell (Starting start) e d p = (e, p)
-  place_keeps around s shell (ForkStage stages) e d p = stage_turn_keeps s shell stages e d p
+  place_keeps around s shell (ForkStage stages) e d p = stage_turn_keeps around s shell stages e d p
   place_keeps around s shell (ForkList list) e d p = list_turn_keeps s shell list e d p
   place_keeps around s shell (AssignLoopVariable series) e d p = (e, p)
   place_keeps around s shell (Defining definition) e d p = (e, p)
-  place_keeps around s shell (Waiting children) e d p = (e, p)
+  place_keeps around s shell (Waiting wait) e d p = wait_keeps directory pid (P None) (kept None) s shell wait e p
   place_keeps around s shell (Writing piece finish) e d p = write_keeps directory pid (P None) (kept None) s shell piece finish e p
   place_keeps around s shell (Trapping status) e d p = trap_keeps directory pid (P None) (kept None) s shell status e p
   place_keeps around s shell (Ending status) e d p = end_keeps directory pid (P None) (kept None) s shell status e p

@@ -2,7 +2,7 @@
 -- keep more of a shell than that: all of the syntax that it holds, its functions too, begins with an action wherever it is entered
 -- (`Beginnings.antt`), so that it stands before an action after its next turn too.
 use Rattle.std.specs.Prelude.{◌≡◌, List, [], ◌∷◌, Option, Some, None}
-use Rattle.sh_builtin.specs.Functions.{Named}
+use Rattle.sh_builtin_shell.specs.Functions.{Named}
 use Rattle.sh_exec.specs.declared.task.Task.{Task}
 use Rattle.sh_exec.specs.declared.task.Task.TheVariants.{Runs, Asks}
 use Rattle.sh_exec.specs.declared.turn_action.TurnAction.{TurnAction}
@@ -93,7 +93,7 @@ PlaceHolds (ForkStage stages) = CommandsBegin stages.commands
 PlaceHolds (ForkList list) = AndOrBegins list
 PlaceHolds (AssignLoopVariable series) = ListBegins series.body
 PlaceHolds (Defining definition) = CommandBegins definition
-PlaceHolds (Waiting children) = Unit {0}
+PlaceHolds (Waiting wait) = Unit {0}
 PlaceHolds (Writing piece finish) = Unit {0}
 PlaceHolds (Trapping status) = Unit {0}
 PlaceHolds (Ending status) = Unit {0}

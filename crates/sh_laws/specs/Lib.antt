@@ -8,3 +8,4 @@ pub mod Spelled
 pub mod Standing
 pub mod Beginnings
 pub mod BeforeAction
+pub mod Terminals

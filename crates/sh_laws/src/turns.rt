@@ -15,6 +15,7 @@ ghost use Rattle.sh_laws.specs.Requests.{ByRequests, ChangesByRequests, ComesByC
 ghost use Rattle.sh_exec.specs.State.{State, run, start};
 ghost use Rattle.sh_exec.specs.declared.event.Event.{Event};
 ghost use Rattle.sh_exec.specs.declared.settings.Settings.{Settings};
+ghost use Rattle.sh_laws.specs.Terminals.{GivesTerminalBack};
 
 use sh_stock::Stock;
 
@@ -82,4 +83,11 @@ pub fn runs_stand_before_actions<S: Stock>()
         → TasksStand (run S.meaning s events).tasks }
     ensures told { (image : FileMap) (settings : Settings) (events : List Event)
         → HaveActions (run S.meaning (start image settings) events).tasks }
+{}
+
+/// Law: with job control (XCU 2.11) the turn in which a shell waits for a pipeline either leaves all as it is, or gives the terminal back: its
+/// foreground group is the shell's own then. So no command of the shell runs while the terminal is that of a pipeline that has ended or is
+/// stopped.
+pub fn waits_give_the_terminal_back()
+    ensures { GivesTerminalBack }
 {}

@@ -5,6 +5,7 @@ mod choice;
 mod tasks;
 mod world;
 
-pub use sh_exec::{Event, Jobs, Settings, Source, Task, TurnAction};
+pub use sh_exec::{Event, Settings, Source, Task, TurnAction};
+pub use sh_jobs::Jobs;
 pub use sh_kernel::Status;
 pub use world::World;

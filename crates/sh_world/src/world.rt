@@ -2,17 +2,22 @@
 ghost use Rattle.std.specs.Prelude.{◌≡◌, ℕ, ◌<◌, List, false, OnOk, OnErr, IsErr, IfOk, Option, Some, None, length, take, option_copied, option_map};
 ghost use Rattle.sh_kernel.specs.State.{KernelState, StandsAt};
 ghost use Rattle.sh_tty.specs.Terminal.{Extends};
-ghost use Rattle.std.specs.Option.{option_map_or};
+ghost use Rattle.std.specs.Option.{option_and_then, option_map_or, unwrap_or};
 ghost use Rattle.sh_exec.specs.Choice.{choice};
 ghost use Rattle.sh_exec.specs.TurnActions.{takes_trap};
 ghost use Rattle.sh_world.specs.World.{IsSpent, PartsStand, WorldKept, WorldStands, shown_of};
-ghost use Rattle.sh_exec.specs.State.{State, after_turn, chosen_turn, end_of, ended_of, files_of, run, runnables, start, status_of, step, task_of, terminal_of, turn_of, typed};
+ghost use Rattle.sh_exec.specs.Tasks.{first_jobs};
+ghost use Rattle.sh_jobs.specs.Moments.{brought_up};
+ghost use Rattle.sh_exec.specs.State.{State, after_turn, chosen_turn, end_of, ended_of, files_of, job_lines_of, jobs_of, lines_of, run, runnables, start, status_of, step, task_of, terminal_of, turn_of, typed};
 
 use crate::choice::choose;
 use crate::tasks::{is_living, keep_living, put_child, runnable_pids, task_among, turn_among};
 use sh_base::NoMemory;
-use sh_exec::{Event, Jobs, Settings, Task};
+use sh_base::sequence::Text;
+use sh_builtin_jobs::job_lines;
+use sh_exec::{Event, Settings, Task};
 use sh_files::Files;
+use sh_jobs::{JobForm, Jobs};
 use sh_kernel::{FIRST_PID, Kernel, Status};
 use sh_stock::Stock;
 use std::alloc::Global;
@@ -26,7 +31,8 @@ pub struct World<S: Stock> {
     alloc: Global,
     kernel: Kernel,
     tasks: Vec<Task<S>>,
-    jobs: Jobs,
+    /// No job; it is lent where there is no first shell.
+    no_jobs: Jobs,
     last: Option<u32>,
     shown: usize,
     lack: Option<NoMemory>,
@@ -45,7 +51,7 @@ impl<S: Stock> Model for World<S> {
 
     ghost coded = { Prim.hlevel (codes, paths.map_code, variables.map_code, command_row.the_row.coded, run_code) };
 
-    ghost view = { λ w. record { kernel = w.kernel; tasks = w.tasks.items; jobs = w.jobs; last = w.last; shown = w.shown; spent = is_some w.lack } };
+    ghost view = { λ w. record { kernel = w.kernel; tasks = w.tasks.items; no_jobs = w.no_jobs; last = w.last; shown = w.shown; spent = is_some w.lack } };
 
     ghost invariant = { λ w. w.shown ≤ length w.kernel.terminal.bytes };
 }
@@ -151,6 +157,39 @@ fn happen<S: Stock>(
     }
 }
 
+/// The jobs of the first shell, if this runs it; else these.
+fn jobs_in<'a, S: Stock>(task: Option<&'a Task<S>>, others: &'a Jobs) -> &'a Jobs
+    ensures { result.now ≡ unwrap_or (option_and_then first_jobs (option_map (λ task. task.now) task.entry)) others.now }
+{
+    match task {
+        Some(task) => match task.jobs() {
+            Some(jobs) => jobs,
+            None => others,
+        },
+        None => others,
+    }
+}
+
+/// The lines of jobs, as `jobs -l` writes them.
+fn lines_of(alloc: Global, kernel: &Kernel, jobs: &Jobs) -> Result<Text, NoMemory>
+    ensures { (s : KernelState) → StandsAt kernel.now s → IfOk result (λ lines. lines ≡ lines_of s jobs.now) }
+{
+    let numbers = jobs.numbers(alloc)?;
+    let lines = job_lines(alloc, kernel, jobs, JobForm::Long, numbers.as_slice())?;
+    Ok(lines)
+}
+
+/// The lines of jobs that may have changed.
+fn lines_now(alloc: Global, kernel: &Kernel, jobs: &Jobs) -> Result<Text, NoMemory>
+    ensures { (s : KernelState) → StandsAt kernel.now s
+        → IfOk result (λ lines. lines ≡ lines_of s (brought_up s.changes jobs.now)) }
+{
+    let mut jobs = jobs.copy(alloc)?;
+    jobs.bring_up_to_date(kernel);
+    let lines = lines_of(alloc, kernel, &jobs)?;
+    Ok(lines)
+}
+
 impl<S: Stock> World<S> {
     /// The world before the first event. The only error is want of memory.
     pub fn new(alloc: Global, image: Files, settings: Settings) -> Result<Self, NoMemory>
@@ -164,7 +203,7 @@ impl<S: Stock> World<S> {
             alloc,
             kernel,
             tasks,
-            jobs: Jobs {},
+            no_jobs: Jobs::new(alloc),
             last: None,
             shown,
             lack: None,
@@ -244,15 +283,30 @@ impl<S: Stock> World<S> {
         }
     }
 
-    /// The first shell's jobs; `None` once memory was wanting.
+    /// The first shell's jobs; none where its process has ended, or runs another program. When each last changed is as it was when the shell
+    /// last looked. `None` once memory was wanting. Takes no memory.
     pub fn jobs(&self) -> Option<&Jobs>
-        ensures view { (s : State S) → WorldStands self.now s → option_copied result ≡ Some s.jobs }
+        ensures view { (s : State S) → WorldStands self.now s → option_copied result ≡ Some (jobs_of s) }
         ensures spent { IsSpent self.now → option_copied result ≡ None }
     {
         if self.is_spent() {
             None
         } else {
-            Some(&self.jobs)
+            let first = task_among(self.tasks.as_slice(), FIRST_PID);
+            Some(jobs_in(first, &self.no_jobs))
+        }
+    }
+
+    /// The lines of the first shell's jobs, as `jobs -l` writes them (XCU jobs), the least number first; `None` once memory was wanting. The only
+    /// error is want of memory.
+    pub fn job_lines(&self) -> Result<Option<Text>, NoMemory>
+        ensures view { (s : State S) → WorldStands self.now s → IfOk result (λ lines.
+            lines ≡ Some (job_lines_of s)) }
+        ensures spent { IsSpent self.now → IfOk result (λ lines. lines ≡ None) }
+    {
+        match self.jobs() {
+            Some(jobs) => Ok(Some(lines_now(self.alloc, &self.kernel, jobs)?)),
+            None => Ok(None),
         }
     }
 

@@ -1,4 +1,4 @@
-use Rattle.std.proofs.Common.{◌≡◌, ◌++◌, ◌∷◌, [], length}
+use Rattle.std.proofs.Common.{◌≡◌, ◌++◌, length}
 use Rattle.std.specs.Prelude.{map}
 use Rattle.sh_exec_command.specs.Cases.{branch_of, item_branches}
 use Rattle.sh_exec_command.proofs.cases.push_item.Given as goal

@@ -1,5 +1,0 @@
-//! The job table.
-
-/// The first shell's jobs. There are none yet: no command of this version starts one.
-#[derive(Debug, Drop)]
-pub struct Jobs {}
