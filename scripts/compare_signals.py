@@ -27,7 +27,7 @@ PROGRAM = r"""
 //! Scenarios, a line each: steps with `;` between them. Writes how each process stands after each step.
 #![tactic(auto)]
 
-use sh_kernel_descriptors::{Process, Status};
+use sh_kernel_processes::{ProcessList, Status};
 use sh_kernel_signals::{
     Member, SignalAction, SignalSet, SignalTarget, add_fork, end, send, set_action, set_group,
     start_program,
@@ -41,7 +41,7 @@ use std::str;
 
 #[derive(Drop)]
 struct Session {
-    processes: Vec<Process>,
+    processes: ProcessList,
     members: Vec<Member>,
 }
 
@@ -58,12 +58,10 @@ fn signal(step: &[u8], place: usize) -> Signal {
 }
 
 fn fork(session: &mut Session, maker: u32) -> Result<(), AllocError> {
-    let child = u32::try_from(session.processes.len()).unwrap_or(0).saturating_add(100);
-    session.processes.push(Process {
-        maker,
-        status: Status::Running,
-    })?;
+    let child = u32::try_from(session.processes.as_slice().len()).unwrap_or(0).saturating_add(100);
+    session.processes.reserve()?;
     add_fork(&mut session.members, maker, child)?;
+    session.processes.start(maker);
     Ok(())
 }
 
@@ -78,7 +76,7 @@ fn action(number: u32) -> SignalAction {
 fn give(
     alloc: Global,
     session: &mut Session,
-    to: SignalTarget<'_>,
+    to: &SignalTarget,
     signal: Signal,
 ) -> Result<(), AllocError> {
     send(alloc, &mut session.processes, &mut session.members, to, signal)?;
@@ -92,8 +90,8 @@ fn take(alloc: Global, session: &mut Session, step: &[u8]) -> Result<(), AllocEr
         Some(b'g') => set_group(&mut session.members, pid, number(step, 2)),
         Some(b'x') => start_program(&mut session.members, pid),
         Some(b'a') => set_action(&mut session.members, pid, signal(step, 2), action(number(step, 3))),
-        Some(b's') => give(alloc, session, SignalTarget::Process(pid), signal(step, 2))?,
-        Some(b'S') => give(alloc, session, SignalTarget::Group(pid), signal(step, 2))?,
+        Some(b's') => give(alloc, session, &SignalTarget::Process(pid), signal(step, 2))?,
+        Some(b'S') => give(alloc, session, &SignalTarget::Group(pid), signal(step, 2))?,
         _ => {
             let status = u8::try_from(number(step, 2)).unwrap_or(0);
             end(alloc, &mut session.processes, &mut session.members, pid, status)?;
@@ -103,7 +101,7 @@ fn take(alloc: Global, session: &mut Session, step: &[u8]) -> Result<(), AllocEr
 }
 
 fn show(rt: HostRuntime, session: &Session) -> io::Result<()> {
-    for process in session.processes.iter() {
+    for process in session.processes.as_slice() {
         match process.status {
             Status::Running => print!(rt; " R")?,
             Status::Stopped(_) => print!(rt; " T")?,
@@ -115,10 +113,6 @@ fn show(rt: HostRuntime, session: &Session) -> io::Result<()> {
 }
 
 fn start(alloc: Global) -> Result<Session, AllocError> {
-    let shell = Process {
-        maker: 1,
-        status: Status::Running,
-    };
     let member = Member {
         pid: 100,
         group: 100,
@@ -128,7 +122,7 @@ fn start(alloc: Global) -> Result<Session, AllocError> {
         kept: SignalSet::new(),
     };
     Ok(Session {
-        processes: vec![in alloc; shell; 1]?,
+        processes: ProcessList::new(alloc)?,
         members: vec![in alloc; member; 1]?,
     })
 }

@@ -19,7 +19,7 @@ LISTED = {
     # A count of open levels, of which the same holds.
     ("sh_token_scanner/src/state.rt", "return Err(AllocError);"),
     # A count of the descriptors of an open file description that has no place in a usize: they would not fit into memory.
-    ("sh_kernel_descriptors/src/processes.rt", "return Err(AllocError);"),
+    ("sh_kernel_descriptors/src/copying.rt", "return Err(AllocError);"),
     ("sh_kernel_machine/src/machine.rt", "return Err(AllocError);"),
     # A process's table of descriptors isn't there though it was made just before, which can't be.
     ("sh_kernel_machine/src/tables.rt", "None => Err(AllocError),"),

@@ -1,9 +1,9 @@
 -- The lines of the processes, one more at a time.
 use Rattle.std.proofs.Common.{◌≡◌, ℕ, zero, suc, ◌+◌, ◌-◌, ◌<◌, ◌≤◌, List, [], ◌∷◌, ◌++◌, append_assoc, length, take, take_all, Some, None, slice_get, Bool, true, nat_le, refl, sym, ap, ◌∙◌, arith, if◌then◌else◌}
 use Rattle.std.specs.Option.{option_map}
-use Rattle.sh_kernel_descriptors.specs.Processes.{status_at}
-use Rattle.sh_kernel_descriptors.specs.declared.process.Process.{Process}
-use Rattle.sh_kernel_descriptors.specs.declared.process.Status.{Status}
+use Rattle.sh_kernel_processes.specs.Processes.{status_at}
+use Rattle.sh_kernel_processes.specs.declared.process.Process.{Process}
+use Rattle.sh_kernel_processes.specs.declared.process.Status.{Status}
 use Rattle.psh_common.specs.Processes.{process_line}
 use Rattle.psh.specs.Report.{process_lines, shown_processes}
 

@@ -4,7 +4,7 @@ use Rattle.std.specs.Prelude.{ℕ, ◌+◌, List, [], ◌∷◌, ◌++◌, Bool,
 use Rattle.sh_exec.specs.State.{State, files_of, job_lines_of, terminal_of}
 use Rattle.sh_exec.specs.Tasks.{first_pid}
 use Rattle.sh_files.specs.Writing.{image_text}
-use Rattle.sh_kernel_descriptors.specs.declared.process.Process.{Process}
+use Rattle.sh_kernel_processes.specs.declared.process.Process.{Process}
 use Rattle.psh_common.specs.Processes.{process_line}
 
 -- ---- all processes, in the order of their numbers, from this one on

@@ -8,7 +8,7 @@ ghost use Rattle.psh.specs.Report.{process_lines, report_of, shown_processes};
 
 use psh_common::put_process;
 use sh_base::NoMemory;
-use sh_kernel_descriptors::FIRST_PID;
+use sh_kernel_processes::FIRST_PID;
 use sh_stock::Stock;
 use sh_world::World;
 use std::alloc::Global;

@@ -1,7 +1,7 @@
 -- The line that tells how a process stands.
 use Rattle.std.specs.Prelude.{List, [], ◌∷◌, ℕ, ◌++◌, codes, decimal}
-use Rattle.sh_kernel_descriptors.specs.declared.process.Status.{Status}
-use Rattle.sh_kernel_descriptors.specs.declared.process.Status.TheVariants.{Running, Stopped, Exited, Signaled}
+use Rattle.sh_kernel_processes.specs.declared.process.Status.{Status}
+use Rattle.sh_kernel_processes.specs.declared.process.Status.TheVariants.{Running, Stopped, Exited, Signaled}
 
 abbrev pub words_of : Status → List ℕ
 words_of Running = codes "running"

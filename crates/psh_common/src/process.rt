@@ -4,7 +4,7 @@ ghost use Rattle.psh_common.specs.Processes.{process_line, words_of};
 
 use itoa::Buffer;
 use sh_base::NoMemory;
-use sh_kernel_descriptors::Status;
+use sh_kernel_processes::Status;
 
 /// A word, and a number behind it.
 fn put_number(text: &mut Vec<u8>, word: &[u8], number: u8) -> Result<(), NoMemory>

@@ -9,7 +9,7 @@ use Rattle.sh_builtin_jobs.specs.declared.command.KillSend.{KillSend}
 use Rattle.sh_builtin_jobs.specs.declared.run.KillStep.TheVariants.{Over}
 use Rattle.sh_builtin_jobs.specs.declared.target.JobControl.{JobControl}
 use Rattle.sh_jobs.specs.declared.job.Job.{Job}
-use Rattle.sh_kernel_descriptors.specs.declared.process.Process.{Process}
+use Rattle.sh_kernel_processes.specs.declared.process.Process.{Process}
 
 others_left : (front others : List (List ℕ)) → drop (length (front ++ others) - length others) (front ++ others) ≡ others
 others_left front others =

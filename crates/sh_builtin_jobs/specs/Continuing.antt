@@ -12,7 +12,7 @@ use Rattle.sh_jobs.specs.declared.fault.JobFault.{JobFault}
 use Rattle.sh_jobs.specs.declared.fault.JobFault.TheVariants.{NoSuchJob}
 use Rattle.sh_jobs.specs.declared.job.Job.{Job}
 use Rattle.sh_jobs.specs.declared.state.JobState.TheVariants.{Running}
-use Rattle.sh_kernel_descriptors.specs.declared.process.Process.{Process}
+use Rattle.sh_kernel_processes.specs.declared.process.Process.{Process}
 
 -- ---- why nothing is done: a message, and the status is 2
 abbrev pub usage : (name : List ℕ) → List ℕ

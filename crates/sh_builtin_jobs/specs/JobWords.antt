@@ -13,7 +13,7 @@ use Rattle.sh_jobs.specs.declared.fault.JobFault.{JobFault}
 use Rattle.sh_jobs.specs.declared.fault.JobFault.TheVariants.{NoSuchJob}
 use Rattle.sh_jobs.specs.declared.job.Job.{Job}
 use Rattle.sh_jobs.specs.declared.state.JobState.{JobState}
-use Rattle.sh_kernel_descriptors.specs.declared.process.Process.{Process}
+use Rattle.sh_kernel_processes.specs.declared.process.Process.{Process}
 
 -- ---- each operand is a job ID: it begins with a percent sign
 abbrev pub is_job_id : List ℕ → Bool

@@ -8,7 +8,7 @@ use Rattle.sh_jobs.specs.Table.{job_at}
 use Rattle.sh_jobs.specs.declared.fault.JobFault.{JobFault}
 use Rattle.sh_jobs.specs.declared.fault.JobFault.TheVariants.{NoSuchJob}
 use Rattle.sh_jobs.specs.declared.job.Job.{Job}
-use Rattle.sh_kernel_descriptors.specs.declared.process.Process as process
+use Rattle.sh_kernel_processes.specs.declared.process.Process as process
 use Rattle.sh_kernel_signals.specs.declared.target.SignalTarget.{SignalTarget}
 use Rattle.sh_kernel_signals.specs.declared.target.SignalTarget.TheVariants.{Process, Group, Processes}
 

@@ -9,7 +9,7 @@ use Rattle.sh_builtin_jobs.specs.declared.run.KillStep.{KillStep}
 use Rattle.sh_builtin_jobs.specs.declared.run.KillStep.TheVariants.{Asks, Over}
 use Rattle.sh_builtin_jobs.specs.declared.target.JobControl.{JobControl}
 use Rattle.sh_jobs.specs.declared.job.Job.{Job}
-use Rattle.sh_kernel_descriptors.specs.declared.process.Process.{Process}
+use Rattle.sh_kernel_processes.specs.declared.process.Process.{Process}
 use Rattle.sh_signal.specs.Signals.{name_of, number_of}
 use Rattle.sh_signal.specs.declared.signal.Signal.{Signal}
 

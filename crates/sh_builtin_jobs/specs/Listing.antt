@@ -14,7 +14,7 @@ use Rattle.sh_jobs.specs.declared.job.Job.{Job}
 use Rattle.sh_jobs.specs.declared.line.JobForm.{JobForm}
 use Rattle.sh_jobs.specs.declared.line.JobForm.TheVariants.{Short, Long, Group}
 use Rattle.sh_jobs.specs.declared.state.JobState.{JobState}
-use Rattle.sh_kernel_descriptors.specs.declared.process.Process.{Process}
+use Rattle.sh_kernel_processes.specs.declared.process.Process.{Process}
 
 -- ---- the words: of -l and -p the last one counts
 abbrev pub form_of : (letter : Option ℕ) → JobForm

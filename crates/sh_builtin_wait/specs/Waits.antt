@@ -23,7 +23,7 @@ use Rattle.sh_jobs.specs.Table.{job_at}
 use Rattle.sh_jobs.specs.declared.fault.JobFault.{JobFault}
 use Rattle.sh_jobs.specs.declared.fault.JobFault.TheVariants.{NoSuchJob}
 use Rattle.sh_jobs.specs.declared.job.Job as job
-use Rattle.sh_kernel_descriptors.specs.declared.process.Process as process
+use Rattle.sh_kernel_processes.specs.declared.process.Process as process
 
 -- ---- the processes that are waited for: the one of a number, or all of a job
 abbrev pub processes_of : WaitTarget → List ℕ

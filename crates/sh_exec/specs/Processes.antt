@@ -6,7 +6,7 @@ use Rattle.sh_exec.specs.Tasks.{pid_of}
 use Rattle.sh_exec.specs.Turns.{Turned, turn}
 use Rattle.sh_kernel.specs.State.{KernelKept, KernelState, StandsAt}
 use Rattle.sh_kernel.specs.Turns.{can_do}
-use Rattle.sh_kernel_descriptors.specs.Processes.{lives}
+use Rattle.sh_kernel_processes.specs.Processes.{lives}
 use Rattle.sh_stock.specs.Asking.{Meaning}
 use Rattle.sh_exec.specs.declared.task.Task.{Task}
 

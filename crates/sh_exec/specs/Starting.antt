@@ -23,7 +23,7 @@ use Rattle.sh_exec_actions.specs.declared.action.Action.TheVariants.{Reading, Ex
 use Rattle.sh_exec_forms.specs.Running.{At}
 use Rattle.sh_kernel.specs.Calls.{start_call}
 use Rattle.sh_kernel.specs.State.{KernelState}
-use Rattle.sh_kernel_descriptors.specs.Processes.{parent_at}
+use Rattle.sh_kernel_processes.specs.Processes.{parent_at}
 use Rattle.sh_kernel_signals.specs.Groups.{member_at}
 use Rattle.sh_kernel_signals.specs.Sets.{no_signals}
 use Rattle.sh_kernel_signals.specs.declared.set.SignalSet.{SignalSet}

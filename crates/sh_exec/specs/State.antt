@@ -10,9 +10,9 @@ use Rattle.sh_jobs.specs.declared.line.JobForm.TheVariants.{Long}
 use Rattle.sh_kernel.specs.State as kernel
 use Rattle.sh_kernel.specs.Calls.{after_key}
 use Rattle.sh_kernel.specs.State.{KernelState}
-use Rattle.sh_kernel_descriptors.specs.Processes.{lives, status_at}
-use Rattle.sh_kernel_descriptors.specs.declared.process.Status.{Status}
-use Rattle.sh_kernel_descriptors.specs.declared.process.Status.TheVariants.{Running, Stopped, Exited, Signaled}
+use Rattle.sh_kernel_processes.specs.Processes.{lives, status_at}
+use Rattle.sh_kernel_processes.specs.declared.process.Status.{Status}
+use Rattle.sh_kernel_processes.specs.declared.process.Status.TheVariants.{Running, Stopped, Exited, Signaled}
 use Rattle.sh_stock.specs.Asking.{Meaning}
 use Rattle.sh_tty.specs.Happenings.{bytes_of}
 use Rattle.sh_exec.specs.Choice.{choice}

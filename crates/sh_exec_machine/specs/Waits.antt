@@ -2,11 +2,11 @@
 use Rattle.std.specs.Prelude.{ℕ, ◌+◌, ◌-◌, List, length, nat_lt, Option, Some, None, Result, Ok, Err, slice_get, unwrap_or, if◌then◌else◌}
 use Rattle.sh_kernel.specs.State.{KernelState}
 use Rattle.sh_kernel_descriptors.specs.Machine.{wait_answer}
-use Rattle.sh_kernel_descriptors.specs.Processes.{status_at}
+use Rattle.sh_kernel_processes.specs.Processes.{status_at}
 use Rattle.sh_kernel_descriptors.specs.Waiting.{is_wait}
 use Rattle.sh_kernel_descriptors.specs.declared.fault.KernelFault.{KernelFault}
-use Rattle.sh_kernel_descriptors.specs.declared.process.Status.{Status}
-use Rattle.sh_kernel_descriptors.specs.declared.process.Status.TheVariants.{Running, Stopped, Exited, Signaled}
+use Rattle.sh_kernel_processes.specs.declared.process.Status.{Status}
+use Rattle.sh_kernel_processes.specs.declared.process.Status.TheVariants.{Running, Stopped, Exited, Signaled}
 
 -- a process isn't known
 abbrev pub unknown : ℕ

@@ -1,7 +1,7 @@
 -- The order of jobs: none is ahead of the best of a list.
 use Rattle.std.proofs.Common.{◌≡◌, ℕ, inl, inr, List, [], ◌∷◌, Bool, true, false, cond, Some, map, refl, ap, ◌∙◌, arith}
 use Rattle.std.proofs.lemmas.Bool.Decides.{nat_tests}
-use Rattle.sh_kernel_descriptors.specs.declared.process.Process.{Process}
+use Rattle.sh_kernel_processes.specs.declared.process.Process.{Process}
 use Rattle.sh_jobs.specs.Laws.{IsAmong, IsFirst, NoneAhead}
 use Rattle.sh_jobs.specs.Order.{ahead_by, best, first_number, first_of_two, is_ahead, is_later, rank_of}
 use Rattle.sh_jobs.specs.declared.job.Job.{Job}

@@ -2,7 +2,7 @@
 use Rattle.std.proofs.Common.{◌≡◌, ℕ, ◌≤◌, inl, inr, List, [], ◌∷◌, Bool, true, false, cond, Option, Some, None, refl, sym, ◌∙◌, arith}
 use Rattle.std.specs.Prelude.{nat_lt}
 use Rattle.std.proofs.lemmas.Bool.Decides.{nat_tests}
-use Rattle.sh_kernel_descriptors.specs.declared.process.Process.{Process}
+use Rattle.sh_kernel_processes.specs.declared.process.Process.{Process}
 use Rattle.sh_jobs.specs.Laws.{IsNext, NoneBefore, NoneHasChanged}
 use Rattle.sh_jobs.specs.News.{has_changed, lesser, next_changed}
 use Rattle.sh_jobs.specs.declared.job.Job.{Job}

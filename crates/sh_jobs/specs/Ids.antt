@@ -4,7 +4,7 @@ use Rattle.std.specs.Char.{is_ascii_digit}
 use Rattle.std.specs.List.{list_all, starts_with}
 use Rattle.std.specs.Str.{bytes_eq}
 use Rattle.sh_base.specs.Decimals.{at_most, value_of}
-use Rattle.sh_kernel_descriptors.specs.declared.process.Process.{Process}
+use Rattle.sh_kernel_processes.specs.declared.process.Process.{Process}
 use Rattle.sh_jobs.specs.Order.{current_of, previous_of}
 use Rattle.sh_jobs.specs.Table.{is_taken}
 use Rattle.sh_jobs.specs.declared.fault.JobFault.{JobFault}

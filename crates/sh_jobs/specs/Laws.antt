@@ -1,7 +1,7 @@
 -- Laws of tables of jobs: which job is the current one and which has changed, and that no two jobs have one number.
 use Rattle.std.specs.Prelude.{◌≡◌, ℕ, ◌≤◌, List, [], ◌∷◌, true, false, Option, Some, None, ◌⊎◌}
 use Rattle.sh_kernel.specs.Changes.{Changes}
-use Rattle.sh_kernel_descriptors.specs.declared.process.Process.{Process}
+use Rattle.sh_kernel_processes.specs.declared.process.Process.{Process}
 use Rattle.sh_jobs.specs.Moments.{brought_up}
 use Rattle.sh_jobs.specs.News.{has_changed, next_changed, without_told}
 use Rattle.sh_jobs.specs.Order.{current_of, is_ahead, previous_of, rank_of}

@@ -1,6 +1,6 @@
 -- The lines by which jobs are listed (XCU jobs, "STDOUT").
 use Rattle.std.specs.Prelude.{ℕ, List, [], ◌∷◌, ◌++◌, ◌==◌, Bool, false, Option, Some, None, option_map, decimal, if◌then◌else◌}
-use Rattle.sh_kernel_descriptors.specs.declared.process.Process.{Process}
+use Rattle.sh_kernel_processes.specs.declared.process.Process.{Process}
 use Rattle.sh_jobs.specs.Order.{current_of, previous_of}
 use Rattle.sh_jobs.specs.States.{state_of}
 use Rattle.sh_jobs.specs.Table.{job_at}

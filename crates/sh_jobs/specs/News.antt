@@ -1,6 +1,6 @@
 -- What is to be told of the jobs: the states that have changed, and the jobs of which nothing more is to be told.
 use Rattle.std.specs.Prelude.{ℕ, List, ◌==◌, ◌&&◌, Bool, true, false, not, Option, Some, None, map, filter, nat_lt, if◌then◌else◌}
-use Rattle.sh_kernel_descriptors.specs.declared.process.Process.{Process}
+use Rattle.sh_kernel_processes.specs.declared.process.Process.{Process}
 use Rattle.sh_jobs.specs.Order.{best}
 use Rattle.sh_jobs.specs.States.{state_of}
 use Rattle.sh_jobs.specs.declared.job.Job.{Job}

@@ -1,6 +1,6 @@
 -- The current job and the previous one (XBD chapter 3, Job ID).
 use Rattle.std.specs.Prelude.{ℕ, List, [], ◌∷◌, ◌==◌, Bool, true, false, not, Option, Some, None, option_map, map, nat_lt, if◌then◌else◌}
-use Rattle.sh_kernel_descriptors.specs.declared.process.Process.{Process}
+use Rattle.sh_kernel_processes.specs.declared.process.Process.{Process}
 use Rattle.sh_jobs.specs.States.{state_of}
 use Rattle.sh_jobs.specs.Table.{has_number, without}
 use Rattle.sh_jobs.specs.declared.job.Job.{Job}

@@ -2,11 +2,11 @@
 use Rattle.std.specs.Prelude.{ℕ, ◌-◌, List, [], ◌∷◌, length, Bool, Option, Some, None, slice_get, if◌then◌else◌}
 use Rattle.std.specs.List.{list_any}
 use Rattle.std.specs.Option.{option_or, unwrap_or}
-use Rattle.sh_kernel_descriptors.specs.Processes.{status_at}
-use Rattle.sh_kernel_descriptors.specs.Waiting.{is_running}
-use Rattle.sh_kernel_descriptors.specs.declared.process.Process.{Process}
-use Rattle.sh_kernel_descriptors.specs.declared.process.Status.{Status}
-use Rattle.sh_kernel_descriptors.specs.declared.process.Status.TheVariants.{Running, Stopped, Exited, Signaled}
+use Rattle.sh_kernel_processes.specs.Processes.{status_at}
+use Rattle.sh_kernel_processes.specs.Processes.{is_running}
+use Rattle.sh_kernel_processes.specs.declared.process.Process.{Process}
+use Rattle.sh_kernel_processes.specs.declared.process.Status.{Status}
+use Rattle.sh_kernel_processes.specs.declared.process.Status.TheVariants.{Running, Stopped, Exited, Signaled}
 use Rattle.sh_jobs.specs.declared.state.Ending.{Ending}
 use Rattle.sh_jobs.specs.declared.state.Ending.TheVariants as ending
 use Rattle.sh_jobs.specs.declared.state.JobState.{JobState}

@@ -6,7 +6,7 @@ ghost use Rattle.sh_jobs.specs.States.{any_runs, ending_by, ending_of, last_endi
 
 use crate::state::{Ending, JobState};
 use sh_kernel::{Kernel, Status};
-use sh_kernel_descriptors::is_running;
+use sh_kernel_processes::is_running;
 
 /// The status of a process. A number that no process ever had counts as an exit with 0.
 fn status_of(kernel: &Kernel, pid: u32) -> Status

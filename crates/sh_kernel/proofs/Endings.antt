@@ -1,10 +1,10 @@
 -- Of some processes those that have ended close all their descriptors.
 use Rattle.std.proofs.Common.{◌≡◌, ℕ, List, [], ◌∷◌, length, filter, Bool, true, false, cond, ◌==◌, slice_get, refl, sym, ap, ◌∙◌}
 use Rattle.sh_kernel_descriptors.specs.Machine.{MachineState, after_close}
-use Rattle.sh_kernel_descriptors.specs.Processes.{has_ended}
+use Rattle.sh_kernel_processes.specs.Processes.{has_ended}
 use Rattle.sh_kernel_descriptors.specs.declared.descriptor.Closing.TheVariants.{All}
 use Rattle.sh_kernel_descriptors.specs.declared.description.Description.{Description}
-use Rattle.sh_kernel_descriptors.specs.declared.process.Process.{Process}
+use Rattle.sh_kernel_processes.specs.declared.process.Process.{Process}
 use Rattle.sh_kernel.specs.Laws.{IsOwned}
 use Rattle.sh_kernel.specs.Reaching.{is_end, reaches}
 use Rattle.sh_kernel_machine.specs.Signals.{after_ending, after_endings, with_processes}

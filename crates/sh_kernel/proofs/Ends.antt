@@ -1,11 +1,11 @@
 -- The end of a process stops no process: of the others only those that were stopped can have changed.
 use Rattle.std.proofs.Common.{◌≡◌, ℕ, zero, suc, ◌-◌, List, [], ◌∷◌, filter, Bool, true, false, cond, ◌&&◌, ◌||◌, Option, Some, None, slice_get, slice_set, refl, sym, ap, subst, ◌∙◌, option_map, nat_le}
 use Rattle.std.specs.Prelude.{find}
-use Rattle.sh_kernel_descriptors.specs.Processes.{process_at, status_at, with_status, with_status_of, parent_at}
-use Rattle.sh_kernel_descriptors.specs.Waiting.{is_running}
-use Rattle.sh_kernel_descriptors.specs.declared.process.Process.{Process}
-use Rattle.sh_kernel_descriptors.specs.declared.process.Status.{Status}
-use Rattle.sh_kernel_descriptors.specs.declared.process.Status.TheVariants.{Running, Stopped, Exited, Signaled}
+use Rattle.sh_kernel_processes.specs.Processes.{process_at, status_at, with_status, with_status_of, parent_at}
+use Rattle.sh_kernel_processes.specs.Processes.{is_running}
+use Rattle.sh_kernel_processes.specs.declared.process.Process.{Process}
+use Rattle.sh_kernel_processes.specs.declared.process.Status.{Status}
+use Rattle.sh_kernel_processes.specs.declared.process.Status.TheVariants.{Running, Stopped, Exited, Signaled}
 use Rattle.sh_kernel_signals.proofs.Statuses.{member_pid, signal_pid}
 use Rattle.sh_kernel_signals.specs.Delivery.{action_of, after_action, after_default, after_signal}
 use Rattle.sh_kernel_signals.specs.Groups.{ProcessTable, is_orphaned, is_stopped, member_at}

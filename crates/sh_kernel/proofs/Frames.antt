@@ -20,7 +20,8 @@ use Rattle.sh_kernel_descriptors.specs.Descriptors.{is_named, reads_from, writes
 use Rattle.sh_kernel_descriptors.specs.Machine.{MachineState, after_close, after_fork}
 use Rattle.sh_kernel_descriptors.specs.Naming.{end_of, put_back, after_renaming, renamed_at, after_renumbering, with_number, with_pipe}
 use Rattle.sh_kernel_descriptors.specs.Opening.{description_of, for_reading, target_of, with_node}
-use Rattle.sh_kernel_descriptors.specs.Processes.{copies, has_ended, is_copied, is_ended, next_pid, of_process, process_at}
+use Rattle.sh_kernel_descriptors.specs.Copies.{copies, is_copied, of_process}
+use Rattle.sh_kernel_processes.specs.Processes.{has_ended, is_ended, next_pid, process_at}
 use Rattle.sh_kernel_descriptors.specs.Reading.{with_offset, moved_of}
 use Rattle.sh_kernel_descriptors.specs.declared.descriptor.Closing.{Closing}
 use Rattle.sh_kernel_descriptors.specs.declared.descriptor.Closing.TheVariants.{Named}
@@ -29,7 +30,7 @@ use Rattle.sh_kernel_descriptors.specs.declared.descriptor.DescriptorRef.{Descri
 use Rattle.sh_kernel_descriptors.specs.declared.descriptor.DescriptorRef.TheVariants.{Number, Aside}
 use Rattle.sh_kernel_descriptors.specs.declared.description.Description.{Description}
 use Rattle.sh_kernel_descriptors.specs.declared.description.Target.TheVariants.{ReadEnd, WriteEnd}
-use Rattle.sh_kernel_descriptors.specs.declared.process.Process.{Process}
+use Rattle.sh_kernel_processes.specs.declared.process.Process.{Process}
 use Rattle.sh_kernel_signals.specs.Laws.{OnlyStatuses}
 use Rattle.sh_kernel.specs.Laws.{ChangesOnlyReached, RequestsChangeOnlyReached, is_opened, opens, sends}
 use Rattle.sh_kernel_machine.specs.Signals.{with_processes}

@@ -18,7 +18,7 @@ use Rattle.sh_pipe.specs.Pipe.{PipeState}
 use Rattle.sh_kernel_descriptors.specs.Machine.{MachineState, after_close, after_fork}
 use Rattle.sh_kernel_descriptors.specs.Naming.{put_back, after_renaming, with_number, with_pipe}
 use Rattle.sh_kernel_descriptors.specs.Opening.{for_reading, with_node}
-use Rattle.sh_kernel_descriptors.specs.declared.process.Process.{Process}
+use Rattle.sh_kernel_processes.specs.declared.process.Process.{Process}
 use Rattle.sh_kernel_descriptors.specs.declared.descriptor.DescriptorRef.{DescriptorRef}
 use Rattle.sh_kernel_descriptors.specs.declared.descriptor.DescriptorRef.TheVariants.{Number}
 use Rattle.sh_kernel_descriptors.specs.declared.descriptor.Closing.TheVariants.{Named}

@@ -1,8 +1,8 @@
 -- Changes of processes are noted one after another.
 use Rattle.std.proofs.Common.{◌≡◌, ℕ, ◌-◌, List, [], ◌∷◌, map, cond, Option, slice_set, refl, sym, ap, ◌∙◌}
-use Rattle.sh_kernel_descriptors.specs.Processes.{status_at}
-use Rattle.sh_kernel_descriptors.specs.declared.process.Process.{Process}
-use Rattle.sh_kernel_descriptors.specs.declared.process.Status.{Status}
+use Rattle.sh_kernel_processes.specs.Processes.{status_at}
+use Rattle.sh_kernel_processes.specs.declared.process.Process.{Process}
+use Rattle.sh_kernel_processes.specs.declared.process.Status.{Status}
 use Rattle.sh_kernel.specs.Changes.{is_change, numbered_status, with_changes_in}
 
 -- the statuses that are left are those of some processes, whose changes lead from the moments now to those at the end

@@ -6,7 +6,8 @@ use Rattle.sh_kernel_descriptors.specs.Descriptors.{is_named}
 use Rattle.sh_kernel_descriptors.specs.Machine.{MachineState}
 use Rattle.sh_kernel_descriptors.specs.Naming.{after_renaming, renamed_at, after_renumbering, with_number, with_pipe}
 use Rattle.sh_kernel_descriptors.specs.Opening.{for_reading, with_node}
-use Rattle.sh_kernel_descriptors.specs.Processes.{copies, is_copied, next_pid, of_process}
+use Rattle.sh_kernel_descriptors.specs.Copies.{copies, is_copied, of_process}
+use Rattle.sh_kernel_processes.specs.Processes.{next_pid}
 use Rattle.sh_kernel_descriptors.specs.declared.descriptor.Closing.TheVariants.{Named}
 use Rattle.sh_kernel_descriptors.specs.declared.descriptor.Descriptor.{Descriptor}
 use Rattle.sh_kernel_descriptors.specs.declared.descriptor.DescriptorRef.{DescriptorRef}

@@ -13,8 +13,9 @@ use Rattle.sh_kernel_descriptors.specs.Descriptors.{is_named, reads_from, writes
 use Rattle.sh_kernel_descriptors.specs.Machine.{MachineState}
 use Rattle.sh_kernel_descriptors.specs.Naming.{end_of, after_renaming, renamed_at, after_renumbering, with_number, with_pipe}
 use Rattle.sh_kernel_descriptors.specs.Opening.{description_of, for_reading, target_of}
-use Rattle.sh_kernel_descriptors.specs.Processes.{copies, has_ended, is_copied, is_ended, next_pid, of_process}
-use Rattle.sh_kernel_descriptors.specs.declared.process.Process.{Process}
+use Rattle.sh_kernel_descriptors.specs.Copies.{copies, is_copied, of_process}
+use Rattle.sh_kernel_processes.specs.Processes.{has_ended, is_ended, next_pid}
+use Rattle.sh_kernel_processes.specs.declared.process.Process.{Process}
 use Rattle.sh_kernel_descriptors.specs.Reading.{with_offset}
 use Rattle.sh_kernel_descriptors.specs.declared.descriptor.Closing.TheVariants.{Named}
 use Rattle.sh_kernel_descriptors.specs.declared.descriptor.Descriptor.{Descriptor}

@@ -9,7 +9,7 @@ use Rattle.sh_kernel_descriptors.specs.Machine.{MachineState, after_close, after
 use Rattle.sh_kernel_descriptors.specs.Descriptors.{description_number}
 use Rattle.std.specs.List.{list_any}
 use Rattle.std.specs.Option.{option_map_or}
-use Rattle.sh_kernel_descriptors.specs.Processes.{has_ended, is_ended, is_living, lives, may_fork, next_pid, process_at}
+use Rattle.sh_kernel_processes.specs.Processes.{has_ended, is_ended, is_living, lives, may_fork, next_pid, process_at}
 use Rattle.sh_kernel_descriptors.specs.Reading.{with_offset}
 use Rattle.sh_kernel_descriptors.specs.Naming.{aside_found, back_found, close_found, dup_found, is_allowed, is_description, put_back, after_renaming, with_number, with_pipe}
 use Rattle.sh_kernel_descriptors.specs.Opening.{for_reading, open_result, with_node}
@@ -18,7 +18,7 @@ use Rattle.sh_kernel_descriptors.specs.declared.descriptor.Closing.{Closing}
 use Rattle.sh_kernel_descriptors.specs.declared.descriptor.Closing.TheVariants.{Named, Asides}
 use Rattle.sh_kernel_descriptors.specs.declared.descriptor.DescriptorRef.{DescriptorRef}
 use Rattle.sh_kernel_descriptors.specs.declared.descriptor.DescriptorRef.TheVariants.{Number, Aside}
-use Rattle.sh_kernel_descriptors.specs.declared.process.Process as process
+use Rattle.sh_kernel_processes.specs.declared.process.Process as process
 use Rattle.sh_kernel_signals.specs.Laws.{OnlyStatuses}
 use Rattle.sh_kernel_signals.specs.Sending.{after_end, after_send, pids_of, reaches}
 use Rattle.sh_kernel_signals.specs.declared.target.SignalTarget.{SignalTarget}

@@ -16,7 +16,7 @@ use Rattle.sh_tty.specs.Happenings.{Happening, bytes_of, entries_of, line_of}
 use Rattle.sh_tty.specs.Keys.{echo, key_of, read_of, signal_of}
 use Rattle.sh_signal.specs.declared.signal.Signal.{Signal}
 use Rattle.sh_kernel_descriptors.specs.Outcomes.{refusal, success}
-use Rattle.sh_kernel_descriptors.specs.Processes.{lives, may_fork, next_pid}
+use Rattle.sh_kernel_processes.specs.Processes.{lives, may_fork, next_pid}
 use Rattle.sh_kernel_descriptors.specs.declared.fault.KernelFault.TheVariants.{NoProcess, TooManyProcesses}
 use Rattle.sh_kernel_signals.specs.Sending.{reaches as reached}
 use Rattle.sh_kernel.specs.declared.access.Access.{Access}

@@ -1,8 +1,8 @@
 -- What is kept after a signal, and after the end of a process, is that of the state then.
 use Rattle.std.proofs.Common.{◌≡◌, ℕ, List, map, filter, Option, sym, ap, subst, ◌∙◌}
 use Rattle.sh_kernel_descriptors.specs.Machine.{MachineState}
-use Rattle.sh_kernel_descriptors.specs.declared.process.Process.{Process}
-use Rattle.sh_kernel_descriptors.specs.declared.process.Status.{Status}
+use Rattle.sh_kernel_processes.specs.declared.process.Process.{Process}
+use Rattle.sh_kernel_processes.specs.declared.process.Status.{Status}
 use Rattle.sh_kernel_machine.specs.Machine as kept
 use Rattle.sh_kernel_machine.specs.Signals.{with_processes}
 use Rattle.sh_kernel_signals.specs.Groups.{ProcessTable}

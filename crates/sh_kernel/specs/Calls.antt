@@ -6,7 +6,7 @@ use Rattle.sh_kernel_descriptors.specs.Outcomes.{Done, success, refusal}
 use Rattle.sh_kernel_descriptors.specs.Machine.{MachineState, after_close, after_fork}
 use Rattle.sh_kernel_descriptors.specs.Naming as naming
 use Rattle.sh_kernel_descriptors.specs.Opening as opening
-use Rattle.sh_kernel_descriptors.specs.Processes.{lives, may_fork, next_pid}
+use Rattle.sh_kernel_processes.specs.Processes.{lives, may_fork, next_pid}
 use Rattle.sh_kernel_descriptors.specs.Reading as reading
 use Rattle.sh_kernel_descriptors.specs.Writing as writing
 use Rattle.sh_kernel_descriptors.specs.Terminals.{reads_terminal, writes_terminal}

@@ -3,12 +3,13 @@ use Rattle.std.specs.Prelude.{ℕ, List, ◌&&◌, Bool, false, not, replicate, 
 use Rattle.std.specs.List.{list_any}
 use Rattle.std.specs.Option.{option_map_or}
 use Rattle.sh_kernel_descriptors.specs.Machine.{wait_answer}
-use Rattle.sh_kernel_descriptors.specs.Processes.{all_children, status_at}
-use Rattle.sh_kernel_descriptors.specs.Waiting.{is_running, waits}
+use Rattle.sh_kernel_processes.specs.Processes.{all_children, status_at}
+use Rattle.sh_kernel_descriptors.specs.Waiting.{waits}
+use Rattle.sh_kernel_processes.specs.Processes.{is_running}
 use Rattle.sh_kernel_descriptors.specs.declared.descriptor.DescriptorRef.{DescriptorRef}
 use Rattle.sh_kernel_descriptors.specs.declared.fault.KernelFault.{KernelFault}
 use Rattle.sh_kernel_descriptors.specs.declared.fault.KernelFault.TheVariants.{NoProcess, WouldWait}
-use Rattle.sh_kernel_descriptors.specs.declared.process.Process.{Process}
+use Rattle.sh_kernel_processes.specs.declared.process.Process.{Process}
 use Rattle.sh_kernel.specs.State.{KernelState}
 use Rattle.sh_kernel.specs.Calls.{raises_input, read_call, write_call}
 use Rattle.sh_kernel.specs.declared.next.Next.{Next}

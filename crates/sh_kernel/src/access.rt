@@ -2,7 +2,7 @@
 ghost use Rattle.std.specs.Prelude.{◌≡◌};
 ghost use Rattle.sh_kernel.specs.Access.{access_of, background_access, is_ignored, is_in_background, may_not_read};
 
-use sh_kernel_descriptors::Process;
+use sh_kernel_processes::Process;
 use sh_kernel_signals::{Member, SignalAction, is_orphaned, member_at};
 use sh_signal::Signal;
 

@@ -15,11 +15,9 @@ use crate::changes::{Changes, stopped_of};
 use crate::next::Next;
 use sh_base::NoMemory;
 use sh_files::{Files, Opening};
-use sh_kernel_descriptors::{
-    DescriptorRef, Entry, FIRST_PID, KernelFault, Process, Status, all_children, is_running,
-    status_at,
-};
+use sh_kernel_descriptors::{DescriptorRef, Entry, KernelFault};
 use sh_kernel_machine::Machine;
+use sh_kernel_processes::{FIRST_PID, Process, Status, all_children, is_running, status_at};
 use sh_kernel_signals::{Member, SignalTarget, member_at, new_member, start_program};
 use sh_pipe::Pipe;
 use sh_signal::Signal;
@@ -113,7 +111,7 @@ impl Kernel {
     ghost use Rattle.std.specs.Prelude.{option_copied};
     ghost use Rattle.sh_kernel_descriptors.specs.Kept.{IsCounted, pipe_at};
     ghost use Rattle.sh_kernel_descriptors.specs.Machine.{wait_answer};
-    ghost use Rattle.sh_kernel_descriptors.specs.Processes.{parent_at, status_at};
+    ghost use Rattle.sh_kernel_processes.specs.Processes.{parent_at, status_at};
     ghost use Rattle.sh_kernel_descriptors.specs.Terminals.{is_terminal};
     ghost use Rattle.sh_kernel.specs.Changes.{changed_at};
     ghost use Rattle.sh_kernel.specs.Turns.{action_of, action_waits, can_do, untraced_answer};

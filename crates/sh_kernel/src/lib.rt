@@ -13,7 +13,5 @@ pub use laws::{
     the_terminal_is_reached, the_terminal_only_grows,
 };
 pub use next::Next;
-pub use sh_kernel_descriptors::{
-    CAPACITY, DescriptorRef, Entry, FIRST_PID, KernelFault, MAX_DESCRIPTORS, MAX_LIVE, MAX_PID,
-    Status,
-};
+pub use sh_kernel_descriptors::{CAPACITY, DescriptorRef, Entry, KernelFault, MAX_DESCRIPTORS};
+pub use sh_kernel_processes::{FIRST_PID, MAX_LIVE, MAX_PID, Status};

@@ -7,7 +7,7 @@ use Rattle.slab.specs.Slab.{Slab, get}
 use Rattle.sh_kernel_descriptors.specs.Counts as counts
 use Rattle.sh_kernel_descriptors.specs.Counts.{fits, may_come, raised, shared}
 use Rattle.sh_kernel_descriptors.specs.Kept.{Among, IsCounted, Linked, Within, count_of, description_at, listed, named}
-use Rattle.sh_kernel_descriptors.specs.Processes as processes
+use Rattle.sh_kernel_descriptors.specs.Copies as fork_copies
 use Rattle.sh_kernel_descriptors.specs.declared.description.Description.{Description}
 use Rattle.sh_kernel_descriptors.specs.declared.kept.Entry.{Entry}
 use Rattle.sh_kernel_descriptors.specs.declared.kept.Held.{Held}
@@ -16,13 +16,13 @@ use Rattle.sh_kernel_descriptors.proofs.Giving.{Stands, among_append, linked_wit
 use Rattle.sh_kernel_descriptors.proofs.Leaving.{is_named, named_append}
 use Rattle.sh_kernel_descriptors.proofs.Pairs.{named_among}
 
-pub copies_listed : (hs : List Held) (pid child : ℕ) → listed (counts.copies hs pid child) ≡ processes.copies (listed hs) pid child
+pub copies_listed : (hs : List Held) (pid child : ℕ) → listed (counts.copies hs pid child) ≡ fork_copies.copies (listed hs) pid child
 copies_listed [] pid child = refl
 copies_listed (h ∷ hs) pid child = of_test (counts.is_copied pid h) (copies_listed hs pid child)
   where
-    of_test : (b : Bool) → listed (counts.copies hs pid child) ≡ processes.copies (listed hs) pid child
-        → listed (map (counts.of_process child) (cond b (h ∷ filter (counts.is_copied pid) hs) (filter (counts.is_copied pid) hs))) ≡ map (processes.of_process child) (cond b (h.descriptor ∷ filter (processes.is_copied pid) (listed hs)) (filter (processes.is_copied pid) (listed hs)))
-    of_test true e = ap (λ ds. processes.of_process child h.descriptor ∷ ds) e
+    of_test : (b : Bool) → listed (counts.copies hs pid child) ≡ fork_copies.copies (listed hs) pid child
+        → listed (map (counts.of_process child) (cond b (h ∷ filter (counts.is_copied pid) hs) (filter (counts.is_copied pid) hs))) ≡ map (fork_copies.of_process child) (cond b (h.descriptor ∷ filter (fork_copies.is_copied pid) (listed hs)) (filter (fork_copies.is_copied pid) (listed hs)))
+    of_test true e = ap (λ ds. fork_copies.of_process child h.descriptor ∷ ds) e
     of_test false e = e
 
 copies_among : (hs : List Held) (pid child : ℕ) (g : Held) → Among g (counts.copies hs pid child) → Stands g hs

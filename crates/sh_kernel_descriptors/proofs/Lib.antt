@@ -10,5 +10,4 @@ pub mod Moving
 pub mod Slots
 pub mod Finding
 pub mod Pairs
-pub mod Counting
 pub mod Going

@@ -10,7 +10,7 @@ use Rattle.sh_kernel_descriptors.specs.Closings as closings
 use Rattle.sh_kernel_descriptors.specs.declared.description.Description.{Description}
 use Rattle.sh_kernel_descriptors.specs.Kept.{other_at, target_at}
 use Rattle.sh_kernel_descriptors.specs.Naming as naming
-use Rattle.sh_kernel_descriptors.specs.Processes as processes
+use Rattle.sh_kernel_descriptors.specs.Copies as fork_copies
 use Rattle.sh_kernel_descriptors.specs.declared.descriptor.Closing.TheVariants.{Named}
 use Rattle.sh_kernel_descriptors.specs.declared.descriptor.Descriptor.{Descriptor}
 use Rattle.sh_kernel_descriptors.specs.declared.descriptor.DescriptorRef.TheVariants.{Number}
@@ -59,10 +59,10 @@ held_left pid closing hs = filter (stays pid closing) hs
 
 -- what a fork copies
 abbrev pub is_copied : ℕ → Held → Bool
-is_copied pid h = processes.is_copied pid h.descriptor
+is_copied pid h = fork_copies.is_copied pid h.descriptor
 
 abbrev pub of_process : ℕ → Held → Held
-of_process pid h = record h { descriptor = processes.of_process pid h.descriptor }
+of_process pid h = record h { descriptor = fork_copies.of_process pid h.descriptor }
 
 abbrev pub copies : List Held → ℕ → ℕ → List Held
 copies hs pid child = map (of_process child) (filter (is_copied pid) hs)

@@ -2,8 +2,7 @@ pub mod Outcomes
 pub mod Waiting
 pub mod Descriptors
 pub mod Closings
-pub mod Processes
-pub mod Living
+pub mod Copies
 pub mod Machine
 pub mod Reading
 pub mod Writing

@@ -2,12 +2,13 @@
 use Rattle.std.specs.Prelude.{ℕ, ◌++◌, List, [], ◌∷◌, Result, Ok, Err, if◌then◌else◌}
 use Rattle.sh_files.specs.Nodes.{FileMap}
 use Rattle.sh_kernel_descriptors.specs.Closings.{Pipes, descriptors_left, pipes_left}
-use Rattle.sh_kernel_descriptors.specs.Processes.{next_pid, copies, all_children, all_ended}
+use Rattle.sh_kernel_descriptors.specs.Copies.{copies}
+use Rattle.sh_kernel_processes.specs.Processes.{next_pid, all_children, all_ended}
 use Rattle.sh_kernel_descriptors.specs.declared.descriptor.Descriptor.{Descriptor}
 use Rattle.sh_kernel_descriptors.specs.declared.descriptor.Closing.{Closing}
 use Rattle.sh_kernel_descriptors.specs.declared.description.Description.{Description}
-use Rattle.sh_kernel_descriptors.specs.declared.process.Process.{Process}
-use Rattle.sh_kernel_descriptors.specs.declared.process.Status.TheVariants.{Running}
+use Rattle.sh_kernel_processes.specs.declared.process.Process.{Process}
+use Rattle.sh_kernel_processes.specs.declared.process.Status.TheVariants.{Running}
 use Rattle.sh_kernel_descriptors.specs.declared.fault.KernelFault.{KernelFault}
 use Rattle.sh_kernel_descriptors.specs.declared.fault.KernelFault.TheVariants.{NoProcess, WouldWait}
 

@@ -2,7 +2,7 @@
 use Rattle.std.specs.Prelude.{ℕ, ◌+◌, ◌==◌, ◌&&◌, ◌++◌, List, [], ◌∷◌, length, position, Bool, true, false, Option, Some, None, if◌then◌else◌, nat_lt, slice_get, slice_set}
 use Rattle.sh_kernel_descriptors.specs.Outcomes.{Done, success, refusal}
 use Rattle.sh_kernel_descriptors.specs.Descriptors.{description_number, is_named}
-use Rattle.sh_kernel_descriptors.specs.Processes.{lives}
+use Rattle.sh_kernel_processes.specs.Processes.{lives}
 use Rattle.sh_kernel_descriptors.specs.Machine.{MachineState, after_close}
 use Rattle.sh_kernel_descriptors.specs.declared.descriptor.Descriptor.{Descriptor}
 use Rattle.sh_kernel_descriptors.specs.declared.descriptor.DescriptorRef.{DescriptorRef}

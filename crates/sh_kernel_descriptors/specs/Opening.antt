@@ -6,7 +6,7 @@ use Rattle.sh_files.specs.declared.opening.Opening.{Opening}
 use Rattle.sh_files_image.specs.declared.node.Node.{Node}
 use Rattle.sh_files_image.specs.declared.node.Node.TheVariants as node
 use Rattle.sh_kernel_descriptors.specs.Outcomes.{Done, success, refusal, fault_of_file}
-use Rattle.sh_kernel_descriptors.specs.Processes.{lives}
+use Rattle.sh_kernel_processes.specs.Processes.{lives}
 use Rattle.sh_kernel_descriptors.specs.Machine.{MachineState}
 use Rattle.sh_kernel_descriptors.specs.Naming.{is_allowed, with_number}
 use Rattle.sh_kernel_descriptors.specs.declared.description.Description.{Description}

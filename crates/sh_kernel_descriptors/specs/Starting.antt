@@ -5,12 +5,7 @@ use Rattle.sh_kernel_descriptors.specs.Machine.{MachineState}
 use Rattle.sh_kernel_descriptors.specs.declared.descriptor.Descriptor.{Descriptor}
 use Rattle.sh_kernel_descriptors.specs.declared.description.Description.{Description}
 use Rattle.sh_kernel_descriptors.specs.declared.description.Target.TheVariants.{Terminal}
-use Rattle.sh_kernel_descriptors.specs.declared.process.Process.{Process}
-use Rattle.sh_kernel_descriptors.specs.declared.process.Status.TheVariants.{Running}
-
--- the first process is 100, and 1 is its parent, of which nothing is known here
-abbrev pub first_process : Process
-first_process = record { maker = 1; status = Running }
+use Rattle.sh_kernel_processes.specs.Processes.{first_process}
 
 abbrev pub the_terminal : Description
 the_terminal = record { target = Terminal; offset = 0; append = false; readable = true; writable = true }

@@ -1,9 +1,7 @@
--- Whether a call would wait, and which processes can take a turn.
-use Rattle.std.specs.Prelude.{ℕ, Bool, true, false, Option, Some, None, Result, Ok, Err}
+-- Whether a call would wait.
+use Rattle.std.specs.Prelude.{ℕ, Bool, true, false, Result, Ok, Err}
 use Rattle.sh_pipe.specs.declared.PipeFault.{PipeFault}
 use Rattle.sh_pipe.specs.declared.PipeFault.TheVariants as pipe
-use Rattle.sh_kernel_descriptors.specs.declared.process.Status.{Status}
-use Rattle.sh_kernel_descriptors.specs.declared.process.Status.TheVariants.{Running, Stopped, Exited, Signaled}
 use Rattle.sh_kernel_descriptors.specs.declared.fault.KernelFault.{KernelFault}
 use Rattle.sh_kernel_descriptors.specs.declared.fault.KernelFault.TheVariants.{BadDescriptor, NoProcess, TooManyProcesses, TooManyDescriptors, WouldWait, BrokenPipe, InputOutput, File, NoMemory}
 
@@ -27,11 +25,3 @@ is_wait (NoMemory _) = false
 abbrev pub waits : {A : Type 0} → Result A KernelFault → Bool
 waits (Ok a) = false
 waits (Err fault) = is_wait fault
-
--- neither stopped nor ended
-abbrev pub is_running : Option Status → Bool
-is_running None = false
-is_running (Some Running) = true
-is_running (Some (Stopped signal)) = false
-is_running (Some (Exited status)) = false
-is_running (Some (Signaled signal)) = false

@@ -6,8 +6,8 @@ ghost use Rattle.sh_kernel_descriptors.specs.Terminals.{is_of_terminal};
 
 use crate::description::{Description, Target};
 use crate::descriptor::Descriptor;
-use crate::processes::FIRST_PID;
 use sh_files::{Files, Node, Opening};
+use sh_kernel_processes::FIRST_PID;
 
 /// What is open where a path names this node.
 pub fn target_of(files: &Files, node: usize) -> Target

@@ -4,10 +4,9 @@ ghost use Rattle.sh_kernel_descriptors.specs.Closings.{Pipes};
 ghost use Rattle.sh_kernel_descriptors.specs.Kept.{PipesAgree, pipe_kept};
 ghost use Rattle.sh_kernel_descriptors.specs.Reading.{read_pipe, read_slot};
 ghost use Rattle.sh_kernel_descriptors.specs.Writing.{write_pipe, write_slot};
-ghost use Rattle.sh_kernel_descriptors.specs.Waiting.{is_running, waits};
+ghost use Rattle.sh_kernel_descriptors.specs.Waiting.{waits};
 
 use crate::channel::Channel;
-use crate::process::Status;
 use std::collections::BTreeMap;
 
 fn read_at_waits(pipes: &BTreeMap<usize, Channel>, pipe: usize, writer: bool) -> bool
@@ -44,11 +43,4 @@ pub fn write_pipe_waits(pipes: &BTreeMap<usize, Channel>, pipe: usize, count: us
         → length bytes ≡ count → result ≡ waits (write_pipe ps pipe bytes).answer }
 {
     write_to_waits(pipes, pipe, count)
-}
-
-/// Whether a process is neither stopped nor ended.
-pub fn is_running(status: Option<Status>) -> bool
-    ensures { result ≡ is_running status }
-{
-    matches!(status, Some(Status::Running))
 }

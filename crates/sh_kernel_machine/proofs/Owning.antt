@@ -9,7 +9,7 @@ use Rattle.sh_kernel_descriptors.specs.Closings.{Pipes, descriptors_left, pipes_
 use Rattle.sh_kernel_descriptors.specs.Descriptors as names
 use Rattle.sh_kernel_descriptors.specs.Kept.{listed, pipe_made}
 use Rattle.sh_kernel_descriptors.specs.Naming as naming
-use Rattle.sh_kernel_descriptors.specs.Processes as processes
+use Rattle.sh_kernel_descriptors.specs.Copies as fork_copies
 use Rattle.sh_kernel_descriptors.specs.Counts.{ends_listed}
 use Rattle.sh_kernel_descriptors.specs.declared.descriptor.Closing.{Closing}
 use Rattle.sh_kernel_descriptors.specs.declared.descriptor.Closing.TheVariants.{Named}
@@ -206,26 +206,26 @@ pub other_renamed : (pid q : ℕ) (name : DescriptorRef) (number : Option ℕ) (
 other_renamed pid q name number ds n = ap (λ xs. own q xs) (placed (names.is_named pid name) number ds) ∙ first_other pid q name number ds n
 
 -- ---- a fork
-pub copies_own : (pid child : ℕ) (ds : List Descriptor) → processes.copies ds pid child ≡ processes.copies (own pid ds) pid child
+pub copies_own : (pid child : ℕ) (ds : List Descriptor) → fork_copies.copies ds pid child ≡ fork_copies.copies (own pid ds) pid child
 copies_own pid child [] = refl
 copies_own pid child (d ∷ ds) = of_test (d.pid == pid) refl (copies_own pid child ds)
   where
-    of_test : (b : Bool) → (d.pid == pid) ≡ b → processes.copies ds pid child ≡ processes.copies (own pid ds) pid child
-        → map (processes.of_process child) (cond (b && is_some d.number) (d ∷ filter (processes.is_copied pid) ds) (filter (processes.is_copied pid) ds)) ≡ processes.copies (cond b (d ∷ own pid ds) (own pid ds)) pid child
+    of_test : (b : Bool) → (d.pid == pid) ≡ b → fork_copies.copies ds pid child ≡ fork_copies.copies (own pid ds) pid child
+        → map (fork_copies.of_process child) (cond (b && is_some d.number) (d ∷ filter (fork_copies.is_copied pid) ds) (filter (fork_copies.is_copied pid) ds)) ≡ fork_copies.copies (cond b (d ∷ own pid ds) (own pid ds)) pid child
     of_test true t e =
-        of_number (is_some d.number) ∙ sym (ap (λ x. map (processes.of_process child) (cond (x && is_some d.number) (d ∷ filter (processes.is_copied pid) (own pid ds)) (filter (processes.is_copied pid) (own pid ds)))) t)
+        of_number (is_some d.number) ∙ sym (ap (λ x. map (fork_copies.of_process child) (cond (x && is_some d.number) (d ∷ filter (fork_copies.is_copied pid) (own pid ds)) (filter (fork_copies.is_copied pid) (own pid ds)))) t)
       where
-        of_number : (c : Bool) → map (processes.of_process child) (cond c (d ∷ filter (processes.is_copied pid) ds) (filter (processes.is_copied pid) ds)) ≡ map (processes.of_process child) (cond c (d ∷ filter (processes.is_copied pid) (own pid ds)) (filter (processes.is_copied pid) (own pid ds)))
-        of_number true = ap (λ xs. processes.of_process child d ∷ xs) e
+        of_number : (c : Bool) → map (fork_copies.of_process child) (cond c (d ∷ filter (fork_copies.is_copied pid) ds) (filter (fork_copies.is_copied pid) ds)) ≡ map (fork_copies.of_process child) (cond c (d ∷ filter (fork_copies.is_copied pid) (own pid ds)) (filter (fork_copies.is_copied pid) (own pid ds)))
+        of_number true = ap (λ xs. fork_copies.of_process child d ∷ xs) e
         of_number false = e
     of_test false t e = e
 
-own_copied : (child : ℕ) (xs : List Descriptor) → own child (map (processes.of_process child) xs) ≡ map (processes.of_process child) xs
+own_copied : (child : ℕ) (xs : List Descriptor) → own child (map (fork_copies.of_process child) xs) ≡ map (fork_copies.of_process child) xs
 own_copied child [] = refl
-own_copied child (x ∷ xs) = let t : (child == child) ≡ true = grind arith in ap (λ b. cond b (processes.of_process child x ∷ own child (map (processes.of_process child) xs)) (own child (map (processes.of_process child) xs))) t ∙ ap (λ ys. processes.of_process child x ∷ ys) (own_copied child xs)
+own_copied child (x ∷ xs) = let t : (child == child) ≡ true = grind arith in ap (λ b. cond b (fork_copies.of_process child x ∷ own child (map (fork_copies.of_process child) xs)) (own child (map (fork_copies.of_process child) xs))) t ∙ ap (λ ys. fork_copies.of_process child x ∷ ys) (own_copied child xs)
 
-pub copies_of_child : (pid child : ℕ) (ds : List Descriptor) → own child (processes.copies ds pid child) ≡ processes.copies ds pid child
-copies_of_child pid child ds = own_copied child (filter (processes.is_copied pid) ds)
+pub copies_of_child : (pid child : ℕ) (ds : List Descriptor) → own child (fork_copies.copies ds pid child) ≡ fork_copies.copies ds pid child
+copies_of_child pid child ds = own_copied child (filter (fork_copies.is_copied pid) ds)
 
 pub own_apart : (q k : ℕ) (ds : List Descriptor) → q ≢ k → own q (own k ds) ≡ []
 own_apart q k [] n = refl
@@ -236,8 +236,8 @@ own_apart q k (d ∷ ds) n = of_test (d.pid == k) refl (own_apart q k ds n)
         let s : (d.pid == q) ≡ false = false_of (d.pid == q) (λ u. n (sym (eqb-true d.pid q u) ∙ eqb-true d.pid k t)) in ap (λ b. cond b (d ∷ own q (own k ds)) (own q (own k ds))) s ∙ e
     of_test false t e = e
 
-pub copies_of_other : (pid child q : ℕ) (ds : List Descriptor) → q ≢ child → own q (processes.copies ds pid child) ≡ []
-copies_of_other pid child q ds n = ap (λ xs. own q xs) (sym (copies_of_child pid child ds)) ∙ own_apart q child (processes.copies ds pid child) n
+pub copies_of_other : (pid child q : ℕ) (ds : List Descriptor) → q ≢ child → own q (fork_copies.copies ds pid child) ≡ []
+copies_of_other pid child q ds n = ap (λ xs. own q xs) (sym (copies_of_child pid child ds)) ∙ own_apart q child (fork_copies.copies ds pid child) n
 
 -- ---- one process's descriptors have changed
 pub changed : (pid : ℕ) (old new : List Held) (table ds ds' : List Descriptor) → Changes pid old new table → own pid ds' ≡ table → ((q : ℕ) → q ≢ pid → own q ds' ≡ own q ds) → SameTables (listed old) ds → SameTables (listed new) ds'
@@ -295,12 +295,12 @@ renamed_changed pid name number old new ds c same =
     changed pid old new (naming.after_renaming (own pid (listed old)) pid name number) ds (naming.after_renaming ds pid name number) c
     (own_renamed pid name number ds ∙ ap (λ xs. naming.after_renaming xs pid name number) (sym (same pid))) (λ q n. other_renamed pid q name number ds n) same
 
-pub forked_changed : (pid child : ℕ) (old new : List Held) (ds : List Descriptor) → Changes child old new (own child (listed old) ++ processes.copies (own pid (listed old)) pid child) → SameTables (listed old) ds → SameTables (listed new) (ds ++ processes.copies ds pid child)
+pub forked_changed : (pid child : ℕ) (old new : List Held) (ds : List Descriptor) → Changes child old new (own child (listed old) ++ fork_copies.copies (own pid (listed old)) pid child) → SameTables (listed old) ds → SameTables (listed new) (ds ++ fork_copies.copies ds pid child)
 forked_changed pid child old new ds c same =
-    changed child old new (own child (listed old) ++ processes.copies (own pid (listed old)) pid child) ds (ds ++ processes.copies ds pid child) c
-    (own_append child ds (processes.copies ds pid child) ∙ ap (λ xs. xs ++ own child (processes.copies ds pid child)) (sym (same child))
-    ∙ ap (λ xs. own child (listed old) ++ xs) (copies_of_child pid child ds ∙ copies_own pid child ds ∙ ap (λ xs. processes.copies xs pid child) (sym (same pid))))
-    (λ q n. own_append q ds (processes.copies ds pid child) ∙ ap (λ xs. own q ds ++ xs) (copies_of_other pid child q ds n) ∙ nil_right (own q ds)) same
+    changed child old new (own child (listed old) ++ fork_copies.copies (own pid (listed old)) pid child) ds (ds ++ fork_copies.copies ds pid child) c
+    (own_append child ds (fork_copies.copies ds pid child) ∙ ap (λ xs. xs ++ own child (fork_copies.copies ds pid child)) (sym (same child))
+    ∙ ap (λ xs. own child (listed old) ++ xs) (copies_of_child pid child ds ∙ copies_own pid child ds ∙ ap (λ xs. fork_copies.copies xs pid child) (sym (same pid))))
+    (λ q n. own_append q ds (fork_copies.copies ds pid child) ∙ ap (λ xs. own q ds ++ xs) (copies_of_other pid child q ds n) ∙ nil_right (own q ds)) same
 
 pub own_ends : (pid from to k : ℕ) (ds : List Descriptor) → own pid (ends_listed pid from to k ds) ≡ ends_listed pid from to k (own pid ds)
 own_ends pid from to k ds = own_with pid to (k + 1) (with_given pid from k ds) ∙ ap (λ xs. with_given pid to (k + 1) xs) (own_with pid from k ds)

@@ -13,9 +13,10 @@ use Rattle.sh_kernel_descriptors.specs.Descriptors as names
 use Rattle.sh_kernel_descriptors.specs.Kept.{Among, IsCounted, IsPaired, Linked, PipesAgree, listed}
 use Rattle.sh_kernel_descriptors.specs.Machine.{MachineState, after_close, after_fork}
 use Rattle.sh_kernel_descriptors.specs.Naming.{after_renaming, is_description, with_number, with_pipe}
-use Rattle.sh_kernel_descriptors.specs.Processes.{copies, next_pid}
-use Rattle.sh_kernel_descriptors.specs.declared.process.Process.{Process}
-use Rattle.sh_kernel_descriptors.specs.declared.process.Status.TheVariants.{Running}
+use Rattle.sh_kernel_descriptors.specs.Copies.{copies}
+use Rattle.sh_kernel_processes.specs.Processes.{next_pid}
+use Rattle.sh_kernel_processes.specs.declared.process.Process.{Process}
+use Rattle.sh_kernel_processes.specs.declared.process.Status.TheVariants.{Running}
 use Rattle.std.specs.Prelude.{find}
 use Rattle.std.proofs.lemmas.Bool.{eqb-true}
 use Rattle.sh_kernel_descriptors.specs.Opening.{description_of, open_result, target_of, with_node}

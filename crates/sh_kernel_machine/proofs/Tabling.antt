@@ -22,7 +22,7 @@ use Rattle.sh_kernel_descriptors.specs.declared.descriptor.Closing.{Closing}
 use Rattle.sh_kernel_descriptors.specs.declared.descriptor.Closing.TheVariants.{All, Named}
 use Rattle.sh_kernel_descriptors.specs.declared.descriptor.DescriptorRef.TheVariants.{Number}
 use Rattle.sh_kernel_descriptors.specs.Counts.{ends_pipes}
-use Rattle.sh_kernel_descriptors.specs.Processes as processes
+use Rattle.sh_kernel_descriptors.specs.Copies as fork_copies
 use Rattle.sh_kernel_descriptors.proofs.Copying.{copies_listed}
 use Rattle.sh_kernel_descriptors.specs.declared.descriptor.Descriptor.{Descriptor}
 use Rattle.std.specs.Prelude.{OnErr, OnOk, is_ok, is_some}
@@ -533,9 +533,9 @@ on_err_weaker (Ok a) f p = tt
 on_err_weaker (Err e) f p = f p
 
 -- ---- a fork
-pub copied_listed : (all : List Held) (pid child : ℕ) (copied : List Held) → CopiesOf all pid child copied → (listed copied ≡ processes.copies (own pid (listed all)) pid child) × (own child (listed copied) ≡ listed copied)
+pub copied_listed : (all : List Held) (pid child : ℕ) (copied : List Held) → CopiesOf all pid child copied → (listed copied ≡ fork_copies.copies (own pid (listed all)) pid child) × (own child (listed copied) ≡ listed copied)
 copied_listed all pid child copied c =
-    let e : listed copied ≡ processes.copies (own pid (listed all)) pid child = ap (λ hs. listed hs) c.1 ∙ copies_listed c.0 pid child ∙ ap (λ ds. processes.copies ds pid child) c.2 in
+    let e : listed copied ≡ fork_copies.copies (own pid (listed all)) pid child = ap (λ hs. listed hs) c.1 ∙ copies_listed c.0 pid child ∙ ap (λ ds. fork_copies.copies ds pid child) c.2 in
     (e, ap (λ ds. own child ds) e ∙ copies_of_child pid child (own pid (listed all)) ∙ sym e)
 
 pub forked_changes : (child : ℕ) (old mid new : List Held) (more copies : List Descriptor) → mid ≡ old → more ≡ copies → Changes child mid new (own child (listed mid) ++ more) → Changes child old new (own child (listed old) ++ copies)

@@ -11,7 +11,7 @@ use Rattle.sh_kernel_descriptors.specs.declared.fault.KernelFault.{KernelFault}
 use Rattle.sh_kernel_descriptors.specs.declared.fault.KernelFault.TheVariants.{NoMemory}
 use Rattle.sh_kernel_descriptors.specs.declared.kept.Entry.{Entry}
 use Rattle.sh_kernel_descriptors.specs.declared.kept.Held.{Held}
-use Rattle.sh_kernel_descriptors.specs.declared.process.Process.{Process}
+use Rattle.sh_kernel_processes.specs.declared.process.Process.{Process}
 use Rattle.sh_kernel_machine.specs.Tables.{SameTables}
 
 -- a description is at a key, and its key may be used again; a pipe that is left is listed with its number. How many

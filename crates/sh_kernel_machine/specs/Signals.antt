@@ -1,9 +1,9 @@
 -- What signals come to in a machine: processes that have ended close what they have open.
 use Rattle.std.specs.Prelude.{ℕ, List, [], ◌∷◌, if◌then◌else◌}
 use Rattle.sh_kernel_descriptors.specs.Machine.{MachineState, after_close}
-use Rattle.sh_kernel_descriptors.specs.Processes.{has_ended}
+use Rattle.sh_kernel_processes.specs.Processes.{has_ended}
 use Rattle.sh_kernel_descriptors.specs.declared.descriptor.Closing.TheVariants.{All}
-use Rattle.sh_kernel_descriptors.specs.declared.process.Process.{Process}
+use Rattle.sh_kernel_processes.specs.declared.process.Process.{Process}
 
 -- a process that has ended closes all its descriptors (XSH _exit)
 abbrev pub after_ending : MachineState → (pid : ℕ) → MachineState

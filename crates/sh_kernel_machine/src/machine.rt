@@ -12,11 +12,11 @@ use crate::tables::{
 };
 use sh_files::{FileFault, Files, MAX_LENGTH, Opening};
 use sh_kernel_descriptors::{
-    Channel, Closing, Description, DescriptorRef, Entry, Held, KernelFault, ProcessList, Target,
-    described, description_of, fault_of_file, has_reader, has_writer, is_allowed, is_description,
-    lives, may_share, move_to, read_file, read_pipe, target_of, the_terminal, write_node,
-    write_pipe, write_start,
+    Channel, Closing, Description, DescriptorRef, Entry, Held, KernelFault, Target, described,
+    description_of, fault_of_file, has_reader, has_writer, is_allowed, is_description, may_share,
+    move_to, read_file, read_pipe, target_of, the_terminal, write_node, write_pipe, write_start,
 };
+use sh_kernel_processes::{ProcessList, lives};
 use slab::Slab;
 use std::alloc::{AllocError, Global};
 use std::collections::BTreeMap;

@@ -8,15 +8,16 @@ ghost use Rattle.sh_kernel_descriptors.specs.Closings.{Pipes, descriptors_left, 
 ghost use Rattle.sh_kernel_descriptors.specs.Counts as counts;
 ghost use Rattle.sh_kernel_descriptors.specs.Kept.{Among, IsCounted, IsPaired, Linked, PipesAgree, listed};
 ghost use Rattle.sh_kernel_descriptors.specs.Naming as naming;
-ghost use Rattle.sh_kernel_descriptors.specs.Processes as processes;
+ghost use Rattle.sh_kernel_descriptors.specs.Copies as fork_copies;
 ghost use Rattle.sh_kernel_descriptors.specs.declared.description.Description.{Description as TheDescription};
 ghost use Rattle.sh_kernel_descriptors.specs.declared.kept.Entry.{Entry as TheEntry};
 ghost use Rattle.sh_kernel_machine.specs.Tables.{AreOwn, Changes, CopiesOf, HasRoom, SameHeld, first_held, held_in, own};
 
 use sh_kernel_descriptors::{
-    Channel, Closing, Description, DescriptorRef, Entry, FIRST_PID, Held, add, add_pipe, close,
-    copy_table, find, refer, rename, share_copies, to_terminal,
+    Channel, Closing, Description, DescriptorRef, Entry, Held, add, add_pipe, close, copy_table,
+    find, refer, rename, share_copies, to_terminal,
 };
+use sh_kernel_processes::FIRST_PID;
 use slab::Slab;
 use std::alloc::{AllocError, Global};
 use std::collections::BTreeMap;
@@ -301,7 +302,7 @@ pub(crate) fn fork_in(
 ) -> Result<(), AllocError>
     ensures own { AreOwn tables.old.entries → AreOwn tables.new.entries }
     ensures listed { OnOk result (AreOwn tables.old.entries → Changes child (held_in tables.old.entries) (held_in tables.new.entries)
-        (own child (listed (held_in tables.old.entries)) ++ processes.copies (own pid (listed (held_in tables.old.entries))) pid child)) }
+        (own child (listed (held_in tables.old.entries)) ++ fork_copies.copies (own pid (listed (held_in tables.old.entries))) pid child)) }
     ensures counted { OnOk result (AreOwn tables.old.entries → IsCounted entries.old (held_in tables.old.entries)
         → IsCounted entries.new (held_in tables.new.entries)) }
     ensures linked { OnOk result ((es : List TheDescription) → AreOwn tables.old.entries

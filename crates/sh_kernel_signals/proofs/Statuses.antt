@@ -2,10 +2,10 @@
 use Rattle.std.proofs.Common.{◌≡◌, ℕ, zero, suc, ◌-◌, ◌==◌, List, [], ◌∷◌, length, Bool, true, false, not, cond, Option, Some, None, slice_get, slice_set, refl, sym, ap, subst, ◌∙◌, option_map, nat_le}
 use Rattle.std.specs.Prelude.{find}
 use Rattle.std.proofs.lemmas.Bool.{eqb-true}
-use Rattle.sh_kernel_descriptors.specs.Processes.{has_ended, is_ended, is_live, is_living, parent_at, process_at, status_at, with_status, with_status_of}
-use Rattle.sh_kernel_descriptors.specs.declared.process.Process.{Process}
-use Rattle.sh_kernel_descriptors.specs.declared.process.Status.{Status}
-use Rattle.sh_kernel_descriptors.specs.declared.process.Status.TheVariants.{Running, Stopped, Exited, Signaled}
+use Rattle.sh_kernel_processes.specs.Processes.{has_ended, is_ended, is_live, is_living, parent_at, process_at, status_at, with_status, with_status_of}
+use Rattle.sh_kernel_processes.specs.declared.process.Process.{Process}
+use Rattle.sh_kernel_processes.specs.declared.process.Status.{Status}
+use Rattle.sh_kernel_processes.specs.declared.process.Status.TheVariants.{Running, Stopped, Exited, Signaled}
 use Rattle.sh_kernel_signals.specs.Delivery.{action_of, after_action, after_continuing, after_default, after_delivery, after_each_kept, after_keeping, after_kept, after_kept_by, after_signal, after_signal_by, is_same, may_stop, running_again, with_kept}
 use Rattle.sh_kernel_signals.specs.Groups.{ProcessTable, is_orphaned, member_at}
 use Rattle.sh_kernel_signals.specs.Laws.{EndsChangeOnlyStatuses, OnlyStatuses, SignalsChangeOnlyStatuses}

@@ -1,7 +1,7 @@
 -- What one signal does to one process (XSH 2.4).
 use Rattle.std.specs.Prelude.{List, [], ◌∷◌, ◌||◌, Bool, true, false, not, if◌then◌else◌, nat_eq}
-use Rattle.sh_kernel_descriptors.specs.declared.process.Status.{Status}
-use Rattle.sh_kernel_descriptors.specs.declared.process.Status.TheVariants.{Running, Stopped, Exited, Signaled}
+use Rattle.sh_kernel_processes.specs.declared.process.Status.{Status}
+use Rattle.sh_kernel_processes.specs.declared.process.Status.TheVariants.{Running, Stopped, Exited, Signaled}
 use Rattle.sh_kernel_signals.specs.Sets.{has, no_signals, with_signal}
 use Rattle.sh_kernel_signals.specs.declared.delivery.Recipient.{Recipient}
 use Rattle.sh_kernel_signals.specs.declared.member.Member.{Member}

@@ -1,8 +1,8 @@
 -- What signals can change of processes: the status of those that live, and nothing else.
 use Rattle.std.specs.Prelude.{◌≡◌, ℕ, List, length, true, false}
 use Rattle.std.specs.Option.{option_map}
-use Rattle.sh_kernel_descriptors.specs.Processes.{has_ended, process_at}
-use Rattle.sh_kernel_descriptors.specs.declared.process.Process.{Process}
+use Rattle.sh_kernel_processes.specs.Processes.{has_ended, process_at}
+use Rattle.sh_kernel_processes.specs.declared.process.Process.{Process}
 use Rattle.sh_kernel_signals.specs.Groups.{ProcessTable}
 use Rattle.sh_kernel_signals.specs.Sending.{after_end, after_send}
 use Rattle.sh_kernel_signals.specs.declared.target.SignalTarget.{SignalTarget}

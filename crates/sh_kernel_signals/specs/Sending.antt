@@ -2,11 +2,11 @@
 use Rattle.std.specs.Prelude.{ℕ, List, [], ◌∷◌, ◌==◌, ◌&&◌, ◌||◌, Bool, false, not, Option, Some, None, filter, find, if◌then◌else◌, map, position, slice_set}
 use Rattle.std.specs.List.{list_any}
 use Rattle.std.specs.Option.{option_map_or}
-use Rattle.sh_kernel_descriptors.specs.Processes.{is_live, lives, parent_at, status_at, with_status}
-use Rattle.sh_kernel_descriptors.specs.Waiting.{is_running}
-use Rattle.sh_kernel_descriptors.specs.declared.process.Process.{Process}
-use Rattle.sh_kernel_descriptors.specs.declared.process.Status.{Status}
-use Rattle.sh_kernel_descriptors.specs.declared.process.Status.TheVariants.{Exited}
+use Rattle.sh_kernel_processes.specs.Processes.{is_live, lives, parent_at, status_at, with_status}
+use Rattle.sh_kernel_processes.specs.Processes.{is_running}
+use Rattle.sh_kernel_processes.specs.declared.process.Process.{Process}
+use Rattle.sh_kernel_processes.specs.declared.process.Status.{Status}
+use Rattle.sh_kernel_processes.specs.declared.process.Status.TheVariants.{Exited}
 use Rattle.sh_kernel_signals.specs.Delivery.{after_signal}
 use Rattle.sh_kernel_signals.specs.Groups.{ProcessTable, has_pid, has_stopped, is_orphaned, is_stopped, member_at}
 use Rattle.sh_kernel_signals.specs.declared.delivery.Recipient.{Recipient}

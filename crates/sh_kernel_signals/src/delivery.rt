@@ -5,7 +5,7 @@ ghost use Rattle.sh_signal.specs.Signals.{signals};
 
 use crate::member::{Member, SignalAction};
 use crate::set::SignalSet;
-use sh_kernel_descriptors::Status;
+use sh_kernel_processes::Status;
 use sh_signal::{DefaultAction, Signal};
 
 /// A process that a signal is sent to.

@@ -4,7 +4,7 @@ ghost use Rattle.std.specs.List.{list_any};
 ghost use Rattle.sh_kernel_signals.specs.Groups.{has_parent_outside, has_pid, has_stopped, is_orphaned, is_outside, is_stopped, is_stopped_in, member_at, ties};
 
 use crate::member::Member;
-use sh_kernel_descriptors::{Process, Status, lives, parent_at, status_at};
+use sh_kernel_processes::{Process, Status, lives, parent_at, status_at};
 
 /// Whether the member has this number.
 pub(crate) fn has_pid(pid: u32, member: &Member) -> bool

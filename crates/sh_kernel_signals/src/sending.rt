@@ -9,9 +9,7 @@ use crate::groups::{has_pid, has_stopped, is_orphaned, is_stopped, member_at};
 use crate::member::Member;
 use crate::target::SignalTarget;
 use sh_base::NoMemory;
-use sh_kernel_descriptors::{
-    Process, ProcessList, Status, is_running, lives, parent_at, status_at,
-};
+use sh_kernel_processes::{Process, ProcessList, Status, is_running, lives, parent_at, status_at};
 use sh_signal::Signal;
 use std::alloc::Global;
 

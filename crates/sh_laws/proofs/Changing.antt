@@ -11,7 +11,7 @@ use Rattle.sh_laws.proofs.Unmade.{unmade_stay, unmade_stay_forking}
 use Rattle.sh_exec_machine.specs.Forking.{fork_of}
 use Rattle.sh_exec_shell.specs.Forks.{behind_fork_by, given_terminal, leader}
 use Rattle.sh_kernel_descriptors.specs.Machine.{MachineState}
-use Rattle.sh_kernel_descriptors.specs.Processes.{next_pid}
+use Rattle.sh_kernel_processes.specs.Processes.{next_pid}
 use Rattle.sh_kernel.specs.Calls.{after_set_group}
 use Rattle.sh_kernel.specs.Laws.{ChangesOnlyReached, OnlyGrows, ReachesNoMore, opens, sends}
 use Rattle.sh_kernel.specs.Requests.{Request, after_request}

@@ -7,7 +7,8 @@ use Rattle.sh_kernel_descriptors.specs.Descriptors.{description_number, is_named
 use Rattle.sh_kernel_descriptors.specs.Machine.{MachineState}
 use Rattle.sh_kernel_descriptors.specs.Naming.{aside_found, back_found, is_allowed, put_back, after_renaming, renamed_at, after_renumbering, with_number, with_pipe}
 use Rattle.sh_kernel_descriptors.specs.Outcomes.{success, refusal}
-use Rattle.sh_kernel_descriptors.specs.Processes.{copies, is_copied, lives, of_process}
+use Rattle.sh_kernel_descriptors.specs.Copies.{copies, is_copied, of_process}
+use Rattle.sh_kernel_processes.specs.Processes.{lives}
 use Rattle.sh_kernel_descriptors.specs.declared.descriptor.Closing.{Closing}
 use Rattle.sh_kernel_descriptors.specs.declared.descriptor.Closing.TheVariants.{Named}
 use Rattle.sh_kernel_descriptors.specs.declared.descriptor.Descriptor.{Descriptor}

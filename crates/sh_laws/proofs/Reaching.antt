@@ -1,7 +1,7 @@
 -- By making another one a process comes to reach no more.
 use Rattle.std.proofs.Common.{◌≡◌, ℕ, ◌<◌, ◌==◌, Bool, true, false, ◌++◌, length, Option, Some, None, refl, sym, arith, subst}
 use Rattle.sh_kernel_descriptors.specs.Machine.{MachineState}
-use Rattle.sh_kernel_descriptors.specs.Processes.{next_pid}
+use Rattle.sh_kernel_processes.specs.Processes.{next_pid}
 use Rattle.sh_kernel.specs.State.{KernelState}
 use Rattle.sh_kernel.specs.Laws.{ReachesNoMore}
 use Rattle.sh_kernel.specs.Reaching.{is_end, is_file, reaches}

@@ -7,12 +7,13 @@ use Rattle.sh_kernel_descriptors.specs.Machine as machine
 use Rattle.sh_kernel_descriptors.specs.Machine.{MachineState}
 use Rattle.sh_kernel_descriptors.specs.Naming.{close_found, dup_found, is_allowed, is_description, with_number}
 use Rattle.sh_kernel_descriptors.specs.Outcomes.{success, refusal}
-use Rattle.sh_kernel_descriptors.specs.Processes.{copies, has_ended, is_ended, is_living, lives, may_fork, next_pid, process_at}
+use Rattle.sh_kernel_descriptors.specs.Copies.{copies}
+use Rattle.sh_kernel_processes.specs.Processes.{has_ended, is_ended, is_living, lives, may_fork, next_pid, process_at}
 use Rattle.sh_kernel_descriptors.specs.declared.description.Description.{Description}
 use Rattle.sh_kernel_descriptors.specs.declared.descriptor.DescriptorRef.{DescriptorRef}
 use Rattle.sh_kernel_descriptors.specs.declared.descriptor.DescriptorRef.TheVariants.{Number}
 use Rattle.sh_kernel_descriptors.specs.declared.fault.KernelFault.TheVariants.{NoProcess, TooManyDescriptors, TooManyProcesses}
-use Rattle.sh_kernel_descriptors.specs.declared.process.Process.{Process}
+use Rattle.sh_kernel_processes.specs.declared.process.Process.{Process}
 use Rattle.sh_kernel.specs.State.{KernelState}
 use Rattle.sh_kernel.specs.Calls.{fork_call, with_new_process}
 use Rattle.sh_kernel.specs.Laws.{ChangesOnlyReached, IsOwned, OnlyGrows, ReachesNoMore, opens_any, sends_any}

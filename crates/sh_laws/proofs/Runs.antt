@@ -6,7 +6,7 @@ use Rattle.sh_exec.specs.Turns.{turn}
 use Rattle.sh_kernel.specs.Calls.{after_key}
 use Rattle.sh_kernel.specs.Requests.{Request, after_request}
 use Rattle.sh_kernel.specs.State.{KernelState}
-use Rattle.sh_kernel_descriptors.specs.Processes.{lives}
+use Rattle.sh_kernel_processes.specs.Processes.{lives}
 use Rattle.sh_stock.specs.Asking.{Meaning}
 use Rattle.sh_exec.specs.Choice.{choice}
 use Rattle.sh_exec.specs.State.{State, chosen_turn, run, runnables, step, turn_of, typed, with_key}

@@ -23,7 +23,7 @@ use Rattle.sh_exec.specs.Scripts.{place_by, script_place, unreadable}
 use Rattle.sh_exec.specs.State.{State, chosen_turn, run, runnables, start, step, turn_of, typed, with_key}
 use Rattle.sh_exec.specs.declared.event.Event.TheVariants as event
 use Rattle.sh_kernel.specs.Calls.{after_key}
-use Rattle.sh_kernel_descriptors.specs.Processes.{lives}
+use Rattle.sh_kernel_processes.specs.Processes.{lives}
 use Rattle.sh_exec.specs.Processes.{TasksTurned, behind, is_living, turn_among, turned_first, with_child}
 use Rattle.sh_exec.specs.declared.event.Event.{Event}
 use Rattle.sh_exec.specs.declared.settings.Settings.{Settings}

@@ -5,12 +5,13 @@ use Rattle.sh_kernel_descriptors.specs.Closings.{descriptors_left}
 use Rattle.sh_kernel_descriptors.specs.Machine.{MachineState, after_fork}
 use Rattle.sh_kernel_descriptors.specs.Naming.{with_number, with_pipe}
 use Rattle.sh_kernel_descriptors.specs.Opening.{for_reading, with_node}
-use Rattle.sh_kernel_descriptors.specs.Processes.{copies, is_copied, next_pid, of_process}
+use Rattle.sh_kernel_descriptors.specs.Copies.{copies, is_copied, of_process}
+use Rattle.sh_kernel_processes.specs.Processes.{next_pid}
 use Rattle.sh_kernel_descriptors.specs.Starting.{to_terminal}
 use Rattle.sh_kernel_descriptors.specs.declared.descriptor.Closing.TheVariants.{Named}
 use Rattle.sh_kernel_descriptors.specs.declared.descriptor.Descriptor.{Descriptor}
 use Rattle.sh_kernel_descriptors.specs.declared.descriptor.DescriptorRef.TheVariants.{Number, Aside}
-use Rattle.sh_kernel_descriptors.specs.declared.process.Process.{Process}
+use Rattle.sh_kernel_processes.specs.declared.process.Process.{Process}
 use Rattle.sh_kernel_signals.specs.Laws.{OnlyStatuses}
 use Rattle.sh_kernel_machine.specs.Signals.{with_processes}
 use Rattle.sh_kernel.specs.State.{KernelState, starting}

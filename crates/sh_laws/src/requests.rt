@@ -1,7 +1,7 @@
 //! Laws of requests.
 ghost use Rattle.std.specs.Prelude.{◌≡◌, ◌≢◌, ℕ, ◌<◌, Bool, true, false, List, length, Option};
 ghost use Rattle.sh_files.specs.Nodes.{FileMap};
-ghost use Rattle.sh_kernel_descriptors.specs.Processes.{next_pid};
+ghost use Rattle.sh_kernel_processes.specs.Processes.{next_pid};
 ghost use Rattle.sh_kernel.specs.State.{KernelState, starting};
 ghost use Rattle.sh_kernel.specs.Laws.{ChangesOnlyReached, IsOwned, OnlyGrows, ReachesNoMore};
 ghost use Rattle.sh_kernel_descriptors.specs.declared.descriptor.DescriptorRef.{DescriptorRef};

@@ -8,7 +8,7 @@ ghost use Rattle.sh_exec_shell.specs.Reduction.{shell_turn};
 ghost use Rattle.sh_files.specs.Nodes.{FileMap};
 ghost use Rattle.sh_laws.specs.BeforeAction.{ActedStands, AreBeforeActions, ChildStands, HaveActions, InterpreterStands, IsBeforeAction, MadeStands, TaskStands, TasksStand};
 ghost use Rattle.sh_laws.specs.Forking.{UnmadeReachNothing};
-ghost use Rattle.sh_kernel_descriptors.specs.Processes.{next_pid};
+ghost use Rattle.sh_kernel_processes.specs.Processes.{next_pid};
 ghost use Rattle.sh_kernel.specs.Laws.{OnlyGrows};
 ghost use Rattle.sh_kernel.specs.State.{KernelState};
 ghost use Rattle.sh_laws.specs.Requests.{ByRequests, ChangesByRequests, ComesByChanges, Shows, directory_of, number_of};

@@ -1,9 +1,9 @@
 -- The statuses of processes, one after the other.
 use Rattle.std.proofs.Common.{◌≡◌, ℕ, zero, suc, ◌+◌, ◌-◌, ◌<◌, ◌≤◌, List, [], ◌∷◌, ◌++◌, length, map, take, Some, None, slice_get, Bool, true, nat_le, refl, sym, ap, ◌∙◌, arith, if◌then◌else◌, take_all}
 use Rattle.std.specs.Option.{option_map}
-use Rattle.sh_kernel_descriptors.specs.Processes.{status_at}
-use Rattle.sh_kernel_descriptors.specs.declared.process.Process.{Process}
-use Rattle.sh_kernel_descriptors.specs.declared.process.Status.{Status}
+use Rattle.sh_kernel_processes.specs.Processes.{status_at}
+use Rattle.sh_kernel_processes.specs.declared.process.Process.{Process}
+use Rattle.sh_kernel_processes.specs.declared.process.Status.{Status}
 use Rattle.sh_schedules.specs.declared.outcome.Ending.{Ending}
 use Rattle.sh_schedules.specs.declared.outcome.Outcome.{Outcome}
 use Rattle.sh_schedules.specs.declared.outcome.Waiter.{Waiter}

@@ -1,8 +1,8 @@
 -- The shell machine as one whose processes take turns, and what its states show.
 use Rattle.std.specs.Prelude.{ℕ, List, [], ◌∷◌, map, take, Option, Some, None}
 use Rattle.sh_files.specs.Writing.{image_text}
-use Rattle.sh_kernel_descriptors.specs.declared.process.Process.{Process}
-use Rattle.sh_kernel_descriptors.specs.declared.process.Status.{Status}
+use Rattle.sh_kernel_processes.specs.declared.process.Process.{Process}
+use Rattle.sh_kernel_processes.specs.declared.process.Status.{Status}
 use Rattle.sh_stock.specs.Asking.{Meaning}
 use Rattle.sh_exec.specs.State.{State, ended_of, files_of, runnables, step, terminal_of}
 use Rattle.sh_exec.specs.Tasks.{pid_of}

@@ -1,7 +1,7 @@
 //! The processes that live: which of them can take a turn, and a turn of one.
 ghost use Rattle.std.specs.Prelude.{◌≡◌, ◌==◌, ◌++◌, ◌∷◌, [], IfOk, OnOk, find, option_map};
 ghost use Rattle.sh_kernel.specs.State.{KernelState, StandsAt};
-ghost use Rattle.sh_kernel_descriptors.specs.Processes.{lives};
+ghost use Rattle.sh_kernel_processes.specs.Processes.{lives};
 ghost use Rattle.sh_tty.specs.Terminal.{Extends};
 ghost use Rattle.sh_exec.specs.Actions.{action_of};
 ghost use Rattle.sh_exec.specs.Tasks.{pid_of};

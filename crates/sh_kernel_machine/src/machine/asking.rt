@@ -4,9 +4,11 @@ ghost use Rattle.std.specs.Prelude.{◌≡◌, ℕ, List, Some, length, option_c
 use super::Machine;
 use sh_files::Files;
 use sh_kernel_descriptors::{
-    Description, DescriptorRef, Entry, KernelFault, Process, Status, Target, all_children,
-    all_ended, is_of_terminal, is_running, parent_at, pipe_named, read_pipe_waits, status_at,
-    write_pipe_waits,
+    Description, DescriptorRef, Entry, KernelFault, Target, is_of_terminal, pipe_named,
+    read_pipe_waits, write_pipe_waits,
+};
+use sh_kernel_processes::{
+    Process, Status, all_children, all_ended, is_running, parent_at, status_at,
 };
 use sh_pipe::Pipe;
 use slab::Slab;
@@ -14,10 +16,11 @@ use slab::Slab;
 impl Machine {
     ghost use Rattle.sh_kernel_descriptors.specs.Kept.{IsCounted, description_at, pipe_at};
     ghost use Rattle.sh_kernel_descriptors.specs.Machine.{MachineState, wait_answer};
-    ghost use Rattle.sh_kernel_descriptors.specs.Processes.{parent_at, status_at};
+    ghost use Rattle.sh_kernel_processes.specs.Processes.{parent_at, status_at};
     ghost use Rattle.sh_kernel_descriptors.specs.Reading.{read_call, read_target};
     ghost use Rattle.sh_kernel_descriptors.specs.Terminals.{open_description, is_terminal, reads_terminal, writes_terminal};
-    ghost use Rattle.sh_kernel_descriptors.specs.Waiting.{is_running, waits};
+    ghost use Rattle.sh_kernel_descriptors.specs.Waiting.{waits};
+    ghost use Rattle.sh_kernel_processes.specs.Processes.{is_running};
     ghost use Rattle.sh_kernel_descriptors.specs.Writing.{write_call, write_target};
     ghost use Rattle.sh_kernel_machine.specs.Machine.{StandsAt};
 

@@ -2,7 +2,7 @@ use Rattle.std.proofs.Common.{ap, subst, sym, ◌∙◌, List}
 use Rattle.std.specs.Prelude.{◌≡◌, ◌++◌, true}
 use Rattle.sh_kernel_descriptors.specs.Counts as counts
 use Rattle.sh_kernel_descriptors.specs.Kept.{listed}
-use Rattle.sh_kernel_descriptors.specs.Processes as processes
+use Rattle.sh_kernel_descriptors.specs.Copies as fork_copies
 use Rattle.sh_kernel_descriptors.specs.declared.kept.Held.{Held}
 use Rattle.sh_kernel_machine.specs.Tables.{SameHeld, held_in, own}
 use Rattle.sh_kernel_machine.proofs.Tabling.{copied_listed, counted_by, forked_changes, linked_by}
@@ -23,7 +23,7 @@ returns-clause-listed c o =
     let copied = copied_listed (held_in c.args.tables.now.entries) c.args.pid c.args.child c.in_ok-copied.copied.items (c.in_ok-copied.ensures.copies o) in
     let mine = subst (λ (hs : List Held). own c.args.child (listed hs) ≡ listed hs) (sym c.as_slice.ensures.value) copied.1 in
     forked_changes c.args.child (held_in c.args.tables.now.entries) (held_in c.make_table.new.tables.entries) (held_in c.extend_in.new.tables.entries) (listed c.as_slice.result.now)
-    (processes.copies (own c.args.pid (listed (held_in c.args.tables.now.entries))) c.args.pid c.args.child) c.make_table.ensures.held
+    (fork_copies.copies (own c.args.pid (listed (held_in c.args.tables.now.entries))) c.args.pid c.args.child) c.make_table.ensures.held
     (ap (λ hs. listed hs) c.as_slice.ensures.value ∙ copied.0) (c.in_ok-extend_in.ensures.listed (c.make_table.ensures.own o) mine)
 
 pub returns-clause-counted : goal.returns-clause-counted

@@ -1,5 +1,5 @@
 use Rattle.std.proofs.Common.{ℕ, List, Option, ap, ◌∙◌}
-use Rattle.sh_kernel_descriptors.specs.declared.process.Status.{Status}
+use Rattle.sh_kernel_processes.specs.declared.process.Status.{Status}
 use Rattle.sh_exec.specs.State.{runnables}
 use Rattle.sh_schedules.specs.Shell.{ending_by}
 use Rattle.sh_schedules.proofs.look.ending.Goals as goal

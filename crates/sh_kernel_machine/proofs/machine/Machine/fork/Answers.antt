@@ -1,6 +1,6 @@
 use Rattle.std.proofs.Common.{◌∙◌, ◌++◌, ◌∷◌, [], ap, subst, sym}
-use Rattle.sh_kernel_descriptors.specs.Processes.{next_pid}
-use Rattle.sh_kernel_descriptors.specs.declared.process.Status.TheVariants.{Running}
+use Rattle.sh_kernel_processes.specs.Processes.{next_pid}
+use Rattle.sh_kernel_processes.specs.declared.process.Status.TheVariants.{Running}
 use Rattle.sh_kernel_machine.specs.Machine.{StandsAt}
 use Rattle.sh_kernel_machine.specs.Tables.{held_in}
 use Rattle.sh_kernel_machine.proofs.Standing.{forks}

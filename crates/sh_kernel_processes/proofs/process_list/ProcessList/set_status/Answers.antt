@@ -1,8 +1,8 @@
 use Rattle.std.proofs.Common.{◌∙◌, ap, arith, sym}
-use Rattle.sh_kernel_descriptors.specs.Living.{living_after}
-use Rattle.sh_kernel_descriptors.specs.Processes.{live_count, is_live, status_at}
-use Rattle.sh_kernel_descriptors.proofs.Counting.{changed}
-use Rattle.sh_kernel_descriptors.proofs.process_list.ProcessList.set_status.Goals as goal
+use Rattle.sh_kernel_processes.specs.Living.{living_after}
+use Rattle.sh_kernel_processes.specs.Processes.{live_count, is_live, status_at}
+use Rattle.sh_kernel_processes.proofs.Counting.{changed}
+use Rattle.sh_kernel_processes.proofs.process_list.ProcessList.set_status.Goals as goal
 
 pub invariant_of-self : goal.invariant_of-self
 invariant_of-self c =

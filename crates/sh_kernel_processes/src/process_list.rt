@@ -1,8 +1,7 @@
 //! All processes that ever were, and how many of them live.
 ghost use Rattle.std.specs.Prelude.{◌≡◌, ◌<◌, ◌++◌, ◌∷◌, [], ℕ, List, IfOk, OnOk};
-ghost use Rattle.sh_kernel_descriptors.specs.Living.{living_after};
-ghost use Rattle.sh_kernel_descriptors.specs.Processes as processes;
-ghost use Rattle.sh_kernel_descriptors.specs.Starting.{first_process};
+ghost use Rattle.sh_kernel_processes.specs.Living.{living_after};
+ghost use Rattle.sh_kernel_processes.specs.Processes as processes;
 
 use crate::process::{Process, Status};
 use crate::processes::{FIRST_PID, MAX_LIVE, MAX_PID, is_live, set_status, status_at};
@@ -19,8 +18,8 @@ pub struct ProcessList {
 
 impl Model for ProcessList {
     ghost use Rattle.std.specs.Prelude.{◌≡◌, ◌-◌, vec_capacity, vec_len};
-    ghost use Rattle.sh_kernel_descriptors.specs.Living.{ProcessesKept};
-    ghost use Rattle.sh_kernel_descriptors.specs.Processes.{live_count};
+    ghost use Rattle.sh_kernel_processes.specs.Living.{ProcessesKept};
+    ghost use Rattle.sh_kernel_processes.specs.Processes.{live_count};
 
     ghost Value = { ProcessesKept };
 
@@ -45,7 +44,7 @@ fn living_after(living: usize, before: bool, after: bool) -> usize
 impl ProcessList {
     /// The first process alone, which runs, and whose parent is 1. The only error is want of memory.
     pub fn new(alloc: Global) -> Result<Self, AllocError>
-        ensures { IfOk result (λ list. list.all ≡ first_process ∷ []) }
+        ensures { IfOk result (λ list. list.all ≡ processes.first_process ∷ []) }
     {
         let mut all = Vec::with_capacity(alloc, 1)?;
         all.push_reserved(Process {

@@ -1,11 +1,10 @@
 -- Processes (XSH fork, _exit, waitpid): their numbers go up from 100 by creation, and none is used again.
-use Rattle.std.specs.Prelude.{ℕ, ◌+◌, ◌-◌, ◌==◌, ◌&&◌, List, length, map, filter, Bool, true, false, not, Option, Some, None, is_some, if◌then◌else◌, nat_le, nat_lt, slice_get, slice_set}
+use Rattle.std.specs.Prelude.{ℕ, ◌+◌, ◌-◌, ◌==◌, ◌&&◌, List, length, filter, Bool, true, false, not, Option, Some, None, if◌then◌else◌, nat_le, nat_lt, slice_get, slice_set}
 use Rattle.std.specs.List.{list_all}
 use Rattle.std.specs.Option.{option_map, option_map_or}
-use Rattle.sh_kernel_descriptors.specs.declared.descriptor.Descriptor.{Descriptor}
-use Rattle.sh_kernel_descriptors.specs.declared.process.Process.{Process}
-use Rattle.sh_kernel_descriptors.specs.declared.process.Status.{Status}
-use Rattle.sh_kernel_descriptors.specs.declared.process.Status.TheVariants.{Running, Stopped, Exited, Signaled}
+use Rattle.sh_kernel_processes.specs.declared.process.Process.{Process}
+use Rattle.sh_kernel_processes.specs.declared.process.Status.{Status}
+use Rattle.sh_kernel_processes.specs.declared.process.Status.TheVariants.{Running, Stopped, Exited, Signaled}
 
 -- the process of this number, of all that ever were
 abbrev pub process_at : List Process → ℕ → Option Process
@@ -52,18 +51,6 @@ with_status_of ps pid status (Some p) = slice_set ps (pid - 100) (record p { sta
 abbrev pub with_status : List Process → ℕ → Status → List Process
 with_status ps pid status = with_status_of ps pid status (process_at ps pid)
 
--- ---- what a fork copies
-abbrev pub is_copied : ℕ → Descriptor → Bool
-is_copied pid d = (d.pid == pid) && is_some d.number
-
--- the descriptor, as one of another process; both refer to the same description
-abbrev pub of_process : ℕ → Descriptor → Descriptor
-of_process pid d = record d { pid = pid }
-
--- a process's descriptors, but for those that are set aside, as descriptors of another process
-abbrev pub copies : List Descriptor → ℕ → ℕ → List Descriptor
-copies ds pid child = map (of_process child) (filter (is_copied pid) ds)
-
 -- ---- what a process may wait for
 abbrev pub is_child_of : ℕ → Option Process → Bool
 is_child_of pid None = false
@@ -84,3 +71,15 @@ all_children ps pid awaited = list_all (is_child ps pid) awaited
 
 abbrev pub all_ended : List Process → List ℕ → Bool
 all_ended ps awaited = list_all (has_ended ps) awaited
+
+-- neither stopped nor ended
+abbrev pub is_running : Option Status → Bool
+is_running None = false
+is_running (Some Running) = true
+is_running (Some (Stopped signal)) = false
+is_running (Some (Exited status)) = false
+is_running (Some (Signaled signal)) = false
+
+-- ---- the first process is 100, and 1 is its parent, of which nothing is known here
+abbrev pub first_process : Process
+first_process = record { maker = 1; status = Running }

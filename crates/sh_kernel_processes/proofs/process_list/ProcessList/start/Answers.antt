@@ -1,7 +1,7 @@
 use Rattle.std.proofs.Common.{◌∙◌, ap, arith}
-use Rattle.sh_kernel_descriptors.specs.Processes.{live_count}
-use Rattle.sh_kernel_descriptors.proofs.Counting.{one_more, within}
-use Rattle.sh_kernel_descriptors.proofs.process_list.ProcessList.start.Goals as goal
+use Rattle.sh_kernel_processes.specs.Processes.{live_count}
+use Rattle.sh_kernel_processes.proofs.Counting.{one_more, within}
+use Rattle.sh_kernel_processes.proofs.process_list.ProcessList.start.Goals as goal
 
 pub invariant_of-self : goal.invariant_of-self
 invariant_of-self c =

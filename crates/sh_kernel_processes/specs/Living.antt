@@ -1,6 +1,6 @@
 -- How many processes live is counted as they come and end.
 use Rattle.std.specs.Prelude.{ℕ, ◌+◌, ◌-◌, List, min, Bool, true, false}
-use Rattle.sh_kernel_descriptors.specs.declared.process.Process.{Process}
+use Rattle.sh_kernel_processes.specs.declared.process.Process.{Process}
 
 -- all processes that ever were, and how many more can be kept without more memory
 pub record ProcessesKept : Type 0 where

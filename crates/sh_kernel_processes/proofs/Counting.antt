@@ -1,11 +1,11 @@
 -- How many processes live, as they come and end.
 use Rattle.std.proofs.Common.{◌≡◌, ℕ, zero, suc, ◌+◌, ◌-◌, ◌<◌, ◌≤◌, List, [], ◌∷◌, ◌++◌, length, filter, Bool, true, false, cond, Option, Some, None, nat_le, slice_get, slice_set, refl, ap, arith}
 use Rattle.std.specs.Option.{option_map}
-use Rattle.sh_kernel_descriptors.specs.Living.{living_after}
-use Rattle.sh_kernel_descriptors.specs.Processes.{is_live, is_living, live_count, process_at, status_at, with_status, with_status_of}
-use Rattle.sh_kernel_descriptors.specs.declared.process.Process.{Process}
-use Rattle.sh_kernel_descriptors.specs.declared.process.Status.{Status}
-use Rattle.sh_kernel_descriptors.specs.declared.process.Status.TheVariants.{Running}
+use Rattle.sh_kernel_processes.specs.Living.{living_after}
+use Rattle.sh_kernel_processes.specs.Processes.{is_live, is_living, live_count, process_at, status_at, with_status, with_status_of}
+use Rattle.sh_kernel_processes.specs.declared.process.Process.{Process}
+use Rattle.sh_kernel_processes.specs.declared.process.Status.{Status}
+use Rattle.sh_kernel_processes.specs.declared.process.Status.TheVariants.{Running}
 
 abbrev pub one : Bool → ℕ
 one true = 1
