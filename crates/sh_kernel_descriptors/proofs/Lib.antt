@@ -5,7 +5,7 @@ pub mod Giving
 pub mod Renaming
 pub mod Coming
 pub mod Piping
-pub mod Copying
+pub mod ForkCopies
 pub mod Moving
 pub mod Slots
 pub mod Finding

@@ -23,7 +23,7 @@ use Rattle.sh_kernel_descriptors.specs.declared.descriptor.Closing.TheVariants.{
 use Rattle.sh_kernel_descriptors.specs.declared.descriptor.DescriptorRef.TheVariants.{Number}
 use Rattle.sh_kernel_descriptors.specs.Counts.{ends_pipes}
 use Rattle.sh_kernel_descriptors.specs.Copies as fork_copies
-use Rattle.sh_kernel_descriptors.proofs.Copying.{copies_listed}
+use Rattle.sh_kernel_descriptors.proofs.ForkCopies.{copies_listed}
 use Rattle.sh_kernel_descriptors.specs.declared.descriptor.Descriptor.{Descriptor}
 use Rattle.std.specs.Prelude.{OnErr, OnOk, is_ok, is_some}
 use Rattle.sh_kernel_descriptors.specs.declared.description.Description.{Description}

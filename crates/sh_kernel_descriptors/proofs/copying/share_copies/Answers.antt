@@ -1,6 +1,6 @@
-use Rattle.sh_kernel_descriptors.proofs.Copying.{counted_copied, linked_copied}
+use Rattle.sh_kernel_descriptors.proofs.ForkCopies.{counted_copied, linked_copied}
 use Rattle.sh_kernel_descriptors.proofs.Pairs.{paired_copied}
-use Rattle.sh_kernel_descriptors.proofs.processes.share_copies.Goals as goal
+use Rattle.sh_kernel_descriptors.proofs.copying.share_copies.Goals as goal
 
 pub returns-clause-counted : goal.returns-clause-counted
 returns-clause-counted c all hs pid child e room within n = counted_copied all hs c.args.copied.now pid child c.args.entries.now c.share_each.new.entries e room within c.share_each.ensures n
