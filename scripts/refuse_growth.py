@@ -77,6 +77,8 @@ ROWS = [
     ("trap 'echo t' USR1; while :; do :; done & (kill -s USR1 $$) & wait %7 %1 2>f; echo $?; f() { : & wait %?:; jobs; }; f; (: & : & jobs -p %+); kill %1 %2", 120),
     ("set -m; ! { kill -s STOP 0; echo a; } | cat; echo $?; jobs -l; kill -s CONT %1; wait %1; echo $?; f() (kill -s STOP 0; exit 3); f 2>f; echo $?; kill -s CONT %1; wait %1; echo $?; cat <f", 120),
     ("set -m; cat & (trap '' TTIN; cat) & wait $!; echo $?; jobs; kill %1; kill -s CONT %1; wait %1; echo $?; x=$(cat <in) cat </none; yes | head -n 1", 100),
+    ("set -m; { kill -s STOP 0; echo a; } | cat; fg; echo $?; f() (kill -s STOP 0; kill -s STOP 0; exit 3); f 3>g; fg %f >&-; echo $?; fg; echo $?; fg %1 2>f; wait %1; cat <f", 80),
+    ("set -m; (kill -s STOP 0; exit 3); ! { kill -s STOP 0; echo a; } | cat; bg %9 %1 %2 %?x; jobs; wait %1; echo $?; wait %2; echo $?; (kill -s STOP 0; exit 4) 2>f; bg %7 %1 >&-; wait %1; echo $?; bg 2>f; cat <f", 80),
 ]
 
 # scripts of the image that the shell runs, and their turns

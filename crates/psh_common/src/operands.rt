@@ -1,7 +1,7 @@
 //! The options and operands that say which script is run.
 use crate::fault::{UsageFault, fault_of, usage};
 use crate::text::bytes_of;
-use clap::{Arg, ArgMatches, Command};
+use clap::{Arg, ArgAction, ArgMatches, Command};
 use std::alloc::{AllocError, Global};
 
 /// The option `-c TEXT` with the commands to run; its id is `text`.
@@ -20,6 +20,14 @@ pub fn letters_option<'a>(alloc: Global) -> Arg<'a> {
         .value_name("LETTERS")
         .help("The options of `set` that are on from the start: letters of aCefu")
         .allow_hyphen_values(true)
+}
+
+/// The option `-m`, by which the shell has job control from the start (XCU sh, 2.11); its id is `monitor`.
+pub fn monitor_option<'a>(alloc: Global) -> Arg<'a> {
+    Arg::new(alloc, "monitor")
+        .short('m')
+        .action(ArgAction::SetTrue)
+        .help("Job control from the start, as by `set -m`")
 }
 
 /// A required operand that names a file, with its id, the word that help shows and what it is.

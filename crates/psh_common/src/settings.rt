@@ -58,8 +58,8 @@ fn started(
     })
 }
 
-/// How the shell is started that the words ask for, which clap found by the options `text` and `letters` and the operands `words`. The error is
-/// `bad letters`, or want of memory.
+/// How the shell is started that the words ask for, which clap found by the options `text`, `letters` and `monitor` and the operands `words`.
+/// The error is `bad letters`, or want of memory.
 pub fn settings_of(
     alloc: Global,
     program: &str,
@@ -68,6 +68,7 @@ pub fn settings_of(
     let Some(options) = options_of(matches.get_str("letters").unwrap_or("")) else {
         return Err(usage(alloc, program, "bad letters"));
     };
+    let options = options.switched(ShellOption::Monitor, matches.get_flag("monitor"));
     let words = matches.get_strs("words").unwrap_or(&[]);
     let settings = started(alloc, matches.get_str("text"), words, options)?;
     Ok(settings)

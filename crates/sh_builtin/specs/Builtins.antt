@@ -3,7 +3,7 @@ use Rattle.std.specs.Prelude.{ℕ, List, [], ◌∷◌, Bool, true, false, Optio
 use Rattle.std.specs.List.{find}
 use Rattle.std.specs.Str.{bytes_eq}
 use Rattle.sh_builtin.specs.declared.builtin.Builtin.{Builtin}
-use Rattle.sh_builtin.specs.declared.builtin.Builtin.TheVariants.{Bracket, Break, Cd, Colon, Command, Continue, Dot, Echo, Eval, Exec, Exit, Export, False, Jobs, Kill, Pwd, Read, ReadOnly, Return, Set, Shift, Test, Trap, True, Unset, Wait}
+use Rattle.sh_builtin.specs.declared.builtin.Builtin.TheVariants.{Bg, Bracket, Break, Cd, Colon, Command, Continue, Dot, Echo, Eval, Exec, Exit, Export, False, Fg, Jobs, Kill, Pwd, Read, ReadOnly, Return, Set, Shift, Test, Trap, True, Unset, Wait}
 use Rattle.sh_builtin.specs.declared.builtin.Row.{Row}
 
 -- a row of the table: a name, and whether the built-in is special (2.15): then an error in it ends a shell that
@@ -20,6 +20,7 @@ regular name = record { name = name; is_special = false }
 
 -- ---- the table
 abbrev pub row_of : Builtin → Named
+row_of Bg = regular (codes "bg")
 row_of Bracket = regular (codes "[")
 row_of Break = special (codes "break")
 row_of Cd = regular (codes "cd")
@@ -33,6 +34,7 @@ row_of Exec = special (codes "exec")
 row_of Exit = special (codes "exit")
 row_of Export = special (codes "export")
 row_of False = regular (codes "false")
+row_of Fg = regular (codes "fg")
 row_of Jobs = regular (codes "jobs")
 row_of Kill = regular (codes "kill")
 row_of Pwd = regular (codes "pwd")
@@ -49,7 +51,7 @@ row_of Wait = regular (codes "wait")
 
 abbrev pub builtins : List Builtin
 builtins =
-    Bracket ∷ Break ∷ Cd ∷ Colon ∷ Command ∷ Continue ∷ Dot ∷ Echo ∷ Eval ∷ Exec ∷ Exit ∷ Export ∷ False ∷ Jobs ∷ Kill ∷ Pwd ∷ Read ∷ ReadOnly ∷ Return ∷ Set ∷ Shift ∷ Test ∷ Trap ∷ True ∷ Unset ∷ Wait ∷ []
+    Bg ∷ Bracket ∷ Break ∷ Cd ∷ Colon ∷ Command ∷ Continue ∷ Dot ∷ Echo ∷ Eval ∷ Exec ∷ Exit ∷ Export ∷ False ∷ Fg ∷ Jobs ∷ Kill ∷ Pwd ∷ Read ∷ ReadOnly ∷ Return ∷ Set ∷ Shift ∷ Test ∷ Trap ∷ True ∷ Unset ∷ Wait ∷ []
 
 -- ---- what is read from it
 abbrev pub name_of : Builtin → List ℕ

@@ -6,7 +6,7 @@ use Rattle.sh_builtin.specs.Running.{BuiltIn, built_in, with_outcome}
 use Rattle.sh_builtin.specs.declared.builtin.Builtin.{Builtin}
 use Rattle.sh_builtin.specs.declared.invocation.Invocation.{Invocation}
 use Rattle.sh_builtin.specs.declared.outcome.Completion.{Completion}
-use Rattle.sh_builtin.specs.declared.outcome.Completion.TheVariants.{Done, Kills, Left, Runs, Reads, Waits}
+use Rattle.sh_builtin.specs.declared.outcome.Completion.TheVariants.{Continues, Done, Kills, Left, Runs, Reads, Waits}
 use Rattle.sh_builtin.specs.declared.outcome.Leave.{Leave}
 use Rattle.sh_builtin.specs.declared.outcome.Leave.TheVariants as leave
 use Rattle.sh_builtin.specs.declared.outcome.Outcome.{Outcome}
@@ -34,6 +34,7 @@ regular_completion (Runs how text) = Runs (record how { is_special = false }) te
 regular_completion (Reads reader) = Reads reader
 regular_completion (Waits awaited) = Waits awaited
 regular_completion (Kills ask) = Kills ask
+regular_completion (Continues continuation) = Continues continuation
 
 abbrev pub outcome_as : (is_special : Bool) → Outcome → Outcome
 outcome_as true outcome = outcome

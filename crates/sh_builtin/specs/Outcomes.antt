@@ -4,7 +4,8 @@ use Rattle.sh_builtin.specs.Builtins.{is_special, name_of}
 use Rattle.sh_builtin.specs.Messages.{fault_text, line_of, status_of}
 use Rattle.sh_builtin.specs.declared.builtin.Builtin.{Builtin}
 use Rattle.sh_builtin.specs.declared.outcome.Completion.{Completion}
-use Rattle.sh_builtin.specs.declared.outcome.Completion.TheVariants.{Done, Kills, Left, Reads, Runs, Waits}
+use Rattle.sh_builtin.specs.declared.outcome.Completion.TheVariants.{Continues, Done, Kills, Left, Reads, Runs, Waits}
+use Rattle.sh_builtin.specs.declared.outcome.Continuation.{Continuation}
 use Rattle.sh_builtin.specs.declared.outcome.Leave.{Leave}
 use Rattle.sh_builtin.specs.declared.outcome.Leave.TheVariants as leave
 use Rattle.sh_builtin.specs.declared.outcome.Outcome.{Outcome}
@@ -50,6 +51,13 @@ waiting awaited = outcome [] [] (Waits awaited)
 
 abbrev pub killing : KillAsk → Outcome
 killing ask = outcome [] [] (Kills ask)
+
+abbrev pub continuing : List ℕ → Continuation → Outcome
+continuing out continuation = outcome out [] (Continues continuation)
+
+-- a line in place of what it was to do, with the status 2
+abbrev pub refused_with : List ℕ → Outcome
+refused_with line = saying [] (line ∷ []) 2
 
 -- the status of a shell that is left so; break and continue leave no shell
 abbrev pub shell_status : Leave → ℕ

@@ -4,9 +4,10 @@ use Rattle.std.specs.List.{join_with_byte}
 use Rattle.sh_builtin.specs.Commands.{command_outcome}
 use Rattle.sh_builtin_shell.specs.Functions.{unset_by}
 use Rattle.sh_builtin.specs.Loops.{leave_with, loop_with, operands_of}
-use Rattle.sh_builtin.specs.Outcomes.{done, misuse, killing, outcome_of, output, reading, refusal, running, saying, waiting, with_signals}
+use Rattle.sh_builtin.specs.Outcomes.{continuing, done, misuse, killing, outcome_of, output, reading, refusal, refused_with, running, saying, waiting, with_signals}
 use Rattle.sh_builtin.specs.declared.builtin.Builtin.{Builtin}
-use Rattle.sh_builtin.specs.declared.builtin.Builtin.TheVariants.{Bracket, Break, Cd, Colon, Command, Continue, Dot, Echo, Eval, Exec, Exit, Export, False, Jobs, Kill, Pwd, Read, ReadOnly, Return, Set, Shift, Test, Trap, True, Unset, Wait}
+use Rattle.sh_builtin.specs.declared.builtin.Builtin.TheVariants.{Bg, Bracket, Break, Cd, Colon, Command, Continue, Dot, Echo, Eval, Exec, Exit, Export, False, Fg, Jobs, Kill, Pwd, Read, ReadOnly, Return, Set, Shift, Test, Trap, True, Unset, Wait}
+use Rattle.sh_builtin.specs.declared.outcome.Continuation.TheVariants.{Background, Foreground}
 use Rattle.sh_builtin.specs.declared.outcome.Leave.TheVariants as leave
 use Rattle.sh_builtin.specs.declared.outcome.Outcome.{Outcome}
 use Rattle.sh_builtin.specs.declared.outcome.TextOrigin.TheVariants as origin
@@ -22,12 +23,16 @@ use Rattle.sh_builtin_environment.specs.Unsetting.{functions_to_unset, unset_ran
 use Rattle.sh_builtin_environment.specs.declared.attribute.Attribute.TheVariants as attribute
 use Rattle.sh_builtin_environment.specs.declared.outcome.BuiltinFault.{BuiltinFault}
 use Rattle.sh_builtin_environment.specs.declared.outcome.BuiltinFault.TheVariants as fault
+use Rattle.sh_builtin_jobs.specs.Continuing.{bg_of, fg_of}
 use Rattle.sh_builtin_jobs.specs.KillRuns.{kill_start}
 use Rattle.sh_builtin_jobs.specs.KillWords.{kill_of}
 use Rattle.sh_builtin_jobs.specs.Listing.{after_listing, job_lines, jobs_listed, jobs_of}
 use Rattle.sh_builtin_jobs.specs.SignalWords.{signal_line, signal_lines}
 use Rattle.sh_builtin_jobs.specs.declared.command.KillCommand.{KillCommand}
 use Rattle.sh_builtin_jobs.specs.declared.command.KillCommand.TheVariants as command
+use Rattle.sh_builtin_jobs.specs.declared.continuing.BackgroundJobs.{BackgroundJobs}
+use Rattle.sh_builtin_jobs.specs.declared.continuing.ContinuedJob.{ContinuedJob}
+use Rattle.sh_builtin_jobs.specs.declared.continuing.ForegroundJob.{ForegroundJob}
 use Rattle.sh_builtin_jobs.specs.declared.listing.JobsCommand.{JobsCommand}
 use Rattle.sh_builtin_jobs.specs.declared.listing.JobsNamed.{JobsNamed}
 use Rattle.sh_builtin_jobs.specs.declared.run.KillStep.{KillStep}
@@ -120,6 +125,28 @@ abbrev pub jobs_ran : KernelState → Shell → Result JobsCommand BuiltinFault 
 jobs_ran s shell (Ok command) = listed s shell command (jobs_listed s.machine.processes shell.jobs command.ids)
 jobs_ran s shell (Err why) = with_outcome shell (refusal Jobs why)
 
+-- ---- bg writes a line for each job that its operands name, and then these go on; where they name none nothing does (XCU bg)
+abbrev pub background_by : BackgroundJobs → (jobs : List ContinuedJob) → Outcome
+background_by background [] = saying background.out background.messages background.status
+background_by background (job ∷ jobs) = continuing background.out (Background (job ∷ jobs) background.messages background.status)
+
+abbrev pub background_outcome : Result BackgroundJobs (List ℕ) → Outcome
+background_outcome (Ok background) = background_by background background.continued
+background_outcome (Err line) = refused_with line
+
+abbrev pub bg_ran : KernelState → Shell → List (List ℕ) → BuiltIn
+bg_ran s shell arguments =
+    with_outcome shell (background_outcome (bg_of (has_job_control shell) s.machine.processes shell.jobs arguments))
+
+-- ---- fg writes the text of the job that its operand names, and then that goes on (XCU fg)
+abbrev pub foreground_outcome : Result ForegroundJob (List ℕ) → Outcome
+foreground_outcome (Ok job) = continuing job.out (Foreground job.continued)
+foreground_outcome (Err line) = refused_with line
+
+abbrev pub fg_ran : KernelState → Shell → List (List ℕ) → BuiltIn
+fg_ran s shell arguments =
+    with_outcome shell (foreground_outcome (fg_of (has_job_control shell) s.machine.processes shell.jobs arguments))
+
 -- ---- wait waits for what its operands name, or for all processes that the shell knows
 abbrev pub wait_step : WaitStep → Outcome
 wait_step (step.Over report) = saying [] report.messages report.status
@@ -187,6 +214,7 @@ bracket_outcome machine shell (Some operands) = test_outcome machine shell Brack
 -- ---- a built-in with its arguments, in a shell's process on this machine; `last` is the status with which exit and return leave where
 -- they have no operand; exec comes here with wrong options alone, and command where it runs no other command
 unfoldable pub built_in : KernelState → Shell → (last : ℕ) → Builtin → List (List ℕ) → BuiltIn
+built_in s shell last Bg arguments = bg_ran s (up_to_date s shell) arguments
 built_in s shell last Bracket arguments = with_outcome shell (bracket_outcome s.machine shell (bracket_operands arguments))
 built_in s shell last Break arguments = with_outcome shell (loop_with Break leave.Break (operands_of arguments))
 built_in s shell last Cd arguments = ran Cd shell (cd_ran s.machine.files shell.vars arguments)
@@ -200,6 +228,7 @@ built_in s shell last Exec arguments = with_outcome shell (misuse Exec)
 built_in s shell last Exit arguments = with_outcome shell (leave_with Exit leave.Exit last (operands_of arguments))
 built_in s shell last Export arguments = ran Export shell (mark_ran attribute.Export shell.vars arguments)
 built_in s shell last False arguments = with_outcome shell (done 1)
+built_in s shell last Fg arguments = fg_ran s (up_to_date s shell) arguments
 built_in s shell last Jobs arguments = jobs_ran s (up_to_date s shell) (jobs_of arguments)
 built_in s shell last Kill arguments = kill_ran s (up_to_date s shell) arguments
 built_in s shell last Pwd arguments = with_outcome shell (outcome_of Pwd (pwd_outcome shell.vars arguments))

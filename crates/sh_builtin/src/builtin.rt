@@ -6,6 +6,7 @@ ghost use Rattle.sh_builtin.specs.Running.{built_in, echo_outcome, eval_outcome,
 ghost use Rattle.sh_kernel.specs.State.{KernelState, StandsAt};
 
 use crate::command::command;
+use crate::continuing::{bg, fg};
 use crate::dot::dot;
 use crate::jobs::jobs;
 use crate::killing::kill;
@@ -26,6 +27,7 @@ use std::alloc::Global;
 /// A built-in utility.
 #[derive(Clone, Copy, Debug, PartialEq, Eq)]
 pub enum Builtin {
+    Bg,
     /// `[`
     Bracket,
     Break,
@@ -42,6 +44,7 @@ pub enum Builtin {
     Exit,
     Export,
     False,
+    Fg,
     Jobs,
     Kill,
     Pwd,
@@ -87,7 +90,8 @@ impl Row {
 }
 
 /// All of them.
-const BUILTINS: [Builtin; 26] = [
+const BUILTINS: [Builtin; 28] = [
+    Builtin::Bg,
     Builtin::Bracket,
     Builtin::Break,
     Builtin::Cd,
@@ -101,6 +105,7 @@ const BUILTINS: [Builtin; 26] = [
     Builtin::Exit,
     Builtin::Export,
     Builtin::False,
+    Builtin::Fg,
     Builtin::Jobs,
     Builtin::Kill,
     Builtin::Pwd,
@@ -122,6 +127,7 @@ impl Builtin {
         ensures { row_seen result ≡ row_of self }
     {
         match self {
+            Builtin::Bg => Row::regular(b"bg"),
             Builtin::Bracket => Row::regular(b"["),
             Builtin::Break => Row::special(b"break"),
             Builtin::Cd => Row::regular(b"cd"),
@@ -135,6 +141,7 @@ impl Builtin {
             Builtin::Exit => Row::special(b"exit"),
             Builtin::Export => Row::special(b"export"),
             Builtin::False => Row::regular(b"false"),
+            Builtin::Fg => Row::regular(b"fg"),
             Builtin::Jobs => Row::regular(b"jobs"),
             Builtin::Kill => Row::regular(b"kill"),
             Builtin::Pwd => Row::regular(b"pwd"),
@@ -200,6 +207,7 @@ impl Builtin {
             with_outcome shell.new outcome ≡ built_in s shell.old last self arguments.now) }
     {
         match self {
+            Builtin::Bg => bg(alloc, kernel, shell, arguments),
             Builtin::Bracket => bracket(alloc, kernel, shell, arguments),
             Builtin::Break => break_with(alloc, operands_of(arguments)),
             Builtin::Cd => {
@@ -219,6 +227,7 @@ impl Builtin {
                 Outcome::of(alloc, Builtin::Export, answer)
             },
             Builtin::False => Ok(Outcome::done(alloc, 1)),
+            Builtin::Fg => fg(alloc, kernel, shell, arguments),
             Builtin::Jobs => jobs(alloc, kernel, shell, arguments),
             Builtin::Kill => kill(alloc, kernel, shell, arguments),
             Builtin::Pwd => {

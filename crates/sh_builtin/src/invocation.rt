@@ -49,6 +49,7 @@ fn regular_completion(completion: Completion) -> Completion
         Completion::Reads(reader) => Completion::Reads(reader),
         Completion::Waits(awaited) => Completion::Waits(awaited),
         Completion::Kills(ask) => Completion::Kills(ask),
+        Completion::Continues(continuation) => Completion::Continues(continuation),
     }
 }
 

@@ -3,6 +3,7 @@
 
 mod builtin;
 mod command;
+mod continuing;
 mod dot;
 mod invocation;
 mod jobs;
@@ -18,4 +19,4 @@ pub use builtin::Builtin;
 pub use command::behind_command;
 pub use invocation::Invocation;
 pub use killing::job_control;
-pub use outcome::{Completion, Leave, Outcome, TextOrigin, TextRun};
+pub use outcome::{Completion, Continuation, Leave, Outcome, TextOrigin, TextRun};

@@ -1,13 +1,13 @@
 //! What built-ins come to.
 ghost use Rattle.std.specs.Prelude.{◌≡◌, IfOk};
-ghost use Rattle.sh_builtin.specs.Outcomes.{done, failure, killing, left, misuse, output, outcome_of, reading, refusal, running, saying, shell_status, waiting, with_signals};
+ghost use Rattle.sh_builtin.specs.Outcomes.{continuing, done, failure, killing, left, misuse, output, outcome_of, reading, refusal, refused_with, running, saying, shell_status, waiting, with_signals};
 
 use crate::builtin::Builtin;
 use crate::message::{fault_line, status_of};
 use sh_base::NoMemory;
 use sh_base::sequence::{Sequence, Text};
 use sh_builtin_environment::BuiltinFault;
-use sh_builtin_jobs::KillAsk;
+use sh_builtin_jobs::{ContinuedJob, KillAsk};
 use sh_builtin_regular::LineReader;
 use sh_builtin_wait::Awaited;
 use sh_kernel_signals::SignalSet;
@@ -61,6 +61,19 @@ pub struct TextRun {
     pub is_special: bool,
 }
 
+/// The jobs that `bg` or `fg` continues: each of them is sent CONT in a turn of its own, once their text was written (XCU bg, fg).
+#[derive(Debug, Drop)]
+pub enum Continuation {
+    /// `bg`: these jobs go on in the background. Then these messages are written, each whole, and this is the status.
+    Background {
+        jobs: Sequence<ContinuedJob>,
+        messages: Sequence<Text>,
+        status: u8,
+    },
+    /// `fg`: this job goes on in the foreground. Then the shell waits for it.
+    Foreground(ContinuedJob),
+}
+
 /// How a built-in ends.
 #[derive(Debug, Drop)]
 pub enum Completion {
@@ -76,6 +89,8 @@ pub enum Completion {
     Waits(Awaited),
     /// A signal is sent first, to what each operand names (XCU kill).
     Kills(KillAsk),
+    /// Jobs go on first (XCU bg, fg).
+    Continues(Continuation),
 }
 
 /// What a built-in comes to, beside what it changes of the shell. In this order it sets what the process does with `signals`,
@@ -193,6 +208,27 @@ impl Outcome {
             err: Sequence::new(alloc),
             status: Completion::Kills(ask),
         }
+    }
+
+    /// Writes the texts of jobs, and has these continued.
+    pub(crate) fn continuing(alloc: Global, out: Text, continuation: Continuation) -> Outcome
+        ensures { result ≡ continuing out continuation }
+    {
+        Outcome {
+            signals: SignalSet::new(),
+            out,
+            err: Sequence::new(alloc),
+            status: Completion::Continues(continuation),
+        }
+    }
+
+    /// Writes a line in place of what it was to do.
+    pub(crate) fn refused_with(alloc: Global, line: Text) -> Result<Outcome, NoMemory>
+        ensures { IfOk result (λ outcome. outcome ≡ refused_with line) }
+    {
+        let mut err = Sequence::new(alloc);
+        err.push(line)?;
+        Ok(Outcome::saying(Sequence::new(alloc), err, 2))
     }
 
     /// The same, and the traps of these signals were set.

@@ -73,7 +73,21 @@ without_process shell pid = record shell { known = all_but pid shell.known; back
 abbrev pub all_but_those : (pids : List ℕ) → List ℕ → List ℕ
 all_but_those pids known = filter (λ process. not (list_any (λ pid. process == pid) pids)) known
 
--- a job goes with its processes
+-- ---- a job goes on in the background (XCU bg): its processes are known as if it had been started as an asynchronous list
+abbrev pub in_background : Shell → (pids : List ℕ) → Shell
+in_background shell pids = record shell {
+  known = all_but_those pids shell.known ++ pids;
+  background = all_but_those pids shell.background ++ pids;
+}
+
+-- ---- a job goes on in the foreground (XCU fg): its processes aren't known any more
+abbrev pub in_foreground : Shell → (pids : List ℕ) → Shell
+in_foreground shell pids = record shell {
+  known = all_but_those pids shell.known;
+  background = all_but_those pids shell.background;
+}
+
+-- ---- a job goes with its processes
 abbrev pub without_job : Shell → (number : ℕ) → (pids : List ℕ) → Shell
 without_job shell number pids = record shell {
   known = all_but_those pids shell.known;

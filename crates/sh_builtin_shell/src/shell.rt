@@ -1,7 +1,7 @@
 //! Shells.
 ghost use Rattle.std.specs.Prelude.{◌≡◌, ◌==◌, IfOk, OnErr, OnOk};
 ghost use Rattle.std.specs.List.{list_any};
-ghost use Rattle.sh_builtin_shell.specs.Shells.{after_launch, after_suspension, all_but, all_but_those, forked_shell, group_by, has_job_control, job_group, last_of, own_group, up_to_date, with_last, without_background, without_job, without_process};
+ghost use Rattle.sh_builtin_shell.specs.Shells.{after_launch, after_suspension, all_but, all_but_those, forked_shell, group_by, has_job_control, in_background, in_foreground, job_group, last_of, own_group, up_to_date, with_last, without_background, without_job, without_process};
 ghost use Rattle.sh_builtin_shell.specs.declared.shell.Shell.{Shell};
 ghost use Rattle.sh_jobs.specs.Table.{free_number};
 ghost use Rattle.sh_kernel.specs.State.{KernelState, StandsAt};
@@ -273,6 +273,26 @@ impl Shell {
         forget_each(alloc, &mut self.known, pids);
         forget_each(alloc, &mut self.background, pids);
         self.jobs.remove(number);
+    }
+
+    /// A job of these processes goes on in the foreground: the shell doesn't know them any more (XCU fg). Takes no memory.
+    pub fn bring_to_foreground(&mut self, pids: &[u32])
+        ensures { self.new ≡ in_foreground self.old pids.now }
+    {
+        let alloc = self.functions.allocator();
+        forget_each(alloc, &mut self.known, pids);
+        forget_each(alloc, &mut self.background, pids);
+    }
+
+    /// A job of these processes goes on in the background: the shell knows them as those of an asynchronous list (XCU bg). The only error is want
+    /// of memory; what the shell knows then is left open.
+    pub fn bring_to_background(&mut self, pids: &[u32]) -> Result<(), NoMemory>
+        ensures { OnOk result (self.new ≡ in_background self.old pids.now) }
+    {
+        self.bring_to_foreground(pids);
+        self.known.extend_from_slice(pids)?;
+        self.background.extend_from_slice(pids)?;
+        Ok(())
     }
 
     /// The shell has waited for all processes of its asynchronous lists, and knows them no more (XCU wait). Its jobs stay, to be told. Takes no

@@ -8,7 +8,7 @@ use Rattle.sh_exec.specs.declared.task.Task.TheVariants.{Runs, Asks}
 use Rattle.sh_exec_actions.specs.declared.action.Active.{Active}
 use Rattle.sh_exec_actions.specs.declared.action.Active.TheVariants.{Acting, Calling, Evaluating, Next, Done, Leaving}
 use Rattle.sh_exec_actions.specs.declared.action.Action.{Action}
-use Rattle.sh_exec_actions.specs.declared.action.Action.TheVariants.{Reading, Expanding, ReadSubstitution, WaitSubstitution, ReadLine, Awaiting, SendSignal, Redirecting, Forking, Starting, ForkStage, ForkList, AssignLoopVariable, Defining, Waiting, Writing, Trapping, Ending}
+use Rattle.sh_exec_actions.specs.declared.action.Action.TheVariants.{Reading, Expanding, ReadSubstitution, WaitSubstitution, ReadLine, Awaiting, SendSignal, ContinueJob, WaitForJob, Redirecting, Forking, Starting, ForkStage, ForkList, AssignLoopVariable, Defining, Waiting, Writing, Trapping, Ending}
 use Rattle.sh_exec_forms.specs.Running.{active_of}
 use Rattle.sh_exec_frames.specs.Signals.{pending_signal}
 use Rattle.sh_kernel.specs.State.{KernelState}
@@ -42,6 +42,8 @@ action_at caught background (WaitSubstitution substitution) = WaitsFor substitut
 action_at caught background (ReadLine reader) = ReadsBy (Number 0)
 action_at caught background (Awaiting awaited) = awaiting caught background awaited
 action_at caught background (SendSignal ask) = Acts
+action_at caught background (ContinueJob continuation) = Acts
+action_at caught background (WaitForJob wait) = WaitsUntraced wait.processes
 action_at caught background (Redirecting p) = Acts
 action_at caught background (Forking p) = Acts
 action_at caught background (Starting start) = Acts

@@ -12,7 +12,7 @@ use Rattle.sh_exec.specs.declared.turn_action.TurnAction.TheVariants as turn
 use Rattle.sh_exec_actions.specs.declared.action.Active.{Active}
 use Rattle.sh_exec_actions.specs.declared.action.Active.TheVariants.{Acting, Calling, Evaluating, Next, Done, Leaving}
 use Rattle.sh_exec_actions.specs.declared.action.Action.{Action}
-use Rattle.sh_exec_actions.specs.declared.action.Action.TheVariants.{Reading, Expanding, ReadSubstitution, WaitSubstitution, ReadLine, Awaiting, SendSignal, Redirecting, Forking, Starting, ForkStage, ForkList, AssignLoopVariable, Defining, Waiting, Writing, Trapping, Ending}
+use Rattle.sh_exec_actions.specs.declared.action.Action.TheVariants.{Reading, Expanding, ReadSubstitution, WaitSubstitution, ReadLine, Awaiting, SendSignal, ContinueJob, WaitForJob, Redirecting, Forking, Starting, ForkStage, ForkList, AssignLoopVariable, Defining, Waiting, Writing, Trapping, Ending}
 use Rattle.sh_exec_actions.specs.declared.action.ToExpand.{ToExpand}
 use Rattle.sh_exec_actions.specs.declared.action.ToExpand.TheVariants.{Words, Values, Redirects, ForWords, CaseWord, CasePattern}
 use Rattle.sh_exec_forms.specs.Running.{active_of}
@@ -35,6 +35,8 @@ turn_action_at (WaitSubstitution substitution) = turn.Wait
 turn_action_at (ReadLine reader) = turn.Read
 turn_action_at (Awaiting awaited) = turn.Wait
 turn_action_at (SendSignal ask) = turn.SendSignal
+turn_action_at (ContinueJob continuation) = turn.SendSignal
+turn_action_at (WaitForJob wait) = turn.Wait
 turn_action_at (Redirecting p) = turn.Redirect
 turn_action_at (Forking p) = turn.Fork
 turn_action_at (Starting start) = turn.StartProgram
@@ -91,6 +93,8 @@ words_at (WaitSubstitution substitution) = None
 words_at (ReadLine reader) = None
 words_at (Awaiting awaited) = None
 words_at (SendSignal ask) = None
+words_at (ContinueJob continuation) = None
+words_at (WaitForJob wait) = None
 words_at (Redirecting p) = None
 words_at (Forking p) = None
 words_at (ForkStage stages) = None

@@ -54,6 +54,8 @@ fn action_at<'a>(caught: Option<Signal>, background: &'a [u32], place: &'a Actio
         Action::ReadLine(_) => Next::Read(DescriptorRef::Number(0)),
         Action::Awaiting(awaited) => awaiting(caught, background, awaited),
         Action::SendSignal(_) => Next::Other,
+        Action::ContinueJob(_) => Next::Other,
+        Action::WaitForJob(wait) => Next::WaitUntraced(wait.processes.as_slice()),
         Action::Redirecting(_) => Next::Other,
         Action::Forking(_) => Next::Other,
         Action::Starting(_) => Next::Other,

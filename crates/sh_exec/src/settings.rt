@@ -22,6 +22,6 @@ pub struct Settings {
     pub zero: Text,
     /// The positional parameters from `$1` on.
     pub args: Sequence<Text>,
-    /// The options that are on (XCU 2.15 `set`). `-m` has no effect yet.
+    /// The options that are on (XCU 2.15 `set`). With `-m` it has job control (2.11).
     pub options: Options,
 }

@@ -19,6 +19,8 @@ fn starting_at(place: &Action) -> Option<&ProgramStart>
         Action::ReadLine(_) => None,
         Action::Awaiting(_) => None,
         Action::SendSignal(_) => None,
+        Action::ContinueJob(_) => None,
+        Action::WaitForJob(_) => None,
         Action::Redirecting(_) => None,
         Action::Forking(_) => None,
         Action::Starting(start) => Some(start),

@@ -45,7 +45,7 @@ pub enum TurnAction {
     },
     /// A shell waits until processes have ended.
     Wait,
-    /// A shell sends a signal, for the built-in `kill` (XCU kill).
+    /// A shell sends a signal, for one of the built-ins `kill`, `bg` and `fg` (XCU kill, bg, fg).
     SendSignal,
     /// A program stops itself, as by SIGSTOP.
     Stop,
@@ -81,6 +81,8 @@ fn at(place: &Action) -> TurnAction
         Action::ReadLine(_) => TurnAction::Read,
         Action::Awaiting(_) => TurnAction::Wait,
         Action::SendSignal(_) => TurnAction::SendSignal,
+        Action::ContinueJob(_) => TurnAction::SendSignal,
+        Action::WaitForJob(_) => TurnAction::Wait,
         Action::Redirecting(_) => TurnAction::Redirect,
         Action::Forking(_) => TurnAction::Fork,
         Action::Starting(_) => TurnAction::StartProgram,

@@ -2,7 +2,7 @@
 use crate::status::CommandStatus;
 use sh_base::sequence::{Sequence, Text};
 use sh_base::shared::Shared;
-use sh_builtin::{Builtin, Completion, Invocation, Leave, TextRun};
+use sh_builtin::{Builtin, Completion, Continuation, Invocation, Leave, TextRun};
 use sh_builtin_jobs::KillAsk;
 use sh_builtin_regular::LineReader;
 use sh_builtin_wait::Awaited;
@@ -182,6 +182,15 @@ pub struct PipelineWait {
     pub job: Option<Text>,
 }
 
+/// A job that `fg` has brought to the foreground, for which a shell waits (XCU fg).
+#[derive(Drop)]
+pub struct JobWait {
+    /// The number of the job.
+    pub number: usize,
+    /// Its processes, the last of which gives the status.
+    pub processes: Sequence<u32>,
+}
+
 /// What a built-in has still to say, and how it ends then.
 #[derive(Drop)]
 pub struct Report {
@@ -223,6 +232,10 @@ pub enum Action {
     Awaiting(Awaited),
     /// Send a signal to what an operand of the built-in `kill` names (XCU kill).
     SendSignal(KillAsk),
+    /// Send CONT to the next job that the built-in `bg` or `fg` continues (XCU bg, fg).
+    ContinueJob(Continuation),
+    /// Wait for the end or the stop of a job that `fg` has brought to the foreground.
+    WaitForJob(JobWait),
     /// Do the next redirection of a command (2.7).
     Redirecting(ExpandedCommand),
     /// Make the process that runs a program.

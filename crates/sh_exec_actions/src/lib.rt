@@ -10,8 +10,9 @@ pub mod status;
 mod suspended;
 
 pub use action::{
-    Action, Active, Case, CaseBranch, Expanded, ExpandedCommand, Finish, ForLoop, Launch, Move,
-    Pending, PipelineWait, ProgramStart, Report, Role, Saved, Stages, Substitution, ToExpand, Undo,
+    Action, Active, Case, CaseBranch, Expanded, ExpandedCommand, Finish, ForLoop, JobWait, Launch,
+    Move, Pending, PipelineWait, ProgramStart, Report, Role, Saved, Stages, Substitution, ToExpand,
+    Undo,
 };
 pub use form::{Branches, Form, Frame, Loop};
 pub use preparing::{

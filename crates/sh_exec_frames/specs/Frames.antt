@@ -2,7 +2,7 @@
 use Rattle.std.specs.Option.{is_some, option_or, unwrap_or}
 use Rattle.std.specs.Prelude.{ℕ, List, [], ◌∷◌, map, ◌||◌, ◌&&◌, not, Bool, true, false, Option, None, if◌then◌else◌}
 use Rattle.sh_builtin.specs.declared.builtin.Builtin.{Builtin}
-use Rattle.sh_builtin.specs.declared.builtin.Builtin.TheVariants.{Bracket, Break, Cd, Colon, Command, Continue, Dot, Echo, Eval, Exec, Exit, Export, False, Jobs, Kill, Pwd, Read, ReadOnly, Return, Set, Shift, Test, Trap, True, Unset, Wait}
+use Rattle.sh_builtin.specs.declared.builtin.Builtin.TheVariants.{Bg, Bracket, Break, Cd, Colon, Command, Continue, Dot, Echo, Eval, Exec, Exit, Export, False, Fg, Jobs, Kill, Pwd, Read, ReadOnly, Return, Set, Shift, Test, Trap, True, Unset, Wait}
 use Rattle.sh_exec_frames.specs.Kinds.{before_trap, ignores_failure, is_call, is_loop, levels_inside, most_levels, refusal_ends, takes_return}
 use Rattle.sh_exec_actions.specs.declared.form.Form.{Form}
 use Rattle.sh_exec_actions.specs.declared.form.Form.TheVariants.{FailuresIgnored}
@@ -38,6 +38,7 @@ before_action own (form ∷ around) =
 
 -- the status with which exit and return leave inside some forms where they have no operand (2.15)
 abbrev pub last_for : List Form → Builtin → (last : ℕ) → ℕ
+last_for around Bg last = last
 last_for around Bracket last = last
 last_for around Break last = last
 last_for around Cd last = last
@@ -51,6 +52,7 @@ last_for around Exec last = last
 last_for around Exit last = unwrap_or (before_action false around) last
 last_for around Export last = last
 last_for around False last = last
+last_for around Fg last = last
 last_for around Jobs last = last
 last_for around Kill last = last
 last_for around Pwd last = last

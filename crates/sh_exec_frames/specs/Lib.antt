@@ -9,3 +9,4 @@ pub mod Placed
 pub mod LineReading
 pub mod Awaiting
 pub mod Signals
+pub mod Continuing

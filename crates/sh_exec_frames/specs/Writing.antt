@@ -1,7 +1,10 @@
 -- What follows a write of a shell.
-use Rattle.std.specs.Prelude.{drop}
+use Rattle.std.specs.Prelude.{ℕ, List, drop}
 use Rattle.sh_builtin.specs.Builtins.{name_of}
+use Rattle.sh_builtin.specs.declared.outcome.Completion.{Completion}
 use Rattle.sh_builtin.specs.declared.outcome.Completion.TheVariants as completion
+use Rattle.sh_builtin.specs.declared.outcome.Continuation.{Continuation}
+use Rattle.sh_builtin.specs.declared.outcome.Continuation.TheVariants.{Background, Foreground}
 use Rattle.sh_builtin.specs.declared.outcome.Leave.TheVariants as leave
 use Rattle.sh_exec_actions.specs.Statuses.{unexcused}
 use Rattle.sh_exec_actions.specs.declared.action.Action.TheVariants.{Writing}
@@ -21,13 +24,27 @@ after_writing (Fault status) = Leaving (leave.Fault status)
 after_writing (Messages report) = reported report
 after_writing (Output builtin report) = reported report
 
--- a message that can't be written is dropped; a built-in whose output can't be written has 1, and a message before its others
+-- ---- a built-in whose output can't be written has 1; bg and fg continue their jobs nevertheless, and fg has the status of its job
+abbrev pub continued_with : (status : ℕ) → Continuation → Continuation
+continued_with status (Background jobs messages before) = Background jobs messages status
+continued_with status (Foreground job) = Foreground job
+
+abbrev pub failed : Completion → Completion
+failed (completion.Done status) = completion.Done 1
+failed (completion.Left leave) = completion.Done 1
+failed (completion.Runs how text) = completion.Done 1
+failed (completion.Reads reader) = completion.Done 1
+failed (completion.Waits awaited) = completion.Done 1
+failed (completion.Kills ask) = completion.Done 1
+failed (completion.Continues continuation) = completion.Continues (continued_with 1 continuation)
+
+-- a message that can't be written is dropped; that the output couldn't be written is told before the other messages
 abbrev pub unwritten : Finish → Active
 unwritten (Status status) = Done (unexcused status)
 unwritten (Fault status) = Leaving (leave.Fault status)
 unwritten (Messages report) = reported report
 unwritten (Output builtin report) =
-    Next (Writing (message (write_error (name_of builtin))) (Messages (record report { status = completion.Done 1 })))
+    Next (Writing (message (write_error (name_of builtin))) (Messages (record report { status = failed report.status })))
 
 -- what is left is still to be written; a process that a signal ended acts no more
 abbrev pub written_by : Piece → Finish → WriteOutcome → Active

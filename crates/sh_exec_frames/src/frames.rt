@@ -134,6 +134,7 @@ impl Frames {
         ensures { result ≡ last_for self.now builtin last }
     {
         match builtin {
+            Builtin::Bg => last,
             Builtin::Bracket => last,
             Builtin::Break => last,
             Builtin::Cd => last,
@@ -147,6 +148,7 @@ impl Frames {
             Builtin::Exit => before_action(self.frames.as_slice(), false).unwrap_or(last),
             Builtin::Export => last,
             Builtin::False => last,
+            Builtin::Fg => last,
             Builtin::Jobs => last,
             Builtin::Kill => last,
             Builtin::Pwd => last,

@@ -19,6 +19,7 @@ fn at_completion(status: Completion) -> Active
         Completion::Reads(reader) => Active::Next(Action::ReadLine(reader)),
         Completion::Waits(awaited) => Active::Next(Action::Awaiting(awaited)),
         Completion::Kills(ask) => Active::Next(Action::SendSignal(ask)),
+        Completion::Continues(continuation) => Active::Next(Action::ContinueJob(continuation)),
     }
 }
 

@@ -103,7 +103,11 @@ fn is_reached(kernel: &Kernel, target: &Result<SignalTarget, JobFault>) -> bool
 }
 
 /// A signal is sent to what is named; where that is no process nothing happens.
-fn send_to(kernel: &mut Kernel, target: &SignalTarget, signal: Signal) -> Result<(), NoMemory>
+pub(crate) fn send_to(
+    kernel: &mut Kernel,
+    target: &SignalTarget,
+    signal: Signal,
+) -> Result<(), NoMemory>
     ensures state { (s : KernelState) → StandsAt kernel.old s
         → OnOk result (StandsAt kernel.new (after_sending s (Some signal) (Ok target.now))) }
     ensures terminal { kernel.new.terminal ≡ kernel.old.terminal }

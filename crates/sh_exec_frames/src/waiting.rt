@@ -109,7 +109,7 @@ pub fn take_terminal_back(kernel: &mut Kernel, pid: u32)
 }
 
 /// A line is told, and the command is done with a status.
-fn told(line: Option<Text>, status: u8) -> Active
+pub(crate) fn told(line: Option<Text>, status: u8) -> Active
     ensures { result ≡ told line status }
 {
     match line {

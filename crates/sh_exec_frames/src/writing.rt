@@ -1,11 +1,11 @@
 //! What follows a write of a shell.
 ghost use Rattle.std.specs.Prelude.{◌≡◌, IfOk, drop};
-ghost use Rattle.sh_exec_frames.specs.Writing.{after_writing, unwritten, written_by};
+ghost use Rattle.sh_exec_frames.specs.Writing.{after_writing, continued_with, failed, unwritten, written_by};
 
 use crate::reporting::reported;
 use sh_base::NoMemory;
 use sh_base::sequence::Text;
-use sh_builtin::{Completion, Leave};
+use sh_builtin::{Completion, Continuation, Leave};
 use sh_exec_actions::{Action, Active, CommandStatus, Finish, Report};
 use sh_exec_machine::WriteOutcome;
 use sh_exec_parts::message::{Piece, write_error};
@@ -23,6 +23,37 @@ fn finished(finish: Finish) -> Active
     }
 }
 
+/// The jobs that bg or fg continues, where its output couldn't be written.
+fn continued_with(status: u8, continuation: Continuation) -> Continuation
+    ensures { result ≡ continued_with status continuation }
+{
+    match continuation {
+        Continuation::Background { jobs, messages, .. } => Continuation::Background {
+            jobs,
+            messages,
+            status,
+        },
+        Continuation::Foreground(job) => Continuation::Foreground(job),
+    }
+}
+
+/// How a built-in ends whose output couldn't be written.
+fn failed(status: Completion) -> Completion
+    ensures { result ≡ failed status }
+{
+    match status {
+        Completion::Done(_) => Completion::Done(1),
+        Completion::Left(_) => Completion::Done(1),
+        Completion::Runs(_, _) => Completion::Done(1),
+        Completion::Reads(_) => Completion::Done(1),
+        Completion::Waits(_) => Completion::Done(1),
+        Completion::Kills(_) => Completion::Done(1),
+        Completion::Continues(continuation) => {
+            Completion::Continues(continued_with(1, continuation))
+        },
+    }
+}
+
 /// What follows a write that failed.
 fn unwritten(alloc: Global, finish: Finish) -> Result<Active, NoMemory>
     ensures { IfOk result (λ active. active ≡ unwritten finish) }
@@ -33,10 +64,9 @@ fn unwritten(alloc: Global, finish: Finish) -> Result<Active, NoMemory>
         Finish::Messages(report) => Ok(reported(report)),
         Finish::Output(builtin, report) => {
             let piece = write_error(alloc, builtin.name())?;
-            let report = Report {
-                messages: report.messages,
-                status: Completion::Done(1),
-            };
+            let Report { messages, status } = report;
+            let status = failed(status);
+            let report = Report { messages, status };
             Ok(Active::Next(Action::Writing(piece, Finish::Messages(report))))
         },
     }

@@ -10,11 +10,12 @@ use Rattle.sh_exec_actions.specs.declared.action.Active.TheVariants.{Acting, Cal
 use Rattle.sh_exec_actions.specs.declared.action.Expanded.{Expanded}
 use Rattle.sh_exec_actions.specs.declared.action.Expanded.TheVariants as expanded
 use Rattle.sh_exec_actions.specs.declared.action.Action.{Action}
-use Rattle.sh_exec_actions.specs.declared.action.Action.TheVariants.{Reading, Expanding, ReadSubstitution, WaitSubstitution, ReadLine, Awaiting, SendSignal, Redirecting, Forking, Starting, ForkStage, ForkList, AssignLoopVariable, Defining, Waiting, Writing, Trapping, Ending}
+use Rattle.sh_exec_actions.specs.declared.action.Action.TheVariants.{Reading, Expanding, ReadSubstitution, WaitSubstitution, ReadLine, Awaiting, SendSignal, ContinueJob, WaitForJob, Redirecting, Forking, Starting, ForkStage, ForkList, AssignLoopVariable, Defining, Waiting, Writing, Trapping, Ending}
 use Rattle.sh_exec_turns.specs.Acting.{collect_turn, defined, end_turn, ending, expand_turn, given_round, next, read_turn, redirect_turn, trap_turn, write_turn}
 use Rattle.sh_exec_frames.specs.Awaiting.{await_turn}
 use Rattle.sh_exec_frames.specs.LineReading.{read_line_turn}
 use Rattle.sh_exec_frames.specs.Placed.{Placed}
+use Rattle.sh_exec_frames.specs.Continuing.{continue_turn, job_wait_turn}
 use Rattle.sh_exec_frames.specs.Signals.{signal_turn}
 use Rattle.sh_exec_frames.specs.Waiting.{answer_turn, wait_turn}
 use Rattle.sh_exec_turns.specs.Traps.{interruption, trap_before}
@@ -49,6 +50,8 @@ act_place around s shell (WaitSubstitution substitution) = plain (with_run s she
 act_place around s shell (ReadLine reader) = placed (read_line_turn s shell reader)
 act_place around s shell (Awaiting awaited) = placed (await_turn s shell awaited)
 act_place around s shell (SendSignal ask) = placed (signal_turn s shell ask)
+act_place around s shell (ContinueJob continuation) = placed (continue_turn s shell continuation)
+act_place around s shell (WaitForJob wait) = placed (job_wait_turn s shell wait)
 act_place around s shell (Redirecting p) = plain (redirect_turn s shell p)
 act_place around s shell (Forking p) = fork_turn around s shell p
 act_place around s shell (Starting start) = plain (with_run s shell (next (Starting start)))

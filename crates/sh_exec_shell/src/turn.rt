@@ -23,7 +23,10 @@ use sh_exec_command::{
     series_turn, words_turn,
 };
 use sh_exec_forms::{enter_list, go_to, settle};
-use sh_exec_frames::{Frames, answer_turn, await_turn, read_line_turn, signal_turn, wait_turn};
+use sh_exec_frames::{
+    Frames, answer_turn, await_turn, continue_turn, job_wait_turn, read_line_turn, signal_turn,
+    wait_turn,
+};
 use sh_exec_turns::{
     collect_turn, end_turn, interrupt, read, redirect_turn, trap, trap_before, write_turn,
 };
@@ -214,6 +217,14 @@ fn act_place(
         },
         Action::SendSignal(ask) => {
             let active = signal_turn(alloc, kernel, shell, ask)?;
+            Ok((active, None))
+        },
+        Action::ContinueJob(continuation) => {
+            let active = continue_turn(alloc, kernel, shell, continuation)?;
+            Ok((active, None))
+        },
+        Action::WaitForJob(wait) => {
+            let active = job_wait_turn(alloc, kernel, shell, wait)?;
             Ok((active, None))
         },
         Action::Redirecting(prepared) => {

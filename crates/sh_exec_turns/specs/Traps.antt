@@ -2,7 +2,7 @@
 use Rattle.std.specs.Prelude.{ℕ, zero, suc, List, [], ◌∷◌, Bool, true, false, not, Option, Some, None, if◌then◌else◌}
 use Rattle.sh_builtin_shell.specs.declared.shell.Shell.{Shell}
 use Rattle.sh_exec_actions.specs.declared.action.Action.{Action}
-use Rattle.sh_exec_actions.specs.declared.action.Action.TheVariants.{Reading, Expanding, ReadSubstitution, WaitSubstitution, ReadLine, Awaiting, SendSignal, Redirecting, Forking, Starting, ForkStage, ForkList, AssignLoopVariable, Defining, Waiting, Writing, Trapping, Ending}
+use Rattle.sh_exec_actions.specs.declared.action.Action.TheVariants.{Reading, Expanding, ReadSubstitution, WaitSubstitution, ReadLine, Awaiting, SendSignal, ContinueJob, WaitForJob, Redirecting, Forking, Starting, ForkStage, ForkList, AssignLoopVariable, Defining, Waiting, Writing, Trapping, Ending}
 use Rattle.sh_exec_actions.specs.declared.action.Pending.{Pending}
 use Rattle.sh_exec_actions.specs.declared.action.ToExpand.{ToExpand}
 use Rattle.sh_exec_actions.specs.declared.action.ToExpand.TheVariants.{Words, Values, Redirects, ForWords, CaseWord, CasePattern}
@@ -53,6 +53,8 @@ may_interrupt (WaitSubstitution substitution) = false
 may_interrupt (ReadLine reader) = false
 may_interrupt (Awaiting awaited) = false
 may_interrupt (SendSignal ask) = false
+may_interrupt (ContinueJob continuation) = false
+may_interrupt (WaitForJob wait) = false
 may_interrupt (Redirecting p) = false
 may_interrupt (Forking p) = false
 may_interrupt (Starting start) = false
@@ -84,6 +86,8 @@ shell_before shell (WaitSubstitution substitution) = shell
 shell_before shell (ReadLine reader) = shell
 shell_before shell (Awaiting awaited) = shell
 shell_before shell (SendSignal ask) = shell
+shell_before shell (ContinueJob continuation) = shell
+shell_before shell (WaitForJob wait) = shell
 shell_before shell (Redirecting p) = shell
 shell_before shell (Forking p) = shell
 shell_before shell (Starting start) = shell

@@ -111,6 +111,8 @@ fn may_interrupt(place: &Action) -> bool
         Action::ReadLine(_) => false,
         Action::Awaiting(_) => false,
         Action::SendSignal(_) => false,
+        Action::ContinueJob(_) => false,
+        Action::WaitForJob(_) => false,
         Action::Redirecting(_) => false,
         Action::Forking(_) => false,
         Action::Starting(_) => false,

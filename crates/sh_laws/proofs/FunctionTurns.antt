@@ -16,7 +16,7 @@ use Rattle.sh_builtin_regular.specs.Lines.{Progress, bytes_taken}
 use Rattle.sh_builtin_regular.specs.declared.reader.LineReader.{LineReader}
 use Rattle.sh_exec_actions.specs.Statuses.{unexcused}
 use Rattle.sh_exec_actions.specs.declared.action.Action.{Action}
-use Rattle.sh_exec_actions.specs.declared.action.Action.TheVariants.{Reading, Expanding, ReadSubstitution, WaitSubstitution, ReadLine, Awaiting, SendSignal, Redirecting, Forking, Starting, ForkStage, ForkList, AssignLoopVariable, Defining, Waiting, Writing, Trapping, Ending}
+use Rattle.sh_exec_actions.specs.declared.action.Action.TheVariants.{Reading, Expanding, ReadSubstitution, WaitSubstitution, ReadLine, Awaiting, SendSignal, ContinueJob, WaitForJob, Redirecting, Forking, Starting, ForkStage, ForkList, AssignLoopVariable, Defining, Waiting, Writing, Trapping, Ending}
 use Rattle.sh_exec_actions.specs.declared.action.Active.{Active}
 use Rattle.sh_exec_actions.specs.declared.action.Active.TheVariants.{Acting, Calling, Evaluating, Next, Done, Leaving}
 use Rattle.sh_exec_actions.specs.declared.action.Expanded.{Expanded}
@@ -55,7 +55,12 @@ use Rattle.sh_exec_frames.specs.Awaiting.{all_by, await_by, await_ended, await_t
 use Rattle.sh_builtin_shell.specs.Shells.{has_job_control}
 use Rattle.sh_exec_actions.specs.declared.action.PipelineWait.{PipelineWait}
 use Rattle.sh_exec_frames.specs.Signals.{pending_signal, signal_turn}
-use Rattle.sh_exec_frames.specs.Waiting.{controlled_by, wait_turn, wait_with}
+use Rattle.sh_builtin.specs.declared.outcome.Continuation.{Continuation}
+use Rattle.sh_builtin.specs.declared.outcome.Continuation.TheVariants as continuation
+use Rattle.sh_builtin_jobs.specs.declared.continuing.ContinuedJob.{ContinuedJob}
+use Rattle.sh_exec_actions.specs.declared.action.JobWait.{JobWait}
+use Rattle.sh_exec_frames.specs.Continuing.{background_turn, continue_turn, job_ended, job_wait_by, job_wait_turn}
+use Rattle.sh_exec_frames.specs.Waiting.{controlled_by, terminal_back, wait_turn, wait_with}
 use Rattle.sh_jobs.specs.States.{state_of}
 use Rattle.sh_jobs.specs.declared.state.JobState.{JobState}
 use Rattle.sh_jobs.specs.declared.state.JobState.TheVariants.{Running, Suspended}
@@ -134,6 +139,7 @@ jobs_ran_keeps s shell (Err why) f = f
 
 built_in_keeps : (s : KernelState) (shell : Shell) (last : ℕ) (b : Builtin) (arguments : List (List ℕ)) → Keeps shell → Keeps (built_in s shell last b arguments).shell
 unfolding built_in
+built_in_keeps s shell last builtin.Bg arguments f = f
 built_in_keeps s shell last builtin.Bracket arguments f = f
 built_in_keeps s shell last builtin.Break arguments f = f
 built_in_keeps s shell last builtin.Cd arguments f = f
@@ -147,6 +153,7 @@ built_in_keeps s shell last builtin.Exec arguments f = f
 built_in_keeps s shell last builtin.Exit arguments f = f
 built_in_keeps s shell last builtin.Export arguments f = f
 built_in_keeps s shell last builtin.False arguments f = f
+built_in_keeps s shell last builtin.Fg arguments f = f
 built_in_keeps s shell last builtin.Jobs arguments f = jobs_ran_keeps s (up_to_date s shell) (jobs_of arguments) f
 built_in_keeps s shell last builtin.Kill arguments f = f
 built_in_keeps s shell last builtin.Pwd arguments f = f
@@ -368,6 +375,8 @@ before_keeps shell (WaitSubstitution substitution) f = f
 before_keeps shell (ReadLine reader) f = f
 before_keeps shell (Awaiting awaited) f = f
 before_keeps shell (SendSignal ask) f = f
+before_keeps shell (ContinueJob c) f = f
+before_keeps shell (WaitForJob wait) f = f
 before_keeps shell (Redirecting p) f = f
 before_keeps shell (Forking p) f = f
 before_keeps shell (Starting start) f = f
@@ -402,6 +411,30 @@ wait_with_keeps s shell children (Some text) f = controlled_keeps s shell childr
 wait_keeps : (s : KernelState) (shell : Shell) (wait : PipelineWait) → Keeps shell → PlacedKeeps (wait_turn s shell wait)
 unfolding wait_turn
 wait_keeps s shell wait f = wait_with_keeps s shell wait.children wait.job f
+
+-- ---- jobs go on, and the one in the foreground is waited for
+background_keeps : (s : KernelState) (shell : Shell) (jobs : List ContinuedJob) (messages : List (List ℕ)) (status : ℕ) → Keeps shell → PlacedKeeps (background_turn s shell jobs messages status)
+background_keeps s shell [] messages status f = f
+background_keeps s shell (job ∷ jobs) messages status f = f
+
+continue_keeps : (s : KernelState) (shell : Shell) (c : Continuation) → Keeps shell → PlacedKeeps (continue_turn s shell c)
+unfolding continue_turn
+continue_keeps s shell (continuation.Background jobs messages status) f = background_keeps s shell jobs messages status f
+continue_keeps s shell (continuation.Foreground job) f = f
+
+job_ended_keeps : (s : KernelState) (shell : Shell) (wait : JobWait) (o : Option ℕ) → Keeps shell → PlacedKeeps (job_ended s shell wait o)
+job_ended_keeps s shell wait None f = f
+job_ended_keeps s shell wait (Some status) f = f
+
+job_wait_by_keeps : (s : KernelState) (shell : Shell) (wait : JobWait) (state : JobState) → Keeps shell → PlacedKeeps (job_wait_by s shell wait state)
+job_wait_by_keeps s shell wait Running f = f
+job_wait_by_keeps s shell wait (Suspended signal) f = f
+job_wait_by_keeps s shell wait (state.Done ending) f =
+    let t = terminal_back s shell.pid in job_ended_keeps t shell wait (wait_status t shell.pid wait.processes) f
+
+job_wait_keeps : (s : KernelState) (shell : Shell) (wait : JobWait) → Keeps shell → PlacedKeeps (job_wait_turn s shell wait)
+unfolding job_wait_turn
+job_wait_keeps s shell wait f = job_wait_by_keeps s shell wait (state_of s.machine.processes wait.processes) f
 
 -- ---- processes that are made
 program_keeps : (around : List Form) (s : KernelState) (shell : Shell) (p : ExpandedCommand) (o : Option ℕ) → Keeps shell → ActedKeeps (program_by around s shell p o).left
@@ -476,6 +509,8 @@ place_keeps around s shell (WaitSubstitution substitution) h f = f
 place_keeps around s shell (ReadLine reader) h f = line_keeps s shell reader f
 place_keeps around s shell (Awaiting awaited) h f = await_keeps s shell awaited f
 place_keeps around s shell (SendSignal ask) h f = signal_keeps s shell ask f
+place_keeps around s shell (ContinueJob c) h f = continue_keeps s shell c f
+place_keeps around s shell (WaitForJob wait) h f = job_wait_keeps s shell wait f
 place_keeps around s shell (Redirecting p) h f = redirect_keeps s shell p f
 place_keeps around s shell (Forking p) h f = fork_keeps around s shell p f
 place_keeps around s shell (Starting start) h f = f

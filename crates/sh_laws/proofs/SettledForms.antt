@@ -163,6 +163,7 @@ completion_follows (completion.Runs how text) = tt
 completion_follows (completion.Reads reader) = tt
 completion_follows (completion.Waits awaited) = tt
 completion_follows (completion.Kills ask) = tt
+completion_follows (completion.Continues continuation) = tt
 
 said_follows : (messages : List (List ℕ)) (status : Completion) → ActiveFollows (said messages status)
 said_follows [] status = completion_follows status

@@ -26,7 +26,7 @@ use Rattle.sh_exec_actions.specs.declared.action.Move.{Move}
 use Rattle.sh_exec_actions.specs.declared.action.Move.TheVariants as move
 use Rattle.sh_exec_actions.specs.declared.action.Pending.{Pending}
 use Rattle.sh_exec_actions.specs.declared.action.Action.{Action}
-use Rattle.sh_exec_actions.specs.declared.action.Action.TheVariants.{Reading, Expanding, ReadSubstitution, WaitSubstitution, ReadLine, Awaiting, SendSignal, Redirecting, Forking, Starting, ForkStage, ForkList, AssignLoopVariable, Defining, Waiting, Writing, Trapping, Ending}
+use Rattle.sh_exec_actions.specs.declared.action.Action.TheVariants.{Reading, Expanding, ReadSubstitution, WaitSubstitution, ReadLine, Awaiting, SendSignal, ContinueJob, WaitForJob, Redirecting, Forking, Starting, ForkStage, ForkList, AssignLoopVariable, Defining, Waiting, Writing, Trapping, Ending}
 use Rattle.sh_exec_actions.specs.declared.action.ExpandedCommand.{ExpandedCommand}
 use Rattle.sh_exec_actions.specs.declared.action.Role.TheVariants.{Program}
 use Rattle.sh_exec_actions.specs.declared.action.Stages.{Stages}
@@ -55,6 +55,11 @@ use Rattle.sh_exec_parts.specs.declared.redirection.Redirection.{Redirection}
 use Rattle.sh_exec_parts.specs.declared.simple.Assignment.{Assignment}
 use Rattle.sh_exec_turns.specs.Acting.{after_collection, collect_by, collect_end, collect_from, collect_turn, end_turn, ending_by, expand_turn, keeps, next, read_turn, redirect_by, redirect_from, redirect_one, redirect_turn, round_run, trap_by, trap_turn, with_undo, with_written, without_trap, write_turn}
 use Rattle.sh_exec_actions.specs.declared.action.PipelineWait.{PipelineWait}
+use Rattle.sh_builtin.specs.declared.outcome.Continuation.{Continuation}
+use Rattle.sh_builtin.specs.declared.outcome.Continuation.TheVariants as continuation
+use Rattle.sh_builtin_jobs.specs.declared.continuing.ContinuedJob.{ContinuedJob}
+use Rattle.sh_exec_actions.specs.declared.action.JobWait.{JobWait}
+use Rattle.sh_exec_frames.specs.Continuing.{background_place, background_turn, continue_turn, job_ended, job_wait_by, job_wait_turn, with_suspended}
 use Rattle.sh_exec_frames.specs.Waiting.{answer_by, answer_turn, controlled_by, job_line, terminal_back, told, wait_by, wait_turn, wait_with, with_substitution}
 use Rattle.sh_exec_machine.specs.Waits.{signal_status}
 use Rattle.sh_jobs.specs.States.{state_of}
@@ -285,6 +290,36 @@ wait_holds : (s : KernelState) (shell : Shell) (wait : PipelineWait) → PlacedH
 unfolding wait_turn
 wait_holds s shell wait = wait_with_holds s shell wait.children wait.job
 
+-- ---- jobs go on, and the one in the foreground is waited for
+background_place_holds : (jobs : List ContinuedJob) (messages : List (List ℕ)) (status : ℕ) → ActiveHolds (background_place jobs messages status)
+background_place_holds [] messages status = said_holds messages (completion.Done status)
+background_place_holds (job ∷ jobs) messages status = tt
+
+background_holds : (s : KernelState) (shell : Shell) (jobs : List ContinuedJob) (messages : List (List ℕ)) (status : ℕ) → PlacedHolds (background_turn s shell jobs messages status)
+background_holds s shell [] messages status = background_place_holds [] messages status
+background_holds s shell (job ∷ jobs) messages status = background_place_holds jobs messages status
+
+continue_holds : (s : KernelState) (shell : Shell) (c : Continuation) → PlacedHolds (continue_turn s shell c)
+unfolding continue_turn
+continue_holds s shell (continuation.Background jobs messages status) = background_holds s shell jobs messages status
+continue_holds s shell (continuation.Foreground job) = tt
+
+job_ended_holds : (s : KernelState) (shell : Shell) (wait : JobWait) (o : Option ℕ) → PlacedHolds (job_ended s shell wait o)
+job_ended_holds s shell wait None = tt
+job_ended_holds s shell wait (Some status) = tt
+
+job_wait_by_holds : (s : KernelState) (shell : Shell) (wait : JobWait) (state : JobState) → PlacedHolds (job_wait_by s shell wait state)
+job_wait_by_holds s shell wait Running = tt
+job_wait_by_holds s shell wait (Suspended signal) =
+    let t = terminal_back s shell.pid in
+    told_holds (job_line t (with_suspended (up_to_date t shell) wait signal).jobs wait.number) (signal_status signal)
+job_wait_by_holds s shell wait (state.Done ending) =
+    let t = terminal_back s shell.pid in job_ended_holds t shell wait (wait_status t shell.pid wait.processes)
+
+job_wait_holds : (s : KernelState) (shell : Shell) (wait : JobWait) → PlacedHolds (job_wait_turn s shell wait)
+unfolding job_wait_turn
+job_wait_holds s shell wait = job_wait_by_holds s shell wait (state_of s.machine.processes wait.processes)
+
 -- ---- a redirection
 redirect_by_holds : (p : ExpandedCommand) (word : List ℕ) (r : Result (Unit {0}) KernelFault) (one : Option Undone) → CommandHolds p → Holds (redirect_by p word r one)
 redirect_by_holds p word (Ok u) one h = move_holds _ (ahead_holds (with_undo p one) h)
@@ -442,6 +477,8 @@ place_holds around s shell (WaitSubstitution substitution) f h = (answer_holds s
 place_holds around s shell (ReadLine reader) f h = (line_holds s shell reader, tt)
 place_holds around s shell (Awaiting awaited) f h = (await_holds s shell awaited, tt)
 place_holds around s shell (SendSignal ask) f h = (signal_holds s shell ask, tt)
+place_holds around s shell (ContinueJob c) f h = (continue_holds s shell c, tt)
+place_holds around s shell (WaitForJob wait) f h = (job_wait_holds s shell wait, tt)
 place_holds around s shell (Redirecting p) f h = (redirect_holds s shell p h, tt)
 place_holds around s shell (Forking p) f h = fork_holds around s shell p f h
 place_holds around s shell (Starting start) f h = (tt, tt)

@@ -23,7 +23,7 @@ use Rattle.sh_exec_actions.specs.declared.action.Expanded.TheVariants as expande
 use Rattle.sh_exec_actions.specs.declared.action.Finish.{Finish}
 use Rattle.sh_exec_actions.specs.declared.action.Pending.{Pending}
 use Rattle.sh_exec_actions.specs.declared.action.Action.{Action}
-use Rattle.sh_exec_actions.specs.declared.action.Action.TheVariants.{Reading, Expanding, ReadSubstitution, WaitSubstitution, ReadLine, Awaiting, SendSignal, Redirecting, Forking, Starting, ForkStage, ForkList, AssignLoopVariable, Defining, Waiting, Writing, Trapping, Ending}
+use Rattle.sh_exec_actions.specs.declared.action.Action.TheVariants.{Reading, Expanding, ReadSubstitution, WaitSubstitution, ReadLine, Awaiting, SendSignal, ContinueJob, WaitForJob, Redirecting, Forking, Starting, ForkStage, ForkList, AssignLoopVariable, Defining, Waiting, Writing, Trapping, Ending}
 use Rattle.sh_exec_actions.specs.declared.action.ExpandedCommand.{ExpandedCommand}
 use Rattle.sh_exec_actions.specs.declared.action.Stages.{Stages}
 use Rattle.sh_exec_actions.specs.declared.action.Substitution.{Substitution}
@@ -83,6 +83,13 @@ use Rattle.sh_builtin_jobs.specs.Listing.{jobs_of}
 use Rattle.sh_builtin_jobs.specs.declared.listing.JobsCommand.{JobsCommand}
 use Rattle.sh_builtin_shell.specs.Shells.{has_job_control, own_group, up_to_date}
 use Rattle.sh_exec_actions.specs.declared.action.PipelineWait.{PipelineWait}
+use Rattle.sh_builtin.specs.declared.outcome.Continuation.{Continuation}
+use Rattle.sh_builtin.specs.declared.outcome.Continuation.TheVariants as continuation
+use Rattle.sh_builtin_jobs.specs.declared.continuing.ContinuedJob.{ContinuedJob}
+use Rattle.sh_exec_actions.specs.declared.action.JobWait.{JobWait}
+use Rattle.sh_exec_frames.specs.Continuing.{background_turn, continue_turn, job_ended, job_wait_by, job_wait_turn}
+use Rattle.sh_kernel_signals.specs.declared.target.SignalTarget.TheVariants.{Group}
+use Rattle.sh_signal.specs.declared.signal.Signal.TheVariants as signal
 use Rattle.sh_exec_frames.specs.Waiting.{controlled_by, terminal_back, wait_turn, wait_with}
 use Rattle.sh_jobs.specs.States.{state_of}
 use Rattle.sh_jobs.specs.declared.state.JobState.{JobState}
@@ -96,6 +103,7 @@ jobs_ran_number s shell (Err why) = refl
 
 built_in_number : (s : KernelState) (shell : Shell) (last : ℕ) (b : Builtin) (arguments : List (List ℕ)) → (built_in s shell last b arguments).shell.pid ≡ shell.pid
 unfolding built_in
+built_in_number s shell last builtin.Bg arguments = refl
 built_in_number s shell last builtin.Bracket arguments = refl
 built_in_number s shell last builtin.Break arguments = refl
 built_in_number s shell last builtin.Cd arguments = refl
@@ -109,6 +117,7 @@ built_in_number s shell last builtin.Exec arguments = refl
 built_in_number s shell last builtin.Exit arguments = refl
 built_in_number s shell last builtin.Export arguments = refl
 built_in_number s shell last builtin.False arguments = refl
+built_in_number s shell last builtin.Fg arguments = refl
 built_in_number s shell last builtin.Jobs arguments = jobs_ran_number s (up_to_date s shell) (jobs_of arguments)
 built_in_number s shell last builtin.Kill arguments = refl
 built_in_number s shell last builtin.Pwd arguments = refl
@@ -159,6 +168,8 @@ before_number shell (WaitSubstitution substitution) = refl
 before_number shell (ReadLine reader) = refl
 before_number shell (Awaiting awaited) = refl
 before_number shell (SendSignal ask) = refl
+before_number shell (ContinueJob c) = refl
+before_number shell (WaitForJob wait) = refl
 before_number shell (Redirecting p) = refl
 before_number shell (Forking p) = refl
 before_number shell (Starting start) = refl
@@ -383,6 +394,34 @@ module _ (directory : List ℕ) (pid : ℕ) (P : KernelState → Type 0) (kept :
   unfolding signal_turn
   signal_keeps s shell a e p = (e, sending_keeps s shell a.send.signal a.target e p)
 
+  -- ---- jobs go on, and the one in the foreground is waited for
+  continuing_keeps : (s : KernelState) (shell : Shell) (group : ℕ) → shell.pid ≡ pid → P s → P (after_sending s (Some signal.Continue) (Ok (Group group)))
+  continuing_keeps s shell group e p = sending_keeps s shell (Some signal.Continue) (Ok (Group group)) e p
+
+  in_background_keeps : (s : KernelState) (shell : Shell) (jobs : List ContinuedJob) (messages : List (List ℕ)) (status : ℕ) → shell.pid ≡ pid → P s → KeepsPlaced (background_turn s shell jobs messages status)
+  in_background_keeps s shell [] messages status e p = (e, p)
+  in_background_keeps s shell (job ∷ jobs) messages status e p = (e, continuing_keeps s shell job.group e p)
+
+  continue_keeps : (s : KernelState) (shell : Shell) (c : Continuation) → shell.pid ≡ pid → P s → KeepsPlaced (continue_turn s shell c)
+  unfolding continue_turn
+  continue_keeps s shell (continuation.Background jobs messages status) e p = in_background_keeps s shell jobs messages status e p
+  continue_keeps s shell (continuation.Foreground job) e p =
+      (e, continuing_keeps (after_request s shell.pid (SetForeground job.group)) shell job.group e (own shell e s (SetForeground job.group) tt p))
+
+  job_ended_keeps : (s : KernelState) (shell : Shell) (wait : JobWait) (o : Option ℕ) → shell.pid ≡ pid → P s → KeepsPlaced (job_ended s shell wait o)
+  job_ended_keeps s shell wait None e p = (e, p)
+  job_ended_keeps s shell wait (Some status) e p = (e, p)
+
+  job_wait_by_keeps : (s : KernelState) (shell : Shell) (wait : JobWait) (state : JobState) → shell.pid ≡ pid → P s → KeepsPlaced (job_wait_by s shell wait state)
+  job_wait_by_keeps s shell wait Running e p = (e, p)
+  job_wait_by_keeps s shell wait (Suspended signal) e p = (e, terminal_keeps s shell e p)
+  job_wait_by_keeps s shell wait (state.Done ending) e p =
+      let t = terminal_back s shell.pid in job_ended_keeps t shell wait (wait_status t shell.pid wait.processes) e (terminal_keeps s shell e p)
+
+  job_wait_keeps : (s : KernelState) (shell : Shell) (wait : JobWait) → shell.pid ≡ pid → P s → KeepsPlaced (job_wait_turn s shell wait)
+  unfolding job_wait_turn
+  job_wait_keeps s shell wait e p = job_wait_by_keeps s shell wait (state_of s.machine.processes wait.processes) e p
+
   -- ---- /dev/null is laid for an asynchronous list
   set_by_keeps : (r : Result ℕ KernelFault) (s : KernelState) → P s → P (set_by r s).after
   set_by_keeps (Ok aside) s p = p
@@ -526,6 +565,8 @@ module _ (directory : List ℕ) (pid : ℕ) (P : Option ℕ → KernelState → 
   place_keeps around s shell (ReadLine reader) e d p = line_keeps directory pid (P None) (kept None) s shell reader e p
   place_keeps around s shell (Awaiting awaited) e d p = await_keeps directory pid (P None) (kept None) s shell awaited e p
   place_keeps around s shell (SendSignal ask) e d p = signal_keeps directory pid (P None) (kept None) s shell ask e p
+  place_keeps around s shell (ContinueJob c) e d p = continue_keeps directory pid (P None) (kept None) s shell c e p
+  place_keeps around s shell (WaitForJob wait) e d p = job_wait_keeps directory pid (P None) (kept None) s shell wait e p
   place_keeps around s shell (Redirecting prepared) e d p = redirect_turn_keeps directory pid (P None) (kept None) s shell prepared e d p
   place_keeps around s shell (Forking prepared) e d p = fork_turn_keeps around s shell prepared e p
   place_keeps around s shell (Starting start) e d p = (e, p)

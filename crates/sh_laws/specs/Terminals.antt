@@ -2,6 +2,10 @@
 use Rattle.std.specs.Prelude.{◌≡◌, ◌⊎◌, ℕ, List, Some}
 use Rattle.sh_builtin_shell.specs.Shells.{own_group}
 use Rattle.sh_builtin_shell.specs.declared.shell.Shell.{Shell}
+use Rattle.sh_exec_actions.specs.declared.action.Action.TheVariants.{WaitForJob}
+use Rattle.sh_exec_actions.specs.declared.action.Active.TheVariants.{Next}
+use Rattle.sh_exec_actions.specs.declared.action.JobWait.{JobWait}
+use Rattle.sh_exec_frames.specs.Continuing.{job_wait_turn}
 use Rattle.sh_exec_frames.specs.Placed.{at_place}
 use Rattle.sh_exec_frames.specs.Waiting.{wait_turn, waiting}
 use Rattle.sh_kernel.specs.State.{KernelState}
@@ -12,3 +16,10 @@ GivesTerminalBack =
     (s : KernelState) (shell : Shell) (children text : List ℕ)
     → let p = wait_turn s shell (record { children = children; job = Some text }) in
     (p ≡ at_place s shell (waiting children (Some text))) ⊎ (p.machine.foreground ≡ own_group s shell.pid)
+
+-- the same of a wait for a job that fg has brought to the foreground
+abbrev pub GivesJobsTerminalBack : Type 0
+GivesJobsTerminalBack =
+    (s : KernelState) (shell : Shell) (wait : JobWait)
+    → let p = job_wait_turn s shell wait in
+    (p ≡ at_place s shell (Next (WaitForJob wait))) ⊎ (p.machine.foreground ≡ own_group s shell.pid)
