@@ -45,6 +45,7 @@ def each(folder, image, script, begin, end):
     return (last - first) / (end - begin)
 
 
+# `yes | head -n 10000` takes some 20,000 turns, and what is measured is to end before: once all processes have ended an event costs little.
 # A program in a line of its own takes six turns: reading, expansion, fork, start, end and wait.
 TURNS = 6
 
@@ -62,10 +63,10 @@ def many():
         write_image(image, [(f"/ends{count}", b"/bin/true\n" * count) for count in (1_000, 100_000)])
         filtered = "yes | head -n 10000 >/dev/null"
         late = "i=0; while [ $i -lt 100000 ]; do i=$((i+1)); (:); done; "
-        base = each(folder, image, filtered, 1_000, 29_000)
+        base = each(folder, image, filtered, 1_000, 19_000)
         # a round has four turns of the shell and two of its subshell
         behind = 600_100
-        last = each(folder, image, late + filtered, behind, behind + 20_000)
+        last = each(folder, image, late + filtered, behind + 1_000, behind + 19_000)
         print(f"yes | head: {base:.0f} a turn, behind 100,000 ended processes {last:.0f}, ratio {last / base:.2f}")
         few, all_of_them = memory(folder, image, 1_000), memory(folder, image, 100_000)
         print(f"memory after 1,000 ended processes {few} KiB, after 100,000 {all_of_them} KiB")
@@ -81,11 +82,11 @@ def main():
         behind = "/bin/true\n" * 900
         ended = 900 * TURNS
         ratios = []
-        base = each(folder, small, filtered.format(10_000), 1_000, 29_000)
-        more = each(folder, small, filtered.format(100_000), 1_000, 290_000)
+        base = each(folder, small, filtered.format(10_000), 1_000, 19_000)
+        more = each(folder, small, filtered.format(100_000), 1_000, 190_000)
         ratios.append(more / base)
         print(f"yes | head: {base:.0f} a turn, ten times the lines {more:.0f}, ratio {more / base:.2f}")
-        late = each(folder, small, behind + filtered.format(10_000), ended + 1_000, ended + 29_000)
+        late = each(folder, small, behind + filtered.format(10_000), ended + 1_000, ended + 19_000)
         ratios.append(late / base)
         print(f"the same behind 900 ended processes: {late:.0f}, ratio {late / base:.2f}")
         base = each(folder, small, copied, 100, 6_100)
