@@ -343,10 +343,10 @@ impl Kernel {
             → LacksWhereRaised result (raises_input s pid name) }
         ensures terminal { self.new.terminal.bytes ≡ self.old.terminal.bytes }
     {
-        if self.machine.reads_terminal(pid, name) {
-            return self.read_terminal(pid, buf);
+        match self.machine.read(pid, name, buf) {
+            Some(given) => given,
+            None => self.read_terminal(pid, buf),
         }
-        self.machine.read(pid, name, buf)
     }
 
     /// Writes what can be written at once, and says how many bytes that is (XSH write). To a file, the null
@@ -364,15 +364,10 @@ impl Kernel {
             → LacksWhereDone result (write_call s pid number bytes.now) }
         ensures terminal { Extends self.old.terminal.bytes self.new.terminal.bytes }
     {
-        if self
-            .machine
-            .writes_terminal(pid, DescriptorRef::Number(number))
-        {
-            return show(&mut self.terminal, bytes);
-        }
         match self.machine.write(pid, number, bytes) {
-            Err(KernelFault::BrokenPipe) => self.break_pipe(pid),
-            given => given,
+            None => show(&mut self.terminal, bytes),
+            Some(Err(KernelFault::BrokenPipe)) => self.break_pipe(pid),
+            Some(given) => given,
         }
     }
 
@@ -476,10 +471,10 @@ impl Kernel {
         ensures { (s : KernelState) → StandsAt self.now s → (n : ℕ)
             → result ≡ (waits (read_call s pid name n).answer && not (raises_input s pid name)) }
     {
-        if self.machine.reads_terminal(pid, name) {
-            return self.terminal_waits(pid);
+        match self.machine.read_waits(pid, name) {
+            Some(waits) => waits,
+            None => self.terminal_waits(pid),
         }
-        self.machine.read_waits(pid, name)
     }
 
     /// Whether a write of so many bytes would wait.
@@ -487,13 +482,10 @@ impl Kernel {
         ensures { (s : KernelState) → StandsAt self.now s → (bytes : List ℕ) → length bytes ≡ count
             → result ≡ waits (write_call s pid number bytes).answer }
     {
-        if self
-            .machine
-            .writes_terminal(pid, DescriptorRef::Number(number))
-        {
-            return false;
+        match self.machine.write_waits(pid, number, count) {
+            Some(waits) => waits,
+            None => false,
         }
-        self.machine.write_waits(pid, number, count)
     }
 
     /// Whether what a process is about to do would wait.

@@ -13,8 +13,9 @@ use crate::tables::{
 use sh_files::{FileFault, Files, MAX_LENGTH, Opening};
 use sh_kernel_descriptors::{
     Channel, Closing, Description, DescriptorRef, Entry, Held, KernelFault, Target, described,
-    description_of, fault_of_file, has_reader, has_writer, is_allowed, is_description, may_share,
-    move_to, read_file, read_pipe, target_of, the_terminal, write_node, write_pipe, write_start,
+    description_of, fault_of_file, has_reader, has_writer, is_allowed, is_description,
+    is_of_terminal, may_share, move_to, read_file, read_pipe, target_of, the_terminal, write_node,
+    write_pipe, write_start,
 };
 use sh_kernel_processes::{ProcessList, lives};
 use slab::Slab;
@@ -38,7 +39,7 @@ const FOR_READING: Opening = Opening {
 /// refers to it, and its key may be used again; a pipe goes with the last descriptor that refers to one of its ends.
 ///
 /// The terminal is not here, but its descriptions are: a read or a write of it is refused with `BadDescriptor`, so ask
-/// first ([`Machine::reads_terminal`], [`Machine::writes_terminal`]). Nor are the groups and the signals of the processes
+/// first (the answer `None` of [`Machine::read`] and [`Machine::write`]). Nor are the groups and the signals of the processes
 /// that live: these are passed in, as members.
 ///
 /// A machine stands at a state, and each call is one change of that state. After each refusal it stands at the same
@@ -93,6 +94,7 @@ impl Machine {
     ghost use Rattle.sh_kernel_descriptors.specs.Outcomes.{GivesReadTo, GivesTo, LacksWhereGiven};
     ghost use Rattle.sh_kernel_machine.specs.Machine.{GivesOrLacks, StandsAt};
     ghost use Rattle.sh_kernel_descriptors.specs.Reading.{on_pipes, read_call, read_target};
+    ghost use Rattle.sh_kernel_descriptors.specs.Terminals.{reads_terminal, writes_terminal};
     ghost use Rattle.sh_kernel_descriptors.specs.Descriptors as names;
     ghost use Rattle.sh_kernel_descriptors.specs.Counts as counts;
     ghost use Rattle.std.specs.Option.{option_map};
@@ -129,29 +131,34 @@ impl Machine {
     /// Reads up to the buffer's length into its front, and says how many bytes these are; 0 is the end (XSH read). The
     /// offset of a file's description moves by as many.
     ///
-    /// `BadDescriptor` where the process has no such descriptor, or it isn't open for reading or refers to the
-    /// terminal; `WouldWait` at an empty pipe that has a writer. After a refusal the buffer and the machine are as they
-    /// were. Takes no memory.
+    /// `None` where it would be a read of the terminal, which the machine doesn't have: then nothing has changed. `BadDescriptor` where the
+    /// process has no such descriptor, or it isn't open for reading; `WouldWait` at an empty pipe that has a writer. After a refusal the buffer
+    /// and the machine are as they were. Takes no memory.
     pub fn read(
         &mut self,
         pid: u32,
         name: DescriptorRef,
         buf: &mut [u8],
-    ) -> Result<usize, KernelFault>
-        ensures { (s : MachineState) → StandsAt self.old s
-            → GivesReadTo (StandsAt self.new) result buf.old buf.new
-            (read_call s pid name (length buf.old)) }
+    ) -> Option<Result<usize, KernelFault>>
+        ensures terminal { (s : MachineState) → StandsAt self.old s
+            → IfNone result ((reads_terminal s pid name ≡ true) × (buf.new ≡ buf.old) × StandsAt self.new s) }
+        ensures read { (s : MachineState) → StandsAt self.old s
+            → IfSome result (λ given. (reads_terminal s pid name ≡ false)
+            × GivesReadTo (StandsAt self.new) given buf.old buf.new (read_call s pid name (length buf.old))) }
     {
         let Some(h) = self.look(pid, name) else {
-            return Err(KernelFault::BadDescriptor);
+            return Some(Err(KernelFault::BadDescriptor));
         };
         let Some(description) = self.description_by(h) else {
-            return Err(KernelFault::BadDescriptor);
+            return Some(Err(KernelFault::BadDescriptor));
         };
         if !description.readable {
-            return Err(KernelFault::BadDescriptor);
+            return Some(Err(KernelFault::BadDescriptor));
         }
-        self.read_target(h, description, buf)
+        if is_of_terminal(&description) {
+            return None;
+        }
+        Some(self.read_target(h, description, buf))
     }
 
     /// Reads by a descriptor that is open for reading.
@@ -305,29 +312,40 @@ impl Machine {
     /// device; to a pipe at most [`PIPE_BUF`](sh_pipe::PIPE_BUF) bytes go whole or not at all, and of a longer write as
     /// many as there is room for, at least one. A write of no bytes answers 0 and has no other result.
     ///
-    /// `BadDescriptor` where the process has no such descriptor, or it isn't open for writing or refers to the
-    /// terminal; `WouldWait` at a pipe without room; `BrokenPipe` at a pipe without a reader, whose writer the caller
+    /// `None` where it would be a write to the terminal, which the machine doesn't have: then nothing has changed. `BadDescriptor` where the
+    /// process has no such descriptor, or it isn't open for writing; `WouldWait` at a pipe without room; `BrokenPipe` at a pipe without a reader, whose writer the caller
     /// then sends SIGPIPE; `File` with `TooLarge` where a file would be longer than [`MAX_LENGTH`] bytes; else
     /// `NoMemory`. After a refusal nothing has changed.
-    pub fn write(&mut self, pid: u32, number: u8, bytes: &[u8]) -> Result<usize, KernelFault>
+    pub fn write(
+        &mut self,
+        pid: u32,
+        number: u8,
+        bytes: &[u8],
+    ) -> Option<Result<usize, KernelFault>>
+        ensures terminal { (s : MachineState) → StandsAt self.old s
+            → IfNone result ((writes_terminal s pid (DescriptorRef.Number number) ≡ true) × StandsAt self.new s) }
         ensures call { (s : MachineState) → StandsAt self.old s
-            → GivesOrLacks result self.new s (write_call s pid number bytes.now) }
+            → IfSome result (λ given. (writes_terminal s pid (DescriptorRef.Number number) ≡ false)
+            × GivesOrLacks given self.new s (write_call s pid number bytes.now)) }
         ensures room { (s : MachineState) → StandsAt self.old s
-            → LacksWhereGiven result (write_call s pid number bytes.now) }
+            → IfSome result (λ given. LacksWhereGiven given (write_call s pid number bytes.now)) }
     {
         let Some(h) = self.look(pid, DescriptorRef::Number(number)) else {
-            return Err(KernelFault::BadDescriptor);
+            return Some(Err(KernelFault::BadDescriptor));
         };
         let Some(description) = self.description_by(h) else {
-            return Err(KernelFault::BadDescriptor);
+            return Some(Err(KernelFault::BadDescriptor));
         };
         if !description.writable {
-            return Err(KernelFault::BadDescriptor);
+            return Some(Err(KernelFault::BadDescriptor));
+        }
+        if is_of_terminal(&description) {
+            return None;
         }
         if bytes.is_empty() {
-            return Ok(0);
+            return Some(Ok(0));
         }
-        self.write_target(h, description, bytes)
+        Some(self.write_target(h, description, bytes))
     }
 
     /// Closes a descriptor (XSH close). A description goes with its last descriptor, and a pipe with the last

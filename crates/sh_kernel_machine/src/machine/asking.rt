@@ -1,5 +1,5 @@
 //! What can be asked of a machine. Nothing here takes memory.
-ghost use Rattle.std.specs.Prelude.{◌≡◌, ℕ, List, Some, length, option_copied};
+ghost use Rattle.std.specs.Prelude.{◌≡◌, ℕ, List, Some, length, option_copied, IfNone, IfSome, true, false};
 
 use super::Machine;
 use sh_files::Files;
@@ -113,28 +113,6 @@ impl Machine {
         }
     }
 
-    /// Whether a descriptor refers to the terminal and is open for reading, so that a read by it is one of the
-    /// terminal; `false` where the process has none of this name. Takes no memory.
-    pub fn reads_terminal(&self, pid: u32, name: DescriptorRef) -> bool
-        ensures { (s : MachineState) → StandsAt self.now s → result ≡ reads_terminal s pid name }
-    {
-        match self.description_of(pid, name) {
-            Some(description) => is_of_terminal(&description) && description.readable,
-            None => false,
-        }
-    }
-
-    /// Whether a descriptor refers to the terminal and is open for writing, so that a write by it is one to the
-    /// terminal; `false` where the process has none of this name. Takes no memory.
-    pub fn writes_terminal(&self, pid: u32, name: DescriptorRef) -> bool
-        ensures { (s : MachineState) → StandsAt self.now s → result ≡ writes_terminal s pid name }
-    {
-        match self.description_of(pid, name) {
-            Some(description) => is_of_terminal(&description) && description.writable,
-            None => false,
-        }
-    }
-
     /// Whether a read by the description at a key would wait.
     fn read_target_waits(&self, key: usize, description: Description) -> bool
         ensures { (s : MachineState) → StandsAt self.now s → (n k : ℕ)
@@ -153,21 +131,28 @@ impl Machine {
         }
     }
 
-    /// Whether [`Machine::read`] would answer `WouldWait`, of however many bytes it is. Takes no memory.
-    pub fn read_waits(&self, pid: u32, name: DescriptorRef) -> bool
-        ensures { (s : MachineState) → StandsAt self.now s → (n : ℕ)
-            → result ≡ waits (read_call s pid name n).answer }
+    /// Whether [`Machine::read`] would answer `WouldWait`, of however many bytes it is; `None` where it would be a read of the terminal. Takes no
+    /// memory.
+    pub fn read_waits(&self, pid: u32, name: DescriptorRef) -> Option<bool>
+        ensures terminal { (s : MachineState) → StandsAt self.now s
+            → IfNone result (reads_terminal s pid name ≡ true) }
+        ensures waits { (s : MachineState) → StandsAt self.now s → (n : ℕ)
+            → IfSome result (λ waiting. (reads_terminal s pid name ≡ false)
+            × (waiting ≡ waits (read_call s pid name n).answer)) }
     {
         let Some(h) = self.look(pid, name) else {
-            return false;
+            return Some(false);
         };
         let Some(description) = self.description_by(h) else {
-            return false;
+            return Some(false);
         };
         if !description.readable {
-            return false;
+            return Some(false);
         }
-        self.read_target_waits(h.key, description)
+        if is_of_terminal(&description) {
+            return None;
+        }
+        Some(self.read_target_waits(h.key, description))
     }
 
     /// Whether a write by the description at a key would wait.
@@ -190,21 +175,31 @@ impl Machine {
         }
     }
 
-    /// Whether [`Machine::write`] of so many bytes would answer `WouldWait`, whatever they are. Takes no memory.
-    pub fn write_waits(&self, pid: u32, number: u8, count: usize) -> bool
-        ensures { (s : MachineState) → StandsAt self.now s → (bytes : List ℕ)
-            → length bytes ≡ count → result ≡ waits (write_call s pid number bytes).answer }
+    /// Whether [`Machine::write`] of so many bytes would answer `WouldWait`, whatever they are; `None` where it would be a write to the terminal.
+    /// Takes no memory.
+    pub fn write_waits(&self, pid: u32, number: u8, count: usize) -> Option<bool>
+        ensures terminal { (s : MachineState) → StandsAt self.now s
+            → IfNone result (writes_terminal s pid (DescriptorRef.Number number) ≡ true) }
+        ensures waits { (s : MachineState) → StandsAt self.now s → (bytes : List ℕ)
+            → length bytes ≡ count → IfSome result (λ waiting. (writes_terminal s pid (DescriptorRef.Number number) ≡ false)
+            × (waiting ≡ waits (write_call s pid number bytes).answer)) }
     {
         let Some(h) = self.look(pid, DescriptorRef::Number(number)) else {
-            return false;
+            return Some(false);
         };
         let Some(description) = self.description_by(h) else {
-            return false;
+            return Some(false);
         };
-        if !description.writable || count == 0 {
-            return false;
+        if !description.writable {
+            return Some(false);
         }
-        self.write_target_waits(h.key, description, count)
+        if is_of_terminal(&description) {
+            return None;
+        }
+        if count == 0 {
+            return Some(false);
+        }
+        Some(self.write_target_waits(h.key, description, count))
     }
 
     /// Whether a process is neither stopped nor ended; `false` where no process ever had this number. Takes no memory.
