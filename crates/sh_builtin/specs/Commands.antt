@@ -1,11 +1,11 @@
 -- The built-in `command` (XCU command): the words of the command that it runs, and `-v`, which tells how the shell would run a name.
 use Rattle.std.specs.Option.{is_some}
 use Rattle.std.specs.Prelude.{ℕ, List, [], ◌∷◌, ◌++◌, ◌&&◌, ◌||◌, Bool, Option, Some, None, codes, if◌then◌else◌, nat_le, option_map}
-use Rattle.sh_builtin.specs.Builtins.{builtin_of, is_named, name_of}
+use Rattle.sh_builtin_outcome.specs.Builtins.{builtin_of, is_named, name_of}
 use Rattle.sh_builtin_shell.specs.Functions.{Named, body_of}
-use Rattle.sh_builtin.specs.Outcomes.{done, misuse, output}
-use Rattle.sh_builtin.specs.declared.builtin.Builtin.TheVariants.{Command}
-use Rattle.sh_builtin.specs.declared.outcome.Outcome.{Outcome}
+use Rattle.sh_builtin_outcome.specs.Outcomes.{done, misuse, output}
+use Rattle.sh_builtin_outcome.specs.declared.builtin.Builtin.TheVariants.{Command}
+use Rattle.sh_builtin_outcome.specs.declared.outcome.Outcome.{Outcome}
 use Rattle.sh_builtin_shell.specs.declared.shell.Shell.{Shell}
 use Rattle.sh_builtin_environment.specs.Options.{Parsed, options_and_operands}
 use Rattle.sh_files.specs.Nodes.{FileMap}

@@ -2,10 +2,10 @@
 use Rattle.std.specs.Prelude.{ℕ, zero, suc, List, [], ◌∷◌, Option, Some, None, codes, nat_le, if◌then◌else◌}
 use Rattle.std.specs.Str.{bytes_eq}
 use Rattle.sh_base.specs.Decimals.{number_of}
-use Rattle.sh_builtin.specs.Outcomes.{left, misuse}
-use Rattle.sh_builtin.specs.declared.builtin.Builtin.{Builtin}
-use Rattle.sh_builtin.specs.declared.outcome.Leave.{Leave}
-use Rattle.sh_builtin.specs.declared.outcome.Outcome.{Outcome}
+use Rattle.sh_builtin_outcome.specs.Outcomes.{left, misuse}
+use Rattle.sh_builtin_outcome.specs.declared.builtin.Builtin.{Builtin}
+use Rattle.sh_builtin_outcome.specs.declared.outcome.Leave.{Leave}
+use Rattle.sh_builtin_outcome.specs.declared.outcome.Outcome.{Outcome}
 
 -- an operand `--` ends the options (XBD 12.2, guideline 10)
 abbrev pub operands_of : List (List ℕ) → List (List ℕ)

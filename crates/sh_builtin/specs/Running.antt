@@ -4,13 +4,13 @@ use Rattle.std.specs.List.{join_with_byte}
 use Rattle.sh_builtin.specs.Commands.{command_outcome}
 use Rattle.sh_builtin_shell.specs.Functions.{unset_by}
 use Rattle.sh_builtin.specs.Loops.{leave_with, loop_with, operands_of}
-use Rattle.sh_builtin.specs.Outcomes.{continuing, done, misuse, killing, outcome_of, output, reading, refusal, refused_with, running, saying, waiting, with_signals}
-use Rattle.sh_builtin.specs.declared.builtin.Builtin.{Builtin}
-use Rattle.sh_builtin.specs.declared.builtin.Builtin.TheVariants.{Bg, Bracket, Break, Cd, Colon, Command, Continue, Dot, Echo, Eval, Exec, Exit, Export, False, Fg, Jobs, Kill, Pwd, Read, ReadOnly, Return, Set, Shift, Test, Trap, True, Unset, Wait}
-use Rattle.sh_builtin.specs.declared.outcome.Continuation.TheVariants.{Background, Foreground}
-use Rattle.sh_builtin.specs.declared.outcome.Leave.TheVariants as leave
-use Rattle.sh_builtin.specs.declared.outcome.Outcome.{Outcome}
-use Rattle.sh_builtin.specs.declared.outcome.TextOrigin.TheVariants as origin
+use Rattle.sh_builtin_outcome.specs.Outcomes.{continuing, done, misuse, killing, outcome_of, output, reading, refusal, refused_with, running, saying, waiting, with_signals}
+use Rattle.sh_builtin_outcome.specs.declared.builtin.Builtin.{Builtin}
+use Rattle.sh_builtin_outcome.specs.declared.builtin.Builtin.TheVariants.{Bg, Bracket, Break, Cd, Colon, Command, Continue, Dot, Echo, Eval, Exec, Exit, Export, False, Fg, Jobs, Kill, Pwd, Read, ReadOnly, Return, Set, Shift, Test, Trap, True, Unset, Wait}
+use Rattle.sh_builtin_outcome.specs.declared.outcome.Continuation.TheVariants.{Background, Foreground}
+use Rattle.sh_builtin_outcome.specs.declared.outcome.Leave.TheVariants as leave
+use Rattle.sh_builtin_outcome.specs.declared.outcome.Outcome.{Outcome}
+use Rattle.sh_builtin_outcome.specs.declared.outcome.TextOrigin.TheVariants as origin
 use Rattle.sh_builtin_shell.specs.declared.shell.Shell.{Shell}
 use Rattle.sh_builtin_environment.specs.Directories.{cd_ran, pwd_outcome}
 use Rattle.sh_builtin_environment.specs.Marking.{mark_ran}

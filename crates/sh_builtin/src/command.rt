@@ -4,11 +4,10 @@ ghost use Rattle.sh_builtin.specs.Commands.{behind_command, command_outcome, des
 ghost use Rattle.sh_builtin_environment.specs.Options.{options_and_operands};
 ghost use Rattle.sh_files_image.specs.Paths.{absolute};
 
-use crate::builtin::Builtin;
-use crate::outcome::Outcome;
 use sh_base::NoMemory;
 use sh_base::sequence::Text;
 use sh_builtin_environment::parse_options;
+use sh_builtin_outcome::{Builtin, Outcome};
 use sh_builtin_shell::{Functions, Shell};
 use sh_files::{Files, executable_path};
 use sh_files_image::absolute;

@@ -5,10 +5,10 @@ ghost use Rattle.sh_builtin_jobs.specs.Continuing.{bg_of, fg_of};
 ghost use Rattle.sh_builtin_shell.specs.Shells.{has_job_control, up_to_date};
 ghost use Rattle.sh_kernel.specs.State.{KernelState, StandsAt};
 
-use crate::outcome::{Continuation, Outcome};
 use sh_base::NoMemory;
 use sh_base::sequence::Text;
 use sh_builtin_jobs::{BackgroundJobs, ForegroundJob, bg_of, fg_of};
+use sh_builtin_outcome::{Continuation, Outcome};
 use sh_builtin_shell::Shell;
 use sh_kernel::Kernel;
 use std::alloc::Global;

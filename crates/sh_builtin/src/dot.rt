@@ -3,11 +3,10 @@ ghost use Rattle.std.specs.Prelude.{◌≡◌, [], IfOk};
 ghost use Rattle.sh_builtin.specs.Running.{dot_named, dot_with, dot_outcome};
 ghost use Rattle.sh_builtin_environment.specs.Options.{options_and_operands};
 
-use crate::builtin::Builtin;
-use crate::outcome::{Outcome, TextOrigin};
 use sh_base::NoMemory;
 use sh_base::sequence::Text;
 use sh_builtin_environment::{BuiltinFault, parse_options};
+use sh_builtin_outcome::{Builtin, Outcome, TextOrigin};
 use sh_files::{Files, dot_script};
 use sh_vars::Vars;
 use std::alloc::Global;

@@ -4,10 +4,10 @@ ghost use Rattle.sh_builtin.specs.Invocations.{by_command, by_name, invoked, out
 ghost use Rattle.sh_builtin.specs.Running.{with_outcome};
 ghost use Rattle.sh_kernel.specs.State.{KernelState, StandsAt};
 
-use crate::builtin::Builtin;
-use crate::outcome::{Completion, Leave, Outcome, TextRun};
+use crate::running::run;
 use sh_base::NoMemory;
 use sh_base::sequence::Text;
+use sh_builtin_outcome::{Builtin, Completion, Leave, Outcome, TextRun};
 use sh_builtin_shell::Shell;
 use sh_kernel::Kernel;
 use std::alloc::Global;
@@ -95,7 +95,7 @@ impl Invocation {
         }
     }
 
-    /// What the built-in does, as [`Builtin::run`] says, and what it comes to: one that isn't run as a special one leaves no shell by an
+    /// What the built-in does, as [`run`] says, and what it comes to: one that isn't run as a special one leaves no shell by an
     /// error. The only error is want of memory; what the shell is then is left open.
     #[tactic(auto, unfolding(crate::specs::Invocations::invoked))]
     pub fn run(
@@ -109,7 +109,7 @@ impl Invocation {
         ensures { (s : KernelState) → StandsAt kernel.now s → IfOk result (λ outcome.
             with_outcome shell.new outcome ≡ invoked s shell.old last self arguments.now) }
     {
-        let outcome = self.builtin.run(alloc, kernel, shell, last, arguments)?;
+        let outcome = run(alloc, kernel, shell, last, self.builtin, arguments)?;
         Ok(outcome_as(self.is_special, outcome))
     }
 }

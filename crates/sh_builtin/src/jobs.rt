@@ -5,11 +5,10 @@ ghost use Rattle.sh_builtin_shell.specs.Shells.{up_to_date};
 ghost use Rattle.sh_kernel.specs.State.{KernelState, StandsAt};
 ghost use Rattle.std.specs.Prelude.{◌≡◌, IfOk};
 
-use crate::builtin::Builtin;
-use crate::outcome::Outcome;
 use sh_base::NoMemory;
 use sh_base::sequence::Text;
 use sh_builtin_jobs::{JobsCommand, job_lines, jobs_listed, jobs_of, tell_listed};
+use sh_builtin_outcome::{Builtin, Outcome};
 use sh_builtin_shell::Shell;
 use sh_kernel::Kernel;
 use std::alloc::Global;

@@ -5,13 +5,12 @@ ghost use Rattle.sh_builtin_jobs.specs.KillWords.{kill_of};
 ghost use Rattle.sh_builtin_shell.specs.Shells.{up_to_date};
 ghost use Rattle.sh_kernel.specs.State.{KernelState, StandsAt};
 
-use crate::builtin::Builtin;
-use crate::outcome::Outcome;
 use sh_base::NoMemory;
 use sh_base::sequence::{Sequence, Text};
 use sh_builtin_jobs::{
     JobControl, KillCommand, KillSend, KillStep, kill_of, kill_start, signal_line, signal_lines,
 };
+use sh_builtin_outcome::{Builtin, Outcome};
 use sh_builtin_shell::{Shell, own_group};
 use sh_kernel::Kernel;
 use std::alloc::Global;

@@ -2,11 +2,10 @@
 ghost use Rattle.std.specs.Prelude.{◌≡◌, IfOk};
 ghost use Rattle.sh_builtin.specs.Loops.{leave_with, loop_with, operands_of, status_in};
 
-use crate::builtin::Builtin;
-use crate::outcome::{Leave, Outcome};
 use sh_base::NoMemory;
 use sh_base::decimal::number_of;
 use sh_base::sequence::Text;
+use sh_builtin_outcome::{Builtin, Leave, Outcome};
 use std::alloc::Global;
 
 /// The operands, after a `--` if there is one.

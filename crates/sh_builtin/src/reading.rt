@@ -3,10 +3,9 @@ ghost use Rattle.std.specs.Prelude.{◌≡◌, IfOk};
 ghost use Rattle.sh_builtin.specs.Running.{read_outcome};
 ghost use Rattle.sh_builtin_regular.specs.Operands.{reader_of};
 
-use crate::builtin::Builtin;
-use crate::outcome::Outcome;
 use sh_base::NoMemory;
 use sh_base::sequence::Text;
+use sh_builtin_outcome::{Builtin, Outcome};
 use sh_builtin_regular::LineReader;
 use std::alloc::Global;
 

@@ -4,10 +4,9 @@ ghost use Rattle.sh_builtin.specs.Running.{bracket_outcome, inverted_by, verdict
 ghost use Rattle.sh_builtin_regular.specs.Brackets.{bracket_operands};
 ghost use Rattle.sh_kernel.specs.State.{KernelState, StandsAt};
 
-use crate::builtin::Builtin;
-use crate::outcome::Outcome;
 use sh_base::NoMemory;
 use sh_base::sequence::Text;
+use sh_builtin_outcome::{Builtin, Outcome};
 use sh_builtin_regular::{Verdict, bracket_operands, evaluate};
 use sh_builtin_shell::Shell;
 use sh_kernel::Kernel;

@@ -5,10 +5,9 @@ ghost use Rattle.sh_builtin_shell.specs.Shells.{up_to_date};
 ghost use Rattle.sh_builtin_wait.specs.Waits.{wait_of};
 ghost use Rattle.sh_kernel.specs.State.{KernelState, StandsAt};
 
-use crate::builtin::Builtin;
-use crate::outcome::Outcome;
 use sh_base::NoMemory;
 use sh_base::sequence::{Sequence, Text};
+use sh_builtin_outcome::{Builtin, Outcome};
 use sh_builtin_shell::Shell;
 use sh_builtin_wait::{Awaited, WaitStart, WaitStep, wait_of};
 use sh_kernel::Kernel;

@@ -10,7 +10,7 @@ use Rattle.sh_exec_actions.specs.declared.action.Active.TheVariants.{Acting, Cal
 use Rattle.sh_exec_actions.specs.declared.action.Action.{Action}
 use Rattle.sh_exec_actions.specs.declared.action.Action.TheVariants.{Reading, Expanding, ReadSubstitution, WaitSubstitution, ReadLine, Awaiting, SendSignal, ContinueJob, WaitForJob, Redirecting, Forking, Starting, ForkStage, ForkList, AssignLoopVariable, Defining, Waiting, Writing, Trapping, Ending}
 use Rattle.sh_exec_forms.specs.Running.{active_of}
-use Rattle.sh_exec_frames.specs.Signals.{pending_signal}
+use Rattle.sh_exec_requests.specs.Signals.{pending_signal}
 use Rattle.sh_kernel.specs.State.{KernelState}
 use Rattle.sh_kernel.specs.Turns.{Action as Asked, Acts, ReadsBy, WaitsFor, WaitsUntraced, WritesBy}
 use Rattle.sh_kernel_descriptors.specs.declared.descriptor.DescriptorRef.TheVariants.{Aside, Number}

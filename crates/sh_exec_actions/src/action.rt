@@ -2,8 +2,9 @@
 use crate::status::CommandStatus;
 use sh_base::sequence::{Sequence, Text};
 use sh_base::shared::Shared;
-use sh_builtin::{Builtin, Completion, Continuation, Invocation, Leave, TextRun};
+use sh_builtin::Invocation;
 use sh_builtin_jobs::KillAsk;
+use sh_builtin_outcome::{Builtin, Completion, Continuation, Leave, TextRun};
 use sh_builtin_regular::LineReader;
 use sh_builtin_wait::Awaited;
 use sh_exec_machine::Undone;

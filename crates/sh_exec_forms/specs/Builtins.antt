@@ -2,7 +2,7 @@
 -- entered (2.15 dot, eval).
 use Rattle.std.specs.Prelude.{ℕ, zero, suc, List, drop}
 use Rattle.sh_builtin.specs.Invocations.{invoked}
-use Rattle.sh_builtin.specs.declared.outcome.TextRun.{TextRun}
+use Rattle.sh_builtin_outcome.specs.declared.outcome.TextRun.{TextRun}
 use Rattle.sh_builtin.specs.declared.invocation.Invocation.{Invocation}
 use Rattle.sh_builtin_shell.specs.declared.shell.Shell.{Shell}
 use Rattle.sh_exec_actions.specs.declared.action.Active.{Active}
@@ -13,8 +13,8 @@ use Rattle.sh_exec_actions.specs.declared.form.Form.TheVariants.{Call, Evaluatio
 use Rattle.sh_exec_command.specs.Expanding.{fatal}
 use Rattle.sh_exec_forms.specs.Entering.{command_run}
 use Rattle.sh_exec_frames.specs.Frames.{last_for, levels_left}
-use Rattle.sh_exec_frames.specs.Reporting.{behind}
-use Rattle.sh_exec_frames.specs.Signals.{after_traps}
+use Rattle.sh_exec_requests.specs.Reporting.{behind}
+use Rattle.sh_exec_requests.specs.Signals.{after_traps}
 use Rattle.sh_exec_forms.specs.Running.{Run, At, In}
 use Rattle.sh_exec_parts.specs.Messages.{refusal_text}
 use Rattle.sh_exec_parts.specs.declared.message.Refusal.TheVariants as refusal

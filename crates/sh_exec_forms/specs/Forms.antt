@@ -1,11 +1,11 @@
 -- What a form becomes when what runs inside it is done, or leaves it.
 use Rattle.std.specs.Prelude.{◌≡◌, ℕ, zero, suc, List, [], ◌∷◌, ◌||◌, ◌&&◌, Bool, true, false, nat_eq, not, Option, Some, None, if◌then◌else◌}
-use Rattle.sh_builtin.specs.Outcomes.{shell_status}
-use Rattle.sh_builtin.specs.declared.outcome.Leave.{Leave}
-use Rattle.sh_builtin.specs.declared.outcome.TextOrigin.{TextOrigin}
-use Rattle.sh_builtin.specs.declared.outcome.TextOrigin.TheVariants as origin
+use Rattle.sh_builtin_outcome.specs.Outcomes.{shell_status}
+use Rattle.sh_builtin_outcome.specs.declared.outcome.Leave.{Leave}
+use Rattle.sh_builtin_outcome.specs.declared.outcome.TextOrigin.{TextOrigin}
+use Rattle.sh_builtin_outcome.specs.declared.outcome.TextOrigin.TheVariants as origin
 use Rattle.sh_builtin_shell.specs.declared.shell.Shell.{Shell}
-use Rattle.sh_builtin.specs.declared.outcome.Leave.TheVariants as leave
+use Rattle.sh_builtin_outcome.specs.declared.outcome.Leave.TheVariants as leave
 use Rattle.sh_exec_command.specs.Series.{rest_of_series}
 use Rattle.sh_exec_command.specs.Undoing as variables
 use Rattle.sh_exec_actions.specs.Statuses.{unexcused}

@@ -14,7 +14,7 @@ use crate::loops::{end_within, leave_loop, leave_series, next_value, repeat, tes
 use crate::step::Step;
 use sh_base::NoMemory;
 use sh_base::shared::Shared;
-use sh_builtin::{Leave, TextOrigin};
+use sh_builtin_outcome::{Leave, TextOrigin};
 use sh_builtin_shell::Shell;
 use sh_exec_actions::{Action, Active, Branches, CommandStatus, Form, Undo};
 use sh_exec_command::restore_variables;

@@ -12,7 +12,7 @@ ghost use Rattle.sh_kernel.specs.State.{KernelState};
 use crate::entering::enter_inside;
 use crate::step::Step;
 use sh_base::NoMemory;
-use sh_builtin::Leave;
+use sh_builtin_outcome::Leave;
 use sh_builtin_shell::Shell;
 use sh_exec_actions::{Active, CommandStatus, ForLoop, Form, Loop};
 use sh_exec_command::rest_of_series;

@@ -1,8 +1,8 @@
 -- The forms round the place where a shell acts, as a list with the innermost first, and what holds inside them.
 use Rattle.std.specs.Option.{is_some, option_or, unwrap_or}
 use Rattle.std.specs.Prelude.{ℕ, List, [], ◌∷◌, map, ◌||◌, ◌&&◌, not, Bool, true, false, Option, None, if◌then◌else◌}
-use Rattle.sh_builtin.specs.declared.builtin.Builtin.{Builtin}
-use Rattle.sh_builtin.specs.declared.builtin.Builtin.TheVariants.{Bg, Bracket, Break, Cd, Colon, Command, Continue, Dot, Echo, Eval, Exec, Exit, Export, False, Fg, Jobs, Kill, Pwd, Read, ReadOnly, Return, Set, Shift, Test, Trap, True, Unset, Wait}
+use Rattle.sh_builtin_outcome.specs.declared.builtin.Builtin.{Builtin}
+use Rattle.sh_builtin_outcome.specs.declared.builtin.Builtin.TheVariants.{Bg, Bracket, Break, Cd, Colon, Command, Continue, Dot, Echo, Eval, Exec, Exit, Export, False, Fg, Jobs, Kill, Pwd, Read, ReadOnly, Return, Set, Shift, Test, Trap, True, Unset, Wait}
 use Rattle.sh_exec_frames.specs.Kinds.{before_trap, ignores_failure, is_call, is_loop, levels_inside, most_levels, refusal_ends, takes_return}
 use Rattle.sh_exec_actions.specs.declared.form.Form.{Form}
 use Rattle.sh_exec_actions.specs.declared.form.Form.TheVariants.{FailuresIgnored}

@@ -1,7 +1,7 @@
 -- What holds of a running form by its kind.
 use Rattle.std.specs.Prelude.{ℕ, ◌-◌, Bool, true, false, Option, Some, None}
-use Rattle.sh_builtin.specs.declared.outcome.TextOrigin.{TextOrigin}
-use Rattle.sh_builtin.specs.declared.outcome.TextOrigin.TheVariants.{Eval, DotScript}
+use Rattle.sh_builtin_outcome.specs.declared.outcome.TextOrigin.{TextOrigin}
+use Rattle.sh_builtin_outcome.specs.declared.outcome.TextOrigin.TheVariants.{Eval, DotScript}
 use Rattle.sh_exec_actions.specs.declared.form.Form.{Form}
 use Rattle.sh_exec_actions.specs.declared.form.Form.TheVariants.{Text, Commands, Joined, Negated, Restoring, If, Condition, Body, ForBody, Call, Evaluation, Trapped, Interruption, FailuresIgnored}
 

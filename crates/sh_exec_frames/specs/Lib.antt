@@ -2,11 +2,3 @@ pub mod Codes
 pub mod Frames
 pub mod JobTexts
 pub mod Kinds
-pub mod Reporting
-pub mod Waiting
-pub mod Writing
-pub mod Placed
-pub mod LineReading
-pub mod Awaiting
-pub mod Signals
-pub mod Continuing

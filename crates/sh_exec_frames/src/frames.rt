@@ -11,7 +11,7 @@ use crate::kinds::{
 use sh_base::NoMemory;
 use sh_base::sequence::Text;
 use sh_base::shared::Shared;
-use sh_builtin::Builtin;
+use sh_builtin_outcome::Builtin;
 use sh_exec_actions::{Form, Frame};
 use sh_exec_parts::copy_all;
 use sh_syntax::tree::Command;

@@ -2,7 +2,7 @@
 ghost use Rattle.std.specs.Prelude.{◌≡◌};
 ghost use Rattle.sh_exec_frames.specs.Kinds.{before_trap, ignores_failure, is_call, is_loop, is_dot_script, levels_inside, refusal_ends, takes_return};
 
-use sh_builtin::TextOrigin;
+use sh_builtin_outcome::TextOrigin;
 use sh_exec_actions::Form;
 
 /// How many calls of functions, texts that `eval` and `.` run (XCU 2.15), and actions of traps there may be, one in another.

@@ -29,7 +29,7 @@ use Rattle.sh_exec_forms.specs.Moves.{move_run}
 use Rattle.sh_exec_forms.specs.Stacks.{run_in}
 use Rattle.sh_exec_frames.specs.Frames.{root_forms}
 use Rattle.sh_exec_frames.specs.JobTexts.{job_text}
-use Rattle.sh_exec_frames.specs.Waiting.{terminal_back, waiting}
+use Rattle.sh_exec_requests.specs.Waiting.{terminal_back, waiting}
 use Rattle.sh_exec_forms.specs.Running.{InterpreterState, Run, At}
 use Rattle.sh_kernel.specs.Calls.{after_set_action, after_set_foreground, after_set_group}
 use Rattle.sh_kernel.specs.State.{KernelKept, KernelState, StandsAt}

@@ -1,7 +1,7 @@
 -- One turn of a shell: inward to its active place, the action there, and outward again.
 use Rattle.std.specs.Prelude.{ℕ, List, [], ◌∷◌, Option, Some, None}
 use Rattle.sh_exec_command.specs.Expanding.{Turn}
-use Rattle.sh_builtin.specs.Outcomes.{shell_status}
+use Rattle.sh_builtin_outcome.specs.Outcomes.{shell_status}
 use Rattle.sh_builtin_shell.specs.declared.shell.Shell.{Shell}
 use Rattle.sh_exec_command.specs.Reading.{next_command}
 use Rattle.sh_exec_command.specs.Series.{give_turn}
@@ -12,12 +12,12 @@ use Rattle.sh_exec_actions.specs.declared.action.Expanded.TheVariants as expande
 use Rattle.sh_exec_actions.specs.declared.action.Action.{Action}
 use Rattle.sh_exec_actions.specs.declared.action.Action.TheVariants.{Reading, Expanding, ReadSubstitution, WaitSubstitution, ReadLine, Awaiting, SendSignal, ContinueJob, WaitForJob, Redirecting, Forking, Starting, ForkStage, ForkList, AssignLoopVariable, Defining, Waiting, Writing, Trapping, Ending}
 use Rattle.sh_exec_turns.specs.Acting.{collect_turn, defined, end_turn, ending, expand_turn, given_round, next, read_turn, redirect_turn, trap_turn, write_turn}
-use Rattle.sh_exec_frames.specs.Awaiting.{await_turn}
-use Rattle.sh_exec_frames.specs.LineReading.{read_line_turn}
-use Rattle.sh_exec_frames.specs.Placed.{Placed}
-use Rattle.sh_exec_frames.specs.Continuing.{continue_turn, job_wait_turn}
-use Rattle.sh_exec_frames.specs.Signals.{signal_turn}
-use Rattle.sh_exec_frames.specs.Waiting.{answer_turn, wait_turn}
+use Rattle.sh_exec_requests.specs.Awaiting.{await_turn}
+use Rattle.sh_exec_requests.specs.LineReading.{read_line_turn}
+use Rattle.sh_exec_requests.specs.Placed.{Placed}
+use Rattle.sh_exec_requests.specs.Continuing.{continue_turn, job_wait_turn}
+use Rattle.sh_exec_requests.specs.Signals.{signal_turn}
+use Rattle.sh_exec_requests.specs.Waiting.{answer_turn, wait_turn}
 use Rattle.sh_exec_turns.specs.Traps.{interruption, trap_before}
 use Rattle.sh_exec_shell.specs.Forks.{Turned, fork_turn, inheriting, list_turn, stage_turn, substitute_turn}
 use Rattle.sh_exec_forms.specs.Forms.{Acted, with_run, after, at_action}

@@ -14,7 +14,7 @@ ghost use Rattle.sh_exec_forms.specs.Moves.{move_run};
 ghost use Rattle.sh_exec_forms.specs.Running.{Run};
 ghost use Rattle.sh_exec_forms.specs.Stacks.{run_in, run_of};
 ghost use Rattle.sh_exec_frames.specs.Frames.{is_failure_ignored, root_forms};
-ghost use Rattle.sh_exec_frames.specs.Waiting.{waiting};
+ghost use Rattle.sh_exec_requests.specs.Waiting.{waiting};
 
 use crate::groups::settle_fork;
 use crate::interpreter::{Interpreter, interpreter_of};

@@ -4,7 +4,7 @@ ghost use Rattle.sh_kernel.specs.State.{KernelState, StandsAt};
 ghost use Rattle.sh_exec_shell.specs.Forks.{behind_fork, given_terminal, ignoring_keys, in_group, leader, with_control, without_control};
 
 use sh_builtin_shell::Shell;
-use sh_exec_frames::take_terminal_back;
+use sh_exec_requests::take_terminal_back;
 use sh_kernel::Kernel;
 use sh_kernel_signals::SignalAction;
 use sh_signal::Signal;

@@ -23,9 +23,9 @@ use sh_exec_command::{
     series_turn, words_turn,
 };
 use sh_exec_forms::{enter_list, go_to, settle};
-use sh_exec_frames::{
-    Frames, answer_turn, await_turn, continue_turn, job_wait_turn, read_line_turn, signal_turn,
-    wait_turn,
+use sh_exec_frames::Frames;
+use sh_exec_requests::{
+    answer_turn, await_turn, continue_turn, job_wait_turn, read_line_turn, signal_turn, wait_turn,
 };
 use sh_exec_turns::{
     collect_turn, end_turn, interrupt, read, redirect_turn, trap, trap_before, write_turn,

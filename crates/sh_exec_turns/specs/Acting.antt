@@ -41,7 +41,7 @@ use Rattle.sh_exec_machine.specs.Transfers.{give_bytes, take_bytes}
 use Rattle.sh_exec_machine.specs.declared.transfer.ReadOutcome.{ReadOutcome}
 use Rattle.sh_exec_machine.specs.declared.transfer.ReadOutcome.TheVariants as taken
 use Rattle.sh_exec_machine.specs.declared.undone.Undone.{Undone}
-use Rattle.sh_exec_frames.specs.Writing.{written_by}
+use Rattle.sh_exec_requests.specs.Writing.{written_by}
 use Rattle.sh_exec_forms.specs.Forms.{Acted, behind_status, with_run}
 use Rattle.sh_exec_forms.specs.Entering.{items_run, list_run}
 use Rattle.sh_exec_forms.specs.Moves.{move_run}

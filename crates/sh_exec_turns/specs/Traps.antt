@@ -13,7 +13,7 @@ use Rattle.sh_exec_command.specs.Reading.{next_command}
 use Rattle.sh_exec_forms.specs.Forms.{Acted, behind_status, with_run}
 use Rattle.sh_exec_forms.specs.Running.{At, In}
 use Rattle.sh_exec_frames.specs.Frames.{levels_left}
-use Rattle.sh_exec_frames.specs.Signals.{pending_action}
+use Rattle.sh_exec_requests.specs.Signals.{pending_action}
 use Rattle.sh_exec_parts.specs.Messages.{refusal_text}
 use Rattle.sh_exec_parts.specs.Simple.{compound_redirects}
 use Rattle.sh_exec_parts.specs.declared.message.Refusal.TheVariants as refusal

@@ -34,13 +34,13 @@ use Rattle.sh_exec_actions.specs.declared.action.ToExpand.TheVariants as wants
 use Rattle.sh_exec_command.specs.declared.series.Round.{Round}
 use Rattle.sh_exec_command.specs.declared.series.Round.TheVariants as round
 use Rattle.sh_exec_parts.specs.Messages.{read_only}
-use Rattle.sh_builtin.specs.Builtins.{builtin_of, is_named, is_special}
+use Rattle.sh_builtin_outcome.specs.Builtins.{builtin_of, is_named, is_special}
 use Rattle.sh_builtin.specs.Invocations.{by_command, by_name}
 use Rattle.sh_builtin.specs.declared.invocation.Invocation.{Invocation}
 use Rattle.sh_builtin.specs.Commands.{behind_command}
 use Rattle.sh_builtin_shell.specs.Functions.{Named, body_of, has_name}
-use Rattle.sh_builtin.specs.declared.builtin.Builtin.{Builtin}
-use Rattle.sh_builtin.specs.declared.builtin.Builtin.TheVariants.{Exec}
+use Rattle.sh_builtin_outcome.specs.declared.builtin.Builtin.{Builtin}
+use Rattle.sh_builtin_outcome.specs.declared.builtin.Builtin.TheVariants.{Exec}
 use Rattle.sh_builtin_environment.specs.Options.{Parsed, options_and_operands}
 use Rattle.sh_exec_parts.specs.Simple.{Opened, assignment_in, assignments_of, before, compound_redirects, compound_redirects_in, is_redirect, is_word, items_in, items_of, redirect_wanted, redirects_of, to_assign, word_fields}
 use Rattle.sh_exec_parts.specs.Wants.{wanted_of}

@@ -5,11 +5,11 @@ use Rattle.sh_base.specs.Names.{is_name}
 use Rattle.sh_builtin_shell.specs.Functions.{Named, has_name, unset_by, without, without_all}
 use Rattle.sh_builtin.specs.Invocations.{invoked}
 use Rattle.sh_builtin.specs.Running.{built_in, jobs_ran}
-use Rattle.sh_builtin.specs.declared.outcome.TextRun.{TextRun}
-use Rattle.sh_builtin.specs.declared.builtin.Builtin.{Builtin}
-use Rattle.sh_builtin.specs.declared.builtin.Builtin.TheVariants as builtin
-use Rattle.sh_builtin.specs.declared.outcome.Leave.{Leave}
-use Rattle.sh_builtin.specs.declared.outcome.Leave.TheVariants as leave
+use Rattle.sh_builtin_outcome.specs.declared.outcome.TextRun.{TextRun}
+use Rattle.sh_builtin_outcome.specs.declared.builtin.Builtin.{Builtin}
+use Rattle.sh_builtin_outcome.specs.declared.builtin.Builtin.TheVariants as builtin
+use Rattle.sh_builtin_outcome.specs.declared.outcome.Leave.{Leave}
+use Rattle.sh_builtin_outcome.specs.declared.outcome.Leave.TheVariants as leave
 use Rattle.sh_builtin_shell.specs.declared.shell.Shell.{Shell}
 use Rattle.sh_builtin_environment.specs.Unsetting.{functions_to_unset}
 use Rattle.sh_builtin_regular.specs.Lines.{Progress, bytes_taken}
@@ -33,7 +33,7 @@ use Rattle.sh_exec_actions.specs.declared.form.Form.TheVariants.{Text, Commands,
 use Rattle.sh_exec_actions.specs.declared.status.CommandStatus.{CommandStatus}
 use Rattle.sh_exec_command.specs.Defining.{define_by, define_turn}
 use Rattle.sh_exec_command.specs.Series.{rest_of_series}
-use Rattle.sh_exec_frames.specs.Reporting.{behind}
+use Rattle.sh_exec_requests.specs.Reporting.{behind}
 use Rattle.sh_exec_forms.specs.Builtins.{builtin_effect, call, effect_at, evaluation, performed}
 use Rattle.sh_exec_forms.specs.Forms.{Acted, after, after_by, after_leave, after_status, at_action, condition_run, loop_left, onward, undone, with_run}
 use Rattle.sh_builtin_environment.specs.TrapMaps.{action_of}
@@ -49,18 +49,18 @@ use Rattle.sh_exec_parts.specs.Simple.{Opened}
 use Rattle.sh_exec_parts.specs.declared.message.Piece.{Piece}
 use Rattle.sh_exec_parts.specs.declared.redirection.Redirection.{Redirection}
 use Rattle.sh_exec_turns.specs.Acting.{after_collection, collect_by, collect_end, collect_from, collect_turn, end_turn, expand_turn, next, redirect_from, redirect_one, redirect_turn, trap_by, trap_turn, with_written, write_turn}
-use Rattle.sh_exec_frames.specs.Placed.{Placed}
+use Rattle.sh_exec_requests.specs.Placed.{Placed}
 use Rattle.sh_builtin_jobs.specs.declared.run.KillAsk.{KillAsk}
-use Rattle.sh_exec_frames.specs.Awaiting.{all_by, await_by, await_ended, await_turn, operand_by, without_target}
+use Rattle.sh_exec_requests.specs.Awaiting.{all_by, await_by, await_ended, await_turn, operand_by, without_target}
 use Rattle.sh_builtin_shell.specs.Shells.{has_job_control}
 use Rattle.sh_exec_actions.specs.declared.action.PipelineWait.{PipelineWait}
-use Rattle.sh_exec_frames.specs.Signals.{pending_signal, signal_turn}
-use Rattle.sh_builtin.specs.declared.outcome.Continuation.{Continuation}
-use Rattle.sh_builtin.specs.declared.outcome.Continuation.TheVariants as continuation
+use Rattle.sh_exec_requests.specs.Signals.{pending_signal, signal_turn}
+use Rattle.sh_builtin_outcome.specs.declared.outcome.Continuation.{Continuation}
+use Rattle.sh_builtin_outcome.specs.declared.outcome.Continuation.TheVariants as continuation
 use Rattle.sh_builtin_jobs.specs.declared.continuing.ContinuedJob.{ContinuedJob}
 use Rattle.sh_exec_actions.specs.declared.action.JobWait.{JobWait}
-use Rattle.sh_exec_frames.specs.Continuing.{background_turn, continue_turn, job_ended, job_wait_by, job_wait_turn}
-use Rattle.sh_exec_frames.specs.Waiting.{controlled_by, terminal_back, wait_turn, wait_with}
+use Rattle.sh_exec_requests.specs.Continuing.{background_turn, continue_turn, job_ended, job_wait_by, job_wait_turn}
+use Rattle.sh_exec_requests.specs.Waiting.{controlled_by, terminal_back, wait_turn, wait_with}
 use Rattle.sh_jobs.specs.States.{state_of}
 use Rattle.sh_jobs.specs.declared.state.JobState.{JobState}
 use Rattle.sh_jobs.specs.declared.state.JobState.TheVariants.{Running, Suspended}
@@ -74,7 +74,7 @@ use Rattle.sh_builtin_wait.specs.declared.run.Awaited.TheVariants as awaited
 use Rattle.sh_builtin_wait.specs.declared.run.OperandWait.{OperandWait}
 use Rattle.sh_builtin_wait.specs.declared.target.WaitTarget.{WaitTarget}
 use Rattle.sh_builtin_wait.specs.declared.target.WaitTarget.TheVariants as target
-use Rattle.sh_exec_frames.specs.LineReading.{line_by, line_ended, line_goes_on, line_read_by, most_read, read_line_turn}
+use Rattle.sh_exec_requests.specs.LineReading.{line_by, line_ended, line_goes_on, line_read_by, most_read, read_line_turn}
 use Rattle.sh_exec_shell.specs.Forks.{background_input, begun_substitution, behind_fork, fork_turn, is_foreground, is_more, launch_by, list_by, list_turn, made_shell, program_by, stage_by, stage_from, stage_input, stage_one, stage_shell, stage_turn, substitute_turn, substitution_by}
 use Rattle.sh_exec_shell.specs.Reduction.{act_at, act_behind, act_place, expanded_by, reduce}
 use Rattle.sh_kernel.specs.State.{KernelState}

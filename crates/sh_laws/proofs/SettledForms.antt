@@ -2,16 +2,16 @@
 use Rattle.std.proofs.Common.{ℕ, zero, suc, List, [], ◌∷◌, Option, Bool, true, false, refl, sym, subst}
 use Rattle.std.specs.Prelude.{drop, not, ◌&&◌, ◌||◌}
 use Rattle.sh_builtin.specs.Invocations.{invoked}
-use Rattle.sh_builtin.specs.declared.outcome.TextOrigin.{TextOrigin}
-use Rattle.sh_builtin.specs.declared.outcome.TextRun.{TextRun}
-use Rattle.sh_builtin.specs.declared.outcome.TextOrigin.TheVariants as origin
+use Rattle.sh_builtin_outcome.specs.declared.outcome.TextOrigin.{TextOrigin}
+use Rattle.sh_builtin_outcome.specs.declared.outcome.TextRun.{TextRun}
+use Rattle.sh_builtin_outcome.specs.declared.outcome.TextOrigin.TheVariants as origin
 use Rattle.sh_builtin_shell.specs.declared.shell.Shell.{Shell}
-use Rattle.sh_builtin.specs.declared.outcome.Completion.{Completion}
-use Rattle.sh_builtin.specs.declared.outcome.Completion.TheVariants as completion
-use Rattle.sh_builtin.specs.declared.outcome.Outcome.{Outcome}
-use Rattle.sh_builtin.specs.declared.outcome.Leave.{Leave}
-use Rattle.sh_builtin.specs.declared.outcome.Leave.TheVariants as leave
-use Rattle.sh_builtin.specs.declared.builtin.Builtin.{Builtin}
+use Rattle.sh_builtin_outcome.specs.declared.outcome.Completion.{Completion}
+use Rattle.sh_builtin_outcome.specs.declared.outcome.Completion.TheVariants as completion
+use Rattle.sh_builtin_outcome.specs.declared.outcome.Outcome.{Outcome}
+use Rattle.sh_builtin_outcome.specs.declared.outcome.Leave.{Leave}
+use Rattle.sh_builtin_outcome.specs.declared.outcome.Leave.TheVariants as leave
+use Rattle.sh_builtin_outcome.specs.declared.builtin.Builtin.{Builtin}
 use Rattle.sh_exec_command.specs.Series.{given_by, rest_of_series}
 use Rattle.sh_exec_actions.specs.Statuses.{unexcused}
 use Rattle.sh_exec_actions.specs.declared.status.CommandStatus.{CommandStatus}
@@ -22,7 +22,7 @@ use Rattle.sh_exec_actions.specs.declared.action.Report.{Report}
 use Rattle.sh_exec_actions.specs.declared.action.Undo.{Undo}
 use Rattle.sh_exec_forms.proofs.Entered.{entered_with}
 use Rattle.sh_exec_forms.specs.Builtins.{builtin_effect, call, effect_at, evaluation, performed}
-use Rattle.sh_exec_frames.specs.Reporting.{at_completion, behind, output_of, reported, said}
+use Rattle.sh_exec_requests.specs.Reporting.{at_completion, behind, output_of, reported, said}
 use Rattle.sh_exec_forms.specs.Entering.{items_run, list_run, pipeline_run, with_others}
 use Rattle.sh_exec_forms.specs.Forms.{Acted, after, after_by, after_call, after_leave, after_status, after_text, at_action, behind_condition, branch, condition_run, connected_run, goes_on, loop_left, onward, otherwise, returned, runs, undone, ended_within, exits_on_error, is_failure, left_within, within, within_run}
 use Rattle.sh_exec_frames.specs.Frames.{ends_action, may_return, has_loop, is_failure_ignored, last_for, levels_left}

@@ -2,7 +2,7 @@
 use Rattle.std.proofs.Common.{◌≡◌, ℕ, zero, suc, ◌+◌, List, [], ◌∷◌, ◌++◌, length, Option, Some, None, Bool, true, false, sym, subst}
 use Rattle.std.specs.Prelude.{Result, Ok, Err, nat_eq}
 use Rattle.sh_builtin_shell.specs.Functions.{Named}
-use Rattle.sh_builtin.specs.Outcomes.{shell_status}
+use Rattle.sh_builtin_outcome.specs.Outcomes.{shell_status}
 use Rattle.sh_builtin_environment.specs.TrapMaps.{action_of}
 use Rattle.sh_builtin_regular.specs.Assigning.{line_assigned}
 use Rattle.sh_builtin_regular.specs.Lines.{Progress, bytes_taken}
@@ -55,29 +55,29 @@ use Rattle.sh_exec_parts.specs.declared.redirection.Redirection.{Redirection}
 use Rattle.sh_exec_parts.specs.declared.simple.Assignment.{Assignment}
 use Rattle.sh_exec_turns.specs.Acting.{after_collection, collect_by, collect_end, collect_from, collect_turn, end_turn, ending_by, expand_turn, keeps, next, read_turn, redirect_by, redirect_from, redirect_one, redirect_turn, round_run, trap_by, trap_turn, with_undo, with_written, without_trap, write_turn}
 use Rattle.sh_exec_actions.specs.declared.action.PipelineWait.{PipelineWait}
-use Rattle.sh_builtin.specs.declared.outcome.Continuation.{Continuation}
-use Rattle.sh_builtin.specs.declared.outcome.Continuation.TheVariants as continuation
+use Rattle.sh_builtin_outcome.specs.declared.outcome.Continuation.{Continuation}
+use Rattle.sh_builtin_outcome.specs.declared.outcome.Continuation.TheVariants as continuation
 use Rattle.sh_builtin_jobs.specs.declared.continuing.ContinuedJob.{ContinuedJob}
 use Rattle.sh_exec_actions.specs.declared.action.JobWait.{JobWait}
-use Rattle.sh_exec_frames.specs.Continuing.{background_place, background_turn, continue_turn, job_ended, job_wait_by, job_wait_turn, with_suspended}
-use Rattle.sh_exec_frames.specs.Waiting.{answer_by, answer_turn, controlled_by, job_line, terminal_back, told, wait_by, wait_turn, wait_with, with_substitution}
+use Rattle.sh_exec_requests.specs.Continuing.{background_place, background_turn, continue_turn, job_ended, job_wait_by, job_wait_turn, with_suspended}
+use Rattle.sh_exec_requests.specs.Waiting.{answer_by, answer_turn, controlled_by, job_line, terminal_back, told, wait_by, wait_turn, wait_with, with_substitution}
 use Rattle.sh_exec_machine.specs.Waits.{signal_status}
 use Rattle.sh_jobs.specs.States.{state_of}
 use Rattle.sh_jobs.specs.Table.{free_number}
 use Rattle.sh_jobs.specs.declared.state.JobState.{JobState}
 use Rattle.sh_jobs.specs.declared.state.JobState.TheVariants.{Running, Suspended}
 use Rattle.sh_jobs.specs.declared.state.JobState.TheVariants as state
-use Rattle.sh_exec_frames.specs.Writing.{after_writing, unwritten, written_by}
-use Rattle.sh_exec_frames.specs.Placed.{Placed}
+use Rattle.sh_exec_requests.specs.Writing.{after_writing, unwritten, written_by}
+use Rattle.sh_exec_requests.specs.Placed.{Placed}
 use Rattle.sh_builtin.specs.Running.{control_of}
-use Rattle.sh_builtin.specs.declared.outcome.Completion.TheVariants as completion
+use Rattle.sh_builtin_outcome.specs.declared.outcome.Completion.TheVariants as completion
 use Rattle.sh_builtin_jobs.specs.KillRuns.{kill_next}
 use Rattle.sh_builtin_jobs.specs.declared.run.KillAsk.{KillAsk}
 use Rattle.sh_builtin_jobs.specs.declared.run.KillStep.{KillStep}
 use Rattle.sh_builtin_jobs.specs.declared.run.KillStep.TheVariants as kill
-use Rattle.sh_exec_frames.specs.Awaiting.{all_by, await_by, await_ended, await_turn, operand_by, said_so_far, step_place, without_target}
-use Rattle.sh_exec_frames.specs.Signals as signals
-use Rattle.sh_exec_frames.specs.Signals.{after_sending, is_reached, pending_signal, signal_turn}
+use Rattle.sh_exec_requests.specs.Awaiting.{all_by, await_by, await_ended, await_turn, operand_by, said_so_far, step_place, without_target}
+use Rattle.sh_exec_requests.specs.Signals as signals
+use Rattle.sh_exec_requests.specs.Signals.{after_sending, is_reached, pending_signal, signal_turn}
 use Rattle.sh_exec_turns.specs.Traps.{interrupted, interruption, shell_before, trap_before}
 use Rattle.sh_kernel.specs.Calls.{after_take_signal}
 use Rattle.sh_signal.specs.Signals.{number_of}
@@ -89,7 +89,7 @@ use Rattle.sh_builtin_wait.specs.declared.run.OperandWait.{OperandWait}
 use Rattle.sh_builtin_wait.specs.declared.run.WaitStep.{WaitStep}
 use Rattle.sh_builtin_wait.specs.declared.run.WaitStep.TheVariants.{Over, Waits}
 use Rattle.sh_builtin_shell.specs.Shells.{after_suspension, has_job_control, up_to_date}
-use Rattle.sh_exec_frames.specs.LineReading.{fields_given, line_by, line_ended, line_goes_on, line_read_by, most_read, read_line_turn}
+use Rattle.sh_exec_requests.specs.LineReading.{fields_given, line_by, line_ended, line_goes_on, line_read_by, most_read, read_line_turn}
 use Rattle.sh_exec_shell.specs.Forks.{background_input, begun_substitution, behind_fork, Turned, fork_failure, fork_turn, inherited, is_foreground, is_more, launch_by, list_by, list_turn, made_place, program_by, stage_by, stage_from, stage_input, stage_one, stage_place, stage_turn, substitute_turn, substitution_by}
 use Rattle.sh_exec_shell.specs.Reduction.{act_at, act_behind, act_place, at_root, expanded_by, reduce, shell_turn}
 use Rattle.sh_exec_machine.specs.Waits.{wait_status}

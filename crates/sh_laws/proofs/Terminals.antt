@@ -5,9 +5,9 @@ use Rattle.sh_builtin_shell.specs.declared.shell.Shell.{Shell}
 use Rattle.sh_exec_actions.specs.declared.action.Action.TheVariants.{WaitForJob}
 use Rattle.sh_exec_actions.specs.declared.action.Active.TheVariants.{Next}
 use Rattle.sh_exec_actions.specs.declared.action.JobWait.{JobWait}
-use Rattle.sh_exec_frames.specs.Continuing.{job_ended, job_wait_by, job_wait_turn}
-use Rattle.sh_exec_frames.specs.Placed.{at_place}
-use Rattle.sh_exec_frames.specs.Waiting.{controlled_by, terminal_back, wait_turn, waiting}
+use Rattle.sh_exec_requests.specs.Continuing.{job_ended, job_wait_by, job_wait_turn}
+use Rattle.sh_exec_requests.specs.Placed.{at_place}
+use Rattle.sh_exec_requests.specs.Waiting.{controlled_by, terminal_back, wait_turn, waiting}
 use Rattle.sh_exec_machine.specs.Waits.{wait_status}
 use Rattle.sh_jobs.specs.States.{state_of}
 use Rattle.sh_jobs.specs.declared.state.JobState.{JobState}

@@ -5,9 +5,9 @@ use Rattle.sh_builtin_shell.specs.declared.shell.Shell.{Shell}
 use Rattle.sh_exec_actions.specs.declared.action.Action.TheVariants.{WaitForJob}
 use Rattle.sh_exec_actions.specs.declared.action.Active.TheVariants.{Next}
 use Rattle.sh_exec_actions.specs.declared.action.JobWait.{JobWait}
-use Rattle.sh_exec_frames.specs.Continuing.{job_wait_turn}
-use Rattle.sh_exec_frames.specs.Placed.{at_place}
-use Rattle.sh_exec_frames.specs.Waiting.{wait_turn, waiting}
+use Rattle.sh_exec_requests.specs.Continuing.{job_wait_turn}
+use Rattle.sh_exec_requests.specs.Placed.{at_place}
+use Rattle.sh_exec_requests.specs.Waiting.{wait_turn, waiting}
 use Rattle.sh_kernel.specs.State.{KernelState}
 
 -- a wait for a pipeline with job control goes on, or the shell's group is the foreground group behind it

@@ -1,0 +1,3 @@
+pub mod Builtins
+pub mod Messages
+pub mod Outcomes

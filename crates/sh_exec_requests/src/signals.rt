@@ -1,0 +1,211 @@
+//! The signals of a shell's process.
+ghost use Rattle.std.specs.Prelude.{◌≡◌, [], IfOk, OnOk, option_map};
+ghost use Rattle.sh_builtin.specs.Running.{control_of};
+ghost use Rattle.sh_builtin_environment.specs.TrapMaps.{action_of};
+ghost use Rattle.sh_builtin_jobs.specs.KillRuns.{kill_next};
+ghost use Rattle.sh_exec_requests.specs.Placed.{IsPlaced};
+ghost use Rattle.sh_exec_requests.specs.Signals.{after_sending, after_trap_in, after_trap_set, after_traps, after_traps_in, is_reached, next_operand, pending_action, pending_signal, signal_action, signal_sent, signal_turn, step_place};
+ghost use Rattle.sh_kernel.specs.State.{KernelState, StandsAt};
+ghost use Rattle.sh_signal.specs.declared.condition.Condition.TheVariants as condition;
+
+use crate::reporting::reported;
+use sh_base::NoMemory;
+use sh_builtin::job_control;
+use sh_builtin_environment::Traps;
+use sh_builtin_jobs::{KillAsk, KillStep};
+use sh_builtin_outcome::Completion;
+use sh_builtin_shell::Shell;
+use sh_exec_actions::{Action, Active, Report};
+use sh_exec_parts::Queue;
+use sh_jobs::JobFault;
+use sh_kernel::{Kernel, KernelFault};
+use sh_kernel_signals::{SignalAction, SignalSet, SignalTarget};
+use sh_signal::{Condition, Signal};
+use std::alloc::Global;
+
+/// What a process does with a signal whose trap has this action.
+fn signal_action(action: Option<&[u8]>) -> SignalAction
+    ensures { result ≡ signal_action (option_map (λ action. action.now) action.entry) }
+{
+    match action {
+        Some([]) => SignalAction::Ignored,
+        Some([_, ..]) => SignalAction::Caught,
+        None => SignalAction::Default,
+    }
+}
+
+/// The trap of a signal may have been set.
+fn set_action(kernel: &mut Kernel, pid: u32, traps: &Traps, set: SignalSet, signal: Signal)
+    ensures state { (s : KernelState) → StandsAt kernel.old s
+        → StandsAt kernel.new (after_trap_in set s pid traps.now signal) }
+    ensures terminal { kernel.new.terminal ≡ kernel.old.terminal }
+{
+    if set.has(signal) {
+        let action = signal_action(traps.action(Condition::Caught(signal)));
+        kernel.set_action(pid, signal, action);
+    }
+}
+
+/// The traps of those of these signals that are in a set were set.
+#[tactic(auto, using(crate::proofs::Heeding::begins, crate::proofs::Heeding::ends))]
+fn set_actions(kernel: &mut Kernel, pid: u32, traps: &Traps, set: SignalSet, signals: &[Signal])
+    ensures state { (s : KernelState) → StandsAt kernel.old s
+        → StandsAt kernel.new (after_traps_in set s pid traps.now signals.now) }
+    ensures terminal { kernel.new.terminal ≡ kernel.old.terminal }
+{
+    let mut rest = signals;
+    'signals: while let Some((signal, others)) = rest.split_first() {
+        set_action(kernel, pid, traps, set, *signal);
+        rest = others;
+    }
+}
+
+/// The traps of these signals were set in a shell: its process catches those with an action, and ignores those with an empty one (XCU 2.15
+/// trap). Takes no memory.
+#[tactic(auto, unfolding(crate::specs::Signals::after_traps))]
+pub fn heed_traps(kernel: &mut Kernel, shell: &Shell, set: SignalSet)
+    ensures state { (s : KernelState) → StandsAt kernel.old s
+        → StandsAt kernel.new (after_traps s shell.now set) }
+    ensures terminal { kernel.new.terminal ≡ kernel.old.terminal }
+{
+    set_actions(kernel, shell.pid, &shell.traps, set, &Signal::all());
+}
+
+/// The signal that the shell has caught, and for which it hasn't done its action; of several the one with the lowest number. Takes no memory.
+pub fn pending_signal(kernel: &Kernel, shell: &Shell) -> Option<Signal>
+    ensures { (s : KernelState) → StandsAt kernel.now s → result ≡ pending_signal s shell.now }
+{
+    match kernel.member(shell.pid) {
+        Some(member) => member.pending.lowest(),
+        None => None,
+    }
+}
+
+/// The action that the shell does for that signal, if it has one. Takes no memory.
+#[tactic(auto, unfolding(crate::specs::Signals::pending_action))]
+pub fn pending_action<'a>(kernel: &Kernel, shell: &'a Shell) -> Option<&'a [u8]>
+    ensures { (s : KernelState) → StandsAt kernel.now s
+        → option_map (λ action. action.now) result ≡ pending_action s shell.now }
+{
+    match pending_signal(kernel, shell) {
+        Some(signal) => shell.traps.action(Condition::Caught(signal)),
+        None => None,
+    }
+}
+
+/// Whether an operand of kill names a process that lives.
+fn is_reached(kernel: &Kernel, target: &Result<SignalTarget, JobFault>) -> bool
+    ensures { (s : KernelState) → StandsAt kernel.now s → result ≡ is_reached s target.now }
+{
+    match target {
+        Ok(target) => kernel.is_any_reached(target),
+        Err(_) => false,
+    }
+}
+
+/// A signal is sent to what is named; where that is no process nothing happens.
+pub(crate) fn send_to(
+    kernel: &mut Kernel,
+    target: &SignalTarget,
+    signal: Signal,
+) -> Result<(), NoMemory>
+    ensures state { (s : KernelState) → StandsAt kernel.old s
+        → OnOk result (StandsAt kernel.new (after_sending s (Some signal) (Ok target.now))) }
+    ensures terminal { kernel.new.terminal ≡ kernel.old.terminal }
+{
+    match kernel.kill(target, signal) {
+        Ok(()) => Ok(()),
+        Err(KernelFault::NoMemory(lack)) => Err(lack),
+        Err(_) => Ok(()),
+    }
+}
+
+/// A signal is sent to what an operand of kill names, if it names anything.
+fn send(
+    kernel: &mut Kernel,
+    target: &Result<SignalTarget, JobFault>,
+    signal: Option<Signal>,
+) -> Result<(), NoMemory>
+    ensures state { (s : KernelState) → StandsAt kernel.old s
+        → OnOk result (StandsAt kernel.new (after_sending s signal target.now)) }
+    ensures terminal { kernel.new.terminal ≡ kernel.old.terminal }
+{
+    let Some(signal) = signal else {
+        return Ok(());
+    };
+    match target {
+        Ok(target) => send_to(kernel, target, signal),
+        Err(_) => Ok(()),
+    }
+}
+
+/// What follows an operand of kill.
+fn step_place(step: KillStep) -> Active
+    ensures { result ≡ step_place step }
+{
+    match step {
+        KillStep::Asks(ask) => Active::Next(Action::SendSignal(ask)),
+        KillStep::Over(report) => reported(Report {
+            messages: Queue::new(report.messages),
+            status: Completion::Done(report.status),
+        }),
+    }
+}
+
+/// The next operand of kill is looked up.
+fn next_operand(
+    alloc: Global,
+    kernel: &Kernel,
+    shell: &Shell,
+    ask: KillAsk,
+    is_reached: bool,
+) -> Result<Active, NoMemory>
+    ensures { (s : KernelState) → StandsAt kernel.now s → IfOk result (λ active.
+        IsPlaced kernel.now shell.now active (next_operand s shell.now ask is_reached)) }
+{
+    let control = job_control(kernel, shell);
+    let step = ask.go_on(alloc, control, kernel, &shell.jobs, is_reached)?;
+    Ok(step_place(step))
+}
+
+/// The operand of kill is done with.
+fn sent(
+    alloc: Global,
+    kernel: &Kernel,
+    shell: &mut Shell,
+    ask: KillAsk,
+    is_reached: bool,
+) -> Result<Active, NoMemory>
+    ensures { (s : KernelState) → StandsAt kernel.now s → IfOk result (λ active.
+        IsPlaced kernel.now shell.new active (signal_sent s shell.old ask is_reached)) }
+{
+    shell.bring_jobs_up_to_date(kernel);
+    let active = next_operand(alloc, kernel, shell, ask, is_reached)?;
+    Ok(active)
+}
+
+/// The turn in which kill sends its signal to what an operand names (XCU kill). It may end or stop the shell itself. The only error is want of
+/// memory; what the terminal shows is as it was.
+#[tactic(auto, unfolding(crate::specs::Signals::signal_turn))]
+pub fn signal_turn(
+    alloc: Global,
+    kernel: &mut Kernel,
+    shell: &mut Shell,
+    ask: KillAsk,
+) -> Result<Active, NoMemory>
+    ensures state { (s : KernelState) → StandsAt kernel.old s → IfOk result (λ active.
+        IsPlaced kernel.new shell.new active (signal_turn s shell.old ask)) }
+    ensures terminal { kernel.new.terminal ≡ kernel.old.terminal }
+{
+    let is_reached = is_reached(kernel, &ask.target);
+    match send(kernel, &ask.target, ask.send.signal) {
+        Ok(()) => {
+            let active = sent(alloc, kernel, shell, ask, is_reached)?;
+            Ok(active)
+        },
+        Err(lack) => {
+            drop(ask);
+            Err(lack)
+        },
+    }
+}
