@@ -58,6 +58,12 @@ fn command_without_words<'a>(alloc: Global) -> Result<Command<'a>, AllocError> {
     with_bounds(alloc, command)?
         .arg(value_option(
             alloc,
+            "shard",
+            "I/N",
+            "As the first option: try the I-th of N parts of the schedules, and write its file, for `psh-schedules merge FILE..`",
+        ))?
+        .arg(value_option(
+            alloc,
             "keep",
             "FOLDER",
             "Write a file of events for each outcome into this folder, by which psh shows it again",
@@ -124,6 +130,9 @@ fn folder_of(alloc: Global, matches: &ArgMatches) -> Result<Option<String>, Usag
 
 /// What a command line that is in order asks for.
 fn asked_by(alloc: Global, matches: &ArgMatches) -> Result<Asked, UsageFault> {
+    if matches.get_str("shard").is_some() {
+        return Err(usage(alloc, PROGRAM, "--shard has to be the first option"));
+    }
     let bounds = bounds_of(alloc, matches)?;
     let settings = settings_of(alloc, PROGRAM, matches)?;
     let folder = folder_of(alloc, matches)?;
@@ -137,7 +146,7 @@ fn asked_by(alloc: Global, matches: &ArgMatches) -> Result<Asked, UsageFault> {
     })
 }
 
-/// What the words after the program's name ask for. They may be any bytes, but for the paths of the image and of the folder,
+/// What the words after the program's name ask for, or after those that name a shard. They may be any bytes, but for the paths of the image and of the folder,
 /// which are UTF-8.
 pub fn asked(alloc: Global, words: &[Vec<u8>]) -> Result<Asked, UsageFault> {
     let texts = texts_of(alloc, words)?;

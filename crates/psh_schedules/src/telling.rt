@@ -8,7 +8,7 @@ use sh_world::{Event, TurnAction};
 use std::alloc::Global;
 
 /// Adds a number.
-fn put_number(out: &mut Vec<u8>, number: u64) -> Result<(), NoMemory> {
+pub fn put_number(out: &mut Vec<u8>, number: u64) -> Result<(), NoMemory> {
     let mut digits = Buffer::new();
     out.extend_from_slice(digits.format(number).as_bytes())?;
     Ok(())

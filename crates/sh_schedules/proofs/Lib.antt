@@ -1,4 +1,6 @@
 pub mod Stack
+pub mod Shards
+pub mod Sharing
 pub mod Orders
 pub mod Tally
 pub mod Looking

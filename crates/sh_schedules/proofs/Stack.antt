@@ -7,17 +7,6 @@ use Rattle.sh_schedules.specs.Choices.{begun, choices, of_choices, schedules}
 use Rattle.sh_schedules.specs.Paths.{HaveNoOther, behind, event_of, events_of, spare, through, to_try}
 use Rattle.sh_schedules.specs.declared.path.Turn.{Turn}
 
--- a turn at the first of the choices leaves as much to be tried
-pub down : {A : Type 0} (w : Machine A) (k n : ℕ) (s : A) (path : List Turn) (turn : Turn) →
-    length path < n → choices w (spare w k s (events_of path)) (end_of w s (events_of path)) ≡ turn.place ∷ turn.others.items →
-    to_try w k n s (path ++ turn ∷ []) ≡ to_try w k n s path
-unfolding to_try schedules
-down w k zero s path turn short is = absurd (omega arith)
-down w k (suc n) s [] turn short is =
-    sym (ap (of_choices (λ place. schedules w (k - cost w s (Run place)) n (w.step s (Run place)))) is)
-down w k (suc n) s (c ∷ cs) turn short is =
-    ap (λ ts. begun c.place ts ++ through w k n s c.others.items) (down w (k - cost w s (event_of c)) n (w.step s (event_of c)) cs turn (omega arith) is)
-
 -- where the path's events are a schedule, it is the first of those that are still to be tried
 pub leaf : {A : Type 0} (w : Machine A) (k n : ℕ) (s : A) (path : List Turn) →
     length path ≤ n → (choices w (spare w k s (events_of path)) (end_of w s (events_of path)) ≡ []) ⊎ (length path ≡ n) →

@@ -3,7 +3,7 @@ use Rattle.std.proofs.Common.{◌≡◌, ◌≢◌, ℕ, zero, suc, ◌+◌, ◌
 use Rattle.sh_exec.specs.declared.event.Event.{Event}
 use Rattle.sh_schedules.specs.Schedules.{IsSchedule, Machine, end_of, preemptions}
 use Rattle.sh_schedules.specs.Choices.{In}
-use Rattle.sh_schedules.specs.Found.{AreDistinct, AreFound, AreShown, HaveAtLeast, IsAgain, IsFound, IsNumber, IsPlace, IsTally, Noted, Shows, counted}
+use Rattle.sh_schedules.specs.Found.{AreDistinct, AreFound, AreShown, HaveAtLeast, IsAgain, IsFound, IsNumber, IsPlace, IsSum, IsTally, Joined, Noted, Shows, counted}
 use Rattle.sh_schedules.specs.declared.found.Found.{Found}
 use Rattle.sh_schedules.specs.declared.outcome.Outcome.{Outcome}
 
@@ -20,7 +20,18 @@ noted_new [] outcome es c i place beyond = refl
 noted_new (f ∷ fs) outcome es c zero place beyond = absurd (omega arith)
 noted_new (f ∷ fs) outcome es c (suc i) place beyond = inr (place.0, refl, noted_new fs outcome es c i place.1 (omega arith))
 
--- ---- what is known after it
+-- ---- how one that was found elsewhere is added
+pub joined_at : (found : List Found) (one : Found) (i : ℕ) (d g : Found) → IsPlace found one.outcome i → i < length found → IsSum (get_or found i d) one g → Joined found one (set found i g)
+joined_at [] one i d g place within sum = absurd (omega arith)
+joined_at (f ∷ fs) one zero d g place within sum = inl (place, sum, refl)
+joined_at (f ∷ fs) one (suc i) d g place within sum = inr (place.0, refl, joined_at fs one i d g place.1 (omega arith) sum)
+
+pub joined_new : (found : List Found) (one : Found) (i : ℕ) → IsPlace found one.outcome i → length found ≤ i → Joined found one (found ++ one ∷ [])
+joined_new [] one i place beyond = refl
+joined_new (f ∷ fs) one zero place beyond = absurd (omega arith)
+joined_new (f ∷ fs) one (suc i) place beyond = inr (place.0, refl, joined_new fs one i place.1 (omega arith))
+
+-- ---- what is known after a schedule was counted
 counts_more : (found new : List Found) (outcome : Outcome) (es : List Event) (c : ℕ) → Noted found outcome es c new → counted found + 1 < 2 ^ 64 → counted new ≡ counted found + 1
 counts_more [] new outcome es c h few = ap counted h
 counts_more (f ∷ fs) [] outcome es c h few = absurd h

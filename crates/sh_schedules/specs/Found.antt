@@ -26,6 +26,19 @@ Noted (f ∷ fs) outcome events cost [] = ⊥
 Noted (f ∷ fs) outcome events cost (g ∷ gs) =
     ((f.outcome ≡ outcome) × IsAgain f events cost g × (gs ≡ fs)) ⊎ ((f.outcome ≢ outcome) × (g ≡ f) × Noted fs outcome events cost gs)
 
+-- two with one outcome are counted together; that with fewer preemptions is kept
+pub record IsSum (old one new : Found) : Type 0 where
+  pub outcome_is : new.outcome ≡ old.outcome
+  pub counts : old.schedules + one.schedules < 2 ^ 64 → new.schedules ≡ old.schedules + one.schedules
+  pub fewest : new.preemptions ≡ min one.preemptions old.preemptions
+  pub kept : ((new.events ≡ one.events) × (new.preemptions ≡ one.preemptions)) ⊎ ((new.events ≡ old.events) × (new.preemptions ≡ old.preemptions))
+
+-- one that was found elsewhere is added
+abbrev pub Joined : List Found → Found → List Found → Type 0
+Joined [] one new = new ≡ one ∷ []
+Joined (f ∷ fs) one [] = ⊥
+Joined (f ∷ fs) one (g ∷ gs) = ((f.outcome ≡ one.outcome) × IsSum f one g × (gs ≡ fs)) ⊎ ((f.outcome ≢ one.outcome) × (g ≡ f) × Joined fs one gs)
+
 -- one of them has this outcome
 abbrev pub Shows : List Found → Outcome → Type 0
 Shows [] outcome = ⊥
@@ -77,3 +90,10 @@ pub record IsTally {A : Type 0} (w : Machine A) (outcome : A → Outcome) (k n :
   pub distinct : AreDistinct found
   pub counts : counted found ≡ length done
   pub shown : AreShown w outcome s found done
+
+-- it is what these events come to, for so many schedules
+pub record IsRetraced {A : Type 0} (w : Machine A) (outcome : A → Outcome) (s : A) (events : List Event) (schedules : ℕ) (f : Found) : Type 0 where
+  pub events_are : f.events ≡ events
+  pub outcome_is : f.outcome ≡ outcome (end_of w s events)
+  pub preempts : preemptions w s events < 2 ^ 32 → f.preemptions ≡ preemptions w s events
+  pub schedules_are : f.schedules ≡ schedules

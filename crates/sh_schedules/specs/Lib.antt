@@ -3,6 +3,7 @@ pub mod Choices
 pub mod Parting
 pub mod Paths
 pub mod Found
+pub mod Shards
 pub mod Refusals
 pub mod Shell
 pub mod Trying

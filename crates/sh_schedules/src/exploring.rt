@@ -8,13 +8,14 @@ ghost use Rattle.sh_schedules.specs.Paths.{events_of};
 ghost use Rattle.sh_schedules.specs.Found.{Noted};
 ghost use Rattle.sh_schedules.specs.Refusals.{IsRefusal};
 ghost use Rattle.sh_schedules.specs.Shell.{outcome_of, shell};
-ghost use Rattle.sh_schedules.specs.Trying.{HasEnded, HasExplored, IsExploration, IsTried, IsTrying};
+ghost use Rattle.sh_schedules.specs.Trying.{HasExplored, HasExploredShard, HasWalked, IsShardExploration, IsTrying, IsWithin};
 
 use crate::begin::{begin, files_of};
 use crate::fault::ExploreFault;
 use crate::found::{Found, note};
 use crate::look;
 use crate::path::{Turn, advance};
+use crate::shard::{Shard, is_of};
 use crate::turns::{go_to_end, replay};
 use sh_base::NoMemory;
 use sh_base::sequence::Sequence;
@@ -46,7 +47,7 @@ pub struct Exploration {
 }
 
 /// The events of a path.
-fn events_of(alloc: Global, path: &[Turn]) -> Result<Sequence<Event>, NoMemory>
+pub(crate) fn events_of(alloc: Global, path: &[Turn]) -> Result<Sequence<Event>, NoMemory>
     ensures { IfOk result (λ events. events ≡ events_of path.now) }
 {
     let mut events = Sequence::new(alloc);
@@ -72,44 +73,59 @@ fn count<S: Stock>(
     note(found, outcome, events, preemptions)
 }
 
-/// Tries the schedule that comes next, in a world before all events.
+/// Goes to the end of the schedule that comes next, in a world before all events, and counts it if it is of the shard. It answers how many
+/// were tried then; none where it is of the shard, but as many were tried as may be.
 fn try_next<S: Stock>(
     alloc: Global,
     world: &mut World<S>,
     bounds: Bounds,
+    shard: Shard,
+    tried: u64,
     path: &mut Vec<Turn>,
     found: &mut Vec<Found>,
-) -> Result<(), NoMemory>
-    ensures { (s : State S) (tried : ℕ) → WorldStands world.old s → tried + 1 < 2 ^ 64
-        → IsTrying (shell S.meaning) outcome_of bounds.preemptions bounds.turns s path.old.items found.old.items tried
-        → OnOk result (IsTried (shell S.meaning) outcome_of bounds.preemptions bounds.turns s path.new.items found.new.items (tried + 1)) }
+) -> Result<Option<u64>, NoMemory>
+    requires { tried ≤ bounds.schedules }
+    ensures walked { (s : State S) → WorldStands world.old s
+        → IsTrying (shell S.meaning) outcome_of bounds.preemptions bounds.turns s shard path.old.items found.old.items tried
+        → IfOk result (λ after. HasWalked (shell S.meaning) outcome_of bounds.preemptions bounds.turns s shard path.new.items found.new.items tried after) }
+    ensures within { IfOk result (λ after. IsWithin bounds.schedules tried after) }
 {
-    let left = replay(world, path, bounds.preemptions)?;
-    go_to_end(alloc, world, path, left, bounds.turns as usize)?;
-    let preemptions = bounds.preemptions.saturating_sub(left);
+    let begun = replay(world, path, bounds.preemptions)?;
+    let standing = go_to_end(alloc, world, shard, path, begun, bounds.turns as usize)?;
+    if !is_of(shard, standing.mark) {
+        return Ok(Some(tried));
+    }
+    if tried >= bounds.schedules {
+        return Ok(None);
+    }
+    let preemptions = bounds.preemptions.saturating_sub(standing.left);
     count(alloc, world, path, preemptions, found)?;
-    Ok(())
+    Ok(Some(tried + 1))
 }
 
-/// Tries the schedule that comes next.
+/// Goes to the end of the schedule that comes next, as `try_next` does.
 fn try_one<S: Stock>(
     alloc: Global,
     image: &[u8],
     settings: &Settings,
     bounds: Bounds,
+    shard: Shard,
+    tried: u64,
     path: &mut Vec<Turn>,
     found: &mut Vec<Found>,
-) -> Result<(), ExploreFault>
-    ensures tried { (files : FileMap) (tried : ℕ) → read_image image.now ≡ Ok files → tried + 1 < 2 ^ 64
-        → IsTrying (shell S.meaning) outcome_of bounds.preemptions bounds.turns (start files settings.now) path.old.items found.old.items tried
-        → OnOk result (IsTried (shell S.meaning) outcome_of bounds.preemptions bounds.turns (start files settings.now) path.new.items found.new.items (tried + 1)) }
+) -> Result<Option<u64>, ExploreFault>
+    requires { tried ≤ bounds.schedules }
+    ensures walked { (files : FileMap) → read_image image.now ≡ Ok files
+        → IsTrying (shell S.meaning) outcome_of bounds.preemptions bounds.turns (start files settings.now) shard path.old.items found.old.items tried
+        → IfOk result (λ after. HasWalked (shell S.meaning) outcome_of bounds.preemptions bounds.turns (start files settings.now) shard path.new.items found.new.items tried after) }
+    ensures within { IfOk result (λ after. IsWithin bounds.schedules tried after) }
     ensures refused { IfErr result (λ fault. IsRefusal image.now fault) }
 {
     let mut world = begin::<S>(alloc, image, settings)?;
-    let tried = try_next(alloc, &mut world, bounds, path, found);
+    let after = try_next(alloc, &mut world, bounds, shard, tried, path, found);
     drop(world);
-    match tried {
-        Ok(()) => Ok(()),
+    match after {
+        Ok(after) => Ok(after),
         Err(lack) => Err(ExploreFault::NoMemory(lack)),
     }
 }
@@ -121,57 +137,67 @@ struct Tried {
     is_complete: bool,
 }
 
-/// Tries the schedules in order.
+/// Tries the schedules of a shard in order.
 fn try_all<S: Stock>(
     alloc: Global,
     image: &[u8],
     settings: &Settings,
     bounds: Bounds,
+    shard: Shard,
     found: &mut Vec<Found>,
 ) -> Result<Tried, ExploreFault>
     requires { found.old.items ≡ [] }
     ensures explored { (files : FileMap) → read_image image.now ≡ Ok files → IfOk result (λ tried.
-        IsExploration (shell S.meaning) outcome_of bounds.preemptions bounds.turns (start files settings.now) found.new.items tried.schedules tried.is_complete) }
+        IsShardExploration (shell S.meaning) outcome_of bounds.preemptions bounds.turns (start files settings.now) shard found.new.items tried.schedules tried.is_complete) }
     ensures within { IfOk result (λ tried. tried.schedules ≤ bounds.schedules) }
     ensures stopped { IfOk result (λ tried. tried.is_complete ≡ false → tried.schedules ≡ bounds.schedules) }
     ensures refused { IfErr result (λ fault. IsRefusal image.now fault) }
 {
     let mut path = Vec::new(alloc);
-    'schedules: for tried in 0..bounds.schedules {
-        try_one::<S>(alloc, image, settings, bounds, &mut path, found)?;
+    let mut tried = 0u64;
+    'walks: for _walk in 0..u64::MAX {
+        let after = try_one::<S>(
+            alloc, image, settings, bounds, shard, tried, &mut path, found,
+        )?;
+        let Some(more) = after else {
+            return Ok(Tried {
+                schedules: tried,
+                is_complete: false,
+            });
+        };
+        tried = more;
         if !advance(&mut path)? {
             return Ok(Tried {
-                schedules: tried + 1,
+                schedules: tried,
                 is_complete: true,
             });
         }
     }
-    Ok(Tried {
-        schedules: bounds.schedules,
-        is_complete: false,
-    })
+    Err(ExploreFault::TooMany)
 }
 
-/// Tries the schedules of a script, over the files of an image, and tells what they come to.
+/// Tries the schedules of one shard of a script, over the files of an image, and tells what they come to.
 ///
-/// In each turn one process moves. The one that took the last turn goes on, as long as it can; a turn that is given to another while it
-/// can is a preemption. The schedules are those with at most so many preemptions. A schedule ends where no process can take a turn, or
-/// after as many turns as the bounds allow. Each is run from the start of the world. After `bounds.schedules` of them the trying ends,
-/// but not before, unless these are all. The error is that the image is refused, or want of memory.
-pub fn explore<S: Stock>(
+/// The schedules are those that `explore` tries. Each is of just one of the shards (`shards_share_out`), which its beginning tells: the
+/// turns up to and with the second that is given to another process than the one that would come first. So a shard doesn't run what goes
+/// on from the beginnings of others. It tries its own in the order in which `explore` does. After `bounds.schedules` of them the trying
+/// ends, but not before, unless these are all of the shard. The error is that the image is refused, want of memory, or that there were
+/// 2^64 - 1 runs, and more are to come.
+pub fn explore_shard<S: Stock>(
     alloc: Global,
     image: &[u8],
     settings: &Settings,
     bounds: Bounds,
+    shard: Shard,
 ) -> Result<Exploration, ExploreFault>
     ensures explored { IfOk result (λ e.
-        HasExplored S.meaning image.now settings.now bounds e.found.items e.schedules e.is_complete) }
+        HasExploredShard S.meaning image.now settings.now bounds shard e.found.items e.schedules e.is_complete) }
     ensures refused { IfErr result (λ fault. IsRefusal image.now fault) }
 {
     let files = files_of(alloc, image)?;
     drop(files);
     let mut found = Vec::new(alloc);
-    match try_all::<S>(alloc, image, settings, bounds, &mut found) {
+    match try_all::<S>(alloc, image, settings, bounds, shard, &mut found) {
         Ok(tried) => Ok(Exploration {
             found,
             schedules: tried.schedules,
@@ -182,4 +208,29 @@ pub fn explore<S: Stock>(
             Err(fault)
         },
     }
+}
+
+/// Tries the schedules of a script, over the files of an image, and tells what they come to.
+///
+/// In each turn one process moves. The one that took the last turn goes on, as long as it can; a turn that is given to another while it
+/// can is a preemption. The schedules are those with at most so many preemptions. A schedule ends where no process can take a turn, or
+/// after as many turns as the bounds allow. Each is run from the start of the world. After `bounds.schedules` of them the trying ends,
+/// but not before, unless these are all. The error is that the image is refused, want of memory, or that there were 2^64 - 1 runs, and more
+/// are to come.
+pub fn explore<S: Stock>(
+    alloc: Global,
+    image: &[u8],
+    settings: &Settings,
+    bounds: Bounds,
+) -> Result<Exploration, ExploreFault>
+    ensures explored { IfOk result (λ e.
+        HasExplored S.meaning image.now settings.now bounds e.found.items e.schedules e.is_complete) }
+    ensures refused { IfErr result (λ fault. IsRefusal image.now fault) }
+{
+    let all = Shard {
+        before: 0,
+        behind: 0,
+    };
+    let exploration = explore_shard::<S>(alloc, image, settings, bounds, all)?;
+    Ok(exploration)
 }

@@ -18,6 +18,9 @@ pub enum ExploreFault {
     /// No memory was found.
     #[error("out of memory")]
     NoMemory(NoMemory),
+    /// There were 2^64 - 1 runs, and more are to come.
+    #[error("too many schedules")]
+    TooMany,
 }
 
 impl From<NoMemory> for ExploreFault {

@@ -3,13 +3,15 @@ ghost use Rattle.std.specs.Prelude.{◌≡◌, ◌+◌, ◌-◌, ◌<◌, ◌≤
 ghost use Rattle.sh_world.specs.World.{WorldStands};
 ghost use Rattle.sh_exec.specs.State.{State};
 ghost use Rattle.sh_exec.specs.declared.event.Event.TheVariants.{Run};
-ghost use Rattle.sh_schedules.specs.Schedules.{cost, last_place, place_of};
-ghost use Rattle.sh_schedules.specs.Choices.{choices};
+ghost use Rattle.sh_schedules.specs.Schedules.{cost_by, last_place, place_of};
+ghost use Rattle.sh_schedules.specs.Choices.{choices_by};
+ghost use Rattle.sh_schedules.specs.Shards.{is_first_by, next_mark};
 ghost use Rattle.sh_schedules.specs.Shell.{shell};
-ghost use Rattle.sh_schedules.specs.Trying.{HasEnded, HasGone, HasTaken};
+ghost use Rattle.sh_schedules.specs.Trying.{HasEnded, HasGone, HasTaken, IsAfter, IsFirstChoice};
 
-use crate::choices;
 use crate::path::{Turn, first_turn};
+use crate::shard::{Mark, Shard};
+use crate::{choices, shard};
 use sh_base::NoMemory;
 use sh_exec::Event;
 use sh_stock::Stock;
@@ -60,24 +62,6 @@ fn who_can<S: Stock>(world: &World<S>) -> Result<CanMove, NoMemory>
     Ok(who_of(world.last(), pids.as_slice()))
 }
 
-/// The places to try in a world's next turn, where so many preemptions are left.
-fn next_choices<S: Stock>(alloc: Global, world: &World<S>, left: u32) -> Result<Vec<u32>, NoMemory>
-    ensures { (s : State S) → WorldStands world.now s → IfOk result (λ places.
-        places.items ≡ choices (shell S.meaning) left s) }
-{
-    let CanMove { count, here } = who_can(world)?;
-    choices::choices(alloc, here, count, left)
-}
-
-/// How much a turn at a place costs.
-fn cost_at<S: Stock>(world: &World<S>, place: u32) -> Result<u32, NoMemory>
-    ensures { (s : State S) → WorldStands world.now s → IfOk result (λ preempts.
-        preempts ≡ cost (shell S.meaning) s (Run place)) }
-{
-    let CanMove { count: _, here } = who_can(world)?;
-    Ok(choices::cost(here, place))
-}
-
 /// The turn that an event gives.
 #[tactic(auto, unfolding(crate::specs::Shell::shell))]
 pub(crate) fn turn_of<S: Stock>(world: &mut World<S>, event: Event) -> Result<(), NoMemory>
@@ -95,71 +79,128 @@ fn turn_at<S: Stock>(world: &mut World<S>, place: u32) -> Result<(), NoMemory>
     turn_of(world, Event::Run(place))
 }
 
-/// A turn of the process at a place; it answers how many preemptions are left after it.
-fn take_turn<S: Stock>(world: &mut World<S>, place: u32, left: u32) -> Result<u32, NoMemory>
-    ensures { (s : State S) → WorldStands world.old s → IfOk result (λ more.
-        WorldStands world.new ((shell S.meaning).step s (Run place)) × (more ≡ left - cost (shell S.meaning) s (Run place))) }
-{
-    let cost = cost_at(world, place)?;
-    turn_at(world, place)?;
-    Ok(left.saturating_sub(cost))
+/// How things stand after turns.
+#[derive(Clone, Copy)]
+pub(crate) struct Standing {
+    /// How many preemptions are left.
+    pub(crate) left: u32,
+    /// What tells the shard of a schedule that goes on from there.
+    pub(crate) mark: Mark,
 }
 
-/// Takes the turns of a path; it answers how many preemptions are left of so many.
+/// How things stand after a turn at a place.
+fn standing_after(standing: Standing, here: Option<u32>, place: u32) -> Standing
+    ensures left { result.left ≡ standing.left - cost_by here place }
+    ensures mark { result.mark ≡ next_mark standing.mark (is_first_by here place) place }
+{
+    Standing {
+        left: standing.left.saturating_sub(choices::cost(here, place)),
+        mark: shard::next_mark(standing.mark, here, place),
+    }
+}
+
+/// A turn of the process at a place; it answers how things stand after it.
+fn take_turn<S: Stock>(
+    world: &mut World<S>,
+    place: u32,
+    standing: Standing,
+) -> Result<Standing, NoMemory>
+    ensures { (s : State S) → WorldStands world.old s → IfOk result (λ after.
+        WorldStands world.new ((shell S.meaning).step s (Run place)) × IsAfter (shell S.meaning) s (Run place) standing after) }
+{
+    let CanMove { count: _, here } = who_can(world)?;
+    turn_at(world, place)?;
+    Ok(standing_after(standing, here, place))
+}
+
+/// Takes the turns of a path; it answers how things stand after them.
 pub(crate) fn replay<S: Stock>(
     world: &mut World<S>,
     path: &[Turn],
     most: u32,
-) -> Result<u32, NoMemory>
-    ensures { (s : State S) → WorldStands world.old s → IfOk result (λ left.
-        HasTaken world.new (shell S.meaning) most s path.now left) }
+) -> Result<Standing, NoMemory>
+    ensures { (s : State S) → WorldStands world.old s → IfOk result (λ standing.
+        HasTaken world.new (shell S.meaning) most s path.now standing) }
 {
-    let mut left = most;
+    let mut standing = Standing {
+        left: most,
+        mark: shard::first_mark(),
+    };
     for turn in path {
-        left = take_turn(world, turn.place, left)?;
+        standing = take_turn(world, turn.place, standing)?;
     }
-    Ok(left)
+    Ok(standing)
+}
+
+/// The next turn, at the first choice, with those of the other choices that may lead to a schedule of the shard; none where there is no choice.
+fn first_choice(
+    alloc: Global,
+    who: CanMove,
+    shard: Shard,
+    standing: Standing,
+) -> Result<Option<Turn>, NoMemory>
+    ensures { IfOk result (λ turn. IsFirstChoice shard standing who.here (choices_by who.here who.count standing.left) turn) }
+{
+    let places = choices::choices(alloc, who.here, who.count, standing.left)?;
+    let Some(turn) = first_turn(places) else {
+        return Ok(None);
+    };
+    let others = shard::reaching(
+        alloc,
+        shard,
+        standing.mark,
+        who.here,
+        turn.others.as_slice(),
+    )?;
+    Ok(Some(Turn {
+        place: turn.place,
+        others,
+    }))
 }
 
 /// Goes on by one turn, at the first choice; it answers whether there is one.
 fn go_on<S: Stock>(
     alloc: Global,
     world: &mut World<S>,
+    shard: Shard,
     path: &mut Vec<Turn>,
-    left: u32,
+    standing: &mut Standing,
 ) -> Result<bool, NoMemory>
-    ensures gone { (k n : ℕ) (s : State S) → HasTaken world.old (shell S.meaning) k s path.old.items left
+    ensures gone { (k n : ℕ) (s : State S) → HasTaken world.old (shell S.meaning) k s path.old.items standing.old
         → length path.old.items < n
-        → IfOk result (λ more. HasGone world.new (shell S.meaning) k n s path.old.items path.new.items left more) }
+        → IfOk result (λ more. HasGone world.new (shell S.meaning) k n s shard path.old.items path.new.items standing.new more) }
     ensures longer { IfOk result (λ more.
         IsTrue more → length path.new.items ≡ length path.old.items + 1) }
 {
-    let places = next_choices(alloc, world, left)?;
-    let Some(turn) = first_turn(places) else {
+    let who = who_can(world)?;
+    let Some(turn) = first_choice(alloc, who, shard, *standing)? else {
         return Ok(false);
     };
     let place = turn.place;
     path.push(turn)?;
     turn_at(world, place)?;
+    *standing = standing_after(*standing, who.here, place);
     Ok(true)
 }
 
-/// Goes on at the first choice, until there is none or there were as many turns as may be.
+/// Goes on at the first choice, until there is none or there were as many turns as may be. It answers how things stand then.
 pub(crate) fn go_to_end<S: Stock>(
     alloc: Global,
     world: &mut World<S>,
+    shard: Shard,
     path: &mut Vec<Turn>,
-    left: u32,
+    begun: Standing,
     most: usize,
-) -> Result<(), NoMemory>
-    ensures { (k : ℕ) (s : State S) → HasTaken world.old (shell S.meaning) k s path.old.items left
+) -> Result<Standing, NoMemory>
+    ensures { (k : ℕ) (s : State S) → HasTaken world.old (shell S.meaning) k s path.old.items begun
         → length path.old.items ≤ most
-        → OnOk result (HasEnded world.new (shell S.meaning) k most s path.old.items path.new.items left) }
+        → IfOk result (λ standing. HasEnded world.new (shell S.meaning) k most s shard path.old.items path.new.items standing) }
 {
+    let mut standing = begun;
     'turns: while path.len() < most {
-        if !go_on(alloc, world, path, left)? {
-            return Ok(());
+        if !go_on(alloc, world, shard, path, &mut standing)? {
+            return Ok(standing);
         }
     }
-    Ok(())
+    Ok(standing)
 }

@@ -1,10 +1,18 @@
+use Rattle.sh_exec.specs.State.{start}
+use Rattle.sh_schedules.specs.Shell.{outcome_of, shell}
+use Rattle.sh_schedules.proofs.Walk.{whole}
 use Rattle.sh_schedules.proofs.exploring.explore.Goals as goal
 
-pub returns-in-Ok-clause-explored : goal.returns-in-Ok-clause-explored
-returns-in-Ok-clause-explored g c = record {
-  files = c.in_ok-files.files;
-  image_is = c.in_ok-files.ensures.read;
-  exploration = c.in-Ok.ensures.explored _ c.in_ok-files.ensures.read;
-  within = c.in-Ok.ensures.within;
-  stopped = c.in-Ok.ensures.stopped;
-}
+-- the one shard has all schedules
+pub returns-clause-explored : goal.returns-clause-explored
+returns-clause-explored g c =
+    let e = c.in_ok-exploration.ensures.explored in
+    record {
+      files = e.files;
+      image_is = e.image_is;
+      exploration =
+          whole (shell g.S.Stock.meaning) outcome_of c.args.bounds.preemptions c.args.bounds.turns (start e.files c.args.settings.now)
+          c.in_ok-exploration.exploration.found.items c.in_ok-exploration.exploration.schedules c.in_ok-exploration.exploration.is_complete e.exploration;
+      within = e.within;
+      stopped = e.stopped;
+    }

@@ -1,22 +1,41 @@
-use Rattle.std.proofs.Common.{ℕ, List, subst}
+use Rattle.std.proofs.Common.{◌≡◌, ℕ, ◌+◌, ◌<◌, ◌^◌, List, sym, ◌∙◌, subst, arith}
 use Rattle.sh_schedules.specs.Schedules.{end_of}
 use Rattle.sh_schedules.specs.Paths.{events_of}
 use Rattle.sh_schedules.specs.Found.{Noted}
 use Rattle.sh_schedules.specs.Shell.{outcome_of, shell}
 use Rattle.sh_schedules.specs.Trying.{HasTaken}
 use Rattle.sh_schedules.specs.declared.path.Turn.{Turn}
-use Rattle.sh_schedules.proofs.Walk.{tried_more}
+use Rattle.sh_schedules.proofs.Walk.{cut_off, passed, tried_more}
 use Rattle.sh_schedules.proofs.exploring.try_next.Goals as goal
 
-pub returns : goal.returns
-returns g c = λ s tried h few trying.
+-- the schedule is of another shard
+pub returns-then-not-is_of-clause-walked : goal.returns-then-not-is_of-clause-walked
+returns-then-not-is_of-clause-walked g c = λ s h trying.
     let w = shell g.S.Stock.meaning in
-    let taken = subst (λ (path : List Turn). HasTaken c.replay.new.world w c.args.bounds.preemptions s path c.in_ok-left.left) c.deref.ensures.value (c.in_ok-left.ensures s h) in
-    let ended = c.in_ok-go_to_end.ensures c.args.bounds.preemptions s taken trying.short in
+    let taken = subst (λ (path : List Turn). HasTaken c.replay.new.world w c.args.bounds.preemptions s path c.in_ok-begun.begun) c.deref.ensures.value (c.in_ok-begun.ensures s h) in
+    let ended = c.in_ok-standing.ensures c.args.bounds.preemptions s taken trying.short in
+    passed w outcome_of c.args.bounds.preemptions c.args.bounds.turns s c.args.shard c.args.path.now.items c.go_to_end.new.path.items c.args.found.now.items c.go_to_end.new.world
+    c.in_ok-standing.standing c.args.tried trying ended (sym c.is_of.ensures ∙ c.if-not-is_of.true)
+
+-- no more may be tried
+pub returns-then-tried-bounds-clause-walked : goal.returns-then-tried-bounds-clause-walked
+returns-then-tried-bounds-clause-walked g c = λ s h trying.
+    let w = shell g.S.Stock.meaning in
+    let taken = subst (λ (path : List Turn). HasTaken c.replay.new.world w c.args.bounds.preemptions s path c.in_ok-begun.begun) c.deref.ensures.value (c.in_ok-begun.ensures s h) in
+    let ended = c.in_ok-standing.ensures c.args.bounds.preemptions s taken trying.short in
+    cut_off w outcome_of c.args.bounds.preemptions c.args.bounds.turns s c.args.shard c.args.path.now.items c.go_to_end.new.path.items c.args.found.now.items c.go_to_end.new.world
+    c.in_ok-standing.standing c.args.tried trying ended (sym c.is_of.ensures ∙ c.if-not-is_of.false)
+
+pub returns-clause-walked : goal.returns-clause-walked
+returns-clause-walked g c = λ s h trying.
+    let w = shell g.S.Stock.meaning in
+    let taken = subst (λ (path : List Turn). HasTaken c.replay.new.world w c.args.bounds.preemptions s path c.in_ok-begun.begun) c.deref.ensures.value (c.in_ok-begun.ensures s h) in
+    let ended = c.in_ok-standing.ensures c.args.bounds.preemptions s taken trying.short in
     let noted = c.in_ok-count.ensures _ ended.taken.stands in
-    let those = subst (λ (path : List Turn). Noted c.args.found.now.items (outcome_of (end_of w s (events_of c.go_to_end.new.path.items))) (events_of path) c.saturating_sub-preemptions.result c.count.new.found.items)
+    let told = subst (λ (path : List Turn). Noted c.args.found.now.items (outcome_of (end_of w s (events_of c.go_to_end.new.path.items))) (events_of path) c.saturating_sub-preemptions.result c.count.new.found.items)
     c.deref-2.ensures.value noted in
-    tried_more w outcome_of c.args.bounds.preemptions c.args.bounds.turns s c.args.path.now.items c.go_to_end.new.path.items c.args.found.now.items c.count.new.found.items
-    c.go_to_end.new.world c.in_ok-left.left tried trying ended few
+    let few : c.args.tried + 1 < 2 ^ 64 = omega arith in
+    tried_more w outcome_of c.args.bounds.preemptions c.args.bounds.turns s c.args.shard c.args.path.now.items c.go_to_end.new.path.items c.args.found.now.items c.count.new.found.items
+    c.go_to_end.new.world c.in_ok-standing.standing c.args.tried trying ended (sym c.is_of.ensures ∙ c.if-not-is_of.false) few
     (subst (λ (cost : ℕ). Noted c.args.found.now.items (outcome_of (end_of w s (events_of c.go_to_end.new.path.items))) (events_of c.go_to_end.new.path.items) cost c.count.new.found.items)
-    c.saturating_sub-preemptions.ensures those)
+    c.saturating_sub-preemptions.ensures told)

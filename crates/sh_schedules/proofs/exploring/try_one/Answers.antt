@@ -1,4 +1,4 @@
 use Rattle.sh_schedules.proofs.exploring.try_one.Goals as goal
 
-pub returns-in-Ok-clause-tried : goal.returns-in-Ok-clause-tried
-returns-in-Ok-clause-tried g c = λ files tried is few trying. c.in-Ok.ensures _ tried (c.in_ok-world.ensures.stands files is) few trying
+pub returns-in-Ok-clause-walked : goal.returns-in-Ok-clause-walked
+returns-in-Ok-clause-walked g c = λ files is trying. c.in-Ok.ensures.walked _ (c.in_ok-world.ensures.stands files is) trying

@@ -1,14 +1,13 @@
 use Rattle.std.proofs.Common.{◌≡◌, ℕ, ◌-◌, ◌≤◌, length}
 use Rattle.sh_exec.specs.State.{State}
-use Rattle.sh_schedules.specs.Paths.{to_try}
 use Rattle.sh_schedules.specs.Shell.{shell}
-use Rattle.sh_schedules.specs.Trying.{HasTaken}
+use Rattle.sh_schedules.specs.Trying.{HasTaken, left_of}
 use Rattle.sh_schedules.proofs.turns.go_to_end.Given as goal
 
 abbrev pub invariant-turns : goal.invariant-turns
-invariant-turns g l = (k : ℕ) (s : State _) → HasTaken l.fn.world (shell g.S.Stock.meaning) k s l.fn.path.items l.left → length l.fn.path.items ≤ l.most
-    → HasTaken l.world (shell g.S.Stock.meaning) k s l.path.items l.left
-    × (to_try (shell g.S.Stock.meaning) k l.most s l.path.items ≡ to_try (shell g.S.Stock.meaning) k l.most s l.fn.path.items)
+invariant-turns g l = (k : ℕ) (s : State _) → HasTaken l.fn.world (shell g.S.Stock.meaning) k s l.fn.path.items l.fn.begun → length l.fn.path.items ≤ l.most
+    → HasTaken l.world (shell g.S.Stock.meaning) k s l.path.items l.standing
+    × (left_of (shell g.S.Stock.meaning) l.shard k l.most s l.path.items ≡ left_of (shell g.S.Stock.meaning) l.shard k l.most s l.fn.path.items)
     × (length l.path.items ≤ l.most)
 
 abbrev pub decreases-turns : goal.decreases-turns

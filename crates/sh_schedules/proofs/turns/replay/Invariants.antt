@@ -6,4 +6,4 @@ use Rattle.sh_schedules.specs.Trying.{HasTaken}
 use Rattle.sh_schedules.proofs.turns.replay.Given as goal
 
 abbrev pub invariant-loop-turn : goal.invariant-loop-turn
-invariant-loop-turn g l = (s : State _) → WorldStands l.fn.world s → HasTaken l.world (shell g.S.Stock.meaning) l.most s (take l.turn-index l.path) l.left
+invariant-loop-turn g l = (s : State _) → WorldStands l.fn.world s → HasTaken l.world (shell g.S.Stock.meaning) l.most s (take l.turn-index l.path) l.standing

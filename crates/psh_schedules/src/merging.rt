@@ -1,0 +1,200 @@
+//! The putting together of the files of shards.
+use crate::shard_file::{Kept, ShardFault, ShardFile, read_shard};
+use crate::{PROGRAM, refuse};
+use psh_common::{lack, read};
+use sh_schedules::{Exploration, Found, join, retrace};
+use sh_stock::Program;
+use sh_world::Settings;
+use std::str;
+
+/// A file of a shard, with its name.
+#[derive(Drop)]
+pub struct Named<'a> {
+    /// The name.
+    pub name: &'a str,
+    /// What the file holds.
+    pub file: ShardFile,
+}
+
+/// Says what is wrong with a line of a file, and answers the program's exit status.
+fn refuse_line(rt: &HostRuntime, name: &str, line: u64, sentence: &str) -> u8 {
+    let _ = eprintln!(rt; "{PROGRAM}: {name}: line {line}: {sentence}");
+    1
+}
+
+/// The number of a file's shard.
+fn number_of(file: &ShardFile) -> u64 {
+    u64::from(file.shard.before) + 1
+}
+
+/// How many shards there are.
+fn shards_of(file: &ShardFile) -> u64 {
+    u64::from(file.shard.before) + u64::from(file.shard.behind) + 1
+}
+
+/// Whether words are the same.
+fn are_words(words: &[Vec<u8>], others: &[Vec<u8>]) -> bool {
+    let mut rest = others;
+    for word in words {
+        let Some((other, behind)) = rest.split_first() else {
+            return false;
+        };
+        if word.as_slice() != other.as_slice() {
+            return false;
+        }
+        rest = behind;
+    }
+    rest.is_empty()
+}
+
+/// Whether a file is of the same run as the first one, and of another shard than those before it. On an `Err`, which is the program's exit
+/// status, standard error has been told why not.
+fn check(rt: &HostRuntime, named: &Named<'_>, before: &[Named<'_>]) -> Result<(), u8> {
+    let Some(first) = before.first() else {
+        return Ok(());
+    };
+    if shards_of(&named.file) != shards_of(&first.file) {
+        return Err(refuse_line(
+            rt,
+            named.name,
+            1,
+            "another number of shards than in the first file",
+        ));
+    }
+    if !are_words(named.file.words.as_slice(), first.file.words.as_slice()) {
+        return Err(refuse_line(rt, named.name, 2, "other words than in the first file"));
+    }
+    if named.file.image.as_slice() != first.file.image.as_slice() {
+        return Err(refuse_line(
+            rt,
+            named.name,
+            named.file.image_line,
+            "another image than in the first file",
+        ));
+    }
+    for other in before {
+        if number_of(&other.file) == number_of(&named.file) {
+            return Err(refuse_line(rt, named.name, 1, "this shard was given before"));
+        }
+    }
+    Ok(())
+}
+
+/// Reads a file of a shard.
+fn read_one<'a>(rt: &HostRuntime, name: &'a str) -> Result<Named<'a>, u8> {
+    let bytes = read(rt, PROGRAM, name)?;
+    match read_shard(rt.alloc(), bytes.as_slice()) {
+        Ok(file) => Ok(Named { name, file }),
+        Err(ShardFault::BadLine { line }) => Err(refuse_line(
+            rt,
+            name,
+            line,
+            "not as in the file of a shard",
+        )),
+        Err(ShardFault::NoMemory(_)) => Err(lack(rt, PROGRAM)),
+    }
+}
+
+/// Adds the file of a word to those before it.
+fn add_one<'a>(rt: &HostRuntime, files: &mut Vec<Named<'a>>, word: &'a [u8]) -> Result<(), u8> {
+    let Ok(name) = str::from_utf8(word) else {
+        let _ = eprintln!(rt; "{PROGRAM}: the path of a shard is not UTF-8");
+        return Err(2);
+    };
+    let named = read_one(rt, name)?;
+    check(rt, &named, files.as_slice())?;
+    match files.push(named) {
+        Ok(()) => Ok(()),
+        Err(_) => Err(lack(rt, PROGRAM)),
+    }
+}
+
+/// Whether there is a shard with a number.
+fn has_shard(files: &[Named<'_>], number: u64) -> bool {
+    for named in files {
+        if number_of(&named.file) == number {
+            return true;
+        }
+    }
+    false
+}
+
+/// Whether all shards are there. On an `Err`, which is the program's exit status, standard error has been told which are missing.
+fn check_all(rt: &HostRuntime, files: &[Named<'_>], shards: u64) -> Result<(), u8> {
+    let mut is_whole = true;
+    for number in 1..=shards {
+        if !has_shard(files, number) {
+            let _ = eprintln!(rt; "{PROGRAM}: shard {number} of {shards} is missing");
+            is_whole = false;
+        }
+    }
+    if is_whole { Ok(()) } else { Err(1) }
+}
+
+/// The files of shards with these names: all of one run, each shard once. On an `Err`, which is the program's exit status, standard error has been told
+/// what is wrong.
+pub fn read_all<'a>(rt: &HostRuntime, words: &'a [Vec<u8>]) -> Result<Vec<Named<'a>>, u8> {
+    let mut files = Vec::new(rt.alloc());
+    for word in words {
+        add_one(rt, &mut files, word.as_slice())?;
+    }
+    let Some(first) = files.first() else {
+        let _ = eprintln!(rt; "usage: {PROGRAM} merge FILE..");
+        return Err(2);
+    };
+    let shards = shards_of(&first.file);
+    check_all(rt, files.as_slice(), shards)?;
+    Ok(files)
+}
+
+/// Adds what was found of an outcome to what was found of others.
+fn add_kept(
+    rt: &HostRuntime,
+    found: &mut Vec<Found>,
+    settings: &Settings,
+    image: &[u8],
+    kept: &Kept,
+) -> Result<(), u8> {
+    let places = kept.places.as_slice();
+    let one = match retrace::<Program>(rt.alloc(), image, settings, places, kept.schedules) {
+        Ok(one) => one,
+        Err(fault) => return Err(refuse(rt, fault)),
+    };
+    match join(found, one) {
+        Ok(()) => Ok(()),
+        Err(_) => Err(lack(rt, PROGRAM)),
+    }
+}
+
+/// Adds what one shard found.
+fn add_file(
+    rt: &HostRuntime,
+    all: &mut Exploration,
+    settings: &Settings,
+    file: &ShardFile,
+) -> Result<(), u8> {
+    for kept in &file.kept {
+        add_kept(rt, &mut all.found, settings, file.image.as_slice(), kept)?;
+    }
+    all.schedules = all.schedules.saturating_add(file.schedules);
+    all.is_complete = all.is_complete && file.is_complete;
+    Ok(())
+}
+
+/// What the shards found together: their schedules are run again from the start, so that each outcome is that of the script. On an `Err`, which is
+/// the program's exit status, standard error has been told why there is nothing.
+pub fn joined(
+    rt: &HostRuntime,
+    files: &[Named<'_>],
+    settings: &Settings,
+) -> Result<Exploration, u8> {
+    let mut all = Exploration {
+        found: Vec::new(rt.alloc()),
+        schedules: 0,
+        is_complete: true,
+    };
+    for named in files {
+        add_file(rt, &mut all, settings, &named.file)?;
+    }
+    Ok(all)
+}
