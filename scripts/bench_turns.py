@@ -1,16 +1,24 @@
 #!/usr/bin/env python3
 """Instructions for each turn of the built program, and how they grow.
 
-usage: bench_turns.py [many]
+usage: bench_turns.py [many | waiting] [PROGRAM]
 
 Runs scripts under valgrind's callgrind, each with two numbers of turns, and prints the instructions for one turn between
 the two: of `yes | head -n N >/dev/null` and of `cat <big | cat | cat >out`, then of ten times the work, and of both behind
 900 processes that have ended. The last line is the greatest ratio. With the word `many`: of the first behind 100,000
-processes that have ended, which takes minutes, and the memory that psh takes after 1,000 and after 100,000 of them. Needs
-valgrind, and psh built (./build).
+processes that have ended, which takes minutes, and the memory that psh takes after 1,000 and after 100,000 of them.
+
+With the word `waiting`: of one process that goes on, beside 2 processes that can't move and beside 900. These read the terminal,
+where nothing is typed, or a pipe into which nothing is written, or are stopped. At both sizes up to three more wait: shells,
+and the writer of the pipe. What goes on is `yes`, which has the greatest number, or a loop of the shell that started the others.
+The turns begin once all the others wait. The lines that are written show that each of them is one of what goes on; else the run
+ends with a fault. The last line is the greatest ratio.
+
+Needs valgrind, and psh built (./build), or a path to it as the last word.
 """
 
 import os
+import subprocess
 import sys
 import tempfile
 
@@ -69,7 +77,60 @@ def many():
         last = each(folder, image, late + filtered, behind + 1_000, behind + 19_000)
         print(f"yes | head: {base:.0f} a turn, behind 100,000 ended processes {last:.0f}, ratio {last / base:.2f}")
         few, all_of_them = memory(folder, image, 1_000), memory(folder, image, 100_000)
-        print(f"memory after 1,000 ended processes {few} KiB, after 100,000 {all_of_them} KiB")
+        print(f"memory after 1,000 ended processes {few} KiB, after 100,000 {all_of_them} KiB, ratio {all_of_them / few:.2f}")
+
+
+# How processes wait, what each of them runs, and what the script stands in.
+WAYS = [
+    ("read the terminal", "cat </dev/tty", "%s"),
+    ("read a pipe", "cat <&3", "cat </dev/tty | { exec 3<&0; %s; }"),
+    ("are stopped", "cat", "set -m; %s"),
+]
+# What goes on, and how many turns it takes for each line that it writes.
+MOVERS = [("yes", 1), ("while :; do echo y; done", 3)]
+# How many turns are measured: whole rounds of each.
+MEASURED = 3_000
+
+
+def beside(count, waiter, around, mover):
+    """A script that starts so many processes that wait, and goes on with something."""
+    return around % f"i=0; while [ $i -lt {count} ]; do i=$((i+1)); {waiter} & done; {mover}"
+
+
+def all_wait(count):
+    """A number of turns after which all of so many processes have long waited. Each takes six until it does, with those of the shell."""
+    return 1_000 + 6 * count
+
+
+def lines(folder, image, script, turns):
+    """How many lines the terminal has after so many turns."""
+    events = measuring.write_events(f"{folder}/events", turns)
+    ran = subprocess.run([PROGRAM, "-c", script, image, events], stdout=subprocess.PIPE, check=True)
+    return ran.stdout.count(b"\n")
+
+
+def each_of_mover(folder, image, script, begin, per_line):
+    """The instructions for one turn of what goes on. Ends where another process takes one, or none does."""
+    end = begin + MEASURED
+    written = lines(folder, image, script, end) - lines(folder, image, script, begin)
+    if written * per_line != MEASURED:
+        sys.exit(f"{script}: {written} lines in {MEASURED} turns from {begin} on, and not {MEASURED // per_line}")
+    return each(folder, image, script, begin, end)
+
+
+def waiting():
+    """Beside 2 processes that wait, and beside 900."""
+    ratios = []
+    with tempfile.TemporaryDirectory() as folder:
+        image = f"{folder}/image"
+        write_image(image, [])
+        for way, waiter, around in WAYS:
+            for mover, per_line in MOVERS:
+                scripts = [(beside(count, waiter, around, mover), all_wait(count)) for count in (2, 900)]
+                few, many_of_them = (each_of_mover(folder, image, script, begin, per_line) for script, begin in scripts)
+                ratios.append(many_of_them / few)
+                print(f"{mover}: {few:.0f} a turn beside 2 processes that {way}, {many_of_them:.0f} beside 900, ratio {ratios[-1]:.2f}", flush=True)
+    print(f"greatest ratio {max(ratios):.2f}")
 
 
 def main():
@@ -99,6 +160,11 @@ def main():
         print(f"greatest ratio {max(ratios):.2f}")
 
 
-if sys.argv[1:] not in ([], ["many"]):
+KINDS = {"many": many, "waiting": waiting}
+words = sys.argv[1:]
+run = KINDS[words.pop(0)] if words and words[0] in KINDS else main
+if words:
+    PROGRAM = os.path.abspath(words[0])
+if len(words) > 1 or words and not os.access(PROGRAM, os.X_OK):
     sys.exit(__doc__)
-(many if sys.argv[1:] else main)()
+run()

@@ -1,9 +1,12 @@
 #!/usr/bin/env python3
-"""Refuses each growth of memory in turn in the built program, for some scripts.
+"""Refuses each growth of memory in turn in the built program, for some scripts and typed sessions.
 
-Each run must answer as with ample memory, or with 3, `psh: out of memory` and the terminal's bytes after some of the events. Needs a C
-compiler; build psh first (./build).
+usage: refuse_growth.py [typed] [PROGRAM]
+
+Each run must answer as with ample memory, or with 3, `psh: out of memory` and the terminal's bytes after some of the events. With the word
+`typed` there are only the sessions. Needs a C compiler, and psh built (./build), or a path to it as the last word.
 """
+import itertools
 import os
 import subprocess
 import sys
@@ -84,6 +87,51 @@ ROWS = [
 # scripts of the image that the shell runs, and their turns
 SCRIPTS = [("/empty", 2), ("/tabs", 16)]
 
+# Typed sessions of an interactive shell. A number is so many turns, each byte of a text a key.
+SESSIONS = [
+    # commands, one that isn't there, a key taken back, two lines at once; the end of input
+    [2, "echo a  'b c'\n", 6, "x=1 nosuchh\x7f $?\n", 12, "echo $?\n:;:\n", 12, "\x04", 3],
+    # jobs in the background that are told at the prompt, done and killed
+    [2, "(exit 3) & f() { :; }; f & jobs\n", 26, "\n", 8, "yes >/dev/null &\n", 12, "kill %1\n", 12, "jobs; exit 4\n", 10],
+    # a program and a pipeline that are stopped by a key and go on in the foreground; one is left stopped at the shell's end
+    [2, "cat\n", 9, "ab\n", 4, "\x1a", 4, "jobs -l; echo $?\n", 10, "fg\n", 6, "c\n", 4, "\x04", 6, "cat\n", 9, "\x1a", 6, "\x04", 3],
+    [2, "cat | having a >f\n", 16, "ab\nb\n", 9, "\x1a", 5, "fg >&2\n", 8, "a\n", 6, "\x1a", 5, "cat <f; kill %1; bg\n", 22, "\x04", 3],
+    # jobs in the background that read the terminal
+    [2, "cat & cat | cat &\n", 26, "\n", 8, "bg; fg %1\n", 16, "oak\n", 4, "\x04", 6, "kill -s KILL %2\n", 8, "\n", 6, "\x04", 3],
+    # INT at the prompt, in a line, in commands, in a substitution, in a read, where there is no job control, and before PS2; QUIT
+    [2, "\x03", 4, "echo a\x03", 4, "while :; do :; done; echo no\n", 9, "\x03", 4, "echo $?\n", 6, "cat | cat; echo no\n", 14, "\x03", 6, "\x04", 3],
+    [2, "x=$(cat); echo no\n", 12, "\x03", 8, "read x; echo no\n", 5, "ab\x03", 4, "f() { eval 'cat'; }\nf >f 2<&1\n", 18, "\x1c", 8, "exit\n", 6],
+    [2, "set +m\n", 5, "(cat); echo no\n", 12, "\x03", 6, "yes >/dev/null & wait; echo no\n", 16, "\x03", 12, "echo $?\n", 6, "\x04", 3],
+    [2, "if :; then\n", 4, "\x03", 4, "echo 'a\n", 4, "b\x03", 4, "cat <<E\n", 4, "a\n", 4, "\x03", 4, "echo $?\n", 6, "\x04", 3],
+    # commands that are complete after some lines, and some that the end of input leaves incomplete
+    [2, "for i in a b\n", 4, "do echo $i \\\n", 4, "'c\n", 4, "d'; done\n", 16, "\x04", 3],
+    [2, "f() {\n", 4, "echo \"$(echo\n", 4, "echo $1)\"; }\n", 6, "f b\n", 20, "\x04", 3],
+    [2, "echo a &&\n", 4, "\x04", 4, "echo b; case $x in\n", 4, "\x04", 4, "cat <<E\n", 4, "b", 2, "\x04\x04", 12, "\x04", 3],
+    # here-documents
+    [2, "cat <<E; echo $?\n", 4, "a $((1+1))\n", 4, "E\n", 16, "cat <<-'F' <<E | cat\n", 4, "\t$x\n", 4, "\tF\n", 4, "b\nE\n", 26, "\x04", 3],
+    # traps on signals, at the prompt, in commands and in `wait`, and on the end
+    [2, "trap 'echo t $?' INT; trap 'echo u; f' USR1\n", 8, "f() { x=$(echo v); echo $x; }\n", 6, "\x03", 8,
+     "kill -s USR1 $$; echo a\n", 26, "\x04", 3],
+    [2, "trap 'echo t' INT TSTP\n", 6, "read y\n", 5, "\x03", 4, "ab\n", 8,
+     "cat; echo $y\n", 10, "\x03", 12, "\x1a", 6, "trap 'exit 3' TERM; kill $$\n", 12],
+    [2, "trap 'echo t' INT CHLD\n", 6, "cat & wait; echo $?\n", 24, "yes >/dev/null & wait $!; echo $?\n", 20, "\x03", 24, "\x04", 4],
+    [2, "trap 'echo \"e $?\"' EXIT; (exit 3); trap >f; cat <f\n", 24, "fi\n", 6, "\x04", 8],
+    # errors that drop the line
+    [2, "echo ok; echo $((1/0)); echo no\n", 8, "fi\n", 5, "readonly r=1; x=a r=2; echo no\n", 9,
+     "f() { echo ${n?gone}; }; f; echo $x\n", 10, "\x04", 3],
+    [2, "set -u; . none; echo no\n", 8, "{ echo \"$n\"; } >f; echo no\n", 9,
+     "eval 'fi'; echo no\n", 5, "exec none; echo $?\n", 7, "echo a >/bin; echo $?\n", 9, "\x04", 3],
+    # other prompts, on another file too, and a program in the shell's place
+    [2, "PS1='% ' PS2=\n", 5, "echo \\\n", 3, "a\n", 6, "exec 2>f; :& wait\n", 16, "fi\n", 5,
+     "unset PS1; cat <f\n", 14, "exec cat\n", 6, "b\n", 5, "\x04", 3],
+]
+
+# The same for an interactive shell with a text, which prompts nothing.
+TEXT_SESSIONS = [
+    ("x=$((1/0)) no\ncat; echo no\n: &\nfg; read y; echo no\ntrap 'echo t' EXIT; cat &\nfg; echo $?",
+     [12, "a\n", 5, "\x03", 30, "\x03", 26, "\x1a", 16]),
+]
+
 STOCK = ("cat", "having", "head", "yes")
 
 FILES = [
@@ -97,7 +145,7 @@ FILES = [
 WANTING = b"psh: out of memory\n"
 
 # so many growths in a row that change nothing are taken for the end of them
-QUIET = 40
+QUIET = 100
 
 
 def write_image(path):
@@ -112,45 +160,95 @@ def write_image(path):
         image.write(b"end\n")
 
 
-def main():
-    top = os.path.dirname(os.path.dirname(os.path.abspath(__file__)))
-    program = os.path.join(top, "out", "psh")
+def turns_of(count):
+    """So many events that are turns."""
+    return ["next"] * count
+
+
+def events_of(session):
+    """The events of a typed session."""
+    events = []
+    for part in session:
+        events += turns_of(part) if isinstance(part, int) else [f"key {byte:02x}" for byte in part.encode()]
+    return events
+
+
+def written(events):
+    """Some events as their file has them: turns in a row are one line."""
+    text = ""
+    for event, same in itertools.groupby(events):
+        times = len(list(same))
+        text += f"next {times}\n" if event == "next" else f"{event}\n" * times
+    return text
+
+
+def runs_of(image, path, is_typed):
+    """The words of each run, what is told of it, and its events."""
+    texts = [(["-c", text, image, path], text, turns_of(turns)) for text, turns in ROWS]
+    scripts = [([image, path, script], script, turns_of(turns)) for script, turns in SCRIPTS]
+    sessions = [([image, path], session, events_of(session)) for session in SESSIONS]
+    sessions += [(["-i", "-c", text, image, path], [text, *session], events_of(session)) for text, session in TEXT_SESSIONS]
+    return sessions if is_typed else texts + scripts + sessions
+
+
+class Program:
+    """The program, with a library that refuses a growth."""
+
+    def __init__(self, program, folder):
+        self.program, self.path, self.shim = program, os.path.join(folder, "events"), os.path.join(folder, "shim.so")
+        subprocess.run(["cc", "-shared", "-fPIC", "-x", "c", "-", "-o", self.shim], input=SHIM.encode(), check=True)
+
+    def run(self, words, events, refused=0):
+        """What a run comes to in which this growth is refused, or none."""
+        with open(self.path, "w", encoding="utf-8") as file:
+            file.write(written(events))
+        env = {"LD_PRELOAD": self.shim, "REFUSE": str(refused)} if refused else {}
+        done = subprocess.run([self.program, *words], capture_output=True, env=env)
+        return done.returncode, done.stdout, done.stderr
+
+    def refuse_all(self, words, told, events):
+        """Refuses each growth in turn; the number of refusals, and of bad ones."""
+        whole = self.run(words, events)
+        fronts = [self.run(words, events[:k])[1] for k in range(len(events))] + [whole[1]]
+        refusals = bad = growth = quiet = 0
+        while quiet < QUIET:
+            growth += 1
+            status, out, said = self.run(words, events, growth)
+            if (status, out, said) == whole:
+                quiet += 1
+                continue
+            quiet = 0
+            refusals += 1
+            if not (status == 3 and out in fronts and said == WANTING):
+                bad += 1
+                print("growth %d of %r: status %d, %r, %r" % (growth, told, status, out, said))
+        print("%r: %d refusals" % (told, refusals))
+        return refusals, bad
+
+
+def main(program, is_typed):
     bad = all_refusals = 0
     with tempfile.TemporaryDirectory() as folder:
-        shim = os.path.join(folder, "shim.so")
-        subprocess.run(["cc", "-shared", "-fPIC", "-x", "c", "-", "-o", shim], input=SHIM.encode(), check=True)
-        image, events = os.path.join(folder, "image"), os.path.join(folder, "events")
+        image = os.path.join(folder, "image")
         write_image(image)
-
-        def run(words, turns, refused):
-            with open(events, "w") as file:
-                file.write("next %d\n" % turns if turns else "")
-            env = {"LD_PRELOAD": shim, "REFUSE": str(refused)} if refused else {}
-            done = subprocess.run([program, *words], capture_output=True, env=env)
-            return done.returncode, done.stdout, done.stderr
-
-        texts = [(["-c", text, image, events], text, turns) for text, turns in ROWS]
-        scripts = [([image, events, path], path, turns) for path, turns in SCRIPTS]
-        for words, text, turns in texts + scripts:
-            whole = run(words, turns, 0)
-            fronts = [run(words, k, 0)[1] for k in range(turns)] + [whole[1]]
-            refusals = growth = quiet = 0
-            while quiet < QUIET:
-                growth += 1
-                status, out, said = run(words, turns, growth)
-                if (status, out, said) == whole:
-                    quiet += 1
-                    continue
-                quiet = 0
-                refusals += 1
-                if not (status == 3 and out in fronts and said == WANTING):
-                    bad += 1
-                    print("growth %d of %r: status %d, %r, %r" % (growth, text, status, out, said))
+        shell = Program(program, folder)
+        for words, told, events in runs_of(image, shell.path, is_typed):
+            refusals, bad_ones = shell.refuse_all(words, told, events)
             all_refusals += refusals
-            print("%r: %d refusals" % (text, refusals))
+            bad += bad_ones
     print("%d refusals, %d bad" % (all_refusals, bad))
     return 1 if bad else 0
 
 
+def asked(words):
+    """The program, and whether there are only the sessions."""
+    is_typed = words[:1] == ["typed"]
+    top = os.path.dirname(os.path.dirname(os.path.abspath(__file__)))
+    paths = words[is_typed:] or [os.path.join(top, "out", "psh")]
+    if len(paths) > 1 or not os.access(paths[0], os.X_OK):
+        sys.exit(__doc__)
+    return os.path.abspath(paths[0]), is_typed
+
+
 if __name__ == "__main__":
-    sys.exit(main())
+    sys.exit(main(*asked(sys.argv[1:])))

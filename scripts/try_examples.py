@@ -5,10 +5,10 @@ usage: try_examples.py [PSH]
        try_examples.py --gallery
 
 PSH is crates/psh/out/psh where it isn't given. Each folder in examples/ is one example; examples/README.md says what it holds and how it
-is run. A run has to end with 0, to write what is in `terminal` and nothing to standard error; where the folder has a `report`, a run
-with --report has to write that too. Where it hasn't, the script has to have ended. A folder has to have all its files, and its README
-to name a section of the standard; docs/GALLERY.md has to be what --gallery writes. What PSH writes to standard error when it is asked
-for help, such as that it isn't proved, is left out. Ends with 1 where anything is wrong.
+is run. Where it has no script its commands are typed. A run has to end with 0, to write what is in `terminal` and nothing to standard
+error; where the folder has a `report`, a run with --report has to write that too. Where it hasn't, the shell has to have ended. A folder
+has to have all its files, and its README to name a section of the standard; docs/GALLERY.md has to be what --gallery writes. What PSH
+writes to standard error when it is asked for help, such as that it isn't proved, is left out. Ends with 1 where anything is wrong.
 """
 import os
 import re
@@ -20,8 +20,8 @@ EXAMPLES = f"{TOP}/examples"
 GALLERY = f"{TOP}/docs/GALLERY.md"
 
 # What each folder has, and what it may have.
-FILES = ["README.md", "events", "image", "script", "terminal"]
-FURTHER = ["report"]
+FILES = ["README.md", "events", "image", "terminal"]
+FURTHER = ["report", "script"]
 
 # A page: a title, what the example shows, where the standard says it, and what to look at.
 PAGE = re.compile(r"# (.+)\n\nShows: (.+)\n\nStandard: (.*\bXCU .+)\n\nLook at: .+\n")
@@ -31,7 +31,7 @@ LONGEST = 120
 
 HEAD = """# Gallery
 
-Scripts that show one thing each. `examples/README.md` says how to run them. `scripts/try_examples.py --gallery` writes this page, and
+Scripts, and sessions that are typed, which show one thing each. `examples/README.md` says how to run them. `scripts/try_examples.py --gallery` writes this page, and
 `scripts/try_examples.py` runs all of them and checks that the page is current.
 
 | example | shows | standard | the first line that it writes |
@@ -87,8 +87,9 @@ def lacks_of(name):
 
 def run(program, name, options):
     """What a run comes to: its exit status, standard output and standard error."""
-    text = content(name, "script").rstrip(b"\n")
-    words = [program, *options, "-c", text, "image", "events"]
+    is_typed = not os.path.exists(f"{EXAMPLES}/{name}/script")
+    source = [] if is_typed else ["-c", content(name, "script").rstrip(b"\n")]
+    words = [program, *options, *source, "image", "events"]
     try:
         done = subprocess.run(words, cwd=f"{EXAMPLES}/{name}", stdin=subprocess.DEVNULL, capture_output=True, timeout=LONGEST)
     except subprocess.TimeoutExpired:

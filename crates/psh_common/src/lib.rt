@@ -15,7 +15,8 @@ pub use events::{EventFault, MOST_BYTES, Turns, read_events};
 pub use fault::{UsageFault, usage};
 pub use files::{lack, read, tell, write};
 pub use operands::{
-    file_operand, letters_option, matches_of, monitor_option, path_of, text_option, words_operand,
+    file_operand, interactive_option, letters_option, matches_of, monitor_option, path_of,
+    text_option, words_operand,
 };
 pub use process::put_process;
 pub use settings::settings_of;

@@ -30,6 +30,14 @@ pub fn monitor_option<'a>(alloc: Global) -> Arg<'a> {
         .help("Job control from the start, as by `set -m`")
 }
 
+/// The option `-i`, by which the shell is interactive (XCU sh, 2.1); its id is `interactive`.
+pub fn interactive_option<'a>(alloc: Global) -> Arg<'a> {
+    Arg::new(alloc, "interactive")
+        .short('i')
+        .action(ArgAction::SetTrue)
+        .help("An interactive shell, as without TEXT and SCRIPT; that has job control too")
+}
+
 /// A required operand that names a file, with its id, the word that help shows and what it is.
 pub fn file_operand<'a>(alloc: Global, id: &'a str, shown: &'a str, help: &'a str) -> Arg<'a> {
     Arg::new(alloc, id)
@@ -38,14 +46,13 @@ pub fn file_operand<'a>(alloc: Global, id: &'a str, shown: &'a str, help: &'a st
         .required(true)
 }
 
-/// The operands after the files: the script and the positional parameters; their id is `words`. Without `-c` there has to be one.
-/// The error is want of memory.
-pub fn words_operand<'a>(alloc: Global) -> Result<Arg<'a>, AllocError> {
+/// The operands after the files: the script and the positional parameters; their id is `words`. Without `-c` and without one the shell is
+/// interactive, and reads its commands from the terminal.
+pub fn words_operand<'a>(alloc: Global) -> Arg<'a> {
     Arg::new(alloc, "words")
         .value_name("WORDS")
         .help("The script's path in the image, or with -c $0; and the positional parameters")
         .num_args(0..)
-        .required_unless_present("text")
 }
 
 /// What clap finds in the words, or what it says of words that are not in order.

@@ -7,11 +7,12 @@ use sh_exec::{Settings, Source};
 use sh_vars::{Options, ShellOption, Text};
 use std::alloc::{AllocError, Global};
 
-/// Where the commands come from: a text, or the script that the first word names.
-fn source_of(alloc: Global, text: Option<&str>, zero: &str) -> Result<Source, AllocError> {
-    match text {
-        Some(text) => Ok(Source::Text(Sequence::from_vec(bytes_of(alloc, text)?))),
-        None => Ok(Source::Script(Sequence::from_vec(bytes_of(alloc, zero)?))),
+/// Where the commands come from: a text, or the script that the first word names, or the terminal.
+fn source_of(alloc: Global, text: Option<&str>, words: &[&str]) -> Result<Source, AllocError> {
+    match (text, words) {
+        (Some(text), _) => Ok(Source::Text(Sequence::from_vec(bytes_of(alloc, text)?))),
+        (None, [script, ..]) => Ok(Source::Script(Sequence::from_vec(bytes_of(alloc, script)?))),
+        (None, []) => Ok(Source::Terminal),
     }
 }
 
@@ -36,7 +37,7 @@ fn options_of(letters: &str) -> Option<Options> {
     Some(options)
 }
 
-/// A start by a text or a script: the first word is `$0`, the others are `$1` and so on.
+/// A start: the first word is `$0`, the others are `$1` and so on.
 fn started(
     alloc: Global,
     text: Option<&str>,
@@ -49,7 +50,7 @@ fn started(
     };
     let zero = Text::from_vec(bytes_of(alloc, first)?);
     let args = parameters(alloc, rest)?;
-    let source = source_of(alloc, text, first)?;
+    let source = source_of(alloc, text, words)?;
     Ok(Settings {
         source,
         zero,
@@ -58,7 +59,8 @@ fn started(
     })
 }
 
-/// How the shell is started that the words ask for, which clap found by the options `text`, `letters` and `monitor` and the operands `words`.
+/// How the shell is started that the words ask for, which clap found by the options `text`, `letters`,
+/// `interactive` and `monitor` and the operands `words`. An interactive shell has job control (XCU sh, 2.11).
 /// The error is `bad letters`, or want of memory.
 pub fn settings_of(
     alloc: Global,
@@ -68,8 +70,13 @@ pub fn settings_of(
     let Some(options) = options_of(matches.get_str("letters").unwrap_or("")) else {
         return Err(usage(alloc, program, "bad letters"));
     };
-    let options = options.switched(ShellOption::Monitor, matches.get_flag("monitor"));
+    let text = matches.get_str("text");
     let words = matches.get_strs("words").unwrap_or(&[]);
-    let settings = started(alloc, matches.get_str("text"), words, options)?;
+    let is_interactive = matches.get_flag("interactive") || (text.is_none() && words.is_empty());
+    let has_job_control = matches.get_flag("monitor") || is_interactive;
+    let options = options
+        .switched(ShellOption::Interactive, is_interactive)
+        .switched(ShellOption::Monitor, has_job_control);
+    let settings = started(alloc, text, words, options)?;
     Ok(settings)
 }

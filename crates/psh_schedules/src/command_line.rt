@@ -3,8 +3,8 @@ use crate::PROGRAM;
 use crate::usage::Asked;
 use clap::{Arg, ArgMatches, Command};
 use psh_common::{
-    UsageFault, file_operand, letters_option, matches_of, monitor_option, path_of, settings_of,
-    text_option, texts_of, usage, words_operand,
+    UsageFault, file_operand, interactive_option, letters_option, matches_of, monitor_option,
+    path_of, settings_of, text_option, texts_of, usage, words_operand,
 };
 use sh_base::decimal::{all_digits, limited_value};
 use sh_schedules::Bounds;
@@ -70,13 +70,14 @@ fn command_without_words<'a>(alloc: Global) -> Result<Command<'a>, AllocError> {
         ))?
         .arg(text_option(alloc))?
         .arg(letters_option(alloc))?
+        .arg(interactive_option(alloc))?
         .arg(monitor_option(alloc))?
         .arg(file_operand(alloc, "image", "IMAGE", "The file with the image of files"))
 }
 
 /// The options and operands of psh-schedules.
 fn command<'a>(alloc: Global) -> Result<Command<'a>, AllocError> {
-    let words = words_operand(alloc)?;
+    let words = words_operand(alloc).required_unless_present("text")?;
     match command_without_words(alloc) {
         Ok(command) => command.arg(words),
         Err(error) => {

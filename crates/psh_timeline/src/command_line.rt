@@ -3,8 +3,8 @@ use crate::PROGRAM;
 use crate::usage::Asked;
 use clap::{Arg, ArgAction, ArgMatches, Command};
 use psh_common::{
-    UsageFault, file_operand, letters_option, matches_of, monitor_option, path_of, settings_of,
-    text_option, texts_of, words_operand,
+    UsageFault, file_operand, interactive_option, letters_option, matches_of, monitor_option,
+    path_of, settings_of, text_option, texts_of, words_operand,
 };
 use std::alloc::{AllocError, Global};
 
@@ -24,6 +24,7 @@ fn command_without_words<'a>(alloc: Global) -> Result<Command<'a>, AllocError> {
         .arg(lines_option(alloc))?
         .arg(text_option(alloc))?
         .arg(letters_option(alloc))?
+        .arg(interactive_option(alloc))?
         .arg(monitor_option(alloc))?
         .arg(file_operand(alloc, "image", "IMAGE", "The file with the image of files"))?
         .arg(file_operand(
@@ -36,7 +37,7 @@ fn command_without_words<'a>(alloc: Global) -> Result<Command<'a>, AllocError> {
 
 /// The options and operands of psh-timeline.
 fn command<'a>(alloc: Global) -> Result<Command<'a>, AllocError> {
-    let words = words_operand(alloc)?;
+    let words = words_operand(alloc);
     match command_without_words(alloc) {
         Ok(command) => command.arg(words),
         Err(error) => {

@@ -7,6 +7,8 @@ use sh_world::{Status, TurnAction};
 fn phrase(action: TurnAction) -> &'static str {
     match action {
         TurnAction::ReadCommand => "reads a command",
+        TurnAction::Prompt => "prompts",
+        TurnAction::Drop => "drops its command",
         TurnAction::TakeTrap => "takes a trap",
         TurnAction::SendSignal => "sends a signal",
         TurnAction::DefineFunction => "defines a function",
@@ -30,6 +32,8 @@ fn phrase(action: TurnAction) -> &'static str {
 pub fn letter(action: TurnAction) -> &'static str {
     match action {
         TurnAction::ReadCommand => "c",
+        TurnAction::Prompt => "$",
+        TurnAction::Drop => "^",
         TurnAction::TakeTrap => "t",
         TurnAction::SendSignal => "k",
         TurnAction::DefineFunction => "d",

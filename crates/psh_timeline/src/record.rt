@@ -145,6 +145,8 @@ fn prospect_of<S: Stock>(alloc: Global, world: &World<S>, pid: u32) -> Result<Pr
     };
     let action = if world.takes_trap(pid) {
         TurnAction::TakeTrap
+    } else if world.drops(pid) {
+        TurnAction::Drop
     } else {
         task.action().unwrap_or(TurnAction::Idle)
     };

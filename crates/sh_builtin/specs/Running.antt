@@ -44,7 +44,7 @@ use Rattle.sh_builtin_regular.specs.declared.conditional.Verdict.{Verdict}
 use Rattle.sh_builtin_regular.specs.declared.conditional.Verdict.TheVariants as verdict
 use Rattle.sh_builtin_regular.specs.Operands.{reader_of}
 use Rattle.sh_builtin_regular.specs.declared.reader.LineReader.{LineReader}
-use Rattle.sh_builtin_shell.specs.Shells.{has_job_control, own_group, up_to_date}
+use Rattle.sh_builtin_shell.specs.Shells.{has_job_control, is_interactive, own_group, up_to_date}
 use Rattle.sh_builtin_wait.specs.declared.run.Awaited.TheVariants as awaited
 use Rattle.sh_builtin_wait.specs.declared.command.WaitStart.{WaitStart}
 use Rattle.sh_builtin_wait.specs.declared.command.WaitStart.TheVariants as start
@@ -57,6 +57,9 @@ use Rattle.sh_kernel.specs.State.{KernelState}
 use Rattle.sh_kernel_descriptors.specs.Machine.{MachineState}
 use Rattle.sh_kernel_descriptors.specs.Terminals.{is_terminal}
 use Rattle.sh_kernel_descriptors.specs.declared.descriptor.DescriptorRef.TheVariants.{Number}
+use Rattle.sh_kernel_signals.specs.Sets.{no_signals, with_signal}
+use Rattle.sh_kernel_signals.specs.declared.set.SignalSet.{SignalSet}
+use Rattle.sh_signal.specs.declared.signal.Signal.TheVariants.{TerminalStop, TerminalInput, TerminalOutput}
 use Rattle.sh_vars.specs.Environment.{Environment, value_of}
 
 -- the shell after a built-in, and what that comes to
@@ -74,6 +77,16 @@ with_vars shell env = record shell { vars = env }
 -- of what a built-in leaves that acts on the variables
 abbrev pub ran : Builtin → Shell → Ran → BuiltIn
 ran builtin shell r = with_outcome (with_vars shell r.environment) (outcome_of builtin r.outcome)
+
+-- set may switch job control: then an interactive shell does other things with the signals by which the terminal would stop it (2.11)
+abbrev pub stop_signals : SignalSet
+stop_signals = with_signal (with_signal (with_signal no_signals TerminalStop) TerminalInput) TerminalOutput
+
+abbrev pub switched_signals : Shell → SignalSet
+switched_signals shell = if is_interactive shell then stop_signals else no_signals
+
+abbrev pub option_set : Shell → Ran → BuiltIn
+option_set shell r = with_outcome (with_vars shell r.environment) (with_signals (outcome_of Set r.outcome) (switched_signals shell))
 
 -- of what trap leaves
 abbrev pub trapped : Shell → Trapped → BuiltIn
@@ -235,7 +248,7 @@ built_in s shell last Pwd arguments = with_outcome shell (outcome_of Pwd (pwd_ou
 built_in s shell last Read arguments = with_outcome shell (read_outcome (reader_of arguments))
 built_in s shell last ReadOnly arguments = ran ReadOnly shell (mark_ran attribute.ReadOnly shell.vars arguments)
 built_in s shell last Return arguments = with_outcome shell (leave_with Return leave.Return last (operands_of arguments))
-built_in s shell last Set arguments = ran Set shell (set_ran shell.vars arguments)
+built_in s shell last Set arguments = option_set shell (set_ran shell.vars arguments)
 built_in s shell last Shift arguments = ran Shift shell (shift_ran shell.vars arguments)
 built_in s shell last Test arguments = with_outcome shell (test_outcome s.machine shell Test arguments)
 built_in s shell last Trap arguments = trapped shell (trap_ran shell.fixed shell.traps arguments)

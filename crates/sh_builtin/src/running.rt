@@ -1,7 +1,7 @@
 //! Built-in utilities as they act.
 ghost use Rattle.std.specs.Prelude.{◌≡◌, ◌++◌, IfOk};
 ghost use Rattle.sh_builtin_outcome.specs.Outcomes.{outcome_of, with_signals};
-ghost use Rattle.sh_builtin.specs.Running.{built_in, echo_outcome, eval_outcome, joined, with_outcome, without_functions};
+ghost use Rattle.sh_builtin.specs.Running.{built_in, echo_outcome, eval_outcome, joined, option_set, switched_signals, with_outcome, without_functions};
 ghost use Rattle.sh_kernel.specs.State.{KernelState, StandsAt};
 
 use crate::command::command;
@@ -21,6 +21,8 @@ use sh_builtin_environment::{
 use sh_builtin_outcome::{Builtin, Outcome, TextOrigin};
 use sh_builtin_shell::Shell;
 use sh_kernel::Kernel;
+use sh_kernel_signals::SignalSet;
+use sh_signal::Signal;
 use std::alloc::Global;
 
 /// What a built-in does with its arguments to a shell, in the shell's process of a kernel, and what it comes to. `exit` and `return` leave with
@@ -73,8 +75,10 @@ pub fn run(
         },
         Builtin::Return => return_with(alloc, last, operands_of(arguments)),
         Builtin::Set => {
+            let signals = switched_signals(shell);
             let answer = set(alloc, &mut shell.vars, arguments)?;
-            Outcome::of(alloc, Builtin::Set, answer)
+            let outcome = Outcome::of(alloc, Builtin::Set, answer)?;
+            Ok(outcome.with_signals(signals))
         },
         Builtin::Shift => Outcome::of(alloc, Builtin::Shift, shift(&mut shell.vars, arguments)),
         Builtin::Test => test(alloc, kernel, shell, Builtin::Test, arguments),
@@ -99,6 +103,19 @@ fn remove_functions(shell: &mut Shell, arguments: &[Text])
     if let Some(names) = functions_to_unset(arguments) {
         shell.functions.remove_all(names);
     }
+}
+
+/// The signals with which a shell does something else where job control is switched.
+fn switched_signals(shell: &Shell) -> SignalSet
+    ensures { result ≡ switched_signals shell.now }
+{
+    let none = SignalSet::new();
+    if !shell.is_interactive() {
+        return none;
+    }
+    none.with(Signal::TerminalStop)
+        .with(Signal::TerminalInput)
+        .with(Signal::TerminalOutput)
 }
 
 /// What trap comes to.

@@ -30,6 +30,10 @@ with_last env (Some pid) = with_background env pid
 abbrev pub own_group : KernelState → (pid : ℕ) → ℕ
 own_group s pid = option_map_or (λ m. m.group) (member_at s.members pid) 0
 
+-- ---- interactive shells (2.1, sh -i): the first shell alone, while the option is on
+abbrev pub is_interactive : Shell → Bool
+is_interactive shell = shell.is_first && shell.vars.options.interactive
+
 -- ---- job control (XCU 2.11): the first shell has it, while `-m` is on
 abbrev pub has_job_control : Shell → Bool
 has_job_control shell = shell.is_first && shell.vars.options.monitor

@@ -1,7 +1,7 @@
 //! Shells.
 ghost use Rattle.std.specs.Prelude.{◌≡◌, ◌==◌, IfOk, OnErr, OnOk};
 ghost use Rattle.std.specs.List.{list_any};
-ghost use Rattle.sh_builtin_shell.specs.Shells.{after_launch, after_suspension, all_but, all_but_those, forked_shell, group_by, has_job_control, in_background, in_foreground, job_group, last_of, own_group, up_to_date, with_last, without_background, without_job, without_process};
+ghost use Rattle.sh_builtin_shell.specs.Shells.{after_launch, after_suspension, all_but, all_but_those, forked_shell, group_by, has_job_control, in_background, in_foreground, is_interactive, job_group, last_of, own_group, up_to_date, with_last, without_background, without_job, without_process};
 ghost use Rattle.sh_builtin_shell.specs.declared.shell.Shell.{Shell};
 ghost use Rattle.sh_jobs.specs.Table.{free_number};
 ghost use Rattle.sh_kernel.specs.State.{KernelState, StandsAt};
@@ -154,6 +154,13 @@ impl Shell {
         }
     }
 
+    /// Whether it is interactive (XCU 2.1, sh `-i`): it is the first shell, and `-i` is on. Takes no memory.
+    pub fn is_interactive(&self) -> bool
+        ensures { result ≡ is_interactive self.now }
+    {
+        self.is_first && self.vars.options().interactive
+    }
+
     /// Whether it has job control (XCU 2.11): it is the first shell, and `-m` is on. Takes no memory.
     pub fn has_job_control(&self) -> bool
         ensures { result ≡ has_job_control self.now }
@@ -172,25 +179,26 @@ impl Shell {
     }
 
     /// An asynchronous list with this text was started in these processes (XCU 2.9.3.1): the shell knows them, behind those that it knew, `$!` is
-    /// the last of them, and the list is a job, which is known to run. Without a process `$!` stays. The only error is want of memory; the
-    /// shell is then as it was.
+    /// the last of them, and the list is a job, which is known to run. The number of the job is the answer. Without a process `$!` stays. The
+    /// only error is want of memory; the shell is then as it was.
     pub fn launch(
         &mut self,
         alloc: Global,
         kernel: &Kernel,
         text: &[u8],
         pids: &[u32],
-    ) -> Result<(), NoMemory>
+    ) -> Result<usize, NoMemory>
         ensures ok { (s : KernelState) → StandsAt kernel.now s
             → OnOk result (self.new ≡ after_launch s self.old text.now pids.now) }
+        ensures number { IfOk result (λ number. number ≡ free_number self.old.jobs) }
         ensures err { OnErr result (self.new ≡ self.old) }
     {
         let count = self.background.len();
         self.background.extend_from_slice(pids)?;
         match self.add_job(alloc, kernel, text, pids, JobState::Running) {
-            Ok(_) => {
+            Ok(number) => {
                 set_last(&mut self.vars, pids);
-                Ok(())
+                Ok(number)
             },
             Err(lack) => {
                 self.background.truncate(count);

@@ -1,5 +1,6 @@
 -- What a process does in its next turn, as far as it may have to wait.
-use Rattle.std.specs.Prelude.{ℕ, List, length, Option, Some, None}
+use Rattle.std.specs.Prelude.{ℕ, List, length, Bool, false, Option, Some, None, if◌then◌else◌}
+use Rattle.sh_builtin_shell.specs.declared.shell.Shell.{Shell}
 use Rattle.sh_builtin_wait.specs.Waits.{processes_of}
 use Rattle.sh_builtin_wait.specs.declared.run.Awaited.{Awaited}
 use Rattle.sh_builtin_wait.specs.declared.run.Awaited.TheVariants.{All, Operand}
@@ -8,9 +9,10 @@ use Rattle.sh_exec.specs.declared.task.Task.TheVariants.{Runs, Asks}
 use Rattle.sh_exec_actions.specs.declared.action.Active.{Active}
 use Rattle.sh_exec_actions.specs.declared.action.Active.TheVariants.{Acting, Calling, Evaluating, Next, Done, Leaving}
 use Rattle.sh_exec_actions.specs.declared.action.Action.{Action}
-use Rattle.sh_exec_actions.specs.declared.action.Action.TheVariants.{Reading, Expanding, ReadSubstitution, WaitSubstitution, ReadLine, Awaiting, SendSignal, ContinueJob, WaitForJob, Redirecting, Forking, Starting, ForkStage, ForkList, AssignLoopVariable, Defining, Waiting, Writing, Trapping, Ending}
-use Rattle.sh_exec_forms.specs.Running.{active_of}
+use Rattle.sh_exec_actions.specs.declared.action.Action.TheVariants.{Reading, Prompting, ReadInput, Expanding, ReadSubstitution, WaitSubstitution, ReadLine, Awaiting, SendSignal, ContinueJob, WaitForJob, Redirecting, Forking, Starting, ForkStage, ForkList, AssignLoopVariable, Defining, Waiting, Writing, Trapping, Ending}
+use Rattle.sh_exec_entering.specs.Running.{active_of}
 use Rattle.sh_exec_requests.specs.Signals.{pending_signal}
+use Rattle.sh_exec_turns.specs.Traps.{is_called}
 use Rattle.sh_kernel.specs.State.{KernelState}
 use Rattle.sh_kernel.specs.Turns.{Action as Asked, Acts, ReadsBy, WaitsFor, WaitsUntraced, WritesBy}
 use Rattle.sh_kernel_descriptors.specs.declared.descriptor.DescriptorRef.TheVariants.{Aside, Number}
@@ -36,6 +38,8 @@ waiting children (Some text) = WaitsUntraced children
 
 abbrev pub action_at : (caught : Option Signal) → (background : List ℕ) → Action → Asked
 action_at caught background (Reading rest status) = Acts
+action_at caught background (Prompting text) = Acts
+action_at caught background (ReadInput text) = ReadsBy (Number 0)
 action_at caught background (Expanding wants pending) = Acts
 action_at caught background (ReadSubstitution substitution) = collecting substitution.aside
 action_at caught background (WaitSubstitution substitution) = WaitsFor substitution.children
@@ -72,6 +76,20 @@ action_for ask.Stop = Acts
 action_for ask.Idle = Acts
 action_for (ask.End status) = Acts
 
+-- ---- where a shell has a trap to take, or INT has it drop what it does (2.11, 2.12), it waits for nothing; the first shell's prompt never waits, since
+-- its descriptor 2 doesn't lead to a pipe
+abbrev pub is_called_in : KernelState → Shell → Active → Bool
+is_called_in s shell (Next place) = is_called s shell place
+is_called_in s shell (Acting invocation fields) = false
+is_called_in s shell (Calling body fields) = false
+is_called_in s shell (Evaluating how text) = false
+is_called_in s shell (Done ended) = false
+is_called_in s shell (Leaving leave) = false
+
+abbrev pub shell_action : KernelState → Shell → Active → Asked
+shell_action s shell active =
+    if is_called_in s shell active then Acts else action_in (pending_signal s shell) shell.background active
+
 abbrev pub action_of : {S : Type 0} → KernelState → Task S → Asked
-action_of s (Runs interpreter) = action_in (pending_signal s interpreter.shell) interpreter.shell.background (active_of interpreter.run)
+action_of s (Runs interpreter) = shell_action s interpreter.shell (active_of interpreter.run)
 action_of s (Asks pid ask program) = action_for ask

@@ -19,8 +19,9 @@ use Rattle.sh_exec_actions.specs.declared.action.Active.{Active}
 use Rattle.sh_exec_actions.specs.declared.action.Active.TheVariants.{Acting, Calling, Evaluating, Next, Done, Leaving}
 use Rattle.sh_exec_actions.specs.declared.action.ProgramStart.{ProgramStart}
 use Rattle.sh_exec_actions.specs.declared.action.Action.{Action}
-use Rattle.sh_exec_actions.specs.declared.action.Action.TheVariants.{Reading, Expanding, ReadSubstitution, WaitSubstitution, ReadLine, Awaiting, SendSignal, ContinueJob, WaitForJob, Redirecting, Forking, Starting, ForkStage, ForkList, AssignLoopVariable, Defining, Waiting, Writing, Trapping, Ending}
-use Rattle.sh_exec_forms.specs.Running.{At}
+use Rattle.sh_exec_actions.specs.declared.action.Action.TheVariants.{Reading, Prompting, ReadInput, Expanding, ReadSubstitution, WaitSubstitution, ReadLine, Awaiting, SendSignal, ContinueJob, WaitForJob, Redirecting, Forking, Starting, ForkStage, ForkList, AssignLoopVariable, Defining, Waiting, Writing, Trapping, Ending}
+use Rattle.sh_exec_entering.specs.Running.{At}
+use Rattle.sh_exec_requests.specs.Signals.{after_own_signals}
 use Rattle.sh_kernel.specs.Calls.{start_call}
 use Rattle.sh_kernel.specs.State.{KernelState}
 use Rattle.sh_kernel_processes.specs.Processes.{parent_at}
@@ -50,10 +51,14 @@ pub record NamedStart : Type 0 where
 abbrev pub failure : {S : Type 0} → KernelState → (ends_shell : Bool) → List ℕ → ℕ → Left (Started S)
 failure s ends_shell text status = with_next s (Refused (Writing (message text) (failing ends_shell status)))
 
--- a program of the stock takes its first turn; what the shell had set aside is closed
+-- what the shell had set aside is closed, and the process doesn't ignore what an interactive shell ignores by itself (2.11)
+abbrev pub begun : KernelState → Shell → KernelState
+begun s shell = after_own_signals (start_call s shell.pid).after shell shell.pid
+
+-- a program of the stock takes its first turn
 abbrev pub stock_start : {S : Type 0} → Meaning S → KernelState → Shell → NamedStart → Option S → Left (Started S)
 stock_start m s shell start (Some program) =
-    with_next (start_call s shell.pid).after (Becomes (program_in shell.pid (asking m program answer.Started)))
+    with_next (begun s shell) (Becomes (program_in shell.pid (asking m program answer.Started)))
 stock_start m s shell start None = failure s start.ends_shell (cannot_execute start.name) statuses.cannot_execute
 
 abbrev pub parent_of : KernelState → ℕ → ℕ
@@ -66,11 +71,11 @@ ignored_by s pid = option_map_or (λ m. m.ignored) (member_at s.members pid) no_
 
 abbrev pub script_shell : KernelState → Shell → List ℕ → List (List ℕ) → Shell
 script_shell s shell path operands =
-    record { pid = shell.pid; vars = script_environment shell.vars path operands shell.pid (parent_of s shell.pid); functions = []; traps = none_set; known = []; background = []; jobs = []; is_first = false; fixed = ignored_by s shell.pid }
+    record { pid = shell.pid; vars = script_environment shell.vars path operands shell.pid (parent_of s shell.pid); functions = []; traps = none_set; known = []; background = []; jobs = []; is_first = false; fixed = ignored_by (begun s shell) shell.pid }
 
 abbrev pub script_start : {S : Type 0} → KernelState → Shell → List ℕ → List ℕ → List (List ℕ) → Left (Started S)
 script_start s shell path text operands =
-    with_next (start_call s shell.pid).after (Becomes (shell_at (script_shell s shell path operands) (Reading text 0)))
+    with_next (begun s shell) (Becomes (shell_at (script_shell s shell path operands) (Reading text 0)))
 
 abbrev pub started_by : {S : Type 0} → Meaning S → KernelState → Shell → NamedStart → Located → Left (Started S)
 started_by m s shell start located.Missing = failure s start.ends_shell (not_found start.name) statuses.not_found
@@ -98,6 +103,8 @@ start_turn m s shell start = start_by m s shell start start.fields
 -- what a shell is about to start
 abbrev pub starting_at : Action → Option ProgramStart
 starting_at (Reading rest status) = None
+starting_at (Prompting text) = None
+starting_at (ReadInput text) = None
 starting_at (Expanding wants pending) = None
 starting_at (ReadSubstitution substitution) = None
 starting_at (WaitSubstitution substitution) = None

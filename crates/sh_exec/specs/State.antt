@@ -19,7 +19,7 @@ use Rattle.sh_exec.specs.Choice.{choice}
 use Rattle.sh_exec.specs.Processes.{TasksTurned, living, runnable_pids, turn_among, with_child}
 use Rattle.sh_exec.specs.declared.event.Event.{Event}
 use Rattle.sh_exec.specs.declared.event.Event.TheVariants.{Run, Next, Key}
-use Rattle.sh_exec.specs.Tasks.{first_jobs, first_pid, first_task, pid_of}
+use Rattle.sh_exec.specs.Tasks.{first_jobs, first_pid, first_task, pid_of, with_signals_of}
 use Rattle.sh_exec.specs.declared.settings.Settings.{Settings}
 use Rattle.sh_exec.specs.declared.task.Task.{Task}
 
@@ -29,12 +29,12 @@ pub record State (S : Type 0) : Type 0 where
   pub tasks : List (Task S)
   pub last : Option ℕ
 
+-- the first process, and what it does with signals
+abbrev pub start_of : {S : Type 0} → KernelState → Task S → State S
+start_of s task = record { machine = with_signals_of s task; tasks = task ∷ []; last = None }
+
 abbrev pub start : {S : Type 0} → FileMap → Settings → State S
-start image settings = record {
-  machine = kernel.starting image;
-  tasks = first_task image settings ∷ [];
-  last = None;
-}
+start image settings = start_of (kernel.starting image) (first_task image settings)
 
 -- the process of this pid, as long as it lives
 abbrev pub task_of : {S : Type 0} → State S → ℕ → Option (Task S)

@@ -3,7 +3,7 @@
 use Rattle.std.specs.Option.{is_some}
 use Rattle.std.specs.Prelude.{List, ℕ, length, Bool, false, Option, Some, None}
 use Rattle.sh_builtin_shell.specs.declared.shell.Shell.{Shell}
-use Rattle.sh_exec_turns.specs.Traps.{trap_before}
+use Rattle.sh_exec_turns.specs.Traps.{drops_before, trap_before}
 use Rattle.sh_kernel.specs.State.{KernelState}
 use Rattle.sh_exec.specs.declared.task.Task.{Task}
 use Rattle.sh_exec.specs.declared.task.Task.TheVariants.{Runs, Asks}
@@ -12,10 +12,10 @@ use Rattle.sh_exec.specs.declared.turn_action.TurnAction.TheVariants as turn
 use Rattle.sh_exec_actions.specs.declared.action.Active.{Active}
 use Rattle.sh_exec_actions.specs.declared.action.Active.TheVariants.{Acting, Calling, Evaluating, Next, Done, Leaving}
 use Rattle.sh_exec_actions.specs.declared.action.Action.{Action}
-use Rattle.sh_exec_actions.specs.declared.action.Action.TheVariants.{Reading, Expanding, ReadSubstitution, WaitSubstitution, ReadLine, Awaiting, SendSignal, ContinueJob, WaitForJob, Redirecting, Forking, Starting, ForkStage, ForkList, AssignLoopVariable, Defining, Waiting, Writing, Trapping, Ending}
+use Rattle.sh_exec_actions.specs.declared.action.Action.TheVariants.{Reading, Prompting, ReadInput, Expanding, ReadSubstitution, WaitSubstitution, ReadLine, Awaiting, SendSignal, ContinueJob, WaitForJob, Redirecting, Forking, Starting, ForkStage, ForkList, AssignLoopVariable, Defining, Waiting, Writing, Trapping, Ending}
 use Rattle.sh_exec_actions.specs.declared.action.ToExpand.{ToExpand}
 use Rattle.sh_exec_actions.specs.declared.action.ToExpand.TheVariants.{Words, Values, Redirects, ForWords, CaseWord, CasePattern}
-use Rattle.sh_exec_forms.specs.Running.{active_of}
+use Rattle.sh_exec_entering.specs.Running.{active_of}
 use Rattle.sh_stock.specs.declared.asking.Ask.{Ask}
 use Rattle.sh_stock.specs.declared.asking.Ask.TheVariants as ask
 
@@ -29,6 +29,8 @@ turn_action_of_expansion (CasePattern choice) = turn.Expand
 
 abbrev pub turn_action_at : Action → TurnAction
 turn_action_at (Reading rest status) = turn.ReadCommand
+turn_action_at (Prompting text) = turn.Prompt
+turn_action_at (ReadInput text) = turn.Read
 turn_action_at (Expanding wants pending) = turn_action_of_expansion wants
 turn_action_at (ReadSubstitution substitution) = turn.ReadSubstitution
 turn_action_at (WaitSubstitution substitution) = turn.Wait
@@ -83,10 +85,25 @@ abbrev pub takes_trap : {S : Type 0} → KernelState → Task S → Bool
 takes_trap s (Runs interpreter) = takes_trap_in s interpreter.shell (active_of interpreter.run)
 takes_trap s (Asks pid ask program) = false
 
+-- ---- whether INT has an interactive shell drop what it does before that
+abbrev pub drops_in : KernelState → Shell → Active → Bool
+drops_in s shell (Next place) = drops_before s shell place
+drops_in s shell (Acting invocation fields) = false
+drops_in s shell (Calling body fields) = false
+drops_in s shell (Evaluating how text) = false
+drops_in s shell (Done ended) = false
+drops_in s shell (Leaving status) = false
+
+abbrev pub drops : {S : Type 0} → KernelState → Task S → Bool
+drops s (Runs interpreter) = drops_in s interpreter.shell (active_of interpreter.run)
+drops s (Asks pid ask program) = false
+
 -- ---- the words of the program that is started in the next turn, its name first
 abbrev pub words_at : Action → Option (List (List ℕ))
 words_at (Starting start) = Some start.fields
 words_at (Reading rest status) = None
+words_at (Prompting text) = None
+words_at (ReadInput text) = None
 words_at (Expanding wants pending) = None
 words_at (ReadSubstitution substitution) = None
 words_at (WaitSubstitution substitution) = None

@@ -1,11 +1,15 @@
 //! What processes are about to do.
 ghost use Rattle.std.specs.Prelude.{◌≡◌};
+ghost use Rattle.sh_kernel.specs.State.{KernelState, StandsAt};
 ghost use Rattle.sh_kernel.specs.Turns.{action_of};
-ghost use Rattle.sh_exec.specs.Actions.{action_at, action_in, action_for, awaiting, collecting, waiting};
+ghost use Rattle.sh_exec.specs.Actions.{action_at, action_in, action_for, awaiting, collecting, is_called_in, shell_action, waiting};
 
+use sh_builtin_shell::Shell;
 use sh_builtin_wait::Awaited;
 use sh_exec_actions::{Action, Active, PipelineWait};
-use sh_kernel::{DescriptorRef, Next};
+use sh_exec_requests::pending_signal;
+use sh_exec_turns::is_called;
+use sh_kernel::{DescriptorRef, Kernel, Next};
 use sh_signal::Signal;
 use sh_stock::Ask;
 
@@ -48,6 +52,8 @@ fn action_at<'a>(caught: Option<Signal>, background: &'a [u32], place: &'a Actio
 {
     match place {
         Action::Reading(_, _) => Next::Other,
+        Action::Prompting(_) => Next::Other,
+        Action::ReadInput(_) => Next::Read(DescriptorRef::Number(0)),
         Action::Expanding(_, _) => Next::Other,
         Action::ReadSubstitution(substitution) => collecting(substitution.aside),
         Action::WaitSubstitution(substitution) => Next::Wait(substitution.children.as_slice()),
@@ -71,11 +77,7 @@ fn action_at<'a>(caught: Option<Signal>, background: &'a [u32], place: &'a Actio
 }
 
 /// What a shell at this active place does, where it has caught this signal, and its asynchronous lists have these processes.
-pub(crate) fn action_in<'a>(
-    caught: Option<Signal>,
-    background: &'a [u32],
-    active: &'a Active,
-) -> Next<'a>
+fn action_in<'a>(caught: Option<Signal>, background: &'a [u32], active: &'a Active) -> Next<'a>
     ensures { action_of result ≡ action_in caught background.now active.now }
 {
     match active {
@@ -86,6 +88,35 @@ pub(crate) fn action_in<'a>(
         Active::Done(_) => Next::Other,
         Active::Leaving(_) => Next::Other,
     }
+}
+
+/// Whether a shell at this active place has a trap to take, or something to drop, before what it does there.
+fn is_called_in(kernel: &Kernel, shell: &Shell, active: &Active) -> bool
+    ensures { (s : KernelState) → StandsAt kernel.now s → result ≡ is_called_in s shell.now active.now }
+{
+    match active {
+        Active::Next(place) => is_called(kernel, shell, place),
+        Active::Acting(_, _) => false,
+        Active::Calling(_, _) => false,
+        Active::Evaluating(_, _) => false,
+        Active::Done(_) => false,
+        Active::Leaving(_) => false,
+    }
+}
+
+/// What a shell does at this active place.
+pub(crate) fn shell_action<'a>(kernel: &Kernel, shell: &'a Shell, active: &'a Active) -> Next<'a>
+    ensures { (s : KernelState) → StandsAt kernel.now s
+        → action_of result ≡ shell_action s shell.now active.now }
+{
+    if is_called_in(kernel, shell, active) {
+        return Next::Other;
+    }
+    action_in(
+        pending_signal(kernel, shell),
+        shell.background.as_slice(),
+        active,
+    )
 }
 
 /// What a program asks.

@@ -11,6 +11,8 @@ pub enum Source {
     /// that it is not found, and ends with 127. Where the file can't be read, the shell says that it can't be
     /// executed, and ends with 126.
     Script(Text),
+    /// What an interactive shell reads by its descriptor 0, the terminal (the page of sh, "STDIN"). The option `-i` is on then.
+    Terminal,
 }
 
 /// How the first shell is started.

@@ -13,6 +13,8 @@ fn starting_at(place: &Action) -> Option<&ProgramStart>
 {
     match place {
         Action::Reading(_, _) => None,
+        Action::Prompting(_) => None,
+        Action::ReadInput(_) => None,
         Action::Expanding(_, _) => None,
         Action::ReadSubstitution(_) => None,
         Action::WaitSubstitution(_) => None,

@@ -6,7 +6,7 @@ ghost use Rattle.sh_kernel.specs.Calls.{start_call};
 ghost use Rattle.sh_kernel.specs.State.{KernelState, StandsAt};
 ghost use Rattle.sh_exec_parts.specs.Messages as messages;
 ghost use Rattle.sh_exec.specs.Programs.{HasLeft, asking};
-ghost use Rattle.sh_exec.specs.Starting.{ignored_by, located_for, parent_of, program_in, script_shell, script_start, start_named, start_turn, started_by, stock_start};
+ghost use Rattle.sh_exec.specs.Starting.{begun, ignored_by, located_for, parent_of, program_in, script_shell, script_start, start_named, start_turn, started_by, stock_start};
 
 use crate::program::asking;
 use crate::task::Task;
@@ -18,6 +18,7 @@ use sh_exec_actions::status::{CANNOT_EXECUTE, NOT_FOUND};
 use sh_exec_actions::{Action, ProgramStart, failing};
 use sh_exec_parts::message::{cannot_execute, not_found};
 use sh_exec_parts::script_environment;
+use sh_exec_requests::release_own_signals;
 use sh_exec_shell::Interpreter;
 use sh_files::{Files, Located, locate};
 use sh_jobs::Jobs;
@@ -54,13 +55,14 @@ fn unfit(alloc: Global, name: &[u8], ends_shell: bool) -> Result<Action, NoMemor
     Ok(Action::Writing(piece, failing(ends_shell, CANNOT_EXECUTE)))
 }
 
-/// What the shell had set aside is closed.
-fn close_aside(kernel: &mut Kernel, pid: u32)
+/// What the shell had set aside is closed, and the process doesn't ignore what an interactive shell ignores by itself.
+fn leave_shell(kernel: &mut Kernel, shell: &Shell)
     ensures state { (s : KernelState) → StandsAt kernel.old s
-        → StandsAt kernel.new (start_call s pid).after }
+        → StandsAt kernel.new (begun s shell.now) }
     ensures terminal { kernel.new.terminal ≡ kernel.old.terminal }
 {
-    let _started = kernel.start_program(pid);
+    let _started = kernel.start_program(shell.pid);
+    release_own_signals(kernel, shell, shell.pid);
 }
 
 /// A program takes its first turn.
@@ -76,19 +78,19 @@ fn begin<S: Stock>(alloc: Global, pid: u32, program: S) -> Result<Task<S>, NoMem
 fn start_stock<S: Stock>(
     alloc: Global,
     kernel: &mut Kernel,
-    pid: u32,
+    shell: &Shell,
     name: &[u8],
     ends_shell: bool,
     program: Option<S>,
 ) -> Result<Started<S>, NoMemory>
-    ensures state { (s : KernelState) → StandsAt kernel.old s → (shell : Shell) → shell.pid ≡ pid → (operands : List (List ℕ)) → IfOk result (λ started.
-        HasLeft kernel.new started (stock_start S.meaning s shell (record { name = name.now; operands = operands; ends_shell = ends_shell }) program)) }
+    ensures state { (s : KernelState) → StandsAt kernel.old s → (operands : List (List ℕ)) → IfOk result (λ started.
+        HasLeft kernel.new started (stock_start S.meaning s shell.now (record { name = name.now; operands = operands; ends_shell = ends_shell }) program)) }
     ensures terminal { kernel.new.terminal ≡ kernel.old.terminal }
 {
     match program {
         Some(program) => {
-            let task = begin(alloc, pid, program)?;
-            close_aside(kernel, pid);
+            let task = begin(alloc, shell.pid, program)?;
+            leave_shell(kernel, shell);
             Ok(Started::Becomes(task))
         },
         None => {
@@ -135,8 +137,8 @@ fn start_script<S: Stock>(
     let parent = parent_of(kernel, pid);
     let vars = script_environment(alloc, &shell.vars, path, operands, pid, parent)?;
     let traps = Traps::new(alloc)?;
+    leave_shell(kernel, shell);
     let fixed = ignored_by(kernel, pid);
-    close_aside(kernel, pid);
     let shell = Shell {
         pid,
         vars,
@@ -177,7 +179,7 @@ fn start_located<S: Stock>(
         },
         Located::Stock(program) => {
             let program = S::start(alloc, program.as_slice(), operands)?;
-            let started = start_stock(alloc, kernel, shell.pid, name, ends_shell, program)?;
+            let started = start_stock(alloc, kernel, shell, name, ends_shell, program)?;
             Ok(started)
         },
         Located::Script { path, text } => {

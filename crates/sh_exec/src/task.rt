@@ -6,31 +6,33 @@ ghost use Rattle.sh_kernel.specs.Turns.{can_do};
 ghost use Rattle.sh_tty.specs.Terminal.{Extends};
 ghost use Rattle.sh_exec_shell.specs.Reduction.{shell_turn};
 ghost use Rattle.sh_exec.specs.Actions.{action_of};
-ghost use Rattle.sh_exec.specs.Tasks.{first_jobs, first_place, first_task, frames_of, jobs_of_first, pid_of};
-ghost use Rattle.sh_exec.specs.TurnActions.{starting_words, takes_trap, turn_action_of};
+ghost use Rattle.sh_exec.specs.Tasks.{first_jobs, first_place, first_task, options_of, with_signals_of, frames_of, jobs_of_first, pid_of};
+ghost use Rattle.sh_exec.specs.TurnActions.{drops, starting_words, takes_trap, turn_action_of};
 ghost use Rattle.sh_exec.specs.Turns.{IsTurned, by_shell, made_task, runs_by, task_behind, turn};
 
-use crate::action::{action_in, asked};
+use crate::action::{asked, shell_action};
 use crate::program::ask_turn;
 use crate::script::script_place;
 use crate::settings::{Settings, Source};
 use crate::shell::starting_of;
 use crate::start::{Started, start_turn};
-use crate::turn_action::{TurnAction, takes_trap_in, turn_action_for, turn_action_in, words_in};
+use crate::turn_action::{
+    TurnAction, drops_in, takes_trap_in, turn_action_for, turn_action_in, words_in,
+};
 use sh_base::NoMemory;
 use sh_base::sequence::{Sequence, Text};
 use sh_builtin_environment::Traps;
 use sh_builtin_shell::{Functions, Shell};
 use sh_exec_actions::{Action, Frame, ProgramStart};
 use sh_exec_parts::Rest;
-use sh_exec_requests::pending_signal;
+use sh_exec_requests::heed_own_signals;
 use sh_exec_shell::Interpreter;
 use sh_files::Files;
 use sh_jobs::Jobs;
 use sh_kernel::{FIRST_PID, Kernel, Next};
 use sh_kernel_signals::SignalSet;
 use sh_stock::{Ask, CopyStock, Stock};
-use sh_vars::Vars;
+use sh_vars::{Options, Vars};
 use std::alloc::Global;
 use std::mem;
 
@@ -55,6 +57,21 @@ fn first_place(alloc: Global, image: &Files, source: Source) -> Result<Action, N
     match source {
         Source::Text(text) => Ok(Action::Reading(Rest::new(text), 0)),
         Source::Script(path) => script_place(alloc, image, path.as_slice()),
+        Source::Terminal => Ok(Action::Prompting(Text::new(alloc))),
+    }
+}
+
+/// The options of a shell that is started so: one that reads the terminal is interactive.
+fn options_of(source: &Source, options: Options) -> Options
+    ensures { result ≡ options_of source.now options }
+{
+    match source {
+        Source::Text(_) => options,
+        Source::Script(_) => options,
+        Source::Terminal => Options {
+            interactive: true,
+            ..options
+        },
     }
 }
 
@@ -130,7 +147,7 @@ impl<S: Stock> Task<S> {
         let mut vars = Vars::new(alloc)?;
         vars.set_zero(zero);
         vars.set_positional(args.into_vec());
-        vars.set_options(options);
+        vars.set_options(options_of(&source, options));
         let traps = Traps::new(alloc)?;
         let place = first_place(alloc, image, source)?;
         let shell = Shell {
@@ -145,6 +162,20 @@ impl<S: Stock> Task<S> {
             fixed: SignalSet::new(),
         };
         Ok(Task::Runs(Interpreter::at(alloc, shell, place)))
+    }
+
+    /// The signals of the first shell's process before its first turn (XCU 2.11): an interactive shell catches INT, and ignores QUIT and TERM, and
+    /// with job control TSTP, TTIN and TTOU. Takes no memory.
+    pub fn set_signals(&self, kernel: &mut Kernel)
+        ensures state { (s : KernelState) → StandsAt kernel.old s → StandsAt kernel.new (with_signals_of s self.now) }
+        ensures terminal { kernel.new.terminal ≡ kernel.old.terminal }
+    {
+        if let Task::Runs(interpreter) = self {
+            let shell = interpreter.shell();
+            if shell.is_interactive() {
+                heed_own_signals(kernel, shell);
+            }
+        }
     }
 
     /// The jobs of the first shell, if that is what runs. Takes no memory.
@@ -208,7 +239,8 @@ impl<S: Stock> Task<S> {
         }
     }
 
-    /// What the process does in its next turn, for those who look on, unless [a trap](Task::takes_trap) on a signal comes before that. After each
+    /// What the process does in its next turn, for those who look on, unless [a trap](Task::takes_trap) on a signal comes before that, or
+    /// INT has the shell [drop](Task::drops) what it does. After each
     /// turn a process stands before an action, so it is `Some` for each process of a world. Takes no memory.
     pub fn action(&self) -> Option<TurnAction>
         ensures { result ≡ turn_action_of self.now }
@@ -232,6 +264,19 @@ impl<S: Stock> Task<S> {
         }
     }
 
+    /// Whether INT has an interactive shell drop what it does as its next turn begins (XCU sh, "ASYNCHRONOUS EVENTS"): then it does what comes next for
+    /// it, and not what [`Task::action`] tells. Takes no memory.
+    pub fn drops(&self, kernel: &Kernel) -> bool
+        ensures { (s : KernelState) → StandsAt kernel.now s → result ≡ drops s self.now }
+    {
+        match self {
+            Task::Runs(interpreter) => {
+                drops_in(kernel, interpreter.shell(), interpreter.active())
+            },
+            Task::Asks { .. } => false,
+        }
+    }
+
     /// The words of the program that the process starts in its next turn, its name first; `None` where it does something else. Takes no
     /// memory.
     pub fn starting(&self) -> Option<&[Text]>
@@ -249,9 +294,7 @@ impl<S: Stock> Task<S> {
     {
         match self {
             Task::Runs(interpreter) => {
-                let shell = interpreter.shell();
-                let caught = pending_signal(kernel, shell);
-                action_in(caught, shell.background.as_slice(), interpreter.active())
+                shell_action(kernel, interpreter.shell(), interpreter.active())
             },
             Task::Asks { ask, .. } => asked(ask),
         }

@@ -1,12 +1,12 @@
 //! What a process does in its next turn, for those who look on.
 ghost use Rattle.std.specs.Prelude.{◌≡◌, option_map};
 ghost use Rattle.sh_kernel.specs.State.{KernelState, StandsAt};
-ghost use Rattle.sh_exec.specs.TurnActions.{takes_trap_in, turn_action_at, turn_action_for, turn_action_in, turn_action_of_expansion, words_at, words_in};
+ghost use Rattle.sh_exec.specs.TurnActions.{drops_in, takes_trap_in, turn_action_at, turn_action_for, turn_action_in, turn_action_of_expansion, words_at, words_in};
 
 use sh_base::sequence::Text;
 use sh_builtin_shell::Shell;
 use sh_exec_actions::{Action, Active, ToExpand};
-use sh_exec_turns::is_interrupted;
+use sh_exec_turns::{drops_before, is_interrupted};
 use sh_kernel::Kernel;
 use sh_stock::Ask;
 
@@ -15,6 +15,10 @@ use sh_stock::Ask;
 pub enum TurnAction {
     /// A shell reads the next complete command of a text, or finds that none follows (XCU 2.1).
     ReadCommand,
+    /// An interactive shell tells a job that has changed, or writes a prompt (2.5.3 PS1, PS2).
+    Prompt,
+    /// INT has an interactive shell drop what it does, and it does what comes next: it tells a job or prompts, or reads on in its text.
+    Drop,
     /// A shell takes a trap: it reads the first command of the trap's action (2.15 trap).
     TakeTrap,
     /// A shell defines a function (2.9.5).
@@ -34,7 +38,7 @@ pub enum TurnAction {
     StartProgram,
     /// A shell reads what the process of a command substitution writes (2.6.3).
     ReadSubstitution,
-    /// A program, or the built-in `read` of a shell, reads by descriptor 0.
+    /// A program, the built-in `read` of a shell, or an interactive shell for its next command, reads by descriptor 0.
     Read,
     /// A process writes.
     Write {
@@ -75,6 +79,8 @@ fn at(place: &Action) -> TurnAction
 {
     match place {
         Action::Reading(_, _) => TurnAction::ReadCommand,
+        Action::Prompting(_) => TurnAction::Prompt,
+        Action::ReadInput(_) => TurnAction::Read,
         Action::Expanding(wants, _) => expansion(wants),
         Action::ReadSubstitution(_) => TurnAction::ReadSubstitution,
         Action::WaitSubstitution(_) => TurnAction::Wait,
@@ -127,6 +133,20 @@ pub(crate) fn turn_action_for(ask: &Ask) -> TurnAction
         Ask::Stop => TurnAction::Stop,
         Ask::Idle => TurnAction::Idle,
         Ask::End(status) => TurnAction::End(*status),
+    }
+}
+
+/// Whether INT has a shell at this active place drop what it does.
+pub(crate) fn drops_in(kernel: &Kernel, shell: &Shell, active: &Active) -> bool
+    ensures { (s : KernelState) → StandsAt kernel.now s → result ≡ drops_in s shell.now active.now }
+{
+    match active {
+        Active::Next(place) => drops_before(kernel, shell, place),
+        Active::Acting(_, _) => false,
+        Active::Calling(_, _) => false,
+        Active::Evaluating(_, _) => false,
+        Active::Done(_) => false,
+        Active::Leaving(_) => false,
     }
 }
 

@@ -221,6 +221,11 @@ pub enum Action {
     /// Read the next complete command of the rest of a text (2.1). The status is that of the text's last command, and 0 before the
     /// first one.
     Reading(Rest, u8),
+    /// Before the next command that an interactive shell reads by descriptor 0 (XCU 2.1): tell one job that has changed, or write the prompt
+    /// (2.5.3 PS1). Behind the beginning of a command that was read so far: write the prompt for its next line (PS2).
+    Prompting(Text),
+    /// Read more of the next command of an interactive shell by descriptor 0, behind the beginning that was read so far.
+    ReadInput(Text),
     /// Expand, with the answers so far if there were needs before.
     Expanding(ToExpand, Option<Pending>),
     /// Read what a command substitution's process writes.

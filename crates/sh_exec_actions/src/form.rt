@@ -91,6 +91,8 @@ impl Copying for Loop {
 pub enum Form {
     /// A command of a text, with what comes after it (XCU 2.1).
     Text(Rest),
+    /// A command that an interactive shell has read by descriptor 0 (2.1), with what was read behind it.
+    Input(Text),
     /// One of some AND-OR lists (2.9.3), with those after it.
     Commands(Queue<ListItem>),
     /// A pipeline of an AND-OR list (2.9.3) that isn't its last, with those after it.
@@ -131,6 +133,7 @@ impl Copying for Form {
     fn copy(&self, alloc: Global) -> Result<Form, NoMemory> {
         match self {
             Form::Text(rest) => Ok(Form::Text(rest.copy(alloc)?)),
+            Form::Input(rest) => Ok(Form::Input(rest.copy(alloc)?)),
             Form::Commands(items) => Ok(Form::Commands(items.copy(alloc)?)),
             Form::Joined(others) => Ok(Form::Joined(others.copy(alloc)?)),
             Form::Negated => Ok(Form::Negated),

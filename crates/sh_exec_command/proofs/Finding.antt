@@ -5,6 +5,7 @@ use Rattle.sh_parse.specs.Reading.{reading}
 use Rattle.sh_syntax.specs.declared.tree.CompoundList.{CompoundList}
 use Rattle.sh_exec_command.specs.declared.found.Found.TheVariants.{Nothing, Command, Fault}
 use Rattle.sh_exec_parts.specs.declared.message.Refusal.{Refusal}
+use Rattle.sh_exec_parts.specs.declared.message.Refusal.TheVariants as refusal
 use Rattle.sh_exec_command.specs.declared.found.Answer.{Answer}
 use Rattle.sh_exec_command.specs.declared.found.Answer.TheVariants as answer
 use Rattle.sh_exec_command.specs.Reading.{answer_of, found_by, found_behind, next_command}
@@ -25,8 +26,12 @@ pub by_command : (text : List ℕ) → IsText text → (tree : CompoundList) (us
 by_command text t tree used e =
     rw t.is (ap (λ a. found_by a (t.first ∷ t.others) (found_behind t.others)) (e ∙ ap (λ x. answer_of (reading no_aliases true x)) t.is))
 
-pub by_fault : (text : List ℕ) → IsText text → (refusal : Refusal) → answer.Fault refusal ≡ answer_of (reading no_aliases true text) → Fault refusal ≡ next_command text
-by_fault text t refusal e =
+pub by_fault : (text : List ℕ) → IsText text → (refusal : Refusal) (used : ℕ) → answer.Fault refusal used ≡ answer_of (reading no_aliases true text) → Fault refusal (drop used text) ≡ next_command text
+by_fault text t refusal used e =
+    rw t.is (ap (λ a. found_by a (t.first ∷ t.others) (found_behind t.others)) (e ∙ ap (λ x. answer_of (reading no_aliases true x)) t.is))
+
+pub by_unclosed : (text : List ℕ) → IsText text → answer.Unclosed ≡ answer_of (reading no_aliases true text) → Fault refusal.Syntax [] ≡ next_command text
+by_unclosed text t e =
     rw t.is (ap (λ a. found_by a (t.first ∷ t.others) (found_behind t.others)) (e ∙ ap (λ x. answer_of (reading no_aliases true x)) t.is))
 
 pub by_nothing : (text : List ℕ) → IsText text → answer.Blank 0 ≡ answer_of (reading no_aliases true text) → Nothing ≡ next_command text

@@ -1,4 +1,5 @@
 //! What a reading turn finds.
+use sh_base::sequence::Text;
 use sh_exec_parts::Rest;
 use sh_exec_parts::message::Refusal;
 use sh_syntax::tree::CompoundList;
@@ -10,7 +11,22 @@ pub enum Answer {
     Command(CompoundList, usize),
     /// As many bytes without a command.
     Blank(usize),
-    /// The text of the next command is refused.
+    /// The text of the next command is refused, which takes so many bytes.
+    Fault(Refusal, usize),
+    /// It isn't closed before the end of the text, and is refused for that.
+    Unclosed,
+}
+
+/// What is found in what an interactive shell has read by descriptor 0.
+#[derive(Drop)]
+pub enum InputFound {
+    /// The next complete command, and what was read behind it.
+    Command(CompoundList, Text),
+    /// No command in the lines up to here, behind which this was read.
+    Blank(Text),
+    /// The beginning of a command: all that was read.
+    More(Text),
+    /// What was read is refused.
     Fault(Refusal),
 }
 
@@ -21,6 +37,6 @@ pub enum Found {
     Nothing,
     /// The next complete command, and the text after it.
     Command(CompoundList, Rest),
-    /// The text of the next command is refused.
-    Fault(Refusal),
+    /// The text of the next command is refused, and this is the text after it.
+    Fault(Refusal, Rest),
 }

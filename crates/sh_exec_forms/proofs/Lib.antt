@@ -1,5 +1,3 @@
-pub mod Alone
 pub mod Built
-pub mod Entered
-pub mod Inside
+pub mod Left
 pub mod Outward

@@ -7,11 +7,11 @@ use Rattle.sh_exec_actions.specs.declared.action.Active.{Active}
 use Rattle.sh_exec_actions.specs.declared.status.CommandStatus.{CommandStatus}
 use Rattle.sh_exec_forms.specs.Builtins.{effect_at, machine_at}
 use Rattle.sh_exec_forms.specs.Forms.{Acted, HasGone, HasPerformed, IsActed, IsOnWay, after, after_leave, after_status, at_action, exits_on_error, outward, step_run, with_run, within, within_run}
-use Rattle.sh_exec_forms.specs.Stacks.{Goes, IsFewer, Leaves, active_in, is_over, run_in, run_of}
-use Rattle.sh_exec_forms.specs.Running.{Run, At, In}
+use Rattle.sh_exec_entering.specs.Stacks.{Goes, IsFewer, Leaves, is_over, run_in, run_of}
+use Rattle.sh_exec_entering.specs.Running.{Run, At, In}
 use Rattle.sh_exec_actions.specs.declared.form.Form.{Form}
-use Rattle.sh_exec_forms.specs.declared.step.Step.{Step}
-use Rattle.sh_exec_forms.specs.declared.step.Step.TheVariants.{Outward, Inward}
+use Rattle.sh_exec_entering.specs.declared.step.Step.{Step}
+use Rattle.sh_exec_entering.specs.declared.step.Step.TheVariants.{Outward, Inward}
 use Rattle.sh_kernel.specs.State.{KernelKept, KernelState, StandsAt}
 
 -- a tree is settled from the innermost form outward
@@ -38,11 +38,7 @@ stays [] s shell run h = refl
 stays (form ∷ forms) s shell run h =
     ap (outward forms) (over_stays forms form s shell run h) ∙ stays forms s shell (In form run) refl
 
--- what was entered, or is over, runs at its place
-pub goes_runs : (step : Step) (now before : List Form) (run : Run) → Goes step now before run → run_of now (active_in step) ≡ run_in before run
-goes_runs (Outward active) now before run g = ap (λ forms. run_of forms active) g.0 ∙ ap (run_in before) (sym g.1)
-goes_runs (Inward active) now before run g = g.0
-
+-- what is over leaves fewer forms
 pub leaves : (step : Step) (now before : List Form) (run : Run) → Goes step now before run → Leaves step now before
 leaves (Outward active) now before run g = g.0
 leaves (Inward active) now before run g = tt

@@ -11,11 +11,11 @@ use Rattle.sh_exec_actions.specs.declared.action.Action.TheVariants.{Reading}
 use Rattle.sh_exec_actions.specs.declared.form.Form.{Form}
 use Rattle.sh_exec_actions.specs.declared.form.Form.TheVariants.{Call, Evaluation}
 use Rattle.sh_exec_command.specs.Expanding.{fatal}
-use Rattle.sh_exec_forms.specs.Entering.{command_run}
+use Rattle.sh_exec_entering.specs.Entering.{command_run}
 use Rattle.sh_exec_frames.specs.Frames.{last_for, levels_left}
 use Rattle.sh_exec_requests.specs.Reporting.{behind}
 use Rattle.sh_exec_requests.specs.Signals.{after_traps}
-use Rattle.sh_exec_forms.specs.Running.{Run, At, In}
+use Rattle.sh_exec_entering.specs.Running.{Run, At, In}
 use Rattle.sh_exec_parts.specs.Messages.{refusal_text}
 use Rattle.sh_exec_parts.specs.declared.message.Refusal.TheVariants as refusal
 use Rattle.sh_kernel.specs.State.{KernelState}

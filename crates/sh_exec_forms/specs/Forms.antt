@@ -4,6 +4,7 @@ use Rattle.sh_builtin_outcome.specs.Outcomes.{shell_status}
 use Rattle.sh_builtin_outcome.specs.declared.outcome.Leave.{Leave}
 use Rattle.sh_builtin_outcome.specs.declared.outcome.TextOrigin.{TextOrigin}
 use Rattle.sh_builtin_outcome.specs.declared.outcome.TextOrigin.TheVariants as origin
+use Rattle.sh_builtin_shell.specs.Shells.{is_interactive}
 use Rattle.sh_builtin_shell.specs.declared.shell.Shell.{Shell}
 use Rattle.sh_builtin_outcome.specs.declared.outcome.Leave.TheVariants as leave
 use Rattle.sh_exec_command.specs.Series.{rest_of_series}
@@ -11,21 +12,23 @@ use Rattle.sh_exec_command.specs.Undoing as variables
 use Rattle.sh_exec_actions.specs.Statuses.{unexcused}
 use Rattle.sh_exec_actions.specs.declared.action.Active.{Active}
 use Rattle.sh_exec_actions.specs.declared.action.Active.TheVariants.{Acting, Calling, Evaluating, Next, Done, Leaving}
-use Rattle.sh_exec_actions.specs.declared.action.Action.TheVariants.{Ending, Reading}
+use Rattle.sh_exec_actions.specs.declared.action.Action.{Action}
+use Rattle.sh_exec_actions.specs.declared.action.Action.TheVariants.{Reading, Prompting, ReadInput, Expanding, ReadSubstitution, WaitSubstitution, ReadLine, Awaiting, SendSignal, ContinueJob, WaitForJob, Redirecting, Forking, Starting, ForkStage, ForkList, AssignLoopVariable, Defining, Waiting, Writing, Trapping, Ending}
 use Rattle.sh_exec_actions.specs.declared.action.Undo.{Undo}
 use Rattle.sh_exec_actions.specs.declared.status.CommandStatus.{CommandStatus}
 use Rattle.sh_exec_machine.specs.Undoing as descriptors
+use Rattle.sh_exec_requests.specs.Prompting.{input_action}
 use Rattle.sh_exec_forms.specs.Builtins.{Performed, effect_at, machine_at, with_parameters}
-use Rattle.sh_exec_forms.specs.Entering.{items_run, with_others, list_run, pipeline_run}
-use Rattle.sh_exec_forms.specs.Stacks.{Goes, run_of}
+use Rattle.sh_exec_entering.specs.Entering.{items_run, with_others, list_run, pipeline_run}
+use Rattle.sh_exec_entering.specs.Stacks.{Goes, run_of}
 use Rattle.sh_exec_frames.specs.Frames.{ends_action, may_return, has_loop, is_failure_ignored}
-use Rattle.sh_exec_forms.specs.Running.{Run, At, In}
+use Rattle.sh_exec_entering.specs.Running.{Run, At, In}
 use Rattle.sh_exec_actions.specs.declared.form.Branches.{Branches}
 use Rattle.sh_exec_actions.specs.declared.form.Form.{Form}
-use Rattle.sh_exec_actions.specs.declared.form.Form.TheVariants.{Text, Commands, Joined, Negated, Restoring, If, Condition, Body, ForBody, Call, Evaluation, Trapped, Interruption, FailuresIgnored}
+use Rattle.sh_exec_actions.specs.declared.form.Form.TheVariants.{Text, Input, Commands, Joined, Negated, Restoring, If, Condition, Body, ForBody, Call, Evaluation, Trapped, Interruption, FailuresIgnored}
 use Rattle.sh_exec_actions.specs.declared.form.Loop.{Loop}
-use Rattle.sh_exec_forms.specs.declared.step.Step.{Step}
-use Rattle.sh_exec_forms.specs.declared.step.Step.TheVariants.{Outward, Inward}
+use Rattle.sh_exec_entering.specs.declared.step.Step.{Step}
+use Rattle.sh_exec_entering.specs.declared.step.Step.TheVariants.{Outward, Inward}
 use Rattle.sh_exec_forms.specs.declared.loops.Onward.{Onward}
 use Rattle.sh_exec_forms.specs.declared.loops.Onward.TheVariants.{Left, Over, On}
 use Rattle.sh_kernel.specs.State.{KernelKept, KernelState, StandsAt}
@@ -180,12 +183,66 @@ abbrev pub after_text : (around : List Form) → TextOrigin → Leave → Shell 
 after_text around origin.Eval leave shell = Leaving leave
 after_text around origin.DotScript leave shell = after_call around leave shell
 
+-- ---- an interactive shell isn't ended by an error (2.8.1): it drops the command, `$?` is the error's status, and it reads its next command
+abbrev pub behind_input : KernelState → Shell → (rest : List ℕ) → Acted
+behind_input s shell rest = with_run s shell (At (Next (input_action s shell rest)))
+
+-- one that it has read by descriptor 0
+abbrev pub input_left : KernelState → Shell → Leave → Acted
+input_left s shell (leave.Exit status) = with_run s shell (At (Leaving (leave.Exit status)))
+input_left s shell (leave.Fault status) = behind_input s (behind_status shell status) []
+input_left s shell (leave.Return status) = with_run s shell (At (Leaving (leave.Return status)))
+input_left s shell (leave.Break inside) = with_run s shell (At (Leaving (leave.Break inside)))
+input_left s shell (leave.Continue inside) = with_run s shell (At (Leaving (leave.Continue inside)))
+
+-- one of its text or script
+abbrev pub goes_on_reading : (around : List Form) → Shell → Bool
+goes_on_reading [] shell = is_interactive shell
+goes_on_reading (form ∷ forms) shell = false
+
+abbrev pub dropped_in_text : (goes_on : Bool) → KernelState → Shell → (rest : List ℕ) → Leave → Acted
+dropped_in_text true s shell rest (leave.Fault status) = with_run s (behind_status shell status) (At (Next (Reading rest status)))
+dropped_in_text true s shell rest (leave.Exit status) = with_run s shell (At (Leaving (leave.Exit status)))
+dropped_in_text true s shell rest (leave.Return status) = with_run s shell (At (Leaving (leave.Return status)))
+dropped_in_text true s shell rest (leave.Break inside) = with_run s shell (At (Leaving (leave.Break inside)))
+dropped_in_text true s shell rest (leave.Continue inside) = with_run s shell (At (Leaving (leave.Continue inside)))
+dropped_in_text false s shell rest leave = with_run s shell (At (Leaving leave))
+
+abbrev pub text_left : (around : List Form) → KernelState → Shell → (rest : List ℕ) → Leave → Acted
+text_left around s shell rest leave = dropped_in_text (goes_on_reading around shell) s shell rest leave
+
+-- the action of a trap that came before this one is left: where that is a reading, it is left as a command that was read there
+abbrev pub place_left : (around : List Form) → KernelState → Shell → (next : Action) → Leave → Acted
+place_left around s shell (Reading rest status) leave = text_left around s shell rest leave
+place_left around s shell (Prompting text) leave = with_run s shell (At (Leaving leave))
+place_left around s shell (ReadInput text) leave = input_left s shell leave
+place_left around s shell (Expanding wants pending) leave = with_run s shell (At (Leaving leave))
+place_left around s shell (ReadSubstitution substitution) leave = with_run s shell (At (Leaving leave))
+place_left around s shell (WaitSubstitution substitution) leave = with_run s shell (At (Leaving leave))
+place_left around s shell (ReadLine reader) leave = with_run s shell (At (Leaving leave))
+place_left around s shell (Awaiting awaited) leave = with_run s shell (At (Leaving leave))
+place_left around s shell (SendSignal ask) leave = with_run s shell (At (Leaving leave))
+place_left around s shell (ContinueJob continuation) leave = with_run s shell (At (Leaving leave))
+place_left around s shell (WaitForJob wait) leave = with_run s shell (At (Leaving leave))
+place_left around s shell (Redirecting p) leave = with_run s shell (At (Leaving leave))
+place_left around s shell (Forking p) leave = with_run s shell (At (Leaving leave))
+place_left around s shell (Starting start) leave = with_run s shell (At (Leaving leave))
+place_left around s shell (ForkStage stages) leave = with_run s shell (At (Leaving leave))
+place_left around s shell (ForkList list) leave = with_run s shell (At (Leaving leave))
+place_left around s shell (AssignLoopVariable series) leave = with_run s shell (At (Leaving leave))
+place_left around s shell (Defining definition) leave = with_run s shell (At (Leaving leave))
+place_left around s shell (Waiting wait) leave = with_run s shell (At (Leaving leave))
+place_left around s shell (Writing piece finish) leave = with_run s shell (At (Leaving leave))
+place_left around s shell (Trapping status) leave = with_run s shell (At (Leaving leave))
+place_left around s shell (Ending status) leave = with_run s shell (At (Leaving leave))
+
 -- the next command of a text is read, behind this status; `$?` is the status of the command before (2.5.2). Behind the action of a trap on
 -- EXIT the shell ends with the status that it was to have, unless the action leaves the shell; behind that of a trap on a signal it goes on
 -- where it was, and `$?` is what it was (2.15 trap)
 -- around: the forms round this one, the innermost first
 abbrev pub after_status : (around : List Form) → Form → KernelState → Shell → CommandStatus → Acted
 after_status around (Text rest) s shell ended = with_run s shell (At (Next (Reading rest ended.status)))
+after_status around (Input rest) s shell ended = behind_input s (behind_status shell ended.status) rest
 after_status around (Commands items) s shell ended = with_run s (behind_status shell ended.status) (items_run items ended)
 after_status around (Joined others) s shell ended = with_run s (behind_status shell ended.status) (connected_run others ended)
 after_status around Negated s shell ended = with_run s shell (At (Done (negation ended.status)))
@@ -201,7 +258,8 @@ after_status around (Interruption status next) s shell ended = with_run s (behin
 after_status around FailuresIgnored s shell ended = with_run s shell (At (Done ended))
 
 abbrev pub after_leave : (around : List Form) → Form → KernelState → Shell → Leave → Acted
-after_leave around (Text rest) s shell leave = with_run s shell (At (Leaving leave))
+after_leave around (Text rest) s shell leave = text_left around s shell rest leave
+after_leave around (Input rest) s shell leave = input_left s shell leave
 after_leave around (Commands items) s shell leave = with_run s shell (At (Leaving leave))
 after_leave around (Joined others) s shell leave = with_run s shell (At (Leaving leave))
 after_leave around Negated s shell leave = with_run s shell (At (Leaving leave))
@@ -214,7 +272,7 @@ after_leave around (ForBody series) s shell leave =
 after_leave around (Call positional) s shell leave = with_run s (with_parameters shell positional) (At (after_call around leave shell))
 after_leave around (Evaluation how) s shell leave = with_run s shell (At (after_text around how.origin leave shell))
 after_leave around (Trapped status) s shell leave = with_run s shell (At (Next (Ending (shell_status leave))))
-after_leave around (Interruption status next) s shell leave = with_run s shell (At (Leaving leave))
+after_leave around (Interruption status next) s shell leave = place_left around s shell next leave
 after_leave around FailuresIgnored s shell leave = with_run s shell (At (Leaving leave))
 
 abbrev pub after_by : (around : List Form) → Form → KernelState → Shell → Run → Acted

@@ -9,8 +9,6 @@ ghost use Rattle.sh_exec_parts.specs.Messages.{refusal_text};
 ghost use Rattle.sh_exec_parts.specs.declared.message.Refusal.TheVariants as refusal;
 ghost use Rattle.sh_kernel.specs.State.{KernelState, StandsAt};
 
-use crate::entering::enter_command;
-use crate::step::Step;
 use sh_base::NoMemory;
 use sh_base::sequence::{Sequence, Text, copies_of};
 use sh_base::shared::Shared;
@@ -19,6 +17,7 @@ use sh_builtin_outcome::TextRun;
 use sh_builtin_shell::Shell;
 use sh_exec_actions::{Action, Active, Form};
 use sh_exec_command::fatal_message;
+use sh_exec_entering::{Step, enter_command};
 use sh_exec_frames::Frames;
 use sh_exec_parts::Rest;
 use sh_exec_parts::message::{Refusal, refused};

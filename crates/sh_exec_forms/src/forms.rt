@@ -2,22 +2,22 @@
 ghost use Rattle.std.specs.Prelude.{◌≡◌, [], IfOk};
 ghost use Rattle.sh_kernel.specs.State.{KernelState, StandsAt};
 ghost use Rattle.sh_syntax.specs.declared.tree.Command.TheViews as view;
-ghost use Rattle.sh_exec_forms.specs.Entering.{list_run, pipeline_run, with_others};
+ghost use Rattle.sh_exec_entering.specs.Entering.{list_run, pipeline_run, with_others};
 ghost use Rattle.sh_exec_forms.specs.Forms.{Acted, Follows, HasGone, IsActed, IsOnWay, after_call, after_leave, after_status, after_text, at_action, branch, connected_run, goes_on, negation, otherwise, outward, undone, with_run};
-ghost use Rattle.sh_exec_forms.specs.Stacks.{Goes, IsFewer, Leaves, run_of};
+ghost use Rattle.sh_exec_entering.specs.Stacks.{Goes, IsFewer, Leaves, run_of};
 ghost use Rattle.sh_exec_frames.specs.Frames.{has_loop};
-ghost use Rattle.sh_exec_forms.specs.Running.{Run};
+ghost use Rattle.sh_exec_entering.specs.Running.{Run};
 
 use crate::acting::perform;
-use crate::entering::{enter, enter_inside, enter_joined, enter_list};
+use crate::input::{go_on, leave_input, leave_place, leave_text};
 use crate::loops::{end_within, leave_loop, leave_series, next_value, repeat, test, within};
-use crate::step::Step;
 use sh_base::NoMemory;
 use sh_base::shared::Shared;
 use sh_builtin_outcome::{Leave, TextOrigin};
 use sh_builtin_shell::Shell;
 use sh_exec_actions::{Action, Active, Branches, CommandStatus, Form, Undo};
 use sh_exec_command::restore_variables;
+use sh_exec_entering::{Step, enter, enter_inside, enter_joined, enter_list};
 use sh_exec_frames::Frames;
 use sh_exec_machine::end_redirections;
 use sh_exec_parts::Queue;
@@ -179,7 +179,7 @@ fn leave_call(frames: &Frames, shell: &Shell, leave: Leave) -> Active
 }
 
 /// What a text comes to that is left: a dot script is ended by `return`.
-fn leave_text(frames: &Frames, shell: &Shell, origin: TextOrigin, leave: Leave) -> Active
+fn leave_evaluation(frames: &Frames, shell: &Shell, origin: TextOrigin, leave: Leave) -> Active
     ensures { result ≡ after_text frames.now origin leave shell.now }
 {
     match origin {
@@ -206,6 +206,7 @@ fn end_form(
 {
     match form {
         Form::Text(rest) => Ok(Step::Inward(Active::Next(Action::Reading(rest, ended.status)))),
+        Form::Input(rest) => Ok(go_on(kernel, shell, frames, rest, ended.status)),
         Form::Commands(items) => {
             shell.vars.set_status(ended.status);
             let step = enter(alloc, frames, items, ended)?;
@@ -273,7 +274,8 @@ fn leave_form(
     ensures terminal { kernel.new.terminal ≡ kernel.old.terminal }
 {
     match form {
-        Form::Text(_) => Ok(Step::Outward(Active::Leaving(leave))),
+        Form::Text(rest) => Ok(leave_text(shell, frames, rest, leave)),
+        Form::Input(_) => Ok(leave_input(alloc, kernel, shell, frames, leave)),
         Form::Commands(_) => Ok(Step::Outward(Active::Leaving(leave))),
         Form::Joined(_) => Ok(Step::Outward(Active::Leaving(leave))),
         Form::Negated => Ok(Step::Outward(Active::Leaving(leave))),
@@ -298,12 +300,14 @@ fn leave_form(
             Ok(Step::Outward(active))
         },
         Form::Evaluation(how) => {
-            Ok(Step::Outward(leave_text(frames, shell, how.origin, leave)))
+            Ok(Step::Outward(leave_evaluation(frames, shell, how.origin, leave)))
         },
         Form::Trapped(_) => {
             Ok(Step::Inward(Active::Next(Action::Ending(leave.shell_status()))))
         },
-        Form::Interruption(_, _) => Ok(Step::Outward(Active::Leaving(leave))),
+        Form::Interruption(_, next) => {
+            Ok(leave_place(alloc, kernel, shell, frames, next.into_inner(), leave))
+        },
         Form::FailuresIgnored => Ok(Step::Outward(Active::Leaving(leave))),
     }
 }

@@ -2,7 +2,7 @@
 use Rattle.std.specs.Prelude.{ℕ, List, [], ◌∷◌, Bool, true, false, Option, Some, None, if◌then◌else◌}
 use Rattle.std.specs.Option.{option_map}
 use Rattle.sh_exec_actions.specs.declared.form.Form.{Form}
-use Rattle.sh_exec_actions.specs.declared.form.Form.TheVariants.{Text, Commands, Joined, Negated, Restoring, If, Condition, Body, ForBody, Call, Evaluation, Trapped, Interruption, FailuresIgnored}
+use Rattle.sh_exec_actions.specs.declared.form.Form.TheVariants.{Text, Input, Commands, Joined, Negated, Restoring, If, Condition, Body, ForBody, Call, Evaluation, Trapped, Interruption, FailuresIgnored}
 use Rattle.sh_exec_frames.specs.Kinds.{is_call}
 use Rattle.sh_syntax.specs.Text.{pipeline_tokens}
 use Rattle.sh_syntax.specs.Tokens.{text_of}
@@ -17,6 +17,7 @@ pipeline_text is_negated (first ∷ rest) =
 
 abbrev pub is_negation : Form → Bool
 is_negation (Text rest) = false
+is_negation (Input rest) = false
 is_negation (Commands items) = false
 is_negation (Joined others) = false
 is_negation Negated = true
@@ -39,6 +40,7 @@ is_negated_in (form ∷ around) = is_negation form
 -- ---- a subshell that is the body of a function: the command that called it, with the forms round that
 abbrev pub command_of : Form → Option Command
 command_of (Text rest) = None
+command_of (Input rest) = None
 command_of (Commands items) = None
 command_of (Joined others) = None
 command_of Negated = None

@@ -3,11 +3,12 @@ use Rattle.std.specs.Prelude.{ℕ, ◌-◌, Bool, true, false, Option, Some, Non
 use Rattle.sh_builtin_outcome.specs.declared.outcome.TextOrigin.{TextOrigin}
 use Rattle.sh_builtin_outcome.specs.declared.outcome.TextOrigin.TheVariants.{Eval, DotScript}
 use Rattle.sh_exec_actions.specs.declared.form.Form.{Form}
-use Rattle.sh_exec_actions.specs.declared.form.Form.TheVariants.{Text, Commands, Joined, Negated, Restoring, If, Condition, Body, ForBody, Call, Evaluation, Trapped, Interruption, FailuresIgnored}
+use Rattle.sh_exec_actions.specs.declared.form.Form.TheVariants.{Text, Input, Commands, Joined, Negated, Restoring, If, Condition, Body, ForBody, Call, Evaluation, Trapped, Interruption, FailuresIgnored}
 
 -- ---- loops (2.9.4), and the bodies of functions (2.9.5)
 abbrev pub is_loop : Form → Bool
 is_loop (Text rest) = false
+is_loop (Input rest) = false
 is_loop (Commands items) = false
 is_loop (Joined others) = false
 is_loop Negated = false
@@ -25,6 +26,7 @@ is_loop FailuresIgnored = false
 -- a function doesn't see the loops of its caller
 abbrev pub is_call : Form → Bool
 is_call (Text rest) = false
+is_call (Input rest) = false
 is_call (Commands items) = false
 is_call (Joined others) = false
 is_call Negated = false
@@ -46,6 +48,7 @@ is_dot_script DotScript = true
 -- the bodies of functions and dot scripts, which `return` ends (2.15 return)
 abbrev pub takes_return : Form → Bool
 takes_return (Text rest) = false
+takes_return (Input rest) = false
 takes_return (Commands items) = false
 takes_return (Joined others) = false
 takes_return Negated = false
@@ -63,6 +66,7 @@ takes_return FailuresIgnored = false
 -- ---- whether a text that is refused right inside a form ends a shell that isn't interactive (2.8.1): not where `command` has it run
 abbrev pub refusal_ends : Form → Bool
 refusal_ends (Text rest) = true
+refusal_ends (Input rest) = true
 refusal_ends (Commands items) = true
 refusal_ends (Joined others) = true
 refusal_ends Negated = true
@@ -81,6 +85,7 @@ refusal_ends FailuresIgnored = true
 -- AND-OR list that isn't its last, after `!`, and in a process that was made where this was so
 abbrev pub ignores_failure : Form → Bool
 ignores_failure (Text rest) = false
+ignores_failure (Input rest) = false
 ignores_failure (Commands items) = false
 ignores_failure (Joined others) = true
 ignores_failure Negated = true
@@ -103,6 +108,7 @@ most_levels = 1000
 -- how many more there may be inside a form, where there may be this number more around it
 abbrev pub levels_inside : Form → ℕ → ℕ
 levels_inside (Text rest) levels = levels
+levels_inside (Input rest) levels = levels
 levels_inside (Commands items) levels = levels
 levels_inside (Joined others) levels = levels
 levels_inside Negated levels = levels
@@ -120,6 +126,7 @@ levels_inside FailuresIgnored levels = levels
 -- ---- the action of a trap: what `$?` was before it (2.15 trap)
 abbrev pub before_trap : Form → Option ℕ
 before_trap (Text rest) = None
+before_trap (Input rest) = None
 before_trap (Commands items) = None
 before_trap (Joined others) = None
 before_trap Negated = None

@@ -14,6 +14,7 @@ pub(crate) fn is_call(form: &Form) -> bool
 {
     match form {
         Form::Text(_) => false,
+        Form::Input(_) => false,
         Form::Commands(_) => false,
         Form::Joined(_) => false,
         Form::Negated => false,
@@ -66,6 +67,7 @@ pub(crate) fn is_loop(form: &Form) -> bool
 {
     match form {
         Form::Text(_) => false,
+        Form::Input(_) => false,
         Form::Commands(_) => false,
         Form::Joined(_) => false,
         Form::Negated => false,
@@ -88,6 +90,7 @@ pub(crate) fn ignores_failure(form: &Form) -> bool
 {
     match form {
         Form::Text(_) => false,
+        Form::Input(_) => false,
         Form::Commands(_) => false,
         Form::Joined(_) => true,
         Form::Negated => true,
@@ -110,6 +113,7 @@ pub(crate) fn levels_inside(form: &Form, levels: u16) -> u16
 {
     match form {
         Form::Text(_) => levels,
+        Form::Input(_) => levels,
         Form::Commands(_) => levels,
         Form::Joined(_) => levels,
         Form::Negated => levels,
@@ -132,6 +136,7 @@ pub(crate) fn before_trap(form: &Form) -> Option<u8>
 {
     match form {
         Form::Text(_) => None,
+        Form::Input(_) => None,
         Form::Commands(_) => None,
         Form::Joined(_) => None,
         Form::Negated => None,

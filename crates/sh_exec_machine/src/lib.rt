@@ -15,4 +15,4 @@ pub use redirecting::{Redirected, redirect};
 pub use transfer::{ReadOutcome, WriteOutcome, give_bytes, take_bytes};
 pub use undo::end_redirections;
 pub use undone::Undone;
-pub use waits::{signal_status, wait_status};
+pub use waits::{last_of, signal_status, wait_status};

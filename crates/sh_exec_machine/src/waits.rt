@@ -36,8 +36,8 @@ fn number_of(status: Option<Status>) -> u8
     }
 }
 
-/// The last of some processes.
-fn last_of(children: &[u32]) -> u32
+/// The last of some processes, 0 where there is none. Takes no memory.
+pub fn last_of(children: &[u32]) -> u32
     ensures { result ≡ last_of children.now }
 {
     match children.get(children.len().saturating_sub(1)) {

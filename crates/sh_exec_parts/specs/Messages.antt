@@ -1,5 +1,5 @@
 -- The shell's messages: each is `psh: `, a text and a newline, for descriptor 2.
-use Rattle.std.specs.Prelude.{ℕ, List, [], ◌∷◌, ◌++◌, Option, Some, None, codes}
+use Rattle.std.specs.Prelude.{ℕ, List, [], ◌∷◌, ◌++◌, Option, Some, None, codes, decimal}
 use Rattle.sh_exec_parts.specs.declared.message.Piece.{Piece}
 use Rattle.sh_exec_parts.specs.declared.message.Refusal.{Refusal}
 use Rattle.sh_exec_parts.specs.declared.message.Refusal.TheVariants as refusal
@@ -86,3 +86,7 @@ usage name = name ++ codes ": usage"
 
 abbrev pub write_error : List ℕ → List ℕ
 write_error name = name ++ codes ": write error"
+
+-- ---- what an interactive shell writes of an asynchronous list that it has started (2.9.3.1): the number of its job, and of its last process
+unfoldable pub launch_line : (number pid : ℕ) → Piece
+launch_line number pid = record { descriptor = 2; bytes = 91 ∷ decimal number ++ 93 ∷ 32 ∷ decimal pid ++ 10 ∷ [] }

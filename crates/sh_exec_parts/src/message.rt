@@ -1,7 +1,8 @@
 //! The shell's messages.
-ghost use Rattle.std.specs.Prelude.{◌≡◌, ◌++◌, IfOk};
-ghost use Rattle.sh_exec_parts.specs.Messages.{arithmetic_text, cannot_execute, cannot_fork, fault_text, file_text, line_of, message, not_found, not_redirected, read_only, redirection_text, refusal_text, unset_text, usage, write_error};
+ghost use Rattle.std.specs.Prelude.{◌≡◌, ◌++◌, IfOk, OnOk, decimal};
+ghost use Rattle.sh_exec_parts.specs.Messages.{arithmetic_text, cannot_execute, cannot_fork, fault_text, file_text, launch_line, line_of, message, not_found, not_redirected, read_only, redirection_text, refusal_text, unset_text, usage, write_error};
 
+use itoa::Buffer;
 use sh_base::NoMemory;
 use sh_base::sequence::{Sequence, Text};
 use sh_expand_parts::{ArithmeticError, Fault};
@@ -207,4 +208,31 @@ pub fn write_error(alloc: Global, name: &[u8]) -> Result<Piece, NoMemory>
     ensures { IfOk result (λ piece. piece ≡ message (write_error name.now)) }
 {
     about(alloc, name, b": write error")
+}
+
+/// Adds a number's decimal digits to a text.
+fn put_number(text: &mut Text, number: u64) -> Result<(), NoMemory>
+    ensures { OnOk result (text.new ≡ text.old ++ decimal number) }
+{
+    let mut buffer = Buffer::new();
+    text.extend_from_slice(buffer.format(number).as_bytes())?;
+    Ok(())
+}
+
+/// What an interactive shell writes of an asynchronous list that it has started (XCU 2.9.3.1): `[N] PID`, with the number of its job and that of
+/// its last process. The only error is want of memory.
+#[tactic(auto, unfolding(crate::specs::Messages::launch_line))]
+pub fn launch_line(alloc: Global, number: usize, pid: u32) -> Result<Piece, NoMemory>
+    ensures { IfOk result (λ piece. piece ≡ launch_line number pid) }
+{
+    let mut bytes = Sequence::new(alloc);
+    bytes.push(b'[')?;
+    put_number(&mut bytes, number as u64)?;
+    bytes.extend_from_slice(b"] ")?;
+    put_number(&mut bytes, u64::from(pid))?;
+    bytes.push(b'\n')?;
+    Ok(Piece {
+        descriptor: 2,
+        bytes,
+    })
 }

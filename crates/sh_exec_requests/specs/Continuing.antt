@@ -8,15 +8,14 @@ use Rattle.sh_builtin_jobs.specs.Continuing.{after_continuing}
 use Rattle.sh_builtin_jobs.specs.declared.continuing.ContinuedJob.{ContinuedJob}
 use Rattle.sh_builtin_shell.specs.Shells.{in_background, in_foreground, up_to_date, without_job}
 use Rattle.sh_builtin_shell.specs.declared.shell.Shell.{Shell}
-use Rattle.sh_exec_actions.specs.Statuses.{unexcused}
 use Rattle.sh_exec_actions.specs.declared.action.Action.TheVariants.{ContinueJob, WaitForJob}
 use Rattle.sh_exec_actions.specs.declared.action.Active.{Active}
-use Rattle.sh_exec_actions.specs.declared.action.Active.TheVariants.{Next, Done}
+use Rattle.sh_exec_actions.specs.declared.action.Active.TheVariants.{Next}
 use Rattle.sh_exec_actions.specs.declared.action.JobWait.{JobWait}
 use Rattle.sh_exec_requests.specs.Placed.{Placed, at_place}
 use Rattle.sh_exec_requests.specs.Reporting.{said}
 use Rattle.sh_exec_requests.specs.Signals.{after_sending}
-use Rattle.sh_exec_requests.specs.Waiting.{job_line, terminal_back, told}
+use Rattle.sh_exec_requests.specs.Waiting.{job_line, terminal_back, told, waited}
 use Rattle.sh_exec_machine.specs.Waits.{signal_status, wait_status}
 use Rattle.sh_jobs.specs.States.{state_of}
 use Rattle.sh_jobs.specs.Table.{after_telling, job_at}
@@ -69,7 +68,7 @@ continue_turn s shell (Foreground job) = foreground_turn s shell job
 -- again
 abbrev pub job_ended : KernelState → Shell → JobWait → Option ℕ → Placed
 job_ended s shell wait None = at_place s shell (Next (WaitForJob wait))
-job_ended s shell wait (Some status) = at_place s (without_job shell wait.number wait.processes) (Done (unexcused status))
+job_ended s shell wait (Some status) = at_place s (without_job shell wait.number wait.processes) (waited s shell wait.processes status)
 
 abbrev pub with_suspended : Shell → JobWait → (signal : ℕ) → Shell
 with_suspended shell wait signal = record shell {

@@ -2,6 +2,7 @@ pub mod Awaiting
 pub mod Continuing
 pub mod LineReading
 pub mod Placed
+pub mod Prompting
 pub mod Reporting
 pub mod Signals
 pub mod Waiting

@@ -1,5 +1,5 @@
 -- What follows a write of a shell.
-use Rattle.std.specs.Prelude.{ℕ, List, drop}
+use Rattle.std.specs.Prelude.{ℕ, drop}
 use Rattle.sh_builtin_outcome.specs.Builtins.{name_of}
 use Rattle.sh_builtin_outcome.specs.declared.outcome.Completion.{Completion}
 use Rattle.sh_builtin_outcome.specs.declared.outcome.Completion.TheVariants as completion

@@ -9,13 +9,13 @@ ghost use Rattle.sh_kernel.specs.State.{KernelState, StandsAt};
 
 use crate::reporting::reported;
 use crate::signals::send_to;
-use crate::waiting::{take_terminal_back, told};
+use crate::waiting::{take_terminal_back, told, waited};
 use sh_base::NoMemory;
 use sh_base::sequence::{Sequence, Text};
 use sh_builtin_jobs::{ContinuedJob, tell_continued};
 use sh_builtin_outcome::{Completion, Continuation};
 use sh_builtin_shell::Shell;
-use sh_exec_actions::{Action, Active, CommandStatus, JobWait, Report};
+use sh_exec_actions::{Action, Active, JobWait, Report};
 use sh_exec_machine::{signal_status, wait_status};
 use sh_exec_parts::Queue;
 use sh_jobs::{JobForm, JobState, Jobs, state_of};
@@ -229,8 +229,9 @@ fn job_ended(kernel: &Kernel, shell: &mut Shell, wait: JobWait) -> Active
 {
     match wait_status(kernel, shell.pid, wait.processes.as_slice()) {
         Some(status) => {
+            let active = waited(kernel, shell, wait.processes.as_slice(), status);
             shell.forget_job(wait.number, wait.processes.as_slice());
-            Active::Done(CommandStatus::unexcused(status))
+            active
         },
         None => Active::Next(Action::WaitForJob(wait)),
     }

@@ -5,6 +5,7 @@
 mod awaiting;
 mod continuing;
 mod line;
+mod prompting;
 mod reporting;
 mod signals;
 mod waiting;
@@ -12,8 +13,12 @@ mod writing;
 
 pub use awaiting::await_turn;
 pub use continuing::{continue_turn, job_wait_turn};
-pub use line::read_line_turn;
+pub use line::{most_read, read_line_turn};
+pub use prompting::{input_action, prompt_turn};
 pub use reporting::behind;
-pub use signals::{heed_traps, pending_action, pending_signal, signal_turn};
+pub use signals::{
+    finish_drop, heed_own_signals, heed_traps, is_dropping, is_interrupt_next, pending_action,
+    pending_signal, release_own_signals, signal_turn,
+};
 pub use waiting::{answer_turn, take_terminal_back, wait_turn};
 pub use writing::after_write;

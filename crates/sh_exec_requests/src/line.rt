@@ -22,8 +22,9 @@ const TERMINAL_READ: usize = 4096;
 /// The most bytes that one read takes elsewhere: what is behind the line is left to be read.
 const OTHER_READ: usize = 1;
 
-/// The most bytes that one read takes.
-fn most_read(kernel: &Kernel, pid: u32) -> usize
+/// The most bytes that one read takes by descriptor 0: one line of the terminal; one byte elsewhere, so that what is behind the line is left to
+/// be read. Takes no memory.
+pub fn most_read(kernel: &Kernel, pid: u32) -> usize
     ensures { (s : KernelState) → StandsAt kernel.now s → result ≡ most_read s.machine pid }
 {
     if kernel.is_terminal(pid, 0) {

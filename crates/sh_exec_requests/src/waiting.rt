@@ -3,19 +3,22 @@ ghost use Rattle.std.specs.Prelude.{◌≡◌, IfOk};
 ghost use Rattle.sh_jobs.specs.States.{state_of};
 ghost use Rattle.sh_kernel.specs.State.{KernelState, StandsAt};
 ghost use Rattle.sh_exec_requests.specs.Placed.{IsPlaced};
-ghost use Rattle.sh_exec_requests.specs.Waiting.{answer_by, answer_turn, controlled_by, suspended, terminal_back, told, wait_by, wait_turn, with_next_answer, with_substitution};
+ghost use Rattle.sh_exec_requests.specs.Waiting.{answer_by, answer_turn, controlled_by, is_brought_back, is_ended_by_interrupt, suspended, terminal_back, told, wait_by, wait_turn, waited, with_next_answer, with_substitution};
 ghost use Rattle.sh_exec_machine.specs.Waits.{wait_status};
 
 use sh_base::NoMemory;
 use sh_base::sequence::{Sequence, Text};
+use sh_builtin_outcome::Leave;
 use sh_builtin_shell::{Shell, own_group};
 use sh_exec_actions::{
     Action, Active, CommandStatus, Finish, Pending, PipelineWait, Substitution, ToExpand,
 };
-use sh_exec_machine::{signal_status, wait_status};
+use sh_exec_machine::{last_of, signal_status, wait_status};
 use sh_exec_parts::message::Piece;
 use sh_jobs::{JobForm, JobState, state_of};
 use sh_kernel::Kernel;
+use sh_kernel_processes::Status;
+use sh_signal::Signal;
 use std::alloc::Global;
 
 /// The status of a substitution is kept.
@@ -87,13 +90,44 @@ pub fn answer_turn(
     }
 }
 
-/// Once all processes have ended the command is done.
-fn ended(kernel: &Kernel, pid: u32, children: Sequence<u32>, job: Option<Text>) -> Active
-    ensures { (s : KernelState) → StandsAt kernel.now s
-        → result ≡ wait_by children job (wait_status s pid children) }
+/// Whether a process has ended by INT.
+fn is_ended_by_interrupt(status: Option<Status>) -> bool
+    ensures { result ≡ is_ended_by_interrupt status }
 {
-    match wait_status(kernel, pid, children.as_slice()) {
-        Some(status) => Active::Done(CommandStatus::unexcused(status)),
+    match status {
+        Some(Status::Signaled(signal)) => signal == Signal::Interrupt.number(),
+        Some(Status::Running | Status::Stopped(_) | Status::Exited(_)) => false,
+        None => false,
+    }
+}
+
+/// Whether the last of some processes was ended by INT, and brings an interactive shell back to its prompt by that.
+fn is_brought_back(kernel: &Kernel, shell: &Shell, children: &[u32]) -> bool
+    ensures { (s : KernelState) → StandsAt kernel.now s → result ≡ is_brought_back s shell.now children.now }
+{
+    if !shell.is_interactive() {
+        return false;
+    }
+    is_ended_by_interrupt(kernel.status(last_of(children)))
+}
+
+/// A command is done with the status of these processes, or an interactive shell comes back to its prompt (XCU 2.11). Takes no memory.
+pub(crate) fn waited(kernel: &Kernel, shell: &Shell, children: &[u32], status: u8) -> Active
+    ensures { (s : KernelState) → StandsAt kernel.now s → result ≡ waited s shell.now children.now status }
+{
+    if is_brought_back(kernel, shell, children) {
+        return Active::Leaving(Leave::Fault(status));
+    }
+    Active::Done(CommandStatus::unexcused(status))
+}
+
+/// Once all processes have ended the command is done.
+fn ended(kernel: &Kernel, shell: &Shell, children: Sequence<u32>, job: Option<Text>) -> Active
+    ensures { (s : KernelState) → StandsAt kernel.now s
+        → result ≡ wait_by s shell.now children job (wait_status s shell.now.pid children) }
+{
+    match wait_status(kernel, shell.pid, children.as_slice()) {
+        Some(status) => waited(kernel, shell, children.as_slice(), status),
         None => Active::Next(Action::Waiting(PipelineWait { children, job })),
     }
 }
@@ -185,7 +219,7 @@ fn controlled(
             Ok(active)
         },
         JobState::Done(_) => {
-            let active = ended(kernel, shell.pid, children, Some(text));
+            let active = ended(kernel, shell, children, Some(text));
             take_terminal_back(kernel, shell.pid);
             Ok(active)
         },
@@ -208,7 +242,7 @@ pub fn wait_turn(
 {
     let PipelineWait { children, job } = wait;
     match job {
-        None => Ok(ended(kernel, shell.pid, children, None)),
+        None => Ok(ended(kernel, shell, children, None)),
         Some(text) => {
             let active = controlled(alloc, kernel, shell, children, text)?;
             Ok(active)

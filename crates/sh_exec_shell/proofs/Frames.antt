@@ -4,13 +4,13 @@ use Rattle.std.proofs.lemmas.List.{length-reverse}
 use Rattle.sh_builtin_shell.specs.declared.shell.Shell.{Shell}
 use Rattle.sh_exec_actions.specs.declared.action.Active.{Active}
 use Rattle.sh_exec_forms.specs.Forms.{Acted, IsActed, at_action, outward}
-use Rattle.sh_exec_forms.specs.Stacks.{forms_round, path_of, run_in, run_of}
+use Rattle.sh_exec_entering.specs.Stacks.{forms_round, path_of, run_in, run_of}
 use Rattle.sh_exec_frames.specs.Frames.{framed, is_failure_ignored}
-use Rattle.sh_exec_forms.specs.Running.{InterpreterState, Run, At, In, active_of, with_active}
+use Rattle.sh_exec_entering.specs.Running.{InterpreterState, Run, At, In, active_of, with_active}
 use Rattle.sh_exec_actions.specs.declared.form.Form.{Form}
 use Rattle.sh_exec_forms.proofs.Outward.{by_forms}
 use Rattle.sh_exec_shell.specs.Forks.{IsTurned, Turned, inherited}
-use Rattle.sh_exec_shell.specs.Reduction.{act_at, at_root, reduce, shell_turn, with_root}
+use Rattle.sh_exec_shell.specs.Reduction.{act_at, at_root, drop_first, reduce, shell_turn, turn_from, with_root}
 use Rattle.sh_kernel.specs.State.{KernelKept, KernelState, StandsAt}
 
 active_in : (forms : List Form) (run : Run) → active_of (run_in forms run) ≡ active_of run
@@ -109,13 +109,33 @@ at_its_root kernel shell ran rooted child t i e =
       child = i.child;
     }
 
--- the turn of a shell that runs this
-pub shell_turned : (s : KernelState) (interpreter : InterpreterState) (shell : Shell) (run : Run)
-    (kernel : KernelKept) (later : Shell) (ran rooted : Run) (child : Option InterpreterState)
-    → interpreter ≡ record { shell = shell; run = run }
-    → IsTurned kernel later ran child (reduce s shell [] run) → rooted ≡ at_root later ran
+-- a tree is its place with the forms round it
+whole_in : (forms : List Form) (run : Run) → run_of (forms_round forms run) (active_of run) ≡ run_in forms run
+whole_in forms (At active) = refl
+whole_in forms (In form run) = whole_in (form ∷ forms) run
+
+pub whole : (run : Run) → run_of (path_of run) (active_of run) ≡ run
+whole run = whole_in [] run
+
+-- what comes before the turn of a shell that stands at this place
+drops_same : (s : KernelState) (shell : Shell) (forms : List Form) (active : Active)
+    → drop_first s shell (path_of (run_of forms active)) (active_of (run_of forms active)) ≡ drop_first s shell forms active
+drops_same s shell forms active =
+    ap (λ these. drop_first s shell these (active_of (run_of forms active))) (path_within forms active)
+    ∙ ap (drop_first s shell forms) (active_within forms active)
+
+-- the turn of a shell that stands at this place
+pub shell_turned : (s : KernelState) (interpreter : InterpreterState) (shell : Shell) (forms : List Form) (active : Active)
+    (dropped : KernelKept) (between : Shell) (run : Run) (kernel : KernelKept) (later : Shell) (ran rooted : Run) (child : Option InterpreterState)
+    → interpreter ≡ record { shell = shell; run = run_of forms active }
+    → IsActed dropped between run (drop_first s shell forms active)
+    → ((t : KernelState) → StandsAt dropped t → IsTurned kernel later ran child (reduce t between [] run)) → rooted ≡ at_root later ran
     → IsTurned kernel later rooted child (shell_turn s interpreter)
 unfolding shell_turn
-shell_turned s interpreter shell run kernel later ran rooted child is i e =
+shell_turned s interpreter shell forms active dropped between run kernel later ran rooted child is a i e =
+    let d = drop_first s shell forms active in
+    let of_shell = subst (λ this. IsTurned kernel later ran child (reduce d.machine this [] run)) a.shell_is (i d.machine a.state) in
+    let of_run = subst (λ this. IsTurned kernel later ran child (reduce d.machine d.shell [] this)) a.run of_shell in
     subst (λ (this : InterpreterState). IsTurned kernel later rooted child (shell_turn s this)) (sym is)
-    (at_its_root kernel later ran rooted child (reduce s shell [] run) i e)
+    (subst (λ this. IsTurned kernel later rooted child (turn_from this)) (sym (drops_same s shell forms active))
+    (at_its_root kernel later ran rooted child (reduce d.machine d.shell [] d.run) of_run e))

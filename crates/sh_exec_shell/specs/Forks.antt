@@ -1,8 +1,8 @@
 -- The actions of a shell that make a process: of a program, of a stage of a pipeline, of an asynchronous list, of a command substitution.
-use Rattle.std.specs.Prelude.{◌≡◌, ℕ, List, [], ◌∷◌, ◌++◌, Bool, true, false, length, nat_eq, not, Option, Some, None, if◌then◌else◌}
-use Rattle.sh_builtin_shell.specs.Shells.{after_launch, forked_shell, has_job_control}
+use Rattle.std.specs.Prelude.{◌≡◌, ℕ, List, [], ◌∷◌, ◌++◌, Bool, true, false, length, nat_eq, not, Option, Some, None, unwrap_or, if◌then◌else◌}
+use Rattle.sh_builtin_shell.specs.Shells.{after_launch, forked_shell, has_job_control, is_interactive, last_of}
 use Rattle.sh_builtin_shell.specs.declared.shell.Shell.{Shell}
-use Rattle.sh_exec_parts.specs.Messages.{cannot_fork}
+use Rattle.sh_exec_parts.specs.Messages.{cannot_fork, launch_line}
 use Rattle.sh_exec_command.specs.Expanding.{fatal}
 use Rattle.sh_exec_actions.specs.Preparing.{ahead}
 use Rattle.sh_exec_actions.specs.Statuses.{unexcused}
@@ -11,8 +11,9 @@ use Rattle.sh_exec_actions.specs.declared.action.Active.TheVariants.{Done, Next}
 use Rattle.sh_exec_actions.specs.declared.action.Move.{Move}
 use Rattle.sh_exec_actions.specs.declared.action.Move.TheVariants as move
 use Rattle.sh_exec_actions.specs.declared.action.Pending.{Pending}
-use Rattle.sh_exec_actions.specs.declared.action.Action.TheVariants.{ReadSubstitution, ForkStage}
+use Rattle.sh_exec_actions.specs.declared.action.Action.TheVariants.{ReadSubstitution, ForkStage, Writing}
 use Rattle.sh_exec_actions.specs.declared.action.ExpandedCommand.{ExpandedCommand}
+use Rattle.sh_exec_actions.specs.declared.action.Finish.TheVariants.{Status}
 use Rattle.sh_exec_actions.specs.declared.action.Launch.{Launch}
 use Rattle.sh_exec_actions.specs.declared.action.Launch.TheVariants.{Foreground, Background}
 use Rattle.sh_exec_actions.specs.declared.action.Stages.{Stages}
@@ -22,19 +23,18 @@ use Rattle.sh_exec_actions.specs.declared.action.ToExpand.TheVariants.{Words, Va
 use Rattle.sh_exec_machine.specs.Forking.{Laid, fork_of, null_laid}
 use Rattle.sh_exec_forms.specs.Forms.{Acted, with_run}
 use Rattle.sh_exec_turns.specs.Acting.{in_forms}
+use Rattle.sh_exec_turns.specs.Groups.{behind_fork, released_fork}
 use Rattle.sh_exec_actions.specs.declared.form.Form.{Form}
-use Rattle.sh_exec_forms.specs.Bodies.{body_of, stage_run}
-use Rattle.sh_exec_forms.specs.Entering.{and_or_run}
-use Rattle.sh_exec_forms.specs.Moves.{move_run}
-use Rattle.sh_exec_forms.specs.Stacks.{run_in}
+use Rattle.sh_exec_entering.specs.Bodies.{body_of, stage_run}
+use Rattle.sh_exec_entering.specs.Entering.{and_or_run}
+use Rattle.sh_exec_entering.specs.Moves.{move_run}
+use Rattle.sh_exec_entering.specs.Stacks.{run_in}
 use Rattle.sh_exec_frames.specs.Frames.{root_forms}
 use Rattle.sh_exec_frames.specs.JobTexts.{job_text}
-use Rattle.sh_exec_requests.specs.Waiting.{terminal_back, waiting}
-use Rattle.sh_exec_forms.specs.Running.{InterpreterState, Run, At}
-use Rattle.sh_kernel.specs.Calls.{after_set_action, after_set_foreground, after_set_group}
+use Rattle.sh_exec_requests.specs.Waiting.{waiting}
+use Rattle.sh_jobs.specs.Table.{free_number}
+use Rattle.sh_exec_entering.specs.Running.{InterpreterState, Run, At}
 use Rattle.sh_kernel.specs.State.{KernelKept, KernelState, StandsAt}
-use Rattle.sh_kernel_signals.specs.declared.member.SignalAction.TheVariants.{Ignored}
-use Rattle.sh_signal.specs.declared.signal.Signal.TheVariants.{Interrupt, Quit}
 use Rattle.sh_syntax.specs.Text.{and_or_tokens}
 use Rattle.sh_syntax.specs.Tokens.{text_of}
 use Rattle.sh_syntax.specs.declared.tree.AndOr.{AndOr}
@@ -67,42 +67,6 @@ inherited ignored (Some child) = Some (record child { run = in_process ignored c
 abbrev pub inheriting : (ignored : Bool) → Turned → Turned
 inheriting ignored t = record t { child = inherited ignored t.child }
 
--- ---- groups (2.11): with job control the processes of a pipeline are a group, which the first of them names; that is the foreground group
--- of the terminal where the shell waits for them
-abbrev pub leader : (before : List ℕ) → (child : ℕ) → ℕ
-leader [] child = child
-leader (first ∷ others) child = first
-
-abbrev pub given_terminal : (is_foreground : Bool) → (before : List ℕ) → (child : ℕ) → KernelState → KernelState
-given_terminal true [] child s = after_set_foreground s child
-given_terminal true (first ∷ others) child s = s
-given_terminal false before child s = s
-
-abbrev pub in_group : (is_foreground : Bool) → (before : List ℕ) → (child : ℕ) → KernelState → KernelState
-in_group is_foreground before child s = given_terminal is_foreground before child (after_set_group s child (leader before child))
-
--- where none could be made the terminal is the shell's again
-abbrev pub with_control : (pid : ℕ) → (is_foreground : Bool) → (before : List ℕ) → Option ℕ → KernelState → KernelState
-with_control pid is_foreground before None s = terminal_back s pid
-with_control pid is_foreground before (Some child) s = in_group is_foreground before child s
-
--- where there is no job control the processes of an asynchronous list ignore INT and QUIT (2.12)
-abbrev pub ignoring_keys : KernelState → (pid : ℕ) → KernelState
-ignoring_keys s pid = after_set_action (after_set_action s pid Interrupt Ignored) pid Quit Ignored
-
-abbrev pub without_control : (is_foreground : Bool) → Option ℕ → KernelState → KernelState
-without_control true child s = s
-without_control false None s = s
-without_control false (Some child) s = ignoring_keys s child
-
--- behind the fork of a process, after those of the same pipeline
-abbrev pub behind_fork_by : (control : Bool) → (pid : ℕ) → (is_foreground : Bool) → (before : List ℕ) → Option ℕ → KernelState → KernelState
-behind_fork_by true pid is_foreground before child s = with_control pid is_foreground before child s
-behind_fork_by false pid is_foreground before child s = without_control is_foreground child s
-
-abbrev pub behind_fork : Shell → (is_foreground : Bool) → (before : List ℕ) → Option ℕ → KernelState → KernelState
-behind_fork shell is_foreground before child s = behind_fork_by (has_job_control shell) shell.pid is_foreground before child s
-
 -- with job control the text of the job that a pipeline becomes when it is suspended is kept from its first process on
 abbrev pub job_of : Shell → (around : List Form) → List Command → Option (List ℕ)
 job_of shell around commands = if has_job_control shell then Some (job_text around commands) else None
@@ -119,9 +83,17 @@ fork_turn around s shell p =
 
 -- ---- a stage (2.9.2), or a subshell: once all have a process the shell waits for them; of an asynchronous list (2.9.3.1) it knows them
 -- then, and goes on at once with 0
-abbrev pub made_place : Launch → List ℕ → Active
-made_place (Foreground job) children = waiting children job
-made_place (Background list) children = Done (unexcused 0)
+-- an interactive shell then writes the number of the job, and `$!` (2.9.3.1)
+abbrev pub launched_by : (is_interactive : Bool) → (number : ℕ) → List ℕ → Active
+launched_by true number children = Next (Writing (launch_line number (unwrap_or (last_of children) 0)) (Status 0))
+launched_by false number children = Done (unexcused 0)
+
+abbrev pub launched : Shell → List ℕ → Active
+launched shell children = launched_by (is_interactive shell) (free_number shell.jobs) children
+
+abbrev pub made_place : Shell → Launch → List ℕ → Active
+made_place shell (Foreground job) children = waiting children job
+made_place shell (Background list) children = launched shell children
 
 -- the text of an asynchronous list is that of its job (XCU jobs)
 abbrev pub with_job : KernelState → Shell → AndOr → List ℕ → Shell
@@ -131,9 +103,9 @@ abbrev pub made_shell : KernelState → Launch → Shell → List ℕ → Shell
 made_shell s (Foreground job) shell children = shell
 made_shell s (Background list) shell children = with_job s shell list children
 
-abbrev pub stage_place : Launch → List Command → Option ℕ → List ℕ → Active
-stage_place launch [] aside children = made_place launch children
-stage_place launch (command ∷ commands) aside children =
+abbrev pub stage_place : Shell → Launch → List Command → Option ℕ → List ℕ → Active
+stage_place shell launch [] aside children = made_place shell launch children
+stage_place shell launch (command ∷ commands) aside children =
     Next (ForkStage (record { commands = command ∷ commands; aside = aside; children = children; launch = launch }))
 
 abbrev pub stage_shell : KernelState → Launch → List Command → Shell → List ℕ → Shell
@@ -163,7 +135,7 @@ abbrev pub stage_by : KernelState → Shell → Command → Stages → Option �
 stage_by s shell command stages (Some pid) =
     let children = stages.children ++ pid ∷ [] in
     with_child s (stage_shell s stages.launch stages.commands shell children)
-    (At (stage_place stages.launch stages.commands stages.aside children)) (child_of pid shell (stage_run command))
+    (At (stage_place shell stages.launch stages.commands stages.aside children)) (child_of pid shell (stage_run command))
 stage_by s shell command stages None = with_child s shell (At (fatal cannot_fork)) None
 
 unfoldable pub stage_one : KernelState → Shell → Command → Stages → Turned
@@ -172,8 +144,13 @@ stage_one s shell command stages =
     let f = fork_of l.after shell.pid l.aside (is_more stages.commands) in
     stage_by (behind_fork shell (is_foreground stages.launch) stages.children f.child f.after) shell command (record stages { aside = f.aside }) f.child
 
+-- a pipeline has a command, so this doesn't come
+abbrev pub place_of_none : Launch → List ℕ → Active
+place_of_none (Foreground job) children = waiting children job
+place_of_none (Background list) children = Done (unexcused 0)
+
 abbrev pub stage_from : KernelState → Shell → Stages → List Command → Turned
-stage_from s shell stages [] = with_child s shell (At (made_place stages.launch stages.children)) None
+stage_from s shell stages [] = with_child s shell (At (place_of_none stages.launch stages.children)) None
 stage_from s shell stages (command ∷ commands) = stage_one s shell command (record stages { commands = commands })
 
 -- the first process comes with the text
@@ -189,7 +166,7 @@ stage_turn around s shell stages =
 -- ---- an asynchronous list (2.9.3.1) that has one process
 abbrev pub list_by : KernelState → Shell → AndOr → Option ℕ → Turned
 list_by s shell list (Some pid) =
-    with_child s (with_job s shell list (pid ∷ [])) (At (Done (unexcused 0))) (child_of pid shell (and_or_run list))
+    with_child s (with_job s shell list (pid ∷ [])) (At (launched shell (pid ∷ []))) (child_of pid shell (and_or_run list))
 list_by s shell list None = with_child s shell (At (fatal cannot_fork)) None
 
 unfoldable pub list_turn : KernelState → Shell → AndOr → Turned
@@ -218,7 +195,7 @@ begun_substitution wants pending aside = record { wants = wants; pending = pendi
 
 unfoldable pub substitute_turn : KernelState → Shell → CompoundList → ToExpand → Pending → Turned
 substitute_turn s shell program wants pending =
-    let f = fork_of s shell.pid None true in substitution_by f.after shell program (begun_substitution wants pending f.aside) f.child
+    let f = released_fork shell (fork_of s shell.pid None true) in substitution_by f.after shell program (begun_substitution wants pending f.aside) f.child
 
 -- the kernel and the shell are what a turn leaves, and this is what the process runs that was made
 pub record IsTurned (kernel : KernelKept) (shell : Shell) (ran : Run) (made : Option InterpreterState) (t : Turned) : Type 0 where

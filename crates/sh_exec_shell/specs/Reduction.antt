@@ -1,5 +1,5 @@
 -- One turn of a shell: inward to its active place, the action there, and outward again.
-use Rattle.std.specs.Prelude.{ℕ, List, [], ◌∷◌, Option, Some, None}
+use Rattle.std.specs.Prelude.{ℕ, List, [], ◌∷◌, Option, Some, None, if◌then◌else◌}
 use Rattle.sh_exec_command.specs.Expanding.{Turn}
 use Rattle.sh_builtin_outcome.specs.Outcomes.{shell_status}
 use Rattle.sh_builtin_shell.specs.declared.shell.Shell.{Shell}
@@ -10,21 +10,26 @@ use Rattle.sh_exec_actions.specs.declared.action.Active.TheVariants.{Acting, Cal
 use Rattle.sh_exec_actions.specs.declared.action.Expanded.{Expanded}
 use Rattle.sh_exec_actions.specs.declared.action.Expanded.TheVariants as expanded
 use Rattle.sh_exec_actions.specs.declared.action.Action.{Action}
-use Rattle.sh_exec_actions.specs.declared.action.Action.TheVariants.{Reading, Expanding, ReadSubstitution, WaitSubstitution, ReadLine, Awaiting, SendSignal, ContinueJob, WaitForJob, Redirecting, Forking, Starting, ForkStage, ForkList, AssignLoopVariable, Defining, Waiting, Writing, Trapping, Ending}
+use Rattle.sh_exec_actions.specs.declared.action.Action.TheVariants.{Reading, Prompting, ReadInput, Expanding, ReadSubstitution, WaitSubstitution, ReadLine, Awaiting, SendSignal, ContinueJob, WaitForJob, Redirecting, Forking, Starting, ForkStage, ForkList, AssignLoopVariable, Defining, Waiting, Writing, Trapping, Ending}
 use Rattle.sh_exec_turns.specs.Acting.{collect_turn, defined, end_turn, ending, expand_turn, given_round, next, read_turn, redirect_turn, trap_turn, write_turn}
 use Rattle.sh_exec_requests.specs.Awaiting.{await_turn}
 use Rattle.sh_exec_requests.specs.LineReading.{read_line_turn}
 use Rattle.sh_exec_requests.specs.Placed.{Placed}
+use Rattle.sh_exec_requests.specs.Prompting.{prompt_turn}
 use Rattle.sh_exec_requests.specs.Continuing.{continue_turn, job_wait_turn}
-use Rattle.sh_exec_requests.specs.Signals.{signal_turn}
+use Rattle.sh_exec_requests.specs.Signals.{after_drop, signal_turn}
 use Rattle.sh_exec_requests.specs.Waiting.{answer_turn, wait_turn}
-use Rattle.sh_exec_turns.specs.Traps.{interruption, trap_before}
+use Rattle.sh_exec_turns.specs.Input.{input_turn}
+use Rattle.sh_exec_turns.specs.Traps.{drops_before, interruption, trap_before}
 use Rattle.sh_exec_shell.specs.Forks.{Turned, fork_turn, inheriting, list_turn, stage_turn, substitute_turn}
-use Rattle.sh_exec_forms.specs.Forms.{Acted, with_run, after, at_action}
-use Rattle.sh_exec_forms.specs.Moves.{move_run}
+use Rattle.sh_exec_forms.specs.Forms.{Acted, with_run, after, at_action, goes_on_reading}
+use Rattle.sh_exec_entering.specs.Moves.{move_run}
 use Rattle.sh_exec_frames.specs.Frames.{ends_shell, is_failure_ignored}
 use Rattle.sh_exec_actions.specs.declared.form.Form.{Form}
-use Rattle.sh_exec_forms.specs.Running.{Run, At, In, InterpreterState}
+use Rattle.sh_exec_actions.specs.declared.form.Form.TheVariants.{Text, Input}
+use Rattle.sh_exec_entering.specs.Running.{Run, At, In, InterpreterState, active_of}
+use Rattle.sh_exec_entering.specs.Stacks.{path_of, run_in, run_of}
+use Rattle.sh_builtin_outcome.specs.declared.outcome.Leave.TheVariants as leave
 use Rattle.sh_kernel.specs.State.{KernelState}
 
 abbrev pub plain : Acted → Turned
@@ -43,7 +48,9 @@ expansion s shell t = expanded_by s (record shell { vars = t.environment }) t.ou
 
 -- the action at a place inside some forms; a program's start isn't the shell's
 abbrev pub act_place : (around : List Form) → KernelState → Shell → Action → Turned
-act_place around s shell (Reading rest status) = plain (with_run s shell (read_turn (ends_shell around) shell.vars status (next_command rest)))
+act_place around s shell (Reading rest status) = plain (with_run s shell (read_turn (ends_shell around) (goes_on_reading around shell) shell.vars status (next_command rest)))
+act_place around s shell (Prompting text) = placed (prompt_turn s shell text)
+act_place around s shell (ReadInput text) = plain (input_turn s shell text)
 act_place around s shell (Expanding wants pending) = expansion s shell (expand_turn s.machine.files shell.vars shell.functions wants pending)
 act_place around s shell (ReadSubstitution substitution) = plain (collect_turn s shell substitution)
 act_place around s shell (WaitSubstitution substitution) = plain (with_run s shell (next (answer_turn s shell.pid substitution)))
@@ -96,8 +103,61 @@ at_root shell (At (Evaluating how text)) = At (Evaluating how text)
 at_root shell (At (Next place)) = At (Next place)
 at_root shell (In form run) = In form run
 
+abbrev pub rooted : Acted → Acted
+rooted a = with_run a.machine a.shell (at_root a.shell a.run)
+
 abbrev pub with_root : Turned → Turned
-with_root t = record { left = with_run t.left.machine t.left.shell (at_root t.left.shell t.left.run); child = t.child }
+with_root t = record { left = rooted t.left; child = t.child }
+
+-- ---- INT without a trap: as if a command had failed at this place, with 128 and the number of INT; but a shell that is to end, ends. This is looked
+-- at as the turn begins, which is then that of what comes next
+abbrev pub dropped_status : ℕ
+dropped_status = 130
+
+abbrev pub dropped : Run
+dropped = At (Leaving (leave.Fault dropped_status))
+
+abbrev pub dropped_run : Action → Run
+dropped_run (Reading rest status) = In (Text rest) dropped
+dropped_run (Prompting text) = dropped
+dropped_run (ReadInput text) = In (Input []) dropped
+dropped_run (Expanding wants pending) = dropped
+dropped_run (ReadSubstitution substitution) = dropped
+dropped_run (WaitSubstitution substitution) = dropped
+dropped_run (ReadLine reader) = dropped
+dropped_run (Awaiting awaited) = dropped
+dropped_run (SendSignal ask) = dropped
+dropped_run (ContinueJob continuation) = dropped
+dropped_run (WaitForJob wait) = dropped
+dropped_run (Redirecting p) = dropped
+dropped_run (Forking p) = dropped
+dropped_run (Starting start) = dropped
+dropped_run (ForkStage stages) = dropped
+dropped_run (ForkList list) = dropped
+dropped_run (AssignLoopVariable series) = dropped
+dropped_run (Defining definition) = dropped
+dropped_run (Waiting wait) = dropped
+dropped_run (Writing piece finish) = dropped
+dropped_run (Trapping status) = At (Next (Trapping status))
+dropped_run (Ending status) = dropped
+
+unfoldable pub drop_at : KernelState → Shell → (around : List Form) → Action → Acted
+drop_at s shell around place =
+    if drops_before s shell place
+    then rooted (at_action [] (after_drop s shell) shell (run_in around (dropped_run place)))
+    else with_run s shell (run_of around (Next place))
+
+abbrev pub drop_first : KernelState → Shell → (around : List Form) → Active → Acted
+drop_first s shell around (Next place) = drop_at s shell around place
+drop_first s shell around (Acting invocation fields) = with_run s shell (run_of around (Acting invocation fields))
+drop_first s shell around (Calling body fields) = with_run s shell (run_of around (Calling body fields))
+drop_first s shell around (Evaluating how text) = with_run s shell (run_of around (Evaluating how text))
+drop_first s shell around (Done ended) = with_run s shell (run_of around (Done ended))
+drop_first s shell around (Leaving leave) = with_run s shell (run_of around (Leaving leave))
+
+-- ---- the turn
+abbrev pub turn_from : Acted → Turned
+turn_from a = with_root (reduce a.machine a.shell [] a.run)
 
 unfoldable pub shell_turn : KernelState → InterpreterState → Turned
-shell_turn s interpreter = with_root (reduce s interpreter.shell [] interpreter.run)
+shell_turn s interpreter = turn_from (drop_first s interpreter.shell (path_of interpreter.run) (active_of interpreter.run))

@@ -1,37 +1,39 @@
 //! The turns of a shell that make a process.
-ghost use Rattle.std.specs.Prelude.{◌≡◌, ◌++◌, ◌∷◌, [], IfOk, OnOk, true};
+ghost use Rattle.std.specs.Prelude.{◌≡◌, ◌++◌, ◌∷◌, [], IfOk, List, None, OnOk, true};
 ghost use Rattle.sh_kernel.specs.State.{KernelState, StandsAt};
 ghost use Rattle.sh_builtin_shell.specs.Shells.{forked_shell, has_job_control};
 ghost use Rattle.sh_exec_parts.specs.Messages as messages;
 ghost use Rattle.sh_exec_command.specs.Expanding as expanding;
 ghost use Rattle.sh_exec_actions.specs.Preparing.{ahead};
 ghost use Rattle.sh_exec_actions.specs.Statuses.{unexcused};
-ghost use Rattle.sh_exec_machine.specs.Forking.{HasForked, HasLaid, null_laid};
-ghost use Rattle.sh_exec_shell.specs.Forks.{IsTurned, begun_substitution, child_of, background_input, behind_fork, fork_turn, in_process, inherited, inheriting, inside, is_foreground, is_more, job_of, launch_by, list_by, list_turn, made_place, made_shell, program_by, stage_by, stage_from, stage_input, stage_one, stage_shell, stage_turn, stage_place, substitute_turn, substitution_by, with_child, with_job, fork_failure};
-ghost use Rattle.sh_exec_forms.specs.Bodies.{body_of, stage_run};
-ghost use Rattle.sh_exec_forms.specs.Entering.{and_or_run};
-ghost use Rattle.sh_exec_forms.specs.Moves.{move_run};
-ghost use Rattle.sh_exec_forms.specs.Running.{Run};
-ghost use Rattle.sh_exec_forms.specs.Stacks.{run_in, run_of};
+ghost use Rattle.sh_exec_machine.specs.Forking.{HasForked, HasLaid, fork_of, null_laid};
+ghost use Rattle.sh_exec_shell.specs.Forks.{IsTurned, begun_substitution, child_of, background_input, launched, launched_by, place_of_none, fork_turn, in_process, inherited, inheriting, inside, is_foreground, is_more, job_of, launch_by, list_by, list_turn, made_place, made_shell, program_by, stage_by, stage_from, stage_input, stage_one, stage_shell, stage_turn, stage_place, substitute_turn, substitution_by, with_child, with_job, fork_failure};
+ghost use Rattle.sh_exec_turns.specs.Groups.{behind_fork, released_fork};
+ghost use Rattle.sh_exec_entering.specs.Bodies.{body_of, stage_run};
+ghost use Rattle.sh_exec_entering.specs.Entering.{and_or_run};
+ghost use Rattle.sh_exec_entering.specs.Moves.{move_run};
+ghost use Rattle.sh_exec_entering.specs.Running.{Run};
+ghost use Rattle.sh_exec_entering.specs.Stacks.{run_in, run_of};
 ghost use Rattle.sh_exec_frames.specs.Frames.{is_failure_ignored, root_forms};
 ghost use Rattle.sh_exec_requests.specs.Waiting.{waiting};
+ghost use Rattle.sh_jobs.specs.Table.{free_number};
 
-use crate::groups::settle_fork;
 use crate::interpreter::{Interpreter, interpreter_of};
 use sh_base::NoMemory;
 use sh_base::sequence::{Sequence, Text};
 use sh_base::shared::Shared;
 use sh_builtin_shell::Shell;
 use sh_exec_actions::{
-    Action, Active, CommandStatus, ExpandedCommand, Launch, Move, Pending, PipelineWait, Stages,
-    Substitution, ToExpand, go_ahead,
+    Action, Active, CommandStatus, ExpandedCommand, Finish, Launch, Move, Pending, PipelineWait,
+    Stages, Substitution, ToExpand, go_ahead,
 };
 use sh_exec_command::fatal_message;
-use sh_exec_forms::{body_of, go_to, list_body, stage};
+use sh_exec_entering::{body_of, go_to, list_body, stage};
 use sh_exec_frames::Frames;
 use sh_exec_machine::{Forked, fork_process, lay_null_input};
-use sh_exec_parts::message::cannot_fork;
+use sh_exec_parts::message::{cannot_fork, launch_line};
 use sh_exec_parts::{Copying, Queue};
+use sh_exec_turns::{release, settle_fork};
 use sh_kernel::Kernel;
 use sh_syntax::text::command_text;
 use sh_syntax::tree::{AndOr, Command, CompoundList};
@@ -214,12 +216,29 @@ fn put_job(
     shell: &mut Shell,
     list: &AndOr,
     children: &[u32],
-) -> Result<(), NoMemory>
-    ensures { (s : KernelState) → StandsAt kernel.now s
+) -> Result<usize, NoMemory>
+    ensures shell { (s : KernelState) → StandsAt kernel.now s
         → OnOk result (shell.new ≡ with_job s shell.old list.now children.now) }
+    ensures number { IfOk result (λ number. number ≡ free_number shell.old.jobs) }
 {
     let text = command_text(alloc, list)?;
     shell.launch(alloc, kernel, text.as_slice(), children)
+}
+
+/// Where a shell goes on that has started an asynchronous list.
+fn launched(
+    alloc: Global,
+    is_interactive: bool,
+    number: usize,
+    children: &[u32],
+) -> Result<Active, NoMemory>
+    ensures { IfOk result (λ active. active ≡ launched_by is_interactive number children.now) }
+{
+    if !is_interactive {
+        return Ok(Active::Done(CommandStatus::unexcused(0)));
+    }
+    let piece = launch_line(alloc, number, children.last().copied().unwrap_or(0))?;
+    Ok(Active::Next(Action::Writing(piece, Finish::Status(0))))
 }
 
 /// Where a pipeline goes on once all its commands have a process.
@@ -230,7 +249,7 @@ fn made(
     launch: Launch,
     children: Sequence<u32>,
 ) -> Result<Active, NoMemory>
-    ensures place { IfOk result (λ active. active ≡ made_place launch children) }
+    ensures place { IfOk result (λ active. active ≡ made_place shell.old launch children) }
     ensures shell { (s : KernelState) → StandsAt kernel.now s
         → OnOk result (shell.new ≡ made_shell s launch shell.old children) }
 {
@@ -240,8 +259,9 @@ fn made(
             job,
         }))),
         Launch::Background(list) => {
-            put_job(alloc, kernel, shell, list.get(), children.as_slice())?;
-            Ok(Active::Done(CommandStatus::unexcused(0)))
+            let is_interactive = shell.is_interactive();
+            let number = put_job(alloc, kernel, shell, list.get(), children.as_slice())?;
+            launched(alloc, is_interactive, number, children.as_slice())
         },
     }
 }
@@ -254,7 +274,7 @@ fn staged(
     stages: Stages,
 ) -> Result<Active, NoMemory>
     ensures place { IfOk result (λ active.
-        active ≡ stage_place stages.launch stages.commands stages.aside stages.children) }
+        active ≡ stage_place shell.old stages.launch stages.commands stages.aside stages.children) }
     ensures shell { (s : KernelState) → StandsAt kernel.now s
         → OnOk result (shell.new ≡ stage_shell s stages.launch stages.commands shell.old stages.children) }
 {
@@ -280,7 +300,7 @@ fn next_stage(
     child: u32,
 ) -> Result<Active, NoMemory>
     ensures place { IfOk result (λ active.
-        active ≡ stage_place stages.launch stages.commands stages.aside (stages.children ++ child ∷ [])) }
+        active ≡ stage_place shell.old stages.launch stages.commands stages.aside (stages.children ++ child ∷ [])) }
     ensures shell { (s : KernelState) → StandsAt kernel.now s → OnOk result
         (shell.new ≡ stage_shell s stages.launch stages.commands shell.old (stages.children ++ child ∷ [])) }
 {
@@ -486,7 +506,7 @@ fn launch_by(
 
 /// A pipeline none of whose commands is left without a process.
 fn stage_done(stages: Stages) -> Active
-    ensures { result ≡ made_place stages.launch stages.children }
+    ensures { result ≡ place_of_none stages.launch stages.children }
 {
     let Stages {
         children,
@@ -595,10 +615,11 @@ fn go_on_beside(
 ) -> Result<Active, NoMemory>
     ensures shell { (s : KernelState) → StandsAt kernel.now s
         → OnOk result (shell.new ≡ with_job s shell.old list.now (child ∷ [])) }
-    ensures place { IfOk result (λ active. active ≡ Active.Done (unexcused 0)) }
+    ensures place { IfOk result (λ active. active ≡ launched shell.old (child ∷ [])) }
 {
-    put_job(alloc, kernel, shell, list, slice::from_ref(&child))?;
-    Ok(Active::Done(CommandStatus::unexcused(0)))
+    let is_interactive = shell.is_interactive();
+    let number = put_job(alloc, kernel, shell, list, slice::from_ref(&child))?;
+    launched(alloc, is_interactive, number, slice::from_ref(&child))
 }
 
 /// The turn in which the process of an asynchronous list is made (XCU 2.9.3.1), where that has one.
@@ -725,6 +746,17 @@ fn collecting(
     }))
 }
 
+/// The process of a substitution, which writes to a pipe.
+fn fork_released(kernel: &mut Kernel, shell: &Shell) -> Result<Forked, NoMemory>
+    ensures state { (s : KernelState) → StandsAt kernel.old s → IfOk result (λ made.
+        HasForked kernel.new made.child made.aside (released_fork shell.now (fork_of s shell.now.pid None true))) }
+    ensures terminal { kernel.new.terminal ≡ kernel.old.terminal }
+{
+    let forked = fork_process(kernel, shell.pid, None, true)?;
+    release(kernel, shell, forked.child);
+    Ok(forked)
+}
+
 /// The turn in which a command substitution's process is made (XCU 2.6.3).
 #[tactic(auto, unfolding(crate::specs::Forks::substitute_turn))]
 pub(crate) fn substitute_turn(
@@ -742,7 +774,7 @@ pub(crate) fn substitute_turn(
         (substitute_turn s shell.now program wants pending)))) }
     ensures terminal { kernel.new.terminal ≡ kernel.old.terminal }
 {
-    let forked = match fork_process(kernel, shell.pid, None, true) {
+    let forked = match fork_released(kernel, shell) {
         Ok(forked) => forked,
         Err(lack) => {
             drop(program);

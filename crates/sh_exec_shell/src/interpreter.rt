@@ -5,10 +5,11 @@ ghost use Rattle.sh_tty.specs.Terminal.{Extends};
 ghost use Rattle.sh_exec_turns.specs.Acting.{ending};
 ghost use Rattle.sh_exec_shell.specs.Forks.{IsTurned};
 ghost use Rattle.sh_exec_shell.specs.Reduction.{at_root, reduce, shell_turn, with_root};
-ghost use Rattle.sh_exec_forms.specs.Stacks.{frames_of, path_of, run_of};
+ghost use Rattle.sh_exec_entering.specs.Stacks.{frames_of, path_of, run_of};
 ghost use Rattle.sh_exec_frames.specs.Frames.{framed};
-ghost use Rattle.sh_exec_forms.specs.Running.{Run, active_of, with_active};
+ghost use Rattle.sh_exec_entering.specs.Running.{Run, active_of, with_active};
 
+use crate::dropping::drop_first;
 use crate::turn::reduce;
 use sh_base::NoMemory;
 use sh_base::sequence::Text;
@@ -33,9 +34,9 @@ pub struct Interpreter {
 impl Model for Interpreter {
     ghost use Rattle.std.specs.Coded.{codes};
     ghost use Rattle.sh_vars.specs.Codes.{map_code};
-    ghost use Rattle.sh_exec_forms.specs.Codes.{run_code};
-    ghost use Rattle.sh_exec_forms.specs.Running.{InterpreterState};
-    ghost use Rattle.sh_exec_forms.specs.Stacks.{run_of};
+    ghost use Rattle.sh_exec_entering.specs.Codes.{run_code};
+    ghost use Rattle.sh_exec_entering.specs.Running.{InterpreterState};
+    ghost use Rattle.sh_exec_entering.specs.Stacks.{run_of};
     ghost use Rattle.sh_syntax.specs.contracts.tree.Command as command_row;
 
     ghost Value = { InterpreterState };
@@ -71,7 +72,7 @@ fn at_end(shell: &Shell, active: Active) -> Active
 }
 
 /// At the root what leaves the shell becomes its end.
-fn root(shell: &Shell, frames: &Frames, active: Active) -> Active
+pub(crate) fn root(shell: &Shell, frames: &Frames, active: Active) -> Active
     ensures { run_of frames.now result ≡ at_root shell.now (run_of frames.now active) }
 {
     match frames.as_slice() {
@@ -172,6 +173,7 @@ impl Interpreter {
         ensures terminal { Extends kernel.old.terminal.bytes kernel.new.terminal.bytes }
     {
         let active = mem::replace(&mut self.active, Active::Done(CommandStatus::unexcused(0)));
+        let active = drop_first(alloc, kernel, &mut self.shell, &mut self.frames, active)?;
         let (next, child) = reduce(alloc, kernel, &mut self.shell, &mut self.frames, active)?;
         drop(mem::replace(&mut self.active, root(&self.shell, &self.frames, next)));
         Ok(child)

@@ -1,8 +1,8 @@
 //! A shell's process: one turn is one reduction of what it runs, by calls of a kernel.
 #![tactic(auto)]
 
+mod dropping;
 mod forks;
-mod groups;
 mod interpreter;
 mod turn;
 

@@ -8,8 +8,8 @@ ghost use Rattle.sh_exec_turns.specs.Acting.{defined, expand_turn, given_round, 
 ghost use Rattle.sh_exec_shell.specs.Forks.{IsTurned, inheriting, inside};
 ghost use Rattle.sh_exec_shell.specs.Reduction.{act_at, act_behind, act_place, expanded_by, expansion, plain, reduce};
 ghost use Rattle.sh_exec_turns.specs.Traps.{trap_before};
-ghost use Rattle.sh_exec_forms.specs.Running.{Run};
-ghost use Rattle.sh_exec_forms.specs.Stacks.{run_in, run_of};
+ghost use Rattle.sh_exec_entering.specs.Running.{Run};
+ghost use Rattle.sh_exec_entering.specs.Stacks.{run_in, run_of};
 ghost use Rattle.sh_exec_frames.specs.Frames.{is_failure_ignored};
 
 use crate::forks::{fork_turn, list_turn, stage_turn, substitute_turn};
@@ -22,13 +22,16 @@ use sh_exec_command::{
     Round, assign_turn, case_turn, define_turn, give_turn, pattern_turn, redirects_turn,
     series_turn, words_turn,
 };
-use sh_exec_forms::{enter_list, go_to, settle};
+use sh_exec_entering::{enter_list, go_to};
+use sh_exec_forms::{goes_on_reading, settle};
 use sh_exec_frames::Frames;
 use sh_exec_requests::{
-    answer_turn, await_turn, continue_turn, job_wait_turn, read_line_turn, signal_turn, wait_turn,
+    answer_turn, await_turn, continue_turn, job_wait_turn, prompt_turn, read_line_turn,
+    signal_turn, wait_turn,
 };
 use sh_exec_turns::{
-    collect_turn, end_turn, interrupt, read, redirect_turn, trap, trap_before, write_turn,
+    collect_turn, end_turn, input_turn, interrupt, read, redirect_turn, trap, trap_before,
+    write_turn,
 };
 use sh_files::Files;
 use sh_kernel::Kernel;
@@ -192,7 +195,16 @@ fn act_place(
 {
     match place {
         Action::Reading(rest, status) => {
-            let active = read(alloc, frames, rest, status, &shell.vars)?;
+            let reads_on = goes_on_reading(shell, frames);
+            let active = read(alloc, frames, rest, status, reads_on, &shell.vars)?;
+            Ok((active, None))
+        },
+        Action::Prompting(text) => {
+            let active = prompt_turn(alloc, kernel, shell, text)?;
+            Ok((active, None))
+        },
+        Action::ReadInput(text) => {
+            let active = input_turn(alloc, kernel, shell, frames, text)?;
             Ok((active, None))
         },
         Action::Expanding(wants, pending) => {

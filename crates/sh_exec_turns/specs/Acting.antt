@@ -43,10 +43,10 @@ use Rattle.sh_exec_machine.specs.declared.transfer.ReadOutcome.TheVariants as ta
 use Rattle.sh_exec_machine.specs.declared.undone.Undone.{Undone}
 use Rattle.sh_exec_requests.specs.Writing.{written_by}
 use Rattle.sh_exec_forms.specs.Forms.{Acted, behind_status, with_run}
-use Rattle.sh_exec_forms.specs.Entering.{items_run, list_run}
-use Rattle.sh_exec_forms.specs.Moves.{move_run}
-use Rattle.sh_exec_forms.specs.Stacks.{run_in}
-use Rattle.sh_exec_forms.specs.Running.{Run, At, In}
+use Rattle.sh_exec_entering.specs.Entering.{items_run, list_run}
+use Rattle.sh_exec_entering.specs.Moves.{move_run}
+use Rattle.sh_exec_entering.specs.Stacks.{run_in}
+use Rattle.sh_exec_entering.specs.Running.{Run, At, In}
 use Rattle.sh_exec_actions.specs.declared.form.Form.{Form}
 use Rattle.sh_exec_actions.specs.declared.form.Form.TheVariants.{Text, ForBody, Trapped}
 use Rattle.sh_files.specs.Nodes.{FileMap}
@@ -68,11 +68,16 @@ is_fatal ends_shell refusal.TooDeep = true
 abbrev pub after_refusal : (ends_shell : Bool) → Refusal → Active
 after_refusal ends_shell why = Next (Writing (message (refusal_text why)) (failing (is_fatal ends_shell why) statuses.error))
 
-abbrev pub read_turn : (ends_shell : Bool) → Environment → (status : ℕ) → Found → Run
-read_turn ends_shell env status found.Nothing = At (Done (unexcused status))
-read_turn ends_shell env status (found.Command tree rest) =
+-- an interactive shell that reads on in its text does so behind what was refused
+abbrev pub refusal_run : (ends_shell reads_on : Bool) → Refusal → (rest : List ℕ) → Run
+refusal_run ends_shell true why rest = In (Text rest) (At (after_refusal ends_shell why))
+refusal_run ends_shell false why rest = At (after_refusal ends_shell why)
+
+abbrev pub read_turn : (ends_shell reads_on : Bool) → Environment → (status : ℕ) → Found → Run
+read_turn ends_shell reads_on env status found.Nothing = At (Done (unexcused status))
+read_turn ends_shell reads_on env status (found.Command tree rest) =
     In (Text rest) (items_run (view.out-CompoundList tree).items (unexcused env.special.status))
-read_turn ends_shell env status (found.Fault why) = At (after_refusal ends_shell why)
+read_turn ends_shell reads_on env status (found.Fault why rest) = refusal_run ends_shell reads_on why rest
 
 -- ---- expansion
 abbrev pub expand_turn : FileMap → Environment → List Named → ToExpand → Option Pending → Turn
@@ -178,7 +183,7 @@ without_trap shell = record shell { traps = with_action shell.traps Exit None }
 
 -- `$?` is the status with which the shell is to end, and the action's first command is read
 abbrev pub trap_action : KernelState → Shell → (status : ℕ) → List ℕ → Acted
-trap_action s shell status text = with_run s shell (In (Trapped status) (read_turn true shell.vars 0 (next_command text)))
+trap_action s shell status text = with_run s shell (In (Trapped status) (read_turn true false shell.vars 0 (next_command text)))
 
 abbrev pub trap_by : KernelState → Shell → (status : ℕ) → Option (List ℕ) → Acted
 trap_by s shell status None = with_run s shell (next (Ending status))

@@ -1,2 +1,4 @@
 pub mod Acting
+pub mod Groups
+pub mod Input
 pub mod Traps

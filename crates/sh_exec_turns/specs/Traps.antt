@@ -1,8 +1,9 @@
 -- Traps on signals (XCU 2.15 trap, 2.12): before which actions of a shell that of a trap may come, and the turn in which it is taken.
-use Rattle.std.specs.Prelude.{ℕ, zero, suc, List, [], ◌∷◌, Bool, true, false, not, Option, Some, None, if◌then◌else◌}
+use Rattle.std.specs.Option.{is_some}
+use Rattle.std.specs.Prelude.{ℕ, zero, suc, List, [], ◌∷◌, ◌&&◌, ◌||◌, Bool, true, false, not, Option, Some, None, if◌then◌else◌}
 use Rattle.sh_builtin_shell.specs.declared.shell.Shell.{Shell}
 use Rattle.sh_exec_actions.specs.declared.action.Action.{Action}
-use Rattle.sh_exec_actions.specs.declared.action.Action.TheVariants.{Reading, Expanding, ReadSubstitution, WaitSubstitution, ReadLine, Awaiting, SendSignal, ContinueJob, WaitForJob, Redirecting, Forking, Starting, ForkStage, ForkList, AssignLoopVariable, Defining, Waiting, Writing, Trapping, Ending}
+use Rattle.sh_exec_actions.specs.declared.action.Action.TheVariants.{Reading, Prompting, ReadInput, Expanding, ReadSubstitution, WaitSubstitution, ReadLine, Awaiting, SendSignal, ContinueJob, WaitForJob, Redirecting, Forking, Starting, ForkStage, ForkList, AssignLoopVariable, Defining, Waiting, Writing, Trapping, Ending}
 use Rattle.sh_exec_actions.specs.declared.action.Pending.{Pending}
 use Rattle.sh_exec_actions.specs.declared.action.ToExpand.{ToExpand}
 use Rattle.sh_exec_actions.specs.declared.action.ToExpand.TheVariants.{Words, Values, Redirects, ForWords, CaseWord, CasePattern}
@@ -11,9 +12,9 @@ use Rattle.sh_exec_actions.specs.declared.form.Form.TheVariants.{Interruption}
 use Rattle.sh_exec_command.specs.Expanding.{fatal}
 use Rattle.sh_exec_command.specs.Reading.{next_command}
 use Rattle.sh_exec_forms.specs.Forms.{Acted, behind_status, with_run}
-use Rattle.sh_exec_forms.specs.Running.{At, In}
+use Rattle.sh_exec_entering.specs.Running.{At, In}
 use Rattle.sh_exec_frames.specs.Frames.{levels_left}
-use Rattle.sh_exec_requests.specs.Signals.{pending_action}
+use Rattle.sh_exec_requests.specs.Signals.{is_dropping, is_interrupt_next, pending_action}
 use Rattle.sh_exec_parts.specs.Messages.{refusal_text}
 use Rattle.sh_exec_parts.specs.Simple.{compound_redirects}
 use Rattle.sh_exec_parts.specs.declared.message.Refusal.TheVariants as refusal
@@ -47,6 +48,8 @@ begins wants pending = if is_begun pending then false else is_first wants
 -- foreground (2.12)
 abbrev pub may_interrupt : Action → Bool
 may_interrupt (Reading rest status) = true
+may_interrupt (Prompting text) = false
+may_interrupt (ReadInput text) = true
 may_interrupt (Expanding wants pending) = begins wants pending
 may_interrupt (ReadSubstitution substitution) = false
 may_interrupt (WaitSubstitution substitution) = false
@@ -75,11 +78,13 @@ trap_before s shell place = if may_interrupt place then pending_action s shell e
 abbrev pub interrupted : (levels : ℕ) → KernelState → Shell → Action → (text : List ℕ) → Acted
 interrupted zero s shell place text = with_run s shell (At (fatal (refusal_text refusal.TooDeep)))
 interrupted (suc levels) s shell place text =
-    with_run s shell (In (Interruption shell.vars.special.status place) (read_turn true shell.vars 0 (next_command text)))
+    with_run s shell (In (Interruption shell.vars.special.status place) (read_turn true false shell.vars 0 (next_command text)))
 
 -- where the shell is to end, `$?` is the status with which it is to
 abbrev pub shell_before : Shell → Action → Shell
 shell_before shell (Reading rest status) = shell
+shell_before shell (Prompting text) = shell
+shell_before shell (ReadInput text) = shell
 shell_before shell (Expanding wants pending) = shell
 shell_before shell (ReadSubstitution substitution) = shell
 shell_before shell (WaitSubstitution substitution) = shell
@@ -102,3 +107,61 @@ shell_before shell (Ending status) = shell
 
 unfoldable pub interruption : (around : List Form) → KernelState → Shell → Action → (text : List ℕ) → Acted
 interruption around s shell place text = interrupted (levels_left around) (after_take_signal s shell.pid) (shell_before shell place) place text
+
+-- ---- INT without a trap: an interactive shell drops what it does (sh, ASYNCHRONOUS EVENTS), where it would take a trap, and where the built-in wait
+-- waits, unless a signal with a lower number comes first
+abbrev pub may_drop : Action → Bool
+may_drop (Reading rest status) = true
+may_drop (Prompting text) = false
+may_drop (ReadInput text) = true
+may_drop (Expanding wants pending) = begins wants pending
+may_drop (ReadSubstitution substitution) = false
+may_drop (WaitSubstitution substitution) = false
+may_drop (ReadLine reader) = false
+may_drop (Awaiting awaited) = true
+may_drop (SendSignal ask) = false
+may_drop (ContinueJob continuation) = false
+may_drop (WaitForJob wait) = false
+may_drop (Redirecting p) = false
+may_drop (Forking p) = false
+may_drop (Starting start) = false
+may_drop (ForkStage stages) = is_none stages.children
+may_drop (ForkList list) = true
+may_drop (AssignLoopVariable series) = true
+may_drop (Defining definition) = true
+may_drop (Waiting wait) = false
+may_drop (Writing piece finish) = false
+may_drop (Trapping status) = true
+may_drop (Ending status) = false
+
+-- and at once where the built-in read reads, which is no place for a trap
+abbrev pub drops_at_once : Action → Bool
+drops_at_once (Reading rest status) = false
+drops_at_once (Prompting text) = false
+drops_at_once (ReadInput text) = false
+drops_at_once (Expanding wants pending) = false
+drops_at_once (ReadSubstitution substitution) = false
+drops_at_once (WaitSubstitution substitution) = false
+drops_at_once (ReadLine reader) = true
+drops_at_once (Awaiting awaited) = false
+drops_at_once (SendSignal ask) = false
+drops_at_once (ContinueJob continuation) = false
+drops_at_once (WaitForJob wait) = false
+drops_at_once (Redirecting p) = false
+drops_at_once (Forking p) = false
+drops_at_once (Starting start) = false
+drops_at_once (ForkStage stages) = false
+drops_at_once (ForkList list) = false
+drops_at_once (AssignLoopVariable series) = false
+drops_at_once (Defining definition) = false
+drops_at_once (Waiting wait) = false
+drops_at_once (Writing piece finish) = false
+drops_at_once (Trapping status) = false
+drops_at_once (Ending status) = false
+
+abbrev pub drops_before : KernelState → Shell → Action → Bool
+drops_before s shell place = is_dropping s shell && (drops_at_once place || (may_drop place && is_interrupt_next s shell))
+
+-- a shell waits no longer for what it would read, or wait for, where it has a trap to take before, or something to drop
+abbrev pub is_called : KernelState → Shell → Action → Bool
+is_called s shell place = is_some (trap_before s shell place) || drops_before s shell place

@@ -1,15 +1,19 @@
 //! The turns of a shell that make no process: it reads a command, takes a trap, does a redirection, writes, reads what a substitution writes,
-//! or ends.
+//! or ends; and what becomes of the group and the signals of a process that it has made.
 #![tactic(auto)]
 
+mod commands;
+mod groups;
 mod input;
 mod output;
 mod reading;
 mod redirecting;
 mod traps;
 
+pub use commands::input_turn;
+pub use groups::{release, settle_fork};
 pub use input::collect_turn;
 pub use output::{end_turn, write_turn};
 pub use reading::read;
 pub use redirecting::redirect_turn;
-pub use traps::{interrupt, is_interrupted, trap, trap_before};
+pub use traps::{drops_before, interrupt, is_called, is_interrupted, trap, trap_before};

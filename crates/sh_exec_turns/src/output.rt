@@ -4,7 +4,7 @@ ghost use Rattle.sh_kernel.specs.State.{KernelState, StandsAt};
 ghost use Rattle.sh_tty.specs.Terminal.{Extends};
 ghost use Rattle.sh_exec_forms.specs.Forms.{IsActed};
 ghost use Rattle.sh_exec_turns.specs.Acting.{end_turn, write_turn};
-ghost use Rattle.sh_exec_forms.specs.Running.{Run};
+ghost use Rattle.sh_exec_entering.specs.Running.{Run};
 ghost use Rattle.sh_exec_requests.specs.Writing.{written_by};
 
 use sh_base::NoMemory;

@@ -1,7 +1,7 @@
 //! The reading of the next command of a text.
 ghost use Rattle.std.specs.Prelude.{◌≡◌, IfOk};
 ghost use Rattle.sh_exec_command.specs.Reading.{next_command};
-ghost use Rattle.sh_exec_forms.specs.Stacks.{run_in, run_of};
+ghost use Rattle.sh_exec_entering.specs.Stacks.{run_in, run_of};
 ghost use Rattle.sh_exec_frames.specs.Frames.{ends_shell};
 ghost use Rattle.sh_exec_turns.specs.Acting.{after_refusal, is_fatal, read_turn};
 
@@ -9,7 +9,7 @@ use sh_base::NoMemory;
 use sh_exec_actions::status::ERROR;
 use sh_exec_actions::{Action, Active, CommandStatus, Form, failing};
 use sh_exec_command::{Found, find_command};
-use sh_exec_forms::enter;
+use sh_exec_entering::enter;
 use sh_exec_frames::Frames;
 use sh_exec_parts::message::{Refusal, refused};
 use sh_exec_parts::{Queue, Rest};
@@ -28,7 +28,7 @@ fn is_fatal(ends_shell: bool, why: Refusal) -> bool
 }
 
 /// A text is refused.
-fn refuse(alloc: Global, ends_shell: bool, why: Refusal) -> Result<Active, NoMemory>
+pub(crate) fn refuse(alloc: Global, ends_shell: bool, why: Refusal) -> Result<Active, NoMemory>
     ensures { IfOk result (λ active. active ≡ after_refusal ends_shell why) }
 {
     let finish = failing(is_fatal(ends_shell, why), ERROR);
@@ -37,17 +37,19 @@ fn refuse(alloc: Global, ends_shell: bool, why: Refusal) -> Result<Active, NoMem
 }
 
 /// A reading turn (XCU 2.1): the next complete command of the rest of a text is entered inside the forms; where none follows the text is done with
-/// `status`, that of its last command. What is refused has a message, which may end the shell (2.8.1). The only error is want of memory, after
+/// `status`, that of its last command. What is refused has a message, which may end the shell (2.8.1); where `reads_on` what follows that is read
+/// then. The only error is want of memory, after
 /// which the shell is given up.
 pub fn read(
     alloc: Global,
     frames: &mut Frames,
     rest: Rest,
     status: u8,
+    reads_on: bool,
     vars: &Vars,
 ) -> Result<Active, NoMemory>
     ensures { IfOk result (λ active. run_of frames.new active
-        ≡ run_in frames.old (read_turn (ends_shell frames.old) vars.now status (next_command rest))) }
+        ≡ run_in frames.old (read_turn (ends_shell frames.old) reads_on vars.now status (next_command rest))) }
 {
     match find_command(alloc, rest)? {
         Found::Nothing => Ok(Active::Done(CommandStatus::unexcused(status))),
@@ -68,6 +70,12 @@ pub fn read(
             )?;
             Ok(step.into_active())
         },
-        Found::Fault(why) => refuse(alloc, frames.ends_shell(), why),
+        Found::Fault(why, rest) => {
+            let ends_shell = frames.ends_shell();
+            if reads_on {
+                frames.push(Form::Text(rest))?;
+            }
+            refuse(alloc, ends_shell, why)
+        },
     }
 }

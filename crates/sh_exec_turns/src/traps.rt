@@ -3,13 +3,13 @@ ghost use Rattle.std.specs.Prelude.{◌≡◌, ◌∷◌, IfOk, OnOk};
 ghost use Rattle.std.specs.Option.{is_some};
 ghost use Rattle.sh_exec_command.specs.Expanding.{fatal};
 ghost use Rattle.sh_exec_forms.specs.Forms.{IsActed, behind_status};
-ghost use Rattle.sh_exec_forms.specs.Running.{Run};
-ghost use Rattle.sh_exec_forms.specs.Stacks.{run_in, run_of};
+ghost use Rattle.sh_exec_entering.specs.Running.{Run};
+ghost use Rattle.sh_exec_entering.specs.Stacks.{run_in, run_of};
 ghost use Rattle.sh_exec_parts.specs.Messages.{refusal_text};
 ghost use Rattle.sh_exec_parts.specs.Simple.{compound_redirects};
 ghost use Rattle.sh_exec_parts.specs.declared.message.Refusal.TheVariants as refusal;
 ghost use Rattle.sh_exec_turns.specs.Acting.{in_forms, trap_turn, without_trap};
-ghost use Rattle.sh_exec_turns.specs.Traps.{begins, interrupted, interruption, is_first, is_none, may_interrupt, shell_before, trap_before};
+ghost use Rattle.sh_exec_turns.specs.Traps.{begins, drops_at_once, drops_before, interrupted, interruption, is_called, is_first, is_none, may_drop, may_interrupt, shell_before, trap_before};
 ghost use Rattle.sh_kernel.specs.State.{KernelState, StandsAt};
 
 use crate::reading::read;
@@ -23,7 +23,7 @@ use sh_exec_frames::Frames;
 use sh_exec_parts::Rest;
 use sh_exec_parts::compound::compound_redirects;
 use sh_exec_parts::message::{Refusal, refused};
-use sh_exec_requests::pending_action;
+use sh_exec_requests::{is_dropping, is_interrupt_next, pending_action};
 use sh_kernel::Kernel;
 use sh_signal::Condition;
 use sh_syntax::tree::Command;
@@ -62,7 +62,7 @@ pub fn trap(
         },
     }
     take_trap(shell, status);
-    let active = read(alloc, frames, Rest::new(text), 0, &shell.vars)?;
+    let active = read(alloc, frames, Rest::new(text), 0, false, &shell.vars)?;
     Ok(active)
 }
 
@@ -106,6 +106,8 @@ fn may_interrupt(place: &Action) -> bool
 {
     match place {
         Action::Reading(_, _) => true,
+        Action::Prompting(_) => false,
+        Action::ReadInput(_) => true,
         Action::Expanding(wants, pending) => begins(wants, pending),
         Action::ReadSubstitution(_) => false,
         Action::WaitSubstitution(_) => false,
@@ -158,6 +160,40 @@ pub fn trap_before(
     }
     let text = copy_of_action(alloc, pending_action(kernel, shell))?;
     Ok(text)
+}
+
+/// Whether INT has an interactive shell drop what it does before an action, where no signal comes first.
+fn may_drop(place: &Action) -> bool
+    ensures { result ≡ may_drop place.now }
+{
+    match place {
+        Action::Awaiting(_) => true,
+        other => may_interrupt(other),
+    }
+}
+
+/// Whether it drops that at once.
+fn drops_at_once(place: &Action) -> bool
+    ensures { result ≡ drops_at_once place.now }
+{
+    matches!(place, Action::ReadLine(_))
+}
+
+/// Whether INT has an interactive shell drop what it does before what it is about to do (XCU sh, "ASYNCHRONOUS EVENTS"). Takes no memory.
+pub fn drops_before(kernel: &Kernel, shell: &Shell, place: &Action) -> bool
+    ensures { (s : KernelState) → StandsAt kernel.now s → result ≡ drops_before s shell.now place.now }
+{
+    if !is_dropping(kernel, shell) {
+        return false;
+    }
+    drops_at_once(place) || (may_drop(place) && is_interrupt_next(kernel, shell))
+}
+
+/// Whether a shell has a trap to take, or something to drop, before what it is about to do. Takes no memory.
+pub fn is_called(kernel: &Kernel, shell: &Shell, place: &Action) -> bool
+    ensures { (s : KernelState) → StandsAt kernel.now s → result ≡ is_called s shell.now place.now }
+{
+    is_interrupted(kernel, shell, place) || drops_before(kernel, shell, place)
 }
 
 /// The place is kept, with `$?`, inside some forms.
@@ -217,6 +253,6 @@ pub fn interrupt(
             return Err(lack);
         },
     }
-    let active = read(alloc, frames, Rest::new(text), 0, &shell.vars)?;
+    let active = read(alloc, frames, Rest::new(text), 0, false, &shell.vars)?;
     Ok(active)
 }

@@ -9,12 +9,12 @@ use Rattle.sh_laws.proofs.RequestLists.{changes_reached, reaches_as_before}
 use Rattle.sh_laws.proofs.Reaching.{forking_reaches}
 use Rattle.sh_laws.proofs.Unmade.{unmade_stay, unmade_stay_forking}
 use Rattle.sh_exec_machine.specs.Forking.{fork_of}
-use Rattle.sh_exec_shell.specs.Forks.{behind_fork_by, given_terminal, leader}
+use Rattle.sh_exec_turns.specs.Groups.{behind_fork_by, given_terminal, leader}
 use Rattle.sh_kernel_descriptors.specs.Machine.{MachineState}
 use Rattle.sh_kernel_processes.specs.Processes.{next_pid}
 use Rattle.sh_kernel.specs.Calls.{after_set_group}
 use Rattle.sh_kernel.specs.Laws.{ChangesOnlyReached, OnlyGrows, ReachesNoMore, opens, sends}
-use Rattle.sh_kernel.specs.Requests.{Request, after_request}
+use Rattle.sh_kernel.specs.Requests.{Request, SetAction, after_request}
 use Rattle.sh_kernel.specs.State.{KernelState}
 use Rattle.sh_kernel.proofs.Frames.{requests_change}
 use Rattle.sh_kernel.proofs.Growing.{grows_then, requests_grow}
@@ -24,7 +24,11 @@ use Rattle.sh_stock.specs.Asking.{Meaning}
 use Rattle.sh_laws.specs.Requests.{ByRequests, ChangesByRequests, after_all, directory_of, number_of, opens_by, sends_by}
 use Rattle.sh_laws.proofs.Lists.{by_then, fork_by, opens_append, own_more}
 use Rattle.sh_laws.proofs.Processes.{turn_keeps}
-use Rattle.sh_laws.proofs.TurnRequests.{IsForked, IsKept, after_making}
+use Rattle.sh_laws.proofs.TurnRequests.{IsForked, IsKept, after_making, set_requests}
+use Rattle.sh_laws.specs.Forking.{after_child}
+use Rattle.sh_kernel_signals.specs.declared.member.SignalAction.{SignalAction}
+use Rattle.sh_signal.specs.declared.signal.Signal.{Signal}
+use Rattle.sh_kernel.specs.Requests.{after_requests}
 
 both_false : (a b : Bool) → a ≡ false → b ≡ false → (a || b) ≡ false
 both_false a b h k = ap (λ (x : Bool). x || b) h ∙ k
@@ -43,6 +47,15 @@ given_machine : (is_foreground : Bool) (others : List ℕ) (child : ℕ) (s : Ke
 given_machine true [] child s = refl
 given_machine true (first ∷ more) child s = refl
 given_machine false others child s = refl
+
+-- what a process does with signals is no part of the machine
+set_machine : (own : List (Signal × SignalAction)) (child : ℕ) (s : KernelState) → (after_requests s child (set_requests own)).machine ≡ s.machine
+set_machine [] child s = refl
+set_machine (own ∷ others) child s = set_machine others child (after_request s child (SetAction own.0 own.1))
+
+own_machine : (own : List (Signal × SignalAction)) (child : Option ℕ) (s : KernelState) → (after_child s child (set_requests own)).machine ≡ s.machine
+own_machine own None s = refl
+own_machine own (Some child) s = set_machine own child s
 
 behind_machine : (control : Bool) (pid : ℕ) (is_foreground : Bool) (others : List ℕ) (child : Option ℕ) (s : KernelState)
     → (behind_fork_by control pid is_foreground others child s).machine ≡ s.machine
@@ -109,11 +122,12 @@ module _ (s : KernelState) (pid : ℕ) (directory : List ℕ) (born : pid < next
       }
 
   forks_along : IsForked pid (Along s pid directory)
-  forks_along t before writes control is_foreground others a =
+  forks_along t before writes own control is_foreground others a =
       let f = fork_of t pid before writes in
-      let u = after_making t pid before writes control is_foreground others in
-      let same : u.machine ≡ f.after.machine = behind_machine control pid is_foreground others f.child f.after in
-      let more = fork_by pid directory t before writes control is_foreground others in
+      let u = after_making t pid before writes own control is_foreground others in
+      let set = after_child f.after f.child (set_requests own) in
+      let same : u.machine ≡ f.after.machine = behind_machine control pid is_foreground others f.child set ∙ own_machine own f.child f.after in
+      let more = fork_by pid directory t before writes own control is_foreground others in
       let changes = subst (λ (m : MachineState). ChangesOnlyReached pid false (λ node. false) t.machine m) (sym same) (forking_changes t pid before writes a.unmade) in
       let less = subst (λ (m : MachineState). ReachesNoMore pid (λ node. false) t.machine m) (sym same) (forking_reaches t pid before writes a.unmade) in
       let grows = subst (λ (m : MachineState). OnlyGrows t.machine m) (sym same) (forking_grows t pid before writes) in

@@ -11,7 +11,9 @@ use Rattle.sh_exec_command.specs.Cases.{branch_of, branch_turn, branches_of, cas
 use Rattle.sh_exec_command.specs.Expanding.{Turn, fatal, start_of, words_by, words_turn}
 use Rattle.sh_exec_actions.specs.Preparing.{ahead, ahead_by, exec_role, final_move, first_move, first_place, forks, nameless, not_done, performed_by, prepared_of, command_role, role_behind, role_by, role_of, role_run}
 use Rattle.sh_exec_command.specs.Redirects.{compound_role, redirected, redirects_by, redirects_turn, role_in, role_of_command}
-use Rattle.sh_exec_command.specs.Reading.{answer_of, found_behind, found_by, next_command}
+use Rattle.sh_exec_command.specs.Reading.{answer_of, found_behind, found_by, input_by, input_found, next_command}
+use Rattle.sh_exec_command.specs.declared.found.InputFound.{InputFound}
+use Rattle.sh_exec_command.specs.declared.found.InputFound.TheVariants as input
 use Rattle.sh_exec_command.specs.Series.{Given, give_by, give_turn, given_by, header_in, header_of, header_of_command, header_turn, rest_of_series, series_by, series_turn, word_of_series}
 use Rattle.sh_exec_command.specs.declared.found.Found.{Found}
 use Rattle.sh_exec_actions.specs.Statuses.{unexcused}
@@ -523,3 +525,23 @@ found_holds (byte ∷ bytes) zero =
 
 pub next_holds : (text : List ℕ) → FoundBegins (next_command text)
 next_holds text = found_holds text 0
+
+-- what an interactive shell has read by descriptor 0
+abbrev pub InputBegins : InputFound → Type 0
+InputBegins (input.Command tree rest) = ItemsBegin (view.out-CompoundList tree).items
+InputBegins (input.Blank rest) = Unit {0}
+InputBegins (input.More text) = Unit {0}
+InputBegins (input.Fault why) = Unit {0}
+
+input_by_holds : (r : Result Reading ParseFault) (text : List ℕ) → AnswerFits r → InputBegins (input_by r text)
+input_by_holds (Ok (Complete tree used)) text f = f
+input_by_holds (Ok (Blank used)) text f = tt
+input_by_holds (Ok More) text f = tt
+input_by_holds (Err (parse_fault.Refused at used)) text f = tt
+input_by_holds (Err (parse_fault.Unclosed at)) text f = tt
+input_by_holds (Err (parse_fault.BadSubstitution at used)) text f = tt
+input_by_holds (Err (parse_fault.TooDeep at used)) text f = tt
+input_by_holds (Err (parse_fault.NoMemory lack)) text f = tt
+
+pub input_begins : (is_end : Bool) (text : List ℕ) → InputBegins (input_found is_end text)
+input_begins is_end text = input_by_holds (reading no_aliases is_end text) text (reading_fits no_aliases is_end text)

@@ -1,6 +1,6 @@
 -- The functions of a shell begin with an action after its turn where they did before it.
 use Rattle.std.proofs.Common.{ℕ, zero, suc, List, [], ◌∷◌, ◌++◌, length, Bool, true, false, Option, Some, None, Result, Ok, Err, sym, ap, subst, ◌∙◌}
-use Rattle.std.specs.Prelude.{cond, drop, nat_eq, not}
+use Rattle.std.specs.Prelude.{cond, drop, if◌then◌else◌, nat_eq, not}
 use Rattle.sh_base.specs.Names.{is_name}
 use Rattle.sh_builtin_shell.specs.Functions.{Named, has_name, unset_by, without, without_all}
 use Rattle.sh_builtin.specs.Invocations.{invoked}
@@ -16,7 +16,7 @@ use Rattle.sh_builtin_regular.specs.Lines.{Progress, bytes_taken}
 use Rattle.sh_builtin_regular.specs.declared.reader.LineReader.{LineReader}
 use Rattle.sh_exec_actions.specs.Statuses.{unexcused}
 use Rattle.sh_exec_actions.specs.declared.action.Action.{Action}
-use Rattle.sh_exec_actions.specs.declared.action.Action.TheVariants.{Reading, Expanding, ReadSubstitution, WaitSubstitution, ReadLine, Awaiting, SendSignal, ContinueJob, WaitForJob, Redirecting, Forking, Starting, ForkStage, ForkList, AssignLoopVariable, Defining, Waiting, Writing, Trapping, Ending}
+use Rattle.sh_exec_actions.specs.declared.action.Action.TheVariants.{Reading, Prompting, ReadInput, Expanding, ReadSubstitution, WaitSubstitution, ReadLine, Awaiting, SendSignal, ContinueJob, WaitForJob, Redirecting, Forking, Starting, ForkStage, ForkList, AssignLoopVariable, Defining, Waiting, Writing, Trapping, Ending}
 use Rattle.sh_exec_actions.specs.declared.action.Active.{Active}
 use Rattle.sh_exec_actions.specs.declared.action.Active.TheVariants.{Acting, Calling, Evaluating, Next, Done, Leaving}
 use Rattle.sh_exec_actions.specs.declared.action.Expanded.{Expanded}
@@ -29,19 +29,19 @@ use Rattle.sh_exec_actions.specs.declared.action.Substitution.{Substitution}
 use Rattle.sh_exec_actions.specs.declared.action.ToExpand.{ToExpand}
 use Rattle.sh_exec_actions.specs.declared.action.Undo.{Undo}
 use Rattle.sh_exec_actions.specs.declared.form.Form.{Form}
-use Rattle.sh_exec_actions.specs.declared.form.Form.TheVariants.{Text, Commands, Joined, Negated, Restoring, If, Condition, Body, ForBody, Call, Evaluation, Trapped, Interruption, FailuresIgnored}
+use Rattle.sh_exec_actions.specs.declared.form.Form.TheVariants.{Text, Input, Commands, Joined, Negated, Restoring, If, Condition, Body, ForBody, Call, Evaluation, Trapped, Interruption, FailuresIgnored}
 use Rattle.sh_exec_actions.specs.declared.status.CommandStatus.{CommandStatus}
 use Rattle.sh_exec_command.specs.Defining.{define_by, define_turn}
 use Rattle.sh_exec_command.specs.Series.{rest_of_series}
 use Rattle.sh_exec_requests.specs.Reporting.{behind}
 use Rattle.sh_exec_forms.specs.Builtins.{builtin_effect, call, effect_at, evaluation, performed}
-use Rattle.sh_exec_forms.specs.Forms.{Acted, after, after_by, after_leave, after_status, at_action, condition_run, loop_left, onward, undone, with_run}
+use Rattle.sh_exec_forms.specs.Forms.{Acted, after, after_by, after_leave, after_status, at_action, condition_run, loop_left, onward, undone, with_run, dropped_in_text, goes_on_reading, input_left, place_left}
 use Rattle.sh_builtin_environment.specs.TrapMaps.{action_of}
 use Rattle.sh_signal.specs.declared.condition.Condition.TheVariants.{Exit}
 use Rattle.sh_exec_frames.specs.Frames.{has_loop, last_for, levels_left}
-use Rattle.sh_exec_forms.specs.Running.{Run, At, In}
+use Rattle.sh_exec_entering.specs.Running.{Run, At, In}
 use Rattle.sh_exec_machine.specs.Forking.{fork_of}
-use Rattle.sh_exec_machine.specs.Transfers.{take_bytes}
+use Rattle.sh_exec_machine.specs.Transfers.{take_bytes, Giving, give_bytes}
 use Rattle.sh_exec_machine.specs.Waits.{wait_status}
 use Rattle.sh_exec_machine.specs.declared.transfer.ReadOutcome.{ReadOutcome}
 use Rattle.sh_exec_machine.specs.declared.transfer.ReadOutcome.TheVariants as taken
@@ -49,7 +49,7 @@ use Rattle.sh_exec_parts.specs.Simple.{Opened}
 use Rattle.sh_exec_parts.specs.declared.message.Piece.{Piece}
 use Rattle.sh_exec_parts.specs.declared.redirection.Redirection.{Redirection}
 use Rattle.sh_exec_turns.specs.Acting.{after_collection, collect_by, collect_end, collect_from, collect_turn, end_turn, expand_turn, next, redirect_from, redirect_one, redirect_turn, trap_by, trap_turn, with_written, write_turn}
-use Rattle.sh_exec_requests.specs.Placed.{Placed}
+use Rattle.sh_exec_requests.specs.Placed.{Placed, at_place}
 use Rattle.sh_builtin_jobs.specs.declared.run.KillAsk.{KillAsk}
 use Rattle.sh_exec_requests.specs.Awaiting.{all_by, await_by, await_ended, await_turn, operand_by, without_target}
 use Rattle.sh_builtin_shell.specs.Shells.{has_job_control}
@@ -75,7 +75,8 @@ use Rattle.sh_builtin_wait.specs.declared.run.OperandWait.{OperandWait}
 use Rattle.sh_builtin_wait.specs.declared.target.WaitTarget.{WaitTarget}
 use Rattle.sh_builtin_wait.specs.declared.target.WaitTarget.TheVariants as target
 use Rattle.sh_exec_requests.specs.LineReading.{line_by, line_ended, line_goes_on, line_read_by, most_read, read_line_turn}
-use Rattle.sh_exec_shell.specs.Forks.{background_input, begun_substitution, behind_fork, fork_turn, is_foreground, is_more, launch_by, list_by, list_turn, made_shell, program_by, stage_by, stage_from, stage_input, stage_one, stage_shell, stage_turn, substitute_turn, substitution_by}
+use Rattle.sh_exec_shell.specs.Forks.{background_input, begun_substitution, fork_turn, is_foreground, is_more, launch_by, list_by, list_turn, made_shell, program_by, stage_by, stage_from, stage_input, stage_one, stage_shell, stage_turn, substitute_turn, substitution_by}
+use Rattle.sh_exec_turns.specs.Groups.{behind_fork, released_fork}
 use Rattle.sh_exec_shell.specs.Reduction.{act_at, act_behind, act_place, expanded_by, reduce}
 use Rattle.sh_kernel.specs.State.{KernelState}
 use Rattle.sh_kernel_descriptors.specs.declared.descriptor.DescriptorRef.TheVariants.{Aside, Number}
@@ -92,9 +93,12 @@ use Rattle.sh_laws.proofs.CommandTurns.{choose}
 use Rattle.sh_laws.specs.BeforeAction.{ActiveStands, FunctionsHold, PlaceHolds, RunStands}
 use Rattle.sh_laws.specs.Beginnings.{CommandBegins, FormBegins, RedirectsBegin, by_definition, by_form, by_words}
 use Rattle.sh_builtin_environment.specs.declared.outcome.BuiltinFault.{BuiltinFault}
-use Rattle.sh_builtin_jobs.specs.Listing.{jobs_of}
+use Rattle.sh_builtin_jobs.specs.Listing.{jobs_of, job_lines}
 use Rattle.sh_builtin_jobs.specs.declared.listing.JobsCommand.{JobsCommand}
 use Rattle.sh_builtin_shell.specs.Shells.{up_to_date}
+use Rattle.sh_exec_requests.specs.Prompting.{behind_job, is_waiting, job_to_tell, prompt_by, prompt_of, prompt_turn, stays, with_job_told}
+use Rattle.sh_exec_turns.specs.Input.{input_taken, input_turn}
+use Rattle.sh_jobs.specs.declared.line.JobForm.TheVariants.{Short}
 
 -- ---- some functions less, and one more
 without_hold : (functions : List Named) (name : List ℕ) → FunctionsHold functions → FunctionsHold (without functions name)
@@ -203,6 +207,7 @@ undone_keeps undo s shell run f = f
 
 ended_keeps : (around : List Form) (form : Form) (s : KernelState) (shell : Shell) (status : CommandStatus) → Keeps shell → Keeps (after_status around form s shell status).shell
 ended_keeps around (Text rest) s shell status f = f
+ended_keeps around (Input rest) s shell status f = f
 ended_keeps around (Commands items) s shell status f = f
 ended_keeps around (Joined others) s shell status f = f
 ended_keeps around Negated s shell status f = f
@@ -228,8 +233,48 @@ loop_left_keeps looped (leave.Continue zero) s shell next f = f
 loop_left_keeps false (leave.Continue (suc inside)) s shell next f = f
 loop_left_keeps true (leave.Continue (suc inside)) s shell next f = f
 
+text_left_keeps : (goes_on : Bool) (s : KernelState) (shell : Shell) (rest : List ℕ) (l : Leave) → Keeps shell → Keeps (dropped_in_text goes_on s shell rest l).shell
+text_left_keeps true s shell rest (leave.Exit status) f = f
+text_left_keeps true s shell rest (leave.Fault status) f = f
+text_left_keeps true s shell rest (leave.Return status) f = f
+text_left_keeps true s shell rest (leave.Break inside) f = f
+text_left_keeps true s shell rest (leave.Continue inside) f = f
+text_left_keeps false s shell rest l f = f
+
+input_left_keeps : (s : KernelState) (shell : Shell) (l : Leave) → Keeps shell → Keeps (input_left s shell l).shell
+input_left_keeps s shell (leave.Exit status) f = f
+input_left_keeps s shell (leave.Fault status) f = f
+input_left_keeps s shell (leave.Return status) f = f
+input_left_keeps s shell (leave.Break inside) f = f
+input_left_keeps s shell (leave.Continue inside) f = f
+
+place_left_keeps : (around : List Form) (s : KernelState) (shell : Shell) (next : Action) (l : Leave) → Keeps shell → Keeps (place_left around s shell next l).shell
+place_left_keeps around s shell (Reading rest status) l f = text_left_keeps (goes_on_reading around shell) s shell rest l f
+place_left_keeps around s shell (ReadInput text) l f = input_left_keeps s shell l f
+place_left_keeps around s shell (Prompting text) l f = f
+place_left_keeps around s shell (Expanding wants pending) l f = f
+place_left_keeps around s shell (ReadSubstitution substitution) l f = f
+place_left_keeps around s shell (WaitSubstitution substitution) l f = f
+place_left_keeps around s shell (ReadLine reader) l f = f
+place_left_keeps around s shell (Awaiting awaited) l f = f
+place_left_keeps around s shell (SendSignal ask) l f = f
+place_left_keeps around s shell (ContinueJob c) l f = f
+place_left_keeps around s shell (WaitForJob wait) l f = f
+place_left_keeps around s shell (Redirecting p) l f = f
+place_left_keeps around s shell (Forking p) l f = f
+place_left_keeps around s shell (Starting start) l f = f
+place_left_keeps around s shell (ForkStage stages) l f = f
+place_left_keeps around s shell (ForkList list) l f = f
+place_left_keeps around s shell (AssignLoopVariable series) l f = f
+place_left_keeps around s shell (Defining definition) l f = f
+place_left_keeps around s shell (Waiting wait) l f = f
+place_left_keeps around s shell (Writing piece finish) l f = f
+place_left_keeps around s shell (Trapping status) l f = f
+place_left_keeps around s shell (Ending status) l f = f
+
 left_keeps : (around : List Form) (form : Form) (s : KernelState) (shell : Shell) (l : Leave) → Keeps shell → Keeps (after_leave around form s shell l).shell
-left_keeps around (Text rest) s shell l f = f
+left_keeps around (Text rest) s shell l f = text_left_keeps (goes_on_reading around shell) s shell rest l f
+left_keeps around (Input rest) s shell l f = input_left_keeps s shell l f
 left_keeps around (Commands items) s shell l f = f
 left_keeps around (Joined others) s shell l f = f
 left_keeps around Negated s shell l f = f
@@ -241,7 +286,7 @@ left_keeps around (ForBody series) s shell l f = loop_left_keeps (has_loop aroun
 left_keeps around (Call positional) s shell l f = f
 left_keeps around (Evaluation how) s shell l f = f
 left_keeps around (Trapped before) s shell l f = f
-left_keeps around (Interruption before next) s shell l f = f
+left_keeps around (Interruption before next) s shell l f = place_left_keeps around s shell next l f
 left_keeps around FailuresIgnored s shell l f = f
 
 after_by_keeps : (around : List Form) (form : Form) (s : KernelState) (shell : Shell) (run : Run) → Keeps shell → Keeps (after_by around form s shell run).shell
@@ -257,7 +302,7 @@ after_keeps : (around : List Form) (form : Form) (a : Acted) → Keeps a.shell �
 unfolding after
 after_keeps around form a f = after_by_keeps around form a.machine a.shell a.run f
 
-settled_keeps : (around : List Form) (s : KernelState) (shell : Shell) (run : Run) → Keeps shell → Keeps (at_action around s shell run).shell
+pub settled_keeps : (around : List Form) (s : KernelState) (shell : Shell) (run : Run) → Keeps shell → Keeps (at_action around s shell run).shell
 settled_keeps around s shell (At active) f = effect_keeps around s shell active f
 settled_keeps around s shell (In form run) f = after_keeps around form (at_action (form ∷ around) s shell run) (settled_keeps (form ∷ around) s shell run f)
 
@@ -369,6 +414,8 @@ trap_keeps s shell status f = trap_by_keeps s shell status (action_of shell.trap
 -- ---- a trap on a signal
 before_keeps : (shell : Shell) (place : Action) → Keeps shell → Keeps (shell_before shell place)
 before_keeps shell (Reading rest status) f = f
+before_keeps shell (Prompting text) f = f
+before_keeps shell (ReadInput text) f = f
 before_keeps shell (Expanding wants pending) f = f
 before_keeps shell (ReadSubstitution substitution) f = f
 before_keeps shell (WaitSubstitution substitution) f = f
@@ -492,16 +539,50 @@ substitute_keeps : (s : KernelState) (shell : Shell) (program : CompoundList) (w
     → ActedKeeps (substitute_turn s shell program wants pending).left
 unfolding substitute_turn
 substitute_keeps s shell program wants pending f =
-    let forked = fork_of s shell.pid None true in
+    let forked = released_fork shell (fork_of s shell.pid None true) in
     substitution_keeps forked.after shell program (begun_substitution wants pending forked.aside) forked.child f
 
 expanded_keeps : (s : KernelState) (shell : Shell) (x : Expanded) → Keeps shell → ActedKeeps (expanded_by s shell x).left
 expanded_keeps s shell (expanded.Need program wants pending) f = substitute_keeps s shell program wants pending f
 expanded_keeps s shell (expanded.Go move) f = f
 
+-- ---- the commands of an interactive shell
+job_written_keeps : (b : Bool) (g : Giving) (shell : Shell) (text : List ℕ) (number : ℕ) → Keeps shell
+    → PlacedKeeps (if b then stays g.after shell text else behind_job g.after (with_job_told g.after shell number) text)
+job_written_keeps true g shell text number f = f
+job_written_keeps false g shell text number f = f
+
+prompt_written_keeps : (b : Bool) (g : Giving) (shell : Shell) (text : List ℕ) → Keeps shell
+    → PlacedKeeps (if b then stays g.after shell text else at_place g.after shell (Next (ReadInput text)))
+prompt_written_keeps true g shell text f = f
+prompt_written_keeps false g shell text f = f
+
+prompt_by_keeps : (s : KernelState) (shell : Shell) (text : List ℕ) (o : Option ℕ) → Keeps shell → PlacedKeeps (prompt_by s shell text o)
+prompt_by_keeps s shell text (Some number) f =
+    let g = give_bytes s shell.pid 2 (job_lines s.machine.processes (up_to_date s shell).jobs Short (number ∷ [])) in
+    job_written_keeps (is_waiting g.told) g (up_to_date s shell) text number f
+prompt_by_keeps s shell text None f =
+    let g = give_bytes s shell.pid 2 (prompt_of shell.vars text) in prompt_written_keeps (is_waiting g.told) g shell text f
+
+prompt_keeps : (s : KernelState) (shell : Shell) (text : List ℕ) → Keeps shell → PlacedKeeps (prompt_turn s shell text)
+unfolding prompt_turn
+prompt_keeps s shell text f = prompt_by_keeps s shell text (job_to_tell s shell text) f
+
+input_taken_keeps : (s : KernelState) (shell : Shell) (text : List ℕ) (told : ReadOutcome) → Keeps shell → ActedKeeps (input_taken s shell text told)
+input_taken_keeps s shell text (taken.Bytes bytes) f = f
+input_taken_keeps s shell text taken.Wait f = f
+input_taken_keeps s shell text taken.Failed f = f
+
+input_keeps : (s : KernelState) (shell : Shell) (text : List ℕ) → Keeps shell → ActedKeeps (input_turn s shell text)
+unfolding input_turn
+input_keeps s shell text f =
+    let t = take_bytes s shell.pid (Number 0) (most_read s.machine shell.pid) in input_taken_keeps t.after shell text t.told f
+
 -- ---- the turn
 place_keeps : (around : List Form) (s : KernelState) (shell : Shell) (place : Action) → PlaceHolds place → Keeps shell → ActedKeeps (act_place around s shell place).left
 place_keeps around s shell (Reading rest status) h f = f
+place_keeps around s shell (Prompting text) h f = prompt_keeps s shell text f
+place_keeps around s shell (ReadInput text) h f = input_keeps s shell text f
 place_keeps around s shell (Expanding wants pending) h f =
     let t = expand_turn s.machine.files shell.vars shell.functions wants pending in expanded_keeps s (record shell { vars = t.environment }) t.outcome f
 place_keeps around s shell (ReadSubstitution substitution) h f = collect_keeps s shell substitution f

@@ -31,6 +31,7 @@ pub mod Words
 pub mod Bodies
 pub mod Faults
 pub mod Decided
+pub mod Dropping
 pub mod BegunCommands
 pub mod BegunProcesses
 pub mod BegunSyntax
@@ -46,3 +47,4 @@ pub mod ShellTurns
 pub mod ProcessTurns
 pub mod StandingRuns
 pub mod Terminals
+pub mod Releasing

@@ -10,6 +10,8 @@ use Rattle.sh_kernel.specs.State.{KernelState}
 use Rattle.sh_stock.specs.Asking.{Meaning}
 use Rattle.sh_laws.specs.Requests.{AllBy, ByRequests, after_all, directory_of, number_of, opens_by}
 use Rattle.sh_laws.proofs.Processes.{turn_keeps}
+use Rattle.sh_kernel_signals.specs.declared.member.SignalAction.{SignalAction}
+use Rattle.sh_signal.specs.declared.signal.Signal.{Signal}
 use Rattle.sh_laws.proofs.TurnRequests.{IsKept, after_making, fork_keeps}
 
 pub after_append : (s : KernelState) (rs more : List (ℕ × Request)) → after_all s (rs ++ more) ≡ after_all (after_all s rs) more
@@ -53,19 +55,19 @@ module _ (pid : ℕ) (directory : List ℕ) where
   by_then made s t u a b =
       (a.0 ++ b.0, (append_by made a.0 b.0 (more_by made a.0 a.1.0) b.1.0, b.1.1 ∙ ap (λ (v : KernelState). after_all v b.0) a.1.1 ∙ sym (after_append s a.0 b.0)))
 
-  pub fork_by : (s : KernelState) (before : Option ℕ) (writes control is_foreground : Bool) (others : List ℕ)
-      → ByRequests pid (fork_of s pid before writes).child directory s (after_making s pid before writes control is_foreground others)
-  fork_by s before writes control is_foreground others =
+  pub fork_by : (s : KernelState) (before : Option ℕ) (writes : Bool) (own : List (Signal × SignalAction)) (control is_foreground : Bool) (others : List ℕ)
+      → ByRequests pid (fork_of s pid before writes).child directory s (after_making s pid before writes own control is_foreground others)
+  fork_by s before writes own control is_foreground others =
       fork_keeps directory pid (λ made. ByRequests pid made directory s) (λ made. own_more made s)
       (λ t child b. (b.0, (more_by (Some child) b.0 b.1.0, b.1.1))) (λ child. one_by (Some child) s child (inr refl))
-      s before writes control is_foreground others ([], (tt, refl))
+      s before writes own control is_foreground others ([], (tt, refl))
 
 pub turns : {S : Type 0} (m : Meaning S) (s : KernelState) (task : Task S) → let t = turn m s task in ByRequests (pid_of task) (number_of t.child) (directory_of task) s t.machine
 turns m s task =
     let pid = pid_of task in
     let directory = directory_of task in
     turn_keeps m directory pid (λ made. ByRequests pid made directory s) (λ made. own_more pid directory made s)
-    (λ t before writes control is_foreground others b.
-    by_then pid directory (fork_of t pid before writes).child s t (after_making t pid before writes control is_foreground others) b
-    (fork_by pid directory t before writes control is_foreground others))
+    (λ t before writes own control is_foreground others b.
+    by_then pid directory (fork_of t pid before writes).child s t (after_making t pid before writes own control is_foreground others) b
+    (fork_by pid directory t before writes own control is_foreground others))
     s task refl refl ([], (tt, refl))

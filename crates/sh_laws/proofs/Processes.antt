@@ -1,7 +1,7 @@
 -- Turns of processes, shells and programs.
 use Rattle.std.proofs.Common.{◌≡◌, ℕ, List, [], ◌∷◌, Option, Some, None, option_map, refl, sym, subst}
 use Rattle.sh_exec.specs.Programs.{ask_turn, end_turn, read_turn, stop_turn, write_turn}
-use Rattle.sh_exec.specs.Starting.{NamedStart, located_for, start_by, start_named, start_turn, started_by, starting_in, stock_start}
+use Rattle.sh_exec.specs.Starting.{NamedStart, located_for, start_by, start_named, start_turn, started_by, starting_in, stock_start, begun}
 use Rattle.sh_exec_actions.specs.declared.action.ProgramStart.{ProgramStart}
 use Rattle.sh_exec.specs.Turns.{Turned, by_shell, made_task, runs_by, started_in, turn}
 use Rattle.sh_exec.specs.declared.start.Started.{Started}
@@ -12,7 +12,7 @@ use Rattle.sh_exec.specs.declared.task.Task.TheVariants.{Runs, Asks}
 use Rattle.sh_builtin_shell.specs.declared.shell.Shell.{Shell}
 use Rattle.sh_files.specs.declared.search.Located.{Located}
 use Rattle.sh_files.specs.declared.search.Located.TheVariants as located
-use Rattle.sh_exec_forms.specs.Running.{InterpreterState, active_of}
+use Rattle.sh_exec_entering.specs.Running.{InterpreterState, active_of}
 use Rattle.sh_kernel_descriptors.specs.declared.descriptor.DescriptorRef.TheVariants.{Number}
 use Rattle.sh_kernel.specs.Requests.{End, Kill, StartProgram}
 use Rattle.sh_kernel.specs.State.{KernelState}
@@ -23,9 +23,10 @@ use Rattle.sh_stock.specs.declared.asking.Ask.{Ask}
 use Rattle.sh_stock.specs.declared.asking.Ask.TheVariants as ask
 use Rattle.sh_laws.specs.Requests.{directory_of, made_number, number_of}
 use Rattle.sh_laws.proofs.TurnRequests.{IsForked, IsKept, give_keeps, take_keeps}
-use Rattle.sh_laws.proofs.TurnSteps.{shell_keeps}
+use Rattle.sh_laws.proofs.TurnSteps.{shell_keeps, own_signals_keep}
 use Rattle.sh_exec_shell.specs.Forks as shell
 use Rattle.sh_exec_shell.specs.Reduction.{shell_turn}
+use Rattle.sh_kernel.specs.Calls.{start_call}
 
 -- a process that was made is called by the number that its shell has
 numbers_same : (S : Type 0) (child : Option InterpreterState) → made_number child ≡ number_of (option_map (made_task {S = S}) child)
@@ -36,15 +37,19 @@ module _ {S : Type 0} (m : Meaning S) (directory : List ℕ) (pid : ℕ) (P : Op
   own_kept : (n : ℕ) → n ≡ pid → IsKept directory n (P None)
   own_kept n e = subst (λ q. IsKept directory q (P None)) (sym e) (kept None)
 
+  begun_keeps : (s : KernelState) (shell : Shell) → shell.pid ≡ pid → P None s → P None (begun s shell)
+  begun_keeps s shell e p =
+      own_signals_keep directory pid (P None) (kept None) (start_call s shell.pid).after shell e (own_kept shell.pid e s StartProgram tt p)
+
   stocked_keeps : (s : KernelState) (shell : Shell) (i : NamedStart) (o : Option S) → shell.pid ≡ pid → P None s → P None (stock_start m s shell i o).machine
   stocked_keeps s shell i None e p = p
-  stocked_keeps s shell i (Some program) e p = own_kept shell.pid e s StartProgram tt p
+  stocked_keeps s shell i (Some program) e p = begun_keeps s shell e p
 
   started_keeps : (s : KernelState) (shell : Shell) (invocation : NamedStart) (l : Located) → shell.pid ≡ pid → P None s → P None (started_by m s shell invocation l).machine
   started_keeps s shell invocation located.Missing e p = p
   started_keeps s shell invocation located.Unfit e p = p
   started_keeps s shell invocation (located.Stock program) e p = stocked_keeps s shell invocation (m.start program invocation.operands) e p
-  started_keeps s shell invocation (located.Script path text) e p = own_kept shell.pid e s StartProgram tt p
+  started_keeps s shell invocation (located.Script path text) e p = begun_keeps s shell e p
 
   start_by_keeps : (s : KernelState) (shell : Shell) (start : ProgramStart) (fields : List (List ℕ)) → shell.pid ≡ pid → P None s → P None (start_by m s shell start fields).machine
   unfolding start_named
@@ -108,7 +113,7 @@ module _ {S : Type 0} (m : Meaning S) where
 
   runs_number : (s : KernelState) (interpreter : InterpreterState) (o : Option ProgramStart) → pid_of (runs_by m s interpreter o).task ≡ interpreter.shell.pid
   runs_number s interpreter None =
-      (shell_keeps interpreter.shell.vars.directory interpreter.shell.pid (λ made t. Unit {0}) (λ made t r from p. tt) (λ t before writes control is_foreground others p. tt) s interpreter refl refl tt).0
+      (shell_keeps interpreter.shell.vars.directory interpreter.shell.pid (λ made t. Unit {0}) (λ made t r from p. tt) (λ t before writes own control is_foreground others p. tt) s interpreter refl refl tt).0
   runs_number s interpreter (Some start) =
       let l = start_turn m s interpreter.shell start in started_in_number l.machine interpreter l.next (start_number s interpreter.shell start start.fields)
 

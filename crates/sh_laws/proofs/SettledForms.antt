@@ -1,6 +1,6 @@
 -- Forms are settled to an action, where all that they hold begins with one.
 use Rattle.std.proofs.Common.{ℕ, zero, suc, List, [], ◌∷◌, Option, Bool, true, false, refl, sym, subst}
-use Rattle.std.specs.Prelude.{drop, not, ◌&&◌, ◌||◌}
+use Rattle.std.specs.Prelude.{drop, if◌then◌else◌, not, ◌&&◌, ◌||◌}
 use Rattle.sh_builtin.specs.Invocations.{invoked}
 use Rattle.sh_builtin_outcome.specs.declared.outcome.TextOrigin.{TextOrigin}
 use Rattle.sh_builtin_outcome.specs.declared.outcome.TextRun.{TextRun}
@@ -15,21 +15,23 @@ use Rattle.sh_builtin_outcome.specs.declared.builtin.Builtin.{Builtin}
 use Rattle.sh_exec_command.specs.Series.{given_by, rest_of_series}
 use Rattle.sh_exec_actions.specs.Statuses.{unexcused}
 use Rattle.sh_exec_actions.specs.declared.status.CommandStatus.{CommandStatus}
+use Rattle.sh_exec_actions.specs.declared.action.Action.{Action}
+use Rattle.sh_exec_actions.specs.declared.action.Action.TheVariants.{Reading, Prompting, ReadInput, Expanding, ReadSubstitution, WaitSubstitution, ReadLine, Awaiting, SendSignal, ContinueJob, WaitForJob, Redirecting, Forking, Starting, ForkStage, ForkList, AssignLoopVariable, Defining, Waiting, Writing, Trapping, Ending}
 use Rattle.sh_exec_actions.specs.declared.action.Active.{Active}
 use Rattle.sh_exec_actions.specs.declared.action.Active.TheVariants.{Acting, Calling, Evaluating, Next, Done, Leaving}
 use Rattle.sh_exec_actions.specs.declared.action.ForLoop.{ForLoop}
 use Rattle.sh_exec_actions.specs.declared.action.Report.{Report}
 use Rattle.sh_exec_actions.specs.declared.action.Undo.{Undo}
-use Rattle.sh_exec_forms.proofs.Entered.{entered_with}
+use Rattle.sh_exec_entering.proofs.Entered.{entered_with}
 use Rattle.sh_exec_forms.specs.Builtins.{builtin_effect, call, effect_at, evaluation, performed}
 use Rattle.sh_exec_requests.specs.Reporting.{at_completion, behind, output_of, reported, said}
-use Rattle.sh_exec_forms.specs.Entering.{items_run, list_run, pipeline_run, with_others}
-use Rattle.sh_exec_forms.specs.Forms.{Acted, after, after_by, after_call, after_leave, after_status, after_text, at_action, behind_condition, branch, condition_run, connected_run, goes_on, loop_left, onward, otherwise, returned, runs, undone, ended_within, exits_on_error, is_failure, left_within, within, within_run}
+use Rattle.sh_exec_entering.specs.Entering.{items_run, list_run, pipeline_run, with_others}
+use Rattle.sh_exec_forms.specs.Forms.{Acted, after, after_by, after_call, after_leave, after_status, after_text, at_action, behind_condition, branch, condition_run, connected_run, goes_on, loop_left, onward, otherwise, returned, runs, undone, ended_within, exits_on_error, is_failure, left_within, within, within_run, behind_status, dropped_in_text, goes_on_reading, input_left, place_left}
 use Rattle.sh_exec_frames.specs.Frames.{ends_action, may_return, has_loop, is_failure_ignored, last_for, levels_left}
-use Rattle.sh_exec_forms.specs.Running.{Run, At, In}
+use Rattle.sh_exec_entering.specs.Running.{Run, At, In}
 use Rattle.sh_exec_actions.specs.declared.form.Branches.{Branches}
 use Rattle.sh_exec_actions.specs.declared.form.Form.{Form}
-use Rattle.sh_exec_actions.specs.declared.form.Form.TheVariants.{Text, Commands, Joined, Negated, Restoring, If, Condition, Body, ForBody, Call, Evaluation, Trapped, Interruption, FailuresIgnored}
+use Rattle.sh_exec_actions.specs.declared.form.Form.TheVariants.{Text, Input, Commands, Joined, Negated, Restoring, If, Condition, Body, ForBody, Call, Evaluation, Trapped, Interruption, FailuresIgnored}
 use Rattle.sh_exec_actions.specs.declared.form.Loop.{Loop}
 use Rattle.sh_kernel.specs.State.{KernelState}
 use Rattle.sh_syntax.specs.declared.tree.Command.{Command}
@@ -42,6 +44,7 @@ use Rattle.sh_laws.specs.BeforeAction.{ActiveStands, FormHolds, LoopHolds, Place
 use Rattle.sh_laws.specs.Beginnings.{CommandBegins, ConnectedBegin, ElseBegins, ElseIfsBegin, ItemsBegin, ListBegins, more_connected, more_else_ifs, more_items, no_else, no_else_ifs, no_items, no_more, with_else}
 use Rattle.sh_laws.proofs.BegunCommands.{command_stands, item_stands, list_stands, others_stand, pipeline_stands}
 use Rattle.sh_laws.proofs.CommandTurns.{ActiveHolds, choose}
+use Rattle.sh_exec_requests.specs.Prompting.{has_prompt, input_action}
 
 -- ---- what runs holds only what begins with an action
 abbrev pub Holds : Run → Type 0
@@ -235,8 +238,57 @@ text_left_settled : (around : List Form) (origin : TextOrigin) (l : Leave) (shel
 text_left_settled around origin.Eval l shell = tt
 text_left_settled around origin.DotScript l shell = call_left_settled around l shell
 
+-- ---- the commands of an interactive shell: a prompt or a read is next
+prompted_holds : (b : Bool) (text : List ℕ) → PlaceHolds (if b then Prompting text else ReadInput text)
+prompted_holds true text = tt
+prompted_holds false text = tt
+
+pub input_action_holds : (s : KernelState) (shell : Shell) (text : List ℕ) → PlaceHolds (input_action s shell text)
+unfolding input_action
+input_action_holds s shell text = prompted_holds (has_prompt s shell text) text
+
+input_left_settled : (s : KernelState) (shell : Shell) (l : Leave) → ActedSettled (input_left s shell l)
+input_left_settled s shell (leave.Exit status) = tt
+input_left_settled s shell (leave.Fault status) = input_action_holds s (behind_status shell status) []
+input_left_settled s shell (leave.Return status) = tt
+input_left_settled s shell (leave.Break inside) = tt
+input_left_settled s shell (leave.Continue inside) = tt
+
+dropped_settled : (goes_on : Bool) (s : KernelState) (shell : Shell) (rest : List ℕ) (l : Leave) → ActedSettled (dropped_in_text goes_on s shell rest l)
+dropped_settled true s shell rest (leave.Exit status) = tt
+dropped_settled true s shell rest (leave.Fault status) = tt
+dropped_settled true s shell rest (leave.Return status) = tt
+dropped_settled true s shell rest (leave.Break inside) = tt
+dropped_settled true s shell rest (leave.Continue inside) = tt
+dropped_settled false s shell rest l = tt
+
+place_left_settled : (around : List Form) (s : KernelState) (shell : Shell) (next : Action) (l : Leave) → ActedSettled (place_left around s shell next l)
+place_left_settled around s shell (Reading rest status) l = dropped_settled (goes_on_reading around shell) s shell rest l
+place_left_settled around s shell (Prompting text) l = tt
+place_left_settled around s shell (ReadInput text) l = input_left_settled s shell l
+place_left_settled around s shell (Expanding wants pending) l = tt
+place_left_settled around s shell (ReadSubstitution substitution) l = tt
+place_left_settled around s shell (WaitSubstitution substitution) l = tt
+place_left_settled around s shell (ReadLine reader) l = tt
+place_left_settled around s shell (Awaiting awaited) l = tt
+place_left_settled around s shell (SendSignal ask) l = tt
+place_left_settled around s shell (ContinueJob c) l = tt
+place_left_settled around s shell (WaitForJob wait) l = tt
+place_left_settled around s shell (Redirecting p) l = tt
+place_left_settled around s shell (Forking p) l = tt
+place_left_settled around s shell (Starting start) l = tt
+place_left_settled around s shell (ForkStage stages) l = tt
+place_left_settled around s shell (ForkList list) l = tt
+place_left_settled around s shell (AssignLoopVariable series) l = tt
+place_left_settled around s shell (Defining definition) l = tt
+place_left_settled around s shell (Waiting wait) l = tt
+place_left_settled around s shell (Writing piece finish) l = tt
+place_left_settled around s shell (Trapping status) l = tt
+place_left_settled around s shell (Ending status) l = tt
+
 status_settled : (around : List Form) (form : Form) (s : KernelState) (shell : Shell) (status : CommandStatus) → FormHolds form → ActedSettled (after_status around form s shell status)
 status_settled around (Text rest) s shell status h = tt
+status_settled around (Input rest) s shell status h = input_action_holds s (behind_status shell status.status) rest
 status_settled around (Commands items) s shell status h = items_settled items status h
 status_settled around (Joined others) s shell status h = connected_settled others status h
 status_settled around Negated s shell status h = tt
@@ -252,7 +304,8 @@ status_settled around (Interruption before next) s shell status h = h
 status_settled around FailuresIgnored s shell status h = tt
 
 leave_settled : (around : List Form) (form : Form) (s : KernelState) (shell : Shell) (l : Leave) → FormHolds form → ActedSettled (after_leave around form s shell l)
-leave_settled around (Text rest) s shell l h = tt
+leave_settled around (Text rest) s shell l h = dropped_settled (goes_on_reading around shell) s shell rest l
+leave_settled around (Input rest) s shell l h = input_left_settled s shell l
 leave_settled around (Commands items) s shell l h = tt
 leave_settled around (Joined others) s shell l h = tt
 leave_settled around Negated s shell l h = tt
@@ -264,7 +317,7 @@ leave_settled around (ForBody series) s shell l h = left_settled (has_loop aroun
 leave_settled around (Call positional) s shell l h = call_left_settled around l shell
 leave_settled around (Evaluation how) s shell l h = text_left_settled around how.origin l shell
 leave_settled around (Trapped before) s shell l h = tt
-leave_settled around (Interruption before next) s shell l h = tt
+leave_settled around (Interruption before next) s shell l h = place_left_settled around s shell next l
 leave_settled around FailuresIgnored s shell l h = tt
 
 after_by_settled : (around : List Form) (form : Form) (s : KernelState) (shell : Shell) (run : Run) → FormHolds form → Settled run → ActedSettled (after_by around form s shell run)

@@ -1,8 +1,9 @@
 -- A turn of a shell that stands before an action leaves it before one, and so does the shell that it makes.
 use Rattle.std.proofs.Common.{◌≡◌, ℕ, zero, suc, ◌+◌, List, [], ◌∷◌, ◌++◌, length, Option, Some, None, Bool, true, false, sym, subst}
-use Rattle.std.specs.Prelude.{Result, Ok, Err, nat_eq}
+use Rattle.std.specs.Prelude.{Result, Ok, Err, if◌then◌else◌, nat_eq}
 use Rattle.sh_builtin_shell.specs.Functions.{Named}
 use Rattle.sh_builtin_outcome.specs.Outcomes.{shell_status}
+use Rattle.sh_builtin_outcome.specs.declared.outcome.Leave.TheVariants as leave
 use Rattle.sh_builtin_environment.specs.TrapMaps.{action_of}
 use Rattle.sh_builtin_regular.specs.Assigning.{line_assigned}
 use Rattle.sh_builtin_regular.specs.Lines.{Progress, bytes_taken}
@@ -10,7 +11,7 @@ use Rattle.sh_builtin_regular.specs.declared.reader.LineReader.{LineReader}
 use Rattle.sh_signal.specs.declared.condition.Condition.TheVariants.{Exit}
 use Rattle.sh_builtin_shell.specs.declared.shell.Shell.{Shell}
 use Rattle.sh_exec_actions.specs.Preparing.{ahead, ahead_by, final_move, performed_by}
-use Rattle.sh_exec_command.specs.Reading.{next_command}
+use Rattle.sh_exec_command.specs.Reading.{next_command, input_found}
 use Rattle.sh_exec_command.specs.Series.{give_turn}
 use Rattle.sh_exec_command.specs.declared.found.Found.{Found}
 use Rattle.sh_exec_command.specs.declared.found.Found.TheVariants as found
@@ -20,13 +21,13 @@ use Rattle.sh_exec_actions.specs.declared.action.Active.TheVariants.{Acting, Cal
 use Rattle.sh_exec_actions.specs.declared.action.Expanded.{Expanded}
 use Rattle.sh_exec_actions.specs.declared.action.Expanded.TheVariants as expanded
 use Rattle.sh_exec_actions.specs.declared.action.Finish.{Finish}
-use Rattle.sh_exec_forms.specs.Bodies.{body_of}
+use Rattle.sh_exec_entering.specs.Bodies.{body_of}
 use Rattle.sh_exec_actions.specs.declared.action.Finish.TheVariants.{Status, Fault, Messages, Output}
 use Rattle.sh_exec_actions.specs.declared.action.Move.{Move}
 use Rattle.sh_exec_actions.specs.declared.action.Move.TheVariants as move
 use Rattle.sh_exec_actions.specs.declared.action.Pending.{Pending}
 use Rattle.sh_exec_actions.specs.declared.action.Action.{Action}
-use Rattle.sh_exec_actions.specs.declared.action.Action.TheVariants.{Reading, Expanding, ReadSubstitution, WaitSubstitution, ReadLine, Awaiting, SendSignal, ContinueJob, WaitForJob, Redirecting, Forking, Starting, ForkStage, ForkList, AssignLoopVariable, Defining, Waiting, Writing, Trapping, Ending}
+use Rattle.sh_exec_actions.specs.declared.action.Action.TheVariants.{Reading, Prompting, ReadInput, Expanding, ReadSubstitution, WaitSubstitution, ReadLine, Awaiting, SendSignal, ContinueJob, WaitForJob, Redirecting, Forking, Starting, ForkStage, ForkList, AssignLoopVariable, Defining, Waiting, Writing, Trapping, Ending}
 use Rattle.sh_exec_actions.specs.declared.action.ExpandedCommand.{ExpandedCommand}
 use Rattle.sh_exec_actions.specs.declared.action.Role.TheVariants.{Program}
 use Rattle.sh_exec_actions.specs.declared.action.Stages.{Stages}
@@ -35,13 +36,13 @@ use Rattle.sh_exec_actions.specs.declared.action.ToExpand.{ToExpand}
 use Rattle.sh_exec_actions.specs.declared.action.ToExpand.TheVariants.{Words, Values, Redirects, ForWords, CaseWord, CasePattern}
 use Rattle.sh_exec_command.specs.declared.series.Round.{Round}
 use Rattle.sh_exec_command.specs.declared.series.Round.TheVariants as round
-use Rattle.sh_exec_forms.specs.Entering.{form_entry, form_of_command, form_run, items_run, list_run}
-use Rattle.sh_exec_forms.specs.Moves.{move_run}
-use Rattle.sh_exec_forms.proofs.Entered.{list_is}
-use Rattle.sh_exec_forms.specs.Forms.{Acted, behind_status, with_run}
+use Rattle.sh_exec_entering.specs.Entering.{form_entry, form_of_command, form_run, items_run, list_run}
+use Rattle.sh_exec_entering.specs.Moves.{move_run}
+use Rattle.sh_exec_entering.proofs.Entered.{list_is}
+use Rattle.sh_exec_forms.specs.Forms.{Acted, behind_status, with_run, goes_on_reading, at_action}
 use Rattle.sh_exec_frames.specs.Frames.{ends_shell, is_failure_ignored, levels_left}
 use Rattle.sh_exec_actions.specs.declared.form.Form.{Form}
-use Rattle.sh_exec_forms.specs.Running.{Run, At, In, InterpreterState}
+use Rattle.sh_exec_entering.specs.Running.{Run, At, In, InterpreterState, active_of}
 use Rattle.sh_exec_machine.specs.Forking.{fork_of}
 use Rattle.sh_exec_machine.specs.Redirecting.{redirection_outcome}
 use Rattle.sh_exec_machine.specs.Transfers.{give_bytes, take_bytes}
@@ -60,7 +61,7 @@ use Rattle.sh_builtin_outcome.specs.declared.outcome.Continuation.TheVariants as
 use Rattle.sh_builtin_jobs.specs.declared.continuing.ContinuedJob.{ContinuedJob}
 use Rattle.sh_exec_actions.specs.declared.action.JobWait.{JobWait}
 use Rattle.sh_exec_requests.specs.Continuing.{background_place, background_turn, continue_turn, job_ended, job_wait_by, job_wait_turn, with_suspended}
-use Rattle.sh_exec_requests.specs.Waiting.{answer_by, answer_turn, controlled_by, job_line, terminal_back, told, wait_by, wait_turn, wait_with, with_substitution}
+use Rattle.sh_exec_requests.specs.Waiting.{answer_by, answer_turn, controlled_by, job_line, terminal_back, told, wait_by, wait_turn, wait_with, with_substitution, is_brought_back, waited}
 use Rattle.sh_exec_machine.specs.Waits.{signal_status}
 use Rattle.sh_jobs.specs.States.{state_of}
 use Rattle.sh_jobs.specs.Table.{free_number}
@@ -68,7 +69,7 @@ use Rattle.sh_jobs.specs.declared.state.JobState.{JobState}
 use Rattle.sh_jobs.specs.declared.state.JobState.TheVariants.{Running, Suspended}
 use Rattle.sh_jobs.specs.declared.state.JobState.TheVariants as state
 use Rattle.sh_exec_requests.specs.Writing.{after_writing, unwritten, written_by}
-use Rattle.sh_exec_requests.specs.Placed.{Placed}
+use Rattle.sh_exec_requests.specs.Placed.{Placed, at_place}
 use Rattle.sh_builtin.specs.Running.{control_of}
 use Rattle.sh_builtin_outcome.specs.declared.outcome.Completion.TheVariants as completion
 use Rattle.sh_builtin_jobs.specs.KillRuns.{kill_next}
@@ -77,8 +78,8 @@ use Rattle.sh_builtin_jobs.specs.declared.run.KillStep.{KillStep}
 use Rattle.sh_builtin_jobs.specs.declared.run.KillStep.TheVariants as kill
 use Rattle.sh_exec_requests.specs.Awaiting.{all_by, await_by, await_ended, await_turn, operand_by, said_so_far, step_place, without_target}
 use Rattle.sh_exec_requests.specs.Signals as signals
-use Rattle.sh_exec_requests.specs.Signals.{after_sending, is_reached, pending_signal, signal_turn}
-use Rattle.sh_exec_turns.specs.Traps.{interrupted, interruption, shell_before, trap_before}
+use Rattle.sh_exec_requests.specs.Signals.{after_sending, is_reached, pending_signal, signal_turn, after_drop}
+use Rattle.sh_exec_turns.specs.Traps.{interrupted, interruption, shell_before, trap_before, drops_before}
 use Rattle.sh_kernel.specs.Calls.{after_take_signal}
 use Rattle.sh_signal.specs.Signals.{number_of}
 use Rattle.sh_signal.specs.declared.signal.Signal.{Signal}
@@ -88,10 +89,11 @@ use Rattle.sh_builtin_wait.specs.declared.run.Awaited.TheVariants as awaited
 use Rattle.sh_builtin_wait.specs.declared.run.OperandWait.{OperandWait}
 use Rattle.sh_builtin_wait.specs.declared.run.WaitStep.{WaitStep}
 use Rattle.sh_builtin_wait.specs.declared.run.WaitStep.TheVariants.{Over, Waits}
-use Rattle.sh_builtin_shell.specs.Shells.{after_suspension, has_job_control, up_to_date}
+use Rattle.sh_builtin_shell.specs.Shells.{after_suspension, has_job_control, up_to_date, is_interactive}
 use Rattle.sh_exec_requests.specs.LineReading.{fields_given, line_by, line_ended, line_goes_on, line_read_by, most_read, read_line_turn}
-use Rattle.sh_exec_shell.specs.Forks.{background_input, begun_substitution, behind_fork, Turned, fork_failure, fork_turn, inherited, is_foreground, is_more, launch_by, list_by, list_turn, made_place, program_by, stage_by, stage_from, stage_input, stage_one, stage_place, stage_turn, substitute_turn, substitution_by}
-use Rattle.sh_exec_shell.specs.Reduction.{act_at, act_behind, act_place, at_root, expanded_by, reduce, shell_turn}
+use Rattle.sh_exec_shell.specs.Forks.{background_input, begun_substitution, Turned, fork_failure, fork_turn, inherited, is_foreground, is_more, launch_by, list_by, list_turn, made_place, program_by, stage_by, stage_from, stage_input, stage_one, stage_place, stage_turn, substitute_turn, substitution_by, place_of_none, launched_by}
+use Rattle.sh_exec_turns.specs.Groups.{behind_fork, released}
+use Rattle.sh_exec_shell.specs.Reduction.{act_at, act_behind, act_place, at_root, expanded_by, reduce, shell_turn, drop_at, drop_first, dropped_run, rooted, turn_from}
 use Rattle.sh_exec_machine.specs.Waits.{wait_status}
 use Rattle.sh_files.specs.Nodes.{FileMap}
 use Rattle.sh_kernel.specs.State.{KernelState}
@@ -104,14 +106,22 @@ use Rattle.sh_syntax.specs.declared.tree.CompoundList.{CompoundList}
 use Rattle.sh_exec_actions.specs.declared.action.Launch.{Launch}
 use Rattle.sh_exec_actions.specs.declared.action.Launch.TheVariants.{Foreground, Background}
 use Rattle.sh_vars.specs.Environment.{Environment}
-use Rattle.sh_laws.proofs.FunctionTurns.{functions_hold}
+use Rattle.sh_laws.proofs.FunctionTurns.{functions_hold, settled_keeps}
 use Rattle.sh_laws.proofs.NeededPrograms.{ItsItems}
 use Rattle.sh_laws.specs.BeforeAction.{ActedStands, ActiveStands, AssignmentsHold, ChildStands, FoundBegins, FunctionsHold, InterpreterStands, PlaceHolds, RoleHolds, RunStands, WantsHold}
 use Rattle.sh_laws.specs.Beginnings.{AndOrBegins, CommandBegins, CommandsBegin, by_definition, by_form, by_words, more_commands, no_commands}
 use Rattle.sh_laws.proofs.BegunCommands.{and_or_stands, form_stands, list_stands}
 use Rattle.sh_laws.proofs.BegunProcesses.{body_stands, stage_stands}
-use Rattle.sh_laws.proofs.CommandTurns.{ActiveHolds, CommandHolds, ExpandedHolds, MoveHolds, RoundHolds, TurnHolds, ahead_holds, assign_holds, case_holds, choose, give_holds, next_holds, not_done_holds, pattern_holds, redirects_hold, series_hold, words_hold}
-use Rattle.sh_laws.proofs.SettledForms.{Holds, Settled, after_settled, at_action_settled, items_settled, reported_holds, said_holds, settled_holds, stands_holds}
+use Rattle.sh_laws.proofs.CommandTurns.{ActiveHolds, CommandHolds, ExpandedHolds, MoveHolds, RoundHolds, TurnHolds, ahead_holds, assign_holds, case_holds, choose, give_holds, next_holds, not_done_holds, pattern_holds, redirects_hold, series_hold, words_hold, InputBegins, input_begins}
+use Rattle.sh_laws.proofs.SettledForms.{Holds, Settled, after_settled, at_action_settled, items_settled, reported_holds, said_holds, settled_holds, stands_holds, input_action_holds}
+use Rattle.sh_exec_requests.specs.Prompting.{behind_job, is_waiting, job_to_tell, prompt_by, prompt_of, prompt_turn, stays, with_job_told, input_action}
+use Rattle.sh_exec_turns.specs.Input.{behind_blank, ends_line, input_read, input_run, input_taken, input_turn}
+use Rattle.sh_exec_command.specs.declared.found.InputFound.{InputFound}
+use Rattle.sh_exec_command.specs.declared.found.InputFound.TheVariants as input
+use Rattle.sh_exec_shell.proofs.Frames.{whole}
+use Rattle.sh_exec_entering.specs.Stacks.{path_of, run_in, run_of}
+use Rattle.sh_builtin_jobs.specs.Listing.{job_lines}
+use Rattle.sh_jobs.specs.declared.line.JobForm.TheVariants.{Short}
 
 -- what an action leaves, before it is settled
 abbrev pub ActedHolds : Acted → Type 0
@@ -140,12 +150,13 @@ move_holds (move.Compound undo command) h = (tt, form_run_holds command h h)
 move_holds (move.Subshell list) h = stands_holds (body_of list) (body_stands list h)
 
 -- ---- reading and expansion
-read_holds : (ends_shell : Bool) (env : Environment) (status : ℕ) (f : Found) → FoundBegins f → Holds (read_turn ends_shell env status f)
-read_holds ends_shell env status found.Nothing h = tt
-read_holds ends_shell env status (found.Command tree rest) h =
+read_holds : (ends_shell reads_on : Bool) (env : Environment) (status : ℕ) (f : Found) → FoundBegins f → Holds (read_turn ends_shell reads_on env status f)
+read_holds ends_shell reads_on env status found.Nothing h = tt
+read_holds ends_shell reads_on env status (found.Command tree rest) h =
     let items = (view.out-CompoundList tree).items in
     (tt, settled_holds (items_run items (unexcused env.special.status)) (items_settled items (unexcused env.special.status) h))
-read_holds ends_shell env status (found.Fault why) h = tt
+read_holds ends_shell true env status (found.Fault why rest) h = (tt, tt)
+read_holds ends_shell false env status (found.Fault why rest) h = tt
 
 expand_holds : (files : FileMap) (env : Environment) (functions : List Named) (wants : ToExpand) (pending : Option Pending) → FunctionsHold functions → WantsHold wants
     → TurnHolds (expand_turn files env functions wants pending)
@@ -266,9 +277,16 @@ answer_holds : (s : KernelState) (pid : ℕ) (substitution : Substitution) → W
 unfolding answer_turn
 answer_holds s pid substitution h = answer_by_holds substitution (wait_status s pid substitution.children) h
 
-wait_by_holds : (children : List ℕ) (job : Option (List ℕ)) (o : Option ℕ) → ActiveHolds (wait_by children job o)
-wait_by_holds children job None = tt
-wait_by_holds children job (Some status) = tt
+waited_by_holds : (b : Bool) (status : ℕ) → ActiveHolds (if b then Leaving (leave.Fault status) else Done (unexcused status))
+waited_by_holds true status = tt
+waited_by_holds false status = tt
+
+waited_holds : (s : KernelState) (shell : Shell) (children : List ℕ) (status : ℕ) → ActiveHolds (waited s shell children status)
+waited_holds s shell children status = waited_by_holds (is_brought_back s shell children) status
+
+wait_by_holds : (s : KernelState) (shell : Shell) (children : List ℕ) (job : Option (List ℕ)) (o : Option ℕ) → ActiveHolds (wait_by s shell children job o)
+wait_by_holds s shell children job None = tt
+wait_by_holds s shell children job (Some status) = waited_holds s shell children status
 
 told_holds : (line : Option (List ℕ)) (status : ℕ) → ActiveHolds (told line status)
 told_holds None status = tt
@@ -280,10 +298,10 @@ controlled_holds s shell children text (Suspended signal) =
     let t = terminal_back s shell.pid in
     let up = up_to_date t shell in
     told_holds (job_line t (after_suspension t up text children (Suspended signal)).jobs (free_number up.jobs)) (signal_status signal)
-controlled_holds s shell children text (state.Done ending) = wait_by_holds children (Some text) (wait_status s shell.pid children)
+controlled_holds s shell children text (state.Done ending) = wait_by_holds s shell children (Some text) (wait_status s shell.pid children)
 
 wait_with_holds : (s : KernelState) (shell : Shell) (children : List ℕ) (job : Option (List ℕ)) → PlacedHolds (wait_with s shell children job)
-wait_with_holds s shell children None = wait_by_holds children None (wait_status s shell.pid children)
+wait_with_holds s shell children None = wait_by_holds s shell children None (wait_status s shell.pid children)
 wait_with_holds s shell children (Some text) = controlled_holds s shell children text (state_of s.machine.processes children)
 
 wait_holds : (s : KernelState) (shell : Shell) (wait : PipelineWait) → PlacedHolds (wait_turn s shell wait)
@@ -306,7 +324,7 @@ continue_holds s shell (continuation.Foreground job) = tt
 
 job_ended_holds : (s : KernelState) (shell : Shell) (wait : JobWait) (o : Option ℕ) → PlacedHolds (job_ended s shell wait o)
 job_ended_holds s shell wait None = tt
-job_ended_holds s shell wait (Some status) = tt
+job_ended_holds s shell wait (Some status) = waited_holds s shell wait.processes status
 
 job_wait_by_holds : (s : KernelState) (shell : Shell) (wait : JobWait) (state : JobState) → PlacedHolds (job_wait_by s shell wait state)
 job_wait_by_holds s shell wait Running = tt
@@ -319,6 +337,54 @@ job_wait_by_holds s shell wait (state.Done ending) =
 job_wait_holds : (s : KernelState) (shell : Shell) (wait : JobWait) → PlacedHolds (job_wait_turn s shell wait)
 unfolding job_wait_turn
 job_wait_holds s shell wait = job_wait_by_holds s shell wait (state_of s.machine.processes wait.processes)
+
+-- ---- the commands of an interactive shell
+prompt_turn_holds : (b : Bool) (x y : Placed) → PlacedHolds x → PlacedHolds y → PlacedHolds (if b then x else y)
+prompt_turn_holds true x y h k = h
+prompt_turn_holds false x y h k = k
+
+prompt_by_holds : (s : KernelState) (shell : Shell) (text : List ℕ) (o : Option ℕ) → PlacedHolds (prompt_by s shell text o)
+prompt_by_holds s shell text (Some number) =
+    let up = up_to_date s shell in
+    let g = give_bytes s shell.pid 2 (job_lines s.machine.processes up.jobs Short (number ∷ [])) in
+    prompt_turn_holds (is_waiting g.told) (stays g.after up text) (behind_job g.after (with_job_told g.after up number) text) tt
+    (input_action_holds g.after (with_job_told g.after up number) text)
+prompt_by_holds s shell text None =
+    let g = give_bytes s shell.pid 2 (prompt_of shell.vars text) in
+    prompt_turn_holds (is_waiting g.told) (stays g.after shell text) (at_place g.after shell (Next (ReadInput text))) tt tt
+
+prompt_holds : (s : KernelState) (shell : Shell) (text : List ℕ) → PlacedHolds (prompt_turn s shell text)
+unfolding prompt_turn
+prompt_holds s shell text = prompt_by_holds s shell text (job_to_tell s shell text)
+
+beginning_holds : (b : Bool) (s : KernelState) (shell : Shell) (text : List ℕ) → PlaceHolds (if b then input_action s shell text else ReadInput text)
+beginning_holds true s shell text = input_action_holds s shell text
+beginning_holds false s shell text = tt
+
+blank_holds : (is_end : Bool) (s : KernelState) (shell : Shell) (rest : List ℕ) → Holds (behind_blank is_end s shell rest)
+blank_holds true s shell rest = tt
+blank_holds false s shell rest = input_action_holds s shell rest
+
+input_run_holds : (is_end : Bool) (s : KernelState) (shell : Shell) (f : InputFound) → InputBegins f → Holds (input_run is_end s shell f)
+input_run_holds is_end s shell (input.Command tree rest) h =
+    let items = (view.out-CompoundList tree).items in
+    (tt, settled_holds (items_run items (unexcused shell.vars.special.status)) (items_settled items (unexcused shell.vars.special.status) h))
+input_run_holds is_end s shell (input.Blank rest) h = blank_holds is_end s shell rest
+input_run_holds is_end s shell (input.More text) h = beginning_holds (ends_line text) s shell text
+input_run_holds is_end s shell (input.Fault why) h = (tt, tt)
+
+input_read_holds : (is_end : Bool) (s : KernelState) (shell : Shell) (text : List ℕ) → ActedHolds (input_read is_end s shell text)
+input_read_holds is_end s shell text = input_run_holds is_end s shell (input_found is_end text) (input_begins is_end text)
+
+input_taken_holds : (s : KernelState) (shell : Shell) (text : List ℕ) (told : ReadOutcome) → ActedHolds (input_taken s shell text told)
+input_taken_holds s shell text (taken.Bytes bytes) = input_read_holds (nat_eq (length bytes) 0) s shell (text ++ bytes)
+input_taken_holds s shell text taken.Wait = tt
+input_taken_holds s shell text taken.Failed = input_read_holds true s shell text
+
+input_holds : (s : KernelState) (shell : Shell) (text : List ℕ) → ActedHolds (input_turn s shell text)
+unfolding input_turn
+input_holds s shell text =
+    let t = take_bytes s shell.pid (Number 0) (most_read s.machine shell.pid) in input_taken_holds t.after shell text t.told
 
 -- ---- a redirection
 redirect_by_holds : (p : ExpandedCommand) (word : List ℕ) (r : Result (Unit {0}) KernelFault) (one : Option Undone) → CommandHolds p → Holds (redirect_by p word r one)
@@ -371,7 +437,7 @@ end_holds s shell status = tt
 trap_by_holds : (s : KernelState) (shell : Shell) (status : ℕ) (action : Option (List ℕ)) → ActedHolds (trap_by s shell status action)
 trap_by_holds s shell status None = tt
 trap_by_holds s shell status (Some text) =
-    let begun = behind_status (without_trap shell) status in (tt, read_holds true begun.vars 0 (next_command text) (next_holds text))
+    let begun = behind_status (without_trap shell) status in (tt, read_holds true false begun.vars 0 (next_command text) (next_holds text))
 
 trap_holds : (s : KernelState) (shell : Shell) (status : ℕ) → ActedHolds (trap_turn s shell status)
 unfolding trap_turn
@@ -380,7 +446,7 @@ trap_holds s shell status = trap_by_holds s shell status (action_of shell.traps 
 -- ---- a trap on a signal: so does what its action's first command holds, and the shell goes on at its place
 interrupted_holds : (levels : ℕ) (s : KernelState) (shell : Shell) (place : Action) (text : List ℕ) → PlaceHolds place → ActedHolds (interrupted levels s shell place text)
 interrupted_holds zero s shell place text h = tt
-interrupted_holds (suc levels) s shell place text h = (h, read_holds true shell.vars 0 (next_command text) (next_holds text))
+interrupted_holds (suc levels) s shell place text h = (h, read_holds true false shell.vars 0 (next_command text) (next_holds text))
 
 interruption_holds : (around : List Form) (s : KernelState) (shell : Shell) (place : Action) (text : List ℕ) → PlaceHolds place
     → ActedHolds (interruption around s shell place text)
@@ -400,25 +466,33 @@ unfolding fork_turn
 fork_holds around s shell p f h =
     let forked = fork_of s shell.pid None false in program_holds around (behind_fork shell true [] forked.child forked.after) shell p forked.child f h
 
-made_holds : (launch : Launch) (children : List ℕ) → ActiveHolds (made_place launch children)
-made_holds (Foreground job) children = tt
-made_holds (Background list) children = tt
+launched_holds : (b : Bool) (number : ℕ) (children : List ℕ) → ActiveHolds (launched_by b number children)
+launched_holds true number children = tt
+launched_holds false number children = tt
 
-stage_place_holds : (launch : Launch) (commands : List Command) (aside : Option ℕ) (children : List ℕ) → CommandsBegin commands
-    → ActiveHolds (stage_place launch commands aside children)
-stage_place_holds launch [] aside children b = made_holds launch children
-stage_place_holds launch (command ∷ commands) aside children b = b
+made_holds : (shell : Shell) (launch : Launch) (children : List ℕ) → ActiveHolds (made_place shell launch children)
+made_holds shell (Foreground job) children = tt
+made_holds shell (Background list) children = launched_holds (is_interactive shell) (free_number shell.jobs) children
+
+none_holds : (launch : Launch) (children : List ℕ) → ActiveHolds (place_of_none launch children)
+none_holds (Foreground job) children = tt
+none_holds (Background list) children = tt
+
+stage_place_holds : (shell : Shell) (launch : Launch) (commands : List Command) (aside : Option ℕ) (children : List ℕ) → CommandsBegin commands
+    → ActiveHolds (stage_place shell launch commands aside children)
+stage_place_holds shell launch [] aside children b = made_holds shell launch children
+stage_place_holds shell launch (command ∷ commands) aside children b = b
 
 stage_by_holds : (s : KernelState) (shell : Shell) (command : Command) (stages : Stages) (o : Option ℕ) → FunctionsHold shell.functions → CommandBegins command
     → CommandsBegin stages.commands → TurnedHolds (stage_by s shell command stages o)
 stage_by_holds s shell command stages None f c b = (tt, tt)
 stage_by_holds s shell command stages (Some child) f c b =
-    (stage_place_holds stages.launch stages.commands stages.aside (stages.children ++ child ∷ []) b, (stage_stands command c, f))
+    (stage_place_holds shell stages.launch stages.commands stages.aside (stages.children ++ child ∷ []) b, (stage_stands command c, f))
 
 stage_from_holds : (s : KernelState) (shell : Shell) (stages : Stages) (commands : List Command) → FunctionsHold shell.functions → CommandsBegin commands
     → TurnedHolds (stage_from s shell stages commands)
 unfolding stage_one
-stage_from_holds s shell stages _ f no_commands = (made_holds stages.launch stages.children, tt)
+stage_from_holds s shell stages _ f no_commands = (none_holds stages.launch stages.children, tt)
 stage_from_holds s shell stages _ f (more_commands command commands c b) =
     let l = stage_input stages.launch stages.children stages.aside shell s in
     let forked = fork_of l.after shell.pid l.aside (is_more commands) in
@@ -433,7 +507,8 @@ stage_holds around s shell stages f b =
 
 list_by_holds : (s : KernelState) (shell : Shell) (list : AndOr) (o : Option ℕ) → FunctionsHold shell.functions → AndOrBegins list → TurnedHolds (list_by s shell list o)
 list_by_holds s shell list None f a = (tt, tt)
-list_by_holds s shell list (Some child) f a = (tt, (and_or_stands list a, f))
+list_by_holds s shell list (Some child) f a =
+    (launched_holds (is_interactive shell) (free_number shell.jobs) (child ∷ []), (and_or_stands list a, f))
 
 list_holds : (s : KernelState) (shell : Shell) (list : AndOr) → FunctionsHold shell.functions → AndOrBegins list → TurnedHolds (list_turn s shell list)
 unfolding list_turn
@@ -460,7 +535,7 @@ substitute_holds : (s : KernelState) (shell : Shell) (program : CompoundList) (w
 unfolding substitute_turn
 substitute_holds s shell program wants pending f b h =
     let forked = fork_of s shell.pid None true in
-    substitution_holds forked.after shell program (begun_substitution wants pending forked.aside) forked.child f b h
+    substitution_holds (released shell forked.child forked.after) shell program (begun_substitution wants pending forked.aside) forked.child f b h
 
 expanded_holds : (s : KernelState) (shell : Shell) (e : Expanded) → FunctionsHold shell.functions → ExpandedHolds e → TurnedHolds (expanded_by s shell e)
 expanded_holds s shell (expanded.Need program wants pending) f h = substitute_holds s shell program wants pending f h.0 h.1
@@ -468,7 +543,9 @@ expanded_holds s shell (expanded.Go m) f h = (move_holds m h, tt)
 
 -- ---- the turn
 place_holds : (around : List Form) (s : KernelState) (shell : Shell) (place : Action) → FunctionsHold shell.functions → PlaceHolds place → TurnedHolds (act_place around s shell place)
-place_holds around s shell (Reading rest status) f h = (read_holds (ends_shell around) shell.vars status (next_command rest) (next_holds rest), tt)
+place_holds around s shell (Prompting text) f h = (prompt_holds s shell text, tt)
+place_holds around s shell (ReadInput text) f h = (input_holds s shell text, tt)
+place_holds around s shell (Reading rest status) f h = (read_holds (ends_shell around) (goes_on_reading around shell) shell.vars status (next_command rest) (next_holds rest), tt)
 place_holds around s shell (Expanding wants pending) f h =
     let t = expand_turn s.machine.files shell.vars shell.functions wants pending in
     expanded_holds s (record shell { vars = t.environment }) t.outcome f (expand_holds s.machine.files shell.vars shell.functions wants pending f h)
@@ -533,9 +610,70 @@ root_stands shell (At (Evaluating how text)) p = p
 root_stands shell (At (Next place)) p = p
 root_stands shell (In form run) p = p
 
+-- ---- INT may have an interactive shell drop what it does before
+dropped_holds : (place : Action) → Holds (dropped_run place)
+dropped_holds (Reading rest status) = (tt, tt)
+dropped_holds (Prompting text) = tt
+dropped_holds (ReadInput text) = (tt, tt)
+dropped_holds (Expanding wants pending) = tt
+dropped_holds (ReadSubstitution substitution) = tt
+dropped_holds (WaitSubstitution substitution) = tt
+dropped_holds (ReadLine reader) = tt
+dropped_holds (Awaiting awaited) = tt
+dropped_holds (SendSignal ask) = tt
+dropped_holds (ContinueJob c) = tt
+dropped_holds (WaitForJob wait) = tt
+dropped_holds (Redirecting p) = tt
+dropped_holds (Forking p) = tt
+dropped_holds (Starting start) = tt
+dropped_holds (ForkStage stages) = tt
+dropped_holds (ForkList list) = tt
+dropped_holds (AssignLoopVariable series) = tt
+dropped_holds (Defining definition) = tt
+dropped_holds (Waiting wait) = tt
+dropped_holds (Writing piece finish) = tt
+dropped_holds (Trapping status) = tt
+dropped_holds (Ending status) = tt
+
+stands_inside : (around : List Form) (run : Run) → RunStands (run_in around run) → RunStands run
+stands_inside [] run h = h
+stands_inside (form ∷ around) run h = (stands_inside around (In form run) h).1
+
+run_in_holds : (around : List Form) (inner run : Run) → RunStands (run_in around inner) → Holds run → Holds (run_in around run)
+run_in_holds [] inner run h p = p
+run_in_holds (form ∷ around) inner run h p = run_in_holds around (In form inner) (In form run) h ((stands_inside around (In form inner) h).0, p)
+
+drop_by_stands : (b : Bool) (s : KernelState) (shell : Shell) (around : List Form) (place : Action) → FunctionsHold shell.functions → RunStands (run_of around (Next place))
+    → ActedStands (if b then rooted (at_action [] (after_drop s shell) shell (run_in around (dropped_run place))) else with_run s shell (run_of around (Next place)))
+drop_by_stands true s shell around place f h =
+    let holds = run_in_holds around (At (Next place)) (dropped_run place) h (dropped_holds place) in
+    let a = at_action [] (after_drop s shell) shell (run_in around (dropped_run place)) in (
+      root_stands a.shell a.run (at_action_settled [] (after_drop s shell) shell (run_in around (dropped_run place)) holds),
+      settled_keeps [] (after_drop s shell) shell (run_in around (dropped_run place)) f,
+    )
+drop_by_stands false s shell around place f h = (h, f)
+
+drop_stands : (s : KernelState) (shell : Shell) (around : List Form) (active : Active) → FunctionsHold shell.functions → RunStands (run_of around active)
+    → ActedStands (drop_first s shell around active)
+unfolding drop_at
+drop_stands s shell around (Next place) f h = drop_by_stands (drops_before s shell place) s shell around place f h
+drop_stands s shell around (Acting invocation fields) f h = (h, f)
+drop_stands s shell around (Calling body fields) f h = (h, f)
+drop_stands s shell around (Evaluating how text) f h = (h, f)
+drop_stands s shell around (Done status) f h = (h, f)
+drop_stands s shell around (Leaving l) f h = (h, f)
+
+-- the turn behind that
+pub turn_stands : (a : Acted) → ActedStands a → let t = turn_from a in ActedStands t.left × ChildStands t.child
+turn_stands a h =
+    let settled = reduce_settled a.machine a.shell [] a.run h.1 h.0 in
+    let left = (reduce a.machine a.shell [] a.run).left in
+    ((root_stands left.shell left.run settled.0, functions_hold a.machine a.shell [] a.run h.0 h.1), settled.1)
+
 pub shell_stands : (s : KernelState) (interpreter : InterpreterState) → InterpreterStands interpreter → let t = shell_turn s interpreter in ActedStands t.left × ChildStands t.child
 unfolding shell_turn
 shell_stands s interpreter h =
-    let settled = reduce_settled s interpreter.shell [] interpreter.run h.1 h.0 in
-    let left = (reduce s interpreter.shell [] interpreter.run).left in
-    ((root_stands left.shell left.run settled.0, functions_hold s interpreter.shell [] interpreter.run h.0 h.1), settled.1)
+    let around = path_of interpreter.run in
+    let active = active_of interpreter.run in
+    turn_stands (drop_first s interpreter.shell around active)
+    (drop_stands s interpreter.shell around active h.1 (subst RunStands (sym (whole interpreter.run)) h.0))

@@ -9,7 +9,7 @@ use Rattle.sh_exec.specs.declared.turn_action.TurnAction.{TurnAction}
 use Rattle.sh_exec_actions.specs.declared.action.Action.TheVariants.{Reading}
 use Rattle.sh_exec_actions.specs.declared.action.Active.{Active}
 use Rattle.sh_exec_actions.specs.declared.action.Active.TheVariants.{Acting, Calling, Evaluating, Next, Done, Leaving}
-use Rattle.sh_exec_forms.specs.Running.{active_of}
+use Rattle.sh_exec_entering.specs.Running.{active_of}
 use Rattle.sh_files.specs.Nodes.{FileMap, node_of_path}
 use Rattle.sh_files_image.specs.declared.node.Node.{Node}
 use Rattle.sh_files_image.specs.declared.node.Node.TheVariants.{Directory, File, Null, Terminal}
@@ -29,6 +29,7 @@ use Rattle.sh_exec.specs.declared.event.Event.{Event}
 use Rattle.sh_exec.specs.declared.settings.Settings.{Settings}
 use Rattle.sh_exec.specs.declared.settings.Source.{Source}
 use Rattle.sh_exec.specs.declared.settings.Source.TheVariants.{Text, Script}
+use Rattle.sh_exec.specs.declared.settings.Source.TheVariants as origin
 use Rattle.sh_exec.specs.declared.task.Task.{Task}
 use Rattle.sh_exec.specs.declared.task.Task.TheVariants.{Runs, Asks}
 
@@ -45,6 +46,7 @@ first_holds : (image : FileMap) (source : Source) → PlaceHolds (first_place im
 unfolding script_place
 first_holds image (Text bytes) = tt
 first_holds image (Script path) = place_holds path (node_of_path image (codes "/") path)
+first_holds image origin.Terminal = tt
 
 pub start_stands : (S : Type 0) (image : FileMap) (settings : Settings) → TasksStand (start {S = S} image settings).tasks
 start_stands S image settings = ((first_holds image settings.source, tt), tt)

@@ -21,9 +21,11 @@ use Rattle.sh_kernel_descriptors.specs.declared.fault.KernelFault.{KernelFault}
 use Rattle.sh_kernel.specs.Calls.{set_aside_call}
 use Rattle.sh_builtin_shell.specs.Shells.{own_group}
 use Rattle.sh_kernel.specs.Requests.{Request, Fork, Read, SetAction, SetAside, SetForeground, SetGroup, Write, after_request, after_requests}
+use Rattle.sh_kernel_signals.specs.declared.member.SignalAction.{SignalAction}
 use Rattle.sh_kernel_signals.specs.declared.member.SignalAction.TheVariants.{Ignored}
+use Rattle.sh_signal.specs.declared.signal.Signal.{Signal}
 use Rattle.sh_signal.specs.declared.signal.Signal.TheVariants.{Interrupt, Quit}
-use Rattle.sh_exec_shell.specs.Forks.{behind_fork_by, given_terminal, leader}
+use Rattle.sh_exec_turns.specs.Groups.{behind_fork_by, given_terminal, leader}
 use Rattle.sh_kernel.specs.State.{KernelState}
 use Rattle.sh_laws.specs.Requests.{IsFrom}
 
@@ -34,16 +36,21 @@ IsKept directory pid P = (s : KernelState) (r : Request) → IsFrom directory r 
 abbrev pub ignoring_requests : List Request
 ignoring_requests = SetAction Interrupt Ignored ∷ SetAction Quit Ignored ∷ []
 
--- a process makes another one, which may come into a group, or be to ignore some signals
-abbrev pub after_making : KernelState → ℕ → (before : Option ℕ) → (writes control is_foreground : Bool) → (others : List ℕ) → KernelState
-after_making s pid before writes control is_foreground others =
-    let f = fork_of s pid before writes in behind_fork_by control pid is_foreground others f.child f.after
+-- what a process does with some signals from now on
+abbrev pub set_requests : List (Signal × SignalAction) → List Request
+set_requests [] = []
+set_requests (own ∷ others) = SetAction own.0 own.1 ∷ set_requests others
+
+-- a process makes another one, which may do other things with signals, come into a group, or be to ignore some signals
+abbrev pub after_making : KernelState → ℕ → (before : Option ℕ) → (writes : Bool) → (own : List (Signal × SignalAction)) → (control is_foreground : Bool) → (others : List ℕ) → KernelState
+after_making s pid before writes own control is_foreground others =
+    let f = fork_of s pid before writes in behind_fork_by control pid is_foreground others f.child (after_child f.after f.child (set_requests own))
 
 -- what is kept where a process makes another one, whose number is told
 abbrev pub IsForked : ℕ → (Option ℕ → KernelState → Type 0) → Type 0
 IsForked pid P =
-    (s : KernelState) (before : Option ℕ) (writes control is_foreground : Bool) (others : List ℕ) → P None s
-    → P (fork_of s pid before writes).child (after_making s pid before writes control is_foreground others)
+    (s : KernelState) (before : Option ℕ) (writes : Bool) (own : List (Signal × SignalAction)) (control is_foreground : Bool) (others : List ℕ) → P None s
+    → P (fork_of s pid before writes).child (after_making s pid before writes own control is_foreground others)
 
 module _ (directory : List ℕ) where
   abbrev pub ListFrom : List Request → Type 0
@@ -53,6 +60,10 @@ module _ (directory : List ℕ) where
   all_append : (xs ys : List Request) → ListFrom xs → ListFrom ys → ListFrom (xs ++ ys)
   all_append [] ys a b = b
   all_append (x ∷ xs) ys a b = (a.0, all_append xs ys a.1 b)
+
+  setting_from : (own : List (Signal × SignalAction)) → ListFrom (set_requests own)
+  setting_from [] = tt
+  setting_from (own ∷ others) = (tt, setting_from others)
 
   laying_from : (writes : Bool) → ListFrom (laying writes)
   laying_from false = tt
@@ -160,6 +171,11 @@ module _ (directory : List ℕ) where
     behind_keeps false false others None s p = p
     behind_keeps false false others (Some child) s p = list_keeps child (P (Some child)) (inside child) ignoring_requests (tt, (tt, tt)) s p
 
+    own_keeps : (s : KernelState) (child : Option ℕ) (own : List (Signal × SignalAction)) → P child s → P child (after_child s child (set_requests own))
+    own_keeps s None own p = p
+    own_keeps s (Some child) own p = list_keeps child (P (Some child)) (inside child) (set_requests own) (setting_from own) s p
+
     pub fork_keeps : IsForked pid P
-    fork_keeps s before writes control is_foreground others p =
-        let f = fork_of s pid before writes in behind_keeps control is_foreground others f.child f.after (made_keeps s before writes p)
+    fork_keeps s before writes own control is_foreground others p =
+        let f = fork_of s pid before writes in
+        behind_keeps control is_foreground others f.child (after_child f.after f.child (set_requests own)) (own_keeps f.after f.child own (made_keeps s before writes p))

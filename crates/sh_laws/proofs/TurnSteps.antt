@@ -23,23 +23,22 @@ use Rattle.sh_exec_actions.specs.declared.action.Expanded.TheVariants as expande
 use Rattle.sh_exec_actions.specs.declared.action.Finish.{Finish}
 use Rattle.sh_exec_actions.specs.declared.action.Pending.{Pending}
 use Rattle.sh_exec_actions.specs.declared.action.Action.{Action}
-use Rattle.sh_exec_actions.specs.declared.action.Action.TheVariants.{Reading, Expanding, ReadSubstitution, WaitSubstitution, ReadLine, Awaiting, SendSignal, ContinueJob, WaitForJob, Redirecting, Forking, Starting, ForkStage, ForkList, AssignLoopVariable, Defining, Waiting, Writing, Trapping, Ending}
+use Rattle.sh_exec_actions.specs.declared.action.Action.TheVariants.{Reading, Prompting, ReadInput, Expanding, ReadSubstitution, WaitSubstitution, ReadLine, Awaiting, SendSignal, ContinueJob, WaitForJob, Redirecting, Forking, Starting, ForkStage, ForkList, AssignLoopVariable, Defining, Waiting, Writing, Trapping, Ending}
 use Rattle.sh_exec_actions.specs.declared.action.ExpandedCommand.{ExpandedCommand}
 use Rattle.sh_exec_actions.specs.declared.action.Stages.{Stages}
 use Rattle.sh_exec_actions.specs.declared.action.Substitution.{Substitution}
 use Rattle.sh_exec_actions.specs.declared.action.Undo.{Undo}
 use Rattle.sh_exec_actions.specs.declared.action.ToExpand.{ToExpand}
 use Rattle.sh_exec_machine.specs.Forking.{after_null, fork_of, null_laid, set_aside, set_by}
-use Rattle.sh_exec_machine.specs.Transfers.{take_bytes}
+use Rattle.sh_exec_machine.specs.Transfers.{take_bytes, Giving, give_bytes}
 use Rattle.sh_exec_machine.specs.Waits.{wait_status}
 use Rattle.sh_exec_machine.specs.declared.transfer.ReadOutcome.{ReadOutcome}
 use Rattle.sh_exec_machine.specs.declared.transfer.ReadOutcome.TheVariants as taken
 use Rattle.sh_exec_turns.specs.Acting.{collect_by, collect_end, collect_from, collect_turn, after_collection, end_turn, expand_turn, keeps, next, redirect_from, redirect_one, redirect_turn, trap_by, trap_turn, with_written, write_turn}
-use Rattle.sh_exec_requests.specs.Placed.{Placed}
-use Rattle.sh_builtin_environment.specs.TrapMaps.{TrapMap}
+use Rattle.sh_exec_requests.specs.Placed.{Placed, at_place}
 use Rattle.sh_builtin_jobs.specs.declared.run.KillAsk.{KillAsk}
-use Rattle.sh_exec_requests.specs.Signals.{after_sending, after_trap_in, after_trap_set, after_traps, after_traps_in, pending_signal, signal_action, signal_turn}
-use Rattle.sh_exec_turns.specs.Traps.{interrupted, interruption, shell_before, trap_before}
+use Rattle.sh_exec_requests.specs.Signals.{after_sending, after_trap_in, after_trap_set, after_traps, after_traps_in, pending_signal, signal_action, signal_turn, after_drop, after_own_signals, after_release, after_releases, own_action, own_ignored, released_action}
+use Rattle.sh_exec_turns.specs.Traps.{interrupted, interruption, shell_before, trap_before, drops_before}
 use Rattle.sh_jobs.specs.declared.fault.JobFault.{JobFault}
 use Rattle.sh_kernel_signals.specs.Sets.{has}
 use Rattle.sh_kernel_signals.specs.declared.set.SignalSet.{SignalSet}
@@ -54,20 +53,21 @@ use Rattle.sh_builtin_wait.specs.declared.run.OperandWait.{OperandWait}
 use Rattle.sh_builtin_wait.specs.declared.target.WaitTarget.{WaitTarget}
 use Rattle.sh_builtin_wait.specs.declared.target.WaitTarget.TheVariants as target
 use Rattle.sh_exec_requests.specs.LineReading.{line_by, line_ended, line_goes_on, line_read_by, most_read, read_line_turn}
-use Rattle.sh_exec_shell.specs.Forks.{Turned, background_input, begun_substitution, behind_fork, fork_turn, inherited, is_foreground, is_more, launch_by, list_by, list_turn, made_shell, program_by, stage_by, stage_from, stage_input, stage_one, stage_shell, stage_turn, substitute_turn, substitution_by}
+use Rattle.sh_exec_shell.specs.Forks.{Turned, background_input, begun_substitution, fork_turn, inherited, is_foreground, is_more, launch_by, list_by, list_turn, made_shell, program_by, stage_by, stage_from, stage_input, stage_one, stage_shell, stage_turn, substitute_turn, substitution_by}
+use Rattle.sh_exec_turns.specs.Groups.{behind_fork, behind_fork_by, released}
 use Rattle.sh_exec_requests.specs.Reporting.{behind}
 use Rattle.sh_exec_forms.specs.Builtins.{builtin_effect, builtin_machine, call, effect_at, machine_at, evaluation, performed}
-use Rattle.sh_exec_forms.specs.Forms.{Acted, with_run, after, after_by, after_status, after_leave, loop_left, onward, condition_run, at_action, undone}
+use Rattle.sh_exec_forms.specs.Forms.{Acted, with_run, after, after_by, after_status, after_leave, loop_left, onward, condition_run, at_action, undone, dropped_in_text, goes_on_reading, input_left, place_left}
 use Rattle.sh_builtin_environment.specs.TrapMaps.{action_of}
 use Rattle.sh_signal.specs.declared.condition.Condition.TheVariants.{Caught, Exit}
 use Rattle.sh_exec_frames.specs.Frames.{has_loop, is_failure_ignored, last_for, levels_left}
-use Rattle.sh_exec_shell.specs.Reduction.{act_at, act_behind, act_place, expanded_by, reduce, shell_turn}
-use Rattle.sh_exec_forms.specs.Running.{InterpreterState, Run, At, In}
+use Rattle.sh_exec_shell.specs.Reduction.{act_at, act_behind, act_place, expanded_by, reduce, shell_turn, drop_at, drop_first, dropped_run, rooted}
+use Rattle.sh_exec_entering.specs.Running.{InterpreterState, Run, At, In, active_of}
 use Rattle.sh_exec_actions.specs.declared.form.Form.{Form}
-use Rattle.sh_exec_actions.specs.declared.form.Form.TheVariants.{Text, Commands, Joined, Negated, Restoring, If, Condition, Body, ForBody, Call, Evaluation, Trapped, Interruption, FailuresIgnored}
+use Rattle.sh_exec_actions.specs.declared.form.Form.TheVariants.{Text, Input, Commands, Joined, Negated, Restoring, If, Condition, Body, ForBody, Call, Evaluation, Trapped, Interruption, FailuresIgnored}
 use Rattle.sh_kernel_descriptors.specs.declared.descriptor.DescriptorRef.TheVariants.{Aside, Number}
 use Rattle.sh_exec_parts.specs.Redirections.{to_read}
-use Rattle.sh_kernel.specs.Calls.{after_take_signal, set_aside_call}
+use Rattle.sh_kernel.specs.Calls.{after_take_signal, set_aside_call, after_set_action}
 use Rattle.sh_kernel.specs.Requests.{Close, End, Kill, Open, SetAction, SetAside, SetForeground, TakeSignal, after_request}
 use Rattle.sh_kernel_descriptors.specs.declared.fault.KernelFault.{KernelFault}
 use Rattle.sh_kernel.specs.State.{KernelState}
@@ -79,9 +79,9 @@ use Rattle.sh_exec_actions.specs.declared.action.Launch.TheVariants.{Foreground,
 use Rattle.sh_laws.specs.Requests.{made_number}
 use Rattle.sh_laws.proofs.TurnRequests.{IsForked, IsKept, give_keeps, redirect_keeps, take_keeps, undo_keeps}
 use Rattle.sh_builtin_environment.specs.declared.outcome.BuiltinFault.{BuiltinFault}
-use Rattle.sh_builtin_jobs.specs.Listing.{jobs_of}
+use Rattle.sh_builtin_jobs.specs.Listing.{jobs_of, job_lines}
 use Rattle.sh_builtin_jobs.specs.declared.listing.JobsCommand.{JobsCommand}
-use Rattle.sh_builtin_shell.specs.Shells.{has_job_control, own_group, up_to_date}
+use Rattle.sh_builtin_shell.specs.Shells.{has_job_control, own_group, up_to_date, is_interactive}
 use Rattle.sh_exec_actions.specs.declared.action.PipelineWait.{PipelineWait}
 use Rattle.sh_builtin_outcome.specs.declared.outcome.Continuation.{Continuation}
 use Rattle.sh_builtin_outcome.specs.declared.outcome.Continuation.TheVariants as continuation
@@ -95,6 +95,13 @@ use Rattle.sh_jobs.specs.States.{state_of}
 use Rattle.sh_jobs.specs.declared.state.JobState.{JobState}
 use Rattle.sh_jobs.specs.declared.state.JobState.TheVariants.{Running, Suspended}
 use Rattle.sh_jobs.specs.declared.state.JobState.TheVariants as state
+use Rattle.sh_exec_requests.specs.Prompting.{behind_job, is_waiting, job_to_tell, prompt_by, prompt_of, prompt_turn, stays, with_job_told}
+use Rattle.sh_exec_turns.specs.Input.{input_taken, input_turn}
+use Rattle.sh_jobs.specs.declared.line.JobForm.TheVariants.{Short}
+use Rattle.sh_exec_entering.specs.Stacks.{path_of, run_in, run_of}
+use Rattle.sh_kernel_signals.specs.declared.member.SignalAction.TheVariants as does
+use Rattle.sh_laws.proofs.Dropping.{drop_directory}
+use Rattle.sh_laws.proofs.Releasing.{own_settings, released_is}
 
 -- ---- a built-in acts in its shell's process
 jobs_ran_number : (s : KernelState) (shell : Shell) (asked : Result JobsCommand BuiltinFault) → (jobs_ran s shell asked).shell.pid ≡ shell.pid
@@ -162,6 +169,8 @@ effect_number around s shell (Leaving leave) = refl
 
 before_number : (shell : Shell) (place : Action) → (shell_before shell place).pid ≡ shell.pid
 before_number shell (Reading rest status) = refl
+before_number shell (Prompting text) = refl
+before_number shell (ReadInput text) = refl
 before_number shell (Expanding wants pending) = refl
 before_number shell (ReadSubstitution substitution) = refl
 before_number shell (WaitSubstitution substitution) = refl
@@ -205,6 +214,7 @@ module _ (directory : List ℕ) (pid : ℕ) (P : KernelState → Type 0) (kept :
 
   ended_keeps : (around : List Form) (form : Form) (s : KernelState) (shell : Shell) (status : CommandStatus) → shell.pid ≡ pid → P s → Keeps (after_status around form s shell status)
   ended_keeps around (Text rest) s shell status e p = (e, p)
+  ended_keeps around (Input rest) s shell status e p = (e, p)
   ended_keeps around (Commands items) s shell status e p = (e, p)
   ended_keeps around (Joined others) s shell status e p = (e, p)
   ended_keeps around Negated s shell status e p = (e, p)
@@ -230,8 +240,48 @@ module _ (directory : List ℕ) (pid : ℕ) (P : KernelState → Type 0) (kept :
   loop_left_keeps false (leave.Continue (suc inside)) s shell next e p = (e, p)
   loop_left_keeps true (leave.Continue (suc inside)) s shell next e p = (e, p)
 
+  text_left_keeps : (goes_on : Bool) (s : KernelState) (shell : Shell) (rest : List ℕ) (leave : Leave) → shell.pid ≡ pid → P s → Keeps (dropped_in_text goes_on s shell rest leave)
+  text_left_keeps true s shell rest (leave.Exit status) e p = (e, p)
+  text_left_keeps true s shell rest (leave.Fault status) e p = (e, p)
+  text_left_keeps true s shell rest (leave.Return status) e p = (e, p)
+  text_left_keeps true s shell rest (leave.Break inside) e p = (e, p)
+  text_left_keeps true s shell rest (leave.Continue inside) e p = (e, p)
+  text_left_keeps false s shell rest leave e p = (e, p)
+
+  input_left_keeps : (s : KernelState) (shell : Shell) (leave : Leave) → shell.pid ≡ pid → P s → Keeps (input_left s shell leave)
+  input_left_keeps s shell (leave.Exit status) e p = (e, p)
+  input_left_keeps s shell (leave.Fault status) e p = (e, p)
+  input_left_keeps s shell (leave.Return status) e p = (e, p)
+  input_left_keeps s shell (leave.Break inside) e p = (e, p)
+  input_left_keeps s shell (leave.Continue inside) e p = (e, p)
+
+  place_left_keeps : (around : List Form) (s : KernelState) (shell : Shell) (next : Action) (leave : Leave) → shell.pid ≡ pid → P s → Keeps (place_left around s shell next leave)
+  place_left_keeps around s shell (Reading rest status) leave e p = text_left_keeps (goes_on_reading around shell) s shell rest leave e p
+  place_left_keeps around s shell (ReadInput text) leave e p = input_left_keeps s shell leave e p
+  place_left_keeps around s shell (Prompting text) leave e p = (e, p)
+  place_left_keeps around s shell (Expanding wants pending) leave e p = (e, p)
+  place_left_keeps around s shell (ReadSubstitution substitution) leave e p = (e, p)
+  place_left_keeps around s shell (WaitSubstitution substitution) leave e p = (e, p)
+  place_left_keeps around s shell (ReadLine reader) leave e p = (e, p)
+  place_left_keeps around s shell (Awaiting awaited) leave e p = (e, p)
+  place_left_keeps around s shell (SendSignal ask) leave e p = (e, p)
+  place_left_keeps around s shell (ContinueJob c) leave e p = (e, p)
+  place_left_keeps around s shell (WaitForJob wait) leave e p = (e, p)
+  place_left_keeps around s shell (Redirecting c) leave e p = (e, p)
+  place_left_keeps around s shell (Forking c) leave e p = (e, p)
+  place_left_keeps around s shell (Starting start) leave e p = (e, p)
+  place_left_keeps around s shell (ForkStage stages) leave e p = (e, p)
+  place_left_keeps around s shell (ForkList list) leave e p = (e, p)
+  place_left_keeps around s shell (AssignLoopVariable series) leave e p = (e, p)
+  place_left_keeps around s shell (Defining definition) leave e p = (e, p)
+  place_left_keeps around s shell (Waiting wait) leave e p = (e, p)
+  place_left_keeps around s shell (Writing piece finish) leave e p = (e, p)
+  place_left_keeps around s shell (Trapping status) leave e p = (e, p)
+  place_left_keeps around s shell (Ending status) leave e p = (e, p)
+
   left_keeps : (around : List Form) (form : Form) (s : KernelState) (shell : Shell) (leave : Leave) → shell.pid ≡ pid → P s → Keeps (after_leave around form s shell leave)
-  left_keeps around (Text rest) s shell leave e p = (e, p)
+  left_keeps around (Text rest) s shell leave e p = text_left_keeps (goes_on_reading around shell) s shell rest leave e p
+  left_keeps around (Input rest) s shell leave e p = input_left_keeps s shell leave e p
   left_keeps around (Commands items) s shell leave e p = (e, p)
   left_keeps around (Joined others) s shell leave e p = (e, p)
   left_keeps around Negated s shell leave e p = (e, p)
@@ -243,7 +293,7 @@ module _ (directory : List ℕ) (pid : ℕ) (P : KernelState → Type 0) (kept :
   left_keeps around (Call positional) s shell leave e p = (e, p)
   left_keeps around (Evaluation how) s shell leave e p = (e, p)
   left_keeps around (Trapped before) s shell leave e p = (e, p)
-  left_keeps around (Interruption before next) s shell leave e p = (e, p)
+  left_keeps around (Interruption before next) s shell leave e p = place_left_keeps around s shell next leave e p
   left_keeps around FailuresIgnored s shell leave e p = (e, p)
 
   after_by_keeps : (around : List Form) (form : Form) (s : KernelState) (shell : Shell) (run : Run) → shell.pid ≡ pid → P s → Keeps (after_by around form s shell run)
@@ -260,24 +310,38 @@ module _ (directory : List ℕ) (pid : ℕ) (P : KernelState → Type 0) (kept :
   after_keeps around form a k = after_by_keeps around form a.machine a.shell a.run k.0 k.1
 
   -- ---- a built-in has set traps
-  trap_in_keeps : (set : SignalSet) (s : KernelState) (n : ℕ) (traps : TrapMap) (signal : Signal) → n ≡ pid → P s → P (after_trap_in set s n traps signal)
-  trap_in_keeps set s n traps signal e p = at (has set signal)
+  trap_in_keeps : (set : SignalSet) (s : KernelState) (shell : Shell) (signal : Signal) → shell.pid ≡ pid → P s → P (after_trap_in set s shell signal)
+  trap_in_keeps set s shell signal e p = at (has set signal)
     where
-      at : (b : Bool) → P (if b then after_trap_set s n traps signal else s)
-      at true = subst (λ q. IsKept directory q P) (sym e) kept s (SetAction signal (signal_action (action_of traps (Caught signal)))) tt p
+      at : (b : Bool) → P (if b then after_trap_set s shell signal else s)
+      at true = own shell e s (SetAction signal (signal_action (own_action shell signal) (action_of shell.traps (Caught signal)))) tt p
       at false = p
 
-  traps_in_keeps : (set : SignalSet) (s : KernelState) (n : ℕ) (traps : TrapMap) (those : List Signal) → n ≡ pid → P s → P (after_traps_in set s n traps those)
-  traps_in_keeps set s n traps [] e p = p
-  traps_in_keeps set s n traps (signal ∷ others) e p =
-      traps_in_keeps set (after_trap_in set s n traps signal) n traps others e (trap_in_keeps set s n traps signal e p)
+  pub traps_in_keeps : (set : SignalSet) (s : KernelState) (shell : Shell) (those : List Signal) → shell.pid ≡ pid → P s → P (after_traps_in set s shell those)
+  traps_in_keeps set s shell [] e p = p
+  traps_in_keeps set s shell (signal ∷ others) e p =
+      traps_in_keeps set (after_trap_in set s shell signal) shell others e (trap_in_keeps set s shell signal e p)
+
+  -- what an interactive shell ignores by itself
+  releases_keep : (s : KernelState) (shell : Shell) (those : List Signal) → shell.pid ≡ pid → P s → P (after_releases s shell shell.pid those)
+  releases_keep s shell [] e p = p
+  releases_keep s shell (signal ∷ others) e p =
+      releases_keep (after_release s shell shell.pid signal) shell others e
+      (own shell e s (SetAction signal (released_action (action_of shell.traps (Caught signal)))) tt p)
+
+  pub own_signals_keep : (s : KernelState) (shell : Shell) → shell.pid ≡ pid → P s → P (after_own_signals s shell shell.pid)
+  own_signals_keep s shell e p = at (is_interactive shell)
+    where
+      at : (b : Bool) → P (if b then after_releases s shell shell.pid own_ignored else s)
+      at true = releases_keep s shell own_ignored e p
+      at false = p
 
   machine_keeps : (around : List Form) (s : KernelState) (shell : Shell) (active : Active) → shell.pid ≡ pid → P s → P (machine_at around s shell active)
   unfolding builtin_machine after_traps invoked
   machine_keeps around s shell (Acting i fields) e p =
       let last = last_for around i.builtin shell.vars.special.status in
       let d = invoked s shell last i (drop 1 fields) in
-      traps_in_keeps d.outcome.signals s d.shell.pid d.shell.traps signals (built_in_number s shell last i.builtin (drop 1 fields) ∙ e) p
+      traps_in_keeps d.outcome.signals s d.shell signals (built_in_number s shell last i.builtin (drop 1 fields) ∙ e) p
   machine_keeps around s shell (Calling body fields) e p = p
   machine_keeps around s shell (Evaluating how text) e p = p
   machine_keeps around s shell (Next place) e p = p
@@ -341,6 +405,45 @@ module _ (directory : List ℕ) (pid : ℕ) (P : KernelState → Type 0) (kept :
       let count = most_read s.machine shell.pid in
       let t = take_bytes s shell.pid (Number 0) count in
       line_read_by_keeps t.after shell reader t.told e (take_keeps directory shell.pid P (own shell e) s (Number 0) count p)
+
+  -- ---- the commands of an interactive shell
+  prompted_keeps : (s : KernelState) (shell : Shell) (bytes : List ℕ) → shell.pid ≡ pid → P s → P (give_bytes s shell.pid 2 bytes).after
+  prompted_keeps s shell bytes e p = give_keeps directory shell.pid P (own shell e) s 2 bytes p
+
+  job_written_keeps : (b : Bool) (g : Giving) (shell : Shell) (text : List ℕ) (number : ℕ) → shell.pid ≡ pid → P g.after
+      → KeepsPlaced (if b then stays g.after shell text else behind_job g.after (with_job_told g.after shell number) text)
+  job_written_keeps true g shell text number e p = (e, p)
+  job_written_keeps false g shell text number e p = (e, p)
+
+  prompt_written_keeps : (b : Bool) (g : Giving) (shell : Shell) (text : List ℕ) → shell.pid ≡ pid → P g.after
+      → KeepsPlaced (if b then stays g.after shell text else at_place g.after shell (Next (ReadInput text)))
+  prompt_written_keeps true g shell text e p = (e, p)
+  prompt_written_keeps false g shell text e p = (e, p)
+
+  prompt_by_keeps : (s : KernelState) (shell : Shell) (text : List ℕ) (o : Option ℕ) → shell.pid ≡ pid → P s → KeepsPlaced (prompt_by s shell text o)
+  prompt_by_keeps s shell text (Some number) e p =
+      let line = job_lines s.machine.processes (up_to_date s shell).jobs Short (number ∷ []) in
+      let g = give_bytes s shell.pid 2 line in
+      job_written_keeps (is_waiting g.told) g (up_to_date s shell) text number e (prompted_keeps s shell line e p)
+  prompt_by_keeps s shell text None e p =
+      let g = give_bytes s shell.pid 2 (prompt_of shell.vars text) in
+      prompt_written_keeps (is_waiting g.told) g shell text e (prompted_keeps s shell (prompt_of shell.vars text) e p)
+
+  prompt_keeps : (s : KernelState) (shell : Shell) (text : List ℕ) → shell.pid ≡ pid → P s → KeepsPlaced (prompt_turn s shell text)
+  unfolding prompt_turn
+  prompt_keeps s shell text e p = prompt_by_keeps s shell text (job_to_tell s shell text) e p
+
+  input_taken_keeps : (s : KernelState) (shell : Shell) (text : List ℕ) (told : ReadOutcome) → shell.pid ≡ pid → P s → Keeps (input_taken s shell text told)
+  input_taken_keeps s shell text (taken.Bytes bytes) e p = (e, p)
+  input_taken_keeps s shell text taken.Wait e p = (e, p)
+  input_taken_keeps s shell text taken.Failed e p = (e, p)
+
+  read_input_keeps : (s : KernelState) (shell : Shell) (text : List ℕ) → shell.pid ≡ pid → P s → Keeps (input_turn s shell text)
+  unfolding input_turn
+  read_input_keeps s shell text e p =
+      let count = most_read s.machine shell.pid in
+      let t = take_bytes s shell.pid (Number 0) count in
+      input_taken_keeps t.after shell text t.told e (take_keeps directory shell.pid P (own shell e) s (Number 0) count p)
 
   -- ---- what wait waits for
   target_number : (shell : Shell) (to : WaitTarget) → (without_target shell to).pid ≡ shell.pid
@@ -500,6 +603,13 @@ module _ (directory : List ℕ) (pid : ℕ) (P : Option ℕ → KernelState → 
   own_forks : (shell : Shell) → shell.pid ≡ pid → IsForked shell.pid P
   own_forks shell e = subst (λ n. IsForked n P) (sym e) forks
 
+  forked : (shell : Shell) → shell.pid ≡ pid → (s : KernelState) (before : Option ℕ) (writes is_foreground : Bool) (others : List ℕ) → P None s
+      → let f = fork_of s shell.pid before writes in P f.child (behind_fork shell is_foreground others f.child f.after)
+  forked shell e s before writes is_foreground others p =
+      let f = fork_of s shell.pid before writes in
+      subst (λ t. P f.child (behind_fork_by (has_job_control shell) shell.pid is_foreground others f.child t)) (sym (released_is shell f.child f.after))
+      (own_forks shell e s before writes (own_settings shell) (has_job_control shell) is_foreground others p)
+
   program_keeps : (around : List Form) (s : KernelState) (shell : Shell) (prepared : ExpandedCommand) (o : Option ℕ) → shell.pid ≡ pid → P o s → Leaves (program_by around s shell prepared o)
   program_keeps around s shell prepared None e p = (e, p)
   program_keeps around s shell prepared (Some child) e p = (e, p)
@@ -508,7 +618,7 @@ module _ (directory : List ℕ) (pid : ℕ) (P : Option ℕ → KernelState → 
   unfolding fork_turn
   fork_turn_keeps around s shell prepared e p =
       let f = fork_of s shell.pid None false in
-      program_keeps around (behind_fork shell true [] f.child f.after) shell prepared f.child e (own_forks shell e s None false (has_job_control shell) true [] p)
+      program_keeps around (behind_fork shell true [] f.child f.after) shell prepared f.child e (forked shell e s None false true [] p)
 
   stage_by_keeps : (s : KernelState) (shell : Shell) (command : Command) (stages : Stages) (o : Option ℕ) → shell.pid ≡ pid → P o s → Leaves (stage_by s shell command stages o)
   stage_by_keeps s shell command stages None e p = (e, p)
@@ -522,7 +632,7 @@ module _ (directory : List ℕ) (pid : ℕ) (P : Option ℕ → KernelState → 
       let f = fork_of l.after shell.pid l.aside (is_more commands) in
       let laid = input_keeps directory pid (P None) (kept None) stages.launch stages.children stages.aside s shell e d p in
       stage_by_keeps (behind_fork shell (is_foreground stages.launch) stages.children f.child f.after) shell command (record stages { commands = commands; aside = f.aside }) f.child e
-      (own_forks shell e l.after l.aside (is_more commands) (has_job_control shell) (is_foreground stages.launch) stages.children laid)
+      (forked shell e l.after l.aside (is_more commands) (is_foreground stages.launch) stages.children laid)
 
   stage_turn_keeps : (around : List Form) (s : KernelState) (shell : Shell) (stages : Stages) → shell.pid ≡ pid → shell.vars.directory ≡ directory → P None s → Leaves (stage_turn around s shell stages)
   unfolding stage_turn
@@ -539,7 +649,7 @@ module _ (directory : List ℕ) (pid : ℕ) (P : Option ℕ → KernelState → 
       let l = background_input (has_job_control shell) s shell in
       let f = fork_of l.after shell.pid l.aside false in
       list_by_keeps (behind_fork shell false [] f.child f.after) shell list f.child e
-      (own_forks shell e l.after l.aside false (has_job_control shell) false [] (background_keeps directory pid (P None) (kept None) (has_job_control shell) s shell e d p))
+      (forked shell e l.after l.aside false false [] (background_keeps directory pid (P None) (kept None) (has_job_control shell) s shell e d p))
 
   substitution_keeps : (s : KernelState) (shell : Shell) (program : CompoundList) (substitution : Substitution) (o : Option ℕ) → shell.pid ≡ pid → P o s → Leaves (substitution_by s shell program substitution o)
   substitution_keeps s shell program substitution None e p = (e, p)
@@ -549,7 +659,8 @@ module _ (directory : List ℕ) (pid : ℕ) (P : Option ℕ → KernelState → 
   unfolding substitute_turn
   substitute_keeps s shell program wants pending e p =
       let f = fork_of s shell.pid None true in
-      substitution_keeps f.after shell program (begun_substitution wants pending f.aside) f.child e (own_forks shell e s None true false true [] p)
+      substitution_keeps (released shell f.child f.after) shell program (begun_substitution wants pending f.aside) f.child e
+      (subst (P f.child) (sym (released_is shell f.child f.after)) (own_forks shell e s None true (own_settings shell) false true [] p))
 
   expanded_keeps : (s : KernelState) (shell : Shell) (x : Expanded) → shell.pid ≡ pid → P None s → Leaves (expanded_by s shell x)
   expanded_keeps s shell (expanded.Need program wants pending) e p = substitute_keeps s shell program wants pending e p
@@ -558,6 +669,8 @@ module _ (directory : List ℕ) (pid : ℕ) (P : Option ℕ → KernelState → 
   -- ---- the turn
   place_keeps : (around : List Form) (s : KernelState) (shell : Shell) (place : Action) → shell.pid ≡ pid → shell.vars.directory ≡ directory → P None s → Leaves (act_place around s shell place)
   place_keeps around s shell (Reading rest status) e d p = (e, p)
+  place_keeps around s shell (Prompting text) e d p = prompt_keeps directory pid (P None) (kept None) s shell text e p
+  place_keeps around s shell (ReadInput text) e d p = read_input_keeps directory pid (P None) (kept None) s shell text e p
   place_keeps around s shell (Expanding wants pending) e d p =
       let t = expand_turn s.machine.files shell.vars shell.functions wants pending in expanded_keeps s (record shell { vars = t.environment }) t.outcome e p
   place_keeps around s shell (ReadSubstitution substitution) e d p = collect_keeps directory pid (P None) (kept None) s shell substitution e p
@@ -603,6 +716,30 @@ module _ (directory : List ℕ) (pid : ℕ) (P : Option ℕ → KernelState → 
       let t = reduce s shell (form ∷ around) run in
       after_keeps directory pid (P (made_number t.child)) (kept (made_number t.child)) around form t.left (reduce_keeps s shell (form ∷ around) run e d p)
 
+  -- ---- INT may have an interactive shell drop what it does before
+  drop_by_keeps : (b : Bool) (s : KernelState) (shell : Shell) (around : List Form) (place : Action) → shell.pid ≡ pid → P None s
+      → Keeps directory pid (P None) (kept None)
+      (if b then rooted (at_action [] (after_drop s shell) shell (run_in around (dropped_run place))) else with_run s shell (run_of around (Next place)))
+  unfolding after_drop
+  drop_by_keeps true s shell around place e p =
+      let set = own directory pid (P None) (kept None) shell e s (SetAction signal.Interrupt does.Default) tt p in
+      settled_keeps directory pid (P None) (kept None) [] (after_drop s shell) shell (run_in around (dropped_run place)) e
+      (own directory pid (P None) (kept None) shell e (after_set_action s shell.pid signal.Interrupt does.Default) (SetAction signal.Interrupt does.Caught) tt set)
+  drop_by_keeps false s shell around place e p = (e, p)
+
+  drop_keeps : (s : KernelState) (shell : Shell) (around : List Form) (active : Active) → shell.pid ≡ pid → P None s → Keeps directory pid (P None) (kept None) (drop_first s shell around active)
+  unfolding drop_at
+  drop_keeps s shell around (Next place) e p = drop_by_keeps (drops_before s shell place) s shell around place e p
+  drop_keeps s shell around (Acting b fields) e p = (e, p)
+  drop_keeps s shell around (Calling body fields) e p = (e, p)
+  drop_keeps s shell around (Evaluating how text) e p = (e, p)
+  drop_keeps s shell around (Done status) e p = (e, p)
+  drop_keeps s shell around (Leaving leave) e p = (e, p)
+
   pub shell_keeps : (s : KernelState) (interpreter : InterpreterState) → interpreter.shell.pid ≡ pid → interpreter.shell.vars.directory ≡ directory → P None s → Leaves (shell_turn s interpreter)
   unfolding shell_turn
-  shell_keeps s interpreter e d p = reduce_keeps s interpreter.shell [] interpreter.run e d p
+  shell_keeps s interpreter e d p =
+      let around = path_of interpreter.run in
+      let a = drop_first s interpreter.shell around (active_of interpreter.run) in
+      let k = drop_keeps s interpreter.shell around (active_of interpreter.run) e p in
+      reduce_keeps a.machine a.shell [] a.run k.0 (drop_directory s interpreter.shell around (active_of interpreter.run) ∙ d) k.1

@@ -12,16 +12,16 @@ use Rattle.sh_exec_command.specs.declared.found.Found.TheVariants as found
 use Rattle.sh_exec_actions.specs.declared.action.Active.{Active}
 use Rattle.sh_exec_actions.specs.declared.action.Active.TheVariants.{Acting, Calling, Evaluating, Next, Done, Leaving}
 use Rattle.sh_exec_actions.specs.declared.action.Action.{Action}
-use Rattle.sh_exec_actions.specs.declared.action.Action.TheVariants.{Reading, Expanding, ReadSubstitution, WaitSubstitution, ReadLine, Awaiting, SendSignal, ContinueJob, WaitForJob, Redirecting, Forking, Starting, ForkStage, ForkList, AssignLoopVariable, Defining, Waiting, Writing, Trapping, Ending}
+use Rattle.sh_exec_actions.specs.declared.action.Action.TheVariants.{Reading, Prompting, ReadInput, Expanding, ReadSubstitution, WaitSubstitution, ReadLine, Awaiting, SendSignal, ContinueJob, WaitForJob, Redirecting, Forking, Starting, ForkStage, ForkList, AssignLoopVariable, Defining, Waiting, Writing, Trapping, Ending}
 use Rattle.sh_exec_actions.specs.declared.action.Role.{Role}
 use Rattle.sh_exec_actions.specs.declared.action.Role.TheVariants.{NoCommandName, Builtin, Function, Program, Exec, Compound, Subshell}
 use Rattle.sh_exec_actions.specs.declared.action.CaseBranch.{CaseBranch}
 use Rattle.sh_exec_actions.specs.declared.action.ToExpand.{ToExpand}
 use Rattle.sh_exec_actions.specs.declared.action.ToExpand.TheVariants.{Words, Values, Redirects, ForWords, CaseWord, CasePattern}
 use Rattle.sh_exec_forms.specs.Forms.{Acted}
-use Rattle.sh_exec_forms.specs.Running.{InterpreterState, Run, At, In, active_of}
+use Rattle.sh_exec_entering.specs.Running.{InterpreterState, Run, At, In, active_of}
 use Rattle.sh_exec_actions.specs.declared.form.Form.{Form}
-use Rattle.sh_exec_actions.specs.declared.form.Form.TheVariants.{Text, Commands, Joined, Negated, Restoring, If, Condition, Body, ForBody, Call, Evaluation, Trapped, Interruption, FailuresIgnored}
+use Rattle.sh_exec_actions.specs.declared.form.Form.TheVariants.{Text, Input, Commands, Joined, Negated, Restoring, If, Condition, Body, ForBody, Call, Evaluation, Trapped, Interruption, FailuresIgnored}
 use Rattle.sh_exec_actions.specs.declared.form.Loop.{Loop}
 use Rattle.sh_exec_parts.specs.declared.simple.Assignment.{Assignment}
 use Rattle.sh_expand.specs.Parts.{parts_of}
@@ -80,6 +80,8 @@ WantsHold (CasePattern case) = BranchesHold case.branches
 -- a process is made for a program alone
 abbrev pub PlaceHolds : Action → Type 0
 PlaceHolds (Reading rest status) = Unit {0}
+PlaceHolds (Prompting text) = Unit {0}
+PlaceHolds (ReadInput text) = Unit {0}
 PlaceHolds (Expanding wants pending) = WantsHold wants
 PlaceHolds (ReadSubstitution substitution) = WantsHold substitution.wants
 PlaceHolds (WaitSubstitution substitution) = WantsHold substitution.wants
@@ -106,6 +108,7 @@ LoopHolds loop = ListBegins loop.condition × ListBegins loop.body
 
 abbrev pub FormHolds : Form → Type 0
 FormHolds (Text rest) = Unit {0}
+FormHolds (Input rest) = Unit {0}
 FormHolds (Commands items) = ItemsBegin items
 FormHolds (Joined others) = ConnectedBegin others
 FormHolds Negated = Unit {0}
@@ -164,4 +167,4 @@ TasksStand (task ∷ tasks) = TaskStands task × TasksStand tasks
 abbrev pub FoundBegins : Found → Type 0
 FoundBegins found.Nothing = Unit {0}
 FoundBegins (found.Command tree rest) = ItemsBegin (view.out-CompoundList tree).items
-FoundBegins (found.Fault refusal) = Unit {0}
+FoundBegins (found.Fault refusal rest) = Unit {0}

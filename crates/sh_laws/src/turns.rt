@@ -3,7 +3,7 @@ ghost use Rattle.std.specs.Prelude.{◌≡◌, ℕ, ◌<◌, List};
 ghost use Rattle.sh_exec.specs.Turns.{turn};
 ghost use Rattle.sh_exec.specs.Tasks.{pid_of};
 ghost use Rattle.sh_exec.specs.declared.task.Task.{Task};
-ghost use Rattle.sh_exec_forms.specs.Running.{InterpreterState};
+ghost use Rattle.sh_exec_entering.specs.Running.{InterpreterState};
 ghost use Rattle.sh_exec_shell.specs.Reduction.{shell_turn};
 ghost use Rattle.sh_files.specs.Nodes.{FileMap};
 ghost use Rattle.sh_laws.specs.BeforeAction.{ActedStands, AreBeforeActions, ChildStands, HaveActions, InterpreterStands, IsBeforeAction, MadeStands, TaskStands, TasksStand};

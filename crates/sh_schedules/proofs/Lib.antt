@@ -3,6 +3,9 @@ pub mod Shards
 pub mod Sharing
 pub mod Orders
 pub mod Tally
+pub mod Joining
+pub mod Merging
+pub mod Agreeing
 pub mod Looking
 pub mod Walk
 pub mod Runs

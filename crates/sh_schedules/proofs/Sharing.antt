@@ -14,10 +14,10 @@ count_is : (before last : ℕ) → before ≤ last → before + (last - before) 
 count_is before last h = omega arith
 
 -- to which shard a number is dealt
-dealt_is : (key before last : ℕ) → before ≤ last → is_dealt (shard_at before last) key ≡ nat_eq (key % suc last) before
+pub dealt_is : (key before last : ℕ) → before ≤ last → is_dealt (shard_at before last) key ≡ nat_eq (key % suc last) before
 dealt_is key before last h = ap (λ (count : ℕ). nat_eq (key % count) before) (count_is before last h)
 
-same_number : (n : ℕ) (b : Bool) → nat_eq n n ≡ b → b ≡ true
+pub same_number : (n : ℕ) (b : Bool) → nat_eq n n ≡ b → b ≡ true
 same_number n true e = refl
 same_number n false e = absurd (eqb-false n n e refl)
 

@@ -98,13 +98,13 @@ least_more w outcome s seen es (d ∷ ds) least lower h below last =
     ((λ same. let at = h.0 same in omega arith), least_more w outcome s seen es ds least lower h.1 below last)
 
 -- no schedule that was tried came to an outcome that is not there
-none_before : {A : Type 0} (w : Machine A) (outcome : A → Outcome) (s : A) (seen : Outcome) (found : List Found) (done : List (List Event)) →
+pub none_before : {A : Type 0} (w : Machine A) (outcome : A → Outcome) (s : A) (seen : Outcome) (found : List Found) (done : List (List Event)) →
     AreShown w outcome s found done → (Shows found seen → ⊥) → IsNumber w outcome s seen done 0
 none_before w outcome s seen found [] shown absent = refl
 none_before w outcome s seen found (d ∷ ds) shown absent =
     inl ((λ same. absent (subst (λ (o : Outcome). Shows found o) same shown.0)), none_before w outcome s seen found ds shown.1 absent)
 
-least_before : {A : Type 0} (w : Machine A) (outcome : A → Outcome) (s : A) (seen : Outcome) (least : ℕ) (found : List Found) (done : List (List Event)) →
+pub least_before : {A : Type 0} (w : Machine A) (outcome : A → Outcome) (s : A) (seen : Outcome) (least : ℕ) (found : List Found) (done : List (List Event)) →
     AreShown w outcome s found done → (Shows found seen → ⊥) → HaveAtLeast w outcome s seen least done
 least_before w outcome s seen least found [] shown absent = tt
 least_before w outcome s seen least found (d ∷ ds) shown absent =

@@ -39,6 +39,16 @@ Joined [] one new = new ≡ one ∷ []
 Joined (f ∷ fs) one [] = ⊥
 Joined (f ∷ fs) one (g ∷ gs) = ((f.outcome ≡ one.outcome) × IsSum f one g × (gs ≡ fs)) ⊎ ((f.outcome ≢ one.outcome) × (g ≡ f) × Joined fs one gs)
 
+-- each of those that were found elsewhere is added in turn
+abbrev pub JoinedAll : List Found → List Found → List Found → Type 0
+JoinedAll found [] new = new ≡ found
+JoinedAll found (one ∷ others) new = (between : List Found) × Joined found one between × JoinedAll between others new
+
+-- what was found in shards with so many before them is added, one shard after another
+abbrev pub JoinedInTurn : (ℕ → List Found) → List ℕ → List Found → List Found → Type 0
+JoinedInTurn found [] old new = new ≡ old
+JoinedInTurn found (before ∷ order) old new = (between : List Found) × JoinedAll old (found before) between × JoinedInTurn found order between new
+
 -- one of them has this outcome
 abbrev pub Shows : List Found → Outcome → Type 0
 Shows [] outcome = ⊥

@@ -1,9 +1,9 @@
 -- The parts into which the schedules of a script are shared out, so that several runs try them: each schedule is in one of them.
-use Rattle.std.specs.Prelude.{◌≡◌, ℕ, zero, suc, ◌+◌, ◌-◌, ◌*◌, ◌%◌, List, [], ◌∷◌, length, Bool, true, false, Option, Some, None, if◌then◌else◌, nat_eq}
+use Rattle.std.specs.Prelude.{◌≡◌, ℕ, zero, suc, ◌+◌, ◌-◌, ◌*◌, ◌%◌, ◌≤◌, List, [], ◌∷◌, length, Bool, true, false, Option, Some, None, if◌then◌else◌, nat_eq}
 use Rattle.sh_exec.specs.declared.event.Event.{Event}
 use Rattle.sh_exec.specs.declared.event.Event.TheVariants.{Run, Next, Key}
 use Rattle.sh_schedules.specs.Schedules.{Machine, last_place}
-use Rattle.sh_schedules.specs.Choices.{schedules}
+use Rattle.sh_schedules.specs.Choices.{AreApart, In, schedules}
 use Rattle.sh_schedules.specs.declared.shard.Mark.{Mark}
 use Rattle.sh_schedules.specs.declared.shard.Shard.{Shard}
 
@@ -80,3 +80,9 @@ shard_at before last = record { before = before; behind = last - before }
 abbrev pub numbers_up_to : (ℕ → ℕ) → ℕ → ℕ
 numbers_up_to number zero = number 0
 numbers_up_to number (suc last) = number (suc last) + numbers_up_to number last
+
+-- each of so many shards and one more is there once, by how many are before it
+pub record AreAllShards (last : ℕ) (order : List ℕ) : Type 0 where
+  pub all : (before : ℕ) → before ≤ last → In order before
+  pub only : (before : ℕ) → In order before → before ≤ last
+  pub once : AreApart order

@@ -30,6 +30,7 @@ fn source_copy(alloc: Global, source: &Source) -> Result<Source, NoMemory>
     match source {
         Source::Text(text) => Ok(Source::Text(text_copy(alloc, text)?)),
         Source::Script(path) => Ok(Source::Script(text_copy(alloc, path)?)),
+        Source::Terminal => Ok(Source::Terminal),
     }
 }
 

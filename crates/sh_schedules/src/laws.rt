@@ -1,12 +1,16 @@
 //! Laws of schedules.
-ghost use Rattle.std.specs.Prelude.{◌≡◌, ◌≤◌, ℕ, List, length};
+ghost use Rattle.std.specs.Prelude.{◌≡◌, ◌+◌, ◌<◌, ◌≤◌, ◌^◌, ℕ, List, [], ◌++◌, length, true};
 ghost use Rattle.sh_exec.specs.State.{State, run};
 ghost use Rattle.sh_exec.specs.declared.event.Event.{Event};
 ghost use Rattle.sh_schedules.specs.Schedules.{IsSchedule, end_of};
 ghost use Rattle.sh_schedules.specs.Choices.{AreApart, In, schedules};
+ghost use Rattle.sh_schedules.specs.Found.{IsTally, JoinedAll, JoinedInTurn, Shows};
 ghost use Rattle.sh_schedules.specs.Parting.{DifferentSchedulesPart};
-ghost use Rattle.sh_schedules.specs.Shards.{numbers_up_to, shard_at, shard_of};
-ghost use Rattle.sh_schedules.specs.Shell.{shell};
+ghost use Rattle.sh_schedules.specs.Shards.{AreAllShards, numbers_up_to, shard_at, shard_of};
+ghost use Rattle.sh_schedules.specs.Shell.{outcome_of, shell};
+ghost use Rattle.sh_schedules.specs.Trying.{IsExploration, IsShardExploration};
+ghost use Rattle.sh_schedules.specs.declared.found.Found.{Found};
+ghost use Rattle.sh_schedules.specs.declared.outcome.Outcome.{Outcome};
 
 use sh_stock::Stock;
 
@@ -36,6 +40,39 @@ pub fn shards_share_out<S: Stock>()
     ensures number { (k n last : ℕ) (s : State S)
         → numbers_up_to (λ before. length (shard_of (shell S.meaning) (shard_at before last) k n s)) last
         ≡ length (schedules (shell S.meaning) k n s) }
+{}
+
+/// Law: what was found in two parts of the schedules, joined, is what is found in both together. Where just these schedules were counted in the
+/// one and just those in the other, just the schedules of both are counted in what comes of joining: each outcome of the one or the other is
+/// there once, with as many schedules as come to it in both, and with one of them that has the fewest preemptions.
+pub fn joins_are_tallies<S: Stock>()
+    ensures { (k n : ℕ) (s : State S) (done others : List (List Event)) (found ones new : List Found)
+        → IsTally (shell S.meaning) outcome_of k n s done found → IsTally (shell S.meaning) outcome_of k n s others ones
+        → length done + length others < 2 ^ 64 → JoinedAll found ones new
+        → IsTally (shell S.meaning) outcome_of k n s (done ++ others) new }
+{}
+
+/// Law: what was found in all shards, each explored whole, and then joined in any order, is a whole exploration, as `explore` gives it: each
+/// schedule comes to one of the outcomes, no outcome is there twice, the counts are those of all schedules, and of those that come to an outcome
+/// none has fewer preemptions than the one that is kept. So (`whole_explorations_agree`) it is what one run finds, up to the order of the
+/// outcomes, and up to which schedule of an outcome is kept among those with the fewest preemptions.
+pub fn merged_shards_are_an_exploration<S: Stock>()
+    ensures { (k n last : ℕ) (s : State S) (found : ℕ → List Found) (tried : ℕ → ℕ) (order : List ℕ) (new : List Found)
+        → ((before : ℕ) → before ≤ last
+        → IsShardExploration (shell S.meaning) outcome_of k n s (shard_at before last) (found before) (tried before) true)
+        → AreAllShards last order → length (schedules (shell S.meaning) k n s) < 2 ^ 64 → JoinedInTurn found order [] new
+        → IsExploration (shell S.meaning) outcome_of k n s new (length (schedules (shell S.meaning) k n s)) true }
+{}
+
+/// Law: two whole explorations of a script with the same bounds find the same: the same outcomes, and for each as many schedules, and the same
+/// fewest preemptions.
+pub fn whole_explorations_agree<S: Stock>()
+    ensures outcomes { (k n : ℕ) (s : State S) (found new : List Found) (tried more : ℕ) (seen : Outcome)
+        → IsExploration (shell S.meaning) outcome_of k n s found tried true → IsExploration (shell S.meaning) outcome_of k n s new more true
+        → Shows found seen → Shows new seen }
+    ensures numbers { (k n : ℕ) (s : State S) (found new : List Found) (tried more : ℕ) (f g : Found)
+        → IsExploration (shell S.meaning) outcome_of k n s found tried true → IsExploration (shell S.meaning) outcome_of k n s new more true
+        → In found f → In new g → f.outcome ≡ g.outcome → (f.schedules ≡ g.schedules) × (f.preemptions ≡ g.preemptions) }
 {}
 
 /// Law: two different schedules of a script, with at most so many turns, part at a turn that each of them gives to a process.

@@ -1,14 +1,14 @@
 //! A world: processes over a kernel, moved by events.
 ghost use Rattle.std.specs.Prelude.{◌≡◌, ℕ, ◌<◌, List, false, OnOk, OnErr, IsErr, IfOk, Option, Some, None, length, take, option_copied, option_map};
-ghost use Rattle.sh_kernel.specs.State.{KernelState, StandsAt};
+ghost use Rattle.sh_kernel.specs.State.{KernelState, StandsAt, starting};
 ghost use Rattle.sh_tty.specs.Terminal.{Extends};
 ghost use Rattle.std.specs.Option.{option_and_then, option_map_or, unwrap_or};
 ghost use Rattle.sh_exec.specs.Choice.{choice};
-ghost use Rattle.sh_exec.specs.TurnActions.{takes_trap};
+ghost use Rattle.sh_exec.specs.TurnActions.{drops, takes_trap};
 ghost use Rattle.sh_world.specs.World.{IsSpent, PartsStand, WorldKept, WorldStands, shown_of};
-ghost use Rattle.sh_exec.specs.Tasks.{first_jobs};
+ghost use Rattle.sh_exec.specs.Tasks.{first_jobs, with_signals_of};
 ghost use Rattle.sh_jobs.specs.Moments.{brought_up};
-ghost use Rattle.sh_exec.specs.State.{State, after_turn, chosen_turn, end_of, ended_of, files_of, job_lines_of, jobs_of, lines_of, run, runnables, start, status_of, step, task_of, terminal_of, turn_of, typed};
+ghost use Rattle.sh_exec.specs.State.{State, after_turn, chosen_turn, end_of, ended_of, files_of, job_lines_of, jobs_of, lines_of, run, runnables, start, start_of, status_of, step, task_of, terminal_of, turn_of, typed};
 
 use crate::choice::choose;
 use crate::tasks::{is_living, keep_living, put_child, runnable_pids, task_among, turn_among};
@@ -43,7 +43,7 @@ impl<S: Stock> Model for World<S> {
     ghost use Rattle.std.specs.Coded.{codes};
     ghost use Rattle.sh_files_image.specs.Codes as paths;
     ghost use Rattle.sh_vars.specs.Codes as variables;
-    ghost use Rattle.sh_exec_forms.specs.Codes.{run_code};
+    ghost use Rattle.sh_exec_entering.specs.Codes.{run_code};
     ghost use Rattle.sh_syntax.specs.contracts.tree.Command as command_row;
     ghost use Rattle.sh_world.specs.World.{WorldKept};
 
@@ -190,14 +190,33 @@ fn lines_now(alloc: Global, kernel: &Kernel, jobs: &Jobs) -> Result<Text, NoMemo
     Ok(lines)
 }
 
+/// The kernel before the first event, in which the first process has set its signals.
+fn kernel_at_start<S: Stock>(
+    alloc: Global,
+    image: Files,
+    task: &Task<S>,
+) -> Result<Kernel, NoMemory>
+    ensures { IfOk result (λ kernel. StandsAt kernel (with_signals_of (starting image) task.now)) }
+{
+    let mut kernel = Kernel::new(alloc, image)?;
+    task.set_signals(&mut kernel);
+    Ok(kernel)
+}
+
 impl<S: Stock> World<S> {
-    /// The world before the first event. The only error is want of memory.
-    pub fn new(alloc: Global, image: Files, settings: Settings) -> Result<Self, NoMemory>
-        ensures { IfOk result (λ world. WorldStands world (start image settings)) }
+    /// The world of a kernel and its first process.
+    fn at_start(alloc: Global, kernel: Kernel, task: Task<S>) -> Result<Self, NoMemory>
+        ensures { (s : KernelState) → StandsAt kernel (with_signals_of s task)
+            → IfOk result (λ world. WorldStands world (start_of s task)) }
     {
         let mut tasks = Vec::new(alloc);
-        tasks.push(Task::new(alloc, &image, settings)?)?;
-        let kernel = Kernel::new(alloc, image)?;
+        match tasks.push(task) {
+            Ok(()) => {},
+            Err(error) => {
+                drop(kernel);
+                return Err(NoMemory::from(error));
+            },
+        }
         let shown = kernel.terminal().len();
         Ok(World {
             alloc,
@@ -208,6 +227,20 @@ impl<S: Stock> World<S> {
             shown,
             lack: None,
         })
+    }
+
+    /// The world before the first event. The only error is want of memory.
+    pub fn new(alloc: Global, image: Files, settings: Settings) -> Result<Self, NoMemory>
+        ensures { IfOk result (λ world. WorldStands world (start image settings)) }
+    {
+        let task = Task::new(alloc, &image, settings)?;
+        match kernel_at_start(alloc, image, &task) {
+            Ok(kernel) => World::at_start(alloc, kernel, task),
+            Err(lack) => {
+                drop(task);
+                Err(lack)
+            },
+        }
     }
 
     /// Whether memory was wanting.
@@ -394,6 +427,19 @@ impl<S: Stock> World<S> {
     {
         match self.task(pid) {
             Some(task) => task.takes_trap(&self.kernel),
+            None => false,
+        }
+    }
+
+    /// Whether INT has the shell of this number drop what it does as its next turn begins (XCU sh, "ASYNCHRONOUS EVENTS"); false where no such process
+    /// lives. Takes no memory.
+    pub fn drops(&self, pid: u32) -> bool
+        ensures view { (s : State S) → WorldStands self.now s
+            → result ≡ option_map_or (drops s.machine) (task_of s pid) false }
+        ensures spent { IsSpent self.now → result ≡ false }
+    {
+        match self.task(pid) {
+            Some(task) => task.drops(&self.kernel),
             None => false,
         }
     }

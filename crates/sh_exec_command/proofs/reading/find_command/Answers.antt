@@ -1,8 +1,9 @@
 use Rattle.std.proofs.Common.{◌<◌, ◌∙◌, ap, sym, arith}
 use Rattle.sh_exec_command.specs.Reading.{next_command}
 use Rattle.sh_exec_command.specs.declared.found.Answer.TheVariants as answer
-use Rattle.sh_exec_command.specs.declared.found.Found.TheVariants.{Command}
-use Rattle.sh_exec_command.proofs.Finding.{by_command, by_fault, by_nothing, by_blank, not_empty, told_of}
+use Rattle.sh_exec_command.specs.declared.found.Found.TheVariants.{Command, Fault}
+use Rattle.sh_exec_parts.specs.declared.message.Refusal.TheVariants as refusal
+use Rattle.sh_exec_command.proofs.Finding.{by_command, by_fault, by_nothing, by_blank, by_unclosed, not_empty, told_of}
 use Rattle.sh_exec_command.proofs.reading.find_command.Goals as goal
 
 pub returns-then-used-eq0 : goal.returns-then-used-eq0
@@ -22,7 +23,13 @@ pub returns-in-Fault : goal.returns-in-Fault
 returns-in-Fault c =
     let some = not_empty c.lines.rest _ c.as_slice.ensures (sym c.is_empty.ensures ∙ c.lines-test.true) in
     let told = told_of c.lines.rest _ _ _ c.as_slice-in-lines.ensures c.in_ok-tree.ensures c.in-Fault.is in
-    by_fault c.lines.rest some c.in-Fault.refusal told ∙ sym c.lines.invariant
+    ap (Fault c.in-Fault.refusal) c.skip-in-Fault.ensures ∙ by_fault c.lines.rest some c.in-Fault.refusal c.in-Fault.used told ∙ sym c.lines.invariant
+
+pub returns-in-Unclosed : goal.returns-in-Unclosed
+returns-in-Unclosed c =
+    let some = not_empty c.lines.rest _ c.as_slice.ensures (sym c.is_empty.ensures ∙ c.lines-test.true) in
+    let told = told_of c.lines.rest _ _ _ c.as_slice-in-lines.ensures c.in_ok-tree.ensures c.in-Unclosed.is in
+    ap (Fault refusal.Syntax) (c.new-in-Unclosed.ensures ∙ c.new.ensures) ∙ by_unclosed c.lines.rest some told ∙ sym c.lines.invariant
 
 pub returns-in-Command : goal.returns-in-Command
 returns-in-Command c =

@@ -1,7 +1,7 @@
 use Rattle.std.proofs.Common.{ap, subst, ◌∙◌}
 use Rattle.sh_exec_forms.specs.Builtins.{effect_at, machine_at}
 use Rattle.sh_exec_forms.specs.Forms.{HasPerformed, within}
-use Rattle.sh_exec_forms.specs.Stacks.{run_of}
+use Rattle.sh_exec_entering.specs.Stacks.{run_of}
 use Rattle.sh_exec_forms.proofs.Outward.{performed_inward, performed_outward}
 use Rattle.sh_exec_forms.proofs.forms.settle.Goals as goal
 use Rattle.sh_vars.specs.declared.shell_options.Options.{Options}

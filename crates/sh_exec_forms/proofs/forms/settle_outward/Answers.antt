@@ -1,7 +1,7 @@
 use Rattle.std.proofs.Common.{rules, subst}
 use Rattle.sh_exec_forms.proofs.Outward.{onward}
 use Rattle.sh_exec_forms.specs.Forms.{IsOnWay, outward, with_run}
-use Rattle.sh_exec_forms.specs.Running.{At}
+use Rattle.sh_exec_entering.specs.Running.{At}
 use Rattle.sh_exec_forms.proofs.forms.settle_outward.Goals as goal
 
 pub outward-preserved : goal.outward-preserved

@@ -1,7 +1,7 @@
 use Rattle.std.proofs.Common.{◌≡◌, length}
 use Rattle.sh_exec_forms.specs.Forms.{IsOnWay, outward, with_run}
-use Rattle.sh_exec_forms.specs.Running.{At}
-use Rattle.sh_exec_forms.specs.declared.step.Step.TheVariants.{Outward}
+use Rattle.sh_exec_entering.specs.Running.{At}
+use Rattle.sh_exec_entering.specs.declared.step.Step.TheVariants.{Outward}
 use Rattle.sh_kernel.specs.State.{KernelState, StandsAt}
 use Rattle.sh_exec_forms.proofs.forms.settle_outward.Given as goal
 
