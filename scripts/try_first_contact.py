@@ -66,6 +66,8 @@ def command_lines(copy, room):
     os.makedirs(elsewhere)
     for name in ("pipeline.image", "shared.image", "one-after-another.events"):
         shutil.copy(f"{examples}/{name}", elsewhere)
+    with open(f"{elsewhere}/typed.events", "w", encoding="utf-8") as it:
+        it.write("next 9\ntype echo $0\nkey 0a\nnext 20\n")
     os.symlink(psh, f"{room}/link")
     count = "cat <in | having pl | count"
     files = ["pipeline.image", "one-after-another.events"]
@@ -78,7 +80,8 @@ def command_lines(copy, room):
         ("a path upward", elsewhere, [psh, "-c", FIRST, "../copy/examples/empty.image", f"{examples}/eight.events"], 0, b"a  b\n1 0\n", b""),
         ("a script of the image", elsewhere, [psh, "shared.image", "one-after-another.events", "/two"], 0, b"one\nand two\n", b""),
         ("a usage", copy, ["./psh", "-c"], 2, b"", b"error: "),
-        ("no script", elsewhere, [psh, *files], 2, b"", b"error: "),
+        ("no script: typed lines", elsewhere, [psh, files[0], "typed.events"], 0, b"$ echo $0\npsh\n$ ", b""),
+        ("no image", elsewhere, [psh, "one-after-another.events"], 2, b"", b"error: "),
         ("a bad image", elsewhere, [psh, "-c", "x", "one-after-another.events", files[1]], 1, b"", b"psh: BadHeader: line 1\n"),
         ("bad events", elsewhere, [psh, "-c", "x", files[0], "pipeline.image"], 1, b"", b"psh: BadEvent: line 1\n"),
         ("a file that isn't there", elsewhere, [psh, "-c", "x", "none", files[1]], 4, b"", b"psh: "),
