@@ -1,0 +1,4 @@
+pub mod Asked
+pub mod Replacing
+pub mod Meeting
+pub mod Elsewhere
