@@ -14,8 +14,10 @@ OPERATORS = ['Semicolon', 'And', 'AndIf', 'OrIf', 'Pipe', 'LeftParenthesis', 'Ri
 RESERVED = ['Bang', 'LeftBrace', 'RightBrace', 'If', 'Then', 'Elif', 'Else', 'Fi', 'While', 'Until', 'Do', 'Done',
             'For', 'In', 'Case', 'Esac']
 WORDS = ['Name', 'SpecialName', 'Assignment', 'Other']
+# No token is of this class. Only the first word of a simple command matches it.
+MARKER = 'CommandName'
 END = 'End'
-ALL = OPERATORS + RESERVED + WORDS + [END]
+ALL = OPERATORS + RESERVED + WORDS + [MARKER, END]
 RESERVED_NAMES = [r for r in RESERVED if r not in ('Bang', 'LeftBrace', 'RightBrace')]
 
 # the terminals, each a set of classes
@@ -23,13 +25,13 @@ TERMINALS = {c: [c] for c in OPERATORS + RESERVED}
 TERMINALS['any_word'] = RESERVED + WORDS
 TERMINALS['function_name'] = ['Name']
 TERMINALS['variable_name'] = ['Name', 'SpecialName'] + RESERVED_NAMES
-TERMINALS['other_word'] = ['SpecialName', 'Other']
-TERMINALS['command_word'] = RESERVED + ['Name', 'SpecialName', 'Other']
+TERMINALS['other_word'] = ['SpecialName', 'Other', MARKER]
+TERMINALS['command_word'] = RESERVED + ['Name', 'SpecialName', 'Other', MARKER]
 TERMINALS['assignment'] = ['Assignment']
 TERMINALS['pattern_word'] = [c for c in RESERVED + WORDS if c != 'Esac']
 TERMINALS['loop'] = ['While', 'Until']
 
-NO_WORD = [c for c in ALL if c not in RESERVED + WORDS]
+NO_WORD = [c for c in ALL if c not in RESERVED + WORDS + [MARKER]]
 
 # a body that begins with '~' is used only where no word comes next
 GRAMMAR = '''

@@ -1,6 +1,9 @@
 -- The built-in `command` (XCU command): the words of the command that it runs, and `-v`, which tells how the shell would run a name.
 use Rattle.std.specs.Option.{is_some}
 use Rattle.std.specs.Prelude.{ℕ, List, [], ◌∷◌, ◌++◌, ◌&&◌, ◌||◌, Bool, Option, Some, None, codes, if◌then◌else◌, nat_le, option_map}
+use Rattle.sh_aliases.specs.Aliases.{alias_named}
+use Rattle.sh_aliases.specs.declared.alias.Alias.{Alias}
+use Rattle.sh_builtin.specs.Aliases.{definition}
 use Rattle.sh_builtin_outcome.specs.Builtins.{builtin_of, is_named, name_of}
 use Rattle.sh_builtin_shell.specs.Functions.{Named, body_of}
 use Rattle.sh_builtin_outcome.specs.Outcomes.{done, misuse, output}
@@ -48,17 +51,29 @@ is_reserved_number number = nat_le (class_number Bang) number && nat_le number (
 abbrev pub is_reserved : List ℕ → Bool
 is_reserved name = is_reserved_number (class_number (class_of_text name))
 
--- a reserved word, a function and a built-in are told by their name
+-- a function and a built-in are told by their name
 abbrev pub is_own : Shell → List ℕ → Bool
-is_own shell name = is_reserved name || (is_some (body_of shell.functions name) || is_some (builtin_of name))
+is_own shell name = is_some (body_of shell.functions name) || is_some (builtin_of name)
 
 -- a program is told by its path from the root
 abbrev pub program_path : FileMap → Shell → List ℕ → Option (List ℕ)
 program_path files shell name =
     option_map (absolute shell.vars.directory) (executable_path files shell.vars.directory (value_of shell.vars (codes "PATH")) name)
 
+abbrev pub command_found : FileMap → Shell → List ℕ → Option (List ℕ)
+command_found files shell name = if is_own shell name then Some name else program_path files shell name
+
+-- an alias by the command that defines it; a reserved word, which no alias hides, by its name
+abbrev pub alias_text : Alias → List ℕ
+alias_text alias = codes "alias " ++ definition alias
+
+abbrev pub description_by : FileMap → Shell → List ℕ → Option Alias → Option (List ℕ)
+description_by files shell name None = command_found files shell name
+description_by files shell name (Some alias) = Some (alias_text alias)
+
 abbrev pub description : FileMap → Shell → List ℕ → Option (List ℕ)
-description files shell name = if is_own shell name then Some name else program_path files shell name
+description files shell name =
+    if is_reserved name then Some name else description_by files shell name (alias_named shell.aliases name)
 
 -- what isn't found is 1, without a message
 abbrev pub told : Option (List ℕ) → Outcome

@@ -1,3 +1,4 @@
+pub mod Aliases
 pub mod Commands
 pub mod Invocations
 pub mod Loops

@@ -1,12 +1,13 @@
 -- What each built-in does with its arguments.
 use Rattle.std.specs.Prelude.{ℕ, List, [], ◌∷◌, ◌++◌, Bool, true, false, not, Option, Some, None, Result, Ok, Err, codes, nat_le, if◌then◌else◌}
 use Rattle.std.specs.List.{join_with_byte}
+use Rattle.sh_builtin.specs.Aliases.{AliasesRan, alias_ran, unalias_ran}
 use Rattle.sh_builtin.specs.Commands.{command_outcome}
 use Rattle.sh_builtin_shell.specs.Functions.{unset_by}
 use Rattle.sh_builtin.specs.Loops.{leave_with, loop_with, operands_of}
 use Rattle.sh_builtin_outcome.specs.Outcomes.{continuing, done, misuse, killing, outcome_of, output, reading, refusal, refused_with, running, saying, waiting, with_signals}
 use Rattle.sh_builtin_outcome.specs.declared.builtin.Builtin.{Builtin}
-use Rattle.sh_builtin_outcome.specs.declared.builtin.Builtin.TheVariants.{Bg, Bracket, Break, Cd, Colon, Command, Continue, Dot, Echo, Eval, Exec, Exit, Export, False, Fg, Jobs, Kill, Pwd, Read, ReadOnly, Return, Set, Shift, Test, Trap, True, Unset, Wait}
+use Rattle.sh_builtin_outcome.specs.declared.builtin.Builtin.TheVariants.{Alias, Bg, Bracket, Break, Cd, Colon, Command, Continue, Dot, Echo, Eval, Exec, Exit, Export, False, Fg, Jobs, Kill, Pwd, Read, ReadOnly, Return, Set, Shift, Test, Trap, True, Unalias, Unset, Wait}
 use Rattle.sh_builtin_outcome.specs.declared.outcome.Continuation.TheVariants.{Background, Foreground}
 use Rattle.sh_builtin_outcome.specs.declared.outcome.Leave.TheVariants as leave
 use Rattle.sh_builtin_outcome.specs.declared.outcome.Outcome.{Outcome}
@@ -91,6 +92,10 @@ option_set shell r = with_outcome (with_vars shell r.environment) (with_signals 
 -- of what trap leaves
 abbrev pub trapped : Shell → Trapped → BuiltIn
 trapped shell t = with_outcome (record shell { traps = t.left.traps }) (with_signals (outcome_of Trap t.outcome) t.left.signals)
+
+-- of what alias and unalias leave
+abbrev pub aliased : Shell → AliasesRan → BuiltIn
+aliased shell r = with_outcome (record shell { aliases = r.aliases }) r.outcome
 
 -- ---- unset -f removes functions
 abbrev pub without_functions : Shell → List (List ℕ) → Shell
@@ -227,6 +232,7 @@ bracket_outcome machine shell (Some operands) = test_outcome machine shell Brack
 -- ---- a built-in with its arguments, in a shell's process on this machine; `last` is the status with which exit and return leave where
 -- they have no operand; exec comes here with wrong options alone, and command where it runs no other command
 unfoldable pub built_in : KernelState → Shell → (last : ℕ) → Builtin → List (List ℕ) → BuiltIn
+built_in s shell last Alias arguments = aliased shell (alias_ran shell.aliases (options_and_operands [] arguments))
 built_in s shell last Bg arguments = bg_ran s (up_to_date s shell) arguments
 built_in s shell last Bracket arguments = with_outcome shell (bracket_outcome s.machine shell (bracket_operands arguments))
 built_in s shell last Break arguments = with_outcome shell (loop_with Break leave.Break (operands_of arguments))
@@ -253,5 +259,6 @@ built_in s shell last Shift arguments = ran Shift shell (shift_ran shell.vars ar
 built_in s shell last Test arguments = with_outcome shell (test_outcome s.machine shell Test arguments)
 built_in s shell last Trap arguments = trapped shell (trap_ran shell.fixed shell.traps arguments)
 built_in s shell last True arguments = with_outcome shell (done 0)
+built_in s shell last Unalias arguments = aliased shell (unalias_ran shell.aliases (options_and_operands (codes "a") arguments))
 built_in s shell last Unset arguments = ran Unset (without_functions shell arguments) (unset_ran shell.vars arguments)
 built_in s shell last Wait arguments = wait_ran s (up_to_date s shell) arguments

@@ -1,9 +1,12 @@
 //! The built-in `command` (XCU command).
 ghost use Rattle.std.specs.Prelude.{◌≡◌, IfOk, codes, option_map};
-ghost use Rattle.sh_builtin.specs.Commands.{behind_command, command_outcome, description, is_own, is_reserved, is_reserved_number, last_behind, program_path, told, told_of, words_behind, words_run};
+ghost use Rattle.sh_aliases.specs.Aliases.{alias_named};
+ghost use Rattle.sh_builtin.specs.Commands.{alias_text, behind_command, command_found, command_outcome, description, description_by, is_own, is_reserved, is_reserved_number, last_behind, program_path, told, told_of, words_behind, words_run};
 ghost use Rattle.sh_builtin_environment.specs.Options.{options_and_operands};
 ghost use Rattle.sh_files_image.specs.Paths.{absolute};
 
+use crate::aliases::put_definition;
+use sh_aliases::Alias;
 use sh_base::NoMemory;
 use sh_base::sequence::Text;
 use sh_builtin_environment::parse_options;
@@ -88,11 +91,11 @@ fn is_reserved(name: &[u8]) -> bool
     is_reserved_number(TokenClass::of_text(name).number())
 }
 
-/// Whether a name is one of the shell's own: a reserved word, a function or a built-in.
+/// Whether a name is one of a function or a built-in.
 fn is_own(shell: &Shell, name: &[u8]) -> bool
     ensures { result ≡ is_own shell.now name.now }
 {
-    is_reserved(name) || shell.functions.body(name).is_some() || Builtin::of(name).is_some()
+    shell.functions.body(name).is_some() || Builtin::of(name).is_some()
 }
 
 /// A path from the root.
@@ -118,7 +121,52 @@ fn program_path(
     }
 }
 
-/// How the shell would run a name.
+/// How the shell would run a command of a name.
+fn command_found(
+    alloc: Global,
+    files: &Files,
+    shell: &Shell,
+    name: &[u8],
+) -> Result<Option<Text>, NoMemory>
+    ensures { IfOk result (λ text. text ≡ command_found files.now shell.now name.now) }
+{
+    if is_own(shell, name) {
+        let name = Text::copy_of(alloc, name)?;
+        return Ok(Some(name));
+    }
+    program_path(alloc, files, shell, name)
+}
+
+/// The command that defines an alias.
+fn alias_text(alloc: Global, alias: &Alias) -> Result<Text, NoMemory>
+    ensures { IfOk result (λ text. text ≡ alias_text alias.now) }
+{
+    let mut text = Text::new(alloc);
+    text.extend_from_slice(b"alias ")?;
+    put_definition(&mut text, alias)?;
+    Ok(text)
+}
+
+/// How the shell would take a name that is no reserved word.
+fn unreserved(
+    alloc: Global,
+    files: &Files,
+    shell: &Shell,
+    name: &[u8],
+) -> Result<Option<Text>, NoMemory>
+    ensures { IfOk result (λ text.
+        text ≡ description_by files.now shell.now name.now (alias_named shell.now.aliases name.now)) }
+{
+    match shell.aliases.get(name) {
+        Some(alias) => {
+            let text = alias_text(alloc, alias)?;
+            Ok(Some(text))
+        },
+        None => command_found(alloc, files, shell, name),
+    }
+}
+
+/// How the shell would take a name.
 fn description(
     alloc: Global,
     files: &Files,
@@ -127,11 +175,11 @@ fn description(
 ) -> Result<Option<Text>, NoMemory>
     ensures { IfOk result (λ text. text ≡ description files.now shell.now name.now) }
 {
-    if is_own(shell, name) {
+    if is_reserved(name) {
         let name = Text::copy_of(alloc, name)?;
         return Ok(Some(name));
     }
-    program_path(alloc, files, shell, name)
+    unreserved(alloc, files, shell, name)
 }
 
 /// What is told of a name.

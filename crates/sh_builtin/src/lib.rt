@@ -1,6 +1,7 @@
 //! Built-in utilities (XCU 1.6, 2.15).
 #![tactic(auto)]
 
+mod aliases;
 mod command;
 mod continuing;
 mod dot;

@@ -4,6 +4,7 @@ ghost use Rattle.sh_builtin_outcome.specs.Outcomes.{outcome_of, with_signals};
 ghost use Rattle.sh_builtin.specs.Running.{built_in, echo_outcome, eval_outcome, joined, option_set, switched_signals, with_outcome, without_functions};
 ghost use Rattle.sh_kernel.specs.State.{KernelState, StandsAt};
 
+use crate::aliases::{alias, unalias};
 use crate::command::command;
 use crate::continuing::{bg, fg};
 use crate::dot::dot;
@@ -41,6 +42,7 @@ pub fn run(
         with_outcome shell.new outcome ≡ built_in s shell.old last builtin arguments.now) }
 {
     match builtin {
+        Builtin::Alias => alias(alloc, &mut shell.aliases, arguments),
         Builtin::Bg => bg(alloc, kernel, shell, arguments),
         Builtin::Bracket => bracket(alloc, kernel, shell, arguments),
         Builtin::Break => break_with(alloc, operands_of(arguments)),
@@ -87,6 +89,7 @@ pub fn run(
             trap_outcome(alloc, trapped)
         },
         Builtin::True => Ok(Outcome::done(alloc, 0)),
+        Builtin::Unalias => unalias(alloc, &mut shell.aliases, arguments),
         Builtin::Unset => {
             remove_functions(shell, arguments);
             let answer = unset(alloc, &mut shell.vars, arguments)?;

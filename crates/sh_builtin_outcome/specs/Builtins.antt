@@ -3,7 +3,7 @@ use Rattle.std.specs.Prelude.{ℕ, List, [], ◌∷◌, Bool, true, false, Optio
 use Rattle.std.specs.List.{find}
 use Rattle.std.specs.Str.{bytes_eq}
 use Rattle.sh_builtin_outcome.specs.declared.builtin.Builtin.{Builtin}
-use Rattle.sh_builtin_outcome.specs.declared.builtin.Builtin.TheVariants.{Bg, Bracket, Break, Cd, Colon, Command, Continue, Dot, Echo, Eval, Exec, Exit, Export, False, Fg, Jobs, Kill, Pwd, Read, ReadOnly, Return, Set, Shift, Test, Trap, True, Unset, Wait}
+use Rattle.sh_builtin_outcome.specs.declared.builtin.Builtin.TheVariants.{Alias, Bg, Bracket, Break, Cd, Colon, Command, Continue, Dot, Echo, Eval, Exec, Exit, Export, False, Fg, Jobs, Kill, Pwd, Read, ReadOnly, Return, Set, Shift, Test, Trap, True, Unalias, Unset, Wait}
 use Rattle.sh_builtin_outcome.specs.declared.builtin.Row.{Row}
 
 -- a row of the table: a name, and whether the built-in is special (2.15): then an error in it ends a shell that
@@ -20,6 +20,7 @@ regular name = record { name = name; is_special = false }
 
 -- ---- the table
 abbrev pub row_of : Builtin → Named
+row_of Alias = regular (codes "alias")
 row_of Bg = regular (codes "bg")
 row_of Bracket = regular (codes "[")
 row_of Break = special (codes "break")
@@ -46,12 +47,13 @@ row_of Shift = special (codes "shift")
 row_of Test = regular (codes "test")
 row_of Trap = special (codes "trap")
 row_of True = regular (codes "true")
+row_of Unalias = regular (codes "unalias")
 row_of Unset = special (codes "unset")
 row_of Wait = regular (codes "wait")
 
 abbrev pub builtins : List Builtin
 builtins =
-    Bg ∷ Bracket ∷ Break ∷ Cd ∷ Colon ∷ Command ∷ Continue ∷ Dot ∷ Echo ∷ Eval ∷ Exec ∷ Exit ∷ Export ∷ False ∷ Fg ∷ Jobs ∷ Kill ∷ Pwd ∷ Read ∷ ReadOnly ∷ Return ∷ Set ∷ Shift ∷ Test ∷ Trap ∷ True ∷ Unset ∷ Wait ∷ []
+    Alias ∷ Bg ∷ Bracket ∷ Break ∷ Cd ∷ Colon ∷ Command ∷ Continue ∷ Dot ∷ Echo ∷ Eval ∷ Exec ∷ Exit ∷ Export ∷ False ∷ Fg ∷ Jobs ∷ Kill ∷ Pwd ∷ Read ∷ ReadOnly ∷ Return ∷ Set ∷ Shift ∷ Test ∷ Trap ∷ True ∷ Unalias ∷ Unset ∷ Wait ∷ []
 
 -- ---- what is read from it
 abbrev pub name_of : Builtin → List ℕ

@@ -5,6 +5,7 @@ ghost use Rattle.sh_builtin_outcome.specs.Builtins.{builtin_of, is_named, is_spe
 /// A built-in utility.
 #[derive(Clone, Copy, Debug, PartialEq, Eq)]
 pub enum Builtin {
+    Alias,
     Bg,
     /// `[`
     Bracket,
@@ -34,6 +35,7 @@ pub enum Builtin {
     Test,
     Trap,
     True,
+    Unalias,
     Unset,
     Wait,
 }
@@ -68,7 +70,8 @@ impl Row {
 }
 
 /// All of them.
-const BUILTINS: [Builtin; 28] = [
+const BUILTINS: [Builtin; 30] = [
+    Builtin::Alias,
     Builtin::Bg,
     Builtin::Bracket,
     Builtin::Break,
@@ -95,6 +98,7 @@ const BUILTINS: [Builtin; 28] = [
     Builtin::Test,
     Builtin::Trap,
     Builtin::True,
+    Builtin::Unalias,
     Builtin::Unset,
     Builtin::Wait,
 ];
@@ -105,6 +109,7 @@ impl Builtin {
         ensures { row_seen result ≡ row_of self }
     {
         match self {
+            Builtin::Alias => Row::regular(b"alias"),
             Builtin::Bg => Row::regular(b"bg"),
             Builtin::Bracket => Row::regular(b"["),
             Builtin::Break => Row::special(b"break"),
@@ -131,6 +136,7 @@ impl Builtin {
             Builtin::Test => Row::regular(b"test"),
             Builtin::Trap => Row::special(b"trap"),
             Builtin::True => Row::regular(b"true"),
+            Builtin::Unalias => Row::regular(b"unalias"),
             Builtin::Unset => Row::special(b"unset"),
             Builtin::Wait => Row::regular(b"wait"),
         }

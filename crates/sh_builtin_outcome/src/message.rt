@@ -19,8 +19,9 @@ pub fn line(alloc: Global, name: &[u8], text: &[u8]) -> Result<Text, NoMemory>
     Ok(line)
 }
 
-/// The line of a message about a word of a built-in.
-fn line_about(alloc: Global, name: &[u8], word: &[u8], text: &[u8]) -> Result<Text, NoMemory>
+/// The line of a message about a word of a built-in (XCU 2.8.1): `psh: `, the built-in's name, a colon and a space, the word, what is said of it,
+/// and a newline. The only error is want of memory.
+pub fn line_about(alloc: Global, name: &[u8], word: &[u8], text: &[u8]) -> Result<Text, NoMemory>
     ensures { IfOk result (λ line.
         line ≡ line_of (name.now ++ codes ": " ++ word.now ++ text.now)) }
 {

@@ -7,6 +7,7 @@ ghost use Rattle.sh_jobs.specs.Table.{free_number};
 ghost use Rattle.sh_kernel.specs.State.{KernelState, StandsAt};
 
 use crate::functions::Functions;
+use sh_aliases::Aliases;
 use sh_base::NoMemory;
 use sh_base::sequence::Sequence;
 use sh_builtin_environment::Traps;
@@ -26,6 +27,8 @@ pub struct Shell {
     pub vars: Vars,
     /// Its functions.
     pub functions: Functions,
+    /// Its aliases (XCU 2.3.1).
+    pub aliases: Aliases,
     /// What it does on conditions.
     pub traps: Traps,
     /// The processes that `wait` knows by their numbers: those of its asynchronous lists (XCU 2.9.3.1), and of pipelines that were suspended
@@ -118,11 +121,12 @@ impl Shell {
             }) }
     {
         let (known, background, jobs) = processes;
-        match self.variables_and_functions(alloc) {
-            Ok((vars, functions)) => Ok(Shell {
+        match self.environment(alloc) {
+            Ok((vars, functions, aliases)) => Ok(Shell {
                 pid,
                 vars,
                 functions,
+                aliases,
                 traps,
                 known,
                 background,
@@ -140,16 +144,31 @@ impl Shell {
         }
     }
 
-    /// Copies of the variables and the functions.
-    fn variables_and_functions(&self, alloc: Global) -> Result<(Vars, Functions), NoMemory>
-        ensures { IfOk result (λ copies. (copies.0 ≡ self.now.vars) × (copies.1 ≡ self.now.functions)) }
+    /// Copies of the variables, the functions and the aliases.
+    fn environment(&self, alloc: Global) -> Result<(Vars, Functions, Aliases), NoMemory>
+        ensures { IfOk result (λ copies. (copies.0 ≡ self.now.vars) × ((copies.1 ≡ self.now.functions) × (copies.2 ≡ self.now.aliases))) }
     {
-        let functions = self.functions.copy(alloc)?;
+        let (functions, aliases) = self.functions_and_aliases(alloc)?;
         match self.vars.copy() {
-            Ok(vars) => Ok((vars, functions)),
+            Ok(vars) => Ok((vars, functions, aliases)),
             Err(error) => {
                 drop(functions);
+                drop(aliases);
                 Err(NoMemory::from(error))
+            },
+        }
+    }
+
+    /// Copies of the functions and the aliases.
+    fn functions_and_aliases(&self, alloc: Global) -> Result<(Functions, Aliases), NoMemory>
+        ensures { IfOk result (λ copies. (copies.0 ≡ self.now.functions) × (copies.1 ≡ self.now.aliases)) }
+    {
+        let functions = self.functions.copy(alloc)?;
+        match self.aliases.copy(alloc) {
+            Ok(aliases) => Ok((functions, aliases)),
+            Err(error) => {
+                drop(functions);
+                Err(error)
             },
         }
     }

@@ -38,8 +38,8 @@ waiting children (Some text) = WaitsUntraced children
 
 abbrev pub action_at : (caught : Option Signal) → (background : List ℕ) → Action → Asked
 action_at caught background (Reading rest status) = Acts
-action_at caught background (Prompting text) = Acts
-action_at caught background (ReadInput text) = ReadsBy (Number 0)
+action_at caught background (Prompting beginning) = Acts
+action_at caught background (ReadInput beginning) = ReadsBy (Number 0)
 action_at caught background (Expanding wants pending) = Acts
 action_at caught background (ReadSubstitution substitution) = collecting substitution.aside
 action_at caught background (WaitSubstitution substitution) = WaitsFor substitution.children

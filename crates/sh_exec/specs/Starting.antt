@@ -3,6 +3,7 @@ use Rattle.std.specs.Prelude.{ℕ, Bool, false, List, [], ◌∷◌, Option, Som
 use Rattle.sh_exec_actions.specs.Preparing.{failing}
 use Rattle.sh_exec_actions.specs.Statuses as statuses
 use Rattle.sh_builtin_shell.specs.declared.shell.Shell.{Shell}
+use Rattle.sh_aliases.specs.Aliases.{no_aliases}
 use Rattle.sh_builtin_environment.specs.TrapMaps.{none_set}
 use Rattle.sh_exec.specs.Programs.{Left, ProgramState, asking, with_next}
 use Rattle.sh_exec.specs.declared.start.Started.{Started}
@@ -64,14 +65,14 @@ stock_start m s shell start None = failure s start.ends_shell (cannot_execute st
 abbrev pub parent_of : KernelState → ℕ → ℕ
 parent_of s pid = unwrap_or (parent_at s.machine.processes pid) 1
 
--- a script is run by a new shell in this process, which has no functions, no traps and no jobs, and knows no processes; what the process ignored
+-- a script is run by a new shell in this process, which has no functions, no aliases, no traps and no jobs, and knows no processes; what the process ignored
 -- before it goes on ignoring (2.15 trap)
 abbrev pub ignored_by : KernelState → (pid : ℕ) → SignalSet
 ignored_by s pid = option_map_or (λ m. m.ignored) (member_at s.members pid) no_signals
 
 abbrev pub script_shell : KernelState → Shell → List ℕ → List (List ℕ) → Shell
 script_shell s shell path operands =
-    record { pid = shell.pid; vars = script_environment shell.vars path operands shell.pid (parent_of s shell.pid); functions = []; traps = none_set; known = []; background = []; jobs = []; is_first = false; fixed = ignored_by (begun s shell) shell.pid }
+    record { pid = shell.pid; vars = script_environment shell.vars path operands shell.pid (parent_of s shell.pid); functions = []; aliases = no_aliases; traps = none_set; known = []; background = []; jobs = []; is_first = false; fixed = ignored_by (begun s shell) shell.pid }
 
 abbrev pub script_start : {S : Type 0} → KernelState → Shell → List ℕ → List ℕ → List (List ℕ) → Left (Started S)
 script_start s shell path text operands =
@@ -103,8 +104,8 @@ start_turn m s shell start = start_by m s shell start start.fields
 -- what a shell is about to start
 abbrev pub starting_at : Action → Option ProgramStart
 starting_at (Reading rest status) = None
-starting_at (Prompting text) = None
-starting_at (ReadInput text) = None
+starting_at (Prompting beginning) = None
+starting_at (ReadInput beginning) = None
 starting_at (Expanding wants pending) = None
 starting_at (ReadSubstitution substitution) = None
 starting_at (WaitSubstitution substitution) = None

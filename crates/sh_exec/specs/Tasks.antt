@@ -1,5 +1,6 @@
 -- Processes: their numbers, the first shell, and the running forms of a shell.
 use Rattle.std.specs.Prelude.{ℕ, List, [], true, Option, Some, None, if◌then◌else◌}
+use Rattle.sh_aliases.specs.Aliases.{no_aliases}
 use Rattle.sh_builtin_environment.specs.TrapMaps.{none_set}
 use Rattle.sh_exec.specs.Scripts.{script_place}
 use Rattle.sh_exec.specs.declared.settings.Settings.{Settings}
@@ -9,6 +10,7 @@ use Rattle.sh_exec.specs.declared.task.Task.{Task}
 use Rattle.sh_exec.specs.declared.task.Task.TheVariants.{Runs, Asks}
 use Rattle.sh_exec_actions.specs.declared.action.Active.TheVariants.{Next}
 use Rattle.sh_exec_actions.specs.declared.action.Action.{Action}
+use Rattle.sh_exec_actions.specs.Beginnings.{not_begun}
 use Rattle.sh_exec_actions.specs.declared.action.Action.TheVariants.{Prompting, Reading}
 use Rattle.sh_builtin_shell.specs.Shells.{is_interactive}
 use Rattle.sh_builtin_shell.specs.declared.shell.Shell.{Shell}
@@ -48,12 +50,12 @@ environment_of settings =
 abbrev pub first_place : FileMap → Source → Action
 first_place image (Text bytes) = Reading bytes 0
 first_place image (Script path) = script_place image path
-first_place image Terminal = Prompting []
+first_place image Terminal = Prompting (not_begun [])
 
 -- it is before its first action
 abbrev pub first_task : {S : Type 0} → FileMap → Settings → Task S
 first_task image settings = Runs (record {
-  shell = record { pid = first_pid; vars = environment_of settings; functions = []; traps = none_set; known = []; background = []; jobs = []; is_first = true; fixed = no_signals };
+  shell = record { pid = first_pid; vars = environment_of settings; functions = []; aliases = no_aliases; traps = none_set; known = []; background = []; jobs = []; is_first = true; fixed = no_signals };
   run = At (Next (first_place image settings.source));
 })
 

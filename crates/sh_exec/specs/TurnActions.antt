@@ -29,8 +29,8 @@ turn_action_of_expansion (CasePattern choice) = turn.Expand
 
 abbrev pub turn_action_at : Action → TurnAction
 turn_action_at (Reading rest status) = turn.ReadCommand
-turn_action_at (Prompting text) = turn.Prompt
-turn_action_at (ReadInput text) = turn.Read
+turn_action_at (Prompting beginning) = turn.Prompt
+turn_action_at (ReadInput beginning) = turn.Read
 turn_action_at (Expanding wants pending) = turn_action_of_expansion wants
 turn_action_at (ReadSubstitution substitution) = turn.ReadSubstitution
 turn_action_at (WaitSubstitution substitution) = turn.Wait
@@ -102,8 +102,8 @@ drops s (Asks pid ask program) = false
 abbrev pub words_at : Action → Option (List (List ℕ))
 words_at (Starting start) = Some start.fields
 words_at (Reading rest status) = None
-words_at (Prompting text) = None
-words_at (ReadInput text) = None
+words_at (Prompting beginning) = None
+words_at (ReadInput beginning) = None
 words_at (Expanding wants pending) = None
 words_at (ReadSubstitution substitution) = None
 words_at (WaitSubstitution substitution) = None

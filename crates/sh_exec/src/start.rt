@@ -10,6 +10,7 @@ ghost use Rattle.sh_exec.specs.Starting.{begun, ignored_by, located_for, parent_
 
 use crate::program::asking;
 use crate::task::Task;
+use sh_aliases::Aliases;
 use sh_base::NoMemory;
 use sh_base::sequence::{Sequence, Text};
 use sh_builtin_environment::Traps;
@@ -143,6 +144,7 @@ fn start_script<S: Stock>(
         pid,
         vars,
         functions: Functions::new(alloc),
+        aliases: Aliases::new(alloc),
         traps,
         known: Sequence::new(alloc),
         background: Sequence::new(alloc),

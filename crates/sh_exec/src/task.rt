@@ -19,11 +19,12 @@ use crate::start::{Started, start_turn};
 use crate::turn_action::{
     TurnAction, drops_in, takes_trap_in, turn_action_for, turn_action_in, words_in,
 };
+use sh_aliases::Aliases;
 use sh_base::NoMemory;
 use sh_base::sequence::{Sequence, Text};
 use sh_builtin_environment::Traps;
 use sh_builtin_shell::{Functions, Shell};
-use sh_exec_actions::{Action, Frame, ProgramStart};
+use sh_exec_actions::{Action, Beginning, Frame, ProgramStart};
 use sh_exec_parts::Rest;
 use sh_exec_requests::heed_own_signals;
 use sh_exec_shell::Interpreter;
@@ -57,7 +58,7 @@ fn first_place(alloc: Global, image: &Files, source: Source) -> Result<Action, N
     match source {
         Source::Text(text) => Ok(Action::Reading(Rest::new(text), 0)),
         Source::Script(path) => script_place(alloc, image, path.as_slice()),
-        Source::Terminal => Ok(Action::Prompting(Text::new(alloc))),
+        Source::Terminal => Ok(Action::Prompting(Beginning::not_begun(Text::new(alloc)))),
     }
 }
 
@@ -154,6 +155,7 @@ impl<S: Stock> Task<S> {
             pid: FIRST_PID,
             vars,
             functions: Functions::new(alloc),
+            aliases: Aliases::new(alloc),
             traps,
             known: Sequence::new(alloc),
             background: Sequence::new(alloc),

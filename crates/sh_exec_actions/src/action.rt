@@ -1,4 +1,5 @@
 //! The place of a shell: its next action, with all that this needs.
+use crate::beginning::Beginning;
 use crate::status::CommandStatus;
 use sh_base::sequence::{Sequence, Text};
 use sh_base::shared::Shared;
@@ -223,9 +224,9 @@ pub enum Action {
     Reading(Rest, u8),
     /// Before the next command that an interactive shell reads by descriptor 0 (XCU 2.1): tell one job that has changed, or write the prompt
     /// (2.5.3 PS1). Behind the beginning of a command that was read so far: write the prompt for its next line (PS2).
-    Prompting(Text),
+    Prompting(Beginning),
     /// Read more of the next command of an interactive shell by descriptor 0, behind the beginning that was read so far.
-    ReadInput(Text),
+    ReadInput(Beginning),
     /// Expand, with the answers so far if there were needs before.
     Expanding(ToExpand, Option<Pending>),
     /// Read what a command substitution's process writes.

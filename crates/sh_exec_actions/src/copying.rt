@@ -446,8 +446,8 @@ impl Copying for Action {
     fn copy(&self, alloc: Global) -> Result<Action, NoMemory> {
         match self {
             Action::Reading(rest, status) => Ok(Action::Reading(rest.copy(alloc)?, *status)),
-            Action::Prompting(text) => Ok(Action::Prompting(text.copy(alloc)?)),
-            Action::ReadInput(text) => Ok(Action::ReadInput(text.copy(alloc)?)),
+            Action::Prompting(beginning) => Ok(Action::Prompting(beginning.copy(alloc)?)),
+            Action::ReadInput(beginning) => Ok(Action::ReadInput(beginning.copy(alloc)?)),
             Action::Expanding(wants, pending) => copy_expanding(alloc, wants, pending),
             Action::ReadSubstitution(substitution) => {
                 Ok(Action::ReadSubstitution(substitution.copy(alloc)?))

@@ -3,6 +3,7 @@
 #![tactic(auto)]
 
 mod action;
+mod beginning;
 mod copying;
 mod form;
 mod preparing;
@@ -14,6 +15,7 @@ pub use action::{
     Move, Pending, PipelineWait, ProgramStart, Report, Role, Saved, Stages, Substitution, ToExpand,
     Undo,
 };
+pub use beginning::Beginning;
 pub use form::{Branches, Form, Frame, Loop};
 pub use preparing::{
     begin_command, failing, first_place, go_ahead, no_undo, not_done, perform, prepare,

@@ -1,6 +1,7 @@
--- The next complete command of a text that is there whole (XCU 2.1): a shell reads one, runs it, and reads the next.
+-- The next complete command of a text that is there whole (XCU 2.1): a shell reads one by the aliases that it has then (2.3.1), runs it, and
+-- reads the next.
 use Rattle.std.specs.Prelude.{ℕ, zero, suc, List, [], ◌∷◌, drop, Bool, true, Result, Ok, Err}
-use Rattle.sh_parse.specs.Aliases.{no_aliases}
+use Rattle.sh_aliases.specs.Aliases.{AliasTable}
 use Rattle.sh_parse.specs.Reading.{reading}
 use Rattle.sh_parse.specs.declared.Reading.{Reading}
 use Rattle.sh_parse.specs.declared.Reading.TheVariants.{Complete, Blank, More}
@@ -34,14 +35,14 @@ found_by (answer.Fault refusal used) text on = Fault refusal (drop used text)
 found_by answer.Unclosed text on = Fault refusal.Syntax []
 
 -- what is found in a text after so many bytes
-abbrev pub found_behind : List ℕ → ℕ → Found
-found_behind [] count = Nothing
-found_behind (byte ∷ bytes) (suc count) = found_behind bytes count
-found_behind (byte ∷ bytes) zero = found_by (answer_of (reading no_aliases true (byte ∷ bytes))) (byte ∷ bytes) (found_behind bytes)
+abbrev pub found_behind : AliasTable → List ℕ → ℕ → Found
+found_behind aliases [] count = Nothing
+found_behind aliases (byte ∷ bytes) (suc count) = found_behind aliases bytes count
+found_behind aliases (byte ∷ bytes) zero = found_by (answer_of (reading aliases true (byte ∷ bytes))) (byte ∷ bytes) (found_behind aliases bytes)
 
 -- what a reading turn finds in the rest of a text
-abbrev pub next_command : List ℕ → Found
-next_command text = found_behind text 0
+abbrev pub next_command : AliasTable → List ℕ → Found
+next_command aliases text = found_behind aliases text 0
 
 -- ---- what an interactive shell has read so far by descriptor 0; at the end of the file no more follows
 abbrev pub input_by : Result Reading ParseFault → (text : List ℕ) → InputFound
@@ -54,5 +55,5 @@ input_by (Err (BadSubstitution at used)) text = input.Fault refusal.BadSubstitut
 input_by (Err (TooDeep at used)) text = input.Fault refusal.TooDeep
 input_by (Err (NoMemory _)) text = input.Fault refusal.Syntax
 
-abbrev pub input_found : (is_end : Bool) → (text : List ℕ) → InputFound
-input_found is_end text = input_by (reading no_aliases is_end text) text
+abbrev pub input_found : AliasTable → (is_end : Bool) → (text : List ℕ) → InputFound
+input_found aliases is_end text = input_by (reading aliases is_end text) text

@@ -1,6 +1,5 @@
 //! Reading the next command of a text.
 ghost use Rattle.std.specs.Prelude.{◌≡◌, IfOk, drop, true};
-ghost use Rattle.sh_parse.specs.Aliases.{no_aliases};
 ghost use Rattle.sh_parse.specs.Reading.{reading};
 ghost use Rattle.sh_exec_command.specs.Reading.{answer_of, input_by, input_found, next_command};
 
@@ -13,10 +12,10 @@ use sh_parse::{Aliases, ParseFault, Reading, read_command};
 use std::alloc::Global;
 
 /// One reading of a text that is there whole.
-fn read_once(alloc: Global, text: &[u8]) -> Result<Answer, NoMemory>
-    ensures { IfOk result (λ answer. answer ≡ answer_of (reading no_aliases true text.now)) }
+fn read_once(alloc: Global, aliases: &Aliases, text: &[u8]) -> Result<Answer, NoMemory>
+    ensures { IfOk result (λ answer. answer ≡ answer_of (reading aliases.now true text.now)) }
 {
-    match read_command(alloc, text, true, &Aliases::new(alloc)) {
+    match read_command(alloc, text, true, aliases) {
         Ok(Reading::Complete { tree, used }) => Ok(Answer::Command(tree, used)),
         Ok(Reading::Blank { used }) => Ok(Answer::Blank(used)),
         Ok(Reading::More) => Ok(Answer::Fault(Refusal::Syntax, 0)),
@@ -30,13 +29,13 @@ fn read_once(alloc: Global, text: &[u8]) -> Result<Answer, NoMemory>
     }
 }
 
-/// The next complete command of a text that is there whole, and what is left after it.
-pub fn find_command(alloc: Global, text: Rest) -> Result<Found, NoMemory>
-    ensures { IfOk result (λ found. found ≡ next_command text) }
+/// The next complete command of a text that is there whole, by these aliases (XCU 2.3.1), and what is left after it.
+pub fn find_command(alloc: Global, aliases: &Aliases, text: Rest) -> Result<Found, NoMemory>
+    ensures { IfOk result (λ found. found ≡ next_command aliases.now text) }
 {
     let mut rest = text;
     'lines: while !rest.as_slice().is_empty() {
-        match read_once(alloc, rest.as_slice())? {
+        match read_once(alloc, aliases, rest.as_slice())? {
             Answer::Command(tree, used) => {
                 rest.skip(used);
                 return Ok(Found::Command(tree, rest));
@@ -69,12 +68,17 @@ fn text_behind(alloc: Global, text: Text, used: usize) -> Result<Text, NoMemory>
     Ok(Text::copy_of(alloc, rest.as_slice())?)
 }
 
-/// The next complete command of what an interactive shell has read so far by descriptor 0 (XCU 2.1): at the end of the file no more follows. The
-/// only error is want of memory.
-pub fn find_input(alloc: Global, text: Text, is_end: bool) -> Result<InputFound, NoMemory>
-    ensures { IfOk result (λ found. found ≡ input_found is_end text) }
+/// The next complete command of what an interactive shell has read so far by descriptor 0 (XCU 2.1), by these aliases: at the end of the file no
+/// more follows. The only error is want of memory.
+pub fn find_input(
+    alloc: Global,
+    aliases: &Aliases,
+    text: Text,
+    is_end: bool,
+) -> Result<InputFound, NoMemory>
+    ensures { IfOk result (λ found. found ≡ input_found aliases.now is_end text) }
 {
-    match read_command(alloc, text.as_slice(), is_end, &Aliases::new(alloc)) {
+    match read_command(alloc, text.as_slice(), is_end, aliases) {
         Ok(Reading::Complete { tree, used }) => match text_behind(alloc, text, used) {
             Ok(rest) => Ok(InputFound::Command(tree, rest)),
             Err(lack) => {

@@ -1,3 +1,2 @@
 pub mod Built
-pub mod Left
 pub mod Outward

@@ -12,6 +12,7 @@ use Rattle.sh_exec_command.specs.Undoing as variables
 use Rattle.sh_exec_actions.specs.Statuses.{unexcused}
 use Rattle.sh_exec_actions.specs.declared.action.Active.{Active}
 use Rattle.sh_exec_actions.specs.declared.action.Active.TheVariants.{Acting, Calling, Evaluating, Next, Done, Leaving}
+use Rattle.sh_exec_actions.specs.Beginnings.{not_begun}
 use Rattle.sh_exec_actions.specs.declared.action.Action.{Action}
 use Rattle.sh_exec_actions.specs.declared.action.Action.TheVariants.{Reading, Prompting, ReadInput, Expanding, ReadSubstitution, WaitSubstitution, ReadLine, Awaiting, SendSignal, ContinueJob, WaitForJob, Redirecting, Forking, Starting, ForkStage, ForkList, AssignLoopVariable, Defining, Waiting, Writing, Trapping, Ending}
 use Rattle.sh_exec_actions.specs.declared.action.Undo.{Undo}
@@ -185,7 +186,7 @@ after_text around origin.DotScript leave shell = after_call around leave shell
 
 -- ---- an interactive shell isn't ended by an error (2.8.1): it drops the command, `$?` is the error's status, and it reads its next command
 abbrev pub behind_input : KernelState → Shell → (rest : List ℕ) → Acted
-behind_input s shell rest = with_run s shell (At (Next (input_action s shell rest)))
+behind_input s shell rest = with_run s shell (At (Next (input_action s shell (not_begun rest))))
 
 -- one that it has read by descriptor 0
 abbrev pub input_left : KernelState → Shell → Leave → Acted
@@ -214,8 +215,8 @@ text_left around s shell rest leave = dropped_in_text (goes_on_reading around sh
 -- the action of a trap that came before this one is left: where that is a reading, it is left as a command that was read there
 abbrev pub place_left : (around : List Form) → KernelState → Shell → (next : Action) → Leave → Acted
 place_left around s shell (Reading rest status) leave = text_left around s shell rest leave
-place_left around s shell (Prompting text) leave = with_run s shell (At (Leaving leave))
-place_left around s shell (ReadInput text) leave = input_left s shell leave
+place_left around s shell (Prompting beginning) leave = with_run s shell (At (Leaving leave))
+place_left around s shell (ReadInput beginning) leave = input_left s shell leave
 place_left around s shell (Expanding wants pending) leave = with_run s shell (At (Leaving leave))
 place_left around s shell (ReadSubstitution substitution) leave = with_run s shell (At (Leaving leave))
 place_left around s shell (WaitSubstitution substitution) leave = with_run s shell (At (Leaving leave))

@@ -6,7 +6,7 @@ ghost use Rattle.sh_kernel.specs.State.{KernelState, StandsAt};
 use sh_base::sequence::Text;
 use sh_builtin_outcome::Leave;
 use sh_builtin_shell::Shell;
-use sh_exec_actions::{Action, Active};
+use sh_exec_actions::{Action, Active, Beginning};
 use sh_exec_entering::Step;
 use sh_exec_frames::Frames;
 use sh_exec_parts::Rest;
@@ -26,7 +26,8 @@ pub(crate) fn go_on(
         (behind_input s (behind_status shell.old status) rest) }
 {
     shell.vars.set_status(status);
-    Step::Inward(Active::Next(input_action(kernel, shell, rest)))
+    let beginning = Beginning::not_begun(rest);
+    Step::Inward(Active::Next(input_action(kernel, shell, beginning)))
 }
 
 /// A command that was read by descriptor 0 is left.
@@ -94,7 +95,13 @@ pub(crate) fn leave_place(
 {
     match next {
         Action::Reading(rest, _) => leave_text(shell, frames, rest, leave),
-        Action::ReadInput(_) => leave_input(alloc, kernel, shell, frames, leave),
-        _ => Step::Outward(Active::Leaving(leave)),
+        Action::ReadInput(beginning) => {
+            drop(beginning);
+            leave_input(alloc, kernel, shell, frames, leave)
+        },
+        other => {
+            drop(other);
+            Step::Outward(Active::Leaving(leave))
+        },
     }
 }

@@ -2,7 +2,7 @@
 use Rattle.std.specs.Option.{is_some, option_or, unwrap_or}
 use Rattle.std.specs.Prelude.{ℕ, List, [], ◌∷◌, map, ◌||◌, ◌&&◌, not, Bool, true, false, Option, None, if◌then◌else◌}
 use Rattle.sh_builtin_outcome.specs.declared.builtin.Builtin.{Builtin}
-use Rattle.sh_builtin_outcome.specs.declared.builtin.Builtin.TheVariants.{Bg, Bracket, Break, Cd, Colon, Command, Continue, Dot, Echo, Eval, Exec, Exit, Export, False, Fg, Jobs, Kill, Pwd, Read, ReadOnly, Return, Set, Shift, Test, Trap, True, Unset, Wait}
+use Rattle.sh_builtin_outcome.specs.declared.builtin.Builtin.TheVariants.{Alias, Bg, Bracket, Break, Cd, Colon, Command, Continue, Dot, Echo, Eval, Exec, Exit, Export, False, Fg, Jobs, Kill, Pwd, Read, ReadOnly, Return, Set, Shift, Test, Trap, True, Unalias, Unset, Wait}
 use Rattle.sh_exec_frames.specs.Kinds.{before_trap, ignores_failure, is_call, is_loop, levels_inside, most_levels, refusal_ends, takes_return}
 use Rattle.sh_exec_actions.specs.declared.form.Form.{Form}
 use Rattle.sh_exec_actions.specs.declared.form.Form.TheVariants.{FailuresIgnored}
@@ -38,6 +38,7 @@ before_action own (form ∷ around) =
 
 -- the status with which exit and return leave inside some forms where they have no operand (2.15)
 abbrev pub last_for : List Form → Builtin → (last : ℕ) → ℕ
+last_for around Alias last = last
 last_for around Bg last = last
 last_for around Bracket last = last
 last_for around Break last = last
@@ -64,6 +65,7 @@ last_for around Shift last = last
 last_for around Test last = last
 last_for around Trap last = last
 last_for around True last = last
+last_for around Unalias last = last
 last_for around Unset last = last
 last_for around Wait last = last
 

@@ -134,6 +134,7 @@ impl Frames {
         ensures { result ≡ last_for self.now builtin last }
     {
         match builtin {
+            Builtin::Alias => last,
             Builtin::Bg => last,
             Builtin::Bracket => last,
             Builtin::Break => last,
@@ -160,6 +161,7 @@ impl Frames {
             Builtin::Test => last,
             Builtin::Trap => last,
             Builtin::True => last,
+            Builtin::Unalias => last,
             Builtin::Unset => last,
             Builtin::Wait => last,
         }

@@ -6,6 +6,7 @@ use Rattle.sh_builtin_jobs.specs.Listing.{after_listing, job_lines}
 use Rattle.sh_builtin_shell.specs.Shells.{up_to_date}
 use Rattle.sh_builtin_shell.specs.declared.shell.Shell.{Shell}
 use Rattle.sh_exec_actions.specs.declared.action.Action.{Action}
+use Rattle.sh_exec_actions.specs.declared.beginning.Beginning.{Beginning}
 use Rattle.sh_exec_actions.specs.declared.action.Action.TheVariants.{Prompting, ReadInput}
 use Rattle.sh_exec_actions.specs.declared.action.Active.TheVariants.{Next}
 use Rattle.sh_exec_machine.specs.Transfers.{Giving, give_bytes}
@@ -34,8 +35,8 @@ job_to_tell s shell (byte ∷ bytes) = None
 abbrev pub has_prompt : KernelState → Shell → (text : List ℕ) → Bool
 has_prompt s shell text = is_some (job_to_tell s shell text) || not (nat_eq (length (prompt_of shell.vars text)) 0)
 
-unfoldable pub input_action : KernelState → Shell → (text : List ℕ) → Action
-input_action s shell text = if has_prompt s shell text then Prompting text else ReadInput text
+unfoldable pub input_action : KernelState → Shell → Beginning → Action
+input_action s shell beginning = if has_prompt s shell beginning.text then Prompting beginning else ReadInput beginning
 
 -- ---- one write to descriptor 2: what it is, is decided as it begins. A write that would wait is made again; what can't be written is dropped.
 -- Descriptor 2 of the first shell never leads to a pipe, so no write goes in parts
@@ -45,33 +46,33 @@ is_waiting (given.Part count) = false
 is_waiting given.Wait = true
 is_waiting given.Failed = false
 
-abbrev pub stays : KernelState → Shell → (text : List ℕ) → Placed
-stays s shell text = at_place s shell (Next (Prompting text))
+abbrev pub stays : KernelState → Shell → Beginning → Placed
+stays s shell beginning = at_place s shell (Next (Prompting beginning))
 
 -- a job that is told; one that is done goes by that
 abbrev pub with_job_told : KernelState → Shell → (number : ℕ) → Shell
 with_job_told s shell number = record shell { jobs = after_listing s.machine.processes shell.jobs Short (number ∷ []) }
 
-abbrev pub behind_job : KernelState → Shell → (text : List ℕ) → Placed
-behind_job s shell text = at_place s shell (Next (input_action s shell text))
+abbrev pub behind_job : KernelState → Shell → Beginning → Placed
+behind_job s shell beginning = at_place s shell (Next (input_action s shell beginning))
 
-abbrev pub job_written : Giving → Shell → (text : List ℕ) → (number : ℕ) → Placed
-job_written g shell text number =
-    if is_waiting g.told then stays g.after shell text else behind_job g.after (with_job_told g.after shell number) text
+abbrev pub job_written : Giving → Shell → Beginning → (number : ℕ) → Placed
+job_written g shell beginning number =
+    if is_waiting g.told then stays g.after shell beginning else behind_job g.after (with_job_told g.after shell number) beginning
 
-abbrev pub tell_job : KernelState → Shell → (text : List ℕ) → (number : ℕ) → Placed
-tell_job s shell text number =
-    job_written (give_bytes s shell.pid 2 (job_lines s.machine.processes shell.jobs Short (number ∷ []))) shell text number
+abbrev pub tell_job : KernelState → Shell → Beginning → (number : ℕ) → Placed
+tell_job s shell beginning number =
+    job_written (give_bytes s shell.pid 2 (job_lines s.machine.processes shell.jobs Short (number ∷ []))) shell beginning number
 
-abbrev pub prompt_written : Giving → Shell → (text : List ℕ) → Placed
-prompt_written g shell text = if is_waiting g.told then stays g.after shell text else at_place g.after shell (Next (ReadInput text))
+abbrev pub prompt_written : Giving → Shell → Beginning → Placed
+prompt_written g shell beginning = if is_waiting g.told then stays g.after shell beginning else at_place g.after shell (Next (ReadInput beginning))
 
-abbrev pub write_prompt : KernelState → Shell → (text : List ℕ) → Placed
-write_prompt s shell text = prompt_written (give_bytes s shell.pid 2 (prompt_of shell.vars text)) shell text
+abbrev pub write_prompt : KernelState → Shell → Beginning → Placed
+write_prompt s shell beginning = prompt_written (give_bytes s shell.pid 2 (prompt_of shell.vars beginning.text)) shell beginning
 
-abbrev pub prompt_by : KernelState → Shell → (text : List ℕ) → Option ℕ → Placed
-prompt_by s shell text (Some number) = tell_job s (up_to_date s shell) text number
-prompt_by s shell text None = write_prompt s shell text
+abbrev pub prompt_by : KernelState → Shell → Beginning → Option ℕ → Placed
+prompt_by s shell beginning (Some number) = tell_job s (up_to_date s shell) beginning number
+prompt_by s shell beginning None = write_prompt s shell beginning
 
-unfoldable pub prompt_turn : KernelState → Shell → (text : List ℕ) → Placed
-prompt_turn s shell text = prompt_by s shell text (job_to_tell s shell text)
+unfoldable pub prompt_turn : KernelState → Shell → Beginning → Placed
+prompt_turn s shell beginning = prompt_by s shell beginning (job_to_tell s shell beginning.text)

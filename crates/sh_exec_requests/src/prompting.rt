@@ -6,10 +6,9 @@ ghost use Rattle.sh_kernel.specs.State.{KernelState, StandsAt};
 ghost use Rattle.sh_tty.specs.Terminal.{Extends};
 
 use sh_base::NoMemory;
-use sh_base::sequence::Text;
 use sh_builtin_jobs::{job_lines, tell_listed};
 use sh_builtin_shell::Shell;
-use sh_exec_actions::{Action, Active};
+use sh_exec_actions::{Action, Active, Beginning};
 use sh_exec_machine::{WriteOutcome, give_bytes};
 use sh_jobs::JobForm;
 use sh_kernel::Kernel;
@@ -62,13 +61,13 @@ fn has_prompt(kernel: &Kernel, shell: &Shell, text: &[u8]) -> bool
 /// What an interactive shell does before it reads a command by descriptor 0, or its next line behind this beginning: it tells a job that has
 /// changed, or writes a prompt, or reads at once where there is nothing to write (XCU 2.1, 2.5.3). Takes no memory.
 #[tactic(auto, unfolding(crate::specs::Prompting::input_action))]
-pub fn input_action(kernel: &Kernel, shell: &Shell, text: Text) -> Action
-    ensures { (s : KernelState) → StandsAt kernel.now s → result ≡ input_action s shell.now text }
+pub fn input_action(kernel: &Kernel, shell: &Shell, beginning: Beginning) -> Action
+    ensures { (s : KernelState) → StandsAt kernel.now s → result ≡ input_action s shell.now beginning }
 {
-    if has_prompt(kernel, shell, text.as_slice()) {
-        return Action::Prompting(text);
+    if has_prompt(kernel, shell, beginning.text.as_slice()) {
+        return Action::Prompting(beginning);
     }
-    Action::ReadInput(text)
+    Action::ReadInput(beginning)
 }
 
 /// Whether a write is to be made again.
@@ -82,13 +81,13 @@ fn is_waiting(given: WriteOutcome) -> bool
 }
 
 /// A job was told, and one that is done goes by that.
-fn job_told(kernel: &Kernel, shell: &mut Shell, text: Text, number: usize) -> Action
+fn job_told(kernel: &Kernel, shell: &mut Shell, beginning: Beginning, number: usize) -> Action
     ensures { (s : KernelState) → StandsAt kernel.now s
         → IsPlaced kernel.now shell.new (Active.Next result)
-        (behind_job s (with_job_told s shell.old number) text) }
+        (behind_job s (with_job_told s shell.old number) beginning) }
 {
     tell_listed(kernel, &mut shell.jobs, JobForm::Short, &[number]);
-    input_action(kernel, shell, text)
+    input_action(kernel, shell, beginning)
 }
 
 /// The write of the line of a job, whose table is up to date.
@@ -96,34 +95,38 @@ fn tell_job(
     alloc: Global,
     kernel: &mut Kernel,
     shell: &mut Shell,
-    text: Text,
+    beginning: Beginning,
     number: usize,
 ) -> Result<Active, NoMemory>
     ensures state { (s : KernelState) → StandsAt kernel.old s → IfOk result (λ active.
-        IsPlaced kernel.new shell.new active (tell_job s shell.old text number)) }
+        IsPlaced kernel.new shell.new active (tell_job s shell.old beginning number)) }
     ensures terminal { Extends kernel.old.terminal.bytes kernel.new.terminal.bytes }
 {
     let line = job_lines(alloc, kernel, &shell.jobs, JobForm::Short, &[number])?;
     let given = give_bytes(kernel, shell.pid, OUTPUT, line.as_slice())?;
     if is_waiting(given) {
-        return Ok(Active::Next(Action::Prompting(text)));
+        return Ok(Active::Next(Action::Prompting(beginning)));
     }
-    let action = job_told(kernel, shell, text, number);
+    let action = job_told(kernel, shell, beginning, number);
     Ok(Active::Next(action))
 }
 
 /// The write of a prompt.
-fn write_prompt(kernel: &mut Kernel, shell: &Shell, text: Text) -> Result<Active, NoMemory>
+fn write_prompt(
+    kernel: &mut Kernel,
+    shell: &Shell,
+    beginning: Beginning,
+) -> Result<Active, NoMemory>
     ensures state { (s : KernelState) → StandsAt kernel.old s → IfOk result (λ active.
-        IsPlaced kernel.new shell.now active (write_prompt s shell.now text)) }
+        IsPlaced kernel.new shell.now active (write_prompt s shell.now beginning)) }
     ensures terminal { Extends kernel.old.terminal.bytes kernel.new.terminal.bytes }
 {
-    let prompt = prompt_of(&shell.vars, text.as_slice());
+    let prompt = prompt_of(&shell.vars, beginning.text.as_slice());
     let given = give_bytes(kernel, shell.pid, OUTPUT, prompt)?;
     if is_waiting(given) {
-        return Ok(Active::Next(Action::Prompting(text)));
+        return Ok(Active::Next(Action::Prompting(beginning)));
     }
-    Ok(Active::Next(Action::ReadInput(text)))
+    Ok(Active::Next(Action::ReadInput(beginning)))
 }
 
 /// The line of a job is written, after its table was brought up to date.
@@ -131,16 +134,40 @@ fn tell(
     alloc: Global,
     kernel: &mut Kernel,
     shell: &mut Shell,
-    text: Text,
+    beginning: Beginning,
     number: usize,
 ) -> Result<Active, NoMemory>
     ensures state { (s : KernelState) → StandsAt kernel.old s → IfOk result (λ active.
-        IsPlaced kernel.new shell.new active (prompt_by s shell.old text (Some number))) }
+        IsPlaced kernel.new shell.new active (prompt_by s shell.old beginning (Some number))) }
     ensures terminal { Extends kernel.old.terminal.bytes kernel.new.terminal.bytes }
 {
     shell.bring_jobs_up_to_date(kernel);
-    let active = tell_job(alloc, kernel, shell, text, number)?;
+    let active = tell_job(alloc, kernel, shell, beginning, number)?;
     Ok(active)
+}
+
+/// The write of the line of this job or, where there is none, of the prompt.
+fn write_next(
+    alloc: Global,
+    kernel: &mut Kernel,
+    shell: &mut Shell,
+    beginning: Beginning,
+    job: Option<usize>,
+) -> Result<Active, NoMemory>
+    ensures state { (s : KernelState) → StandsAt kernel.old s → IfOk result (λ active.
+        IsPlaced kernel.new shell.new active (prompt_by s shell.old beginning job)) }
+    ensures terminal { Extends kernel.old.terminal.bytes kernel.new.terminal.bytes }
+{
+    match job {
+        Some(number) => {
+            let active = tell(alloc, kernel, shell, beginning, number)?;
+            Ok(active)
+        },
+        None => {
+            let active = write_prompt(kernel, shell, beginning)?;
+            Ok(active)
+        },
+    }
 }
 
 /// The turn in which an interactive shell writes to descriptor 2 before it reads a command: the line of a job that has changed (XCU 2.11), or
@@ -151,20 +178,13 @@ pub fn prompt_turn(
     alloc: Global,
     kernel: &mut Kernel,
     shell: &mut Shell,
-    text: Text,
+    beginning: Beginning,
 ) -> Result<Active, NoMemory>
     ensures state { (s : KernelState) → StandsAt kernel.old s → IfOk result (λ active.
-        IsPlaced kernel.new shell.new active (prompt_turn s shell.old text)) }
+        IsPlaced kernel.new shell.new active (prompt_turn s shell.old beginning)) }
     ensures terminal { Extends kernel.old.terminal.bytes kernel.new.terminal.bytes }
 {
-    match job_to_tell(kernel, shell, text.as_slice()) {
-        Some(number) => {
-            let active = tell(alloc, kernel, shell, text, number)?;
-            Ok(active)
-        },
-        None => {
-            let active = write_prompt(kernel, shell, text)?;
-            Ok(active)
-        },
-    }
+    let job = job_to_tell(kernel, shell, beginning.text.as_slice());
+    let active = write_next(alloc, kernel, shell, beginning, job)?;
+    Ok(active)
 }

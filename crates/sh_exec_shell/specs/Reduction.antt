@@ -48,9 +48,9 @@ expansion s shell t = expanded_by s (record shell { vars = t.environment }) t.ou
 
 -- the action at a place inside some forms; a program's start isn't the shell's
 abbrev pub act_place : (around : List Form) → KernelState → Shell → Action → Turned
-act_place around s shell (Reading rest status) = plain (with_run s shell (read_turn (ends_shell around) (goes_on_reading around shell) shell.vars status (next_command rest)))
-act_place around s shell (Prompting text) = placed (prompt_turn s shell text)
-act_place around s shell (ReadInput text) = plain (input_turn s shell text)
+act_place around s shell (Reading rest status) = plain (with_run s shell (read_turn (ends_shell around) (goes_on_reading around shell) shell.vars status (next_command shell.aliases rest)))
+act_place around s shell (Prompting beginning) = placed (prompt_turn s shell beginning)
+act_place around s shell (ReadInput beginning) = plain (input_turn s shell beginning)
 act_place around s shell (Expanding wants pending) = expansion s shell (expand_turn s.machine.files shell.vars shell.functions wants pending)
 act_place around s shell (ReadSubstitution substitution) = plain (collect_turn s shell substitution)
 act_place around s shell (WaitSubstitution substitution) = plain (with_run s shell (next (answer_turn s shell.pid substitution)))
@@ -119,8 +119,8 @@ dropped = At (Leaving (leave.Fault dropped_status))
 
 abbrev pub dropped_run : Action → Run
 dropped_run (Reading rest status) = In (Text rest) dropped
-dropped_run (Prompting text) = dropped
-dropped_run (ReadInput text) = In (Input []) dropped
+dropped_run (Prompting beginning) = dropped
+dropped_run (ReadInput beginning) = In (Input []) dropped
 dropped_run (Expanding wants pending) = dropped
 dropped_run (ReadSubstitution substitution) = dropped
 dropped_run (WaitSubstitution substitution) = dropped

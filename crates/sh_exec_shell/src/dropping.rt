@@ -32,12 +32,16 @@ fn drop_command(alloc: Global, frames: &mut Frames, place: Action) -> Result<Act
             frames.push(Form::Text(rest))?;
             Ok(dropped)
         },
-        Action::ReadInput(_) => {
+        Action::ReadInput(beginning) => {
+            drop(beginning);
             frames.push(Form::Input(Text::new(alloc)))?;
             Ok(dropped)
         },
         Action::Trapping(status) => Ok(Active::Next(Action::Trapping(status))),
-        _ => Ok(dropped),
+        other => {
+            drop(other);
+            Ok(dropped)
+        },
     }
 }
 

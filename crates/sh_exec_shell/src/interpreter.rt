@@ -37,11 +37,12 @@ impl Model for Interpreter {
     ghost use Rattle.sh_exec_entering.specs.Codes.{run_code};
     ghost use Rattle.sh_exec_entering.specs.Running.{InterpreterState};
     ghost use Rattle.sh_exec_entering.specs.Stacks.{run_of};
+    ghost use Rattle.sh_aliases.specs.contracts.alias.Alias as alias_row;
     ghost use Rattle.sh_syntax.specs.contracts.tree.Command as command_row;
 
     ghost Value = { InterpreterState };
 
-    ghost coded = { Prim.hlevel (codes, map_code, command_row.the_row.coded, run_code) };
+    ghost coded = { Prim.hlevel (codes, map_code, alias_row.the_row.coded, command_row.the_row.coded, run_code) };
 
     ghost view = { λ t. record { shell = t.shell; run = run_of t.frames t.active } };
 }

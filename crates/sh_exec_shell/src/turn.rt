@@ -196,15 +196,15 @@ fn act_place(
     match place {
         Action::Reading(rest, status) => {
             let reads_on = goes_on_reading(shell, frames);
-            let active = read(alloc, frames, rest, status, reads_on, &shell.vars)?;
+            let active = read(alloc, frames, rest, status, reads_on, shell)?;
             Ok((active, None))
         },
-        Action::Prompting(text) => {
-            let active = prompt_turn(alloc, kernel, shell, text)?;
+        Action::Prompting(beginning) => {
+            let active = prompt_turn(alloc, kernel, shell, beginning)?;
             Ok((active, None))
         },
-        Action::ReadInput(text) => {
-            let active = input_turn(alloc, kernel, shell, frames, text)?;
+        Action::ReadInput(beginning) => {
+            let active = input_turn(alloc, kernel, shell, frames, beginning)?;
             Ok((active, None))
         },
         Action::Expanding(wants, pending) => {

@@ -183,7 +183,7 @@ without_trap shell = record shell { traps = with_action shell.traps Exit None }
 
 -- `$?` is the status with which the shell is to end, and the action's first command is read
 abbrev pub trap_action : KernelState → Shell → (status : ℕ) → List ℕ → Acted
-trap_action s shell status text = with_run s shell (In (Trapped status) (read_turn true false shell.vars 0 (next_command text)))
+trap_action s shell status text = with_run s shell (In (Trapped status) (read_turn true false shell.vars 0 (next_command shell.aliases text)))
 
 abbrev pub trap_by : KernelState → Shell → (status : ℕ) → Option (List ℕ) → Acted
 trap_by s shell status None = with_run s shell (next (Ending status))

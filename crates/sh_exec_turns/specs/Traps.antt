@@ -48,8 +48,8 @@ begins wants pending = if is_begun pending then false else is_first wants
 -- foreground (2.12)
 abbrev pub may_interrupt : Action → Bool
 may_interrupt (Reading rest status) = true
-may_interrupt (Prompting text) = false
-may_interrupt (ReadInput text) = true
+may_interrupt (Prompting beginning) = false
+may_interrupt (ReadInput beginning) = true
 may_interrupt (Expanding wants pending) = begins wants pending
 may_interrupt (ReadSubstitution substitution) = false
 may_interrupt (WaitSubstitution substitution) = false
@@ -78,13 +78,13 @@ trap_before s shell place = if may_interrupt place then pending_action s shell e
 abbrev pub interrupted : (levels : ℕ) → KernelState → Shell → Action → (text : List ℕ) → Acted
 interrupted zero s shell place text = with_run s shell (At (fatal (refusal_text refusal.TooDeep)))
 interrupted (suc levels) s shell place text =
-    with_run s shell (In (Interruption shell.vars.special.status place) (read_turn true false shell.vars 0 (next_command text)))
+    with_run s shell (In (Interruption shell.vars.special.status place) (read_turn true false shell.vars 0 (next_command shell.aliases text)))
 
 -- where the shell is to end, `$?` is the status with which it is to
 abbrev pub shell_before : Shell → Action → Shell
 shell_before shell (Reading rest status) = shell
-shell_before shell (Prompting text) = shell
-shell_before shell (ReadInput text) = shell
+shell_before shell (Prompting beginning) = shell
+shell_before shell (ReadInput beginning) = shell
 shell_before shell (Expanding wants pending) = shell
 shell_before shell (ReadSubstitution substitution) = shell
 shell_before shell (WaitSubstitution substitution) = shell
@@ -112,8 +112,8 @@ interruption around s shell place text = interrupted (levels_left around) (after
 -- waits, unless a signal with a lower number comes first
 abbrev pub may_drop : Action → Bool
 may_drop (Reading rest status) = true
-may_drop (Prompting text) = false
-may_drop (ReadInput text) = true
+may_drop (Prompting beginning) = false
+may_drop (ReadInput beginning) = true
 may_drop (Expanding wants pending) = begins wants pending
 may_drop (ReadSubstitution substitution) = false
 may_drop (WaitSubstitution substitution) = false
@@ -137,8 +137,8 @@ may_drop (Ending status) = false
 -- and at once where the built-in read reads, which is no place for a trap
 abbrev pub drops_at_once : Action → Bool
 drops_at_once (Reading rest status) = false
-drops_at_once (Prompting text) = false
-drops_at_once (ReadInput text) = false
+drops_at_once (Prompting beginning) = false
+drops_at_once (ReadInput beginning) = false
 drops_at_once (Expanding wants pending) = false
 drops_at_once (ReadSubstitution substitution) = false
 drops_at_once (WaitSubstitution substitution) = false

@@ -1,5 +1,6 @@
 //! Reading the next command of an interactive shell.
 ghost use Rattle.std.specs.Prelude.{◌≡◌, ◌++◌, [], Bool, IfOk};
+ghost use Rattle.sh_aliases.specs.Aliases.{AliasTable};
 ghost use Rattle.sh_builtin_shell.specs.declared.shell.Shell.{Shell};
 ghost use Rattle.sh_exec_command.specs.Reading.{input_found};
 ghost use Rattle.sh_exec_command.specs.declared.found.InputFound.TheVariants as found;
@@ -11,10 +12,11 @@ ghost use Rattle.sh_exec_turns.specs.Input.{behind_beginning, behind_blank, ends
 ghost use Rattle.sh_kernel.specs.State.{KernelState, StandsAt};
 
 use crate::reading::refuse;
+use sh_aliases::Aliases;
 use sh_base::NoMemory;
 use sh_base::sequence::Text;
 use sh_builtin_shell::Shell;
-use sh_exec_actions::{Action, Active, CommandStatus, Form};
+use sh_exec_actions::{Action, Active, Beginning, CommandStatus, Form};
 use sh_exec_command::{InputFound, find_input};
 use sh_exec_entering::enter;
 use sh_exec_frames::Frames;
@@ -37,13 +39,13 @@ fn ends_line(text: &[u8]) -> bool
 }
 
 /// What follows the beginning of a command.
-fn behind_beginning(kernel: &Kernel, shell: &Shell, text: Text) -> Action
-    ensures { (s : KernelState) → StandsAt kernel.now s → result ≡ behind_beginning s shell.now text }
+fn behind_beginning(kernel: &Kernel, shell: &Shell, beginning: Beginning) -> Action
+    ensures { (s : KernelState) → StandsAt kernel.now s → result ≡ behind_beginning s shell.now beginning }
 {
-    if ends_line(text.as_slice()) {
-        return input_action(kernel, shell, text);
+    if ends_line(beginning.text.as_slice()) {
+        return input_action(kernel, shell, beginning);
     }
-    Action::ReadInput(text)
+    Action::ReadInput(beginning)
 }
 
 /// What follows lines without a command.
@@ -54,7 +56,8 @@ fn behind_blank(kernel: &Kernel, shell: &Shell, rest: Text, is_end: bool) -> Act
     if is_end {
         return Active::Done(CommandStatus::unexcused(shell.vars.status()));
     }
-    Active::Next(input_action(kernel, shell, rest))
+    let beginning = Beginning::not_begun(rest);
+    Active::Next(input_action(kernel, shell, beginning))
 }
 
 /// A command is entered.
@@ -65,8 +68,9 @@ fn enter_input(
     tree: CompoundList,
     rest: Text,
 ) -> Result<Active, NoMemory>
-    ensures { (s : KernelState) → (is_end : Bool) → IfOk result (λ active. run_of frames.new active
-        ≡ run_in frames.old (input_run is_end s shell.now (found.Command tree rest))) }
+    ensures { (s : KernelState) → (is_end : Bool) → (aliases : AliasTable) → IfOk result (λ active.
+        run_of frames.new active
+        ≡ run_in frames.old (input_run is_end s shell.now aliases (found.Command tree rest))) }
 {
     let items = Queue::new(tree.into_items());
     match frames.push(Form::Input(rest)) {
@@ -83,34 +87,51 @@ fn enter_input(
 
 /// What was read is refused.
 fn refuse_input(alloc: Global, frames: &mut Frames, why: Refusal) -> Result<Active, NoMemory>
-    ensures { (s : KernelState) → (shell : Shell) → (is_end : Bool) → IfOk result (λ active. run_of frames.new active
-        ≡ run_in frames.old (input_run is_end s shell (found.Fault why))) }
+    ensures { (s : KernelState) → (shell : Shell) → (is_end : Bool) → (aliases : AliasTable) → IfOk result (λ active.
+        run_of frames.new active
+        ≡ run_in frames.old (input_run is_end s shell aliases (found.Fault why))) }
 {
     frames.push(Form::Input(Text::new(alloc)))?;
     refuse(alloc, true, why)
 }
 
-/// What follows what was read so far.
+/// What follows what was read so far, by these aliases.
 fn read_so_far(
     alloc: Global,
     kernel: &Kernel,
     shell: &Shell,
     frames: &mut Frames,
+    aliases: Aliases,
     text: Text,
     is_end: bool,
 ) -> Result<Active, NoMemory>
     ensures { (s : KernelState) → StandsAt kernel.now s → IfOk result (λ active.
         IsActed kernel.now shell.now (run_of frames.new active)
-        (in_forms frames.old (input_read is_end s shell.now text))) }
+        (in_forms frames.old (input_read is_end s shell.now aliases text))) }
 {
-    match find_input(alloc, text, is_end)? {
+    let found = match find_input(alloc, &aliases, text, is_end) {
+        Ok(found) => found,
+        Err(lack) => {
+            drop(aliases);
+            return Err(lack);
+        },
+    };
+    match found {
         InputFound::Command(tree, rest) => {
+            drop(aliases);
             let active = enter_input(alloc, shell, frames, tree, rest)?;
             Ok(active)
         },
-        InputFound::Blank(rest) => Ok(behind_blank(kernel, shell, rest, is_end)),
-        InputFound::More(text) => Ok(Active::Next(behind_beginning(kernel, shell, text))),
+        InputFound::Blank(rest) => {
+            drop(aliases);
+            Ok(behind_blank(kernel, shell, rest, is_end))
+        },
+        InputFound::More(text) => {
+            let beginning = Beginning::begun(aliases, text);
+            Ok(Active::Next(behind_beginning(kernel, shell, beginning)))
+        },
         InputFound::Fault(why) => {
+            drop(aliases);
             let active = refuse_input(alloc, frames, why)?;
             Ok(active)
         },
@@ -123,23 +144,41 @@ fn read_bytes(
     kernel: &Kernel,
     shell: &Shell,
     frames: &mut Frames,
-    text: Text,
+    beginning: Beginning,
     bytes: &[u8],
 ) -> Result<Active, NoMemory>
     ensures { (s : KernelState) → StandsAt kernel.now s → IfOk result (λ active.
         IsActed kernel.now shell.now (run_of frames.new active)
-        (in_forms frames.old (input_taken s shell.now text (taken.Bytes bytes.now)))) }
+        (in_forms frames.old (input_taken s shell.now beginning (taken.Bytes bytes.now)))) }
 {
-    let mut text = text;
+    let (aliases, mut text) = beginning.into_parts(alloc, &shell.aliases)?;
     let is_end = bytes.is_empty();
     match text.extend_from_slice(bytes) {
         Ok(()) => {},
         Err(error) => {
             drop(text);
+            drop(aliases);
             return Err(NoMemory::from(error));
         },
     }
-    let active = read_so_far(alloc, kernel, shell, frames, text, is_end)?;
+    let active = read_so_far(alloc, kernel, shell, frames, aliases, text, is_end)?;
+    Ok(active)
+}
+
+/// What follows a read that failed, as at the end of the file.
+fn read_nothing(
+    alloc: Global,
+    kernel: &Kernel,
+    shell: &Shell,
+    frames: &mut Frames,
+    beginning: Beginning,
+) -> Result<Active, NoMemory>
+    ensures { (s : KernelState) → StandsAt kernel.now s → IfOk result (λ active.
+        IsActed kernel.now shell.now (run_of frames.new active)
+        (in_forms frames.old (input_taken s shell.now beginning taken.Failed))) }
+{
+    let (aliases, text) = beginning.into_parts(alloc, &shell.aliases)?;
+    let active = read_so_far(alloc, kernel, shell, frames, aliases, text, true)?;
     Ok(active)
 }
 
@@ -149,21 +188,21 @@ fn read_by(
     kernel: &Kernel,
     shell: &Shell,
     frames: &mut Frames,
-    text: Text,
+    beginning: Beginning,
     told: ReadOutcome,
 ) -> Result<Active, NoMemory>
     ensures { (s : KernelState) → StandsAt kernel.now s → IfOk result (λ active.
         IsActed kernel.now shell.now (run_of frames.new active)
-        (in_forms frames.old (input_taken s shell.now text told))) }
+        (in_forms frames.old (input_taken s shell.now beginning told))) }
 {
     match told {
         ReadOutcome::Bytes(bytes) => {
-            let active = read_bytes(alloc, kernel, shell, frames, text, bytes.as_slice())?;
+            let active = read_bytes(alloc, kernel, shell, frames, beginning, bytes.as_slice())?;
             Ok(active)
         },
-        ReadOutcome::Wait => Ok(Active::Next(Action::ReadInput(text))),
+        ReadOutcome::Wait => Ok(Active::Next(Action::ReadInput(beginning))),
         ReadOutcome::Failed => {
-            let active = read_so_far(alloc, kernel, shell, frames, text, true)?;
+            let active = read_nothing(alloc, kernel, shell, frames, beginning)?;
             Ok(active)
         },
     }
@@ -179,21 +218,21 @@ pub fn input_turn(
     kernel: &mut Kernel,
     shell: &Shell,
     frames: &mut Frames,
-    text: Text,
+    beginning: Beginning,
 ) -> Result<Active, NoMemory>
     ensures state { (s : KernelState) → StandsAt kernel.old s → IfOk result (λ active.
         IsActed kernel.new shell.now (run_of frames.new active)
-        (in_forms frames.old (input_turn s shell.now text))) }
+        (in_forms frames.old (input_turn s shell.now beginning))) }
     ensures terminal { kernel.new.terminal.bytes ≡ kernel.old.terminal.bytes }
 {
     let count = most_read(kernel, shell.pid);
     match take_bytes(alloc, kernel, shell.pid, DescriptorRef::Number(0), count) {
         Ok(told) => {
-            let active = read_by(alloc, kernel, shell, frames, text, told)?;
+            let active = read_by(alloc, kernel, shell, frames, beginning, told)?;
             Ok(active)
         },
         Err(lack) => {
-            drop(text);
+            drop(beginning);
             Err(lack)
         },
     }

@@ -6,6 +6,7 @@ ghost use Rattle.sh_exec_frames.specs.Frames.{ends_shell};
 ghost use Rattle.sh_exec_turns.specs.Acting.{after_refusal, is_fatal, read_turn};
 
 use sh_base::NoMemory;
+use sh_builtin_shell::Shell;
 use sh_exec_actions::status::ERROR;
 use sh_exec_actions::{Action, Active, CommandStatus, Form, failing};
 use sh_exec_command::{Found, find_command};
@@ -13,7 +14,6 @@ use sh_exec_entering::enter;
 use sh_exec_frames::Frames;
 use sh_exec_parts::message::{Refusal, refused};
 use sh_exec_parts::{Queue, Rest};
-use sh_vars::Vars;
 use std::alloc::Global;
 
 /// Whether a text that is refused ends the shell, where one that `command` has run may not.
@@ -36,7 +36,7 @@ pub(crate) fn refuse(alloc: Global, ends_shell: bool, why: Refusal) -> Result<Ac
     Ok(Active::Next(Action::Writing(piece, finish)))
 }
 
-/// A reading turn (XCU 2.1): the next complete command of the rest of a text is entered inside the forms; where none follows the text is done with
+/// A reading turn (XCU 2.1): the next complete command of the rest of a text, by the shell's aliases (XCU 2.3.1), is entered inside the forms; where none follows the text is done with
 /// `status`, that of its last command. What is refused has a message, which may end the shell (2.8.1); where `reads_on` what follows that is read
 /// then. The only error is want of memory, after
 /// which the shell is given up.
@@ -46,12 +46,12 @@ pub fn read(
     rest: Rest,
     status: u8,
     reads_on: bool,
-    vars: &Vars,
+    shell: &Shell,
 ) -> Result<Active, NoMemory>
     ensures { IfOk result (λ active. run_of frames.new active
-        ≡ run_in frames.old (read_turn (ends_shell frames.old) reads_on vars.now status (next_command rest))) }
+        ≡ run_in frames.old (read_turn (ends_shell frames.old) reads_on shell.now.vars status (next_command shell.now.aliases rest))) }
 {
-    match find_command(alloc, rest)? {
+    match find_command(alloc, &shell.aliases, rest)? {
         Found::Nothing => Ok(Active::Done(CommandStatus::unexcused(status))),
         Found::Command(tree, rest) => {
             let items = Queue::new(tree.into_items());
@@ -66,7 +66,7 @@ pub fn read(
                 alloc,
                 frames,
                 items,
-                CommandStatus::unexcused(vars.status()),
+                CommandStatus::unexcused(shell.vars.status()),
             )?;
             Ok(step.into_active())
         },

@@ -62,7 +62,7 @@ pub fn trap(
         },
     }
     take_trap(shell, status);
-    let active = read(alloc, frames, Rest::new(text), 0, false, &shell.vars)?;
+    let active = read(alloc, frames, Rest::new(text), 0, false, shell)?;
     Ok(active)
 }
 
@@ -253,6 +253,6 @@ pub fn interrupt(
             return Err(lack);
         },
     }
-    let active = read(alloc, frames, Rest::new(text), 0, false, &shell.vars)?;
+    let active = read(alloc, frames, Rest::new(text), 0, false, shell)?;
     Ok(active)
 }

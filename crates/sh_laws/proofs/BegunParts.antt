@@ -4,8 +4,8 @@ use Rattle.std.specs.Prelude.{Result, Ok, Err, nat_eq, if◌then◌else◌}
 use Rattle.std.specs.Option.{unwrap_or}
 use Rattle.sh_exec_parts.specs.Simple.{Opened}
 use Rattle.sh_expand.specs.Parts.{inside, program_of}
-use Rattle.sh_parse_commands.specs.Results.{and_then, fault_moved}
-use Rattle.sh_parse_commands.specs.Words.{Reader, answer_of, at_its_level, begins_closed, parts_in, place_in, text_of, whole, with_answer, with_piece, with_pieces, unread}
+use Rattle.sh_parse_leaves.specs.Results.{and_then, fault_moved}
+use Rattle.sh_parse_leaves.specs.Words.{Reader, answer_of, at_its_level, begins_closed, parts_in, place_in, text_of, whole, with_answer, with_piece, with_pieces, unread}
 use Rattle.sh_parse_words.specs.Building.{Building, Outcome, Taken, at_level, braces_part, closed_by, empty_building, finished_by, form_part, last_frame, on, open_braces, opened, other_frames, parameter_part, parts_of, plainly, program_part, skip_close, skip_outcome, skipping, take_by, take_piece, taking, whole_parts, with_bytes, with_form_part, with_literal, with_part, with_program}
 use Rattle.sh_parse_words.specs.Parameters.{braces_of, short}
 use Rattle.sh_parse_words.specs.Places.{behind_piece}

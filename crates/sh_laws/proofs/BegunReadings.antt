@@ -8,17 +8,18 @@ use Rattle.sh_parse_documents.specs.Waiting.{Waiting, behind_token, due_at, noth
 use Rattle.sh_parse_documents.specs.declared.item.Item.{Item}
 use Rattle.sh_parse_commands.specs.Documents.{bodies_of}
 use Rattle.sh_parse_commands.specs.Judging.{Judged, are_whole, is_none, none_of, tree_by}
-use Rattle.sh_parse_commands.specs.Programs.{read_text}
-use Rattle.sh_parse_commands.specs.Results.{and_then}
+use Rattle.sh_parse_commands.specs.Replacing.{origin}
+use Rattle.sh_parse_commands.specs.Programs.{inside_of, read_text}
+use Rattle.sh_parse_leaves.specs.Results.{and_then}
 use Rattle.sh_parse_words.specs.declared.fault.PartFault.{PartFault}
-use Rattle.sh_parse.specs.Aliases.{AliasTable, replacement}
+use Rattle.sh_aliases.specs.Aliases.{AliasTable}
 use Rattle.sh_parse.specs.Reading.{Answer, answer_at_newline, at_cut, at_end, at_last, before_nul, complete_answer, first_answer, is_newline, newline_says, nul_in, reading, refusal, stands_before, unless_nul, with_nul, with_token, source, standing}
 use Rattle.sh_parse.specs.declared.ParseFault.TheVariants.{Refused, Unclosed}
 use Rattle.sh_parse.specs.declared.Reading.TheVariants.{Complete, Blank, More}
 use Rattle.sh_syntax.specs.declared.tree.Parts.{Parts}
 use Rattle.sh_laws.proofs.BegunParts.{Unless, and_then_fits, either}
 use Rattle.sh_laws.proofs.BegunSyntax.{ProgramFits}
-use Rattle.sh_laws.proofs.BegunTexts.{BodiesFit, JudgedFits, bodies_of_fit, bodies_then, read_text_fits, tree_fits, with_item_fits}
+use Rattle.sh_laws.proofs.BegunTexts.{BodiesFit, TokensFit, bodies_of_fit, bodies_then, inside_fits, read_text_fits, tree_fits, with_token_fits}
 
 abbrev pub AnswerFits : Answer → Type 0
 AnswerFits (Ok (Complete tree used)) = ProgramFits tree
@@ -31,7 +32,7 @@ SaidFits None = Unit {0}
 SaidFits (Some answer) = AnswerFits answer
 
 abbrev Fits : Judged → Type 0
-Fits = JudgedFits read_text read_text_fits
+Fits = TokensFit
 
 -- ---- a NUL
 before_nul_fits : (nul used : ℕ) (answer : Answer) → AnswerFits (before_nul nul used answer)
@@ -59,11 +60,11 @@ refusal_fits used (Err f) = tt
 at_newline_fits : (table : AliasTable) (text : List ℕ) (w : Waiting) (newline : Item) (r : Result Judged PartFault) → Unless Fits r → SaidFits (answer_at_newline table text w newline r)
 at_newline_fits table text w newline (Err e) f = tt
 at_newline_fits table text w newline (Ok j) f =
-    let whole : Option Answer = Some (complete_answer j newline.«end» (bodies_of read_text 500 text (due_at newline.token.kind w) newline)) in
+    let whole : Option Answer = Some (complete_answer j newline.«end» (bodies_of (read_text table) 500 text (due_at newline.token.kind w) newline)) in
     let unfit = refusal newline.«end» (with_token table text w newline j) in
     either SaidFits (is_none j) (Some (Ok (Blank newline.«end»))) (if are_whole j then whole else unfit) tt
     (either SaidFits (are_whole j) whole unfit
-    (complete_fits j newline.«end» (bodies_of read_text 500 text (due_at newline.token.kind w) newline) f (bodies_of_fit read_text read_text_fits 500 text (due_at newline.token.kind w) newline))
+    (complete_fits j newline.«end» (bodies_of (read_text table) 500 text (due_at newline.token.kind w) newline) f (bodies_of_fit (read_text table) (read_text_fits table) 500 text (due_at newline.token.kind w) newline))
     (refusal_fits newline.«end» (with_token table text w newline j)))
 
 at_end_fits : (text : List ℕ) (r : Result Judged PartFault) → Unless Fits r → AnswerFits (at_end text r)
@@ -97,7 +98,7 @@ first_fits table e text w r (t ∷ tokens) ending f =
     (either SaidFits (is_newline t.token.kind) (newline_says table text w t r) None (newline_fits table text w t r f) tt)
     (first_fits table e text (behind_token t.token.kind w) (and_then r (with_token table text w t)) tokens ending
     (and_then_fits Fits Fits r (with_token table text w t) f
-    (λ j g. with_item_fits read_text read_text_fits 500 text (due_at t.token.kind w) (replacement table j t) j g)))
+    (λ j g. with_token_fits table (inside_of table) (inside_fits table) (origin [] 500 text) (due_at t.token.kind w) t j g)))
 
 pub reading_fits : (table : AliasTable) (e : Bool) (text : List ℕ) → AnswerFits (reading table e text)
 unfolding reading

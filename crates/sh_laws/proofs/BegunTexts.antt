@@ -25,13 +25,16 @@ use Rattle.sh_parse_words.specs.Building.{parts_of, with_literal}
 use Rattle.sh_parse_words.specs.declared.fault.PartFault.{PartFault}
 use Rattle.sh_parse_words.specs.declared.fault.PartFault.TheVariants as fault
 use Rattle.sh_parse_commands.specs.Documents.{bodies_of, document_parts, expanded_body, prefix_of, unless, with_documents}
-use Rattle.sh_parse_commands.specs.Inputs.{input_of}
-use Rattle.sh_parse_commands.specs.Judging.{Judged, are_whole, bodies_behind, none_of, open_in, taken_item, takes, tree_by, with_body, with_bodies, with_input, with_item, with_items, with_leaf}
-use Rattle.sh_parse_commands.specs.Leaves.{assignment_leaf, items_of as parts_items, leaf_by, leaf_of, name_size, operator_leaf, plain_leaf, with_prefix, word_leaf, word_of}
-use Rattle.sh_parse_commands.specs.Programs.{ended_by, program_in, program_of, programs, read_text}
-use Rattle.sh_parse_commands.specs.Results.{fault_moved}
-use Rattle.sh_parse_commands.specs.Sources.{behind_pieces, text_between}
-use Rattle.sh_parse_commands.specs.Words.{Reader, parts_in, within}
+use Rattle.sh_parse_leaves.specs.Inputs.{input_of}
+use Rattle.sh_parse_commands.specs.Judging.{Judged, are_whole, bodies_behind, none_of, open_in, taken_item, takes, tree_by, with_body, with_bodies, with_input, with_item, with_leaf}
+use Rattle.sh_parse_leaves.specs.Leaves.{assignment_leaf, items_of as parts_items, leaf_by, leaf_of, name_size, operator_leaf, plain_leaf, with_prefix, word_leaf, word_of}
+use Rattle.sh_aliases.specs.declared.alias.Alias.{Alias}
+use Rattle.sh_aliases.specs.Aliases.{AliasTable}
+use Rattle.sh_parse_commands.specs.Replacing.{Inside, Origin, origin, alias_at, behind_value, value_origin, with_token, with_token_by, with_tokens, with_value}
+use Rattle.sh_parse_commands.specs.Programs.{depth_of, ended_by, inside_at, inside_of, program_in, read_text}
+use Rattle.sh_parse_leaves.specs.Results.{and_then, fault_moved}
+use Rattle.sh_parse_leaves.specs.Sources.{behind_pieces, text_between}
+use Rattle.sh_parse_leaves.specs.Words.{Reader, parts_in, within}
 use Rattle.sh_syntax.specs.declared.tree.CompoundList.{CompoundList}
 use Rattle.sh_syntax.specs.declared.tree.Parts.{Parts}
 use Rattle.sh_syntax.specs.declared.tree.Part.{Part}
@@ -155,7 +158,7 @@ module _ (read : Reader) (reads : ReaderFits read) where
   with_leaf_fits : (left : ℕ) (text : List ℕ) (due : List Delimiter) (item : Item) (j : Judged) → JudgedFits j → Unless JudgedFits (with_leaf (within read left text) due item j)
   with_leaf_fits left text due item j f =
       and_then_fits LeafFits JudgedFits (leaf_of read left text item.token.kind item.token.span) _ (leaf_of_fits read reads text left item.token.kind item.token.span)
-      (λ l g. and_then_fits BodiesFit JudgedFits (bodies_of read left text due item) (λ others. Ok (record j { leaves = j.leaves ++ l ∷ []; bodies = j.bodies ++ others })) (bodies_of_fit left text due item)
+      (λ l g. and_then_fits BodiesFit JudgedFits (bodies_of read left text due item) (λ others. Ok (record j { leaves = j.leaves ++ l ∷ []; bodies = j.bodies ++ others; is_behind_blank = false })) (bodies_of_fit left text due item)
       (λ others h. (leaves_then j.leaves (l ∷ []) f.0 (g, tt), bodies_then j.bodies others f.1 h)))
 
   taken_item_fits : (left : ℕ) (text : List ℕ) (due : List Delimiter) (item : Item) (j : Judged) → JudgedFits j → Unless JudgedFits (taken_item (within read left text) due item j)
@@ -166,12 +169,6 @@ module _ (read : Reader) (reads : ReaderFits read) where
   pub with_item_fits : (left : ℕ) (text : List ℕ) (due : List Delimiter) (item : Item) (j : Judged) → JudgedFits j → Unless JudgedFits (with_item (within read left text) due item j)
   unfolding with_item
   with_item_fits left text due item j f = taken_item_fits left text due item (with_input j (input_of item)) f
-
-  with_items_fit : (left : ℕ) (text : List ℕ) (w : Waiting) (is : List Item) (j : Judged) → JudgedFits j → Unless JudgedFits (with_items (within read left text) w is j)
-  with_items_fit left text w [] j f = f
-  with_items_fit left text w (i ∷ is) j f =
-      and_then_fits JudgedFits JudgedFits (with_item (within read left text) (due_at i.token.kind w) i j) (λ k. with_items (within read left text) (behind_token i.token.kind w) is k)
-      (with_item_fits left text (due_at i.token.kind w) i j f) (λ k g. with_items_fit left text (behind_token i.token.kind w) is k g)
 
 -- ---- the tree of tokens
 body_fits : (l : Leaf) (bodies : List Parts) → LeafFits l → BodiesFit bodies → LeafFits (with_body l bodies)
@@ -199,24 +196,61 @@ tree_fits j f g =
     (syntax_fits (tree_of j.grammar j.tokens) (with_bodies j.leaves j.bodies) (with_bodies_fit j.leaves j.bodies f g))
 
 -- ---- texts
-module _ (read : Reader) (reads : ReaderFits read) where
-  ended_fits : (left : ℕ) (text : List ℕ) (w : Waiting) (j : Judged) (ending : Ending) → JudgedFits read reads j → Unless ProgramFits (ended_by left text w j ending)
-  ended_fits left text w j AtEnd f = either (Unless ProgramFits) (are_whole j) (Ok (tree_by j)) (Err (fault.Refused (length text))) (tree_fits j f.0 f.1) tt
-  ended_fits left text w j (Cut at) f = tt
+-- what tokens are to the tree, and their bodies
+abbrev pub TokensFit : Judged → Type 0
+TokensFit j = LeavesFit j.leaves × BodiesFit j.bodies
 
-  program_of_fits : (left : ℕ) (text : List ℕ) (found : Items) → Unless ProgramFits (program_of read left text found)
-  program_of_fits left text found =
-      and_then_fits (JudgedFits read reads) ProgramFits (with_items (within read left text) nothing found.items (none_of substitution))
-      (λ j. ended_by left text (waiting_behind nothing found.items) j found.ending)
-      (with_items_fit read reads left text nothing found.items (none_of substitution) (tt, tt)) (λ j g. ended_fits left text (waiting_behind nothing found.items) j found.ending g)
+pub record InsideFits (inside : Inside) : Type 0 where
+  pub read : (from : List (List ℕ)) → ReaderFits (inside.read from)
+  pub value : (o : Origin) (items : List Item) (j : Judged) → TokensFit j → Unless TokensFit (inside.value o items j)
 
-  program_in_fits : ReaderFits (program_in read)
+module _ (table : AliasTable) (inside : Inside) (fits : InsideFits inside) where
+  value_fits : (o : Origin) (place : ℕ) (alias : Alias) (j : Judged) → TokensFit j → Unless TokensFit (with_value inside o place alias j)
+  value_fits o place alias j f =
+      moved_fits TokensFit (λ at. place) (and_then (inside.value (value_origin o alias) alias.items j) (λ k. Ok (behind_value alias k)))
+      (and_then_fits TokensFit TokensFit (inside.value (value_origin o alias) alias.items j) (λ k. Ok (behind_value alias k)) (fits.value (value_origin o alias) alias.items j f) (λ k g. g))
+
+  token_by_fits : (o : Origin) (due : List Delimiter) (item : Item) (j : Judged) → TokensFit j → (a : Option Alias) → Unless TokensFit (with_token_by inside o due item j a)
+  token_by_fits o due item j f None = with_item_fits (inside.read o.from) (fits.read o.from) o.left o.text due item j f
+  token_by_fits o due item j f (Some alias) = value_fits o item.token.span.start alias j f
+
+  pub with_token_fits : (o : Origin) (due : List Delimiter) (item : Item) (j : Judged) → TokensFit j → Unless TokensFit (with_token table inside o due item j)
+  unfolding with_token
+  with_token_fits o due item j f = token_by_fits o due item j f (alias_at table o.from j item)
+
+  with_tokens_fit : (o : Origin) (w : Waiting) (is : List Item) (j : Judged) → TokensFit j → Unless TokensFit (with_tokens table inside o w is j)
+  with_tokens_fit o w [] j f = f
+  with_tokens_fit o w (i ∷ is) j f =
+      and_then_fits TokensFit TokensFit (with_token table inside o (due_at i.token.kind w) i j) (λ k. with_tokens table inside o (behind_token i.token.kind w) is k)
+      (with_token_fits o (due_at i.token.kind w) i j f) (λ k g. with_tokens_fit o (behind_token i.token.kind w) is k g)
+
+  ended_fits : (o : Origin) (w : Waiting) (j : Judged) (ending : Ending) → TokensFit j → Unless ProgramFits (ended_by o.left o.text w j ending)
+  ended_fits o w j AtEnd f = either (Unless ProgramFits) (are_whole j) (Ok (tree_by j)) (Err (fault.Refused (length o.text))) (tree_fits j f.0 f.1) tt
+  ended_fits o w j (Cut at) f = tt
+
+  program_in_fits : (o : Origin) → Unless ProgramFits (program_in table inside o)
   unfolding program_in
-  program_in_fits left text = program_of_fits left text (items_of true text)
+  program_in_fits o =
+      and_then_fits TokensFit ProgramFits (with_tokens table inside o nothing (items_of true o.text).items (none_of substitution))
+      (λ j. ended_by o.left o.text (waiting_behind nothing (items_of true o.text).items) j (items_of true o.text).ending)
+      (with_tokens_fit o nothing (items_of true o.text).items (none_of substitution) (tt, tt))
+      (λ j g. ended_fits o (waiting_behind nothing (items_of true o.text).items) j (items_of true o.text).ending g)
 
-programs_fit : (depth : ℕ) → ReaderFits (programs depth)
-programs_fit zero left text = tt
-programs_fit (suc depth) left text = program_in_fits (programs depth) (programs_fit depth) left text
+inside_fits_at : (table : AliasTable) (depth : ℕ) → InsideFits (inside_at table depth)
+inside_fits_at table zero = record { read = λ from left text. tt; value = λ o items j f. tt }
+inside_fits_at table (suc depth) =
+    let k = inside_fits_at table depth in
+    record {
+      read = λ from left text. program_in_fits table (inside_at table depth) k (origin from left text);
+      value = λ o items j f. with_tokens_fit table (inside_at table depth) k o nothing items j f;
+    }
 
-pub read_text_fits : ReaderFits read_text
-read_text_fits left text = programs_fit (suc (left + length text)) left text
+pub inside_fits : (table : AliasTable) → InsideFits (inside_of table)
+inside_fits table =
+    record {
+      read = λ from left text. (inside_fits_at table (depth_of table (origin from left text))).read from left text;
+      value = λ o items j f. (inside_fits_at table (suc (depth_of table o))).value o items j f;
+    }
+
+pub read_text_fits : (table : AliasTable) → ReaderFits (read_text table)
+read_text_fits table = (inside_fits table).read []

@@ -24,12 +24,11 @@ use Rattle.sh_parse_words.specs.declared.fault.PartFault.{PartFault}
 use Rattle.sh_parse_words.specs.declared.fault.PartFault.TheVariants as fault
 use Rattle.sh_parse_words.specs.Building.{parts_of, with_literal}
 use Rattle.sh_parse_words.specs.Places.{behind_joins, behind_character, behind_characters, behind_piece, place_of}
-use Rattle.sh_parse_commands.specs.Results.{and_then, fault_moved}
-use Rattle.sh_parse_commands.specs.Sources.{text_between}
+use Rattle.sh_parse_leaves.specs.Results.{and_then, fault_moved}
+use Rattle.sh_parse_leaves.specs.Sources.{text_between}
 use Rattle.sh_parse_commands.specs.Documents.{pieces_or_none, closed_by, closed_pieces, prefix_by, prefix_of, unless, expanded_body, document_parts, with_documents, bodies_of}
-use Rattle.sh_parse_commands.specs.Programs.{read_text}
-use Rattle.sh_parse_commands.specs.Words.{parts_in}
-use Rattle.sh_parse.proofs.Faults.{texts_in}
+use Rattle.sh_parse_leaves.specs.Words.{Reader, parts_in}
+use Rattle.sh_parse.proofs.Faults.{ReadsIn}
 use Rattle.sh_laws.specs.Standing.{Stands}
 use Rattle.sh_laws.proofs.Levels.{opens_some, body_deep_some}
 use Rattle.sh_laws.proofs.Pieces.{Pieces, pieces_of, plain_behind, quoted_behind}
@@ -122,7 +121,7 @@ split bytes place =
     sym (take-append-drop place bytes) ∙ ap (λ n. take n bytes ++ drop place bytes) (sym none)
 
 -- ---- the pieces that a body is read by
-module _ (bytes : List ℕ) where
+module _ (read : Reader) (reads : ReadsIn read) (bytes : List ℕ) where
   abbrev PlacedIn : List Piece → Type 0
   PlacedIn ms = Placed (length bytes) 0 (length bytes) ms bytes
 
@@ -158,28 +157,28 @@ module _ (bytes : List ℕ) where
 
   -- ---- a body that is expanded
   abbrev Found : {A : Type 0} → Result A PartFault → Type 0
-  Found x = ResultAt read_text texts_in bytes 0 (length bytes) (omega arith) x
+  Found x = ResultAt read reads bytes 0 (length bytes) (omega arith) x
 
-  read_parts : (left : ℕ) (ms : List Piece) → PlacedIn ms → Found (parts_in read_text left bytes ms bytes)
-  read_parts left ms p = parts_at read_text texts_in bytes 0 (length bytes) (omega arith) left ms bytes p (omega arith)
+  read_parts : (left : ℕ) (ms : List Piece) → PlacedIn ms → Found (parts_in read left bytes ms bytes)
+  read_parts left ms p = parts_at read reads bytes 0 (length bytes) (omega arith) left ms bytes p (omega arith)
 
   then_found : {A B : Type 0} (x : Result A PartFault) (f : A → Result B PartFault) → Found x → ((y : A) → Found (f y)) → Found (and_then x f)
-  then_found x f h k = then_at read_text texts_in bytes 0 (length bytes) (omega arith) x f h k
+  then_found x f h k = then_at read reads bytes 0 (length bytes) (omega arith) x f h k
 
   prefix_stands : (left : ℕ) (answer : BodyPieces) → IsBody (length bytes) bytes answer
-      → Found (and_then (parts_in read_text left bytes (prefix_by bytes (body_answer answer)).pieces bytes) (λ parts. unless (prefix_by bytes (body_answer answer)).fault parts))
+      → Found (and_then (parts_in read left bytes (prefix_by bytes (body_answer answer)).pieces bytes) (λ parts. unless (prefix_by bytes (body_answer answer)).fault parts))
   prefix_stands left (AllOf ms) h =
-      then_found (parts_in read_text left bytes ms bytes) (λ parts. Ok parts) (read_parts left ms (placed_prefix (length bytes) bytes [] (sym (append-nil bytes)) (AllOf ms) h)) (λ parts. tt)
+      then_found (parts_in read left bytes ms bytes) (λ parts. Ok parts) (read_parts left ms (placed_prefix (length bytes) bytes [] (sym (append-nil bytes)) (AllOf ms) h)) (λ parts. tt)
   prefix_stands left (OpenAt place) (rest, form, to) =
       let some = opens_some true rest form.begins in
-      then_found (parts_in read_text left bytes (closed_pieces (text_between bytes 0 place)) bytes) (λ parts. Err (fault.Refused place))
+      then_found (parts_in read left bytes (closed_pieces (text_between bytes 0 place)) bytes) (λ parts. Err (fault.Refused place))
       (read_parts left (closed_pieces (text_between bytes 0 place)) (placed_before place)) (λ parts. (omega arith, omega (some, to, arith)))
   prefix_stands left (TooDeepAt place) (rest, deep, to) =
       let some = body_deep_some (length bytes) bytes rest deep in
-      then_found (parts_in read_text left bytes (closed_pieces (text_between bytes 0 place)) bytes) (λ parts. Err (fault.TooDeep place))
+      then_found (parts_in read left bytes (closed_pieces (text_between bytes 0 place)) bytes) (λ parts. Err (fault.TooDeep place))
       (read_parts left (closed_pieces (text_between bytes 0 place)) (placed_before place)) (λ parts. (omega arith, omega (some, to, arith)))
 
-  body_stands : (left : ℕ) → Found (expanded_body read_text left bytes)
+  body_stands : (left : ℕ) → Found (expanded_body read left bytes)
   unfolding expanded_body prefix_of
   body_stands left = prefix_stands left (pieces_of_body (length bytes) bytes) ((body_law (length bytes) bytes (pieces_of_body (length bytes) bytes)).0 refl)
 
@@ -330,22 +329,22 @@ quoted_stands : (lo hi : ℕ) (z : Bool) (parts : Parts) (x : Result Parts PartF
 quoted_stands lo hi true parts x h = tt
 quoted_stands lo hi false parts x h = h
 
-found_all : (bytes : List ℕ) (x : Result Parts PartFault) → Found bytes x → All 0 (length bytes) x
-found_all bytes (Ok x) h = tt
-found_all bytes (Err f) h = h
+found_all : (read : Reader) (reads : ReadsIn read) (bytes : List ℕ) (x : Result Parts PartFault) → Found read reads bytes x → All 0 (length bytes) x
+found_all read reads bytes (Ok x) h = tt
+found_all read reads bytes (Err f) h = h
 
-document_stands : (left lo hi : ℕ) (d : Document) → DocumentAt lo hi d → All lo hi (document_parts read_text left d)
+document_stands : (read : Reader) (reads : ReadsIn read) (left lo hi : ℕ) (d : Document) → DocumentAt lo hi d → All lo hi (document_parts read left d)
 unfolding document_parts
-document_stands left lo hi d h =
-    quoted_stands lo hi d.is_quoted (parts_of (with_literal [] d.text)) (fault_moved (λ at. place_at d at) (expanded_body read_text left d.text))
-    (moved_stands lo hi (length d.text) (λ at. place_at d at) (λ at l. place_stands lo hi d h at l) (expanded_body read_text left d.text)
-    (found_all d.text (expanded_body read_text left d.text) (body_stands d.text left)))
+document_stands read reads left lo hi d h =
+    quoted_stands lo hi d.is_quoted (parts_of (with_literal [] d.text)) (fault_moved (λ at. place_at d at) (expanded_body read left d.text))
+    (moved_stands lo hi (length d.text) (λ at. place_at d at) (λ at l. place_stands lo hi d h at l) (expanded_body read left d.text)
+    (found_all read reads d.text (expanded_body read left d.text) (body_stands read reads d.text left)))
 
-all_stand : (left lo hi : ℕ) (ds : List Document) (bodies : List Parts) → DocumentsAt lo hi ds → All lo hi (with_documents read_text left bodies ds)
-all_stand left lo hi [] bodies h = tt
-all_stand left lo hi (d ∷ ds) bodies h =
-    then_all lo hi (document_parts read_text left d) (λ parts. with_documents read_text left (bodies ++ parts ∷ []) ds) (document_stands left lo hi d h.0)
-    (λ parts. all_stand left lo hi ds (bodies ++ parts ∷ []) h.1)
+all_stand : (read : Reader) (reads : ReadsIn read) (left lo hi : ℕ) (ds : List Document) (bodies : List Parts) → DocumentsAt lo hi ds → All lo hi (with_documents read left bodies ds)
+all_stand read reads left lo hi [] bodies h = tt
+all_stand read reads left lo hi (d ∷ ds) bodies h =
+    then_all lo hi (document_parts read left d) (λ parts. with_documents read left (bodies ++ parts ∷ []) ds) (document_stands read reads left lo hi d h.0)
+    (λ parts. all_stand read reads left lo hi ds (bodies ++ parts ∷ []) h.1)
 
 wider : (lo hi stop : ℕ) (f : PartFault) → hi ≤ stop → Stands lo hi f → Stands lo stop f
 wider lo hi stop (fault.BadSubstitution at) l h = let a : at < hi = h.1 in (h.0, omega (a, l, arith))
@@ -353,13 +352,13 @@ wider lo hi stop (fault.TooDeep at) l h = let a : at < hi = h.1 in (h.0, omega (
 wider lo hi stop (fault.Refused at) l h = let a : at < hi = h.1 in (h.0, omega (a, l, arith))
 wider lo hi stop (fault.NoMemory _) l h = tt
 
-pub bodies_stand : (left : ℕ) (text : List ℕ) (due : List Delimiter) (t : Item) (f : PartFault) → t.token.span.«end» ≤ t.«end» → bodies_of read_text left text due t ≡ Err f
+pub bodies_stand : (read : Reader) (reads : ReadsIn read) (left : ℕ) (text : List ℕ) (due : List Delimiter) (t : Item) (f : PartFault) → t.token.span.«end» ≤ t.«end» → bodies_of read left text due t ≡ Err f
     → Stands t.token.span.«end» t.«end» f
 unfolding bodies_of
-bodies_stand left text due t f l h =
+bodies_stand read reads left text due t f l h =
     let start = t.token.span.«end» in
     let bytes = between start t.«end» text in
     let a : length bytes ≡ min (t.«end» - start) (length (drop start text)) = length-take (t.«end» - start) (drop start text) in
     let b : min (t.«end» - start) (length (drop start text)) ≤ t.«end» - start = min-le_left (t.«end» - start) (length (drop start text)) in
     wider start (start + length bytes) t.«end» f (omega (a, b, l, arith))
-    (subst (λ x. All start (start + length bytes) x) h (all_stand left start (start + length bytes) (documents due start bytes) [] (documents_at start due bytes)))
+    (subst (λ x. All start (start + length bytes) x) h (all_stand read reads left start (start + length bytes) (documents due start bytes) [] (documents_at start due bytes)))

@@ -54,7 +54,7 @@ use Rattle.sh_expand.specs.Parts.{expand}
 use Rattle.sh_expand.specs.declared.wanted.Wanted.{Wanted}
 use Rattle.sh_files.specs.Nodes.{FileMap}
 use Rattle.sh_kernel_descriptors.specs.declared.fault.KernelFault.{KernelFault}
-use Rattle.sh_parse.specs.Aliases.{no_aliases}
+use Rattle.sh_aliases.specs.Aliases.{AliasTable}
 use Rattle.sh_pattern.specs.Deciding.{is_match}
 use Rattle.sh_pattern.specs.declared.pattern_byte.PatternByte.{PatternByte}
 use Rattle.sh_parse.specs.Reading.{reading}
@@ -517,14 +517,14 @@ answer_holds (Err (parse_fault.BadSubstitution at used)) text on f g = tt
 answer_holds (Err (parse_fault.TooDeep at used)) text on f g = tt
 answer_holds (Err (parse_fault.NoMemory lack)) text on f g = tt
 
-found_holds : (text : List ℕ) (count : ℕ) → FoundBegins (found_behind text count)
-found_holds [] count = tt
-found_holds (byte ∷ bytes) (suc count) = found_holds bytes count
-found_holds (byte ∷ bytes) zero =
-    answer_holds (reading no_aliases true (byte ∷ bytes)) (byte ∷ bytes) (found_behind bytes) (reading_fits no_aliases true (byte ∷ bytes)) (λ count. found_holds bytes count)
+found_holds : (aliases : AliasTable) (text : List ℕ) (count : ℕ) → FoundBegins (found_behind aliases text count)
+found_holds aliases [] count = tt
+found_holds aliases (byte ∷ bytes) (suc count) = found_holds aliases bytes count
+found_holds aliases (byte ∷ bytes) zero =
+    answer_holds (reading aliases true (byte ∷ bytes)) (byte ∷ bytes) (found_behind aliases bytes) (reading_fits aliases true (byte ∷ bytes)) (λ count. found_holds aliases bytes count)
 
-pub next_holds : (text : List ℕ) → FoundBegins (next_command text)
-next_holds text = found_holds text 0
+pub next_holds : (aliases : AliasTable) (text : List ℕ) → FoundBegins (next_command aliases text)
+next_holds aliases text = found_holds aliases text 0
 
 -- what an interactive shell has read by descriptor 0
 abbrev pub InputBegins : InputFound → Type 0
@@ -543,5 +543,5 @@ input_by_holds (Err (parse_fault.BadSubstitution at used)) text f = tt
 input_by_holds (Err (parse_fault.TooDeep at used)) text f = tt
 input_by_holds (Err (parse_fault.NoMemory lack)) text f = tt
 
-pub input_begins : (is_end : Bool) (text : List ℕ) → InputBegins (input_found is_end text)
-input_begins is_end text = input_by_holds (reading no_aliases is_end text) text (reading_fits no_aliases is_end text)
+pub input_begins : (aliases : AliasTable) (is_end : Bool) (text : List ℕ) → InputBegins (input_found aliases is_end text)
+input_begins aliases is_end text = input_by_holds (reading aliases is_end text) text (reading_fits aliases is_end text)

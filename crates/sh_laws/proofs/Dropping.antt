@@ -87,8 +87,8 @@ input_stays s shell (leave.Continue inside) = refl
 
 place_stays : (around : List Form) (s : KernelState) (shell : Shell) (next : Action) (l : Leave) → Stays shell (place_left around s shell next l)
 place_stays around s shell (Reading rest status) l = text_stays (goes_on_reading around shell) s shell rest l
-place_stays around s shell (ReadInput text) l = input_stays s shell l
-place_stays around s shell (Prompting text) l = refl
+place_stays around s shell (ReadInput b) l = input_stays s shell l
+place_stays around s shell (Prompting b) l = refl
 place_stays around s shell (Expanding wants pending) l = refl
 place_stays around s shell (ReadSubstitution substitution) l = refl
 place_stays around s shell (WaitSubstitution substitution) l = refl
@@ -146,8 +146,8 @@ outward_stays (form ∷ forms) a = outward_stays forms (after forms form a) ∙ 
 -- ---- what is dropped
 run_stays : (around : List Form) (s : KernelState) (shell : Shell) (place : Action) → Stays shell (at_action around s shell (dropped_run place))
 run_stays around s shell (Reading rest status) = after_stays around (Text rest) (at_action (Text rest ∷ around) s shell (At (Leaving (leave.Fault 130))))
-run_stays around s shell (ReadInput text) = after_stays around (Input []) (at_action (Input [] ∷ around) s shell (At (Leaving (leave.Fault 130))))
-run_stays around s shell (Prompting text) = refl
+run_stays around s shell (ReadInput b) = after_stays around (Input []) (at_action (Input [] ∷ around) s shell (At (Leaving (leave.Fault 130))))
+run_stays around s shell (Prompting b) = refl
 run_stays around s shell (Expanding wants pending) = refl
 run_stays around s shell (ReadSubstitution substitution) = refl
 run_stays around s shell (WaitSubstitution substitution) = refl

@@ -7,8 +7,9 @@ use Rattle.sh_parse_words.specs.declared.fault.PartFault.{PartFault}
 use Rattle.sh_parse_words.specs.declared.fault.PartFault.TheVariants as fault
 use Rattle.sh_parse_commands.specs.Defined.{Judge, opened, leaf_at, bodies_at, HasFault, refused, too_deep, in_word, in_body, FirstFault}
 use Rattle.sh_parse_commands.specs.Documents.{bodies_of}
-use Rattle.sh_parse_commands.specs.Leaves.{leaf_of}
-use Rattle.sh_parse_commands.specs.Programs.{read_text}
+use Rattle.sh_parse_leaves.specs.Leaves.{leaf_of}
+use Rattle.sh_parse_leaves.specs.Words.{Reader}
+use Rattle.sh_parse.proofs.Faults.{ReadsIn}
 use Rattle.sh_parse.specs.Insides.{AreInside}
 use Rattle.sh_parse.proofs.Insides.{inside_of}
 use Rattle.sh_laws.specs.Standing.{Stands}
@@ -26,19 +27,19 @@ ordered : (at size : ℕ) (before : List Item) (t : Item) (after : List Item) �
 ordered at size [] t after h = (h.1, h.2)
 ordered at size (b ∷ before) t after h = ordered b.«end» size before t after h.4
 
-module _ (e : Bool) (text : List ℕ) (small : length text < 2 ^ 64) (g : Judge) (reads : g.read ≡ read_text) (here : g.text ≡ text) where
+module _ (read : Reader) (reads : ReadsIn read) (e : Bool) (text : List ℕ) (small : length text < 2 ^ 64) (g : Judge) (by : g.read ≡ read) (here : g.text ≡ text) where
   of_word : (before : List Item) (t : Item) (after : List Item) → (items_of e text).items ≡ before ++ t ∷ after → (f : PartFault) → leaf_at g before t ≡ Err f
       → Stands t.token.span.start t.token.span.«end» f
   of_word before t after j f h =
       let left = g.left - opened g (before ++ t ∷ []) in
-      faults_stand e text small before t after j left f
-      (subst (λ r. leaf_of r left text t.token.kind t.token.span ≡ Err f) reads (subst (λ z. leaf_of g.read left z t.token.kind t.token.span ≡ Err f) here h))
+      faults_stand read reads e text small before t after j left f
+      (subst (λ r. leaf_of r left text t.token.kind t.token.span ≡ Err f) by (subst (λ z. leaf_of g.read left z t.token.kind t.token.span ≡ Err f) here h))
 
   of_bodies : (before : List Item) (t : Item) (f : PartFault) → t.token.span.«end» ≤ t.«end» → bodies_at g before t ≡ Err f → Stands t.token.span.«end» t.«end» f
   of_bodies before t f l h =
       let left = g.left - opened g (before ++ t ∷ []) in
       let due = due_at t.token.kind (waiting_behind nothing before) in
-      bodies_stand left text due t f l (subst (λ r. bodies_of r left text due t ≡ Err f) reads (subst (λ z. bodies_of g.read left z due t ≡ Err f) here h))
+      bodies_stand read reads left text due t f l (subst (λ r. bodies_of r left text due t ≡ Err f) by (subst (λ z. bodies_of g.read left z due t ≡ Err f) here h))
 
   of_token : (before : List Item) (t : Item) (after : List Item) → (items_of e text).items ≡ before ++ t ∷ after → (f : PartFault) → HasFault g before t f
       → (t.token.span.start < t.token.span.«end») × (t.token.span.«end» ≤ t.«end») → Stands t.token.span.start t.«end» f

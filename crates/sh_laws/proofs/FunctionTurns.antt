@@ -28,6 +28,7 @@ use Rattle.sh_exec_actions.specs.declared.action.Stages.{Stages}
 use Rattle.sh_exec_actions.specs.declared.action.Substitution.{Substitution}
 use Rattle.sh_exec_actions.specs.declared.action.ToExpand.{ToExpand}
 use Rattle.sh_exec_actions.specs.declared.action.Undo.{Undo}
+use Rattle.sh_exec_actions.specs.declared.beginning.Beginning.{Beginning}
 use Rattle.sh_exec_actions.specs.declared.form.Form.{Form}
 use Rattle.sh_exec_actions.specs.declared.form.Form.TheVariants.{Text, Input, Commands, Joined, Negated, Restoring, If, Condition, Body, ForBody, Call, Evaluation, Trapped, Interruption, FailuresIgnored}
 use Rattle.sh_exec_actions.specs.declared.status.CommandStatus.{CommandStatus}
@@ -143,6 +144,7 @@ jobs_ran_keeps s shell (Err why) f = f
 
 built_in_keeps : (s : KernelState) (shell : Shell) (last : ℕ) (b : Builtin) (arguments : List (List ℕ)) → Keeps shell → Keeps (built_in s shell last b arguments).shell
 unfolding built_in
+built_in_keeps s shell last builtin.Alias arguments f = f
 built_in_keeps s shell last builtin.Bg arguments f = f
 built_in_keeps s shell last builtin.Bracket arguments f = f
 built_in_keeps s shell last builtin.Break arguments f = f
@@ -169,6 +171,7 @@ built_in_keeps s shell last builtin.Shift arguments f = f
 built_in_keeps s shell last builtin.Test arguments f = f
 built_in_keeps s shell last builtin.Trap arguments f = f
 built_in_keeps s shell last builtin.True arguments f = f
+built_in_keeps s shell last builtin.Unalias arguments f = f
 built_in_keeps s shell last builtin.Unset arguments f = unset_hold shell.functions (functions_to_unset arguments) f
 built_in_keeps s shell last builtin.Wait arguments f = f
 
@@ -250,8 +253,8 @@ input_left_keeps s shell (leave.Continue inside) f = f
 
 place_left_keeps : (around : List Form) (s : KernelState) (shell : Shell) (next : Action) (l : Leave) → Keeps shell → Keeps (place_left around s shell next l).shell
 place_left_keeps around s shell (Reading rest status) l f = text_left_keeps (goes_on_reading around shell) s shell rest l f
-place_left_keeps around s shell (ReadInput text) l f = input_left_keeps s shell l f
-place_left_keeps around s shell (Prompting text) l f = f
+place_left_keeps around s shell (ReadInput b) l f = input_left_keeps s shell l f
+place_left_keeps around s shell (Prompting b) l f = f
 place_left_keeps around s shell (Expanding wants pending) l f = f
 place_left_keeps around s shell (ReadSubstitution substitution) l f = f
 place_left_keeps around s shell (WaitSubstitution substitution) l f = f
@@ -414,8 +417,8 @@ trap_keeps s shell status f = trap_by_keeps s shell status (action_of shell.trap
 -- ---- a trap on a signal
 before_keeps : (shell : Shell) (place : Action) → Keeps shell → Keeps (shell_before shell place)
 before_keeps shell (Reading rest status) f = f
-before_keeps shell (Prompting text) f = f
-before_keeps shell (ReadInput text) f = f
+before_keeps shell (Prompting b) f = f
+before_keeps shell (ReadInput b) f = f
 before_keeps shell (Expanding wants pending) f = f
 before_keeps shell (ReadSubstitution substitution) f = f
 before_keeps shell (WaitSubstitution substitution) f = f
@@ -547,42 +550,42 @@ expanded_keeps s shell (expanded.Need program wants pending) f = substitute_keep
 expanded_keeps s shell (expanded.Go move) f = f
 
 -- ---- the commands of an interactive shell
-job_written_keeps : (b : Bool) (g : Giving) (shell : Shell) (text : List ℕ) (number : ℕ) → Keeps shell
-    → PlacedKeeps (if b then stays g.after shell text else behind_job g.after (with_job_told g.after shell number) text)
-job_written_keeps true g shell text number f = f
-job_written_keeps false g shell text number f = f
+job_written_keeps : (c : Bool) (g : Giving) (shell : Shell) (b : Beginning) (number : ℕ) → Keeps shell
+    → PlacedKeeps (if c then stays g.after shell b else behind_job g.after (with_job_told g.after shell number) b)
+job_written_keeps true g shell b number f = f
+job_written_keeps false g shell b number f = f
 
-prompt_written_keeps : (b : Bool) (g : Giving) (shell : Shell) (text : List ℕ) → Keeps shell
-    → PlacedKeeps (if b then stays g.after shell text else at_place g.after shell (Next (ReadInput text)))
-prompt_written_keeps true g shell text f = f
-prompt_written_keeps false g shell text f = f
+prompt_written_keeps : (c : Bool) (g : Giving) (shell : Shell) (b : Beginning) → Keeps shell
+    → PlacedKeeps (if c then stays g.after shell b else at_place g.after shell (Next (ReadInput b)))
+prompt_written_keeps true g shell b f = f
+prompt_written_keeps false g shell b f = f
 
-prompt_by_keeps : (s : KernelState) (shell : Shell) (text : List ℕ) (o : Option ℕ) → Keeps shell → PlacedKeeps (prompt_by s shell text o)
-prompt_by_keeps s shell text (Some number) f =
+prompt_by_keeps : (s : KernelState) (shell : Shell) (b : Beginning) (o : Option ℕ) → Keeps shell → PlacedKeeps (prompt_by s shell b o)
+prompt_by_keeps s shell b (Some number) f =
     let g = give_bytes s shell.pid 2 (job_lines s.machine.processes (up_to_date s shell).jobs Short (number ∷ [])) in
-    job_written_keeps (is_waiting g.told) g (up_to_date s shell) text number f
-prompt_by_keeps s shell text None f =
-    let g = give_bytes s shell.pid 2 (prompt_of shell.vars text) in prompt_written_keeps (is_waiting g.told) g shell text f
+    job_written_keeps (is_waiting g.told) g (up_to_date s shell) b number f
+prompt_by_keeps s shell b None f =
+    let g = give_bytes s shell.pid 2 (prompt_of shell.vars b.text) in prompt_written_keeps (is_waiting g.told) g shell b f
 
-prompt_keeps : (s : KernelState) (shell : Shell) (text : List ℕ) → Keeps shell → PlacedKeeps (prompt_turn s shell text)
+prompt_keeps : (s : KernelState) (shell : Shell) (b : Beginning) → Keeps shell → PlacedKeeps (prompt_turn s shell b)
 unfolding prompt_turn
-prompt_keeps s shell text f = prompt_by_keeps s shell text (job_to_tell s shell text) f
+prompt_keeps s shell b f = prompt_by_keeps s shell b (job_to_tell s shell b.text) f
 
-input_taken_keeps : (s : KernelState) (shell : Shell) (text : List ℕ) (told : ReadOutcome) → Keeps shell → ActedKeeps (input_taken s shell text told)
-input_taken_keeps s shell text (taken.Bytes bytes) f = f
-input_taken_keeps s shell text taken.Wait f = f
-input_taken_keeps s shell text taken.Failed f = f
+input_taken_keeps : (s : KernelState) (shell : Shell) (b : Beginning) (told : ReadOutcome) → Keeps shell → ActedKeeps (input_taken s shell b told)
+input_taken_keeps s shell b (taken.Bytes bytes) f = f
+input_taken_keeps s shell b taken.Wait f = f
+input_taken_keeps s shell b taken.Failed f = f
 
-input_keeps : (s : KernelState) (shell : Shell) (text : List ℕ) → Keeps shell → ActedKeeps (input_turn s shell text)
+input_keeps : (s : KernelState) (shell : Shell) (b : Beginning) → Keeps shell → ActedKeeps (input_turn s shell b)
 unfolding input_turn
-input_keeps s shell text f =
-    let t = take_bytes s shell.pid (Number 0) (most_read s.machine shell.pid) in input_taken_keeps t.after shell text t.told f
+input_keeps s shell b f =
+    let t = take_bytes s shell.pid (Number 0) (most_read s.machine shell.pid) in input_taken_keeps t.after shell b t.told f
 
 -- ---- the turn
 place_keeps : (around : List Form) (s : KernelState) (shell : Shell) (place : Action) → PlaceHolds place → Keeps shell → ActedKeeps (act_place around s shell place).left
 place_keeps around s shell (Reading rest status) h f = f
-place_keeps around s shell (Prompting text) h f = prompt_keeps s shell text f
-place_keeps around s shell (ReadInput text) h f = input_keeps s shell text f
+place_keeps around s shell (Prompting b) h f = prompt_keeps s shell b f
+place_keeps around s shell (ReadInput b) h f = input_keeps s shell b f
 place_keeps around s shell (Expanding wants pending) h f =
     let t = expand_turn s.machine.files shell.vars shell.functions wants pending in expanded_keeps s (record shell { vars = t.environment }) t.outcome f
 place_keeps around s shell (ReadSubstitution substitution) h f = collect_keeps s shell substitution f

@@ -18,9 +18,9 @@ use Rattle.sh_parse_words.specs.declared.parameter.Braces.{Braces}
 use Rattle.sh_parse_words.specs.Building.{Building, Taken, backquotes_request, backquotes_by, braces_part, braces_quote, with_literal, in_quotes, open_braces, parts_of, take_piece, with_program}
 use Rattle.sh_parse_words.specs.Parameters.{braces_of, short}
 use Rattle.sh_parse_words.specs.Places.{behind_piece}
-use Rattle.sh_parse_commands.specs.Results.{and_then, fault_moved}
-use Rattle.sh_parse_commands.specs.Sources.{backquotes_text, behind_pieces, text_between}
-use Rattle.sh_parse_commands.specs.Words.{Reader, at_its_level, answer_of, with_answer, begins_closed, parts_in, place_in, text_by, text_of, whole, with_piece, with_pieces, unread}
+use Rattle.sh_parse_leaves.specs.Results.{and_then, fault_moved}
+use Rattle.sh_parse_leaves.specs.Sources.{backquotes_text, behind_pieces, text_between}
+use Rattle.sh_parse_leaves.specs.Words.{Reader, at_its_level, answer_of, with_answer, begins_closed, parts_in, place_in, text_by, text_of, whole, with_piece, with_pieces, unread}
 use Rattle.sh_laws.specs.Spelled.{AreSpelled, Nested, Spelled, bytes_of, has_value, here, is_alone, next, part_of}
 use Rattle.sh_laws.specs.Spelled as spells
 use Rattle.sh_laws.proofs.Spelled.{arithmetic_opened, at, begun_at, behind_both, braces_opened, closes_same, commands_opened, frame_of, given, go, is_ok, one_less, passed, passing, quiet, quotes_behind, quotes_opened, same_parts, step, text_in_backquotes}

@@ -10,7 +10,7 @@ use Rattle.sh_token_pieces.specs.Pieces.{ArePieces, behind}
 use Rattle.sh_token_pieces.specs.Spelling.{spell_piece}
 use Rattle.sh_token.proofs.Laws.{written_length}
 use Rattle.sh_parse_words.specs.Places.{behind_joins, behind_character, behind_characters, behind_piece}
-use Rattle.sh_parse_commands.specs.Sources.{behind_pieces}
+use Rattle.sh_parse_leaves.specs.Sources.{behind_pieces}
 
 -- ---- joined lines
 pub plain_behind : (n b : ℕ) (rest : List ℕ) → nat_eq b 92 ≡ false → behind_joins (joins n ++ b ∷ rest) ≡ b ∷ rest

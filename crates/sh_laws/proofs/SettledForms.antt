@@ -14,6 +14,7 @@ use Rattle.sh_builtin_outcome.specs.declared.outcome.Leave.TheVariants as leave
 use Rattle.sh_builtin_outcome.specs.declared.builtin.Builtin.{Builtin}
 use Rattle.sh_exec_command.specs.Series.{given_by, rest_of_series}
 use Rattle.sh_exec_actions.specs.Statuses.{unexcused}
+use Rattle.sh_exec_actions.specs.declared.beginning.Beginning.{Beginning}
 use Rattle.sh_exec_actions.specs.declared.status.CommandStatus.{CommandStatus}
 use Rattle.sh_exec_actions.specs.declared.action.Action.{Action}
 use Rattle.sh_exec_actions.specs.declared.action.Action.TheVariants.{Reading, Prompting, ReadInput, Expanding, ReadSubstitution, WaitSubstitution, ReadLine, Awaiting, SendSignal, ContinueJob, WaitForJob, Redirecting, Forking, Starting, ForkStage, ForkList, AssignLoopVariable, Defining, Waiting, Writing, Trapping, Ending}
@@ -44,6 +45,7 @@ use Rattle.sh_laws.specs.BeforeAction.{ActiveStands, FormHolds, LoopHolds, Place
 use Rattle.sh_laws.specs.Beginnings.{CommandBegins, ConnectedBegin, ElseBegins, ElseIfsBegin, ItemsBegin, ListBegins, more_connected, more_else_ifs, more_items, no_else, no_else_ifs, no_items, no_more, with_else}
 use Rattle.sh_laws.proofs.BegunCommands.{command_stands, item_stands, list_stands, others_stand, pipeline_stands}
 use Rattle.sh_laws.proofs.CommandTurns.{ActiveHolds, choose}
+use Rattle.sh_exec_actions.specs.Beginnings.{not_begun}
 use Rattle.sh_exec_requests.specs.Prompting.{has_prompt, input_action}
 
 -- ---- what runs holds only what begins with an action
@@ -239,17 +241,17 @@ text_left_settled around origin.Eval l shell = tt
 text_left_settled around origin.DotScript l shell = call_left_settled around l shell
 
 -- ---- the commands of an interactive shell: a prompt or a read is next
-prompted_holds : (b : Bool) (text : List ℕ) → PlaceHolds (if b then Prompting text else ReadInput text)
-prompted_holds true text = tt
-prompted_holds false text = tt
+prompted_holds : (b : Bool) (beginning : Beginning) → PlaceHolds (if b then Prompting beginning else ReadInput beginning)
+prompted_holds true beginning = tt
+prompted_holds false beginning = tt
 
-pub input_action_holds : (s : KernelState) (shell : Shell) (text : List ℕ) → PlaceHolds (input_action s shell text)
+pub input_action_holds : (s : KernelState) (shell : Shell) (beginning : Beginning) → PlaceHolds (input_action s shell beginning)
 unfolding input_action
-input_action_holds s shell text = prompted_holds (has_prompt s shell text) text
+input_action_holds s shell beginning = prompted_holds (has_prompt s shell beginning.text) beginning
 
 input_left_settled : (s : KernelState) (shell : Shell) (l : Leave) → ActedSettled (input_left s shell l)
 input_left_settled s shell (leave.Exit status) = tt
-input_left_settled s shell (leave.Fault status) = input_action_holds s (behind_status shell status) []
+input_left_settled s shell (leave.Fault status) = input_action_holds s (behind_status shell status) (not_begun [])
 input_left_settled s shell (leave.Return status) = tt
 input_left_settled s shell (leave.Break inside) = tt
 input_left_settled s shell (leave.Continue inside) = tt
@@ -264,8 +266,8 @@ dropped_settled false s shell rest l = tt
 
 place_left_settled : (around : List Form) (s : KernelState) (shell : Shell) (next : Action) (l : Leave) → ActedSettled (place_left around s shell next l)
 place_left_settled around s shell (Reading rest status) l = dropped_settled (goes_on_reading around shell) s shell rest l
-place_left_settled around s shell (Prompting text) l = tt
-place_left_settled around s shell (ReadInput text) l = input_left_settled s shell l
+place_left_settled around s shell (Prompting beginning) l = tt
+place_left_settled around s shell (ReadInput beginning) l = input_left_settled s shell l
 place_left_settled around s shell (Expanding wants pending) l = tt
 place_left_settled around s shell (ReadSubstitution substitution) l = tt
 place_left_settled around s shell (WaitSubstitution substitution) l = tt
@@ -288,7 +290,7 @@ place_left_settled around s shell (Ending status) l = tt
 
 status_settled : (around : List Form) (form : Form) (s : KernelState) (shell : Shell) (status : CommandStatus) → FormHolds form → ActedSettled (after_status around form s shell status)
 status_settled around (Text rest) s shell status h = tt
-status_settled around (Input rest) s shell status h = input_action_holds s (behind_status shell status.status) rest
+status_settled around (Input rest) s shell status h = input_action_holds s (behind_status shell status.status) (not_begun rest)
 status_settled around (Commands items) s shell status h = items_settled items status h
 status_settled around (Joined others) s shell status h = connected_settled others status h
 status_settled around Negated s shell status h = tt

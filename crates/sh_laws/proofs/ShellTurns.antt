@@ -41,6 +41,7 @@ use Rattle.sh_exec_entering.specs.Moves.{move_run}
 use Rattle.sh_exec_entering.proofs.Entered.{list_is}
 use Rattle.sh_exec_forms.specs.Forms.{Acted, behind_status, with_run, goes_on_reading, at_action}
 use Rattle.sh_exec_frames.specs.Frames.{ends_shell, is_failure_ignored, levels_left}
+use Rattle.sh_exec_actions.specs.declared.beginning.Beginning.{Beginning}
 use Rattle.sh_exec_actions.specs.declared.form.Form.{Form}
 use Rattle.sh_exec_entering.specs.Running.{Run, At, In, InterpreterState, active_of}
 use Rattle.sh_exec_machine.specs.Forking.{fork_of}
@@ -115,6 +116,8 @@ use Rattle.sh_laws.proofs.BegunProcesses.{body_stands, stage_stands}
 use Rattle.sh_laws.proofs.CommandTurns.{ActiveHolds, CommandHolds, ExpandedHolds, MoveHolds, RoundHolds, TurnHolds, ahead_holds, assign_holds, case_holds, choose, give_holds, next_holds, not_done_holds, pattern_holds, redirects_hold, series_hold, words_hold, InputBegins, input_begins}
 use Rattle.sh_laws.proofs.SettledForms.{Holds, Settled, after_settled, at_action_settled, items_settled, reported_holds, said_holds, settled_holds, stands_holds, input_action_holds}
 use Rattle.sh_exec_requests.specs.Prompting.{behind_job, is_waiting, job_to_tell, prompt_by, prompt_of, prompt_turn, stays, with_job_told, input_action}
+use Rattle.sh_exec_actions.specs.Beginnings.{aliases_of, begun, not_begun}
+use Rattle.sh_aliases.specs.Aliases.{AliasTable}
 use Rattle.sh_exec_turns.specs.Input.{behind_blank, ends_line, input_read, input_run, input_taken, input_turn}
 use Rattle.sh_exec_command.specs.declared.found.InputFound.{InputFound}
 use Rattle.sh_exec_command.specs.declared.found.InputFound.TheVariants as input
@@ -343,48 +346,49 @@ prompt_turn_holds : (b : Bool) (x y : Placed) → PlacedHolds x → PlacedHolds 
 prompt_turn_holds true x y h k = h
 prompt_turn_holds false x y h k = k
 
-prompt_by_holds : (s : KernelState) (shell : Shell) (text : List ℕ) (o : Option ℕ) → PlacedHolds (prompt_by s shell text o)
-prompt_by_holds s shell text (Some number) =
+prompt_by_holds : (s : KernelState) (shell : Shell) (b : Beginning) (o : Option ℕ) → PlacedHolds (prompt_by s shell b o)
+prompt_by_holds s shell b (Some number) =
     let up = up_to_date s shell in
     let g = give_bytes s shell.pid 2 (job_lines s.machine.processes up.jobs Short (number ∷ [])) in
-    prompt_turn_holds (is_waiting g.told) (stays g.after up text) (behind_job g.after (with_job_told g.after up number) text) tt
-    (input_action_holds g.after (with_job_told g.after up number) text)
-prompt_by_holds s shell text None =
-    let g = give_bytes s shell.pid 2 (prompt_of shell.vars text) in
-    prompt_turn_holds (is_waiting g.told) (stays g.after shell text) (at_place g.after shell (Next (ReadInput text))) tt tt
+    prompt_turn_holds (is_waiting g.told) (stays g.after up b) (behind_job g.after (with_job_told g.after up number) b) tt
+    (input_action_holds g.after (with_job_told g.after up number) b)
+prompt_by_holds s shell b None =
+    let g = give_bytes s shell.pid 2 (prompt_of shell.vars b.text) in
+    prompt_turn_holds (is_waiting g.told) (stays g.after shell b) (at_place g.after shell (Next (ReadInput b))) tt tt
 
-prompt_holds : (s : KernelState) (shell : Shell) (text : List ℕ) → PlacedHolds (prompt_turn s shell text)
+prompt_holds : (s : KernelState) (shell : Shell) (b : Beginning) → PlacedHolds (prompt_turn s shell b)
 unfolding prompt_turn
-prompt_holds s shell text = prompt_by_holds s shell text (job_to_tell s shell text)
+prompt_holds s shell b = prompt_by_holds s shell b (job_to_tell s shell b.text)
 
-beginning_holds : (b : Bool) (s : KernelState) (shell : Shell) (text : List ℕ) → PlaceHolds (if b then input_action s shell text else ReadInput text)
-beginning_holds true s shell text = input_action_holds s shell text
-beginning_holds false s shell text = tt
+beginning_holds : (b : Bool) (s : KernelState) (shell : Shell) (beginning : Beginning) → PlaceHolds (if b then input_action s shell beginning else ReadInput beginning)
+beginning_holds true s shell beginning = input_action_holds s shell beginning
+beginning_holds false s shell beginning = tt
 
 blank_holds : (is_end : Bool) (s : KernelState) (shell : Shell) (rest : List ℕ) → Holds (behind_blank is_end s shell rest)
 blank_holds true s shell rest = tt
-blank_holds false s shell rest = input_action_holds s shell rest
+blank_holds false s shell rest = input_action_holds s shell (not_begun rest)
 
-input_run_holds : (is_end : Bool) (s : KernelState) (shell : Shell) (f : InputFound) → InputBegins f → Holds (input_run is_end s shell f)
-input_run_holds is_end s shell (input.Command tree rest) h =
+input_run_holds : (is_end : Bool) (s : KernelState) (shell : Shell) (aliases : AliasTable) (f : InputFound) → InputBegins f → Holds (input_run is_end s shell aliases f)
+input_run_holds is_end s shell aliases (input.Command tree rest) h =
     let items = (view.out-CompoundList tree).items in
     (tt, settled_holds (items_run items (unexcused shell.vars.special.status)) (items_settled items (unexcused shell.vars.special.status) h))
-input_run_holds is_end s shell (input.Blank rest) h = blank_holds is_end s shell rest
-input_run_holds is_end s shell (input.More text) h = beginning_holds (ends_line text) s shell text
-input_run_holds is_end s shell (input.Fault why) h = (tt, tt)
+input_run_holds is_end s shell aliases (input.Blank rest) h = blank_holds is_end s shell rest
+input_run_holds is_end s shell aliases (input.More text) h = beginning_holds (ends_line text) s shell (begun aliases text)
+input_run_holds is_end s shell aliases (input.Fault why) h = (tt, tt)
 
-input_read_holds : (is_end : Bool) (s : KernelState) (shell : Shell) (text : List ℕ) → ActedHolds (input_read is_end s shell text)
-input_read_holds is_end s shell text = input_run_holds is_end s shell (input_found is_end text) (input_begins is_end text)
+input_read_holds : (is_end : Bool) (s : KernelState) (shell : Shell) (aliases : AliasTable) (text : List ℕ) → ActedHolds (input_read is_end s shell aliases text)
+input_read_holds is_end s shell aliases text = input_run_holds is_end s shell aliases (input_found aliases is_end text) (input_begins aliases is_end text)
 
-input_taken_holds : (s : KernelState) (shell : Shell) (text : List ℕ) (told : ReadOutcome) → ActedHolds (input_taken s shell text told)
-input_taken_holds s shell text (taken.Bytes bytes) = input_read_holds (nat_eq (length bytes) 0) s shell (text ++ bytes)
-input_taken_holds s shell text taken.Wait = tt
-input_taken_holds s shell text taken.Failed = input_read_holds true s shell text
+input_taken_holds : (s : KernelState) (shell : Shell) (b : Beginning) (told : ReadOutcome) → ActedHolds (input_taken s shell b told)
+input_taken_holds s shell b (taken.Bytes bytes) =
+    input_read_holds (nat_eq (length bytes) 0) s shell (aliases_of shell.aliases b) (b.text ++ bytes)
+input_taken_holds s shell b taken.Wait = tt
+input_taken_holds s shell b taken.Failed = input_read_holds true s shell (aliases_of shell.aliases b) b.text
 
-input_holds : (s : KernelState) (shell : Shell) (text : List ℕ) → ActedHolds (input_turn s shell text)
+input_holds : (s : KernelState) (shell : Shell) (b : Beginning) → ActedHolds (input_turn s shell b)
 unfolding input_turn
-input_holds s shell text =
-    let t = take_bytes s shell.pid (Number 0) (most_read s.machine shell.pid) in input_taken_holds t.after shell text t.told
+input_holds s shell b =
+    let t = take_bytes s shell.pid (Number 0) (most_read s.machine shell.pid) in input_taken_holds t.after shell b t.told
 
 -- ---- a redirection
 redirect_by_holds : (p : ExpandedCommand) (word : List ℕ) (r : Result (Unit {0}) KernelFault) (one : Option Undone) → CommandHolds p → Holds (redirect_by p word r one)
@@ -437,7 +441,7 @@ end_holds s shell status = tt
 trap_by_holds : (s : KernelState) (shell : Shell) (status : ℕ) (action : Option (List ℕ)) → ActedHolds (trap_by s shell status action)
 trap_by_holds s shell status None = tt
 trap_by_holds s shell status (Some text) =
-    let begun = behind_status (without_trap shell) status in (tt, read_holds true false begun.vars 0 (next_command text) (next_holds text))
+    let begun = behind_status (without_trap shell) status in (tt, read_holds true false begun.vars 0 (next_command begun.aliases text) (next_holds begun.aliases text))
 
 trap_holds : (s : KernelState) (shell : Shell) (status : ℕ) → ActedHolds (trap_turn s shell status)
 unfolding trap_turn
@@ -446,7 +450,7 @@ trap_holds s shell status = trap_by_holds s shell status (action_of shell.traps 
 -- ---- a trap on a signal: so does what its action's first command holds, and the shell goes on at its place
 interrupted_holds : (levels : ℕ) (s : KernelState) (shell : Shell) (place : Action) (text : List ℕ) → PlaceHolds place → ActedHolds (interrupted levels s shell place text)
 interrupted_holds zero s shell place text h = tt
-interrupted_holds (suc levels) s shell place text h = (h, read_holds true false shell.vars 0 (next_command text) (next_holds text))
+interrupted_holds (suc levels) s shell place text h = (h, read_holds true false shell.vars 0 (next_command shell.aliases text) (next_holds shell.aliases text))
 
 interruption_holds : (around : List Form) (s : KernelState) (shell : Shell) (place : Action) (text : List ℕ) → PlaceHolds place
     → ActedHolds (interruption around s shell place text)
@@ -543,9 +547,9 @@ expanded_holds s shell (expanded.Go m) f h = (move_holds m h, tt)
 
 -- ---- the turn
 place_holds : (around : List Form) (s : KernelState) (shell : Shell) (place : Action) → FunctionsHold shell.functions → PlaceHolds place → TurnedHolds (act_place around s shell place)
-place_holds around s shell (Prompting text) f h = (prompt_holds s shell text, tt)
-place_holds around s shell (ReadInput text) f h = (input_holds s shell text, tt)
-place_holds around s shell (Reading rest status) f h = (read_holds (ends_shell around) (goes_on_reading around shell) shell.vars status (next_command rest) (next_holds rest), tt)
+place_holds around s shell (Prompting b) f h = (prompt_holds s shell b, tt)
+place_holds around s shell (ReadInput b) f h = (input_holds s shell b, tt)
+place_holds around s shell (Reading rest status) f h = (read_holds (ends_shell around) (goes_on_reading around shell) shell.vars status (next_command shell.aliases rest) (next_holds shell.aliases rest), tt)
 place_holds around s shell (Expanding wants pending) f h =
     let t = expand_turn s.machine.files shell.vars shell.functions wants pending in
     expanded_holds s (record shell { vars = t.environment }) t.outcome f (expand_holds s.machine.files shell.vars shell.functions wants pending f h)
@@ -613,8 +617,8 @@ root_stands shell (In form run) p = p
 -- ---- INT may have an interactive shell drop what it does before
 dropped_holds : (place : Action) → Holds (dropped_run place)
 dropped_holds (Reading rest status) = (tt, tt)
-dropped_holds (Prompting text) = tt
-dropped_holds (ReadInput text) = (tt, tt)
+dropped_holds (Prompting b) = tt
+dropped_holds (ReadInput b) = (tt, tt)
 dropped_holds (Expanding wants pending) = tt
 dropped_holds (ReadSubstitution substitution) = tt
 dropped_holds (WaitSubstitution substitution) = tt

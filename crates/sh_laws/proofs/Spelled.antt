@@ -23,9 +23,9 @@ use Rattle.sh_parse_words.specs.declared.parameter.Braces.{Braces}
 use Rattle.sh_parse_words.specs.Building.{Building, Outcome, at_level, backquotes_request, backquotes_by, empty_building, braces_quote, with_form_part, closed_by, with_literal, whole_parts, form_part, form_quotes, in_quotes, last_frame, on, open_braces, opened, other_frames, parameter_part, parts_of, plainly, program_part, skip_outcome, take_piece, with_bytes, with_part, with_program}
 use Rattle.sh_parse_words.specs.Parameters.{braces_of, short}
 use Rattle.sh_parse_words.specs.Places.{behind_joins, behind_piece, place_of}
-use Rattle.sh_parse_commands.specs.Results.{and_then, fault_moved}
-use Rattle.sh_parse_commands.specs.Sources.{backquotes_text, behind_pieces, text_between}
-use Rattle.sh_parse_commands.specs.Words.{Reader, at_its_level, answer_of, with_answer, begins_closed, parts_in, place_in, text_by, text_of, whole, with_piece, with_pieces, unread}
+use Rattle.sh_parse_leaves.specs.Results.{and_then, fault_moved}
+use Rattle.sh_parse_leaves.specs.Sources.{backquotes_text, behind_pieces, text_between}
+use Rattle.sh_parse_leaves.specs.Words.{Reader, at_its_level, answer_of, with_answer, begins_closed, parts_in, place_in, text_by, text_of, whole, with_piece, with_pieces, unread}
 use Rattle.sh_laws.specs.Spelled.{AreSpelled, Balanced, Spelled, Unclosed, bytes_of, here, is_plain, next, part_of}
 use Rattle.sh_laws.specs.Spelled as spells
 

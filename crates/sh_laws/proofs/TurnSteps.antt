@@ -15,6 +15,7 @@ use Rattle.sh_builtin_regular.specs.Lines.{Progress, bytes_taken}
 use Rattle.sh_builtin_regular.specs.declared.reader.LineReader.{LineReader}
 use Rattle.sh_exec_command.specs.Series.{rest_of_series}
 use Rattle.sh_exec_actions.specs.Statuses.{unexcused}
+use Rattle.sh_exec_actions.specs.declared.beginning.Beginning.{Beginning}
 use Rattle.sh_exec_actions.specs.declared.status.CommandStatus.{CommandStatus}
 use Rattle.sh_exec_actions.specs.declared.action.Active.{Active}
 use Rattle.sh_exec_actions.specs.declared.action.Active.TheVariants.{Acting, Calling, Evaluating, Next, Done, Leaving}
@@ -110,6 +111,7 @@ jobs_ran_number s shell (Err why) = refl
 
 built_in_number : (s : KernelState) (shell : Shell) (last : ℕ) (b : Builtin) (arguments : List (List ℕ)) → (built_in s shell last b arguments).shell.pid ≡ shell.pid
 unfolding built_in
+built_in_number s shell last builtin.Alias arguments = refl
 built_in_number s shell last builtin.Bg arguments = refl
 built_in_number s shell last builtin.Bracket arguments = refl
 built_in_number s shell last builtin.Break arguments = refl
@@ -136,6 +138,7 @@ built_in_number s shell last builtin.Shift arguments = refl
 built_in_number s shell last builtin.Test arguments = refl
 built_in_number s shell last builtin.Trap arguments = refl
 built_in_number s shell last builtin.True arguments = refl
+built_in_number s shell last builtin.Unalias arguments = refl
 built_in_number s shell last builtin.Unset arguments = refl
 built_in_number s shell last builtin.Wait arguments = refl
 
@@ -169,8 +172,8 @@ effect_number around s shell (Leaving leave) = refl
 
 before_number : (shell : Shell) (place : Action) → (shell_before shell place).pid ≡ shell.pid
 before_number shell (Reading rest status) = refl
-before_number shell (Prompting text) = refl
-before_number shell (ReadInput text) = refl
+before_number shell (Prompting b) = refl
+before_number shell (ReadInput b) = refl
 before_number shell (Expanding wants pending) = refl
 before_number shell (ReadSubstitution substitution) = refl
 before_number shell (WaitSubstitution substitution) = refl
@@ -257,8 +260,8 @@ module _ (directory : List ℕ) (pid : ℕ) (P : KernelState → Type 0) (kept :
 
   place_left_keeps : (around : List Form) (s : KernelState) (shell : Shell) (next : Action) (leave : Leave) → shell.pid ≡ pid → P s → Keeps (place_left around s shell next leave)
   place_left_keeps around s shell (Reading rest status) leave e p = text_left_keeps (goes_on_reading around shell) s shell rest leave e p
-  place_left_keeps around s shell (ReadInput text) leave e p = input_left_keeps s shell leave e p
-  place_left_keeps around s shell (Prompting text) leave e p = (e, p)
+  place_left_keeps around s shell (ReadInput b) leave e p = input_left_keeps s shell leave e p
+  place_left_keeps around s shell (Prompting b) leave e p = (e, p)
   place_left_keeps around s shell (Expanding wants pending) leave e p = (e, p)
   place_left_keeps around s shell (ReadSubstitution substitution) leave e p = (e, p)
   place_left_keeps around s shell (WaitSubstitution substitution) leave e p = (e, p)
@@ -410,40 +413,40 @@ module _ (directory : List ℕ) (pid : ℕ) (P : KernelState → Type 0) (kept :
   prompted_keeps : (s : KernelState) (shell : Shell) (bytes : List ℕ) → shell.pid ≡ pid → P s → P (give_bytes s shell.pid 2 bytes).after
   prompted_keeps s shell bytes e p = give_keeps directory shell.pid P (own shell e) s 2 bytes p
 
-  job_written_keeps : (b : Bool) (g : Giving) (shell : Shell) (text : List ℕ) (number : ℕ) → shell.pid ≡ pid → P g.after
-      → KeepsPlaced (if b then stays g.after shell text else behind_job g.after (with_job_told g.after shell number) text)
-  job_written_keeps true g shell text number e p = (e, p)
-  job_written_keeps false g shell text number e p = (e, p)
+  job_written_keeps : (c : Bool) (g : Giving) (shell : Shell) (b : Beginning) (number : ℕ) → shell.pid ≡ pid → P g.after
+      → KeepsPlaced (if c then stays g.after shell b else behind_job g.after (with_job_told g.after shell number) b)
+  job_written_keeps true g shell b number e p = (e, p)
+  job_written_keeps false g shell b number e p = (e, p)
 
-  prompt_written_keeps : (b : Bool) (g : Giving) (shell : Shell) (text : List ℕ) → shell.pid ≡ pid → P g.after
-      → KeepsPlaced (if b then stays g.after shell text else at_place g.after shell (Next (ReadInput text)))
-  prompt_written_keeps true g shell text e p = (e, p)
-  prompt_written_keeps false g shell text e p = (e, p)
+  prompt_written_keeps : (c : Bool) (g : Giving) (shell : Shell) (b : Beginning) → shell.pid ≡ pid → P g.after
+      → KeepsPlaced (if c then stays g.after shell b else at_place g.after shell (Next (ReadInput b)))
+  prompt_written_keeps true g shell b e p = (e, p)
+  prompt_written_keeps false g shell b e p = (e, p)
 
-  prompt_by_keeps : (s : KernelState) (shell : Shell) (text : List ℕ) (o : Option ℕ) → shell.pid ≡ pid → P s → KeepsPlaced (prompt_by s shell text o)
-  prompt_by_keeps s shell text (Some number) e p =
+  prompt_by_keeps : (s : KernelState) (shell : Shell) (b : Beginning) (o : Option ℕ) → shell.pid ≡ pid → P s → KeepsPlaced (prompt_by s shell b o)
+  prompt_by_keeps s shell b (Some number) e p =
       let line = job_lines s.machine.processes (up_to_date s shell).jobs Short (number ∷ []) in
       let g = give_bytes s shell.pid 2 line in
-      job_written_keeps (is_waiting g.told) g (up_to_date s shell) text number e (prompted_keeps s shell line e p)
-  prompt_by_keeps s shell text None e p =
-      let g = give_bytes s shell.pid 2 (prompt_of shell.vars text) in
-      prompt_written_keeps (is_waiting g.told) g shell text e (prompted_keeps s shell (prompt_of shell.vars text) e p)
+      job_written_keeps (is_waiting g.told) g (up_to_date s shell) b number e (prompted_keeps s shell line e p)
+  prompt_by_keeps s shell b None e p =
+      let g = give_bytes s shell.pid 2 (prompt_of shell.vars b.text) in
+      prompt_written_keeps (is_waiting g.told) g shell b e (prompted_keeps s shell (prompt_of shell.vars b.text) e p)
 
-  prompt_keeps : (s : KernelState) (shell : Shell) (text : List ℕ) → shell.pid ≡ pid → P s → KeepsPlaced (prompt_turn s shell text)
+  prompt_keeps : (s : KernelState) (shell : Shell) (b : Beginning) → shell.pid ≡ pid → P s → KeepsPlaced (prompt_turn s shell b)
   unfolding prompt_turn
-  prompt_keeps s shell text e p = prompt_by_keeps s shell text (job_to_tell s shell text) e p
+  prompt_keeps s shell b e p = prompt_by_keeps s shell b (job_to_tell s shell b.text) e p
 
-  input_taken_keeps : (s : KernelState) (shell : Shell) (text : List ℕ) (told : ReadOutcome) → shell.pid ≡ pid → P s → Keeps (input_taken s shell text told)
-  input_taken_keeps s shell text (taken.Bytes bytes) e p = (e, p)
-  input_taken_keeps s shell text taken.Wait e p = (e, p)
-  input_taken_keeps s shell text taken.Failed e p = (e, p)
+  input_taken_keeps : (s : KernelState) (shell : Shell) (b : Beginning) (told : ReadOutcome) → shell.pid ≡ pid → P s → Keeps (input_taken s shell b told)
+  input_taken_keeps s shell b (taken.Bytes bytes) e p = (e, p)
+  input_taken_keeps s shell b taken.Wait e p = (e, p)
+  input_taken_keeps s shell b taken.Failed e p = (e, p)
 
-  read_input_keeps : (s : KernelState) (shell : Shell) (text : List ℕ) → shell.pid ≡ pid → P s → Keeps (input_turn s shell text)
+  read_input_keeps : (s : KernelState) (shell : Shell) (b : Beginning) → shell.pid ≡ pid → P s → Keeps (input_turn s shell b)
   unfolding input_turn
-  read_input_keeps s shell text e p =
+  read_input_keeps s shell b e p =
       let count = most_read s.machine shell.pid in
       let t = take_bytes s shell.pid (Number 0) count in
-      input_taken_keeps t.after shell text t.told e (take_keeps directory shell.pid P (own shell e) s (Number 0) count p)
+      input_taken_keeps t.after shell b t.told e (take_keeps directory shell.pid P (own shell e) s (Number 0) count p)
 
   -- ---- what wait waits for
   target_number : (shell : Shell) (to : WaitTarget) → (without_target shell to).pid ≡ shell.pid
@@ -669,8 +672,8 @@ module _ (directory : List ℕ) (pid : ℕ) (P : Option ℕ → KernelState → 
   -- ---- the turn
   place_keeps : (around : List Form) (s : KernelState) (shell : Shell) (place : Action) → shell.pid ≡ pid → shell.vars.directory ≡ directory → P None s → Leaves (act_place around s shell place)
   place_keeps around s shell (Reading rest status) e d p = (e, p)
-  place_keeps around s shell (Prompting text) e d p = prompt_keeps directory pid (P None) (kept None) s shell text e p
-  place_keeps around s shell (ReadInput text) e d p = read_input_keeps directory pid (P None) (kept None) s shell text e p
+  place_keeps around s shell (Prompting b) e d p = prompt_keeps directory pid (P None) (kept None) s shell b e p
+  place_keeps around s shell (ReadInput b) e d p = read_input_keeps directory pid (P None) (kept None) s shell b e p
   place_keeps around s shell (Expanding wants pending) e d p =
       let t = expand_turn s.machine.files shell.vars shell.functions wants pending in expanded_keeps s (record shell { vars = t.environment }) t.outcome e p
   place_keeps around s shell (ReadSubstitution substitution) e d p = collect_keeps directory pid (P None) (kept None) s shell substitution e p

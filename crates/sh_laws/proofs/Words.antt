@@ -16,9 +16,9 @@ use Rattle.sh_parse_documents.specs.Waiting.{Waiting, nothing, behind_token, due
 use Rattle.sh_parse_documents.specs.Items.{FirstItem, FoundItem, NoItem, first_item, item_of, with_bodies}
 use Rattle.sh_parse_documents.specs.Stream.{Items, with_item, with_first, items_from, items_of}
 use Rattle.sh_parse_words.specs.declared.fault.PartFault.{PartFault}
-use Rattle.sh_parse_commands.specs.Leaves.{leaf_of}
-use Rattle.sh_parse_commands.specs.Programs.{read_text}
-use Rattle.sh_parse.proofs.Faults.{texts_in}
+use Rattle.sh_parse_leaves.specs.Leaves.{leaf_of}
+use Rattle.sh_parse_leaves.specs.Words.{Reader}
+use Rattle.sh_parse.proofs.Faults.{ReadsIn}
 use Rattle.sh_parse.proofs.Insides.{found_inside}
 use Rattle.sh_laws.specs.Standing.{Stands}
 use Rattle.sh_laws.proofs.Pieces.{Pieces, EndsWith, both_end, pieces_of, pieces_end, end_at}
@@ -50,13 +50,13 @@ token_ends e limit bytes prefix rest kind h =
 no_fault : {A : Type 0} (x : A) (f : PartFault) → Ok x ≡ Err f → ⊥
 no_fault x f h = cc
 
-module _ (e : Bool) (text : List ℕ) (small : length text < 2 ^ 64) where
+module _ (read : Reader) (reads : ReadsIn read) (e : Bool) (text : List ℕ) (small : length text < 2 ^ 64) where
   abbrev pub FaultsStand : Item → Type 0
   FaultsStand t =
-      (left : ℕ) (f : PartFault) → leaf_of read_text left text t.token.kind t.token.span ≡ Err f → Stands t.token.span.start t.token.span.«end» f
+      (left : ℕ) (f : PartFault) → leaf_of read left text t.token.kind t.token.span ≡ Err f → Stands t.token.span.start t.token.span.«end» f
 
   kind_stands : (kind : TokenKind) (lo hi : ℕ) (prefix rest : List ℕ) → KindPieces e prefix rest kind → drop lo text ≡ prefix → lo + length prefix ≡ length text → hi + length rest ≡ length text
-      → (left : ℕ) (f : PartFault) → leaf_of read_text left text kind (record { start = lo; «end» = hi }) ≡ Err f → Stands lo hi f
+      → (left : ℕ) (f : PartFault) → leaf_of read left text kind (record { start = lo; «end» = hi }) ≡ Err f → Stands lo hi f
   kind_stands (TokenKind.Operator o) lo hi prefix rest p d l r left f h = absurd (no_fault _ f h)
   kind_stands TokenKind.Number lo hi prefix rest p d l r left f h = absurd (no_fault _ f h)
   kind_stands (TokenKind.Word ms) lo hi prefix rest p d l r left f h =
@@ -64,12 +64,12 @@ module _ (e : Bool) (text : List ℕ) (small : length text < 2 ^ 64) where
       let pieces : Pieces e ms (drop lo text) rest = subst (λ z. Pieces e ms z rest) (sym d) p in
       let size : length (drop lo text) ≡ length prefix = ap length d in
       let begins : lo ≤ 2 ^ 64 - 1 = omega (l, small, arith) in
-      subst (λ x. ResultAt read_text texts_in text lo hi begins x) h
-      (word_at read_text texts_in text lo hi begins e left ms span rest pieces (omega (size, l, arith)) r)
+      subst (λ x. ResultAt read reads text lo hi begins x) h
+      (word_at read reads text lo hi begins e left ms span rest pieces (omega (size, l, arith)) r)
   kind_stands TokenKind.End lo hi prefix rest p d l r left f h = absurd (no_fault _ f h)
 
   token_stands : (limit at : ℕ) → at ≤ length text → (kind : TokenKind) (start stop : ℕ) → first_token e limit (drop at text) ≡ Found kind start stop
-      → (left : ℕ) (f : PartFault) → leaf_of read_text left text kind (record { start = at + start; «end» = at + stop }) ≡ Err f → Stands (at + start) (at + stop) f
+      → (left : ℕ) (f : PartFault) → leaf_of read left text kind (record { start = at + start; «end» = at + stop }) ≡ Err f → Stands (at + start) (at + stop) f
   token_stands limit at m kind start stop h =
       let f : IsFirst e limit (drop at text) (Found kind start stop) = subst (λ x. IsFirst e limit (drop at text) x) h (is_first e limit (drop at text)) in
       let prefix = f.0 in
@@ -83,7 +83,7 @@ module _ (e : Bool) (text : List ℕ) (small : length text < 2 ^ 64) where
       (omega (from, size, m, arith)) (omega (to, size, m, arith))
 
   -- ---- the items of the text
-  abbrev AllStand : List Item → Type 0
+  abbrev pub AllStand : List Item → Type 0
   AllStand [] = Unit {0}
   AllStand (t ∷ items) = FaultsStand t × AllStand items
 
@@ -94,7 +94,7 @@ module _ (e : Bool) (text : List ℕ) (small : length text < 2 ^ 64) where
 
   abbrev Standing : ℕ → TokenKind → ℕ → ℕ → Type 0
   Standing at kind start stop =
-      (left : ℕ) (f : PartFault) → leaf_of read_text left text kind (record { start = at + start; «end» = at + stop }) ≡ Err f → Stands (at + start) (at + stop) f
+      (left : ℕ) (f : PartFault) → leaf_of read left text kind (record { start = at + start; «end» = at + stop }) ≡ Err f → Stands (at + start) (at + stop) f
 
   same_stands : (at : ℕ) (kind kind' : TokenKind) (a b start stop : ℕ) → (kind' ≡ kind) × (a ≡ start) × (b ≡ stop) → Standing at kind' a b → Standing at kind start stop
   same_stands at kind kind' a b start stop (p, q, r) h =
@@ -114,7 +114,7 @@ module _ (e : Bool) (text : List ℕ) (small : length text < 2 ^ 64) where
   item_stands limit w at m kind start stop after h = found_stands limit w at m kind start stop after (first_token e limit (drop at text)) refl h
 
   with_item_stands : (kind : TokenKind) (start stop after : ℕ) (others : Items) → ((kind ≡ TokenKind.End → ⊥)
-      → ((left : ℕ) (f : PartFault) → leaf_of read_text left text kind (record { start = start; «end» = stop }) ≡ Err f → Stands start stop f) × AllStand others.items)
+      → ((left : ℕ) (f : PartFault) → leaf_of read left text kind (record { start = start; «end» = stop }) ≡ Err f → Stands start stop f) × AllStand others.items)
       → AllStand (with_item kind start stop after others).items
   with_item_stands TokenKind.End start stop after others h = tt
   with_item_stands (TokenKind.Operator o) start stop after others h = h (λ x. cc)
@@ -142,3 +142,6 @@ module _ (e : Bool) (text : List ℕ) (small : length text < 2 ^ 64) where
 
   pub faults_stand : (before : List Item) (t : Item) (after : List Item) → (items_of e text).items ≡ before ++ t ∷ after → FaultsStand t
   faults_stand before t after h = one_stands before t after (subst (λ z. AllStand z) h (from_stands (suc (length text)) nothing 0 (omega arith)))
+
+  pub all_faults_stand : AllStand (items_of e text).items
+  all_faults_stand = from_stands (suc (length text)) nothing 0 (omega arith)

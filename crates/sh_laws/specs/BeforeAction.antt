@@ -80,8 +80,8 @@ WantsHold (CasePattern case) = BranchesHold case.branches
 -- a process is made for a program alone
 abbrev pub PlaceHolds : Action → Type 0
 PlaceHolds (Reading rest status) = Unit {0}
-PlaceHolds (Prompting text) = Unit {0}
-PlaceHolds (ReadInput text) = Unit {0}
+PlaceHolds (Prompting beginning) = Unit {0}
+PlaceHolds (ReadInput beginning) = Unit {0}
 PlaceHolds (Expanding wants pending) = WantsHold wants
 PlaceHolds (ReadSubstitution substitution) = WantsHold substitution.wants
 PlaceHolds (WaitSubstitution substitution) = WantsHold substitution.wants

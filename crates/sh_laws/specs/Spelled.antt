@@ -13,8 +13,8 @@ use Rattle.sh_parse_words.specs.declared.parameter.Braces.{Braces}
 use Rattle.sh_parse_words.specs.Building.{braces_part, braces_quote, with_literal, parts_of}
 use Rattle.sh_parse_words.specs.Parameters.{braces_of, short}
 use Rattle.sh_parse_words.specs.Places.{behind_joins, place_of}
-use Rattle.sh_parse_commands.specs.Sources.{backquotes_text, behind_pieces, text_between}
-use Rattle.sh_parse_commands.specs.Words.{Reader, begins_closed}
+use Rattle.sh_parse_leaves.specs.Sources.{backquotes_text, behind_pieces, text_between}
+use Rattle.sh_parse_leaves.specs.Words.{Reader, begins_closed}
 
 -- the bytes for which a piece stands
 abbrev pub bytes_of : Piece → Option (List ℕ)

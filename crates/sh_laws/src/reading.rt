@@ -16,13 +16,13 @@ ghost use Rattle.sh_parse_words.specs.declared.fault.PartFault.{PartFault};
 ghost use Rattle.sh_parse_words.specs.Building.{parts_of};
 ghost use Rattle.sh_parse_commands.specs.Defined.{FirstFault, Judge};
 ghost use Rattle.sh_parse_commands.specs.Documents.{bodies_of};
-ghost use Rattle.sh_parse_commands.specs.Leaves.{leaf_of};
-ghost use Rattle.sh_parse_commands.specs.Programs.{read_text};
-ghost use Rattle.sh_parse_commands.specs.Words.{Reader, parts_in};
+ghost use Rattle.sh_parse_leaves.specs.Leaves.{leaf_of};
+ghost use Rattle.sh_parse_commands.specs.Programs.{inside_of};
+ghost use Rattle.sh_parse_leaves.specs.Words.{Reader, parts_in};
 ghost use Rattle.sh_exec_command.specs.Reading.{next_command};
 ghost use Rattle.sh_laws.specs.BeforeAction.{FoundBegins};
 ghost use Rattle.sh_laws.specs.Spelled.{AreSpelled, Nested};
-ghost use Rattle.sh_parse.specs.Aliases.{AliasTable};
+ghost use Rattle.sh_aliases.specs.Aliases.{AliasTable};
 ghost use Rattle.sh_parse.specs.Reading.{reading};
 ghost use Rattle.sh_laws.specs.Standing.{Stands, StandsBefore};
 
@@ -68,26 +68,26 @@ pub fn no_text_opens_a_level_for_each_byte()
 /// there. The place of a fault in the bodies of here-documents after a token is inside these bodies. So the
 /// first fault of a text's tokens, however they are judged, is between the first byte of the token that has
 /// it and the end of the bodies after that token. The text has less than 2^64 bytes. Want of memory has no
-/// place.
+/// place. So it is whatever aliases there are.
 pub fn faults_stand_in_their_words()
-    ensures words { (at_end : Bool) (text : List ℕ) → length text < 2 ^ 64 → (before : List Item) (t : Item) (after : List Item) → (items_of at_end text).items ≡ before ++ t ∷ after → (left : ℕ) (f : PartFault) → leaf_of read_text left text t.token.kind t.token.span ≡ Err f → Stands t.token.span.start t.token.span.«end» f }
-    ensures bodies { (left : ℕ) (text : List ℕ) (due : List Delimiter) (t : Item) (f : PartFault)
-        → t.token.span.«end» ≤ t.«end» → bodies_of read_text left text due t ≡ Err f
+    ensures words { (table : AliasTable) (from : List (List ℕ)) → (at_end : Bool) (text : List ℕ) → length text < 2 ^ 64 → (before : List Item) (t : Item) (after : List Item) → (items_of at_end text).items ≡ before ++ t ∷ after → (left : ℕ) (f : PartFault) → leaf_of ((inside_of table).read from) left text t.token.kind t.token.span ≡ Err f → Stands t.token.span.start t.token.span.«end» f }
+    ensures bodies { (table : AliasTable) (from : List (List ℕ)) → (left : ℕ) (text : List ℕ) (due : List Delimiter) (t : Item) (f : PartFault)
+        → t.token.span.«end» ≤ t.«end» → bodies_of ((inside_of table).read from) left text due t ≡ Err f
         → Stands t.token.span.«end» t.«end» f }
-    ensures first { (at_end : Bool) (text : List ℕ) → length text < 2 ^ 64 → (judge : Judge)
-        → judge.read ≡ read_text → judge.text ≡ text
+    ensures first { (table : AliasTable) (from : List (List ℕ)) → (at_end : Bool) (text : List ℕ) → length text < 2 ^ 64 → (judge : Judge)
+        → judge.read ≡ (inside_of table).read from → judge.text ≡ text
         → (f : PartFault) (first : FirstFault judge (items_of at_end text).items f)
         → Stands first.token.token.span.start first.token.«end» f }
 {}
 
 /// Law: the place of a fault of a text is before the decision place at which the fault is told, after which
-/// the next reading begins. The text has less than 2^64 bytes.
+/// the next reading begins. The text has less than 2^64 bytes. So it is whatever aliases there are.
 pub fn faults_stand_before_their_decision()
-    ensures { (table : AliasTable) (at_end : Bool) (text : List ℕ) → length text < 2 ^ 64 → StandsBefore (reading table at_end text) }
+    ensures { (aliases : AliasTable) (at_end : Bool) (text : List ℕ) → length text < 2 ^ 64 → StandsBefore (reading aliases at_end text) }
 {}
 
 /// Law: the command that a shell finds in a text begins with an action wherever it is entered. So each list of
 /// commands in it has a command, unless it is the list of a command substitution or of an item of a `case`.
 pub fn found_commands_begin_with_actions()
-    ensures { (text : List ℕ) → FoundBegins (next_command text) }
+    ensures { (aliases : AliasTable) (text : List ℕ) → FoundBegins (next_command aliases text) }
 {}

@@ -11,17 +11,18 @@ use Rattle.sh_parse_documents.specs.declared.item.Item.{Item}
 use Rattle.sh_parse_documents.specs.Waiting.{Waiting, nothing, due_at}
 use Rattle.sh_parse_documents.specs.Stream.{Ending, AtEnd, Cut, items_of, waiting_behind}
 use Rattle.sh_parse_words.specs.declared.fault.PartFault.{PartFault}
-use Rattle.sh_parse_commands.specs.Inputs.{inputs_of}
-use Rattle.sh_parse_commands.specs.Results.{and_then}
-use Rattle.sh_parse_commands.specs.Words.{within}
+use Rattle.sh_parse_leaves.specs.Inputs.{inputs_of}
+use Rattle.sh_parse_leaves.specs.Results.{and_then}
+use Rattle.sh_parse_leaves.specs.Words.{within}
 use Rattle.sh_parse_commands.specs.Judging.{IsShell, Judged, with_item, are_no, tree_by}
 use Rattle.sh_parse_commands.specs.Programs.{read_text}
 use Rattle.sh_parse_commands.specs.Defined.{Judge, Derive, AreFaultless, AreTree, AreTokens}
 use Rattle.sh_parse_commands.proofs.Taking.{behind, judged_next, Told, next_told, next_fault}
 use Rattle.sh_parse_commands.proofs.Faultless.{waiting_push, judged, JudgedSo, judged_told, judged_push, faultless_judged, fault_judged}
 use Rattle.sh_parse_commands.proofs.Texts.{derive_whole, whole_not_derive, derive_not_whole, whole_derive, tree_found, tree_gives, tree_whole, tree_alone, alone_gives, none_told, some_told, some_leaves, tokens_of}
-use Rattle.sh_parse.specs.Aliases.{AliasTable}
-use Rattle.sh_parse.specs.Reading.{Answer, is_newline, nul_in, unless_nul, with_nul, with_token, complete_answer, refusal, answer_at_newline, at_end, at_cut, at_last, first_answer, reading, source, standing}
+use Rattle.sh_aliases.specs.Aliases.{no_aliases}
+use Rattle.sh_parse.proofs.Plain.{plain_at_newline, plain_first, plain_token, same_first}
+use Rattle.sh_parse.specs.Reading.{Answer, is_newline, nul_in, unless_nul, with_nul, complete_answer, refusal, at_end, at_cut, at_last, reading, standing}
 use Rattle.sh_parse.specs.declared.Reading.TheVariants.{Complete, Blank}
 use Rattle.sh_parse.specs.declared.ParseFault.TheVariants.{Unclosed}
 use Rattle.sh_parse.specs.Defined.{outer, last_bodies, TokensSay, blank_line, faulty_line, whole_line, faulty_bodies, faulty_newline, AreOpen, nul_before, Says, of_tokens, of_nul, IsSilent, AreSilent, Ends, blank_text, faulty_text, whole_text, open_text, FaultOr, cut_answer, EndSays, NewlineDecides, EndDecides, IsReading}
@@ -48,12 +49,12 @@ says_refused : (used : ℕ) (j : Judged) (b c : Bool) (o : Result (List Parts) P
     → saying used j b c o r ≡ refusal used q
 says_refused used j b c o r q e d f = rw (e, d, f) refl
 
-module _ (table : AliasTable) (text : List ℕ) (before : List Item) (newline : Item) where
+module _ (text : List ℕ) (before : List Item) (newline : Item) where
   abbrev g : Judge
   g = outer text
 
   abbrev by : Result Judged PartFault → Option Answer
-  by r = answer_at_newline table text (waiting_behind nothing before) newline r
+  by r = plain_at_newline text (waiting_behind nothing before) newline r
 
   abbrev pub says_at : Option Answer
   says_at = by (judged g before)
@@ -77,7 +78,7 @@ module _ (table : AliasTable) (text : List ℕ) (before : List Item) (newline : 
     going k e =
         let is : judged (outer text) (before ++ newline ∷ []) ≡ Ok k =
         judged_push (outer text) before newline
-        ∙ (ap (λ o. and_then o (λ j. with_item (within read_text 500 text) (due_at newline.token.kind (waiting_behind nothing before)) newline j)) (faultless_judged (outer text) commands before x) ∙ e) in
+        ∙ (ap (λ o. and_then o (λ j. with_item (within (read_text no_aliases) 500 text) (due_at newline.token.kind (waiting_behind nothing before)) newline j)) (faultless_judged (outer text) commands before x) ∙ e) in
         let so : JudgedSo (outer text) (before ++ newline ∷ []) (Ok k) = subst (λ r. JudgedSo (outer text) (before ++ newline ∷ []) r) is (judged_told (outer text) commands (before ++ newline ∷ [])) in
         so.0
 
@@ -124,7 +125,7 @@ module _ (table : AliasTable) (text : List ℕ) (before : List Item) (newline : 
   blank_is : before ≡ [] → says_at ≡ Some (Ok (Blank newline.«end»))
   blank_is e = of_none before e
     where
-      of_none : (xs : List Item) → xs ≡ [] → answer_at_newline table text (waiting_behind nothing xs) newline (judged (outer text) xs) ≡ Some (Ok (Blank newline.«end»))
+      of_none : (xs : List Item) → xs ≡ [] → plain_at_newline text (waiting_behind nothing xs) newline (judged (outer text) xs) ≡ Some (Ok (Blank newline.«end»))
       of_none [] e = refl
       of_none (t ∷ xs) e = absurd (cc)
 
@@ -146,9 +147,9 @@ module _ (table : AliasTable) (text : List ℕ) (before : List Item) (newline : 
       ∙ ap Some (sym h))
 
   silent_by : (r : Result Judged PartFault) → JudgedSo (outer text) before r → (k : Judged) → (before ≡ [] → ⊥) → (Derive (outer text) before → ⊥)
-      → and_then r (λ j. with_item (within read_text 500 text) (due_at newline.token.kind (waiting_behind nothing before)) newline j) ≡ Ok k → by r ≡ None
+      → and_then r (λ j. with_item (within (read_text no_aliases) 500 text) (due_at newline.token.kind (waiting_behind nothing before)) newline j) ≡ Ok k → by r ≡ None
   silent_by (Ok j) (x, e) k n d h =
-      says_refused newline.«end» j (are_no j.leaves) (is_whole j.grammar j.tokens) (last_bodies text before newline) (with_token table text (waiting_behind nothing before) newline j) (Ok k)
+      says_refused newline.«end» j (are_no j.leaves) (is_whole j.grammar j.tokens) (last_bodies text before newline) (plain_token text (waiting_behind nothing before) newline j) (Ok k)
       (ap (λ (i : Judged). are_no i.leaves) e ∙ some_leaves (outer text) before x n)
       (ap (λ (i : Judged). is_whole i.grammar i.tokens) e ∙ derive_not_whole (outer text) commands before d) h
   silent_by (Err f) q k n d h = absurd (no_value (Err f) f k refl h)
@@ -265,44 +266,44 @@ tokens_push : (before : List Item) (t : Item) → AreTokens before → (t.token.
 tokens_push [] t a n = (n, tt)
 tokens_push (b ∷ before) t a n = (a.0, tokens_push before t a.1 n)
 
-module _ (table : AliasTable) (e : Bool) (text : List ℕ) (ending : Ending) where
+module _ (e : Bool) (text : List ℕ) (ending : Ending) where
   abbrev Decides : List Item → Answer → Type 0
   Decides tokens answer = NewlineDecides text tokens answer ⊎ EndDecides e text tokens ending answer
 
   -- what is decided behind tokens
   abbrev from : List Item → List Item → Answer
-  from before tokens = first_answer (source table e text) (standing (judged (outer text) before) (waiting_behind nothing before)) tokens ending
+  from before tokens = plain_first e text (standing (judged (outer text) before) (waiting_behind nothing before)) tokens ending
 
   abbrev goes : Bool → Option Answer → Answer → Answer
   goes b d later = unwrap_or (if b then d else None) later
 
   from_next : (before : List Item) (t : Item) (tokens : List Item)
-      → from before (t ∷ tokens) ≡ goes (is_newline t.token.kind) (line_says table text before t) (from (before ++ t ∷ []) tokens)
+      → from before (t ∷ tokens) ≡ goes (is_newline t.token.kind) (line_says text before t) (from (before ++ t ∷ []) tokens)
   from_next before t tokens =
-      ap (λ later. goes (is_newline t.token.kind) (line_says table text before t) later)
-      (ap (λ w. first_answer (source table e text) (standing (and_then (judged (outer text) before) (with_token table text (waiting_behind nothing before) t)) w) tokens ending) (sym (waiting_push nothing before t))
-      ∙ ap (λ r. first_answer (source table e text) (standing r (waiting_behind nothing (before ++ t ∷ []))) tokens ending) (sym (judged_push (outer text) before t)))
+      ap (λ later. goes (is_newline t.token.kind) (line_says text before t) later)
+      (ap (λ w. plain_first e text (standing (and_then (judged (outer text) before) (plain_token text (waiting_behind nothing before) t)) w) tokens ending) (sym (waiting_push nothing before t))
+      ∙ ap (λ r. plain_first e text (standing r (waiting_behind nothing (before ++ t ∷ []))) tokens ending) (sym (judged_push (outer text) before t)))
 
   sound_step : (before : List Item) (t : Item) (tokens : List Item) (later : Answer) (b : Bool) (d : Option Answer) → AreTokens before → AreSilent text [] before
-      → is_newline t.token.kind ≡ b → line_says table text before t ≡ d → (AreSilent text [] (before ++ t ∷ []) → Decides (before ++ t ∷ tokens) later)
+      → is_newline t.token.kind ≡ b → line_says text before t ≡ d → (AreSilent text [] (before ++ t ∷ []) → Decides (before ++ t ∷ tokens) later)
       → Decides (before ++ t ∷ tokens) (goes b d later)
   sound_step before t tokens later false d a s l h more = more (silent_push text [] before t s (λ x. let z : true ≡ false = sym x ∙ l in absurd (cc)))
-  sound_step before t tokens later true None a s l h more = more (silent_push text [] before t s (λ x. line_tells table text before t a None h))
+  sound_step before t tokens later true None a s l h more = more (silent_push text [] before t s (λ x. line_tells text before t a None h))
   sound_step before t tokens later true (Some answer) a s l h more =
-      inl (record { before = before; newline = t; after = tokens; joined = refl; line = l; first = s; says = line_tells table text before t a (Some answer) h })
+      inl (record { before = before; newline = t; after = tokens; joined = refl; line = l; first = s; says = line_tells text before t a (Some answer) h })
 
   sound : (tokens before : List Item) → AreTokens before → AreTokens tokens → AreSilent text [] before → Decides (before ++ tokens) (from before tokens)
   sound [] before a n s =
       subst (λ x. Decides x (at_last e text (waiting_behind nothing before) (judged (outer text) before) ending)) (sym (append-nil before)) (inr (record { silent = s; says = end_told text before e a ending }))
   sound (t ∷ tokens) before a n s =
       subst (λ x. Decides (before ++ t ∷ tokens) x) (sym (from_next before t tokens))
-      (sound_step before t tokens (from (before ++ t ∷ []) tokens) (is_newline t.token.kind) (line_says table text before t) a s refl refl
+      (sound_step before t tokens (from (before ++ t ∷ []) tokens) (is_newline t.token.kind) (line_says text before t) a s refl refl
       (λ x. subst (λ y. Decides y (from (before ++ t ∷ []) tokens)) (append_assoc before (t ∷ []) tokens) (sound tokens (before ++ t ∷ []) (tokens_push before t a n.0) n.1 x)))
 
   pass_step : (before : List Item) (t : Item) (later : Answer) (b : Bool) → is_newline t.token.kind ≡ b → (is_newline t.token.kind ≡ true → IsSilent text before t)
-      → goes b (line_says table text before t) later ≡ later
+      → goes b (line_says text before t) later ≡ later
   pass_step before t later false l h = refl
-  pass_step before t later true l h = ap (λ d. unwrap_or d later) (line_silent table text before t (h l))
+  pass_step before t later true l h = ap (λ d. unwrap_or d later) (line_silent text before t (h l))
 
   walk : (middle before others : List Item) → AreSilent text before middle → from before (middle ++ others) ≡ from (before ++ middle) others
   walk [] before others s = ap (λ x. from x others) (sym (append-nil before))
@@ -312,9 +313,9 @@ module _ (table : AliasTable) (e : Bool) (text : List ℕ) (ending : Ending) whe
       ∙ (walk middle (before ++ t ∷ []) others s.1 ∙ ap (λ x. from x others) (append_assoc before (t ∷ []) middle)))
 
   at_line : (before : List Item) (t : Item) (later answer : Answer) → is_newline t.token.kind ≡ true → Says text before t answer
-      → goes (is_newline t.token.kind) (line_says table text before t) later ≡ answer
+      → goes (is_newline t.token.kind) (line_says text before t) later ≡ answer
   at_line before t later answer l h =
-      ap (λ b. goes b (line_says table text before t) later) l ∙ ap (λ d. unwrap_or d later) (line_told table text before t answer h)
+      ap (λ b. goes b (line_says text before t) later) l ∙ ap (λ d. unwrap_or d later) (line_told text before t answer h)
 
   by_newline : (tokens : List Item) (answer : Answer) → NewlineDecides text tokens answer → from [] tokens ≡ answer
   by_newline tokens answer n =
@@ -329,9 +330,12 @@ module _ (table : AliasTable) (e : Bool) (text : List ℕ) (ending : Ending) whe
   complete_for tokens answer (inl n) = by_newline tokens answer n
   complete_for tokens answer (inr n) = by_end tokens answer n
 
-pub reading_defined : (table : AliasTable) (e : Bool) (text : List ℕ) (answer : Answer) → (reading table e text ≡ answer) ↔ IsReading table e text answer
+reading_plain : (e : Bool) (text : List ℕ) → reading no_aliases e text ≡ from e text (items_of e text).ending [] (items_of e text).items
 unfolding reading
-reading_defined table e text answer = (
-  (λ h. subst (λ x. IsReading table e text x) h (sound table e text (items_of e text).ending (items_of e text).items [] tt (tokens_of e text) tt)),
-  (λ h. complete_for table e text (items_of e text).ending (items_of e text).items answer h),
+reading_plain e text = same_first e text (judged (outer text) []) nothing (items_of e text).items (items_of e text).ending
+
+pub reading_defined : (e : Bool) (text : List ℕ) (answer : Answer) → (reading no_aliases e text ≡ answer) ↔ IsReading e text answer
+reading_defined e text answer = (
+  (λ h. subst (λ x. IsReading e text x) (sym (reading_plain e text) ∙ h) (sound e text (items_of e text).ending (items_of e text).items [] tt (tokens_of e text) tt)),
+  (λ h. reading_plain e text ∙ complete_for e text (items_of e text).ending (items_of e text).items answer h),
 )

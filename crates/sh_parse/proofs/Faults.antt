@@ -1,5 +1,5 @@
 -- The faults of a text's tokens, and what ends these, stand in the text.
-use Rattle.std.proofs.Common.{◌≡◌, inl, inr, ℕ, zero, suc, ◌+◌, ◌-◌, ◌<◌, ◌≤◌, Bool, true, List, [], ◌∷◌, ◌++◌, length, drop, Option, Some, None, Result, refl, sym, subst, arith}
+use Rattle.std.proofs.Common.{◌≡◌, ℕ, zero, suc, ◌+◌, ◌-◌, ◌<◌, ◌≤◌, nat_lt, Bool, true, false, List, [], ◌∷◌, ◌++◌, length, drop, Option, Some, None, Result, Ok, Err, refl, subst, arith, if◌then◌else◌}
 use Rattle.std.specs.Option.{unwrap_or}
 use Rattle.std.proofs.lemmas.List.{length-drop}
 use Rattle.sh_token.specs.declared.token.TokenKind.{TokenKind}
@@ -13,12 +13,20 @@ use Rattle.sh_parse_documents.specs.Waiting.{Waiting, nothing, behind_token, due
 use Rattle.sh_parse_documents.specs.Items.{FirstItem, FoundItem, NoItem, first_item, item_of, with_bodies}
 use Rattle.sh_parse_documents.specs.Stream.{Ending, AtEnd, Cut, Items, with_item, with_first, items_from, items_of, waiting_behind}
 use Rattle.sh_parse_words.specs.declared.fault.PartFault.{PartFault}
-use Rattle.sh_parse_commands.specs.Words.{Reader}
+use Rattle.sh_token_grammar.specs.Shell.{substitution}
+use Rattle.sh_token_pieces.specs.declared.here.Delimiter.{Delimiter}
+use Rattle.sh_aliases.specs.declared.alias.Alias.{Alias}
+use Rattle.sh_aliases.specs.Aliases.{AliasTable}
+use Rattle.sh_parse_leaves.specs.Results.{and_then, fault_moved}
+use Rattle.sh_parse_leaves.specs.Words.{Reader, within}
+use Rattle.sh_parse_leaves.specs.Leaves.{leaf_of}
+use Rattle.sh_parse_commands.specs.Documents.{bodies_of}
+use Rattle.sh_parse_leaves.specs.Inputs.{input_of}
+use Rattle.sh_parse_commands.specs.Judging.{Judged, none_of, with_input, takes, open_in, with_leaf, with_item as judged_item, are_whole, tree_by}
+use Rattle.sh_parse_commands.specs.Replacing.{Inside, Origin, origin, alias_at, with_token, with_token_by, with_tokens}
 use Rattle.sh_parse_words.specs.declared.fault.PartFault.TheVariants as fault
 use Rattle.sh_parse_commands.specs.Cuts.{told_of, cut_fault}
-use Rattle.sh_parse_commands.specs.Programs.{program_in, programs, read_text}
-use Rattle.sh_parse_commands.specs.Defined.{Judge, opened, cut_at, HasFault, refused, too_deep, in_word, in_body, FirstFault, EndIs, inner, IsProgram}
-use Rattle.sh_parse_commands.proofs.Texts.{program_defined}
+use Rattle.sh_parse_commands.specs.Programs.{depth_of, ended_by, inside_at, inside_of as whole_inside, program_in}
 use Rattle.sh_parse.specs.Insides.{AreInside}
 use Rattle.sh_parse.proofs.Insides.{found_inside, inside_of}
 use Rattle.sh_parse_commands.proofs.Within.{FaultIn, FaultsIn, leaf_in, bodies_in}
@@ -109,40 +117,72 @@ token_in at size (b ∷ before) t after h = token_in b.«end» size before t aft
 abbrev pub ReadsIn : Reader → Type 0
 ReadsIn read = (left : ℕ) (text : List ℕ) → FaultsIn (length text) (read left text)
 
-pub has_fault_in : (g : Judge) → ReadsIn g.read → (before : List Item) (t : Item) (f : PartFault) → t.token.span.start ≤ length g.text → t.token.span.«end» ≤ length g.text
-    → HasFault g before t f → FaultIn (length g.text) f
-has_fault_in g reads before t f l m (refused n h) = subst (λ x. FaultIn (length g.text) x) (sym h) l
-has_fault_in g reads before t f l m (too_deep a n h) = subst (λ x. FaultIn (length g.text) x) (sym h) l
-has_fault_in g reads before t f l m (in_word a n h) =
-    subst (λ x. FaultsIn (length g.text) x) h (leaf_in g.read reads (g.left - opened g (before ++ t ∷ [])) g.text t.token.kind t.token.span)
-has_fault_in g reads before t f l m (in_body a n x k h) =
-    subst (λ x. FaultsIn (length g.text) x) h
-    (bodies_in g.read reads (g.left - opened g (before ++ t ∷ [])) g.text (due_at t.token.kind (waiting_behind nothing before)) t m)
+then_in : {A B : Type 0} (size : ℕ) (r : Result A PartFault) (f : A → Result B PartFault) → FaultsIn size r → ((x : A) → FaultsIn size (f x)) → FaultsIn size (and_then r f)
+then_in size (Ok x) f h k = k x
+then_in size (Err e) f h k = h
 
-pub first_fault_in : (g : Judge) → ReadsIn g.read → (tokens : List Item) (f : PartFault) → AreInside 0 (length g.text) tokens → FirstFault g tokens f → FaultIn (length g.text) f
-first_fault_in g reads tokens f i x =
-    let p = token_in 0 (length g.text) x.before x.token x.after (subst (λ xs. AreInside 0 (length g.text) xs) x.joined i) in
-    has_fault_in g reads x.before x.token f p.0 p.1 x.fault
+moved_in : {A : Type 0} (size place : ℕ) → place ≤ size → (r : Result A PartFault) → FaultsIn size (fault_moved (λ at. place) r)
+moved_in size place l (Ok x) = tt
+moved_in size place l (Err (fault.BadSubstitution at)) = l
+moved_in size place l (Err (fault.TooDeep at)) = l
+moved_in size place l (Err (fault.Refused at)) = l
+moved_in size place l (Err (fault.NoMemory _)) = tt
 
-end_is_in : (g : Judge) (tokens : List Item) (ending : Ending) (answer : Result CompoundList PartFault) → EndingIn (length g.text) ending → EndIs g tokens ending answer → FaultsIn (length g.text) answer
-end_is_in g tokens AtEnd answer i (inl (tree, a, h)) = subst (λ x. FaultsIn (length g.text) x) (sym h) tt
-end_is_in g tokens AtEnd answer i (inr (d, h)) = subst (λ x. FaultsIn (length g.text) x) (sym h) (omega arith)
-end_is_in g tokens (Cut at) answer i h =
-    subst (λ x. FaultsIn (length g.text) x) (sym h)
-    (cut_short_in (length g.text) (cut_at g tokens at) (cut_fault_in (g.left - opened g tokens) g.text (waiting_behind nothing tokens) at i))
+module _ (read : Reader) (reads : ReadsIn read) (left : ℕ) (text : List ℕ) where
+  leaf_behind_in : (left' : ℕ) (due : List Delimiter) (item : Item) (j : Judged) → item.token.span.«end» ≤ length text → FaultsIn (length text) (with_leaf (within read left' text) due item j)
+  leaf_behind_in left' due item j m =
+      then_in (length text) (leaf_of read left' text item.token.kind item.token.span) _ (leaf_in read reads left' text item.token.kind item.token.span)
+      (λ l. then_in (length text) (bodies_of read left' text due item) _ (bodies_in read reads left' text due item m) (λ others. tt))
+
+  pub item_in : (due : List Delimiter) (item : Item) (j : Judged) → item.token.span.start ≤ length text → item.token.span.«end» ≤ length text
+      → FaultsIn (length text) (judged_item (within read left text) due item j)
+  unfolding judged_item
+  item_in due item j l m = go (takes (with_input j (input_of item))) (nat_lt left (open_in (with_input j (input_of item))))
+    where
+      go : (b c : Bool) → FaultsIn (length text) (if b then if c then Err (fault.TooDeep item.token.span.start) else with_leaf (within read (left - open_in (with_input j (input_of item))) text) due item (with_input j (input_of item)) else Err (fault.Refused item.token.span.start))
+      go true true = l
+      go true false = leaf_behind_in (left - open_in (with_input j (input_of item))) due item (with_input j (input_of item)) m
+      go false true = l
+      go false false = l
+
+-- tokens of which some are replaced
+module _ (table : AliasTable) (inside : Inside) (reads : (from : List (List ℕ)) → ReadsIn (inside.read from)) (o : Origin) where
+  token_by_in : (due : List Delimiter) (item : Item) (j : Judged) → item.token.span.start ≤ length o.text → item.token.span.«end» ≤ length o.text → (a : Option Alias)
+      → FaultsIn (length o.text) (with_token_by inside o due item j a)
+  token_by_in due item j l m None = item_in (inside.read o.from) (reads o.from) o.left o.text due item j l m
+  token_by_in due item j l m (Some alias) = moved_in (length o.text) item.token.span.start l _
+
+  pub taken_in : (due : List Delimiter) (item : Item) (j : Judged) → item.token.span.start ≤ length o.text → item.token.span.«end» ≤ length o.text
+      → FaultsIn (length o.text) (with_token table inside o due item j)
+  unfolding with_token
+  taken_in due item j l m = token_by_in due item j l m (alias_at table o.from j item)
+
+  all_in : (at : ℕ) (items : List Item) → AreInside at (length o.text) items → (w : Waiting) (j : Judged) → FaultsIn (length o.text) (with_tokens table inside o w items j)
+  all_in at [] h w j = tt
+  all_in at (t ∷ items) h w j =
+      let p = token_in at (length o.text) [] t items h in
+      then_in (length o.text) (with_token table inside o (due_at t.token.kind w) t j) _ (taken_in (due_at t.token.kind w) t j p.0 p.1)
+      (λ k. all_in t.«end» items h.4 (behind_token t.token.kind w) k)
+
+  whole_or_in : (b : Bool) (tree : CompoundList) → FaultsIn (length o.text) (if b then Ok tree else Err (fault.Refused (length o.text)))
+  whole_or_in true tree = tt
+  whole_or_in false tree = omega arith
+
+  ended_in : (w : Waiting) (j : Judged) (ending : Ending) → EndingIn (length o.text) ending → FaultsIn (length o.text) (ended_by o.left o.text w j ending)
+  ended_in w j AtEnd i = whole_or_in (are_whole j) (tree_by j)
+  ended_in w j (Cut at) i = cut_short_in (length o.text) (cut_fault (o.left - open_in j) o.text w at) (cut_fault_in (o.left - open_in j) o.text w at i)
+
+  program_told_in : FaultsIn (length o.text) (program_in table inside o)
+  unfolding program_in
+  program_told_in =
+      then_in (length o.text) (with_tokens table inside o nothing (items_of true o.text).items (none_of substitution)) _
+      (all_in 0 (items_of true o.text).items (inside_of true o.text) nothing (none_of substitution))
+      (λ j. ended_in (waiting_behind nothing (items_of true o.text).items) j (items_of true o.text).ending (ending_in true o.text))
 
 -- the texts of substitutions
-program_told_in : (read : Reader) → ReadsIn read → (left : ℕ) (text : List ℕ) (answer : Result CompoundList PartFault) → IsProgram read left text answer → FaultsIn (length text) answer
-program_told_in read reads left text answer (inl (f, x, h)) =
-    subst (λ a. FaultsIn (length text) a) (sym h) (first_fault_in (inner read left text) reads (items_of true text).items f (inside_of true text) x)
-program_told_in read reads left text answer (inr (x, h)) =
-    end_is_in (inner read left text) (items_of true text).items (items_of true text).ending answer (ending_in true text) h
+texts_at : (table : AliasTable) (d : ℕ) (from : List (List ℕ)) → ReadsIn ((inside_at table d).read from)
+texts_at table zero from left text = omega arith
+texts_at table (suc d) from left text = program_told_in table (inside_at table d) (texts_at table d) (origin from left text)
 
-pub programs_in : (d : ℕ) → ReadsIn (programs d)
-programs_in zero left text = omega arith
-programs_in (suc d) left text =
-    program_told_in (programs d) (programs_in d) left text (program_in (programs d) left text)
-    ((program_defined (programs d) left text (program_in (programs d) left text)).0 refl)
-
-pub texts_in : ReadsIn read_text
-texts_in left text = programs_in (suc (left + length text)) left text
+pub texts_in : (table : AliasTable) (from : List (List ℕ)) → ReadsIn ((whole_inside table).read from)
+texts_in table from left text = texts_at table (depth_of table (origin from left text)) from left text

@@ -5,15 +5,16 @@ use Rattle.sh_parse_documents.specs.declared.item.Item.{Item}
 use Rattle.sh_token.specs.FirstToken.{FirstToken, Found, Unfinished, DeepAt}
 use Rattle.sh_parse_documents.specs.Places.{IsItemPlaced}
 use Rattle.sh_parse_documents.specs.Waiting.{Waiting, nothing, behind_token}
-use Rattle.sh_parse_documents.specs.Items.{FirstItem, FoundItem, NoItem, first_item, item_at}
+use Rattle.sh_parse_documents.specs.Items.{FirstItem, FoundItem, GivesItem, NoItem, first_item, item_at}
 use Rattle.sh_parse.specs.declared.Reading.{Reading}
 use Rattle.sh_parse.specs.declared.ParseFault.{ParseFault}
 use Rattle.sh_parse.specs.declared.turn.Turn.{Turn}
-use Rattle.sh_parse_documents.specs.Stream.{Items, AtEnd, none, with_item, with_first, items_from}
+use Rattle.sh_token.specs.declared.token.TokenFault.{TokenFault}
+use Rattle.sh_parse_documents.specs.Stream.{Items, AtEnd, Cut, none, with_item, with_first, items_from}
 use Rattle.sh_token_grammar.specs.Shell.{complete}
 use Rattle.sh_parse_words.specs.declared.fault.PartFault.{PartFault}
 use Rattle.sh_parse_commands.specs.Judging.{Judged, none_of}
-use Rattle.sh_parse.specs.Aliases.{AliasTable}
+use Rattle.sh_aliases.specs.Aliases.{AliasTable}
 use Rattle.sh_parse.specs.Reading.{at_last, first_answer, nul_in, reading, Answers, source, standing}
 use Rattle.sh_parse.specs.Turns.{read_from, Turns, Takes, turn_of}
 
@@ -95,6 +96,25 @@ pub end_turns : (table : AliasTable) (e : Bool) (text : List ℕ) (before : Resu
 end_turns table e text before w at t answer a k h = answers_turn table e text before w at answer (λ n.
     subst (λ (x : Items). Answers answer (first_answer (source table e text) (standing before w) x.items x.ending))
     (sym (first_end (λ v place. items_from n e text v place) w at (first_item e (length text) w (drop at text)) t a k)) h)
+
+-- no token is found
+abbrev pub IsNoMemory : TokenFault → Type 0
+IsNoMemory TokenFault.Unfinished = ⊥
+IsNoMemory (TokenFault.TooDeep at) = ⊥
+IsNoMemory (TokenFault.NoMemory _) = Unit {0}
+
+first_none : (others : Waiting → ℕ → Items) (w : Waiting) (at : ℕ) (first : FirstItem) (f : TokenFault) → GivesItem (Err f) (item_at at first) → (IsNoMemory f → ⊥) → with_first others w at first ≡ none (Cut at)
+first_none others w at (NoItem fault) f e h = refl
+first_none others w at (FoundItem kind start stop after) TokenFault.Unfinished e h = absurd (cc)
+first_none others w at (FoundItem kind start stop after) (TokenFault.TooDeep place) e h = absurd (cc)
+first_none others w at (FoundItem kind start stop after) (TokenFault.NoMemory _) e h = absurd (h tt)
+
+pub none_turns : (table : AliasTable) (e : Bool) (text : List ℕ) (before : Result Judged PartFault) (w : Waiting) (at : ℕ) (f : TokenFault) (answer : Result Reading ParseFault)
+    → GivesItem (Err f) (item_at at (first_item e (length text) w (drop at text))) → (IsNoMemory f → ⊥) → Answers answer (at_last e text w before (Cut at))
+    → Turns (source table e text) (standing before w) at (turn_of answer)
+none_turns table e text before w at f answer a k h = answers_turn table e text before w at answer (λ n.
+    subst (λ (x : Items). Answers answer (first_answer (source table e text) (standing before w) x.items x.ending))
+    (sym (first_none (λ v place. items_from n e text v place) w at (first_item e (length text) w (drop at text)) f a k)) h)
 
 -- where a reading stands: what is to be read is what the whole text reads as
 pub record Stands (table : AliasTable) (e : Bool) (text : List ℕ) (before : Result Judged PartFault) (w : Waiting) (at : ℕ) (nul : Option ℕ) : Type 0 where

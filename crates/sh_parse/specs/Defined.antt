@@ -12,18 +12,18 @@ use Rattle.sh_parse_words.specs.declared.fault.PartFault.{PartFault}
 use Rattle.sh_parse_commands.specs.Documents.{bodies_of}
 use Rattle.sh_parse_commands.specs.Programs.{read_text}
 use Rattle.sh_parse_commands.specs.Defined.{Judge, Derive, HasFault, AreFaultless, FirstFault, AreTree, cut_at}
-use Rattle.sh_parse.specs.Aliases.{AliasTable}
+use Rattle.sh_aliases.specs.Aliases.{no_aliases}
 use Rattle.sh_parse.specs.Reading.{Answer, fault_of, nul_in, unless_nul, is_newline}
 use Rattle.sh_parse.specs.declared.Reading.TheVariants.{Complete, Blank, More}
 use Rattle.sh_parse.specs.declared.ParseFault.TheVariants.{Refused, Unclosed}
 
 -- how the tokens of a text are judged
 abbrev pub outer : List ℕ → Judge
-outer text = record { grammar = complete; read = read_text; left = 500; text = text }
+outer text = record { grammar = complete; read = read_text no_aliases; left = 500; text = text }
 
 -- the bodies after a newline that ends a command of these tokens
 abbrev pub last_bodies : List ℕ → List Item → Item → Result (List Parts) PartFault
-last_bodies text before newline = bodies_of read_text 500 text (due_at newline.token.kind (waiting_behind nothing before)) newline
+last_bodies text before newline = bodies_of (read_text no_aliases) 500 text (due_at newline.token.kind (waiting_behind nothing before)) newline
 
 -- what the tokens before a newline say there
 pub data TokensSay (text : List ℕ) (before : List Item) (newline : Item) (answer : Answer) : Type 0 where
@@ -109,7 +109,7 @@ pub record EndDecides (e : Bool) (text : List ℕ) (tokens : List Item) (ending 
   pub silent : AreSilent text [] tokens
   pub says : EndSays e text tokens ending answer
 
--- the text reads as this answer; no alias is replaced yet
-abbrev pub IsReading : AliasTable → Bool → List ℕ → Answer → Type 0
-IsReading table e text answer =
+-- the text reads as this answer where there are no aliases
+abbrev pub IsReading : Bool → List ℕ → Answer → Type 0
+IsReading e text answer =
     NewlineDecides text (items_of e text).items answer ⊎ EndDecides e text (items_of e text).items (items_of e text).ending answer

@@ -1,4 +1,3 @@
-pub mod Aliases
 pub mod Reading
 pub mod Turns
 pub mod Defined

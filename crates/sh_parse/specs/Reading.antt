@@ -10,13 +10,13 @@ use Rattle.sh_parse_documents.specs.Waiting.{Waiting, nothing, behind_token, due
 use Rattle.sh_parse_documents.specs.Stream.{Ending, AtEnd, Cut, items_of}
 use Rattle.sh_parse_words.specs.declared.fault.PartFault.{PartFault}
 use Rattle.sh_parse_words.specs.declared.fault.PartFault.TheVariants as fault
-use Rattle.sh_parse_commands.specs.Results.{and_then}
+use Rattle.sh_parse_leaves.specs.Results.{and_then}
 use Rattle.sh_parse_commands.specs.Documents.{bodies_of}
-use Rattle.sh_parse_commands.specs.Words.{within}
-use Rattle.sh_parse_commands.specs.Judging.{Judged, none_of, open_in, with_item, is_none, are_whole, tree_by}
+use Rattle.sh_parse_commands.specs.Replacing.{origin, with_token as taken}
+use Rattle.sh_parse_commands.specs.Judging.{Judged, none_of, open_in, is_none, are_whole, tree_by}
 use Rattle.sh_parse_commands.specs.Cuts.{cut_fault}
-use Rattle.sh_parse_commands.specs.Programs.{read_text}
-use Rattle.sh_parse.specs.Aliases.{AliasTable, replacement}
+use Rattle.sh_parse_commands.specs.Programs.{inside_of, read_text}
+use Rattle.sh_aliases.specs.Aliases.{AliasTable}
 use Rattle.sh_parse.specs.declared.Reading.{Reading}
 use Rattle.sh_parse.specs.declared.Reading.TheVariants.{Complete, Blank, More}
 use Rattle.sh_parse.specs.declared.ParseFault.{ParseFault}
@@ -66,9 +66,9 @@ abbrev pub is_newline : TokenKind → Bool
 is_newline (TokenKind.Operator Operator.Newline) = true
 is_newline kind = false
 
--- one more token, after tokens without a fault; w: what is awaited before it
+-- one more token, or what an alias has in its place (2.3.1), after tokens without a fault; w: what is awaited before it
 abbrev pub with_token : AliasTable → List ℕ → Waiting → Item → Judged → Result Judged PartFault
-with_token table text w item j = with_item (within read_text 500 text) (due_at item.token.kind w) (replacement table j item) j
+with_token table text w item j = taken table (inside_of table) (origin [] 500 text) (due_at item.token.kind w) item j
 
 -- the answer where the tokens are a complete command, the last of whose here-documents have these bodies
 abbrev pub complete_answer : Judged → ℕ → Result (List Parts) PartFault → Answer
@@ -85,7 +85,7 @@ abbrev pub answer_at_newline : AliasTable → List ℕ → Waiting → Item → 
 answer_at_newline table text w newline (Err f) = Some (Err (fault_of newline.«end» f))
 answer_at_newline table text w newline (Ok j) =
     if is_none j then Some (Ok (Blank newline.«end»))
-    else if are_whole j then Some (complete_answer j newline.«end» (bodies_of read_text 500 text (due_at newline.token.kind w) newline))
+    else if are_whole j then Some (complete_answer j newline.«end» (bodies_of (read_text table) 500 text (due_at newline.token.kind w) newline))
     else refusal newline.«end» (with_token table text w newline j)
 
 -- what the end of the input says where no token is found after these, from `at` on: a level too many that

@@ -1,23 +1,23 @@
 //! Laws on readings.
 ghost use Rattle.std.specs.Prelude.{◌≡◌, ◌↔◌, ℕ, Bool, List, length};
 ghost use Rattle.sh_parse_documents.specs.Stream.{items_of};
-ghost use Rattle.sh_parse.specs.Aliases.{AliasTable};
+ghost use Rattle.sh_aliases.specs.Aliases.{AliasTable, no_aliases};
 ghost use Rattle.sh_parse.specs.Reading.{Answer, reading};
 ghost use Rattle.sh_parse.specs.Defined.{IsReading};
 ghost use Rattle.sh_parse.specs.Insides.{AreInside, IsInside};
 
-/// Law: `reading` gives an answer exactly where the text reads as this answer by derivations. A complete
+/// Law: without aliases `reading` gives an answer exactly where the text reads as this answer by derivations. A complete
 /// command is given exactly where the tokens derive without a fault, and its tree is the syntax of the
 /// derivation. A refused token is the first with which the tokens are no prefix. Where nothing is decided,
 /// the tokens up to each newline are a prefix of what may come.
 pub fn reading_is_the_defined_one()
-    ensures { (table : AliasTable) (at_end : Bool) (text : List ℕ) (answer : Answer) → (reading table at_end text ≡ answer) ↔ IsReading table at_end text answer }
+    ensures { (at_end : Bool) (text : List ℕ) (answer : Answer) → (reading no_aliases at_end text ≡ answer) ↔ IsReading at_end text answer }
 {}
 
-/// Law: no text reads as two answers, and so none has two trees.
+/// Law: without aliases no text reads as two answers, and so none has two trees.
 pub fn no_text_has_two_readings()
-    ensures { (table : AliasTable) (at_end : Bool) (text : List ℕ) (one other : Answer)
-        → IsReading table at_end text one → IsReading table at_end text other → one ≡ other }
+    ensures { (at_end : Bool) (text : List ℕ) (one other : Answer)
+        → IsReading at_end text one → IsReading at_end text other → one ≡ other }
 {}
 
 /// Law: a reading takes at least one byte of the text, or none of an empty text, and no more than the text.

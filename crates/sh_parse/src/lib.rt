@@ -9,18 +9,18 @@
 ghost use Rattle.sh_base.specs.Memory.{no_memory};
 ghost use Rattle.sh_parse.specs.Reading.{Answers, reading};
 
-mod aliases;
 mod fault;
 mod laws;
 mod nul;
 mod turn;
 
-pub use aliases::Aliases;
 pub use laws::{
     items_are_inside, no_text_has_two_readings, reading_is_the_defined_one, readings_are_inside,
 };
+pub use sh_aliases::Aliases;
 use sh_base::NoMemory;
 use sh_parse_commands::prefix::Prefix;
+use sh_parse_commands::text::CommandText;
 use sh_parse_documents::waiting::Waiting;
 use sh_syntax::tree;
 use std::alloc::{AllocError, Global};
@@ -87,7 +87,10 @@ impl From<AllocError> for ParseFault {
 
 /// Reads the first complete command of a text (XCU 2.3, 2.10), or says why there is none. `at_end`: the end
 /// of the text is the end of the input, which cuts off the body of a here-document that isn't over. `aliases`
-/// is the table of aliases when the reading begins; no alias is replaced yet.
+/// are those that are defined when the reading begins (XCU 2.3.1): the unquoted word of a command name that is one of them
+/// is read as its value's tokens, but not within its own value; a word that is spelled like a reserved word isn't. Behind a
+/// value that ends in a blank the next word is looked at too, in whatever place it is. A fault in a value is told at the
+/// place of the word.
 ///
 /// A decision place is a newline token with the bodies after it, or the end of the input. The reading is
 /// decided at the first decision place before which there is no token, a complete command, a fault or a NUL.
@@ -114,12 +117,17 @@ pub fn read_command(
     ensures { Answers result (reading aliases.now at_end text.now) }
 {
     let prefix = Prefix::of_command(alloc)?;
+    let command = CommandText::new(aliases, text);
     let mut judged = Ok(prefix);
     let mut waiting = Waiting::new(alloc);
     let mut at = 0;
     let mut nul = None;
     loop {
-        match next_turn(alloc, text, at_end, aliases, judged, waiting, at, nul)? {
+        let turn = match next_turn(alloc, &command, at_end, judged, waiting, at, nul) {
+            Ok(turn) => turn,
+            Err(fault) => return Err(fault),
+        };
+        match turn {
             Turn::On(next, left, place, first) => {
                 judged = next;
                 waiting = left;

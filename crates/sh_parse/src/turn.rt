@@ -2,24 +2,22 @@
 ghost use Rattle.std.specs.Prelude.{◌≡◌, ◌≤◌, ℕ, Bool, List, true, length, take, drop, IfOk, IfErr};
 ghost use Rattle.sh_parse_documents.specs.Stream.{AtEnd, Cut};
 ghost use Rattle.sh_parse_documents.specs.Waiting.{Waiting};
-ghost use Rattle.sh_parse_commands.specs.Results.{and_then};
+ghost use Rattle.sh_parse_leaves.specs.Results.{and_then};
 ghost use Rattle.sh_parse_commands.specs.Documents.{bodies_of};
-ghost use Rattle.sh_parse_commands.specs.Words.{within};
-ghost use Rattle.sh_parse_commands.specs.Judging.{with_item, are_whole};
-ghost use Rattle.sh_parse_commands.specs.Programs.{read_text};
+ghost use Rattle.sh_parse_commands.specs.Judging.{are_whole};
+ghost use Rattle.sh_parse_commands.specs.Replacing.{with_token as taken};
+ghost use Rattle.sh_parse_commands.specs.Programs.{inside_of, outermost, read_text};
 ghost use Rattle.sh_base.specs.Memory.{no_memory};
 ghost use Rattle.sh_parse.specs.declared.ParseFault.TheVariants.{NoMemory};
-ghost use Rattle.sh_parse.specs.Aliases.{replacement};
 ghost use Rattle.sh_parse.specs.Reading.{Answer, Answers, answer_at_newline, at_cut, at_end, at_last, complete_answer, is_newline, nul_in, source, standing, stands_behind, unless_nul};
 ghost use Rattle.sh_parse.specs.Turns.{GoesOn, Takes, Tells, Turns, fault_in, turn_of};
 
-use crate::aliases::{Aliases, aliased};
 use crate::fault::{fault_of, fault_with_nul};
 use crate::nul::first_nul;
 use crate::{ParseFault, Reading};
 use sh_parse_commands::cut::cut_fault;
 use sh_parse_commands::prefix::Prefix;
-use sh_parse_commands::text::{bodies_of, judge};
+use sh_parse_commands::text::{CommandText, LEVELS};
 use sh_parse_documents::item::{Item, next_item};
 use sh_parse_documents::waiting::Waiting;
 use sh_parse_words::fault::PartFault;
@@ -27,9 +25,6 @@ use sh_token::token::{TokenFault, TokenKind};
 use sh_token_pieces::here::Delimiter;
 use sh_token_pieces::operator::Operator;
 use std::alloc::Global;
-
-/// How many levels may open.
-const LEVELS: usize = 500;
 
 /// What a token does to a reading.
 #[derive(Drop)]
@@ -45,29 +40,33 @@ pub(crate) enum Turn {
 /// NUL before it.
 pub(crate) fn next_turn(
     alloc: Global,
-    text: &[u8],
+    command: &CommandText<'_>,
     at_end: bool,
-    aliases: &Aliases,
     judged: Result<Prefix, PartFault>,
     waiting: Waiting,
     at: usize,
     nul: Option<usize>,
 ) -> Result<Turn, ParseFault>
-    requires inside { at ≤ length text.now }
-    requires nul { nul ≡ nul_in (take at text.now) }
-    ensures { Turns (source aliases.now at_end text.now) (standing judged waiting) at result }
+    requires inside { at ≤ length command.now.text }
+    requires nul { nul ≡ nul_in (take at command.now.text) }
+    ensures { Turns (source command.now.aliases at_end command.now.text) (standing judged waiting) at result }
 {
+    let text = command.text();
     match next_item(alloc, text, at, at_end, text.len(), &waiting) {
         Ok(item) => {
             let TokenKind::End = item.token.kind else {
                 let nul = first_nul(text, nul, at, item.end);
-                return take(alloc, text, aliases, judged, waiting, item, nul);
+                return take(alloc, command, judged, waiting, item, nul);
             };
             let nul = first_nul(text, nul, at, text.len());
             turn_of(end(text, judged, nul))
         },
         Err(TokenFault::NoMemory(lack)) => Err(ParseFault::NoMemory(lack)),
-        Err(_) => {
+        Err(TokenFault::Unfinished) => {
+            let nul = first_nul(text, nul, at, text.len());
+            turn_of(cut(alloc, text, at_end, judged, &waiting, at, nul))
+        },
+        Err(TokenFault::TooDeep { .. }) => {
             let nul = first_nul(text, nul, at, text.len());
             turn_of(cut(alloc, text, at_end, judged, &waiting, at, nul))
         },
@@ -87,23 +86,21 @@ fn turn_of(reading: Result<Reading, ParseFault>) -> Result<Turn, ParseFault>
 /// Judges a token after others, or keeps their first fault.
 fn judge_next(
     alloc: Global,
-    text: &[u8],
-    aliases: &Aliases,
+    command: &CommandText<'_>,
     judged: Result<Prefix, PartFault>,
     due: &[Delimiter],
     item: &Item,
 ) -> Result<Result<Prefix, PartFault>, ParseFault>
     ensures judged { IfOk result (λ next.
         next ≡ and_then judged (λ j.
-        with_item (within read_text 500 text.now) due.now (replacement aliases.now j item.now) j)) }
+        taken command.now.aliases (inside_of command.now.aliases) (outermost command.now) due.now item.now j)) }
     ensures memory { IfErr result (λ fault. fault ≡ NoMemory no_memory) }
 {
     let mut prefix = match judged {
         Ok(prefix) => prefix,
         Err(fault) => return Ok(Err(fault)),
     };
-    let item = aliased(aliases, &prefix, item);
-    match judge(alloc, LEVELS, text, due, item, &mut prefix) {
+    match command.judge(alloc, due, item, &mut prefix) {
         Ok(()) => Ok(Ok(prefix)),
         Err(PartFault::NoMemory(lack)) => Err(ParseFault::NoMemory(lack)),
         Err(fault) => Ok(Err(fault)),
@@ -114,39 +111,37 @@ fn judge_next(
 /// token's end.
 fn take(
     alloc: Global,
-    text: &[u8],
-    aliases: &Aliases,
+    command: &CommandText<'_>,
     judged: Result<Prefix, PartFault>,
     waiting: Waiting,
     item: Item,
     nul: Option<usize>,
 ) -> Result<Turn, ParseFault>
-    requires { nul ≡ nul_in (take item.«end» text.now) }
-    ensures { (e : Bool) → Takes (source aliases.now e text.now) (standing judged waiting) item nul result }
+    requires { nul ≡ nul_in (take item.«end» command.now.text) }
+    ensures { (e : Bool) → Takes (source command.now.aliases e command.now.text) (standing judged waiting) item nul result }
 {
     if ends_line(&item.token.kind) {
-        return end_line(alloc, text, aliases, judged, waiting, item, nul);
+        return end_line(alloc, command, judged, waiting, item, nul);
     }
-    go_on(alloc, text, aliases, judged, waiting, item, nul)
+    go_on(alloc, command, judged, waiting, item, nul)
 }
 
 /// Goes on after a token that decides nothing.
 fn go_on(
     alloc: Global,
-    text: &[u8],
-    aliases: &Aliases,
+    command: &CommandText<'_>,
     judged: Result<Prefix, PartFault>,
     waiting: Waiting,
     item: Item,
     nul: Option<usize>,
 ) -> Result<Turn, ParseFault>
-    ensures { GoesOn (stands_behind aliases.now text.now (standing judged waiting) item) item.«end» nul
+    ensures { GoesOn (stands_behind command.now.aliases command.now.text (standing judged waiting) item) item.«end» nul
         result }
 {
     let after = item.end;
     let mut left = waiting;
     let due = left.due_at(&item.token.kind);
-    let next = judge_next(alloc, text, aliases, judged, due, &item)?;
+    let next = judge_next(alloc, command, judged, due, &item)?;
     left.pass(&item.token.kind)?;
     Ok(Turn::On(next, left, after, nul))
 }
@@ -154,20 +149,19 @@ fn go_on(
 /// Decides at a newline, if that is a decision place of these tokens, or has a NUL before its end.
 fn end_line(
     alloc: Global,
-    text: &[u8],
-    aliases: &Aliases,
+    command: &CommandText<'_>,
     judged: Result<Prefix, PartFault>,
     waiting: Waiting,
     newline: Item,
     nul: Option<usize>,
 ) -> Result<Turn, ParseFault>
     requires line { is_newline newline.token.kind ≡ true }
-    requires nul { nul ≡ nul_in (take newline.«end» text.now) }
-    ensures { (e : Bool) → Takes (source aliases.now e text.now) (standing judged waiting) newline nul
+    requires nul { nul ≡ nul_in (take newline.«end» command.now.text) }
+    ensures { (e : Bool) → Takes (source command.now.aliases e command.now.text) (standing judged waiting) newline nul
         result }
 {
     let used = newline.end;
-    let told = tell(alloc, text, aliases, judged, waiting, newline, nul);
+    let told = tell(alloc, command, judged, waiting, newline, nul);
     match nul {
         Some(at) => Err(fault_with_nul(fault_in_turn(told), at, used)),
         None => told,
@@ -177,15 +171,14 @@ fn end_line(
 /// What the tokens before a newline say there.
 fn tell(
     alloc: Global,
-    text: &[u8],
-    aliases: &Aliases,
+    command: &CommandText<'_>,
     judged: Result<Prefix, PartFault>,
     waiting: Waiting,
     newline: Item,
     nul: Option<usize>,
 ) -> Result<Turn, ParseFault>
-    ensures { Tells (answer_at_newline aliases.now text.now waiting newline judged)
-        (stands_behind aliases.now text.now (standing judged waiting) newline) newline.«end» nul
+    ensures { Tells (answer_at_newline command.now.aliases command.now.text waiting newline judged)
+        (stands_behind command.now.aliases command.now.text (standing judged waiting) newline) newline.«end» nul
         result }
 {
     let used = newline.end;
@@ -198,9 +191,9 @@ fn tell(
     }
     if prefix.is_whole() {
         let due = waiting.due_at(&newline.token.kind);
-        return turn_of(complete(alloc, text, prefix, due, &newline));
+        return turn_of(complete(alloc, command, prefix, due, &newline));
     }
-    match go_on(alloc, text, aliases, Ok(prefix), waiting, newline, nul)? {
+    match go_on(alloc, command, Ok(prefix), waiting, newline, nul)? {
         Turn::On(Err(fault), _, _, _) => Err(fault_of(used, fault)),
         turn => Ok(turn),
     }
@@ -209,7 +202,7 @@ fn tell(
 /// The tokens are a complete command, and the bodies after the newline belong to it.
 fn complete(
     alloc: Global,
-    text: &[u8],
+    command: &CommandText<'_>,
     prefix: Prefix,
     due: &[Delimiter],
     newline: &Item,
@@ -217,10 +210,10 @@ fn complete(
     requires { are_whole prefix ≡ true }
     ensures { Answers result
         (complete_answer prefix newline.now.«end»
-        (bodies_of read_text 500 text.now due.now newline.now)) }
+        (bodies_of (read_text command.now.aliases) 500 command.now.text due.now newline.now)) }
 {
     let used = newline.end;
-    let bodies = match bodies_of(alloc, LEVELS, text, due, newline) {
+    let bodies = match command.bodies_of(alloc, due, newline) {
         Ok(bodies) => bodies,
         Err(fault) => return Err(fault_of(used, fault)),
     };

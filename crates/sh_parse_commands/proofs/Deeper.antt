@@ -31,16 +31,13 @@ use Rattle.sh_parse_words.specs.declared.fault.PartFault.TheVariants as fault
 use Rattle.sh_parse_words.specs.Building.{Building, Outcome, empty_building, with_literal, parts_of, with_part, with_bytes, opened, last_frame, other_frames, closed_by, with_form_part, on, skip_close, skipping, open_braces, in_quotes, backquotes_request, plainly, taking, take_by, take_piece, with_program}
 use Rattle.sh_parse_words.specs.Parameters.{braces_of}
 use Rattle.sh_parse_words.specs.Places.{behind_piece}
-use Rattle.sh_parse_commands.specs.Results.{and_then, fault_moved}
-use Rattle.sh_parse_commands.specs.Sources.{text_between, behind_pieces}
-use Rattle.sh_parse_commands.specs.Words.{Reader, text_of, place_in, at_its_level, answer_of, with_answer, with_piece, begins_closed, with_pieces, whole, parts_in, within, unread}
-use Rattle.sh_parse_commands.specs.Leaves.{name_size, assignment_leaf, plain_leaf, leaf_by, word_leaf, leaf_of}
+use Rattle.sh_parse_leaves.specs.Results.{and_then, fault_moved}
+use Rattle.sh_parse_leaves.specs.Sources.{text_between, behind_pieces}
+use Rattle.sh_parse_leaves.specs.Words.{Reader, text_of, place_in, at_its_level, answer_of, with_answer, with_piece, begins_closed, with_pieces, whole, parts_in, within, unread}
+use Rattle.sh_parse_leaves.specs.Leaves.{name_size, assignment_leaf, plain_leaf, leaf_by, word_leaf, leaf_of}
 use Rattle.sh_parse_commands.specs.Documents.{prefix_of, unless, expanded_body, document_parts, with_documents, bodies_of}
 use Rattle.sh_parse_commands.specs.Judging.{Judged, none_of, with_input, takes, open_in, with_leaf, with_item, with_items}
-use Rattle.sh_parse_commands.specs.Inputs.{input_of}
-use Rattle.sh_parse_commands.specs.Programs.{ended_by, program_in, programs, read_text}
-use Rattle.sh_parse_commands.specs.Defined.{IsProgram}
-use Rattle.sh_parse_commands.proofs.Texts.{program_defined}
+use Rattle.sh_parse_leaves.specs.Inputs.{input_of}
 use Rattle.sh_parse_commands.proofs.Shorter.{IsBackquotes, backquotes_form, text_size, backquotes_size, DocumentsFit, documents_size}
 
 -- what is being put together has at most so many levels left, and one at least where a substitution is open
@@ -175,12 +172,12 @@ program_within : (n : ℕ) (b : Building) (s : Substitution) (c : CompoundList) 
 unfolding with_program
 program_within n b s c h = part_within n b _ h
 
-then_all : {A B : Type 0} (o : Result A PartFault) (f h : A → Result B PartFault) → ((x : A) → f x ≡ h x) → and_then o f ≡ and_then o h
+pub then_all : {A B : Type 0} (o : Result A PartFault) (f h : A → Result B PartFault) → ((x : A) → f x ≡ h x) → and_then o f ≡ and_then o h
 then_all (Ok x) f h e = e x
 then_all (Err y) f h e = refl
 
 -- readers that agree on texts that nest less than this, and on the one without bytes or levels
-abbrev Agree : ℕ → Reader → Reader → Type 0
+abbrev pub Agree : ℕ → Reader → Reader → Type 0
 Agree m read other = ((left : ℕ) (inner : List ℕ) → left + length inner < m → read left inner ≡ other left inner) × (read 0 [] ≡ other 0 [])
 
 below : (n k size : ℕ) (read other : Reader) → Agree (n + size) read other → Agree (n - k + size) read other
@@ -289,83 +286,15 @@ module _ (n size : ℕ) (read other : Reader) (agree : Agree (n + size) read oth
   leaves_same : (text : List ℕ) (due : List Delimiter) (item : Item) (j : Judged) → length text ≤ size → with_leaf (within read n text) due item j ≡ with_leaf (within other n text) due item j
   leaves_same text due item j s =
       then_all (leaf_of read n text item.token.kind item.token.span)
-      (λ l. and_then (bodies_of read n text due item) (λ others. Ok (record j { leaves = j.leaves ++ l ∷ []; bodies = j.bodies ++ others })))
-      (λ l. and_then (bodies_of other n text due item) (λ others. Ok (record j { leaves = j.leaves ++ l ∷ []; bodies = j.bodies ++ others })))
-      (λ l. ap (λ o. and_then o (λ others. Ok (record j { leaves = j.leaves ++ l ∷ []; bodies = j.bodies ++ others }))) (bodies_same text due item s))
-      ∙ ap (λ o. and_then o (λ l. and_then (bodies_of other n text due item) (λ others. Ok (record j { leaves = j.leaves ++ l ∷ []; bodies = j.bodies ++ others }))))
+      (λ l. and_then (bodies_of read n text due item) (λ others. Ok (record j { leaves = j.leaves ++ l ∷ []; bodies = j.bodies ++ others; is_behind_blank = false })))
+      (λ l. and_then (bodies_of other n text due item) (λ others. Ok (record j { leaves = j.leaves ++ l ∷ []; bodies = j.bodies ++ others; is_behind_blank = false })))
+      (λ l. ap (λ o. and_then o (λ others. Ok (record j { leaves = j.leaves ++ l ∷ []; bodies = j.bodies ++ others; is_behind_blank = false }))) (bodies_same text due item s))
+      ∙ ap (λ o. and_then o (λ l. and_then (bodies_of other n text due item) (λ others. Ok (record j { leaves = j.leaves ++ l ∷ []; bodies = j.bodies ++ others; is_behind_blank = false }))))
       (leaf_same text item.token.kind item.token.span s)
 
-item_same : (n : ℕ) (read other : Reader) (text : List ℕ) → Agree (n + length text) read other → (due : List Delimiter) (item : Item) (j : Judged) → with_item (within read n text) due item j ≡ with_item (within other n text) due item j
+pub item_same : (n : ℕ) (read other : Reader) (text : List ℕ) → Agree (n + length text) read other → (due : List Delimiter) (item : Item) (j : Judged) → with_item (within read n text) due item j ≡ with_item (within other n text) due item j
 unfolding with_item
 item_same n read other text agree due item j =
     let k = with_input j (input_of item) in
     ap (λ o. if takes k then if nat_lt n (open_in k) then Err (fault.TooDeep item.token.span.start) else o else Err (fault.Refused item.token.span.start))
     (leaves_same (n - open_in k) (length text) read other (below n (open_in k) (length text) read other agree) text due item k (omega arith))
-
-items_same : (n : ℕ) (read other : Reader) (text : List ℕ) → Agree (n + length text) read other → (items : List Item) (w : Waiting) (j : Judged) → with_items (within read n text) w items j ≡ with_items (within other n text) w items j
-items_same n read other text agree [] w j = refl
-items_same n read other text agree (i ∷ items) w j =
-    then_all (with_item (within read n text) (due_at i.token.kind w) i j) (λ k. with_items (within read n text) (behind_token i.token.kind w) items k)
-    (λ k. with_items (within other n text) (behind_token i.token.kind w) items k) (λ k. items_same n read other text agree items (behind_token i.token.kind w) k)
-    ∙ ap (λ o. and_then o (λ k. with_items (within other n text) (behind_token i.token.kind w) items k)) (item_same n read other text agree (due_at i.token.kind w) i j)
-
-program_same : (n : ℕ) (read other : Reader) (text : List ℕ) → Agree (n + length text) read other → program_in read n text ≡ program_in other n text
-unfolding program_in
-program_same n read other text agree =
-    ap (λ o. and_then o (λ j. ended_by n text (waiting_behind nothing (items_of true text).items) j (items_of true text).ending)) (items_same n read other text agree (items_of true text).items nothing (none_of substitutions))
-
--- nothing is read in a text without bytes
-empty_same : (n : ℕ) (read other : Reader) → program_in read n [] ≡ program_in other n []
-unfolding program_in first_item first_token
-empty_same n read other = refl
-
--- a text that nests no deeper than this is the same, however deep texts may nest
-programs_same : (d left : ℕ) (text : List ℕ) → left + length text ≤ d → programs (suc d) left text ≡ programs (suc (suc d)) left text
-programs_same zero left [] l = empty_same left (programs zero) (programs (suc zero))
-programs_same zero left (b ∷ text) l = absurd (omega (l, arith))
-programs_same (suc d) left text l =
-    program_same left (programs (suc d)) (programs (suc (suc d))) text
-    ((λ k inner m. programs_same d k inner (omega (m, l, arith))), empty_same 0 (programs d) (programs (suc d)))
-
-deeper_same : (k left : ℕ) (text : List ℕ) → programs (suc (k + (left + length text))) left text ≡ read_text left text
-deeper_same zero left text =
-    let e : zero + (left + length text) ≡ left + length text = omega arith in ap (λ n. programs (suc n) left text) e
-deeper_same (suc k) left text =
-    let e : suc (suc k + (left + length text)) ≡ suc (suc (k + (left + length text))) = omega arith in
-    ap (λ n. programs n left text) e ∙ sym (programs_same (k + (left + length text)) left text (omega arith)) ∙ deeper_same k left text
-
-deep_enough : (d left : ℕ) (text : List ℕ) → left + length text ≤ d → programs (suc d) left text ≡ read_text left text
-deep_enough d left text l =
-    let e : d ≡ d - (left + length text) + (left + length text) = omega (l, arith) in
-    ap (λ n. programs (suc n) left text) e ∙ deeper_same (d - (left + length text)) left text
-
--- texts that may nest so deep are read as by `read_text`
-agrees : (d : ℕ) → Agree (suc d) (programs (suc d)) read_text
-agrees d = ((λ left inner l. deep_enough d left inner (omega (l, arith))), deep_enough d 0 [] (omega arith))
-
-less : (m n : ℕ) (read other : Reader) → m ≤ n → Agree n read other → Agree m read other
-less m n read other l agree = ((λ left inner k. agree.0 left inner (omega (k, l, arith))), agree.1)
-
-pub item_by_text : (d n : ℕ) (text : List ℕ) → n + length text ≤ d → (due : List Delimiter) (item : Item) (j : Judged)
-    → with_item (within (programs (suc d)) n text) due item j ≡ with_item (within read_text n text) due item j
-item_by_text d n text l due item j =
-    item_same n (programs (suc d)) read_text text (less (n + length text) (suc d) (programs (suc d)) read_text (omega (l, arith)) (agrees d)) due item j
-
-pub bodies_by_text : (d n : ℕ) (text : List ℕ) → n + length text ≤ d → (due : List Delimiter) (item : Item)
-    → bodies_of (programs (suc d)) n text due item ≡ bodies_of read_text n text due item
-bodies_by_text d n text l due item =
-    bodies_same n (length text) (programs (suc d)) read_text (less (n + length text) (suc d) (programs (suc d)) read_text (omega (l, arith)) (agrees d)) text due item (omega arith)
-
-text_fixed : (left : ℕ) (text : List ℕ) → read_text left text ≡ program_in read_text left text
-text_fixed zero [] = empty_same 0 (programs zero) read_text
-text_fixed zero (b ∷ text) =
-    let e : suc (length text) ≡ zero + length (b ∷ text) = omega arith in
-    program_same zero (programs (zero + length (b ∷ text))) read_text (b ∷ text) (subst (λ d. Agree d (programs d) read_text) e (agrees (length text)))
-text_fixed (suc left) text =
-    let e : suc (left + length text) ≡ suc left + length text = omega arith in
-    program_same (suc left) (programs (suc left + length text)) read_text text (subst (λ d. Agree d (programs d) read_text) e (agrees (left + length text)))
-
-pub text_defined : (left : ℕ) (text : List ℕ) (answer : Result CompoundList PartFault) → (read_text left text ≡ answer) ↔ IsProgram read_text left text answer
-text_defined left text answer =
-    let p = program_defined read_text left text answer in
-    ((λ h. p.0 (sym (text_fixed left text) ∙ h)), (λ h. text_fixed left text ∙ p.1 h))

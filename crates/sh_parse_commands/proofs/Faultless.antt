@@ -6,8 +6,8 @@ use Rattle.sh_parse_actions.specs.declared.leaf.Leaf.{Leaf}
 use Rattle.sh_parse_documents.specs.declared.item.Item.{Item}
 use Rattle.sh_parse_documents.specs.Waiting.{Waiting, nothing, behind_token, due_at}
 use Rattle.sh_parse_words.specs.declared.fault.PartFault.{PartFault}
-use Rattle.sh_parse_commands.specs.Results.{and_then}
-use Rattle.sh_parse_commands.specs.Words.{within}
+use Rattle.sh_parse_leaves.specs.Results.{and_then}
+use Rattle.sh_parse_leaves.specs.Words.{within}
 use Rattle.sh_parse_commands.specs.Judging.{IsShell, Judged, none_of, with_item, with_items}
 use Rattle.sh_parse_documents.specs.Stream.{waiting_behind}
 use Rattle.sh_parse_commands.specs.Defined.{Judge, IsTaken, HasFault, AreTaken, AreFaultless, FirstFault}

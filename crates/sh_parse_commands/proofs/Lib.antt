@@ -1,11 +1,15 @@
 pub mod Shells
 pub mod Cutting
 pub mod Steps
-pub mod Fitting
 pub mod Taking
 pub mod Faultless
 pub mod Texts
 pub mod Shorter
 pub mod Deeper
+pub mod Nested
+pub mod Without
+pub mod Rewriting
+pub mod Ending
+pub mod Replaced
 pub mod Judged
 pub mod Within

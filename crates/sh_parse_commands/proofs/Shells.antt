@@ -32,14 +32,14 @@ pub shell_predictive : (d : Tabulation) → IsShell d → IsPredictive d
 shell_predictive d (inl e) = subst (λ x. IsPredictive x) (sym e) complete_predictive
 shell_predictive d (inr e) = subst (λ x. IsPredictive x) (sym e) substitution_predictive
 
-abbrev judged : Tabulation → List Input → List Leaf → List Parts → Judged
-judged d tokens ls bs = record { grammar = d; tokens = tokens; leaves = ls; bodies = bs }
+abbrev judged : Tabulation → List Input → List Leaf → List Parts → Bool → Judged
+judged d tokens ls bs blank = record { grammar = d; tokens = tokens; leaves = ls; bodies = bs; is_behind_blank = blank }
 
-pub whole_told : (d : Tabulation) (tokens : List Input) (ls : List Leaf) (bs : List Parts) (b : Bool) (j : Judged) → j ≡ judged d tokens ls bs → IsShell d → (IsTrue b ↔ IsText d tokens) → b ≡ are_whole j
-whole_told d tokens ls bs b j e s h = same_truth b (is_whole d tokens) (IsText d tokens) h (whole_text d (shell_predictive d s) tokens) ∙ ap are_whole (sym e)
+pub whole_told : (d : Tabulation) (tokens : List Input) (ls : List Leaf) (bs : List Parts) (blank : Bool) (b : Bool) (j : Judged) → j ≡ judged d tokens ls bs blank → IsShell d → (IsTrue b ↔ IsText d tokens) → b ≡ are_whole j
+whole_told d tokens ls bs blank b j e s h = same_truth b (is_whole d tokens) (IsText d tokens) h (whole_text d (shell_predictive d s) tokens) ∙ ap are_whole (sym e)
 
-pub prefix_told : (d : Tabulation) (tokens : List Input) (ls : List Leaf) (bs : List Parts) (input : Input) (b : Bool) (j : Judged) → j ≡ judged d tokens ls bs → IsShell d → (IsTrue b ↔ BeginsText d (tokens ++ input ∷ [])) → b ≡ takes (with_input j input)
-prefix_told d tokens ls bs input b j e s h =
+pub prefix_told : (d : Tabulation) (tokens : List Input) (ls : List Leaf) (bs : List Parts) (blank : Bool) (input : Input) (b : Bool) (j : Judged) → j ≡ judged d tokens ls bs blank → IsShell d → (IsTrue b ↔ BeginsText d (tokens ++ input ∷ [])) → b ≡ takes (with_input j input)
+prefix_told d tokens ls bs blank input b j e s h =
     same_truth b (is_prefix d (tokens ++ input ∷ [])) (BeginsText d (tokens ++ input ∷ [])) h (prefix_text d (shell_predictive d s) (tokens ++ input ∷ [])) ∙ ap (λ x. takes (with_input x input)) (sym e)
 
 -- where the tokens are no text there is no tree
@@ -47,9 +47,9 @@ not_whole : (d : Tabulation) (tokens : List Input) (b : Bool) → is_whole d tok
 not_whole d tokens false e s h = refl
 not_whole d tokens true e s h = absurd (h ((whole_text d (shell_predictive d s) tokens).0 e))
 
-pub no_tree : (d : Tabulation) (tokens : List Input) (ls : List Leaf) (bs : List Parts) (j : Judged) → j ≡ judged d tokens ls bs → IsShell d → (IsText d tokens → ⊥) → None ≡ tree_where j
-no_tree d tokens ls bs j e s h =
-    ap (λ b. if b then Some (tree_by (judged d tokens ls bs)) else None) (sym (not_whole d tokens (is_whole d tokens) refl s h)) ∙ ap tree_where (sym e)
+pub no_tree : (d : Tabulation) (tokens : List Input) (ls : List Leaf) (bs : List Parts) (blank : Bool) (j : Judged) → j ≡ judged d tokens ls bs blank → IsShell d → (IsText d tokens → ⊥) → None ≡ tree_where j
+no_tree d tokens ls bs blank j e s h =
+    ap (λ b. if b then Some (tree_by (judged d tokens ls bs blank)) else None) (sym (not_whole d tokens (is_whole d tokens) refl s h)) ∙ ap tree_where (sym e)
 
 -- the derivation of some actions
 pub record Derived (d : Tabulation) (tokens : List Input) (actions : List Action) : Type 0 where
@@ -66,16 +66,16 @@ by_grammar d tokens actions leaves found (inr e) t c s = s tokens t.tree (subst 
 whole_by : (d : Tabulation) (tokens : List Input) (actions : List Action) → IsShell d → (t : Derived d tokens actions) → is_whole d tokens ≡ true
 whole_by d tokens actions s t = (whole_text d (shell_predictive d s) tokens).1 (t.tree, t.is_tree)
 
-pub tree_found : (d : Tabulation) (tokens : List Input) (ls : List Leaf) (bs : List Parts) (actions : List Action) (leaves : List Leaf) (found : Option CompoundList) (j : Judged) → j ≡ judged d tokens ls bs → IsShell d
+pub tree_found : (d : Tabulation) (tokens : List Input) (ls : List Leaf) (bs : List Parts) (blank : Bool) (actions : List Action) (leaves : List Leaf) (found : Option CompoundList) (j : Judged) → j ≡ judged d tokens ls bs blank → IsShell d
     → Derived d tokens actions → IsSyntaxWhere complete_commands actions leaves found → IsSyntaxWhere substitution actions leaves found → leaves ≡ with_bodies ls bs
     → Some (unwrap_or found (compound_list [])) ≡ tree_where j
 unfolding tree_by
-tree_found d tokens ls bs actions leaves found j e s t c u l =
+tree_found d tokens ls bs blank actions leaves found j e s t c u l =
     let is : found ≡ syntax_of t.tree leaves = by_grammar d tokens actions leaves found s t c u in
     let one : tree_of d tokens ≡ t.tree = tree_computed d (shell_predictive d s) tokens t.tree t.is_tree in
     let same : found ≡ syntax_of (tree_of d tokens) (with_bodies ls bs) = is ∙ ap (λ x. syntax_of t.tree x) l ∙ ap (λ x. syntax_of x (with_bodies ls bs)) (sym one) in
     ap (λ x. Some (unwrap_or x (compound_list []))) same
-    ∙ ap (λ b. if b then Some (tree_by (judged d tokens ls bs)) else None) (sym (whole_by d tokens actions s t))
+    ∙ ap (λ b. if b then Some (tree_by (judged d tokens ls bs blank)) else None) (sym (whole_by d tokens actions s t))
     ∙ ap tree_where (sym e)
 
 pub some_tree : (found : Option CompoundList) (tree : CompoundList) (t : Option CompoundList) → found ≡ Some tree → Some (unwrap_or found (compound_list [])) ≡ t → Some tree ≡ t

@@ -11,8 +11,8 @@ use Rattle.sh_parse_words.specs.declared.build.Substitution.{Substitution}
 use Rattle.sh_parse_words.specs.declared.build.Substitution.TheVariants as substitution
 use Rattle.sh_parse_words.specs.Backquotes.{is_escape, without_escapes}
 use Rattle.sh_parse_words.specs.Building.{backquotes_by}
-use Rattle.sh_parse_commands.specs.Sources.{text_between, inside, backquotes_text}
-use Rattle.sh_parse_commands.specs.Words.{text_by, text_of}
+use Rattle.sh_parse_leaves.specs.Sources.{text_between, inside, backquotes_text}
+use Rattle.sh_parse_leaves.specs.Words.{text_by, text_of}
 use Rattle.sh_parse_commands.proofs.Within.{kept_size, pushed_size}
 
 -- texts of substitutions

@@ -19,15 +19,15 @@ use Rattle.sh_parse_words.specs.declared.fault.PartFault.{PartFault}
 use Rattle.sh_parse_words.specs.declared.fault.PartFault.TheVariants as fault
 use Rattle.sh_parse_words.specs.Building.{Building, Taken, Outcome, Takes, empty_building, with_literal, parts_of, take_piece, with_program}
 use Rattle.sh_parse_words.specs.Places.{behind_joins, behind_piece, place_of}
-use Rattle.sh_parse_commands.specs.Results.{and_then, at_other_place, fault_moved, GivesFault, Gives}
-use Rattle.sh_parse_commands.specs.Sources.{text_between, behind_pieces}
-use Rattle.sh_parse_commands.specs.Inputs.{input_of}
-use Rattle.sh_parse_commands.specs.Words.{Reader, text_of, place_in, refused_or_deep, level_fault, at_its_level, answer_of, with_answer, with_piece, begins_closed, with_pieces, whole, parts_in, within, unread}
-use Rattle.sh_parse_commands.specs.Leaves.{name_size, assignment_leaf, plain_leaf, leaf_by, word_leaf, leaf_of}
+use Rattle.sh_parse_leaves.specs.Results.{and_then, at_other_place, fault_moved, GivesFault, Gives}
+use Rattle.sh_parse_leaves.specs.Sources.{text_between, behind_pieces}
+use Rattle.sh_parse_leaves.specs.Inputs.{input_of}
+use Rattle.sh_parse_leaves.specs.Words.{Reader, text_of, place_in, refused_or_deep, level_fault, at_its_level, answer_of, with_answer, with_piece, begins_closed, with_pieces, whole, parts_in, within, unread}
+use Rattle.sh_parse_leaves.specs.Leaves.{name_size, assignment_leaf, plain_leaf, leaf_by, word_leaf, leaf_of}
 use Rattle.sh_parse_commands.specs.declared.body_prefix.BodyPrefix.{BodyPrefix}
 use Rattle.sh_parse_commands.specs.Documents.{prefix_of, unless, expanded_body, document_parts, with_documents, bodies_of}
 use Rattle.sh_parse_commands.specs.Judging.{Judged, none_of, with_input, takes, open_in, with_leaf, taken_item, with_item, with_items}
-use Rattle.sh_parse_commands.specs.Programs.{ended_by, program_of, program_in, programs}
+use Rattle.sh_parse_commands.specs.Programs.{ended_by}
 
 -- a fault goes on
 pub then_fault : {A B : Type 0} → (e : PartFault) (r : Result A PartFault) (f : A → Result B PartFault) → GivesFault e r → GivesFault e (and_then r f)
@@ -273,47 +273,27 @@ pub leaf_fault : (read : Reader) (left : ℕ) (text : List ℕ) (due : List Deli
 leaf_fault read left text due item j k opens x e t o d g =
     subst (λ z. GivesFault x z) (sym (item_by read left text due item j k opens false e t o d))
     (then_fault x (leaf_of read (left - opens) text item.token.kind item.token.span)
-    (λ l. and_then (bodies_of read (left - opens) text due item) (λ others. Ok (record k { leaves = k.leaves ++ l ∷ []; bodies = k.bodies ++ others }))) g)
+    (λ l. and_then (bodies_of read (left - opens) text due item) (λ others. Ok (record k { leaves = k.leaves ++ l ∷ []; bodies = k.bodies ++ others; is_behind_blank = false }))) g)
 
 with_leaf_is : (read : Reader) (left : ℕ) (text : List ℕ) (due : List Delimiter) (item : Item) (k : Judged) (l : Leaf) → leaf_of read left text item.token.kind item.token.span ≡ Ok l
-    → with_leaf (within read left text) due item k ≡ and_then (bodies_of read left text due item) (λ others. Ok (record k { leaves = k.leaves ++ l ∷ []; bodies = k.bodies ++ others }))
+    → with_leaf (within read left text) due item k ≡ and_then (bodies_of read left text due item) (λ others. Ok (record k { leaves = k.leaves ++ l ∷ []; bodies = k.bodies ++ others; is_behind_blank = false }))
 with_leaf_is read left text due item k l h =
-    ap (λ z. and_then z (λ (l : Leaf). and_then (bodies_of read left text due item) (λ others. Ok (record k { leaves = k.leaves ++ l ∷ []; bodies = k.bodies ++ others })))) h
+    ap (λ z. and_then z (λ (l : Leaf). and_then (bodies_of read left text due item) (λ others. Ok (record k { leaves = k.leaves ++ l ∷ []; bodies = k.bodies ++ others; is_behind_blank = false })))) h
 
 pub item_bodies_fault : (read : Reader) (left : ℕ) (text : List ℕ) (due : List Delimiter) (item : Item) (j k : Judged) (opens : ℕ) (l : Leaf) (x : PartFault) → k ≡ with_input j (input_of item) → takes k ≡ true → opens ≡ open_in k → nat_lt left opens ≡ false
     → leaf_of read (left - opens) text item.token.kind item.token.span ≡ Ok l → GivesFault x (bodies_of read (left - opens) text due item) → GivesFault x (with_item (within read left text) due item j)
 item_bodies_fault read left text due item j k opens l x e t o d h g =
     subst (λ z. GivesFault x z) (sym (item_by read left text due item j k opens false e t o d ∙ with_leaf_is read (left - opens) text due item k l h))
-    (then_fault x (bodies_of read (left - opens) text due item) (λ others. Ok (record k { leaves = k.leaves ++ l ∷ []; bodies = k.bodies ++ others })) g)
+    (then_fault x (bodies_of read (left - opens) text due item) (λ others. Ok (record k { leaves = k.leaves ++ l ∷ []; bodies = k.bodies ++ others; is_behind_blank = false })) g)
 
 pub item_taken : (read : Reader) (left : ℕ) (text : List ℕ) (due : List Delimiter) (item : Item) (j k new : Judged) (opens : ℕ) (l : Leaf) (bodies : List Parts) → k ≡ with_input j (input_of item) → takes k ≡ true → opens ≡ open_in k → nat_lt left opens ≡ false
     → leaf_of read (left - opens) text item.token.kind item.token.span ≡ Ok l → bodies_of read (left - opens) text due item ≡ Ok bodies
-    → new ≡ record k { leaves = k.leaves ++ l ∷ []; bodies = k.bodies ++ bodies } → with_item (within read left text) due item j ≡ Ok new
+    → new ≡ record k { leaves = k.leaves ++ l ∷ []; bodies = k.bodies ++ bodies; is_behind_blank = false } → with_item (within read left text) due item j ≡ Ok new
 item_taken read left text due item j k new opens l bodies e t o d h b n =
     item_by read left text due item j k opens false e t o d
     ∙ with_leaf_is read (left - opens) text due item k l h
-    ∙ ap (λ z. and_then z (λ (others : List Parts). Ok (record k { leaves = k.leaves ++ l ∷ []; bodies = k.bodies ++ others }))) b
+    ∙ ap (λ z. and_then z (λ (others : List Parts). Ok (record k { leaves = k.leaves ++ l ∷ []; bodies = k.bodies ++ others; is_behind_blank = false }))) b
     ∙ ap (λ (z : Judged). Ok z) (sym n)
-
--- a text
-pub text_fault : (depth left : ℕ) (text : List ℕ) (found : Items) (w : Waiting) (rest : List Item) (j : Judged) (item : Item) (others : List Item) (x : PartFault)
-    → items_of true text ≡ found → with_items (within (programs depth) left text) w rest j ≡ with_items (within (programs depth) left text) nothing found.items (none_of substitution)
-    → rest ≡ item ∷ others → GivesFault x (with_item (within (programs depth) left text) (due_at item.token.kind w) item j) → GivesFault x (programs (suc depth) left text)
-unfolding program_in
-text_fault depth left text found w rest j item others x f h r g =
-    subst (λ z. GivesFault x (program_of (programs depth) left text z)) (sym f)
-    (then_fault x (with_items (within (programs depth) left text) nothing found.items (none_of substitution)) (λ k. ended_by left text (waiting_behind nothing found.items) k found.ending)
-    (subst (λ z. GivesFault x z) (sym (ap (λ z. with_items (within (programs depth) left text) w z j) r) ∙ h)
-    (then_fault x (with_item (within (programs depth) left text) (due_at item.token.kind w) item j) (λ k. with_items (within (programs depth) left text) (behind_token item.token.kind w) others k) g)))
-
-pub text_ended : (depth left : ℕ) (text : List ℕ) (found : Items) (w : Waiting) (rest : List Item) (j : Judged) (result : Result CompoundList PartFault)
-    → items_of true text ≡ found → with_items (within (programs depth) left text) w rest j ≡ with_items (within (programs depth) left text) nothing found.items (none_of substitution)
-    → waiting_behind w rest ≡ waiting_behind nothing found.items → rest ≡ [] → Gives result (ended_by left text w j found.ending) → Gives result (programs (suc depth) left text)
-unfolding program_in
-text_ended depth left text found w rest j result f h v r g =
-    subst (λ z. Gives result (program_of (programs depth) left text z)) (sym f)
-    (subst (λ z. Gives result (and_then z (λ k. ended_by left text (waiting_behind nothing found.items) k found.ending))) (sym (ap (λ z. with_items (within (programs depth) left text) w z j) r) ∙ h)
-    (subst (λ z. Gives result (ended_by left text z j found.ending)) (sym (ap (λ z. waiting_behind w z) r) ∙ v) g))
 
 pub none_left : {A : Type 0} → (xs : List A) → length xs ≡ 0 → xs ≡ []
 none_left [] h = refl

@@ -10,9 +10,9 @@ use Rattle.sh_parse_documents.specs.declared.item.Item.{Item}
 use Rattle.sh_parse_documents.specs.Waiting.{nothing, due_at}
 use Rattle.sh_parse_words.specs.declared.fault.PartFault.{PartFault}
 use Rattle.sh_parse_words.specs.declared.fault.PartFault.TheVariants as fault
-use Rattle.sh_parse_commands.specs.Inputs.{input_of, inputs_of}
-use Rattle.sh_parse_commands.specs.Results.{and_then}
-use Rattle.sh_parse_commands.specs.Words.{within}
+use Rattle.sh_parse_leaves.specs.Inputs.{input_of, inputs_of}
+use Rattle.sh_parse_leaves.specs.Results.{and_then}
+use Rattle.sh_parse_leaves.specs.Words.{within}
 use Rattle.sh_parse_commands.specs.Judging.{IsShell, Judged, taken_item, with_item}
 use Rattle.sh_parse_documents.specs.Stream.{waiting_behind}
 use Rattle.sh_parse_commands.specs.Defined.{Judge, ArePrefix, opened, leaf_at, bodies_at, IsTaken, HasFault, refused, too_deep, in_word, in_body}
@@ -20,7 +20,7 @@ use Rattle.sh_parse_commands.proofs.Shells.{shell_predictive}
 
 -- tokens that are taken, with these leaves and bodies
 abbrev pub behind : Judge → List Item → List Leaf → List Parts → Judged
-behind g tokens ls bs = record { grammar = g.grammar; tokens = inputs_of tokens; leaves = ls; bodies = bs }
+behind g tokens ls bs = record { grammar = g.grammar; tokens = inputs_of tokens; leaves = ls; bodies = bs; is_behind_blank = false }
 
 is_prefix_text : (g : Judge) (tokens : List Item) → IsShell g.grammar → is_prefix g.grammar (inputs_of tokens) ≡ true → ArePrefix g tokens
 is_prefix_text g tokens s h = (prefix_text g.grammar (shell_predictive g.grammar s) (inputs_of tokens)).0 h
@@ -84,7 +84,7 @@ module _ (g : Judge) (before : List Item) (t : Item) (ls : List Leaf) (bs : List
   next_is : judged_next ≡ by_parts
   unfolding with_item
   next_is =
-      ap (λ us. taken_item (within g.read g.left g.text) (due_at t.token.kind (waiting_behind nothing before)) t (record { grammar = g.grammar; tokens = us; leaves = ls; bodies = bs }))
+      ap (λ us. taken_item (within g.read g.left g.text) (due_at t.token.kind (waiting_behind nothing before)) t (record { grammar = g.grammar; tokens = us; leaves = ls; bodies = bs; is_behind_blank = false }))
       (sym (map-append input_of before (t ∷ [])))
 
   pub record Taken (k : Judged) : Type 0 where

@@ -3,6 +3,7 @@ use Rattle.std.proofs.Common.{◌≡◌, ◌⊎◌, inl, inr, ◌↔◌, ℕ, ze
 use Rattle.std.specs.Option.{unwrap_or}
 use Rattle.std.proofs.lemmas.Bool.{and_from, false_from_ne_true}
 use Rattle.std.proofs.lemmas.List.{append-nil}
+use Rattle.sh_token_grammar.specs.Shell.{substitution}
 use Rattle.sh_grammar.specs.declared.Token.{Token as Input}
 use Rattle.sh_grammar.specs.Computed.{is_whole}
 use Rattle.sh_grammar.specs.Derived.{tree_of}
@@ -26,13 +27,13 @@ use Rattle.sh_parse_documents.specs.Items.{FirstItem, FoundItem, NoItem, first_i
 use Rattle.sh_parse_documents.specs.Stream.{Ending, AtEnd, Cut, Items, with_item, with_first, items_from, items_of, waiting_behind}
 use Rattle.sh_parse_words.specs.declared.fault.PartFault.{PartFault}
 use Rattle.sh_parse_words.specs.declared.fault.PartFault.TheVariants as fault
-use Rattle.sh_parse_commands.specs.Inputs.{input_of, inputs_of}
-use Rattle.sh_parse_commands.specs.Results.{and_then}
-use Rattle.sh_parse_commands.specs.Words.{Reader, within}
+use Rattle.sh_parse_leaves.specs.Inputs.{input_of, inputs_of}
+use Rattle.sh_parse_leaves.specs.Results.{and_then}
+use Rattle.sh_parse_leaves.specs.Words.{Reader, within}
 use Rattle.sh_parse_commands.specs.Judging.{IsShell, Judged, none_of, with_items, with_body, bodies_behind, with_bodies, are_no, tree_by}
-use Rattle.sh_parse_commands.specs.Programs.{ended_by, program_in}
+use Rattle.sh_parse_commands.specs.Programs.{ended_by}
 use Rattle.sh_parse_commands.specs.Defined.{Judge, Derive, AreTaken, AreFaultless, FirstFault, AreTree, AreTokens, EndIs, inner, IsProgram}
-use Rattle.sh_parse_commands.proofs.Fitting.{leaf_fits}
+use Rattle.sh_parse_leaves.proofs.Fitting.{leaf_fits}
 use Rattle.sh_parse_commands.proofs.Shells.{shell_predictive}
 use Rattle.sh_parse_commands.proofs.Taking.{behind}
 use Rattle.sh_parse_commands.proofs.Faultless.{judged, JudgedSo, judged_told, faultless_judged, fault_judged}
@@ -208,9 +209,10 @@ module _ (g : Judge) (s : IsShell g.grammar) (tokens : List Item) where
   said ending answer (inl (f, h, e)) = ap (λ o. and_then o (λ j. ended_by g.left g.text (waiting_behind nothing tokens) j ending)) (fault_judged g s tokens f h) ∙ sym e
   said ending answer (inr (x, h)) = end_said x ending answer h
 
-pub program_defined : (read : Reader) (left : ℕ) (text : List ℕ) (answer : Result CompoundList PartFault) → (program_in read left text ≡ answer) ↔ IsProgram read left text answer
-unfolding program_in
-program_defined read left text answer =
+pub plain_defined : (read : Reader) (left : ℕ) (text : List ℕ) (answer : Result CompoundList PartFault)
+    → (and_then (with_items (within read left text) nothing (items_of true text).items (none_of substitution))
+    (λ j. ended_by left text (waiting_behind nothing (items_of true text).items) j (items_of true text).ending) ≡ answer) ↔ IsProgram read left text answer
+plain_defined read left text answer =
     let g = inner read left text in
     let items = (items_of true text).items in
     let ending = (items_of true text).ending in (

@@ -29,10 +29,10 @@ use Rattle.sh_parse_words.specs.declared.fault.PartFault.TheVariants as fault
 use Rattle.sh_parse_words.specs.Building.{Building, Outcome, empty_building, with_literal, parts_of, with_part, with_bytes, opened, last_frame, closed_by, with_form_part, on, skip_close, skipping, open_braces, plainly, taking, take_by, take_piece, with_program}
 use Rattle.sh_parse_words.specs.Parameters.{braces_of, machine_number}
 use Rattle.sh_parse_words.specs.Places.{behind_joins, behind_piece, place_of}
-use Rattle.sh_parse_commands.specs.Results.{and_then, fault_moved}
-use Rattle.sh_parse_commands.specs.Sources.{text_between, behind_pieces}
-use Rattle.sh_parse_commands.specs.Words.{Reader, text_by, text_of, place_by, place_in, refused_or_deep, at_its_level, answer_of, with_answer, with_piece, begins_closed, with_pieces, whole, parts_in, within, unread}
-use Rattle.sh_parse_commands.specs.Leaves.{name_size, assignment_leaf, plain_leaf, leaf_by, word_leaf, leaf_of}
+use Rattle.sh_parse_leaves.specs.Results.{and_then, fault_moved}
+use Rattle.sh_parse_leaves.specs.Sources.{text_between, behind_pieces}
+use Rattle.sh_parse_leaves.specs.Words.{Reader, text_by, text_of, place_by, place_in, refused_or_deep, at_its_level, answer_of, with_answer, with_piece, begins_closed, with_pieces, whole, parts_in, within, unread}
+use Rattle.sh_parse_leaves.specs.Leaves.{name_size, assignment_leaf, plain_leaf, leaf_by, word_leaf, leaf_of}
 use Rattle.sh_parse_commands.specs.Documents.{expanded_body, document_parts, with_documents, bodies_of}
 
 -- the place is at most this

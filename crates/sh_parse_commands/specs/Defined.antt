@@ -16,10 +16,10 @@ use Rattle.sh_parse_documents.specs.Waiting.{nothing, due_at}
 use Rattle.sh_parse_documents.specs.Stream.{Ending, AtEnd, Cut, items_of, waiting_behind}
 use Rattle.sh_parse_words.specs.declared.fault.PartFault.{PartFault}
 use Rattle.sh_parse_words.specs.declared.fault.PartFault.TheVariants as fault
-use Rattle.sh_parse_commands.specs.Inputs.{inputs_of}
+use Rattle.sh_parse_leaves.specs.Inputs.{inputs_of}
 use Rattle.sh_parse_commands.specs.Levels.{open_compounds}
-use Rattle.sh_parse_commands.specs.Words.{Reader}
-use Rattle.sh_parse_commands.specs.Leaves.{leaf_of}
+use Rattle.sh_parse_leaves.specs.Words.{Reader}
+use Rattle.sh_parse_leaves.specs.Leaves.{leaf_of}
 use Rattle.sh_parse_commands.specs.Documents.{bodies_of}
 use Rattle.sh_parse_commands.specs.Cuts.{cut_fault}
 use Rattle.sh_parse_commands.specs.Judging.{with_bodies}

@@ -12,9 +12,9 @@ use Rattle.sh_parse_documents.specs.declared.item.Item.{Item}
 use Rattle.sh_parse_words.specs.declared.fault.PartFault.{PartFault}
 use Rattle.sh_parse_words.specs.declared.fault.PartFault.TheVariants as fault
 use Rattle.sh_parse_words.specs.Building.{with_literal, parts_of}
-use Rattle.sh_parse_commands.specs.Results.{and_then, fault_moved}
-use Rattle.sh_parse_commands.specs.Sources.{text_between}
-use Rattle.sh_parse_commands.specs.Words.{Reader, parts_in}
+use Rattle.sh_parse_leaves.specs.Results.{and_then, fault_moved}
+use Rattle.sh_parse_leaves.specs.Sources.{text_between}
+use Rattle.sh_parse_leaves.specs.Words.{Reader, parts_in}
 use Rattle.sh_parse_commands.specs.declared.body_prefix.BodyPrefix.{BodyPrefix}
 
 -- the pieces of bytes, or of the bytes before the first form that they don't close. A text never opens more

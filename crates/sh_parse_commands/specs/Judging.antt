@@ -19,10 +19,10 @@ use Rattle.sh_parse_documents.specs.declared.item.Item.{Item}
 use Rattle.sh_parse_documents.specs.Waiting.{Waiting, behind_token, due_at}
 use Rattle.sh_parse_words.specs.declared.fault.PartFault.{PartFault}
 use Rattle.sh_parse_words.specs.declared.fault.PartFault.TheVariants as fault
-use Rattle.sh_parse_commands.specs.Inputs.{input_of}
-use Rattle.sh_parse_commands.specs.Results.{and_then}
-use Rattle.sh_parse_commands.specs.Words.{Within, within}
-use Rattle.sh_parse_commands.specs.Leaves.{leaf_of}
+use Rattle.sh_parse_leaves.specs.Inputs.{input_of}
+use Rattle.sh_parse_leaves.specs.Results.{and_then}
+use Rattle.sh_parse_leaves.specs.Words.{Within, within}
+use Rattle.sh_parse_leaves.specs.Leaves.{leaf_of}
 use Rattle.sh_parse_commands.specs.Documents.{bodies_of}
 
 -- the grammar of commands, or the grammar of substitutions
@@ -35,9 +35,11 @@ pub record Judged : Type 0 where
   pub tokens : List Input
   pub leaves : List Leaf
   pub bodies : List Parts
+  -- an alias whose value ends in a blank was replaced, and no token has come since
+  pub is_behind_blank : Bool
 
 abbrev pub none_of : Tabulation → Judged
-none_of grammar = record { grammar = grammar; tokens = []; leaves = []; bodies = [] }
+none_of grammar = record { grammar = grammar; tokens = []; leaves = []; bodies = []; is_behind_blank = false }
 
 abbrev pub with_input : Judged → Input → Judged
 with_input j input = record j { tokens = j.tokens ++ input ∷ [] }
@@ -57,7 +59,7 @@ abbrev pub with_leaf : Within → List Delimiter → Item → Judged → Result 
 with_leaf around due item j =
     and_then (leaf_of around.read around.left around.text item.token.kind item.token.span)
     (λ l. and_then (bodies_of around.read around.left around.text due item)
-    (λ others. Ok (record j { leaves = j.leaves ++ l ∷ []; bodies = j.bodies ++ others })))
+    (λ others. Ok (record j { leaves = j.leaves ++ l ∷ []; bodies = j.bodies ++ others; is_behind_blank = false })))
 
 -- a token is judged with those before it
 abbrev pub taken_item : Within → List Delimiter → Item → Judged → Result Judged PartFault

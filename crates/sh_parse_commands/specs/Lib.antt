@@ -1,11 +1,8 @@
-pub mod Results
-pub mod Sources
-pub mod Inputs
-pub mod Words
-pub mod Leaves
 pub mod Documents
 pub mod Levels
 pub mod Judging
+pub mod Replacing
 pub mod Cuts
 pub mod Programs
 pub mod Defined
+pub mod Rewriting

@@ -2,14 +2,14 @@
 ghost use Rattle.std.specs.Prelude.{◌≡◌, [], IfOk};
 ghost use Rattle.sh_parse_words.specs.Building.{with_literal, parts_of};
 ghost use Rattle.sh_parse_documents.specs.Documents.{place_at};
-ghost use Rattle.sh_parse_commands.specs.Results.{at_other_place};
+ghost use Rattle.sh_parse_leaves.specs.Results.{at_other_place};
 ghost use Rattle.sh_token.specs.Body.{body_answer};
 ghost use Rattle.sh_token.specs.Found.{pieces_of_body};
 ghost use Rattle.sh_parse_commands.specs.Documents.{closed_pieces, prefix_of, pieces_or_none, unless};
 
-use crate::source::text_between;
 use sh_base::sequence::{Sequence, Text};
 use sh_parse_documents::document::Document;
+use sh_parse_leaves::source::text_between;
 use sh_parse_words::fault::PartFault;
 use sh_syntax::tree::{Part, Parts};
 use sh_token::body_pieces::{BodyFault, body_pieces};

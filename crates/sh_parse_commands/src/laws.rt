@@ -1,33 +1,23 @@
 //! Laws on judged tokens, and on the lists of commands of texts.
-ghost use Rattle.std.specs.Prelude.{◌≡◌, ◌↔◌, ℕ, Bool, List, Result, Some, Ok, IsTrue};
+ghost use Rattle.std.specs.Prelude.{◌≡◌, ◌↔◌, ℕ, Bool, List, Result, Some, None, Ok};
 ghost use Rattle.sh_grammar.specs.Grammar.{Tree};
 ghost use Rattle.sh_grammar.specs.Tabulation.{Tabulation};
 ghost use Rattle.sh_grammar.specs.Text.{IsTreeOf};
-ghost use Rattle.sh_base.specs.declared.span.Span.{Span};
-ghost use Rattle.sh_token_grammar.specs.Classes.{class_number};
 ghost use Rattle.sh_syntax.specs.declared.tree.CompoundList.{CompoundList};
 ghost use Rattle.sh_syntax.specs.declared.tree.Parts.{Parts};
-ghost use Rattle.sh_token.specs.declared.token.TokenKind.{TokenKind};
-ghost use Rattle.sh_parse_actions.specs.declared.leaf.Leaf.{Leaf};
-ghost use Rattle.sh_parse_words.specs.Fitting.{fits};
 ghost use Rattle.sh_parse_words.specs.Meaning.{syntax_of};
 ghost use Rattle.sh_parse_documents.specs.declared.item.Item.{Item};
 ghost use Rattle.sh_parse_documents.specs.Stream.{items_of};
-ghost use Rattle.sh_parse_documents.specs.Waiting.{nothing};
+ghost use Rattle.sh_parse_documents.specs.Waiting.{Waiting, nothing};
 ghost use Rattle.sh_parse_words.specs.declared.fault.PartFault.{PartFault};
-ghost use Rattle.sh_parse_commands.specs.Inputs.{class_of_kind, inputs_of};
-ghost use Rattle.sh_parse_commands.specs.Words.{Reader, within};
-ghost use Rattle.sh_parse_commands.specs.Leaves.{leaf_of};
+ghost use Rattle.sh_parse_leaves.specs.Inputs.{inputs_of};
+ghost use Rattle.sh_parse_leaves.specs.Words.{Reader, within};
 ghost use Rattle.sh_parse_commands.specs.Judging.{IsShell, Judged, none_of, with_items, with_bodies, tree_by};
-ghost use Rattle.sh_parse_commands.specs.Programs.{program_in, read_text};
+ghost use Rattle.sh_aliases.specs.Aliases.{AliasTable, no_aliases};
+ghost use Rattle.sh_parse_commands.specs.Replacing.{Inside, Origin, origin, with_tokens};
+ghost use Rattle.sh_parse_commands.specs.Rewriting.{IsRewritten, Sourced, plainly, sourced, with_sourced};
+ghost use Rattle.sh_parse_commands.specs.Programs.{inside_of, program_in, read_text};
 ghost use Rattle.sh_parse_commands.specs.Defined.{AreTokens, IsProgram};
-
-/// Law: what a token is to the tree fits its class.
-pub fn leaves_fit()
-    ensures { (read : Reader) (left : ℕ) (text : List ℕ) (kind : TokenKind) (span : Span)
-        (leaf : Leaf) → (kind ≡ TokenKind.End → ⊥) → leaf_of read left text kind span ≡ Ok leaf
-        → IsTrue (fits (class_number (class_of_kind kind)) leaf) }
-{}
 
 /// Law: where tokens are judged without fault, the syntax of their derivation is their tree, whatever bodies
 /// their here-documents have.
@@ -46,17 +36,34 @@ pub fn items_are_tokens()
     ensures { (at_end : Bool) (text : List ℕ) → AreTokens (items_of at_end text).items }
 {}
 
-/// Law: `program_in` gives an answer exactly where the text has this answer by derivations. A list of
+/// Law: without aliases `program_in` gives an answer exactly where the text has this answer by derivations. A list of
 /// commands is given exactly where the tokens derive without a fault, and a refused token is the first with
 /// which the tokens are no prefix.
 pub fn program_is_the_defined_one()
-    ensures { (read : Reader) (left : ℕ) (text : List ℕ) (answer : Result CompoundList PartFault)
-        → (program_in read left text ≡ answer) ↔ IsProgram read left text answer }
+    ensures { (inside : Inside) (o : Origin) (answer : Result CompoundList PartFault)
+        → (program_in no_aliases inside o ≡ answer) ↔ IsProgram (inside.read o.from) o.left o.text answer }
 {}
 
-/// Law: `read_text` reads a text by the same definition, and reads the texts of its substitutions by
-/// `read_text` again. So no text nests too deep for `read_text`.
+/// Law: `inside_of` reads a text by the same definition, whatever aliases there are, and reads the texts of its substitutions by
+/// `inside_of` again. So no text and no value nests too deep for it. Without aliases `read_text` is defined by derivations.
 pub fn read_text_is_the_defined_one()
-    ensures { (left : ℕ) (text : List ℕ) (answer : Result CompoundList PartFault)
-        → (read_text left text ≡ answer) ↔ IsProgram read_text left text answer }
+    ensures itself { (table : AliasTable) (from : List (List ℕ)) (left : ℕ) (text : List ℕ)
+        → (inside_of table).read from left text ≡ program_in table (inside_of table) (origin from left text) }
+    ensures defined { (left : ℕ) (text : List ℕ) (answer : Result CompoundList PartFault)
+        → (read_text no_aliases left text ≡ answer) ↔ IsProgram (read_text no_aliases) left text answer }
+{}
+
+/// Law: tokens that are read with aliases are judged as those that come of rewriting them (XCU 2.3.1): the first one that is replaced is
+/// replaced by the tokens of its alias's value, until none is replaced. So one pass over the tokens does what rewriting does.
+pub fn aliases_are_rewritings()
+    ensures { (table : AliasTable) (grammar : Tabulation) (o : Origin) (w : Waiting) (tokens : List Item) (rewritten : List Sourced)
+        → IsRewritten table grammar (sourced o None w tokens) rewritten
+        → plainly (with_tokens table (inside_of table) o w tokens (none_of grammar))
+        ≡ plainly (with_sourced (inside_of table) rewritten (none_of grammar)) }
+{}
+
+/// Law: rewriting ends, whatever aliases there are: each row of tokens comes to one in which none is replaced.
+pub fn rewriting_ends()
+    ensures { (table : AliasTable) (grammar : Tabulation) (o : Origin) (w : Waiting) (tokens : List Item)
+        → (rewritten : List Sourced) × IsRewritten table grammar (sourced o None w tokens) rewritten }
 {}

@@ -5,16 +5,15 @@
 
 mod body_prefix;
 pub mod cut;
-mod input;
 mod laws;
-mod leaf;
 pub mod prefix;
 mod program;
-mod source;
+mod replacing;
+mod scope;
 pub mod text;
-mod word;
 
 pub use laws::{
-    items_are_tokens, judged_tokens_have_their_tree, leaves_fit, no_tokens_have_two_derivations,
-    program_is_the_defined_one, read_text_is_the_defined_one,
+    aliases_are_rewritings, items_are_tokens, judged_tokens_have_their_tree,
+    no_tokens_have_two_derivations, program_is_the_defined_one, read_text_is_the_defined_one,
+    rewriting_ends,
 };

@@ -3,7 +3,9 @@ ghost use Rattle.std.specs.Prelude.{◌≡◌, ◌++◌, ◌∷◌, [], false, I
 ghost use Rattle.sh_token_grammar.specs.Shell.{complete, substitution};
 ghost use Rattle.sh_parse_commands.specs.Levels.{open_compounds};
 ghost use Rattle.sh_parse_commands.specs.Judging.{none_of, with_input, takes, open_in, is_none, are_whole, with_body, bodies_behind, with_bodies, tree_by, tree_where};
+ghost use Rattle.sh_parse_commands.specs.Replacing.{behind_value, may_name_command};
 
+use sh_aliases::Alias;
 use sh_base::sequence::Sequence;
 use sh_base::shared::Shared;
 use sh_grammar::{Recognizer, Token as Input};
@@ -11,6 +13,7 @@ use sh_parse_actions::backward::Backward;
 use sh_parse_actions::leaf::Leaf;
 use sh_parse_words::syntax_tree;
 use sh_syntax::tree::{CompoundList, Parts};
+use sh_token_grammar::class::TokenClass;
 use sh_token_grammar::grammar::{complete_command, substituted};
 use sh_token_grammar::levels::{keep_open_compounds, open_compounds};
 use std::alloc::{AllocError, Global};
@@ -24,6 +27,8 @@ pub struct Prefix {
     recognizer: Recognizer<'static>,
     leaves: Vec<Leaf>,
     bodies: Vec<Shared<Parts>>,
+    /// An alias whose value ends in a blank was replaced, and no token has come since.
+    is_behind_blank: bool,
 }
 
 impl Model for Prefix {
@@ -36,7 +41,7 @@ impl Model for Prefix {
 
     ghost coded = { Prim.hlevel (codes, parts_row.the_row.coded, word_row.the_row.coded) };
 
-    ghost view = { λ f. record { grammar = f.recognizer.grammar; tokens = f.recognizer.tokens; leaves = f.leaves.items; bodies = f.bodies.items } };
+    ghost view = { λ f. record { grammar = f.recognizer.grammar; tokens = f.recognizer.tokens; leaves = f.leaves.items; bodies = f.bodies.items; is_behind_blank = f.is_behind_blank } };
 
     ghost invariant = { λ f. IsShell f.recognizer.grammar };
 }
@@ -53,6 +58,7 @@ impl Prefix {
             recognizer,
             leaves: Vec::new(alloc),
             bodies: Vec::new(alloc),
+            is_behind_blank: false,
         })
     }
 
@@ -67,6 +73,7 @@ impl Prefix {
             recognizer,
             leaves: Vec::new(alloc),
             bodies: Vec::new(alloc),
+            is_behind_blank: false,
         })
     }
 
@@ -93,10 +100,33 @@ impl Prefix {
     pub(crate) fn put(&mut self, leaf: Leaf, bodies: Vec<Shared<Parts>>) -> Result<(), AllocError>
         ensures { OnOk result
             (self.new ≡ record self.old
-            { leaves = self.old.leaves ++ leaf ∷ []; bodies = self.old.bodies ++ bodies.items }) }
+            { leaves = self.old.leaves ++ leaf ∷ []; bodies = self.old.bodies ++ bodies.items; is_behind_blank = false }) }
     {
         self.leaves.push(leaf)?;
-        put_all(&mut self.bodies, bodies)
+        put_all(&mut self.bodies, bodies)?;
+        self.is_behind_blank = false;
+        Ok(())
+    }
+
+    /// Whether the name of a command may come next, so that an alias is replaced (XCU 2.3.1). Takes no memory.
+    pub(crate) fn may_name_command(&self) -> bool
+        ensures { result ≡ may_name_command self.now }
+    {
+        self.recognizer.accepts(TokenClass::CommandName.number())
+    }
+
+    /// Whether an alias whose value ends in a blank was replaced, and no token has come since. Takes no memory.
+    pub(crate) fn is_behind_blank(&self) -> bool
+        ensures { result ≡ self.now.is_behind_blank }
+    {
+        self.is_behind_blank
+    }
+
+    /// The tokens of an alias's value are over. Takes no memory.
+    pub(crate) fn end_value(&mut self, alias: &Alias)
+        ensures { self.new ≡ behind_value alias.now self.old }
+    {
+        self.is_behind_blank = self.is_behind_blank || alias.ends_in_blank();
     }
 
     /// Adds bodies of here-documents after the others. The only error is want of memory; after it any number
@@ -131,6 +161,7 @@ impl Prefix {
             recognizer,
             leaves,
             bodies,
+            ..
         } = self;
         let Some(actions) = recognizer.finish()? else {
             return Ok(None);

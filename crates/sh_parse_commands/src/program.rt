@@ -1,25 +1,25 @@
 //! The list of commands of a text: its tokens are judged, their words have substitutions, and the
 //! substitutions have texts again.
-ghost use Rattle.std.specs.Prelude.{◌≡◌, IfOk, OnOk, length};
+ghost use Rattle.std.specs.Prelude.{◌≡◌, ◌++◌, ◌∷◌, [], IfOk, OnOk, length};
 ghost use Rattle.sh_parse_documents.specs.Scanned.{ending_of};
 ghost use Rattle.sh_parse_words.specs.Building.{Takes, take_piece};
 ghost use Rattle.sh_parse_words.specs.Places.{behind_joins, behind_piece, place_of};
-ghost use Rattle.sh_parse_commands.specs.Results.{Gives, GivesBodies, Changes};
-ghost use Rattle.sh_parse_commands.specs.Words.{answer_of, with_piece, whole, parts_in, within, unread};
-ghost use Rattle.sh_parse_commands.specs.Leaves.{word_leaf, leaf_of};
+ghost use Rattle.sh_parse_leaves.specs.Results.{Gives, GivesBodies, Changes};
+ghost use Rattle.sh_parse_leaves.specs.Words.{answer_of, with_piece, whole, parts_in, within, unread};
+ghost use Rattle.sh_parse_leaves.specs.Leaves.{word_leaf, leaf_of};
 ghost use Rattle.sh_parse_commands.specs.Documents.{expanded_body, document_parts, bodies_of};
 ghost use Rattle.sh_parse_commands.specs.Judging.{with_item};
-ghost use Rattle.sh_parse_commands.specs.Programs.{programs, ended_by};
+ghost use Rattle.sh_parse_documents.specs.Waiting.{nothing};
+ghost use Rattle.sh_parse_documents.specs.Stream.{waiting_behind};
+ghost use Rattle.sh_parse_commands.specs.Replacing.{origin, with_token, with_tokens};
+ghost use Rattle.sh_parse_commands.specs.Programs.{inside_at, reader_at, ended_by};
 
 use crate::body_prefix::{fault_at, literal_parts, prefix_of, unless};
 use crate::cut::cut_fault;
-use crate::input::input;
-use crate::leaf::{assignment_leaf, name_size, operator_leaf, plain_leaf};
 use crate::prefix::Prefix;
-use crate::source::{
-    behind_pieces, digits_in, pieces_behind, pieces_through, text_between, text_from,
-};
-use crate::word::{at_its_level, begins_closed, fault_in, level_fault, place_of, text_of};
+use crate::replacing::{alias_at, fault_of_value};
+use crate::scope::{Scope, with_name};
+use sh_aliases::Alias;
 use sh_base::sequence::Sequence;
 use sh_base::shared::Shared;
 use sh_base::span::Span;
@@ -28,6 +28,14 @@ use sh_parse_documents::document::{Document, documents};
 use sh_parse_documents::item::Item;
 use sh_parse_documents::items::scan_items;
 use sh_parse_documents::waiting::Waiting;
+use sh_parse_leaves::input::input;
+use sh_parse_leaves::leaf::{assignment_leaf, name_size, operator_leaf, plain_leaf};
+use sh_parse_leaves::source::{
+    behind_pieces, digits_in, pieces_behind, pieces_through, text_between, text_from,
+};
+use sh_parse_leaves::word::{
+    at_its_level, begins_closed, fault_in, level_fault, place_of, text_of,
+};
 use sh_parse_words::build::{Builder, Request};
 use sh_parse_words::fault::PartFault;
 use sh_parse_words::place::{behind_joins, behind_piece};
@@ -42,14 +50,14 @@ use std::alloc::{AllocError, Global};
 #[cycle(program)]
 fn answer(
     alloc: Global,
-    depth: usize,
+    scope: Scope<'_>,
     text: &[u8],
     request: &Request,
 ) -> Result<CompoundList, PartFault>
-    ensures { Gives result (answer_of (programs depth) text.now request.now) }
+    ensures { Gives result (answer_of (reader_at scope.entry.aliases.now scope.entry.from.now scope.entry.depth) text.now request.now) }
 {
     let inner = text_of(alloc, request, text)?;
-    match program(alloc, depth, request.left, inner.as_slice()) {
+    match program(alloc, scope, request.left, inner.as_slice()) {
         Ok(program) => at_its_level(request, program),
         Err(fault) => Err(level_fault(request, fault_in(request, fault))),
     }
@@ -78,7 +86,7 @@ fn take_piece(
 #[cycle(program)]
 fn put_piece(
     alloc: Global,
-    depth: usize,
+    scope: Scope<'_>,
     text: &[u8],
     builder: &mut Builder,
     piece: &Piece,
@@ -86,14 +94,14 @@ fn put_piece(
     bytes: &[u8],
 ) -> Result<(), PartFault>
     ensures { Changes result builder.new
-        (with_piece (programs depth) (unread text.now bytes.now) builder.old piece.now is_empty) }
+        (with_piece (reader_at scope.entry.aliases.now scope.entry.from.now scope.entry.depth) (unread text.now bytes.now) builder.old piece.now is_empty) }
 {
     let request = match take_piece(text, builder, piece, is_empty, bytes) {
         Ok(Some(request)) => request,
         Ok(None) => return Ok(()),
         Err(fault) => return Err(fault),
     };
-    match answer(alloc, depth, text, &request) {
+    match answer(alloc, scope, text, &request) {
         Ok(program) => {
             let program = Shared::new(alloc, program)?;
             builder.put_program(request.form, program)?;
@@ -108,20 +116,20 @@ fn put_piece(
 #[cycle(program)]
 fn parts_in(
     alloc: Global,
-    depth: usize,
+    scope: Scope<'_>,
     left: usize,
     text: &[u8],
     pieces: &[Piece],
     bytes: &[u8],
 ) -> Result<Parts, PartFault>
-    ensures { Gives result (parts_in (programs depth) left text.now pieces.now bytes.now) }
+    ensures { Gives result (parts_in (reader_at scope.entry.aliases.now scope.entry.from.now scope.entry.depth) left text.now pieces.now bytes.now) }
 {
     let mut builder = Builder::new(alloc, left);
     let mut rest = pieces;
     let mut behind = bytes;
     while let Some((piece, others)) = rest.split_first() {
         let is_empty = begins_closed(others);
-        if let Err(fault) = put_piece(alloc, depth, text, &mut builder, piece, is_empty, behind) {
+        if let Err(fault) = put_piece(alloc, scope, text, &mut builder, piece, is_empty, behind) {
             return Err(fault);
         }
         behind = behind_piece(piece, behind);
@@ -148,19 +156,19 @@ fn whole(alloc: Global, builder: Builder) -> Result<Parts, AllocError>
 #[cycle(program)]
 fn word_leaf(
     alloc: Global,
-    depth: usize,
+    scope: Scope<'_>,
     left: usize,
     text: &[u8],
     pieces: &[Piece],
     span: Span,
 ) -> Result<Leaf, PartFault>
-    ensures { Gives result (word_leaf (programs depth) left text.now pieces.now span) }
+    ensures { Gives result (word_leaf (reader_at scope.entry.aliases.now scope.entry.from.now scope.entry.depth) left text.now pieces.now span) }
 {
     let bytes = text_from(text, span.start);
     let source = text_between(text, span.start, span.end);
     let prefix = literal_prefix(alloc, pieces)?;
     let Some(size) = name_size(prefix.as_slice()) else {
-        return match parts_in(alloc, depth, left, text, pieces, bytes) {
+        return match parts_in(alloc, scope, left, text, pieces, bytes) {
             Ok(parts) => {
                 let leaf = plain_leaf(alloc, pieces, prefix, parts, source)?;
                 Ok(leaf)
@@ -170,7 +178,7 @@ fn word_leaf(
     };
     let behind = behind_pieces(pieces_through(pieces, size), bytes);
     let others = pieces_behind(pieces, size);
-    match parts_in(alloc, depth, left, text, others, behind) {
+    match parts_in(alloc, scope, left, text, others, behind) {
         Ok(value) => {
             let leaf = assignment_leaf(alloc, prefix.as_slice(), size, value, source)?;
             Ok(leaf)
@@ -183,13 +191,13 @@ fn word_leaf(
 #[cycle(program)]
 fn leaf_of(
     alloc: Global,
-    depth: usize,
+    scope: Scope<'_>,
     left: usize,
     text: &[u8],
     kind: &TokenKind,
     span: Span,
 ) -> Result<Leaf, PartFault>
-    ensures { Gives result (leaf_of (programs depth) left text.now kind.now span) }
+    ensures { Gives result (leaf_of (reader_at scope.entry.aliases.now scope.entry.from.now scope.entry.depth) left text.now kind.now span) }
 {
     match kind {
         TokenKind::Operator(operator) => {
@@ -200,7 +208,7 @@ fn leaf_of(
             let digits = digits_in(alloc, text_between(text, span.start, span.end))?;
             Ok(Leaf::Number(Sequence::from_vec(digits)))
         },
-        TokenKind::Word(pieces) => { word_leaf(alloc, depth, left, text, pieces.as_slice(), span) },
+        TokenKind::Word(pieces) => { word_leaf(alloc, scope, left, text, pieces.as_slice(), span) },
         TokenKind::End => Ok(Leaf::Operator),
     }
 }
@@ -208,11 +216,16 @@ fn leaf_of(
 /// The parts of a body that is expanded.
 #[tactic(auto, using(crate::proofs::Steps::body_gives, crate::proofs::Steps::body_fault))]
 #[cycle(program)]
-fn expanded_body(alloc: Global, depth: usize, left: usize, body: &[u8]) -> Result<Parts, PartFault>
-    ensures { Gives result (expanded_body (programs depth) left body.now) }
+fn expanded_body(
+    alloc: Global,
+    scope: Scope<'_>,
+    left: usize,
+    body: &[u8],
+) -> Result<Parts, PartFault>
+    ensures { Gives result (expanded_body (reader_at scope.entry.aliases.now scope.entry.from.now scope.entry.depth) left body.now) }
 {
     let prefix = prefix_of(alloc, body)?;
-    match parts_in(alloc, depth, left, body, prefix.pieces.as_slice(), body) {
+    match parts_in(alloc, scope, left, body, prefix.pieces.as_slice(), body) {
         Ok(parts) => unless(prefix.fault, parts),
         Err(fault) => Err(fault),
     }
@@ -223,41 +236,41 @@ fn expanded_body(alloc: Global, depth: usize, left: usize, body: &[u8]) -> Resul
 #[cycle(program)]
 fn document_parts(
     alloc: Global,
-    depth: usize,
+    scope: Scope<'_>,
     left: usize,
     document: &Document,
 ) -> Result<Parts, PartFault>
-    ensures { Gives result (document_parts (programs depth) left document.now) }
+    ensures { Gives result (document_parts (reader_at scope.entry.aliases.now scope.entry.from.now scope.entry.depth) left document.now) }
 {
     if document.is_quoted {
         let parts = literal_parts(alloc, &document.text)?;
         return Ok(parts);
     }
-    match expanded_body(alloc, depth, left, document.text.as_slice()) {
+    match expanded_body(alloc, scope, left, document.text.as_slice()) {
         Ok(parts) => Ok(parts),
         Err(fault) => Err(fault_at(document, fault)),
     }
 }
 
 /// The parts of the bodies after an item, for the here-documents that are due at it, where `left` levels may
-/// open. `depth` is how deep texts may nest in them.
+/// open.
 #[tactic(auto, using(crate::proofs::Steps::bodies_done, crate::proofs::Steps::bodies_fault))]
 #[cycle(program)]
 pub(crate) fn bodies_within(
     alloc: Global,
-    depth: usize,
+    scope: Scope<'_>,
     left: usize,
     text: &[u8],
     due: &[Delimiter],
     item: &Item,
 ) -> Result<Vec<Shared<Parts>>, PartFault>
-    ensures { GivesBodies result (bodies_of (programs depth) left text.now due.now item.now) }
+    ensures { GivesBodies result (bodies_of (reader_at scope.entry.aliases.now scope.entry.from.now scope.entry.depth) left text.now due.now item.now) }
 {
     let found = documents(alloc, due, text, item.token.span.end, item.end)?;
     let mut bodies = Vec::new(alloc);
     let mut rest = found.as_slice();
     while let Some((document, others)) = rest.split_first() {
-        let parts = match document_parts(alloc, depth, left, document) {
+        let parts = match document_parts(alloc, scope, left, document) {
             Ok(parts) => parts,
             Err(fault) => return Err(fault),
         };
@@ -269,12 +282,12 @@ pub(crate) fn bodies_within(
 }
 
 /// Takes one more token of a text in which `left` levels may open, with the bodies of the here-documents that
-/// are due at it. `depth` is how deep texts may nest in it.
+/// are due at it.
 #[tactic(auto, using(crate::proofs::Steps::item_refused, crate::proofs::Steps::item_deep, crate::proofs::Steps::leaf_fault, crate::proofs::Steps::item_bodies_fault, crate::proofs::Steps::item_taken))]
 #[cycle(program)]
 pub(crate) fn judge_within(
     alloc: Global,
-    depth: usize,
+    scope: Scope<'_>,
     left: usize,
     text: &[u8],
     due: &[Delimiter],
@@ -282,7 +295,7 @@ pub(crate) fn judge_within(
     prefix: &mut Prefix,
 ) -> Result<(), PartFault>
     ensures { Changes result prefix.new
-        (with_item (within (programs depth) left text.now) due.now item.now prefix.old) }
+        (with_item (within (reader_at scope.entry.aliases.now scope.entry.from.now scope.entry.depth) left text.now) due.now item.now prefix.old) }
 {
     let input = input(alloc, item)?;
     let start = item.token.span.start;
@@ -294,11 +307,11 @@ pub(crate) fn judge_within(
         return Err(PartFault::TooDeep { at: start });
     }
     let inner = left - open;
-    let leaf = match leaf_of(alloc, depth, inner, text, &item.token.kind, item.token.span) {
+    let leaf = match leaf_of(alloc, scope, inner, text, &item.token.kind, item.token.span) {
         Ok(leaf) => leaf,
         Err(fault) => return Err(fault),
     };
-    match bodies_within(alloc, depth, inner, text, due, item) {
+    match bodies_within(alloc, scope, inner, text, due, item) {
         Ok(bodies) => {
             prefix.put(leaf, bodies)?;
             Ok(())
@@ -333,26 +346,123 @@ fn ended_by(
     }
 }
 
-/// The list of commands of a text, in which `left` levels may open and substitutions may nest `depth` deep.
-#[tactic(auto, using(crate::proofs::Steps::text_fault, crate::proofs::Steps::text_ended))]
+/// Takes one more token of a text, or what an alias has in its place, with the bodies of the here-documents that are due at it.
 #[cycle(program)]
-fn program(alloc: Global, depth: usize, left: usize, text: &[u8]) -> Result<CompoundList, PartFault>
-    ensures { Gives result (programs depth left text.now) }
+pub(crate) fn judge_token(
+    alloc: Global,
+    scope: Scope<'_>,
+    left: usize,
+    text: &[u8],
+    due: &[Delimiter],
+    item: &Item,
+    prefix: &mut Prefix,
+) -> Result<(), PartFault>
+    ensures { Changes result prefix.new
+        (with_token scope.entry.aliases.now (inside_at scope.entry.aliases.now scope.entry.depth)
+        (origin scope.entry.from.now left text.now) due.now item.now prefix.old) }
 {
-    if depth == 0 {
+    let Some(alias) = alias_at(alloc, scope, prefix, item)? else {
+        return judge_within(alloc, scope, left, text, due, item, prefix);
+    };
+    match judge_value(alloc, scope, left, alias, prefix) {
+        Ok(()) => {
+            prefix.end_value(alias);
+            Ok(())
+        },
+        Err(fault) => Err(fault_of_value(item.token.span.start, fault)),
+    }
+}
+
+/// Takes the tokens of an alias's value.
+#[cycle(program)]
+fn judge_value(
+    alloc: Global,
+    scope: Scope<'_>,
+    left: usize,
+    alias: &Alias,
+    prefix: &mut Prefix,
+) -> Result<(), PartFault>
+    ensures { Changes result prefix.new
+        ((inside_at scope.entry.aliases.now scope.entry.depth).value
+        (origin (scope.entry.from.now ++ alias.now.name ∷ []) left alias.now.value) alias.now.items
+        prefix.old) }
+{
+    if scope.depth == 0 {
         return Err(PartFault::TooDeep { at: 0 });
     }
-    let found = scan_items(alloc, text, true)?;
-    let mut prefix = Prefix::of_substitution(alloc)?;
+    let from = with_name(alloc, scope.from, alias.name.as_slice())?;
+    let inner = Scope {
+        aliases: scope.aliases,
+        from: from.as_slice(),
+        depth: scope.depth - 1,
+    };
+    let value = alias.value.as_slice();
+    match judge_all(alloc, inner, left, value, alias.items.as_slice(), prefix) {
+        Ok(waiting) => {
+            drop(waiting);
+            Ok(())
+        },
+        Err(fault) => Err(fault),
+    }
+}
+
+/// Takes tokens of a text, one after another; what is awaited behind them.
+#[cycle(program)]
+fn judge_all(
+    alloc: Global,
+    scope: Scope<'_>,
+    left: usize,
+    text: &[u8],
+    items: &[Item],
+    prefix: &mut Prefix,
+) -> Result<Waiting, PartFault>
+    ensures judged { Changes result prefix.new
+        (with_tokens scope.entry.aliases.now (inside_at scope.entry.aliases.now scope.entry.depth)
+        (origin scope.entry.from.now left text.now) nothing items.now prefix.old) }
+    ensures waiting { IfOk result (λ waiting. waiting ≡ waiting_behind nothing items.now) }
+{
     let mut waiting = Waiting::new(alloc);
-    let mut rest = found.items.as_slice();
+    let mut rest = items;
     while let Some((item, others)) = rest.split_first() {
         let due = waiting.due_at(&item.token.kind);
-        if let Err(fault) = judge_within(alloc, depth - 1, left, text, due, item, &mut prefix) {
+        if let Err(fault) = judge_token(alloc, scope, left, text, due, item, prefix) {
             return Err(fault);
         }
         waiting.pass(&item.token.kind)?;
         rest = others;
     }
-    ended_by(alloc, left, text, waiting, prefix, found.cut)
+    Ok(waiting)
+}
+
+/// The list of commands of a text, in which `left` levels may open.
+#[cycle(program)]
+fn program(
+    alloc: Global,
+    scope: Scope<'_>,
+    left: usize,
+    text: &[u8],
+) -> Result<CompoundList, PartFault>
+    ensures { Gives result (reader_at scope.entry.aliases.now scope.entry.from.now scope.entry.depth left text.now) }
+{
+    if scope.depth == 0 {
+        return Err(PartFault::TooDeep { at: 0 });
+    }
+    let found = scan_items(alloc, text, true)?;
+    let mut prefix = Prefix::of_substitution(alloc)?;
+    let inner = Scope {
+        aliases: scope.aliases,
+        from: scope.from,
+        depth: scope.depth - 1,
+    };
+    match judge_all(
+        alloc,
+        inner,
+        left,
+        text,
+        found.items.as_slice(),
+        &mut prefix,
+    ) {
+        Ok(waiting) => ended_by(alloc, left, text, waiting, prefix, found.cut),
+        Err(fault) => Err(fault),
+    }
 }

@@ -78,7 +78,7 @@ abbrev given : Leaf → ℕ → ℕ → Bool
 given l k c = nat_eq (get_or terminal_sorts k 0) 0 || (not (fits c l) || (not ((grammar_of complete).accepts k c) || get_or (tests (value.Token c l)) (get_or terminal_sorts k 0) false))
 
 abbrev all_given : Leaf → Bool
-all_given l = below 35 (λ k. below 32 (λ c. given l k c))
+all_given l = below 35 (λ k. below 33 (λ c. given l k c))
 
 leaves_given : (l : Leaf) → all_given l ≡ true
 unfolding complete and_or_in body_in case_items_in command_in commands_in compound_list_in else_in form_in item_body_in item_end_in item_in items_in leaf_in list_in loop_in name_in number_in parameters_in patterns_in pipeline_in pipelines_in redirect_in redirects_in tail_in values_in word_in
@@ -96,15 +96,15 @@ use_given false true true h z e p q = e
 use_given false false a h z e p q = absurd (cc)
 use_given false true false h z e p q = absurd (cc)
 
-class_below : (k c : ℕ) → (grammar_of complete).accepts k c ≡ true → c < 32
+class_below : (k c : ℕ) → (grammar_of complete).accepts k c ≡ true → c < 33
 unfolding complete
-class_below k c a = let l : c ≤ 31 = leb-true c 31 (left_true _ _ a) in omega arith
+class_below k c a = let l : c ≤ 32 = leb-true c 32 (left_true _ _ a) in omega arith
 
 pub token_has : (k c : ℕ) (l : Leaf) → (grammar_of complete).accepts k c ≡ true → fits c l ≡ true → Has (symbol_sort (Terminal k)) (value.Token c l)
 token_has k c l a f =
     elim (cases_lt k 35) [
       | inl less ↦ use_given (nat_eq (get_or terminal_sorts k 0) 0) (fits c l) ((grammar_of complete).accepts k c) (get_or (tests (value.Token c l)) (get_or terminal_sorts k 0) false)
-          (λ z. rw (eqb-true (get_or terminal_sorts k 0) 0 z) refl) (below_at 32 (λ c. given l k c) c (below_at 35 (λ k. below 32 (λ c. given l k c)) k (leaves_given l) less) (class_below k c a)) f a
+          (λ z. rw (eqb-true (get_or terminal_sorts k 0) 0 z) refl) (below_at 33 (λ c. given l k c) c (below_at 35 (λ k. below 33 (λ c. given l k c)) k (leaves_given l) less) (class_below k c a)) f a
       | inr past ↦ rw (get_or_past terminal_sorts k 0 past) refl
     ]
 

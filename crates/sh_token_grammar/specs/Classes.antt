@@ -4,7 +4,7 @@ use Rattle.std.specs.List.{list_any}
 use Rattle.std.specs.Str.{bytes_eq}
 use Rattle.sh_base.specs.Names.{is_name}
 use Rattle.sh_token_grammar.specs.declared.class.TokenClass.{TokenClass}
-use Rattle.sh_token_grammar.specs.declared.class.TokenClass.TheVariants.{Semicolon, And, AndIf, OrIf, Pipe, LeftParenthesis, RightParenthesis, DoubleSemicolon, Newline, Redirection, Number, Bang, LeftBrace, RightBrace, If, Then, Elif, Else, Fi, While, Until, Do, Done, For, In, Case, Esac, Name, SpecialName, Assignment, Other, End}
+use Rattle.sh_token_grammar.specs.declared.class.TokenClass.TheVariants.{Semicolon, And, AndIf, OrIf, Pipe, LeftParenthesis, RightParenthesis, DoubleSemicolon, Newline, Redirection, Number, Bang, LeftBrace, RightBrace, If, Then, Elif, Else, Fi, While, Until, Do, Done, For, In, Case, Esac, Name, SpecialName, Assignment, Other, CommandName, End}
 
 -- the class's number in the tables of the grammar
 abbrev pub class_number : TokenClass → ℕ
@@ -39,7 +39,8 @@ class_number Name = 27
 class_number SpecialName = 28
 class_number Assignment = 29
 class_number Other = 30
-class_number End = 31
+class_number CommandName = 31
+class_number End = 32
 
 -- the special built-ins (XCU 2.15) whose names are names (XBD 3.216)
 abbrev pub special_names : List (List ℕ)

@@ -8,7 +8,7 @@ use Rattle.sh_grammar.specs.Grammar.{Rule, Tree}
 use Rattle.sh_grammar.specs.Tabulation.{Tabulation, rules_of}
 use Rattle.sh_grammar.specs.Text.{IsTreeOf}
 use Rattle.sh_token_grammar.specs.declared.class.TokenClass.{TokenClass}
-use Rattle.sh_token_grammar.specs.declared.class.TokenClass.TheVariants.{Semicolon, And, AndIf, OrIf, Pipe, LeftParenthesis, RightParenthesis, DoubleSemicolon, Newline, Redirection, Number, Bang, LeftBrace, RightBrace, If, Then, Elif, Else, Fi, While, Until, Do, Done, For, In, Case, Esac, Name, SpecialName, Assignment, Other, End}
+use Rattle.sh_token_grammar.specs.declared.class.TokenClass.TheVariants.{Semicolon, And, AndIf, OrIf, Pipe, LeftParenthesis, RightParenthesis, DoubleSemicolon, Newline, Redirection, Number, Bang, LeftBrace, RightBrace, If, Then, Elif, Else, Fi, While, Until, Do, Done, For, In, Case, Esac, Name, SpecialName, Assignment, Other, CommandName, End}
 use Rattle.sh_token_grammar.specs.Shell.{compound, compound_end, number_of, productions}
 
 -- the compound commands whose end is still awaited after the last token
@@ -61,4 +61,5 @@ begins_compound Name = false
 begins_compound SpecialName = false
 begins_compound Assignment = false
 begins_compound Other = false
+begins_compound CommandName = false
 begins_compound End = false

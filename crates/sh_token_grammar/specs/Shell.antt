@@ -6,7 +6,7 @@ use Rattle.sh_grammar.specs.declared.Symbol.{Symbol}
 use Rattle.sh_grammar.specs.declared.Symbol.TheVariants.{Terminal, Nonterminal}
 use Rattle.sh_grammar.specs.Tabulation.{Tabulation}
 use Rattle.sh_token_grammar.specs.declared.class.TokenClass.{TokenClass}
-use Rattle.sh_token_grammar.specs.declared.class.TokenClass.TheVariants.{Semicolon, And, AndIf, OrIf, Pipe, LeftParenthesis, RightParenthesis, DoubleSemicolon, Newline, Redirection, Number, Bang, LeftBrace, RightBrace, If, Then, Elif, Else, Fi, While, Until, Do, Done, For, In, Case, Esac, Name, SpecialName, Assignment, Other, End}
+use Rattle.sh_token_grammar.specs.declared.class.TokenClass.TheVariants.{Semicolon, And, AndIf, OrIf, Pipe, LeftParenthesis, RightParenthesis, DoubleSemicolon, Newline, Redirection, Number, Bang, LeftBrace, RightBrace, If, Then, Elif, Else, Fi, While, Until, Do, Done, For, In, Case, Esac, Name, SpecialName, Assignment, Other, CommandName, End}
 use Rattle.sh_token_grammar.specs.declared.tables.TheConstants.{FIRSTS, NULLABLES, PREDICTS}
 use Rattle.sh_token_grammar.specs.Classes.{class_number}
 
@@ -17,7 +17,8 @@ token c = Terminal (class_number c)
 -- any word; a first word that may name a function, so neither a reserved word nor the name of a special
 -- built-in; the variable of a `for`, which may be any name; the other first words of a simple command, which
 -- no `(` may follow; the first word of a simple command after an assignment or a redirection, a reserved word
--- too; an assignment; the first pattern of a case item without `(`; what begins a loop
+-- too; an assignment; the first pattern of a case item without `(`; what begins a loop. `CommandName` is no
+-- token's class: only the first word of a simple command matches it
 abbrev pub any_word : Symbol
 any_word = Terminal 27
 
@@ -86,8 +87,8 @@ classes =
     words ∷
     (Name ∷ []) ∷
     names ∷
-    (SpecialName ∷ Other ∷ []) ∷
-    (Name ∷ SpecialName ∷ Other ∷ reserved_words) ∷
+    (SpecialName ∷ Other ∷ CommandName ∷ []) ∷
+    (Name ∷ SpecialName ∷ Other ∷ CommandName ∷ reserved_words) ∷
     (Assignment ∷ []) ∷
     (Name ∷ SpecialName ∷ Assignment ∷ Other ∷ Bang ∷ LeftBrace ∷ RightBrace ∷ If ∷ Then ∷ Elif ∷ Else ∷ Fi ∷ While ∷ Until ∷ Do ∷ Done ∷ For ∷ In ∷ Case ∷ []) ∷
     (While ∷ Until ∷ []) ∷ []
@@ -212,7 +213,7 @@ pub record Production : Type 0 where
   pub guard : List TokenClass
 
 abbrev pub rule : Symbol → List Symbol → Production
-rule symbol body = record { head = number_of symbol; body = body; guard = End ∷ Name ∷ SpecialName ∷ Assignment ∷ Other ∷ Bang ∷ LeftBrace ∷ RightBrace ∷ If ∷ Then ∷ Elif ∷ Else ∷ Fi ∷ While ∷ Until ∷ Do ∷ Done ∷ For ∷ In ∷ Case ∷ Esac ∷ Semicolon ∷ And ∷ AndIf ∷ OrIf ∷ Pipe ∷ LeftParenthesis ∷ RightParenthesis ∷ DoubleSemicolon ∷ Newline ∷ Redirection ∷ Number ∷ [] }
+rule symbol body = record { head = number_of symbol; body = body; guard = End ∷ CommandName ∷ Name ∷ SpecialName ∷ Assignment ∷ Other ∷ Bang ∷ LeftBrace ∷ RightBrace ∷ If ∷ Then ∷ Elif ∷ Else ∷ Fi ∷ While ∷ Until ∷ Do ∷ Done ∷ For ∷ In ∷ Case ∷ Esac ∷ Semicolon ∷ And ∷ AndIf ∷ OrIf ∷ Pipe ∷ LeftParenthesis ∷ RightParenthesis ∷ DoubleSemicolon ∷ Newline ∷ Redirection ∷ Number ∷ [] }
 
 -- a production that is used only where no word comes next
 abbrev pub rule_before_no_word : Symbol → List Symbol → Production

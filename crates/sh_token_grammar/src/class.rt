@@ -73,6 +73,9 @@ pub enum TokenClass {
     Assignment,
     /// Every other word.
     Other,
+    /// The name of a command, whatever it is. No token has this class: where the grammar takes it, the name of a
+    /// simple command may stand (XCU 2.9.1.1), and an alias is replaced (XCU 2.3.1).
+    CommandName,
     /// The end of the tokens.
     End,
 }
@@ -131,7 +134,8 @@ impl TokenClass {
             TokenClass::SpecialName => 28,
             TokenClass::Assignment => 29,
             TokenClass::Other => 30,
-            TokenClass::End => 31,
+            TokenClass::CommandName => 31,
+            TokenClass::End => 32,
         }
     }
 

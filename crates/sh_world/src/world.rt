@@ -44,12 +44,13 @@ impl<S: Stock> Model for World<S> {
     ghost use Rattle.sh_files_image.specs.Codes as paths;
     ghost use Rattle.sh_vars.specs.Codes as variables;
     ghost use Rattle.sh_exec_entering.specs.Codes.{run_code};
+    ghost use Rattle.sh_aliases.specs.contracts.alias.Alias as alias_row;
     ghost use Rattle.sh_syntax.specs.contracts.tree.Command as command_row;
     ghost use Rattle.sh_world.specs.World.{WorldKept};
 
     ghost Value = { WorldKept S };
 
-    ghost coded = { Prim.hlevel (codes, paths.map_code, variables.map_code, command_row.the_row.coded, run_code) };
+    ghost coded = { Prim.hlevel (codes, paths.map_code, variables.map_code, alias_row.the_row.coded, command_row.the_row.coded, run_code) };
 
     ghost view = { λ w. record { kernel = w.kernel; tasks = w.tasks.items; no_jobs = w.no_jobs; last = w.last; shown = w.shown; spent = is_some w.lack } };
 

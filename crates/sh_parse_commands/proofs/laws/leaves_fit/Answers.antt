@@ -1,5 +1,0 @@
-use Rattle.sh_parse_commands.proofs.Fitting.{leaf_fits}
-use Rattle.sh_parse_commands.proofs.laws.leaves_fit.Goals as goal
-
-pub returns : goal.returns
-returns c = leaf_fits

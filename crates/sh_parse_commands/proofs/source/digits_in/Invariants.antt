@@ -1,9 +1,0 @@
-use Rattle.std.proofs.Common.{◌≡◌, ◌++◌, length}
-use Rattle.sh_parse_commands.specs.Sources.{digits_in}
-use Rattle.sh_parse_commands.proofs.source.digits_in.Given as goal
-
-abbrev pub invariant-loop-b : goal.invariant-loop-b
-invariant-loop-b l = l.digits.items ++ digits_in l.rest ≡ digits_in l.bytes
-
-abbrev pub decreases-loop-b : goal.decreases-loop-b
-decreases-loop-b l = length l.rest

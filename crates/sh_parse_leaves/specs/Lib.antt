@@ -1,0 +1,5 @@
+pub mod Results
+pub mod Sources
+pub mod Inputs
+pub mod Words
+pub mod Leaves
