@@ -1,6 +1,6 @@
 -- The built-in `command` (XCU command): the words of the command that it runs, and `-v`, which tells how the shell would run a name.
 use Rattle.std.specs.Option.{is_some}
-use Rattle.std.specs.Prelude.{ℕ, List, [], ◌∷◌, ◌++◌, ◌&&◌, ◌||◌, Bool, Option, Some, None, codes, if◌then◌else◌, nat_le, option_map}
+use Rattle.std.specs.Prelude.{ℕ, List, [], ◌∷◌, ◌++◌, ◌||◌, Bool, Option, Some, None, codes, if◌then◌else◌, option_map}
 use Rattle.sh_aliases.specs.Aliases.{alias_named}
 use Rattle.sh_aliases.specs.declared.alias.Alias.{Alias}
 use Rattle.sh_builtin.specs.Aliases.{definition}
@@ -14,8 +14,7 @@ use Rattle.sh_builtin_environment.specs.Options.{Parsed, options_and_operands}
 use Rattle.sh_files.specs.Nodes.{FileMap}
 use Rattle.sh_files.specs.Search.{executable_path}
 use Rattle.sh_files_image.specs.Paths.{absolute}
-use Rattle.sh_token_grammar.specs.Classes.{class_number, class_of_text}
-use Rattle.sh_token_grammar.specs.declared.class.TokenClass.TheVariants.{Bang, Esac}
+use Rattle.sh_token_grammar.specs.Classes.{is_reserved}
 use Rattle.sh_vars.specs.Environment.{value_of}
 
 -- ---- the words of the command that `command` runs: none where it has an option or no operand
@@ -44,13 +43,6 @@ behind_command functions words =
     if is_some (body_of functions (name_of Command)) then None else option_map (λ behind. last_behind words behind) (words_behind words)
 
 -- ---- `-v`
--- the classes of the reserved words (2.4) are those from `!` to `esac`
-abbrev pub is_reserved_number : ℕ → Bool
-is_reserved_number number = nat_le (class_number Bang) number && nat_le number (class_number Esac)
-
-abbrev pub is_reserved : List ℕ → Bool
-is_reserved name = is_reserved_number (class_number (class_of_text name))
-
 -- a function and a built-in are told by their name
 abbrev pub is_own : Shell → List ℕ → Bool
 is_own shell name = is_some (body_of shell.functions name) || is_some (builtin_of name)

@@ -1,8 +1,7 @@
 //! The built-ins alias and unalias (XCU alias, unalias).
-ghost use Rattle.std.specs.Prelude.{◌≡◌, ◌<◌, ◌++◌, ◌∷◌, [], codes, length, option_map, IfOk, IfSome, OnOk};
+ghost use Rattle.std.specs.Prelude.{◌≡◌, ◌++◌, ◌∷◌, [], codes, IfOk, OnOk};
 ghost use Rattle.sh_aliases.specs.Aliases.{alias_named, alias_of};
 ghost use Rattle.sh_builtin.specs.Aliases.{after_operand, after_operands, after_parts, alias_line, alias_lines, alias_ran, alias_status, alias_with, bad_name, defined, defined_by, definition, refused, status_behind, unalias_ran, unalias_with, unaliased, with_outcome, written};
-ghost use Rattle.sh_builtin_environment.specs.Marking.{equals_in, name_in, value_in};
 ghost use Rattle.sh_builtin_environment.specs.Options.{options_and_operands};
 ghost use Rattle.sh_builtin_outcome.specs.Outcomes.{done};
 
@@ -10,7 +9,7 @@ use sh_aliases::{Alias, Aliases};
 use sh_base::NoMemory;
 use sh_base::sequence::{Sequence, Text};
 use sh_base::shared::Shared;
-use sh_builtin_environment::{parse_options, put_quoted};
+use sh_builtin_environment::{name_in, parse_options, put_quoted, value_in};
 use sh_builtin_outcome::message::line_about;
 use sh_builtin_outcome::{Builtin, Outcome};
 use std::alloc::Global;
@@ -54,34 +53,6 @@ fn lines(alloc: Global, aliases: &[Shared<Alias>]) -> Result<Text, NoMemory>
         rest = others;
     }
     Ok(text)
-}
-
-/// The place of the first `=` in an operand.
-fn equals_in(operand: &[u8]) -> Option<usize>
-    ensures place { result ≡ equals_in operand.now }
-    ensures within { IfSome result (λ i. i < length operand.now) }
-{
-    operand.iter().position(|byte| *byte == b'=')
-}
-
-/// The name in an operand.
-fn name_in(operand: &[u8]) -> &[u8]
-    ensures { result.now ≡ name_in operand.now }
-{
-    match equals_in(operand) {
-        Some(i) => &operand[..i],
-        None => operand,
-    }
-}
-
-/// The value in an operand, if it has one.
-fn value_in(operand: &[u8]) -> Option<&[u8]>
-    ensures { option_map (λ value. value.now) result ≡ value_in operand.now }
-{
-    match equals_in(operand) {
-        Some(i) => Some(&operand[i + 1..]),
-        None => None,
-    }
 }
 
 /// The message of an operand with this name.

@@ -1,7 +1,7 @@
 //! The built-in `command` (XCU command).
 ghost use Rattle.std.specs.Prelude.{◌≡◌, IfOk, codes, option_map};
 ghost use Rattle.sh_aliases.specs.Aliases.{alias_named};
-ghost use Rattle.sh_builtin.specs.Commands.{alias_text, behind_command, command_found, command_outcome, description, description_by, is_own, is_reserved, is_reserved_number, last_behind, program_path, told, told_of, words_behind, words_run};
+ghost use Rattle.sh_builtin.specs.Commands.{alias_text, behind_command, command_found, command_outcome, description, description_by, is_own, last_behind, program_path, told, told_of, words_behind, words_run};
 ghost use Rattle.sh_builtin_environment.specs.Options.{options_and_operands};
 ghost use Rattle.sh_files_image.specs.Paths.{absolute};
 
@@ -14,7 +14,7 @@ use sh_builtin_outcome::{Builtin, Outcome};
 use sh_builtin_shell::{Functions, Shell};
 use sh_files::{Files, executable_path};
 use sh_files_image::absolute;
-use sh_token_grammar::class::TokenClass;
+use sh_token_grammar::class::is_reserved;
 use std::alloc::Global;
 
 /// The words that `command` runs with these arguments.
@@ -75,20 +75,6 @@ pub fn behind_command<'a>(functions: &Functions, words: &'a [Text]) -> Option<&'
         Some(behind) => Some(last_behind(words, behind)),
         None => None,
     }
-}
-
-/// Whether the class of a text with this number is that of a reserved word.
-fn is_reserved_number(number: u8) -> bool
-    ensures { result ≡ is_reserved_number number }
-{
-    TokenClass::Bang.number() <= number && number <= TokenClass::Esac.number()
-}
-
-/// Whether a name is a reserved word (XCU 2.4).
-fn is_reserved(name: &[u8]) -> bool
-    ensures { result ≡ is_reserved name.now }
-{
-    is_reserved_number(TokenClass::of_text(name).number())
 }
 
 /// Whether a name is one of a function or a built-in.

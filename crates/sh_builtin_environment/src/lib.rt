@@ -18,7 +18,7 @@ mod variables;
 pub use attribute::Attribute;
 pub use directory::{cd, pwd};
 pub use listing::put_quoted;
-pub use marking::mark;
+pub use marking::{mark, name_in, value_in};
 pub use options::parse_options;
 pub use outcome::{BuiltinFault, Outcome};
 pub use setting::set;

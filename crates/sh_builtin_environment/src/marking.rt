@@ -22,8 +22,8 @@ fn equals_in(operand: &[u8]) -> Option<usize>
     operand.iter().position(|byte| *byte == b'=')
 }
 
-/// The name in an operand.
-fn name_in(operand: &[u8]) -> &[u8]
+/// The name in an operand `NAME[=VALUE]`: what stands before its first `=`, and all of it where it has none. Takes no memory.
+pub fn name_in(operand: &[u8]) -> &[u8]
     ensures { result.now ≡ name_in operand.now }
 {
     match equals_in(operand) {
@@ -32,8 +32,8 @@ fn name_in(operand: &[u8]) -> &[u8]
     }
 }
 
-/// The value in an operand, if it has one.
-fn value_in(operand: &[u8]) -> Option<&[u8]>
+/// The value in an operand `NAME[=VALUE]`: what stands behind its first `=`; `None` where it has none. Takes no memory.
+pub fn value_in(operand: &[u8]) -> Option<&[u8]>
     ensures { option_map (λ value. value.now) result ≡ value_in operand.now }
 {
     match equals_in(operand) {

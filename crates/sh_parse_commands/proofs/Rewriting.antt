@@ -20,7 +20,8 @@ use Rattle.sh_parse_leaves.specs.Leaves.{leaf_of}
 use Rattle.sh_parse_leaves.specs.Results.{and_then, fault_moved}
 use Rattle.sh_parse_leaves.specs.Words.{within}
 use Rattle.sh_parse_commands.specs.Judging.{Judged, none_of, with_input, takes, open_in, with_leaf, with_item}
-use Rattle.sh_parse_commands.specs.Replacing.{Inside, Origin, alias_at, alias_of_word, alias_outside, behind_value, command_name, is_eligible, is_reserved, unquoted_text, value_origin, with_token, with_token_by, with_tokens}
+use Rattle.sh_token_grammar.specs.Classes.{is_reserved}
+use Rattle.sh_parse_commands.specs.Replacing.{Inside, Origin, alias_at, alias_of_word, alias_outside, behind_value, command_name, is_eligible, unquoted_text, value_origin, with_token, with_token_by, with_tokens}
 use Rattle.sh_parse_commands.specs.Programs.{inside_of}
 use Rattle.sh_parse_commands.specs.Rewriting.{Sourced, sourced, marked, told_place, replaced_by, alias_of_text, alias_there, is_replaceable, NoneReplaced, IsStep, IsRewritten, Finished, Stepped, told_at, with_sourced, plainly}
 use Rattle.sh_parse_commands.proofs.Deeper.{then_all}

@@ -1,11 +1,11 @@
 -- Aliases while commands are read (XCU 2.3.1): a word that may be the name of a command, and that names an alias, is replaced by the tokens of
 -- the alias's value.
-use Rattle.std.specs.Prelude.{ℕ, ◌&&◌, ◌||◌, nat_le, not, Bool, List, [], ◌∷◌, ◌++◌, Option, Some, None, Result, Ok, if◌then◌else◌}
+use Rattle.std.specs.Prelude.{ℕ, ◌&&◌, ◌||◌, not, Bool, List, [], ◌∷◌, ◌++◌, Option, Some, None, Result, Ok, if◌then◌else◌}
 use Rattle.std.specs.List.{list_all, list_any}
 use Rattle.std.specs.Str.{bytes_eq}
 use Rattle.sh_grammar.specs.declared.Token.{Token as Input}
 use Rattle.sh_token_grammar.specs.declared.class.TokenClass.{TokenClass}
-use Rattle.sh_token_grammar.specs.Classes.{class_number, class_of_text}
+use Rattle.sh_token_grammar.specs.Classes.{class_number, is_reserved}
 use Rattle.sh_token_pieces.specs.TokenClasses.{literal_prefix, is_byte}
 use Rattle.sh_token_pieces.specs.declared.here.Delimiter.{Delimiter}
 use Rattle.sh_token.specs.declared.token.TokenKind.{TokenKind}
@@ -25,13 +25,6 @@ command_name = record { class = class_number TokenClass.CommandName; id = 0 }
 
 abbrev pub may_name_command : Judged → Bool
 may_name_command j = takes (with_input j command_name)
-
--- a reserved word (2.4)
-abbrev pub is_reserved_number : ℕ → Bool
-is_reserved_number number = nat_le (class_number TokenClass.Bang) number && nat_le number (class_number TokenClass.Esac)
-
-abbrev pub is_reserved : List ℕ → Bool
-is_reserved text = is_reserved_number (class_number (class_of_text text))
 
 -- the text of a word of which nothing is quoted or expanded
 abbrev pub unquoted_text : TokenKind → Option (List ℕ)

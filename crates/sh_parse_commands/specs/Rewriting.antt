@@ -14,7 +14,8 @@ use Rattle.sh_parse_leaves.specs.Inputs.{input_of}
 use Rattle.sh_parse_leaves.specs.Results.{and_then, fault_moved}
 use Rattle.sh_parse_leaves.specs.Words.{within}
 use Rattle.sh_parse_commands.specs.Judging.{Judged, with_item}
-use Rattle.sh_parse_commands.specs.Replacing.{Inside, Origin, alias_outside, command_name, is_reserved, unquoted_text, value_origin}
+use Rattle.sh_token_grammar.specs.Classes.{is_reserved}
+use Rattle.sh_parse_commands.specs.Replacing.{Inside, Origin, alias_outside, command_name, unquoted_text, value_origin}
 
 -- a token; where it stands; the place at which its fault is told, where it came from a value; the here-documents that are due at it; and whether
 -- it is directly behind a value that ends in a blank

@@ -3,7 +3,7 @@ ghost use Rattle.std.specs.Prelude.{◌≡◌, ◌==◌, IfOk, option_map};
 ghost use Rattle.std.specs.List.{list_any};
 ghost use Rattle.std.specs.Str.{bytes_eq};
 ghost use Rattle.sh_parse_leaves.specs.Results.{at_other_place};
-ghost use Rattle.sh_parse_commands.specs.Replacing.{alias_at, alias_of_word, alias_outside, is_eligible, is_reserved, is_reserved_number, unquoted_text};
+ghost use Rattle.sh_parse_commands.specs.Replacing.{alias_at, alias_of_word, alias_outside, is_eligible, unquoted_text};
 
 use crate::prefix::Prefix;
 use crate::scope::Scope;
@@ -12,23 +12,9 @@ use sh_base::sequence::Text;
 use sh_parse_documents::item::Item;
 use sh_parse_words::fault::PartFault;
 use sh_token::token::TokenKind;
-use sh_token_grammar::class::TokenClass;
+use sh_token_grammar::class::is_reserved;
 use sh_token_pieces::piece::{are_bytes, literal_prefix};
 use std::alloc::{AllocError, Global};
-
-/// Whether the class of a text with this number is that of a reserved word.
-fn is_reserved_number(number: u8) -> bool
-    ensures { result ≡ is_reserved_number number }
-{
-    TokenClass::Bang.number() <= number && number <= TokenClass::Esac.number()
-}
-
-/// Whether a text is a reserved word (XCU 2.4).
-fn is_reserved(text: &[u8]) -> bool
-    ensures { result ≡ is_reserved text.now }
-{
-    is_reserved_number(TokenClass::of_text(text).number())
-}
 
 /// The text of a word of which nothing is quoted or expanded.
 fn unquoted_text(alloc: Global, kind: &TokenKind) -> Result<Option<Text>, AllocError>

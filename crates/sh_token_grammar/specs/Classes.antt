@@ -1,6 +1,7 @@
 -- Classes of tokens: what the grammar sees of a token (XCU 2.4, 2.10.2).
 use Rattle.std.specs.Prelude.{ℕ, Bool, List, [], ◌∷◌, codes, Option, Some, None, if◌then◌else◌}
 use Rattle.std.specs.List.{list_any}
+use Rattle.std.specs.Option.{is_some}
 use Rattle.std.specs.Str.{bytes_eq}
 use Rattle.sh_base.specs.Names.{is_name}
 use Rattle.sh_token_grammar.specs.declared.class.TokenClass.{TokenClass}
@@ -86,6 +87,10 @@ or_else None d = d
 
 abbrev pub reserved_class : List ℕ → Option TokenClass
 reserved_class text = or_else (control_class text) (or_else (conditional_class text) (loop_class text))
+
+-- a text is a reserved word
+abbrev pub is_reserved : List ℕ → Bool
+is_reserved text = is_some (reserved_class text)
 
 abbrev pub word_class : List ℕ → Option TokenClass → TokenClass
 word_class text (Some c) = c

@@ -2,7 +2,7 @@
 ghost use Rattle.std.specs.Prelude.{◌≡◌};
 ghost use Rattle.std.specs.List.{list_any};
 ghost use Rattle.std.specs.Str.{bytes_eq};
-ghost use Rattle.sh_token_grammar.specs.Classes.{class_number, class_of_text, is_special_name, reserved_class, control_class, conditional_class, loop_class};
+ghost use Rattle.sh_token_grammar.specs.Classes.{class_number, class_of_text, is_reserved, is_special_name, reserved_class, control_class, conditional_class, loop_class};
 ghost use Rattle.sh_base.specs.Names.{is_name};
 
 use sh_base::name::is_name;
@@ -167,6 +167,13 @@ fn reserved(text: &[u8]) -> Option<TokenClass>
         return Some(class);
     }
     looping(text)
+}
+
+/// Whether a text is a reserved word (XCU 2.4). Takes no memory.
+pub fn is_reserved(text: &[u8]) -> bool
+    ensures { result ≡ is_reserved text.now }
+{
+    reserved(text).is_some()
 }
 
 fn control(text: &[u8]) -> Option<TokenClass>
