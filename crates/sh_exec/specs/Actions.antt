@@ -14,6 +14,8 @@ use Rattle.sh_exec_entering.specs.Running.{active_of}
 use Rattle.sh_exec_requests.specs.Signals.{pending_signal}
 use Rattle.sh_exec_turns.specs.Traps.{is_called}
 use Rattle.sh_kernel.specs.State.{KernelState}
+use Rattle.sh_kernel.specs.declared.watch.Cause.{Cause}
+use Rattle.sh_kernel.specs.declared.watch.Cause.TheVariants as cause
 use Rattle.sh_kernel.specs.Turns.{Action as Asked, Acts, ReadsBy, WaitsFor, WaitsUntraced, WritesBy}
 use Rattle.sh_kernel_descriptors.specs.declared.descriptor.DescriptorRef.TheVariants.{Aside, Number}
 use Rattle.sh_signal.specs.declared.signal.Signal.{Signal}
@@ -89,6 +91,18 @@ is_called_in s shell (Leaving leave) = false
 abbrev pub shell_action : KernelState → Shell → Active → Asked
 shell_action s shell active =
     if is_called_in s shell active then Acts else action_in (pending_signal s shell) shell.background active
+
+-- what a program would be blocked at: its read or its write. A shell may be called by a signal, so nothing is told of it
+abbrev pub cause_for : Ask → Option Cause
+cause_for (ask.Read count) = Some (cause.Reading (Number 0))
+cause_for (ask.Write bytes) = Some (cause.Writing 1 (length bytes))
+cause_for ask.Stop = None
+cause_for ask.Idle = None
+cause_for (ask.End status) = None
+
+abbrev pub cause_of : {S : Type 0} → Task S → Option Cause
+cause_of (Runs interpreter) = None
+cause_of (Asks pid ask program) = cause_for ask
 
 abbrev pub action_of : {S : Type 0} → KernelState → Task S → Asked
 action_of s (Runs interpreter) = shell_action s interpreter.shell (active_of interpreter.run)

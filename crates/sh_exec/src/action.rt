@@ -2,14 +2,14 @@
 ghost use Rattle.std.specs.Prelude.{◌≡◌};
 ghost use Rattle.sh_kernel.specs.State.{KernelState, StandsAt};
 ghost use Rattle.sh_kernel.specs.Turns.{action_of};
-ghost use Rattle.sh_exec.specs.Actions.{action_at, action_in, action_for, awaiting, collecting, is_called_in, shell_action, waiting};
+ghost use Rattle.sh_exec.specs.Actions.{action_at, action_in, action_for, awaiting, cause_for, collecting, is_called_in, shell_action, waiting};
 
 use sh_builtin_shell::Shell;
 use sh_builtin_wait::Awaited;
 use sh_exec_actions::{Action, Active, PipelineWait};
 use sh_exec_requests::pending_signal;
 use sh_exec_turns::is_called;
-use sh_kernel::{DescriptorRef, Kernel, Next};
+use sh_kernel::{Cause, DescriptorRef, Kernel, Next};
 use sh_signal::Signal;
 use sh_stock::Ask;
 
@@ -117,6 +117,19 @@ pub(crate) fn shell_action<'a>(kernel: &Kernel, shell: &'a Shell, active: &'a Ac
         shell.background.as_slice(),
         active,
     )
+}
+
+/// What a program would be blocked at, where it asks this.
+pub(crate) fn cause_for(ask: &Ask) -> Option<Cause>
+    ensures { result ≡ cause_for ask.now }
+{
+    match ask {
+        Ask::Read(_) => Some(Cause::Reading(DescriptorRef::Number(0))),
+        Ask::Write(bytes) => Some(Cause::Writing(1, bytes.len())),
+        Ask::Stop => None,
+        Ask::Idle => None,
+        Ask::End(_) => None,
+    }
 }
 
 /// What a program asks.

@@ -56,6 +56,7 @@ fn read_turn<S: Stock>(
         HasLeft kernel.new (asks ask program.new)
         (read_turn S.meaning s pid count program.old)) }
     ensures terminal { kernel.new.terminal.bytes ≡ kernel.old.terminal.bytes }
+    ensures watch { kernel.new.watch ≡ kernel.old.watch }
 {
     let taken = take_bytes(alloc, kernel, pid, DescriptorRef::Number(0), count)?;
     let ask = read_by(alloc, count, program, taken)?;
@@ -105,6 +106,7 @@ fn write_turn<S: Stock>(
         HasLeft kernel.new (asks ask program.new)
         (write_turn S.meaning s pid bytes program.old)) }
     ensures terminal { Extends kernel.old.terminal.bytes kernel.new.terminal.bytes }
+    ensures watch { kernel.new.watch ≡ kernel.old.watch }
 {
     let given = give_bytes(kernel, pid, 1, bytes.as_slice())?;
     let ask = write_by(alloc, bytes, program, given)?;
@@ -122,6 +124,7 @@ fn end_turn<S: Stock>(
     ensures state { (s : KernelState) → StandsAt kernel.old s → IfOk result (λ ask.
         HasLeft kernel.new (asks ask _program.new) (end_turn s pid status _program.old)) }
     ensures terminal { kernel.new.terminal.bytes ≡ kernel.old.terminal.bytes }
+    ensures watch { kernel.new.watch ≡ kernel.old.watch }
 {
     end_process(kernel, pid, status)?;
     Ok(Ask::End(status))
@@ -132,6 +135,7 @@ fn stop(kernel: &mut Kernel, pid: u32) -> Result<(), NoMemory>
     ensures state { (s : KernelState) → StandsAt kernel.old s
         → OnOk result (StandsAt kernel.new (kill_call s (SignalTarget.Process pid) Signal.Stop).after) }
     ensures terminal { kernel.new.terminal ≡ kernel.old.terminal }
+    ensures watch { kernel.new.watch ≡ kernel.old.watch }
 {
     let to = SignalTarget::Process(pid);
     match kernel.kill(&to, Signal::Stop) {
@@ -152,6 +156,7 @@ fn stop_turn<S: Stock>(
     ensures state { (s : KernelState) → StandsAt kernel.old s → IfOk result (λ ask.
         HasLeft kernel.new (asks ask program.new) (stop_turn S.meaning s pid program.old)) }
     ensures terminal { kernel.new.terminal ≡ kernel.old.terminal }
+    ensures watch { kernel.new.watch ≡ kernel.old.watch }
 {
     stop(kernel, pid)?;
     let ask = asking(alloc, program, Answer::Done)?;
@@ -171,6 +176,7 @@ pub(crate) fn ask_turn<S: Stock>(
         HasLeft kernel.new (asks next program.new)
         (ask_turn S.meaning s pid ask program.old)) }
     ensures terminal { Extends kernel.old.terminal.bytes kernel.new.terminal.bytes }
+    ensures watch { kernel.new.watch ≡ kernel.old.watch }
 {
     match ask {
         Ask::Read(count) => {

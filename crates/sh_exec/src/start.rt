@@ -61,6 +61,7 @@ fn leave_shell(kernel: &mut Kernel, shell: &Shell)
     ensures state { (s : KernelState) → StandsAt kernel.old s
         → StandsAt kernel.new (begun s shell.now) }
     ensures terminal { kernel.new.terminal ≡ kernel.old.terminal }
+    ensures watch { kernel.new.watch ≡ kernel.old.watch }
 {
     let _started = kernel.start_program(shell.pid);
     release_own_signals(kernel, shell, shell.pid);
@@ -87,6 +88,7 @@ fn start_stock<S: Stock>(
     ensures state { (s : KernelState) → StandsAt kernel.old s → (operands : List (List ℕ)) → IfOk result (λ started.
         HasLeft kernel.new started (stock_start S.meaning s shell.now (record { name = name.now; operands = operands; ends_shell = ends_shell }) program)) }
     ensures terminal { kernel.new.terminal ≡ kernel.old.terminal }
+    ensures watch { kernel.new.watch ≡ kernel.old.watch }
 {
     match program {
         Some(program) => {
@@ -133,6 +135,7 @@ fn start_script<S: Stock>(
     ensures state { (s : KernelState) → StandsAt kernel.old s → IfOk result (λ started.
         HasLeft kernel.new started (script_start s shell.now path.now text operands.now)) }
     ensures terminal { kernel.new.terminal ≡ kernel.old.terminal }
+    ensures watch { kernel.new.watch ≡ kernel.old.watch }
 {
     let pid = shell.pid;
     let parent = parent_of(kernel, pid);
@@ -169,6 +172,7 @@ fn start_located<S: Stock>(
         HasLeft kernel.new started
         (started_by S.meaning s shell.now (record { name = name.now; operands = operands.now; ends_shell = ends_shell }) located)) }
     ensures terminal { kernel.new.terminal ≡ kernel.old.terminal }
+    ensures watch { kernel.new.watch ≡ kernel.old.watch }
 {
     match located {
         Located::Missing => {
@@ -211,6 +215,7 @@ fn start_named<S: Stock>(
     ensures state { (s : KernelState) → StandsAt kernel.old s → IfOk result (λ started.
         HasLeft kernel.new started (start_named S.meaning s shell.now (record { name = name.now; operands = operands.now; ends_shell = ends_shell }))) }
     ensures terminal { kernel.new.terminal ≡ kernel.old.terminal }
+    ensures watch { kernel.new.watch ≡ kernel.old.watch }
 {
     let located = find_program(alloc, kernel.files(), &shell.vars, name)?;
     let started = start_located(alloc, kernel, shell, name, operands, ends_shell, located)?;
@@ -227,6 +232,7 @@ pub(crate) fn start_turn<S: Stock>(
     ensures state { (s : KernelState) → StandsAt kernel.old s → IfOk result (λ started.
         HasLeft kernel.new started (start_turn S.meaning s shell.now start)) }
     ensures terminal { kernel.new.terminal ≡ kernel.old.terminal }
+    ensures watch { kernel.new.watch ≡ kernel.old.watch }
 {
     let Some((name, operands)) = start.fields.as_slice().split_first() else {
         return Ok(Started::Refused(Action::Starting(start)));

@@ -5,12 +5,12 @@ ghost use Rattle.sh_kernel.specs.Turns as next;
 ghost use Rattle.sh_kernel.specs.Turns.{can_do};
 ghost use Rattle.sh_tty.specs.Terminal.{Extends};
 ghost use Rattle.sh_exec_shell.specs.Reduction.{shell_turn};
-ghost use Rattle.sh_exec.specs.Actions.{action_of};
+ghost use Rattle.sh_exec.specs.Actions.{action_of, cause_of};
 ghost use Rattle.sh_exec.specs.Tasks.{first_jobs, first_place, first_task, options_of, with_signals_of, frames_of, jobs_of_first, pid_of};
 ghost use Rattle.sh_exec.specs.TurnActions.{drops, starting_words, takes_trap, turn_action_of};
 ghost use Rattle.sh_exec.specs.Turns.{IsTurned, by_shell, made_task, runs_by, task_behind, turn};
 
-use crate::action::{asked, shell_action};
+use crate::action::{asked, cause_for, shell_action};
 use crate::program::ask_turn;
 use crate::script::script_place;
 use crate::settings::{Settings, Source};
@@ -30,7 +30,7 @@ use sh_exec_requests::heed_own_signals;
 use sh_exec_shell::Interpreter;
 use sh_files::Files;
 use sh_jobs::Jobs;
-use sh_kernel::{FIRST_PID, Kernel, Next};
+use sh_kernel::{Cause, FIRST_PID, Kernel, Next};
 use sh_kernel_signals::SignalSet;
 use sh_stock::{Ask, CopyStock, Stock};
 use sh_vars::{Options, Vars};
@@ -96,6 +96,7 @@ fn shell_turn<S: Stock>(
         IsTurned kernel.new (Task.Runs interpreter.new) child
         (by_shell (shell_turn s interpreter.old))) }
     ensures terminal { Extends kernel.old.terminal.bytes kernel.new.terminal.bytes }
+    ensures watch { kernel.new.watch ≡ kernel.old.watch }
 {
     let child = interpreter.turn(alloc, kernel)?;
     Ok(made(child))
@@ -113,6 +114,7 @@ fn start_in<S: Stock>(
         IsTurned kernel.new (task_behind interpreter.new next) None
         (runs_by S.meaning s interpreter.old (Some start))) }
     ensures terminal { kernel.new.terminal ≡ kernel.old.terminal }
+    ensures watch { kernel.new.watch ≡ kernel.old.watch }
 {
     match start_turn(alloc, kernel, interpreter.shell(), start)? {
         Started::Becomes(task) => Ok(Some(task)),
@@ -171,6 +173,7 @@ impl<S: Stock> Task<S> {
     pub fn set_signals(&self, kernel: &mut Kernel)
         ensures state { (s : KernelState) → StandsAt kernel.old s → StandsAt kernel.new (with_signals_of s self.now) }
         ensures terminal { kernel.new.terminal ≡ kernel.old.terminal }
+        ensures watch { kernel.new.watch ≡ kernel.old.watch }
     {
         if let Task::Runs(interpreter) = self {
             let shell = interpreter.shell();
@@ -207,6 +210,7 @@ impl<S: Stock> Task<S> {
         ensures state { (s : KernelState) → StandsAt kernel.old s → IfOk result (λ child.
             IsTurned kernel.new self.new child (turn S.meaning s self.old)) }
         ensures terminal { Extends kernel.old.terminal.bytes kernel.new.terminal.bytes }
+        ensures watch { kernel.new.watch ≡ kernel.old.watch }
     {
         match self {
             Task::Runs(interpreter) => match starting_of(alloc, interpreter.active())? {
@@ -299,6 +303,17 @@ impl<S: Stock> Task<S> {
                 shell_action(kernel, interpreter.shell(), interpreter.active())
             },
             Task::Asks { ask, .. } => asked(ask),
+        }
+    }
+
+    /// What the process would be blocked at in its next turn (XBD chapter 3, Blocked Process): the read or the write of a program. `None` where its
+    /// next action never waits, and of a shell, which may have a trap to take before that. Takes no memory.
+    pub fn cause(&self) -> Option<Cause>
+        ensures { result ≡ cause_of self.now }
+    {
+        match self {
+            Task::Runs(_) => None,
+            Task::Asks { ask, .. } => cause_for(ask),
         }
     }
 

@@ -160,6 +160,7 @@ fn build(
     ensures state { (s : KernelState) → StandsAt kernel.old s → OnOk result
         (StandsAt kernel.new (builtin_machine frames.old s shell.old invocation fields.now)) }
     ensures terminal { kernel.new.terminal ≡ kernel.old.terminal }
+    ensures watch { kernel.new.watch ≡ kernel.old.watch }
 {
     let last = frames.last_for(invocation.builtin, shell.vars.status());
     let outcome = invocation.run(alloc, kernel, shell, last, arguments_of(fields))?;
@@ -182,6 +183,7 @@ pub(crate) fn perform(
     ensures state { (s : KernelState) → StandsAt kernel.old s → OnOk result
         (StandsAt kernel.new (machine_at frames.old s shell.old active)) }
     ensures terminal { kernel.new.terminal ≡ kernel.old.terminal }
+    ensures watch { kernel.new.watch ≡ kernel.old.watch }
 {
     match active {
         Active::Acting(invocation, fields) => {

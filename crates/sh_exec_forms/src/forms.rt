@@ -145,6 +145,7 @@ fn undo(
     ensures state { (s : KernelState) → StandsAt kernel.old s → IfOk result (λ next.
         IsActed kernel.new shell.new (Run.At next) (undone undo s shell.old (Run.At active))) }
     ensures terminal { kernel.new.terminal ≡ kernel.old.terminal }
+    ensures watch { kernel.new.watch ≡ kernel.old.watch }
 {
     let Undo {
         descriptors,
@@ -203,6 +204,7 @@ fn end_form(
         (after_status frames.old form s shell.old ended)) }
     ensures kept { IfOk result (λ step. Leaves step frames.new frames.old) }
     ensures terminal { kernel.new.terminal ≡ kernel.old.terminal }
+    ensures watch { kernel.new.watch ≡ kernel.old.watch }
 {
     match form {
         Form::Text(rest) => Ok(Step::Inward(Active::Next(Action::Reading(rest, ended.status)))),
@@ -272,6 +274,7 @@ fn leave_form(
         (after_leave frames.old form s shell.old leave)) }
     ensures kept { IfOk result (λ step. Leaves step frames.new frames.old) }
     ensures terminal { kernel.new.terminal ≡ kernel.old.terminal }
+    ensures watch { kernel.new.watch ≡ kernel.old.watch }
 {
     match form {
         Form::Text(rest) => Ok(leave_text(shell, frames, rest, leave)),
@@ -326,6 +329,7 @@ fn go_outward(
         (outward frames.old (with_run s shell.old (Run.At active)))) }
     ensures fewer { IfOk result (λ step. IsFewer step frames.new frames.old) }
     ensures terminal { kernel.new.terminal ≡ kernel.old.terminal }
+    ensures watch { kernel.new.watch ≡ kernel.old.watch }
 {
     match active {
         Active::Next(place) => Ok(Step::Inward(Active::Next(place))),
@@ -355,6 +359,7 @@ fn settle_outward(
         IsActed kernel.new shell.new (run_of frames.new next)
         (outward frames.old (with_run s shell.old (Run.At active)))) }
     ensures terminal { kernel.new.terminal ≡ kernel.old.terminal }
+    ensures watch { kernel.new.watch ≡ kernel.old.watch }
 {
     let mut active = active;
     'outward: loop {
@@ -380,6 +385,7 @@ pub fn settle(
         IsActed kernel.new shell.new (run_of frames.new next)
         (at_action [] s shell.old (run_of frames.old active))) }
     ensures terminal { kernel.new.terminal ≡ kernel.old.terminal }
+    ensures watch { kernel.new.watch ≡ kernel.old.watch }
 {
     match perform(alloc, kernel, shell, frames, active)? {
         Step::Inward(active) => Ok(active),

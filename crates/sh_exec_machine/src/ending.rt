@@ -12,6 +12,7 @@ pub fn end_process(kernel: &mut Kernel, pid: u32, status: u8) -> Result<(), NoMe
     ensures state { (s : KernelState) → StandsAt kernel.old s
         → OnOk result (StandsAt kernel.new (end_call s pid status).after) }
     ensures terminal { kernel.new.terminal ≡ kernel.old.terminal }
+    ensures watch { kernel.new.watch ≡ kernel.old.watch }
 {
     match kernel.end(pid, status) {
         Ok(()) => Ok(()),

@@ -28,6 +28,7 @@ fn close(kernel: &mut Kernel, pid: u32, number: u8)
     ensures state { (s : KernelState) → StandsAt kernel.old s
         → StandsAt kernel.new (after_close s pid number) }
     ensures terminal { kernel.new.terminal ≡ kernel.old.terminal }
+    ensures watch { kernel.new.watch ≡ kernel.old.watch }
 {
     let _closed = kernel.close(pid, DescriptorRef::Number(number));
 }
@@ -38,6 +39,7 @@ fn duplicate(kernel: &mut Kernel, pid: u32, from: u8, to: u8) -> Result<(), NoMe
     ensures state { (s : KernelState) → StandsAt kernel.old s
         → OnOk result (StandsAt kernel.new (after_duplication s pid from to)) }
     ensures terminal { kernel.new.terminal ≡ kernel.old.terminal }
+    ensures watch { kernel.new.watch ≡ kernel.old.watch }
 {
     match kernel.dup(pid, DescriptorRef::Number(from), to) {
         Err(KernelFault::NoMemory(lack)) => Err(lack),
@@ -51,6 +53,7 @@ fn move_over(kernel: &mut Kernel, pid: u32, from: u8, to: u8) -> Result<(), NoMe
     ensures state { (s : KernelState) → StandsAt kernel.old s
         → OnOk result (StandsAt kernel.new (after_move s pid from to)) }
     ensures terminal { kernel.new.terminal ≡ kernel.old.terminal }
+    ensures watch { kernel.new.watch ≡ kernel.old.watch }
 {
     duplicate(kernel, pid, from, to)?;
     close(kernel, pid, from);
@@ -63,6 +66,7 @@ fn pipe(kernel: &mut Kernel, pid: u32) -> Result<(), NoMemory>
     ensures state { (s : KernelState) → StandsAt kernel.old s
         → OnOk result (StandsAt kernel.new (after_pipe s pid)) }
     ensures terminal { kernel.new.terminal ≡ kernel.old.terminal }
+    ensures watch { kernel.new.watch ≡ kernel.old.watch }
 {
     match kernel.pipe(pid, READ_END, WRITE_END) {
         Err(KernelFault::NoMemory(lack)) => Err(lack),
@@ -76,6 +80,7 @@ fn set_aside(kernel: &mut Kernel, pid: u32) -> Option<usize>
     ensures state { (s : KernelState) → StandsAt kernel.old s
         → HasLaid kernel.new result (set_aside s pid) }
     ensures terminal { kernel.new.terminal ≡ kernel.old.terminal }
+    ensures watch { kernel.new.watch ≡ kernel.old.watch }
 {
     match kernel.set_aside(pid, READ_END) {
         Ok(aside) => Some(aside),
@@ -89,6 +94,7 @@ fn lay(kernel: &mut Kernel, pid: u32, writes: bool) -> Result<Option<usize>, NoM
     ensures state { (s : KernelState) → StandsAt kernel.old s → IfOk result (λ aside.
         HasLaid kernel.new aside (laid writes s pid)) }
     ensures terminal { kernel.new.terminal ≡ kernel.old.terminal }
+    ensures watch { kernel.new.watch ≡ kernel.old.watch }
 {
     if !writes {
         return Ok(None);
@@ -103,6 +109,7 @@ fn take_up(kernel: &mut Kernel, pid: u32, before: Option<usize>)
     ensures state { (s : KernelState) → StandsAt kernel.old s
         → StandsAt kernel.new (taken_up before s pid) }
     ensures terminal { kernel.new.terminal ≡ kernel.old.terminal }
+    ensures watch { kernel.new.watch ≡ kernel.old.watch }
 {
     if let Some(aside) = before {
         let _put_back = kernel.put_back(pid, aside, READ_END);
@@ -115,6 +122,7 @@ fn connect(kernel: &mut Kernel, child: u32, reads: bool, writes: bool) -> Result
     ensures state { (s : KernelState) → StandsAt kernel.old s
         → OnOk result (StandsAt kernel.new (with_pipe_ends reads writes s child)) }
     ensures terminal { kernel.new.terminal ≡ kernel.old.terminal }
+    ensures watch { kernel.new.watch ≡ kernel.old.watch }
 {
     if reads {
         move_over(kernel, child, READ_END, 0)?;
@@ -130,6 +138,7 @@ fn connect(kernel: &mut Kernel, child: u32, reads: bool, writes: bool) -> Result
 fn let_go(kernel: &mut Kernel, pid: u32)
     ensures state { (s : KernelState) → StandsAt kernel.old s → StandsAt kernel.new (let_go s pid) }
     ensures terminal { kernel.new.terminal ≡ kernel.old.terminal }
+    ensures watch { kernel.new.watch ≡ kernel.old.watch }
 {
     close(kernel, pid, READ_END);
     close(kernel, pid, WRITE_END);
@@ -141,6 +150,7 @@ fn drop_aside(kernel: &mut Kernel, pid: u32, aside: Option<usize>)
     ensures state { (s : KernelState) → StandsAt kernel.old s
         → StandsAt kernel.new (without_aside aside s pid) }
     ensures terminal { kernel.new.terminal ≡ kernel.old.terminal }
+    ensures watch { kernel.new.watch ≡ kernel.old.watch }
 {
     if let Some(aside) = aside {
         let _closed = kernel.close(pid, DescriptorRef::Aside(aside));
@@ -160,6 +170,7 @@ fn join(
     ensures state { (s : KernelState) → StandsAt kernel.old s → IfOk result (λ made.
         HasForked kernel.new made.child made.aside (with_child pid reads writes aside child s)) }
     ensures terminal { kernel.new.terminal ≡ kernel.old.terminal }
+    ensures watch { kernel.new.watch ≡ kernel.old.watch }
 {
     connect(kernel, child, reads, writes)?;
     let_go(kernel, pid);
@@ -175,6 +186,7 @@ fn give_up(kernel: &mut Kernel, pid: u32, aside: Option<usize>) -> Forked
     ensures state { (s : KernelState) → StandsAt kernel.old s
         → HasForked kernel.new result.child result.aside (without_child pid aside s) }
     ensures terminal { kernel.new.terminal ≡ kernel.old.terminal }
+    ensures watch { kernel.new.watch ≡ kernel.old.watch }
 {
     let_go(kernel, pid);
     drop_aside(kernel, pid, aside);
@@ -196,6 +208,7 @@ fn fork_between(
     ensures state { (s : KernelState) → StandsAt kernel.old s → IfOk result (λ made.
         HasForked kernel.new made.child made.aside (fork_between s pid reads writes aside)) }
     ensures terminal { kernel.new.terminal ≡ kernel.old.terminal }
+    ensures watch { kernel.new.watch ≡ kernel.old.watch }
 {
     match kernel.fork(pid) {
         Ok(child) => {
@@ -221,6 +234,7 @@ pub fn fork_process(
     ensures state { (s : KernelState) → StandsAt kernel.old s → IfOk result (λ made.
         HasForked kernel.new made.child made.aside (fork_of s pid before writes)) }
     ensures terminal { kernel.new.terminal ≡ kernel.old.terminal }
+    ensures watch { kernel.new.watch ≡ kernel.old.watch }
 {
     let aside = lay(kernel, pid, writes)?;
     take_up(kernel, pid, before);
@@ -234,6 +248,7 @@ fn open_null(kernel: &mut Kernel, pid: u32, directory: &[u8]) -> Result<(), NoMe
     ensures state { (s : KernelState) → StandsAt kernel.old s
         → OnOk result (StandsAt kernel.new (after_null directory.now s pid)) }
     ensures terminal { kernel.new.terminal ≡ kernel.old.terminal }
+    ensures watch { kernel.new.watch ≡ kernel.old.watch }
 {
     let _told = open(
         kernel,
@@ -259,6 +274,7 @@ pub fn lay_null_input(
     ensures state { (s : KernelState) → StandsAt kernel.old s → IfOk result (λ aside.
         HasLaid kernel.new aside (null_laid directory.now s pid)) }
     ensures terminal { kernel.new.terminal ≡ kernel.old.terminal }
+    ensures watch { kernel.new.watch ≡ kernel.old.watch }
 {
     open_null(kernel, pid, directory)?;
     Ok(set_aside(kernel, pid))

@@ -33,6 +33,7 @@ pub(crate) fn open(
     ensures state { (s : KernelState) → StandsAt kernel.old s → IfOk result (λ told.
         HasAnswered kernel.new told (open_call s pid directory.now path.now how append number)) }
     ensures terminal { kernel.new.terminal ≡ kernel.old.terminal }
+    ensures watch { kernel.new.watch ≡ kernel.old.watch }
 {
     match kernel.open(pid, directory, path, how, append, number) {
         Ok(()) => Ok(Ok(())),
@@ -51,6 +52,7 @@ fn duplicate(
     ensures state { (s : KernelState) → StandsAt kernel.old s → IfOk result (λ told.
         HasAnswered kernel.new told (dup_call s pid (Number from) number)) }
     ensures terminal { kernel.new.terminal ≡ kernel.old.terminal }
+    ensures watch { kernel.new.watch ≡ kernel.old.watch }
 {
     match kernel.dup(pid, DescriptorRef::Number(from), number) {
         Ok(()) => Ok(Ok(())),
@@ -69,6 +71,7 @@ fn open_here(
     ensures state { (s : KernelState) → StandsAt kernel.old s → IfOk result (λ told.
         HasAnswered kernel.new told (here_call s pid bytes.now number)) }
     ensures terminal { kernel.new.terminal ≡ kernel.old.terminal }
+    ensures watch { kernel.new.watch ≡ kernel.old.watch }
 {
     match kernel.here_document(pid, bytes, number) {
         Ok(()) => Ok(Ok(())),
@@ -83,6 +86,7 @@ fn close(kernel: &mut Kernel, pid: u32, number: u8)
     ensures state { (s : KernelState) → StandsAt kernel.old s
         → HasAnswered kernel.new (Ok tt) (close_outcome s pid number) }
     ensures terminal { kernel.new.terminal ≡ kernel.old.terminal }
+    ensures watch { kernel.new.watch ≡ kernel.old.watch }
 {
     let _closed = kernel.close(pid, DescriptorRef::Number(number));
 }
@@ -99,6 +103,7 @@ fn place(
     ensures state { (s : KernelState) → StandsAt kernel.old s → IfOk result (λ told.
         HasAnswered kernel.new told (action_outcome s pid directory.now number redirection.now)) }
     ensures terminal { kernel.new.terminal ≡ kernel.old.terminal }
+    ensures watch { kernel.new.watch ≡ kernel.old.watch }
 {
     match &redirection.action {
         Action::Open { how, append } => {
@@ -135,6 +140,7 @@ fn put_beside(
         HasRedirected kernel.new r.answer r.undone
         (beside s pid directory.now number redirection.now)) }
     ensures terminal { kernel.new.terminal ≡ kernel.old.terminal }
+    ensures watch { kernel.new.watch ≡ kernel.old.watch }
 {
     match place(kernel, pid, directory, number, redirection)? {
         Ok(()) => Ok(Redirected {
@@ -154,6 +160,7 @@ fn put_back(kernel: &mut Kernel, pid: u32, aside: usize, number: u8)
     ensures state { (s : KernelState) → StandsAt kernel.old s
         → StandsAt kernel.new (put_back s pid aside number) }
     ensures terminal { kernel.new.terminal ≡ kernel.old.terminal }
+    ensures watch { kernel.new.watch ≡ kernel.old.watch }
 {
     let _put_back = kernel.put_back(pid, aside, number);
 }
@@ -172,6 +179,7 @@ fn put_over(
         HasRedirected kernel.new r.answer r.undone
         (over s pid directory.now number redirection.now aside)) }
     ensures terminal { kernel.new.terminal ≡ kernel.old.terminal }
+    ensures watch { kernel.new.watch ≡ kernel.old.watch }
 {
     match place(kernel, pid, directory, number, redirection)? {
         Ok(()) => Ok(Redirected {
@@ -201,6 +209,7 @@ fn keep(
         HasRedirected kernel.new r.answer r.undone
         (with_undo s pid directory.now number redirection.now)) }
     ensures terminal { kernel.new.terminal ≡ kernel.old.terminal }
+    ensures watch { kernel.new.watch ≡ kernel.old.watch }
 {
     match kernel.set_aside(pid, number) {
         Ok(aside) => {
@@ -241,6 +250,7 @@ fn redirect_number(
         HasRedirected kernel.new r.answer r.undone
         (at_number keeps s pid directory.now number redirection.now)) }
     ensures terminal { kernel.new.terminal ≡ kernel.old.terminal }
+    ensures watch { kernel.new.watch ≡ kernel.old.watch }
 {
     if keeps && !is_itself(number, &redirection.action) {
         let redirected = keep(kernel, pid, directory, number, redirection)?;
@@ -271,6 +281,7 @@ pub fn redirect(
         HasRedirected kernel.new r.answer r.undone
         (redirection_outcome keeps s pid directory.now redirection.now)) }
     ensures terminal { kernel.new.terminal ≡ kernel.old.terminal }
+    ensures watch { kernel.new.watch ≡ kernel.old.watch }
 {
     match redirection.number {
         None => Ok(Redirected {

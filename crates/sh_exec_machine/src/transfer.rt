@@ -57,6 +57,7 @@ pub fn take_bytes(
     ensures state { (s : KernelState) → StandsAt kernel.old s → IfOk result (λ taken.
         HasTaken kernel.new taken (take_bytes s pid name count)) }
     ensures terminal { kernel.new.terminal.bytes ≡ kernel.old.terminal.bytes }
+    ensures watch { kernel.new.watch ≡ kernel.old.watch }
 {
     let mut buf = vec![in alloc; 0u8; count]?;
     match kernel.read(pid, name, &mut buf) {
@@ -108,6 +109,7 @@ pub fn give_bytes(
     ensures state { (s : KernelState) → StandsAt kernel.old s → IfOk result (λ given.
         HasGiven kernel.new given (give_bytes s pid number bytes.now)) }
     ensures terminal { Extends kernel.old.terminal.bytes kernel.new.terminal.bytes }
+    ensures watch { kernel.new.watch ≡ kernel.old.watch }
 {
     match kernel.write(pid, number, bytes) {
         Ok(count) => Ok(counted(bytes.len(), count)),

@@ -17,6 +17,7 @@ fn number(kernel: &mut Kernel, pid: u32, aside: usize)
     ensures state { (s : KernelState) → StandsAt kernel.old s
         → StandsAt kernel.new (put_back_call s pid aside 10).after }
     ensures terminal { kernel.new.terminal ≡ kernel.old.terminal }
+    ensures watch { kernel.new.watch ≡ kernel.old.watch }
 {
     let _numbered = kernel.put_back(pid, aside, CLOSING);
 }
@@ -26,6 +27,7 @@ fn close_numbered(kernel: &mut Kernel, pid: u32)
     ensures state { (s : KernelState) → StandsAt kernel.old s
         → StandsAt kernel.new (close_call s pid (Number 10)).after }
     ensures terminal { kernel.new.terminal ≡ kernel.old.terminal }
+    ensures watch { kernel.new.watch ≡ kernel.old.watch }
 {
     let _closed = kernel.close(pid, DescriptorRef::Number(CLOSING));
 }
@@ -35,6 +37,7 @@ fn close_aside(kernel: &mut Kernel, pid: u32, aside: usize)
     ensures state { (s : KernelState) → StandsAt kernel.old s
         → StandsAt kernel.new (without_aside s pid aside) }
     ensures terminal { kernel.new.terminal ≡ kernel.old.terminal }
+    ensures watch { kernel.new.watch ≡ kernel.old.watch }
 {
     number(kernel, pid, aside);
     close_numbered(kernel, pid);
@@ -45,6 +48,7 @@ fn keep(kernel: &mut Kernel, pid: u32, undone: Undone)
     ensures state { (s : KernelState) → StandsAt kernel.old s
         → StandsAt kernel.new (after_redirection true pid undone s) }
     ensures terminal { kernel.new.terminal ≡ kernel.old.terminal }
+    ensures watch { kernel.new.watch ≡ kernel.old.watch }
 {
     match undone {
         Undone::Restore { aside, .. } => {
@@ -59,6 +63,7 @@ fn restore(kernel: &mut Kernel, pid: u32, undone: Undone)
     ensures state { (s : KernelState) → StandsAt kernel.old s
         → StandsAt kernel.new (after_redirection false pid undone s) }
     ensures terminal { kernel.new.terminal ≡ kernel.old.terminal }
+    ensures watch { kernel.new.watch ≡ kernel.old.watch }
 {
     match undone {
         Undone::Restore { aside, number } => {
@@ -75,6 +80,7 @@ fn end_redirection(kernel: &mut Kernel, pid: u32, undone: Undone, stays: bool)
     ensures state { (s : KernelState) → StandsAt kernel.old s
         → StandsAt kernel.new (after_redirection stays pid undone s) }
     ensures terminal { kernel.new.terminal ≡ kernel.old.terminal }
+    ensures watch { kernel.new.watch ≡ kernel.old.watch }
 {
     if stays {
         keep(kernel, pid, undone);
@@ -90,6 +96,7 @@ pub fn end_redirections(kernel: &mut Kernel, pid: u32, undone: Sequence<Undone>,
     ensures state { (s : KernelState) → StandsAt kernel.old s
         → StandsAt kernel.new (after_redirections stay pid undone s) }
     ensures terminal { kernel.new.terminal ≡ kernel.old.terminal }
+    ensures watch { kernel.new.watch ≡ kernel.old.watch }
 {
     let mut undone = undone;
     'undone: while let Some(one) = undone.pop() {

@@ -29,6 +29,7 @@ fn continue_group(kernel: &mut Kernel, group: u32) -> Result<(), NoMemory>
     ensures state { (s : KernelState) → StandsAt kernel.old s
         → OnOk result (StandsAt kernel.new (after_continue s group)) }
     ensures terminal { kernel.new.terminal ≡ kernel.old.terminal }
+    ensures watch { kernel.new.watch ≡ kernel.old.watch }
 {
     send_to(kernel, &SignalTarget::Group(group), Signal::Continue)
 }
@@ -38,6 +39,7 @@ fn continue_job(kernel: &mut Kernel, shell: &mut Shell, job: ContinuedJob) -> Re
     ensures state { (s : KernelState) → StandsAt kernel.old s
         → OnOk result (StandsAt kernel.new (after_continue s job.group)) }
     ensures terminal { kernel.new.terminal ≡ kernel.old.terminal }
+    ensures watch { kernel.new.watch ≡ kernel.old.watch }
     ensures shell { OnOk result (shell.new ≡ with_continued shell.old job) }
 {
     continue_group(kernel, job.group)?;
@@ -82,6 +84,7 @@ fn continue_in_background(
     ensures state { (s : KernelState) → StandsAt kernel.old s
         → OnOk result (StandsAt kernel.new (after_continue s job.group)) }
     ensures terminal { kernel.new.terminal ≡ kernel.old.terminal }
+    ensures watch { kernel.new.watch ≡ kernel.old.watch }
     ensures shell { OnOk result (shell.new
         ≡ in_background (with_continued shell.old job) (processes_of shell.old.jobs job.number)) }
 {
@@ -107,6 +110,7 @@ fn background_turn(
     ensures state { (s : KernelState) → StandsAt kernel.old s → IfOk result (λ active.
         IsPlaced kernel.new shell.new active (background_turn s shell.old jobs messages status)) }
     ensures terminal { kernel.new.terminal ≡ kernel.old.terminal }
+    ensures watch { kernel.new.watch ≡ kernel.old.watch }
 {
     let mut rest = Queue::new(jobs);
     let Some(job) = rest.take() else {
@@ -144,6 +148,7 @@ fn foreground_turn(
     ensures state { (s : KernelState) → StandsAt kernel.old s → IfOk result (λ active.
         IsPlaced kernel.new shell.new active (foreground_turn s shell.old job)) }
     ensures terminal { kernel.new.terminal.bytes ≡ kernel.old.terminal.bytes }
+    ensures watch { kernel.new.watch ≡ kernel.old.watch }
 {
     let processes = processes_of(alloc, &shell.jobs, job.number)?;
     kernel.set_foreground(job.group);
@@ -168,6 +173,7 @@ pub fn continue_turn(
     ensures state { (s : KernelState) → StandsAt kernel.old s → IfOk result (λ active.
         IsPlaced kernel.new shell.new active (continue_turn s shell.old continuation)) }
     ensures terminal { kernel.new.terminal.bytes ≡ kernel.old.terminal.bytes }
+    ensures watch { kernel.new.watch ≡ kernel.old.watch }
 {
     match continuation {
         Continuation::Background {
@@ -215,6 +221,7 @@ fn job_suspended(
     ensures state { (s : KernelState) → StandsAt kernel.old s → IfOk result (λ active.
         IsPlaced kernel.new shell.new active (job_wait_by s shell.old wait.now (JobState.Suspended signal))) }
     ensures terminal { kernel.new.terminal.bytes ≡ kernel.old.terminal.bytes }
+    ensures watch { kernel.new.watch ≡ kernel.old.watch }
 {
     take_terminal_back(kernel, shell.pid);
     shell.bring_jobs_up_to_date(kernel);
@@ -250,6 +257,7 @@ pub fn job_wait_turn(
     ensures state { (s : KernelState) → StandsAt kernel.old s → IfOk result (λ active.
         IsPlaced kernel.new shell.new active (job_wait_turn s shell.old wait)) }
     ensures terminal { kernel.new.terminal.bytes ≡ kernel.old.terminal.bytes }
+    ensures watch { kernel.new.watch ≡ kernel.old.watch }
 {
     match state_of(kernel, wait.processes.as_slice()) {
         JobState::Running => Ok(Active::Next(Action::WaitForJob(wait))),

@@ -124,6 +124,7 @@ pub fn read_line_turn(
     ensures state { (s : KernelState) → StandsAt kernel.old s → IfOk result (λ active.
         IsPlaced kernel.new shell.new active (read_line_turn s shell.old reader)) }
     ensures terminal { kernel.new.terminal.bytes ≡ kernel.old.terminal.bytes }
+    ensures watch { kernel.new.watch ≡ kernel.old.watch }
 {
     let count = most_read(kernel, shell.pid);
     let told = take_bytes(alloc, kernel, shell.pid, DescriptorRef::Number(0), count)?;

@@ -101,6 +101,7 @@ fn tell_job(
     ensures state { (s : KernelState) → StandsAt kernel.old s → IfOk result (λ active.
         IsPlaced kernel.new shell.new active (tell_job s shell.old beginning number)) }
     ensures terminal { Extends kernel.old.terminal.bytes kernel.new.terminal.bytes }
+    ensures watch { kernel.new.watch ≡ kernel.old.watch }
 {
     let line = job_lines(alloc, kernel, &shell.jobs, JobForm::Short, &[number])?;
     let given = give_bytes(kernel, shell.pid, OUTPUT, line.as_slice())?;
@@ -120,6 +121,7 @@ fn write_prompt(
     ensures state { (s : KernelState) → StandsAt kernel.old s → IfOk result (λ active.
         IsPlaced kernel.new shell.now active (write_prompt s shell.now beginning)) }
     ensures terminal { Extends kernel.old.terminal.bytes kernel.new.terminal.bytes }
+    ensures watch { kernel.new.watch ≡ kernel.old.watch }
 {
     let prompt = prompt_of(&shell.vars, beginning.text.as_slice());
     let given = give_bytes(kernel, shell.pid, OUTPUT, prompt)?;
@@ -140,6 +142,7 @@ fn tell(
     ensures state { (s : KernelState) → StandsAt kernel.old s → IfOk result (λ active.
         IsPlaced kernel.new shell.new active (prompt_by s shell.old beginning (Some number))) }
     ensures terminal { Extends kernel.old.terminal.bytes kernel.new.terminal.bytes }
+    ensures watch { kernel.new.watch ≡ kernel.old.watch }
 {
     shell.bring_jobs_up_to_date(kernel);
     let active = tell_job(alloc, kernel, shell, beginning, number)?;
@@ -157,6 +160,7 @@ fn write_next(
     ensures state { (s : KernelState) → StandsAt kernel.old s → IfOk result (λ active.
         IsPlaced kernel.new shell.new active (prompt_by s shell.old beginning job)) }
     ensures terminal { Extends kernel.old.terminal.bytes kernel.new.terminal.bytes }
+    ensures watch { kernel.new.watch ≡ kernel.old.watch }
 {
     match job {
         Some(number) => {
@@ -183,6 +187,7 @@ pub fn prompt_turn(
     ensures state { (s : KernelState) → StandsAt kernel.old s → IfOk result (λ active.
         IsPlaced kernel.new shell.new active (prompt_turn s shell.old beginning)) }
     ensures terminal { Extends kernel.old.terminal.bytes kernel.new.terminal.bytes }
+    ensures watch { kernel.new.watch ≡ kernel.old.watch }
 {
     let job = job_to_tell(kernel, shell, beginning.text.as_slice());
     let active = write_next(alloc, kernel, shell, beginning, job)?;

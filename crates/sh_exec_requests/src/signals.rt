@@ -75,6 +75,7 @@ fn set_action(kernel: &mut Kernel, shell: &Shell, set: SignalSet, signal: Signal
     ensures state { (s : KernelState) → StandsAt kernel.old s
         → StandsAt kernel.new (after_trap_in set s shell.now signal) }
     ensures terminal { kernel.new.terminal ≡ kernel.old.terminal }
+    ensures watch { kernel.new.watch ≡ kernel.old.watch }
 {
     if set.has(signal) {
         let own = own_action(shell, signal);
@@ -89,6 +90,7 @@ fn set_actions(kernel: &mut Kernel, shell: &Shell, set: SignalSet, signals: &[Si
     ensures state { (s : KernelState) → StandsAt kernel.old s
         → StandsAt kernel.new (after_traps_in set s shell.now signals.now) }
     ensures terminal { kernel.new.terminal ≡ kernel.old.terminal }
+    ensures watch { kernel.new.watch ≡ kernel.old.watch }
 {
     let mut rest = signals;
     'signals: while let Some((signal, others)) = rest.split_first() {
@@ -105,6 +107,7 @@ pub fn heed_traps(kernel: &mut Kernel, shell: &Shell, set: SignalSet)
     ensures state { (s : KernelState) → StandsAt kernel.old s
         → StandsAt kernel.new (after_traps s shell.now set) }
     ensures terminal { kernel.new.terminal ≡ kernel.old.terminal }
+    ensures watch { kernel.new.watch ≡ kernel.old.watch }
 {
     set_actions(kernel, shell, set, &Signal::all());
 }
@@ -127,6 +130,7 @@ pub fn heed_own_signals(kernel: &mut Kernel, shell: &Shell)
     ensures state { (s : KernelState) → StandsAt kernel.old s
         → StandsAt kernel.new (after_start_of s shell.now) }
     ensures terminal { kernel.new.terminal ≡ kernel.old.terminal }
+    ensures watch { kernel.new.watch ≡ kernel.old.watch }
 {
     heed_traps(kernel, shell, own_signals());
 }
@@ -147,6 +151,7 @@ fn release(kernel: &mut Kernel, shell: &Shell, pid: u32, signal: Signal)
     ensures state { (s : KernelState) → StandsAt kernel.old s
         → StandsAt kernel.new (after_release s shell.now pid signal) }
     ensures terminal { kernel.new.terminal ≡ kernel.old.terminal }
+    ensures watch { kernel.new.watch ≡ kernel.old.watch }
 {
     let action = released_action(shell.traps.action(Condition::Caught(signal)));
     kernel.set_action(pid, signal, action);
@@ -157,6 +162,7 @@ fn release_all(kernel: &mut Kernel, shell: &Shell, pid: u32)
     ensures state { (s : KernelState) → StandsAt kernel.old s
         → StandsAt kernel.new (after_releases s shell.now pid own_ignored) }
     ensures terminal { kernel.new.terminal ≡ kernel.old.terminal }
+    ensures watch { kernel.new.watch ≡ kernel.old.watch }
 {
     release(kernel, shell, pid, Signal::Quit);
     release(kernel, shell, pid, Signal::Terminate);
@@ -171,6 +177,7 @@ pub fn release_own_signals(kernel: &mut Kernel, shell: &Shell, pid: u32)
     ensures state { (s : KernelState) → StandsAt kernel.old s
         → StandsAt kernel.new (after_own_signals s shell.now pid) }
     ensures terminal { kernel.new.terminal ≡ kernel.old.terminal }
+    ensures watch { kernel.new.watch ≡ kernel.old.watch }
 {
     if shell.is_interactive() {
         release_all(kernel, shell, pid);
@@ -244,6 +251,7 @@ pub fn is_interrupt_next(kernel: &Kernel, shell: &Shell) -> bool
 pub fn finish_drop(kernel: &mut Kernel, shell: &Shell)
     ensures state { (s : KernelState) → StandsAt kernel.old s → StandsAt kernel.new (after_drop s shell.now) }
     ensures terminal { kernel.new.terminal ≡ kernel.old.terminal }
+    ensures watch { kernel.new.watch ≡ kernel.old.watch }
 {
     kernel.set_action(shell.pid, Signal::Interrupt, SignalAction::Default);
     kernel.set_action(shell.pid, Signal::Interrupt, SignalAction::Caught);
@@ -268,6 +276,7 @@ pub(crate) fn send_to(
     ensures state { (s : KernelState) → StandsAt kernel.old s
         → OnOk result (StandsAt kernel.new (after_sending s (Some signal) (Ok target.now))) }
     ensures terminal { kernel.new.terminal ≡ kernel.old.terminal }
+    ensures watch { kernel.new.watch ≡ kernel.old.watch }
 {
     match kernel.kill(target, signal) {
         Ok(()) => Ok(()),
@@ -285,6 +294,7 @@ fn send(
     ensures state { (s : KernelState) → StandsAt kernel.old s
         → OnOk result (StandsAt kernel.new (after_sending s signal target.now)) }
     ensures terminal { kernel.new.terminal ≡ kernel.old.terminal }
+    ensures watch { kernel.new.watch ≡ kernel.old.watch }
 {
     let Some(signal) = signal else {
         return Ok(());
@@ -352,6 +362,7 @@ pub fn signal_turn(
     ensures state { (s : KernelState) → StandsAt kernel.old s → IfOk result (λ active.
         IsPlaced kernel.new shell.new active (signal_turn s shell.old ask)) }
     ensures terminal { kernel.new.terminal ≡ kernel.old.terminal }
+    ensures watch { kernel.new.watch ≡ kernel.old.watch }
 {
     let is_reached = is_reached(kernel, &ask.target);
     match send(kernel, &ask.target, ask.send.signal) {

@@ -137,6 +137,7 @@ pub fn take_terminal_back(kernel: &mut Kernel, pid: u32)
     ensures state { (s : KernelState) → StandsAt kernel.old s
         → StandsAt kernel.new (terminal_back s pid) }
     ensures terminal { kernel.new.terminal.bytes ≡ kernel.old.terminal.bytes }
+    ensures watch { kernel.new.watch ≡ kernel.old.watch }
 {
     let group = own_group(kernel, pid);
     kernel.set_foreground(group);
@@ -188,6 +189,7 @@ fn give_way(
         IsPlaced kernel.new shell.new active
         (controlled_by s shell.old children.now text.now (JobState.Suspended signal))) }
     ensures terminal { kernel.new.terminal.bytes ≡ kernel.old.terminal.bytes }
+    ensures watch { kernel.new.watch ≡ kernel.old.watch }
 {
     take_terminal_back(kernel, shell.pid);
     shell.bring_jobs_up_to_date(kernel);
@@ -207,6 +209,7 @@ fn controlled(
         IsPlaced kernel.new shell.new active
         (controlled_by s shell.old children text (state_of s.machine.processes children))) }
     ensures terminal { kernel.new.terminal.bytes ≡ kernel.old.terminal.bytes }
+    ensures watch { kernel.new.watch ≡ kernel.old.watch }
 {
     match state_of(kernel, children.as_slice()) {
         JobState::Running => {
@@ -239,6 +242,7 @@ pub fn wait_turn(
     ensures state { (s : KernelState) → StandsAt kernel.old s → IfOk result (λ active.
         IsPlaced kernel.new shell.new active (wait_turn s shell.old wait)) }
     ensures terminal { kernel.new.terminal.bytes ≡ kernel.old.terminal.bytes }
+    ensures watch { kernel.new.watch ≡ kernel.old.watch }
 {
     let PipelineWait { children, job } = wait;
     match job {

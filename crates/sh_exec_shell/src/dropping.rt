@@ -58,6 +58,7 @@ fn drop_at(
         IsActed kernel.new shell.new (run_of frames.new active)
         (drop_at s shell.old frames.old place)) }
     ensures terminal { kernel.new.terminal ≡ kernel.old.terminal }
+    ensures watch { kernel.new.watch ≡ kernel.old.watch }
 {
     if !drops_before(kernel, shell, &place) {
         return Ok(Active::Next(place));
@@ -81,6 +82,7 @@ pub(crate) fn drop_first(
         IsActed kernel.new shell.new (run_of frames.new next)
         (drop_first s shell.old frames.old active)) }
     ensures terminal { kernel.new.terminal ≡ kernel.old.terminal }
+    ensures watch { kernel.new.watch ≡ kernel.old.watch }
 {
     match active {
         Active::Next(place) => {

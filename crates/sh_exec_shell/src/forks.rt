@@ -187,6 +187,7 @@ pub(crate) fn fork_turn(
         IsTurned kernel.new shell.now (Run.At r.0) r.1
         (inheriting (is_failure_ignored frames.now) (fork_turn frames.now s shell.now prepared))) }
     ensures terminal { kernel.new.terminal.bytes ≡ kernel.old.terminal.bytes }
+    ensures watch { kernel.new.watch ≡ kernel.old.watch }
 {
     let forked = match fork_process(kernel, shell.pid, None, false) {
         Ok(forked) => forked,
@@ -335,6 +336,7 @@ fn background_input(kernel: &mut Kernel, shell: &Shell) -> Result<Option<usize>,
     ensures state { (s : KernelState) → StandsAt kernel.old s → IfOk result (λ input.
         HasLaid kernel.new input (background_input (has_job_control shell.now) s shell.now)) }
     ensures terminal { kernel.new.terminal ≡ kernel.old.terminal }
+    ensures watch { kernel.new.watch ≡ kernel.old.watch }
 {
     if shell.has_job_control() {
         return Ok(None);
@@ -353,6 +355,7 @@ fn stage_input(
     ensures state { (s : KernelState) → StandsAt kernel.old s → IfOk result (λ input.
         HasLaid kernel.new input (stage_input launch.now before.now aside shell.now s)) }
     ensures terminal { kernel.new.terminal ≡ kernel.old.terminal }
+    ensures watch { kernel.new.watch ≡ kernel.old.watch }
 {
     match launch {
         Launch::Foreground(_) => Ok(aside),
@@ -414,6 +417,7 @@ fn stage_one(
         IsTurned kernel.new shell.new (Run.At r.0) r.1
         (inheriting ignores_failure (stage_one s shell.old command stages))) }
     ensures terminal { kernel.new.terminal.bytes ≡ kernel.old.terminal.bytes }
+    ensures watch { kernel.new.watch ≡ kernel.old.watch }
 {
     let mut stages = stages;
     let before = stages.children.as_slice();
@@ -531,6 +535,7 @@ fn stage_from(
         IsTurned kernel.new shell.new (Run.At r.0) r.1
         (inheriting ignores_failure (stage_from s shell.old stages stages.commands))) }
     ensures terminal { kernel.new.terminal.bytes ≡ kernel.old.terminal.bytes }
+    ensures watch { kernel.new.watch ≡ kernel.old.watch }
 {
     let mut stages = stages;
     let Some(command) = stages.commands.take() else {
@@ -553,6 +558,7 @@ pub(crate) fn stage_turn(
         IsTurned kernel.new shell.new (Run.At r.0) r.1
         (inheriting (is_failure_ignored frames.now) (stage_turn frames.now s shell.old stages))) }
     ensures terminal { kernel.new.terminal.bytes ≡ kernel.old.terminal.bytes }
+    ensures watch { kernel.new.watch ≡ kernel.old.watch }
 {
     let Stages {
         commands,
@@ -635,6 +641,7 @@ pub(crate) fn list_turn(
         IsTurned kernel.new shell.new (Run.At r.0) r.1
         (inheriting ignores_failure (list_turn s shell.old list))) }
     ensures terminal { kernel.new.terminal.bytes ≡ kernel.old.terminal.bytes }
+    ensures watch { kernel.new.watch ≡ kernel.old.watch }
 {
     let input = match background_input(kernel, shell) {
         Ok(input) => input,
@@ -751,6 +758,7 @@ fn fork_released(kernel: &mut Kernel, shell: &Shell) -> Result<Forked, NoMemory>
     ensures state { (s : KernelState) → StandsAt kernel.old s → IfOk result (λ made.
         HasForked kernel.new made.child made.aside (released_fork shell.now (fork_of s shell.now.pid None true))) }
     ensures terminal { kernel.new.terminal ≡ kernel.old.terminal }
+    ensures watch { kernel.new.watch ≡ kernel.old.watch }
 {
     let forked = fork_process(kernel, shell.pid, None, true)?;
     release(kernel, shell, forked.child);
@@ -773,6 +781,7 @@ pub(crate) fn substitute_turn(
         (inside frames.old (inheriting (is_failure_ignored frames.old)
         (substitute_turn s shell.now program wants pending)))) }
     ensures terminal { kernel.new.terminal ≡ kernel.old.terminal }
+    ensures watch { kernel.new.watch ≡ kernel.old.watch }
 {
     let forked = match fork_released(kernel, shell) {
         Ok(forked) => forked,

@@ -172,6 +172,7 @@ impl Interpreter {
         ensures state { (s : KernelState) → StandsAt kernel.old s → IfOk result (λ child.
             IsTurned kernel.new self.new.shell self.new.run child (shell_turn s self.old)) }
         ensures terminal { Extends kernel.old.terminal.bytes kernel.new.terminal.bytes }
+        ensures watch { kernel.new.watch ≡ kernel.old.watch }
     {
         let active = mem::replace(&mut self.active, Active::Done(CommandStatus::unexcused(0)));
         let active = drop_first(alloc, kernel, &mut self.shell, &mut self.frames, active)?;

@@ -81,6 +81,7 @@ fn expanded(
         (inside frames.old (inheriting (is_failure_ignored frames.old)
         (expanded_by s shell.now expanded)))) }
     ensures terminal { kernel.new.terminal ≡ kernel.old.terminal }
+    ensures watch { kernel.new.watch ≡ kernel.old.watch }
 {
     match expanded {
         Expanded::Need {
@@ -114,6 +115,7 @@ fn expand_place(
         (inside frames.old (inheriting (is_failure_ignored frames.old)
         (expansion s shell.old (expand_turn s.machine.files shell.old.vars shell.old.functions wants pending))))) }
     ensures terminal { kernel.new.terminal ≡ kernel.old.terminal }
+    ensures watch { kernel.new.watch ≡ kernel.old.watch }
 {
     let outcome = expand(
         alloc,
@@ -192,6 +194,7 @@ fn act_place(
         (inside frames.old (inheriting (is_failure_ignored frames.old)
         (act_place frames.old s shell.old place)))) }
     ensures terminal { Extends kernel.old.terminal.bytes kernel.new.terminal.bytes }
+    ensures watch { kernel.new.watch ≡ kernel.old.watch }
 {
     match place {
         Action::Reading(rest, status) => {
@@ -302,6 +305,7 @@ fn act_next(
         (inside frames.old (inheriting (is_failure_ignored frames.old)
         (act_behind frames.old s shell.old place (trap_before s shell.old place))))) }
     ensures terminal { Extends kernel.old.terminal.bytes kernel.new.terminal.bytes }
+    ensures watch { kernel.new.watch ≡ kernel.old.watch }
 {
     match trap_before(alloc, kernel, shell, &place) {
         Ok(Some(text)) => {
@@ -332,6 +336,7 @@ fn act(
         (inside frames.old (inheriting (is_failure_ignored frames.old)
         (act_at frames.old s shell.old active)))) }
     ensures terminal { Extends kernel.old.terminal.bytes kernel.new.terminal.bytes }
+    ensures watch { kernel.new.watch ≡ kernel.old.watch }
 {
     match active {
         Active::Next(place) => {
@@ -358,6 +363,7 @@ pub(crate) fn reduce(
         IsTurned kernel.new shell.new (run_of frames.new r.0) r.1
         (reduce s shell.old [] (run_of frames.old active))) }
     ensures terminal { Extends kernel.old.terminal.bytes kernel.new.terminal.bytes }
+    ensures watch { kernel.new.watch ≡ kernel.old.watch }
 {
     let (active, child) = act(alloc, kernel, shell, frames, active)?;
     match settle(alloc, kernel, shell, frames, active) {

@@ -224,6 +224,7 @@ pub fn input_turn(
         IsActed kernel.new shell.now (run_of frames.new active)
         (in_forms frames.old (input_turn s shell.now beginning))) }
     ensures terminal { kernel.new.terminal.bytes ≡ kernel.old.terminal.bytes }
+    ensures watch { kernel.new.watch ≡ kernel.old.watch }
 {
     let count = most_read(kernel, shell.pid);
     match take_bytes(alloc, kernel, shell.pid, DescriptorRef::Number(0), count) {

@@ -15,6 +15,7 @@ fn lend_terminal(kernel: &mut Kernel, is_foreground: bool, before: &[u32], child
     ensures state { (s : KernelState) → StandsAt kernel.old s
         → StandsAt kernel.new (given_terminal is_foreground before.now child s) }
     ensures terminal { kernel.new.terminal.bytes ≡ kernel.old.terminal.bytes }
+    ensures watch { kernel.new.watch ≡ kernel.old.watch }
 {
     if is_foreground && before.is_empty() {
         kernel.set_foreground(child);
@@ -26,6 +27,7 @@ fn put_in_group(kernel: &mut Kernel, is_foreground: bool, before: &[u32], child:
     ensures state { (s : KernelState) → StandsAt kernel.old s
         → StandsAt kernel.new (in_group is_foreground before.now child s) }
     ensures terminal { kernel.new.terminal.bytes ≡ kernel.old.terminal.bytes }
+    ensures watch { kernel.new.watch ≡ kernel.old.watch }
 {
     let group = before.first().copied().unwrap_or(child);
     kernel.set_group(child, group);
@@ -37,6 +39,7 @@ fn ignore_keys(kernel: &mut Kernel, pid: u32)
     ensures state { (s : KernelState) → StandsAt kernel.old s
         → StandsAt kernel.new (ignoring_keys s pid) }
     ensures terminal { kernel.new.terminal ≡ kernel.old.terminal }
+    ensures watch { kernel.new.watch ≡ kernel.old.watch }
 {
     kernel.set_action(pid, Signal::Interrupt, SignalAction::Ignored);
     kernel.set_action(pid, Signal::Quit, SignalAction::Ignored);
@@ -47,6 +50,7 @@ fn control(kernel: &mut Kernel, pid: u32, is_foreground: bool, before: &[u32], c
     ensures state { (s : KernelState) → StandsAt kernel.old s
         → StandsAt kernel.new (with_control pid is_foreground before.now child s) }
     ensures terminal { kernel.new.terminal.bytes ≡ kernel.old.terminal.bytes }
+    ensures watch { kernel.new.watch ≡ kernel.old.watch }
 {
     match child {
         Some(child) => put_in_group(kernel, is_foreground, before, child),
@@ -59,6 +63,7 @@ fn guard(kernel: &mut Kernel, is_foreground: bool, child: Option<u32>)
     ensures state { (s : KernelState) → StandsAt kernel.old s
         → StandsAt kernel.new (without_control is_foreground child s) }
     ensures terminal { kernel.new.terminal.bytes ≡ kernel.old.terminal.bytes }
+    ensures watch { kernel.new.watch ≡ kernel.old.watch }
 {
     if is_foreground {
         return;
@@ -73,6 +78,7 @@ pub fn release(kernel: &mut Kernel, shell: &Shell, child: Option<u32>)
     ensures state { (s : KernelState) → StandsAt kernel.old s
         → StandsAt kernel.new (released shell.now child s) }
     ensures terminal { kernel.new.terminal ≡ kernel.old.terminal }
+    ensures watch { kernel.new.watch ≡ kernel.old.watch }
 {
     if let Some(child) = child {
         release_own_signals(kernel, shell, child);
@@ -90,6 +96,7 @@ fn place(
     ensures state { (s : KernelState) → StandsAt kernel.old s
         → StandsAt kernel.new (behind_fork_by (has_job_control shell.now) shell.now.pid is_foreground before.now child s) }
     ensures terminal { kernel.new.terminal.bytes ≡ kernel.old.terminal.bytes }
+    ensures watch { kernel.new.watch ≡ kernel.old.watch }
 {
     if shell.has_job_control() {
         control(kernel, shell.pid, is_foreground, before, child);
@@ -110,6 +117,7 @@ pub fn settle_fork(
     ensures state { (s : KernelState) → StandsAt kernel.old s
         → StandsAt kernel.new (behind_fork shell.now is_foreground before.now child s) }
     ensures terminal { kernel.new.terminal.bytes ≡ kernel.old.terminal.bytes }
+    ensures watch { kernel.new.watch ≡ kernel.old.watch }
 {
     release(kernel, shell, child);
     place(kernel, shell, is_foreground, before, child);

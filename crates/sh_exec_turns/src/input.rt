@@ -36,6 +36,7 @@ fn collected(kernel: &mut Kernel, shell: &Shell, substitution: Substitution, asi
         → IsActed kernel.new shell.now (Run.At result)
         (after_collection s shell.now substitution aside) }
     ensures terminal { kernel.new.terminal.bytes ≡ kernel.old.terminal.bytes }
+    ensures watch { kernel.new.watch ≡ kernel.old.watch }
 {
     let _closed = kernel.close(shell.pid, DescriptorRef::Aside(aside));
     Active::Next(Action::WaitSubstitution(substitution))
@@ -63,6 +64,7 @@ fn collect_from(
         IsActed kernel.new shell.now (Run.At active)
         (collect_from s shell.now substitution aside)) }
     ensures terminal { kernel.new.terminal.bytes ≡ kernel.old.terminal.bytes }
+    ensures watch { kernel.new.watch ≡ kernel.old.watch }
 {
     match take_bytes(alloc, kernel, shell.pid, DescriptorRef::Aside(aside), READ) {
         Ok(ReadOutcome::Bytes(bytes)) => {
@@ -96,6 +98,7 @@ pub fn collect_turn(
     ensures state { (s : KernelState) → StandsAt kernel.old s → IfOk result (λ active.
         IsActed kernel.new shell.now (Run.At active) (collect_turn s shell.now substitution)) }
     ensures terminal { kernel.new.terminal.bytes ≡ kernel.old.terminal.bytes }
+    ensures watch { kernel.new.watch ≡ kernel.old.watch }
 {
     let Some(aside) = substitution.aside else {
         return Ok(Active::Next(Action::WaitSubstitution(substitution)));

@@ -29,6 +29,7 @@ pub fn write_turn(
     ensures state { (s : KernelState) → StandsAt kernel.old s → IfOk result (λ active.
         IsActed kernel.new shell.now (Run.At active) (write_turn s shell.now piece finish)) }
     ensures terminal { Extends kernel.old.terminal.bytes kernel.new.terminal.bytes }
+    ensures watch { kernel.new.watch ≡ kernel.old.watch }
 {
     let given = give_bytes(kernel, shell.pid, piece.descriptor, piece.bytes.as_slice())?;
     let active = after_write(alloc, piece, finish, given)?;
@@ -41,6 +42,7 @@ pub fn end_turn(kernel: &mut Kernel, shell: &Shell, status: u8) -> Result<Active
     ensures state { (s : KernelState) → StandsAt kernel.old s → IfOk result (λ active.
         IsActed kernel.new shell.now (Run.At active) (end_turn s shell.now status)) }
     ensures terminal { kernel.new.terminal.bytes ≡ kernel.old.terminal.bytes }
+    ensures watch { kernel.new.watch ≡ kernel.old.watch }
 {
     end_process(kernel, shell.pid, status)?;
     Ok(Active::Next(Action::Ending(status)))

@@ -86,6 +86,7 @@ fn redirect_one(
         IsActed kernel.new shell.now (run_of frames.new active)
         (in_forms frames.old (redirect_one s shell.now prepared redirection))) }
     ensures terminal { kernel.new.terminal ≡ kernel.old.terminal }
+    ensures watch { kernel.new.watch ≡ kernel.old.watch }
 {
     let kept = keeps(&prepared.role);
     match redirect(
@@ -123,6 +124,7 @@ pub fn redirect_turn(
         IsActed kernel.new shell.now (run_of frames.new active)
         (in_forms frames.old (redirect_turn s shell.now prepared))) }
     ensures terminal { kernel.new.terminal ≡ kernel.old.terminal }
+    ensures watch { kernel.new.watch ≡ kernel.old.watch }
 {
     let mut prepared = prepared;
     let Some(redirection) = prepared.redirections.take() else {

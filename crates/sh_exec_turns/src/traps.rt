@@ -237,6 +237,7 @@ pub fn interrupt(
         IsActed kernel.new shell.new (run_of frames.new active)
         (in_forms frames.old (interruption frames.old s shell.old place text))) }
     ensures terminal { kernel.new.terminal ≡ kernel.old.terminal }
+    ensures watch { kernel.new.watch ≡ kernel.old.watch }
 {
     let _taken = kernel.take_signal(shell.pid);
     set_status_before(shell, &place);

@@ -64,6 +64,20 @@ impl Files {
         })
     }
 
+    /// A copy, which is equal: the same nodes have the same numbers and are at the same paths, and from here on each
+    /// of the two changes alone. The only error is want of memory.
+    pub fn copy(&self) -> Result<Files, AllocError>
+        ensures { IfOk result (λ copy. copy ≡ self.now) }
+    {
+        let paths = self.paths.copy(self.alloc)?;
+        let nodes = copy_nodes(self.alloc, &self.nodes)?;
+        Ok(Files {
+            alloc: self.alloc,
+            paths,
+            nodes,
+        })
+    }
+
     /// The node of this number.
     pub fn node(&self, number: usize) -> Option<&Node>
         ensures { option_map (λ node. node.now) result ≡ slice_get self.now.nodes number }
@@ -329,6 +343,17 @@ impl Files {
         let found = self.find(directory, path)?;
         Ok(runs(found))
     }
+}
+
+/// Copies of these nodes, in order. The only error is want of memory.
+fn copy_nodes(alloc: Global, nodes: &[Node]) -> Result<Vec<Node>, AllocError>
+    ensures { IfOk result (λ copies. copies.items ≡ nodes.now) }
+{
+    let mut copies = Vec::with_capacity(alloc, nodes.len())?;
+    for node in nodes {
+        copies.push(node.copy(alloc)?)?;
+    }
+    Ok(copies)
 }
 
 /// Whether what was found may be run.

@@ -8,7 +8,7 @@ ghost use Rattle.sh_files_image.specs.Listing.{from};
 ghost use Rattle.sh_files_image.specs.Places.{IsPlace};
 
 use crate::entry::Entry;
-use std::alloc::AllocError;
+use std::alloc::{AllocError, Global};
 use std::marker::Model;
 
 /// Adjacent entries of a table, in the order of their paths.
@@ -31,6 +31,14 @@ impl Block {
         ensures { result ≡ entries.items }
     {
         Block { entries }
+    }
+
+    /// A copy, which is equal. The only error is want of memory.
+    pub(crate) fn copy(&self, alloc: Global) -> Result<Block, AllocError>
+        ensures { IfOk result (λ copy. copy ≡ self.now) }
+    {
+        let entries = copy_entries(alloc, &self.entries)?;
+        Ok(Block { entries })
     }
 
     /// Its entries, in the order of their paths' bytes.
@@ -121,4 +129,15 @@ fn place(entries: &[Entry], path: &[u8]) -> Result<usize, usize>
     ensures { IsPlace entries.now path.now result }
 {
     entries.binary_search_by(|entry| entry.path().cmp(path))
+}
+
+/// Copies of these entries, in order. The only error is want of memory.
+fn copy_entries(alloc: Global, entries: &[Entry]) -> Result<Vec<Entry>, AllocError>
+    ensures { IfOk result (λ copies. copies.items ≡ entries.now) }
+{
+    let mut copies = Vec::with_capacity(alloc, entries.len())?;
+    for entry in entries {
+        copies.push(entry.copy(alloc)?)?;
+    }
+    Ok(copies)
 }

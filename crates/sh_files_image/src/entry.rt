@@ -1,8 +1,9 @@
 // Paths with the numbers of their nodes.
-ghost use Rattle.std.specs.Prelude.{◌≡◌};
+ghost use Rattle.std.specs.Prelude.{◌≡◌, IfOk};
 ghost use Rattle.std.specs.Ordering.{is_gt, nat_cmp};
 ghost use Rattle.std.specs.Cmp.Lexicographic.{slice_cmp};
 
+use std::alloc::{AllocError, Global};
 use std::marker::Model;
 
 /// A path with the number of its node.
@@ -26,6 +27,17 @@ impl Entry {
         ensures { result ≡ (path.items, node) }
     {
         Entry { path, node }
+    }
+
+    /// A copy, which is equal. The only error is want of memory.
+    pub(crate) fn copy(&self, alloc: Global) -> Result<Entry, AllocError>
+        ensures { IfOk result (λ copy. copy ≡ self.now) }
+    {
+        let path = Vec::from_slice(alloc, &self.path)?;
+        Ok(Entry {
+            path,
+            node: self.node,
+        })
     }
 
     /// Its path, which begins with a slash.

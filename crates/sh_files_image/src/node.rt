@@ -1,5 +1,5 @@
 // Nodes.
-ghost use Rattle.std.specs.Prelude.{◌≡◌, ◌+◌, ◌≤◌, ◌^◌, ◌++◌, OnOk, OnErr, take, drop, length};
+ghost use Rattle.std.specs.Prelude.{◌≡◌, ◌+◌, ◌≤◌, ◌^◌, ◌++◌, IfOk, OnOk, OnErr, take, drop, length};
 ghost use Rattle.sh_files_image.specs.Contents.{content_after_write};
 
 use std::alloc::{AllocError, Global};
@@ -55,6 +55,17 @@ impl File {
         File { flags, bytes }
     }
 
+    /// A copy, which is equal. The only error is want of memory.
+    pub fn copy(&self, alloc: Global) -> Result<File, AllocError>
+        ensures { IfOk result (λ copy. copy ≡ self.now) }
+    {
+        let bytes = Vec::from_slice(alloc, &self.bytes)?;
+        Ok(File {
+            flags: self.flags,
+            bytes,
+        })
+    }
+
     /// What may be done with it.
     pub fn flags(&self) -> Flags
         ensures { result ≡ self.now.flags }
@@ -86,6 +97,20 @@ impl File {
         ensures { self.new ≡ record self.old { bytes = take length self.old.bytes } }
     {
         self.bytes.truncate(length);
+    }
+}
+
+impl Node {
+    /// A copy, which is equal. The only error is want of memory.
+    pub fn copy(&self, alloc: Global) -> Result<Node, AllocError>
+        ensures { IfOk result (λ copy. copy ≡ self.now) }
+    {
+        match self {
+            Node::Directory => Ok(Node::Directory),
+            Node::File(file) => Ok(Node::File(file.copy(alloc)?)),
+            Node::Null => Ok(Node::Null),
+            Node::Terminal => Ok(Node::Terminal),
+        }
     }
 }
 

@@ -55,6 +55,14 @@ impl Table {
         Ok(Table { blocks })
     }
 
+    /// A copy, which is equal. The only error is want of memory.
+    pub fn copy(&self, alloc: Global) -> Result<Table, AllocError>
+        ensures { IfOk result (λ copy. copy ≡ self.now) }
+    {
+        let blocks = copy_blocks(alloc, &self.blocks)?;
+        Ok(Table { blocks })
+    }
+
     /// The number of the node at this path.
     pub fn find(&self, path: &[u8]) -> Option<usize>
         ensures { result ≡ map.get self.now path.now }
@@ -111,6 +119,17 @@ fn add(entries: &mut Vec<Entry>, alloc: Global, path: &[u8], node: usize) -> Res
     let path = Vec::from_slice(alloc, path)?;
     entries.push(Entry::new(path, node))?;
     Ok(())
+}
+
+/// Copies of these blocks, in order. The only error is want of memory.
+fn copy_blocks(alloc: Global, blocks: &[Block]) -> Result<Vec<Block>, AllocError>
+    ensures { IfOk result (λ copies. copies.items ≡ blocks.now) }
+{
+    let mut copies = Vec::with_capacity(alloc, blocks.len())?;
+    for block in blocks {
+        copies.push(block.copy(alloc)?)?;
+    }
+    Ok(copies)
 }
 
 /// How many blocks start at a path or before it.

@@ -13,3 +13,4 @@ pub mod Extending
 pub mod Noting
 pub mod Ends
 pub mod Standing
+pub mod Watching

@@ -1,5 +1,5 @@
 -- What is kept after a signal, and after the end of a process, is that of the state then.
-use Rattle.std.proofs.Common.{◌≡◌, ℕ, List, map, filter, Option, sym, ap, subst, ◌∙◌}
+use Rattle.std.proofs.Common.{◌≡◌, ℕ, List, map, filter, false, Option, sym, ap, subst, ◌∙◌}
 use Rattle.sh_kernel_descriptors.specs.Machine.{MachineState}
 use Rattle.sh_kernel_processes.specs.declared.process.Process.{Process}
 use Rattle.sh_kernel_processes.specs.declared.process.Status.{Status}
@@ -16,7 +16,7 @@ use Rattle.sh_kernel.proofs.Ends.{end_changes_stopped}
 
 pub stands_after : (k : KernelKept) (machine : kept.MachineKept) (left : List Member) (changes : Changes) (s : KernelState) (t : List Member → ProcessTable) → StandsAt k s
     → kept.StandsAt machine (with_processes s.machine (t k.members).processes (pids_of k.members)) → left ≡ (t k.members).members → changes ≡ changed k.changes s.machine.processes machine.processes (pids_of k.members)
-    → StandsAt (record { machine = machine; members = left; terminal = k.terminal; changes = changes }) (with_table s (t s.members))
+    → StandsAt (record { machine = machine; members = left; terminal = k.terminal; changes = changes; watch = k.watch; is_current = false }) (with_table s (t s.members))
 stands_after k machine left changes s t st m l c =
     let m' : kept.StandsAt machine (with_processes s.machine (t s.members).processes (pids_of s.members)) = subst (λ (ms : List Member). kept.StandsAt machine (with_processes s.machine (t ms).processes (pids_of ms))) st.members m in
     let ps : machine.processes ≡ (t s.members).processes = m'.processes ∙ (endings s.machine (t s.members).processes (pids_of s.members)).processes in

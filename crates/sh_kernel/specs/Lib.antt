@@ -5,6 +5,7 @@ pub mod Access
 pub mod Calls
 pub mod Outcomes
 pub mod Turns
+pub mod Watching
 pub mod Requests
 pub mod Reaching
 pub mod Laws

@@ -1,6 +1,6 @@
 -- A kernel: its processes with what they have open, their groups and signals, when each last started, stopped or went on, its files, and
 -- its terminal.
-use Rattle.std.specs.Prelude.{◌≡◌, ℕ, List, [], ◌∷◌}
+use Rattle.std.specs.Prelude.{◌≡◌, ℕ, List, [], ◌∷◌, Bool}
 use Rattle.sh_files.specs.Nodes.{FileMap}
 use Rattle.sh_kernel_descriptors.specs.Machine.{MachineState}
 use Rattle.sh_kernel_descriptors.specs.Starting as machine
@@ -10,6 +10,7 @@ use Rattle.sh_kernel_machine.specs.Machine as kept
 use Rattle.sh_tty.specs.Happenings.{Happening}
 use Rattle.sh_tty.specs.Terminal as tty
 use Rattle.sh_kernel.specs.Changes.{Changes, no_changes}
+use Rattle.sh_kernel.specs.declared.watch.BlockedProcess.{BlockedProcess}
 
 -- the processes that live are members of groups; the terminal is the list of all that happened to it, the newest first; its foreground
 -- process group has a number
@@ -20,12 +21,20 @@ pub record KernelState : Type 0 where
   pub foreground : ℕ
   pub changes : Changes
 
+-- what was found of processes: these live, and these are blocked
+pub record WatchKept : Type 0 where
+  pub living : List ℕ
+  pub blocked : List BlockedProcess
+
 -- what a kernel keeps of its state
 pub record KernelKept : Type 0 where
   pub machine : kept.MachineKept
   pub members : List Member
   pub terminal : tty.TtyKept
   pub changes : Changes
+  pub watch : WatchKept
+  -- what was found of processes still holds
+  pub is_current : Bool
 
 -- what is kept is that of this state
 pub record StandsAt (k : KernelKept) (s : KernelState) : Type 0 where

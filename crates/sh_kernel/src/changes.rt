@@ -164,6 +164,17 @@ impl Changes {
         Ok(Changes { clock: 0, moments })
     }
 
+    /// The same moments once more. The only error is want of memory.
+    pub(crate) fn copy(&self, alloc: Global) -> Result<Self, AllocError>
+        ensures { IfOk result (λ copy. copy.changes ≡ self.now.changes) }
+    {
+        let moments = self.moments.as_slice().to_vec(alloc)?;
+        Ok(Changes {
+            clock: self.clock,
+            moments,
+        })
+    }
+
     /// The moment at which a process last started, stopped or went on; 0 for one that never was. Takes no memory.
     pub(crate) fn at(&self, pid: u32) -> u64
         ensures { result ≡ changed_at self.now.changes pid }

@@ -2,17 +2,20 @@
 ghost use Rattle.sh_base.specs.Memory.{no_memory};
 ghost use Rattle.std.specs.Prelude.{◌≡◌, ◌<◌, ◌∷◌, ◌&&◌, ℕ, List, IfErr, IfOk, OnErr, OnOk, length, not, vec_capacity, vec_len};
 ghost use Rattle.sh_kernel_descriptors.specs.Waiting.{waits};
-ghost use Rattle.sh_kernel.specs.Turns.{is_any_running};
+ghost use Rattle.sh_kernel.specs.Turns.{is_any_running, untraced_answer};
 ghost use Rattle.sh_kernel_signals.specs.Changes.{with_fork};
 ghost use Rattle.sh_tty.specs.Happenings.{Happening};
 ghost use Rattle.sh_tty.specs.Terminal as tty;
 ghost use Rattle.sh_tty.specs.Terminal.{Extends};
 
+mod copying;
 mod reading;
 mod signals;
+mod watching;
 
 use crate::changes::{Changes, stopped_of};
 use crate::next::Next;
+use crate::watch::Watch;
 use sh_base::NoMemory;
 use sh_files::{Files, Opening};
 use sh_kernel_descriptors::{DescriptorRef, Entry, KernelFault};
@@ -46,10 +49,16 @@ pub struct Kernel {
     terminal: Tty,
     /// When each process last started, stopped or went on.
     changes: Changes,
+    /// What was found of processes.
+    watch: Watch,
+    /// Nothing has happened since that may have changed what was found.
+    is_current: bool,
 }
 
 impl Model for Kernel {
-    ghost use Rattle.sh_kernel.specs.State.{KernelKept};
+    ghost use Rattle.std.specs.Prelude.{◌≡◌, true};
+    ghost use Rattle.sh_kernel.specs.State.{KernelKept, KernelState};
+    ghost use Rattle.sh_kernel.specs.Watching.{AgreesWith, Holds};
     ghost use Rattle.sh_files_image.specs.Codes.{map_code};
     ghost use Rattle.std.specs.Coded.{codes};
 
@@ -57,7 +66,9 @@ impl Model for Kernel {
 
     ghost coded = { Prim.hlevel (codes, map_code) };
 
-    ghost view = { λ k. record { machine = k.machine; members = k.members.items; terminal = k.terminal; changes = k.changes.changes } };
+    ghost view = { λ k. record { machine = k.machine; members = k.members.items; terminal = k.terminal; changes = k.changes.changes; watch = k.watch; is_current = k.is_current } };
+
+    ghost invariant = { λ k. k.is_current ≡ true → (s : KernelState) → AgreesWith k.machine k.members.items k.terminal s → Holds k.watch s };
 }
 
 /// Adds a process that another one makes to the group of that one.
@@ -89,12 +100,26 @@ fn is_any_running(processes: &[Process], awaited: &[u32]) -> bool
         .any(|child| is_running(status_at(processes, *child)))
 }
 
+/// Whether each of these children of a process has ended or is stopped.
+fn untraced_answer(processes: &[Process], pid: u32, awaited: &[u32]) -> Result<(), KernelFault>
+    ensures { result ≡ untraced_answer processes.now pid awaited.now }
+{
+    if !all_children(processes, pid, awaited) {
+        return Err(KernelFault::NoProcess);
+    }
+    if is_any_running(processes, awaited) {
+        return Err(KernelFault::WouldWait);
+    }
+    Ok(())
+}
+
 /// Writes to the terminal.
 #[tactic(auto, using(crate::proofs::Extending::unchanged, crate::proofs::Extending::longer))]
 fn show(terminal: &mut Tty, bytes: &[u8]) -> Result<usize, KernelFault>
     ensures stands { (hs : List Happening) → tty.StandsAt terminal.old hs
         → OnOk result (tty.StandsAt terminal.new (Happening.Wrote bytes.now ∷ hs)) }
     ensures foreground { terminal.new.foreground ≡ terminal.old.foreground }
+    ensures input { terminal.new.entries ≡ terminal.old.entries }
     ensures whole { IfOk result (λ count. count ≡ length bytes.now) }
     ensures memory { IfErr result (λ fault. fault ≡ KernelFault.NoMemory no_memory) }
     ensures unchanged { OnErr result (terminal.new ≡ terminal.old) }
@@ -114,7 +139,8 @@ impl Kernel {
     ghost use Rattle.sh_kernel_processes.specs.Processes.{parent_at, status_at};
     ghost use Rattle.sh_kernel_descriptors.specs.Terminals.{is_terminal};
     ghost use Rattle.sh_kernel.specs.Changes.{changed_at};
-    ghost use Rattle.sh_kernel.specs.Turns.{action_of, action_waits, can_do, untraced_answer};
+    ghost use Rattle.sh_kernel.specs.Turns.{action_of, action_waits, can_do};
+    ghost use Rattle.sh_kernel.specs.Watching.{AgreesWith};
     ghost use Rattle.sh_tty.specs.Happenings.{bytes_of};
     ghost use Rattle.sh_kernel.specs.State.{KernelState, StandsAt, starting};
     ghost use Rattle.sh_kernel_descriptors.specs.Outcomes.{LacksWhereGiven};
@@ -137,6 +163,8 @@ impl Kernel {
             members,
             terminal: Tty::new(alloc, FIRST_PID),
             changes,
+            watch: Watch::new(alloc),
+            is_current: false,
         })
     }
 
@@ -146,7 +174,9 @@ impl Kernel {
         ensures state { (s : KernelState) → StandsAt self.old s
             → Gives result self.new (close_call s pid name) }
         ensures terminal { self.new.terminal ≡ self.old.terminal }
+        ensures watch { self.new.watch ≡ self.old.watch }
     {
+        self.is_current = false;
         self.machine.close(pid, name)
     }
 
@@ -161,7 +191,9 @@ impl Kernel {
         ensures room { (s : KernelState) → StandsAt self.old s
             → LacksWhereGiven result (dup_call s pid name to) }
         ensures terminal { self.new.terminal ≡ self.old.terminal }
+        ensures watch { self.new.watch ≡ self.old.watch }
     {
+        self.is_current = false;
         self.machine.dup(pid, name, to)
     }
 
@@ -175,7 +207,9 @@ impl Kernel {
         ensures room { (s : KernelState) → StandsAt self.old s
             → LacksWhereGiven result (pipe_call s pid from to) }
         ensures terminal { self.new.terminal ≡ self.old.terminal }
+        ensures watch { self.new.watch ≡ self.old.watch }
     {
+        self.is_current = false;
         self.machine.pipe(pid, from, to)
     }
 
@@ -198,7 +232,9 @@ impl Kernel {
             → GivesOrLacks result self.new s
             (open_call s pid directory.now path.now how append number) }
         ensures terminal { self.new.terminal ≡ self.old.terminal }
+        ensures watch { self.new.watch ≡ self.old.watch }
     {
+        self.is_current = false;
         self.machine.open(pid, directory, path, how, append, number)
     }
 
@@ -213,7 +249,9 @@ impl Kernel {
         ensures room { (s : KernelState) → StandsAt self.old s
             → LacksWhereGiven result (here_call s pid bytes.now number) }
         ensures terminal { self.new.terminal ≡ self.old.terminal }
+        ensures watch { self.new.watch ≡ self.old.watch }
     {
+        self.is_current = false;
         self.machine.here_document(pid, bytes, number)
     }
 
@@ -225,7 +263,9 @@ impl Kernel {
         ensures state { (s : KernelState) → StandsAt self.old s
             → Gives result self.new (set_aside_call s pid number) }
         ensures terminal { self.new.terminal ≡ self.old.terminal }
+        ensures watch { self.new.watch ≡ self.old.watch }
     {
+        self.is_current = false;
         self.machine.set_aside(pid, number)
     }
 
@@ -237,7 +277,9 @@ impl Kernel {
         ensures state { (s : KernelState) → StandsAt self.old s
             → Gives result self.new (put_back_call s pid aside number) }
         ensures terminal { self.new.terminal ≡ self.old.terminal }
+        ensures watch { self.new.watch ≡ self.old.watch }
     {
+        self.is_current = false;
         self.machine.put_back(pid, aside, number)
     }
 
@@ -252,7 +294,9 @@ impl Kernel {
         ensures room { (s : KernelState) → StandsAt self.old s
             → LacksWhereGiven result (fork_call s pid) }
         ensures terminal { self.new.terminal ≡ self.old.terminal }
+        ensures watch { self.new.watch ≡ self.old.watch }
     {
+        self.is_current = false;
         if !self.machine.lives(pid) {
             return Err(KernelFault::NoProcess);
         }
@@ -275,7 +319,9 @@ impl Kernel {
         ensures err { (s : KernelState) → StandsAt self.old s
             → OnErr result (StandsAt self.new s) }
         ensures terminal { self.new.terminal ≡ self.old.terminal }
+        ensures watch { self.new.watch ≡ self.old.watch }
     {
+        self.is_current = false;
         let stopped = stopped_of(self.alloc, &self.machine, self.members.as_slice())?;
         self.machine.end(&mut self.members, pid, status)?;
         self.changes.note(&self.machine, stopped.as_slice());
@@ -293,6 +339,7 @@ impl Kernel {
         ensures room { (s : KernelState) → StandsAt self.old s
             → LacksWhereGiven result (end_call s pid status) }
         ensures terminal { self.new.terminal ≡ self.old.terminal }
+        ensures watch { self.new.watch ≡ self.old.watch }
     {
         if !self.machine.lives(pid) {
             return Err(KernelFault::NoProcess);
@@ -309,7 +356,9 @@ impl Kernel {
         ensures state { (s : KernelState) → StandsAt self.old s
             → Gives result self.new (start_call s pid) }
         ensures terminal { self.new.terminal ≡ self.old.terminal }
+        ensures watch { self.new.watch ≡ self.old.watch }
     {
+        self.is_current = false;
         if !self.machine.lives(pid) {
             return Err(KernelFault::NoProcess);
         }
@@ -342,7 +391,9 @@ impl Kernel {
         ensures room { (s : KernelState) → StandsAt self.old s
             → LacksWhereRaised result (raises_input s pid name) }
         ensures terminal { self.new.terminal.bytes ≡ self.old.terminal.bytes }
+        ensures watch { self.new.watch ≡ self.old.watch }
     {
+        self.is_current = false;
         match self.machine.read(pid, name, buf) {
             Some(given) => given,
             None => self.read_terminal(pid, buf),
@@ -363,11 +414,16 @@ impl Kernel {
         ensures room { (s : KernelState) → StandsAt self.old s
             → LacksWhereDone result (write_call s pid number bytes.now) }
         ensures terminal { Extends self.old.terminal.bytes self.new.terminal.bytes }
+        ensures watch { self.new.watch ≡ self.old.watch }
     {
-        match self.machine.write(pid, number, bytes) {
-            None => show(&mut self.terminal, bytes),
-            Some(Err(KernelFault::BrokenPipe)) => self.break_pipe(pid),
-            Some(given) => given,
+        let written = self.machine.write(pid, number, bytes);
+        let Some(written) = written else {
+            return show(&mut self.terminal, bytes);
+        };
+        self.is_current = false;
+        match written {
+            Err(KernelFault::BrokenPipe) => self.break_pipe(pid),
+            given => given,
         }
     }
 
@@ -388,14 +444,7 @@ impl Kernel {
         ensures { (s : KernelState) → StandsAt self.now s
             → result ≡ untraced_answer s.machine.processes pid awaited.now }
     {
-        let processes = self.machine.processes();
-        if !all_children(processes, pid, awaited) {
-            return Err(KernelFault::NoProcess);
-        }
-        if is_any_running(processes, awaited) {
-            return Err(KernelFault::WouldWait);
-        }
-        Ok(())
+        untraced_answer(self.machine.processes(), pid, awaited)
     }
 
     /// Whether a process runs, is stopped or has ended; `None` where no process ever had this number. Takes
@@ -468,7 +517,7 @@ impl Kernel {
 
     /// Whether a read would wait, and send no signal.
     fn read_waits(&self, pid: u32, name: DescriptorRef) -> bool
-        ensures { (s : KernelState) → StandsAt self.now s → (n : ℕ)
+        ensures { (s : KernelState) → AgreesWith self.now.machine self.now.members self.now.terminal s → (n : ℕ)
             → result ≡ (waits (read_call s pid name n).answer && not (raises_input s pid name)) }
     {
         match self.machine.read_waits(pid, name) {
@@ -479,7 +528,7 @@ impl Kernel {
 
     /// Whether a write of so many bytes would wait.
     fn write_waits(&self, pid: u32, number: u8, count: usize) -> bool
-        ensures { (s : KernelState) → StandsAt self.now s → (bytes : List ℕ) → length bytes ≡ count
+        ensures { (s : KernelState) → AgreesWith self.now.machine self.now.members self.now.terminal s → (bytes : List ℕ) → length bytes ≡ count
             → result ≡ waits (write_call s pid number bytes).answer }
     {
         match self.machine.write_waits(pid, number, count) {
@@ -490,25 +539,36 @@ impl Kernel {
 
     /// Whether what a process is about to do would wait.
     fn next_waits(&self, pid: u32, next: Next<'_>) -> bool
-        ensures { (s : KernelState) → StandsAt self.now s
+        ensures { (s : KernelState) → AgreesWith self.now.machine self.now.members self.now.terminal s
             → result ≡ action_waits s pid (action_of next.entry) }
     {
         match next {
             Next::Read(name) => self.read_waits(pid, name),
             Next::Write(number, count) => self.write_waits(pid, number, count),
-            Next::Wait(awaited) => waits(self.wait(pid, awaited)),
-            Next::WaitUntraced(awaited) => waits(self.wait_untraced(pid, awaited)),
+            Next::Wait(awaited) => waits(self.machine.wait(pid, awaited)),
+            Next::WaitUntraced(awaited) => {
+                waits(untraced_answer(self.machine.processes(), pid, awaited))
+            },
             Next::Other => false,
         }
     }
 
+    /// Whether a process runs, and what it is about to do would not wait.
+    #[tactic(auto, unfolding(crate::specs::Turns::can_do))]
+    fn can_move(&self, pid: u32, next: Next<'_>) -> bool
+        ensures { (s : KernelState) → AgreesWith self.now.machine self.now.members self.now.terminal s
+            → result ≡ can_do s pid (action_of next.entry) }
+    {
+        self.machine.is_running(pid) && !self.next_waits(pid, next)
+    }
+
     /// Whether a process can take a turn: it is neither stopped nor ended, and what it is about to do would not answer
     /// `WouldWait`, unless it is a read that sends SIGTTIN. Takes no memory.
-    #[tactic(auto, unfolding(crate::specs::Turns::can_do))]
+    #[tactic(auto, using(crate::proofs::Watching::agrees))]
     pub fn runnable(&self, pid: u32, next: Next<'_>) -> bool
         ensures { (s : KernelState) → StandsAt self.now s
             → result ≡ can_do s pid (action_of next.entry) }
     {
-        self.machine.is_running(pid) && !self.next_waits(pid, next)
+        self.can_move(pid, next)
     }
 }

@@ -6,6 +6,7 @@ mod changes;
 mod kernel;
 mod laws;
 mod next;
+mod watch;
 
 pub use kernel::Kernel;
 pub use laws::{
@@ -15,3 +16,4 @@ pub use laws::{
 pub use next::Next;
 pub use sh_kernel_descriptors::{CAPACITY, DescriptorRef, Entry, KernelFault, MAX_DESCRIPTORS};
 pub use sh_kernel_processes::{FIRST_PID, MAX_LIVE, MAX_PID, Status};
+pub use watch::{BlockedProcess, Cause};

@@ -42,6 +42,18 @@ impl Channel {
         })
     }
 
+    /// A pipe that holds the same bytes. The only error is want of memory; no later call takes any.
+    pub fn copy(&self, alloc: Global) -> Result<Self, AllocError>
+        ensures { IfOk result (λ copy. copy ≡ self.now) }
+    {
+        let pipe = self.pipe.copy(alloc)?;
+        Ok(Channel {
+            pipe,
+            held: self.held,
+            capacity: self.capacity,
+        })
+    }
+
     /// The pipe.
     pub fn pipe(&self) -> &Pipe
         ensures { result.now ≡ self.now }
@@ -90,5 +102,13 @@ impl Channel {
             return free < count;
         }
         free == 0
+    }
+}
+
+impl Clone for Channel {
+    ghost is_clone = { λ channel copy. copy ≡ channel };
+
+    fn clone(&self) -> Result<Self, AllocError> {
+        self.copy(*self.pipe.ring().allocator())
     }
 }

@@ -6,3 +6,4 @@ pub mod Owning
 pub mod Tabling
 pub mod Standing
 pub mod Ending
+pub mod Copying

@@ -1,5 +1,6 @@
 //! The machine under the processes of a kernel.
 mod asking;
+mod copying;
 mod processes;
 
 ghost use Rattle.sh_base.specs.Memory.{no_memory};
@@ -329,6 +330,7 @@ impl Machine {
             × GivesOrLacks given self.new s (write_call s pid number bytes.now)) }
         ensures room { (s : MachineState) → StandsAt self.old s
             → IfSome result (λ given. LacksWhereGiven given (write_call s pid number bytes.now)) }
+        ensures unchanged { IfNone result (self.new ≡ self.old) }
     {
         let Some(h) = self.look(pid, DescriptorRef::Number(number)) else {
             return Some(Err(KernelFault::BadDescriptor));

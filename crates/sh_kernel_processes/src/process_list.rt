@@ -54,6 +54,17 @@ impl ProcessList {
         Ok(ProcessList { all, living: 1 })
     }
 
+    /// The same processes once more. The only error is want of memory.
+    pub fn copy(&self, alloc: Global) -> Result<Self, AllocError>
+        ensures { IfOk result (λ copy. copy.all ≡ self.now.all) }
+    {
+        let all = self.all.as_slice().to_vec(alloc)?;
+        Ok(ProcessList {
+            all,
+            living: self.living,
+        })
+    }
+
     /// The processes, lent. Takes no memory.
     pub fn as_slice(&self) -> &[Process]
         ensures { result.now ≡ self.now.all }

@@ -1,7 +1,7 @@
 //! One pipe: a list of bytes with a capacity, kept in a ring. Only making it takes memory.
 #![tactic(auto)]
 
-ghost use Rattle.std.specs.Prelude.{◌≡◌, [], IfOk, length};
+ghost use Rattle.std.specs.Prelude.{◌≡◌, ◌+◌, ◌++◌, ◌≤◌, [], IfOk, length};
 ghost use Rattle.sh_pipe.specs.Pipe.{write_result, after_write, read_result, after_read, read_buffer};
 
 use circular_buffer::HeapCircularBuffer;
@@ -40,6 +40,15 @@ impl Model for Pipe {
     ghost invariant = { λ p. length p.ring.items ≤ p.ring.capacity };
 }
 
+/// Puts bytes that fit behind those of a ring.
+fn append(ring: &mut HeapCircularBuffer<u8>, bytes: &[u8])
+    requires { length ring.old.items + length bytes.now ≤ ring.old.capacity }
+    ensures items { ring.new.items ≡ ring.old.items ++ bytes.now }
+    ensures capacity { ring.new.capacity ≡ ring.old.capacity }
+{
+    ring.fill_from_slice(bytes);
+}
+
 impl Pipe {
     /// An empty pipe with room for `capacity` bytes, all of which is taken now: no later call takes memory.
     /// In a pipe of less than `PIPE_BUF` bytes a write of at most `PIPE_BUF` bytes that is longer than the
@@ -48,6 +57,17 @@ impl Pipe {
         ensures { IfOk result (λ p. p ≡ record { bytes = []; capacity = capacity }) }
     {
         let ring = HeapCircularBuffer::with_capacity(alloc, capacity)?;
+        Ok(Pipe { ring })
+    }
+
+    /// A pipe with the same bytes and the same capacity. The one error is want of memory.
+    pub fn copy(&self, alloc: Global) -> Result<Self, AllocError>
+        ensures { IfOk result (λ copy. copy ≡ self.now) }
+    {
+        let mut ring = HeapCircularBuffer::with_capacity(alloc, self.ring.capacity())?;
+        let (front, back) = self.ring.as_slices();
+        append(&mut ring, front);
+        append(&mut ring, back);
         Ok(Pipe { ring })
     }
 

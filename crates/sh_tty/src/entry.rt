@@ -1,7 +1,8 @@
 //! Input that was handed over.
-ghost use Rattle.std.specs.Prelude.{◌≡◌, ◌≤◌, MatchOption, drop, length, option_map, take};
+ghost use Rattle.std.specs.Prelude.{◌≡◌, ◌≤◌, IfOk, MatchOption, drop, length, option_map, take};
 ghost use Rattle.sh_tty.specs.Keys.{read_of, entries_after_read};
 
+use std::alloc::{AllocError, Global};
 use std::collections::VecDeque;
 use std::marker::Model;
 
@@ -25,6 +26,14 @@ impl Line {
         ensures { result ≡ bytes.items }
     {
         Line { bytes }
+    }
+
+    /// A copy, which is equal. The only error is want of memory.
+    fn copy(&self, alloc: Global) -> Result<Line, AllocError>
+        ensures { IfOk result (λ copy. copy ≡ self.now) }
+    {
+        let bytes = Vec::from_slice(alloc, &self.bytes)?;
+        Ok(Line { bytes })
     }
 
     /// Its bytes.
@@ -52,6 +61,32 @@ pub enum Entry {
     Line(Line),
     /// An end of file.
     EndOfFile,
+}
+
+impl Entry {
+    /// A copy, which is equal. The only error is want of memory.
+    fn copy(&self, alloc: Global) -> Result<Entry, AllocError>
+        ensures { IfOk result (λ copy. copy ≡ self.now) }
+    {
+        match self {
+            Entry::Line(line) => Ok(Entry::Line(line.copy(alloc)?)),
+            Entry::EndOfFile => Ok(Entry::EndOfFile),
+        }
+    }
+}
+
+/// Copies of these entries, in order. The only error is want of memory.
+pub(crate) fn copy_entries(
+    alloc: Global,
+    entries: &VecDeque<Entry>,
+) -> Result<VecDeque<Entry>, AllocError>
+    ensures { IfOk result (λ copies. copies.items ≡ entries.now.items) }
+{
+    let mut copies = VecDeque::with_capacity(alloc, entries.len())?;
+    for entry in entries {
+        copies.push_back(entry.copy(alloc)?)?;
+    }
+    Ok(copies)
 }
 
 /// Copies what a read gets from the first entry into the front of a buffer, and says how many bytes these

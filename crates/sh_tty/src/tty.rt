@@ -6,7 +6,7 @@ ghost use Rattle.sh_tty.specs.Keys.{echo, key_of, read_of, signal_of};
 ghost use Rattle.sh_tty.specs.Terminal.{Extends, StandsAt, kept_entries, kept_line};
 ghost use Rattle.sh_tty.specs.declared.tty.TtyFault.TheVariants as fault;
 
-use crate::entry::{Entry, Line, copy_first, take_first};
+use crate::entry::{Entry, Line, copy_entries, copy_first, take_first};
 use crate::key::{Key, SignalKey};
 use sh_base::NoMemory;
 use sh_signal::Signal;
@@ -213,6 +213,23 @@ impl Tty {
         }
     }
 
+    /// A copy, which is equal: it has the same bytes, unread input, line that is being typed and foreground process
+    /// group, and from here on each of the two changes alone. The only error is want of memory.
+    pub fn copy(&self) -> Result<Tty, AllocError>
+        ensures { IfOk result (λ copy. copy ≡ self.now) }
+    {
+        let bytes = Vec::from_slice(self.alloc, &self.bytes)?;
+        let entries = copy_entries(self.alloc, &self.entries)?;
+        let line = Vec::from_slice(self.alloc, &self.line)?;
+        Ok(Tty {
+            alloc: self.alloc,
+            bytes,
+            entries,
+            line,
+            foreground: self.foreground,
+        })
+    }
+
     /// A key is typed. The answer is the signal that the key raises for the foreground group: 03, 1c and 1a
     /// (hexadecimal) raise one, throw unread input away, and are echoed as `^C`, `^\` and `^Z`, each with a
     /// newline. Newline ends the line; 04 hands over the line so far, or an end of file where that is empty;
@@ -266,6 +283,7 @@ impl Tty {
         ensures stands { (hs : List Happening) → StandsAt self.old hs
             → OnOk result (StandsAt self.new (Happening.Wrote bytes.now ∷ hs)) }
         ensures terminal { OnOk result (self.new.bytes ≡ self.old.bytes ++ bytes.now) }
+        ensures input { self.new.entries ≡ self.old.entries }
         ensures foreground { self.new.foreground ≡ self.old.foreground }
         ensures unchanged { OnErr result (self.new ≡ self.old) }
         ensures fault { IfErr result (λ fault. fault ≡ TtyFault.NoMemory no_memory) }

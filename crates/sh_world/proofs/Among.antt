@@ -6,9 +6,8 @@ use Rattle.sh_exec.specs.Turns.{IsTurned, turn}
 use Rattle.sh_exec.specs.declared.task.Task.{Task}
 use Rattle.sh_kernel.specs.State.{KernelKept, KernelState, StandsAt}
 use Rattle.sh_stock.specs.Asking.{Meaning}
-use Rattle.sh_exec.specs.State.{State, after_turn}
 use Rattle.sh_exec.specs.Processes.{HaveTurned, TasksTurned, behind, living, place_of, turn_among, turned_first, with_child}
-use Rattle.sh_world.specs.World.{PartsStand}
+use Rattle.sh_world.specs.Awake.{HasTurnedTo}
 
 -- what a turn leaves of the process at a place
 abbrev pub turned_at : {S : Type 0} → Meaning S → KernelState → ℕ → List (Task S) → ℕ → Task S → TasksTurned S
@@ -67,19 +66,13 @@ pub written_back : {A : Type 0} (new rest : List A) (n : ℕ) → length new ≡
 written_back new rest n e = subst (λ k. take k (new ++ rest) ≡ new) e (take-append_seam new rest)
 
 -- the processes that live after a turn, with the one that it made
-pub turn_parts : {S : Type 0} (m : Meaning S) (s : State S) (old kernel : KernelKept) (tasks slice turned put left : List (Task S)) (last : Option ℕ) (pid : ℕ) (made : Option (Task S))
-    → PartsStand old tasks last s → slice ≡ tasks
-    → (StandsAt old s.machine → HaveTurned kernel turned made (turn_among m s.machine pid slice))
-    → put ≡ with_child turned made
-    → ((t : KernelState) → StandsAt kernel t → left ≡ living t put)
-    → PartsStand kernel left (Some pid) (after_turn m s pid)
-turn_parts m s old kernel tasks slice turned put left last pid made h same turns puts keeps =
-    let t = turn_among m s.machine pid s.tasks in
-    let got = subst (λ these. HaveTurned kernel turned made (turn_among m s.machine pid these)) (same ∙ h.tasks_are) (turns h.machine) in
+pub turned_to : {S : Type 0} (m : Meaning S) (s : KernelState) (kernel : KernelKept) (tasks slice turned put left : List (Task S)) (pid : ℕ) (made : Option (Task S)) → slice ≡ tasks
+    → HaveTurned kernel turned made (turn_among m s pid slice) → put ≡ with_child turned made → ((t : KernelState) → StandsAt kernel t → left ≡ living t put)
+    → HasTurnedTo m s pid tasks kernel left
+turned_to m s kernel tasks slice turned put left pid made same turns puts keeps =
+    let t = turn_among m s pid tasks in
+    let got = subst (λ these. HaveTurned kernel turned made (turn_among m s pid these)) same turns in
     record {
-      machine = got.state;
-      tasks_are =
-          keeps t.machine got.state
-          ∙ ap (living t.machine) (puts ∙ ap (λ these. with_child these made) got.tasks_are ∙ ap (with_child t.tasks) got.child);
-      last_is = refl;
+      state = got.state;
+      tasks_are = keeps t.machine got.state ∙ ap (living t.machine) (puts ∙ ap (λ these. with_child these made) got.tasks_are ∙ ap (with_child t.tasks) got.child);
     }

@@ -1,1 +1,3 @@
 pub mod World
+pub mod Watching
+pub mod Awake

@@ -1,8 +1,10 @@
 //! Worlds: a world stands at a state of the shell machine, an event takes it to the next, and what it shows is what the state shows.
 #![tactic(auto)]
 
+mod awake;
 mod choice;
 mod tasks;
+mod turns;
 mod world;
 
 pub use sh_exec::{Event, Settings, Source, Task, TurnAction};

@@ -4,6 +4,7 @@ ghost use Rattle.sh_kernel.specs.State.{KernelState, StandsAt};
 ghost use Rattle.sh_kernel_processes.specs.Processes.{lives};
 ghost use Rattle.sh_tty.specs.Terminal.{Extends};
 ghost use Rattle.sh_exec.specs.Actions.{action_of};
+ghost use Rattle.sh_world.specs.Awake.{IsChangedAt};
 ghost use Rattle.sh_exec.specs.Tasks.{pid_of};
 ghost use Rattle.sh_kernel.specs.Turns.{can_do};
 ghost use Rattle.sh_exec.specs.Processes.{HaveTurned, living, pid_before, place_of, runnable_pids, turn_among, with_child};
@@ -50,6 +51,28 @@ fn place_of<S: Stock>(pid: u32, tasks: &[Task<S>]) -> usize
     place
 }
 
+/// A turn of the process of this pid, before which there are so many others.
+pub(crate) fn turn_at<S: Stock>(
+    alloc: Global,
+    kernel: &mut Kernel,
+    pid: u32,
+    place: usize,
+    tasks: &mut [Task<S>],
+) -> Result<Option<Task<S>>, NoMemory>
+    requires { place_of pid tasks.old ≡ place }
+    ensures state { (s : KernelState) → StandsAt kernel.old s → IfOk result (λ child.
+        HaveTurned kernel.new tasks.new child (turn_among S.meaning s pid tasks.old)) }
+    ensures terminal { Extends kernel.old.terminal.bytes kernel.new.terminal.bytes }
+    ensures watch { kernel.new.watch ≡ kernel.old.watch }
+    ensures others { IsChangedAt place tasks.old tasks.new }
+{
+    if place >= tasks.len() {
+        return Ok(None);
+    }
+    let child = tasks[place].turn(alloc, kernel)?;
+    Ok(child)
+}
+
 /// A turn of the process of this pid.
 pub(crate) fn turn_among<S: Stock>(
     alloc: Global,
@@ -62,10 +85,7 @@ pub(crate) fn turn_among<S: Stock>(
     ensures terminal { Extends kernel.old.terminal.bytes kernel.new.terminal.bytes }
 {
     let place = place_of(pid, tasks);
-    if place >= tasks.len() {
-        return Ok(None);
-    }
-    let child = tasks[place].turn(alloc, kernel)?;
+    let child = turn_at(alloc, kernel, pid, place, tasks)?;
     Ok(child)
 }
 

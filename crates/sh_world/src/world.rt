@@ -1,17 +1,22 @@
 //! A world: processes over a kernel, moved by events.
-ghost use Rattle.std.specs.Prelude.{◌≡◌, ℕ, ◌<◌, List, false, OnOk, OnErr, IsErr, IfOk, Option, Some, None, length, take, option_copied, option_map};
+ghost use Rattle.std.specs.Prelude.{◌≡◌, ℕ, ◌<◌, List, false, true, OnOk, OnErr, IsErr, IfOk, Option, Some, None, length, take, option_copied, option_map};
 ghost use Rattle.sh_kernel.specs.State.{KernelState, StandsAt, starting};
 ghost use Rattle.sh_tty.specs.Terminal.{Extends};
 ghost use Rattle.std.specs.Option.{option_and_then, option_map_or, unwrap_or};
 ghost use Rattle.sh_exec.specs.Choice.{choice};
 ghost use Rattle.sh_exec.specs.TurnActions.{drops, takes_trap};
+ghost use Rattle.sh_world.specs.Watching.{IsWatched};
 ghost use Rattle.sh_world.specs.World.{IsSpent, PartsStand, WorldKept, WorldStands, shown_of};
 ghost use Rattle.sh_exec.specs.Tasks.{first_jobs, with_signals_of};
 ghost use Rattle.sh_jobs.specs.Moments.{brought_up};
 ghost use Rattle.sh_exec.specs.State.{State, after_turn, chosen_turn, end_of, ended_of, files_of, job_lines_of, jobs_of, lines_of, run, runnables, start, start_of, status_of, step, task_of, terminal_of, turn_of, typed};
 
+mod copying;
+
+use crate::awake::{Awake, look_again, movable_pids};
 use crate::choice::choose;
-use crate::tasks::{is_living, keep_living, put_child, runnable_pids, task_among, turn_among};
+use crate::tasks::{is_living, keep_living, runnable_pids, task_among};
+use crate::turns::turn;
 use sh_base::NoMemory;
 use sh_base::sequence::Text;
 use sh_builtin_jobs::job_lines;
@@ -35,11 +40,14 @@ pub struct World<S: Stock> {
     no_jobs: Jobs,
     last: Option<u32>,
     shown: usize,
+    /// Which processes may take a turn.
+    awake: Awake,
     lack: Option<NoMemory>,
 }
 
 impl<S: Stock> Model for World<S> {
-    ghost use Rattle.std.specs.Prelude.{◌≤◌, is_some, length};
+    ghost use Rattle.std.specs.Prelude.{◌≡◌, ◌≤◌, is_some, length, true};
+    ghost use Rattle.sh_world.specs.Watching.{IsWatched};
     ghost use Rattle.std.specs.Coded.{codes};
     ghost use Rattle.sh_files_image.specs.Codes as paths;
     ghost use Rattle.sh_vars.specs.Codes as variables;
@@ -54,7 +62,8 @@ impl<S: Stock> Model for World<S> {
 
     ghost view = { λ w. record { kernel = w.kernel; tasks = w.tasks.items; no_jobs = w.no_jobs; last = w.last; shown = w.shown; spent = is_some w.lack } };
 
-    ghost invariant = { λ w. w.shown ≤ length w.kernel.terminal.bytes };
+    ghost invariant = { λ w. (w.shown ≤ length w.kernel.terminal.bytes)
+        × (w.awake.is_known ≡ true → IsWatched w.kernel.watch w.tasks.items w.awake.places.items) };
 }
 
 /// The processes that can take a turn: none once the first shell has ended.
@@ -87,42 +96,32 @@ fn chosen_by<S: Stock>(
     Ok(choose(event, last, pids.as_slice()))
 }
 
-/// A turn of a process.
-fn turn<S: Stock>(
-    alloc: Global,
-    kernel: &mut Kernel,
-    tasks: &mut Vec<Task<S>>,
-    last: &mut Option<u32>,
-    pid: u32,
-) -> Result<(), NoMemory>
-    ensures turned { (s : State S) → PartsStand kernel.old tasks.old.items last.old s
-        → OnOk result
-        (PartsStand kernel.new tasks.new.items last.new (after_turn S.meaning s pid)) }
-    ensures extends { Extends kernel.old.terminal.bytes kernel.new.terminal.bytes }
-{
-    let child = turn_among(alloc, kernel, pid, tasks.as_mut_slice())?;
-    put_child(tasks, child)?;
-    keep_living(kernel, tasks);
-    *last = Some(pid);
-    Ok(())
-}
-
-/// The turn of the process that an event chooses.
+/// A turn of the process that an event chooses.
 fn chosen_turn<S: Stock>(
     alloc: Global,
     event: Event,
     kernel: &mut Kernel,
     tasks: &mut Vec<Task<S>>,
     last: &mut Option<u32>,
+    awake: &mut Awake,
 ) -> Result<(), NoMemory>
+    requires { awake.old.is_known ≡ true → IsWatched kernel.old.watch tasks.old.items awake.old.places.items }
     ensures step { (s : State S) → PartsStand kernel.old tasks.old.items last.old s
         → OnOk result (PartsStand kernel.new tasks.new.items last.new (chosen_turn S.meaning s event)) }
+    ensures known { awake.new.is_known ≡ true → IsWatched kernel.new.watch tasks.new.items awake.new.places.items }
     ensures extends { Extends kernel.old.terminal.bytes kernel.new.terminal.bytes }
 {
-    let Some(pid) = chosen_by(alloc, event, kernel, tasks.as_slice(), *last)? else {
+    let is_over = !is_living(kernel, FIRST_PID);
+    if is_over {
+        return Ok(());
+    }
+    look_again(kernel, tasks.as_slice(), awake)?;
+    let pids = movable_pids(alloc, kernel, tasks.as_slice(), awake)?;
+    let Some(pid) = choose(event, *last, pids.as_slice()) else {
         return Ok(());
     };
-    turn(alloc, kernel, tasks, last, pid)?;
+    turn(alloc, kernel, tasks, awake, pid)?;
+    *last = Some(pid);
     Ok(())
 }
 
@@ -146,15 +145,21 @@ fn happen<S: Stock>(
     kernel: &mut Kernel,
     tasks: &mut Vec<Task<S>>,
     last: &mut Option<u32>,
+    awake: &mut Awake,
 ) -> Result<(), NoMemory>
+    requires { awake.old.is_known ≡ true → IsWatched kernel.old.watch tasks.old.items awake.old.places.items }
     ensures step { (s : State S) → PartsStand kernel.old tasks.old.items last.old s
         → OnOk result (PartsStand kernel.new tasks.new.items last.new (step S.meaning s event)) }
+    ensures known { awake.new.is_known ≡ true → IsWatched kernel.new.watch tasks.new.items awake.new.places.items }
     ensures extends { Extends kernel.old.terminal.bytes kernel.new.terminal.bytes }
 {
     match event {
-        Event::Run(place) => chosen_turn(alloc, Event::Run(place), kernel, tasks, last),
-        Event::Next => chosen_turn(alloc, Event::Next, kernel, tasks, last),
-        Event::Key(byte) => press(kernel, tasks, byte),
+        Event::Run(place) => chosen_turn(alloc, Event::Run(place), kernel, tasks, last, awake),
+        Event::Next => chosen_turn(alloc, Event::Next, kernel, tasks, last, awake),
+        Event::Key(byte) => {
+            awake.is_known = false;
+            press(kernel, tasks, byte)
+        },
     }
 }
 
@@ -226,6 +231,7 @@ impl<S: Stock> World<S> {
             no_jobs: Jobs::new(alloc),
             last: None,
             shown,
+            awake: Awake::new(alloc),
             lack: None,
         })
     }
@@ -268,6 +274,7 @@ impl<S: Stock> World<S> {
             &mut self.kernel,
             &mut self.tasks,
             &mut self.last,
+            &mut self.awake,
         );
         match happened {
             Ok(()) => self.shown = self.kernel.terminal().len(),

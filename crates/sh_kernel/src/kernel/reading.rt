@@ -13,12 +13,13 @@ impl Kernel {
     ghost use Rattle.sh_kernel_descriptors.specs.Waiting.{waits};
     ghost use Rattle.sh_kernel.specs.Calls.{access, background_read, read_by};
     ghost use Rattle.sh_kernel.specs.Outcomes.{GivesOrLacks, GivesReadOrLacks, LacksWhereRaised};
-    ghost use Rattle.sh_kernel.specs.Access.{is_raising};
+    ghost use Rattle.sh_kernel.specs.Access.{access_of, is_raising};
+    ghost use Rattle.sh_kernel.specs.Watching.{AgreesWith};
     ghost use Rattle.sh_kernel.specs.State.{KernelState, StandsAt};
 
     /// What the terminal does where a process reads from it.
     fn access(&self, pid: u32) -> Access
-        ensures { (s : KernelState) → StandsAt self.now s → result ≡ access s pid }
+        ensures { result ≡ access_of (record { processes = self.now.machine.processes; members = self.now.members }) self.now.terminal.foreground pid }
     {
         access_of(
             self.machine.processes(),
@@ -33,6 +34,7 @@ impl Kernel {
         ensures state { (s : KernelState) → StandsAt self.old s
             → GivesOrLacks result self.new s (background_read s group) }
         ensures terminal { self.new.terminal ≡ self.old.terminal }
+        ensures watch { self.new.watch ≡ self.old.watch }
     {
         let to = SignalTarget::Group(group);
         match self.send(&to, Signal::TerminalInput) {
@@ -47,7 +49,9 @@ impl Kernel {
         ensures state { (s : KernelState) → StandsAt self.old s
             → GivesReadOrLacks result buf.old buf.new self.new s (read_by s (length buf.old) Access.Granted) }
         ensures terminal { self.new.terminal.bytes ≡ self.old.terminal.bytes }
+        ensures watch { self.new.watch ≡ self.old.watch }
     {
+        self.is_current = false;
         match self.terminal.read(buf) {
             Ok(count) => Ok(count),
             Err(TtyFault::WouldWait) => Err(KernelFault::WouldWait),
@@ -62,6 +66,7 @@ impl Kernel {
         ensures room { (s : KernelState) → StandsAt self.old s
             → LacksWhereRaised result (is_raising (access s pid)) }
         ensures terminal { self.new.terminal.bytes ≡ self.old.terminal.bytes }
+        ensures watch { self.new.watch ≡ self.old.watch }
     {
         match self.access(pid) {
             Access::Granted => self.take_input(buf),
@@ -72,7 +77,7 @@ impl Kernel {
 
     /// Whether a read from the terminal would wait, and send no signal.
     pub(super) fn terminal_waits(&self, pid: u32) -> bool
-        ensures { (s : KernelState) → StandsAt self.now s → (n : ℕ)
+        ensures { (s : KernelState) → AgreesWith self.now.machine self.now.members self.now.terminal s → (n : ℕ)
             → result ≡ (waits (read_by s n (access s pid)).answer && not (is_raising (access s pid))) }
     {
         match self.access(pid) {

@@ -54,6 +54,7 @@ impl Kernel {
         ensures err { (s : KernelState) → StandsAt self.old s
             → OnErr result (StandsAt self.new s) }
         ensures terminal { self.new.terminal ≡ self.old.terminal }
+        ensures watch { self.new.watch ≡ self.old.watch }
     {
         let (pids, at_risk) = self.machine.prepare(self.members.as_slice())?;
         let before = statuses_of(self.alloc, &self.machine, pids.as_slice())?;
@@ -82,7 +83,9 @@ impl Kernel {
         ensures state { (s : KernelState) → StandsAt self.old s
             → StandsAt self.new (after_signal s to.now signal) }
         ensures terminal { self.new.terminal ≡ self.old.terminal }
+        ensures watch { self.new.watch ≡ self.old.watch }
     {
+        self.is_current = false;
         self.machine
             .send(&mut self.members, to, signal, pids, at_risk);
         self.changes.note(&self.machine, before);
@@ -97,7 +100,9 @@ impl Kernel {
         ensures err { (s : KernelState) → StandsAt self.old s
             → OnErr result (StandsAt self.new s) }
         ensures terminal { Extends self.old.terminal.bytes self.new.terminal.bytes }
+        ensures watch { self.new.watch ≡ self.old.watch }
     {
+        self.is_current = false;
         let (pids, at_risk) = self.machine.prepare(self.members.as_slice())?;
         let before = statuses_of(self.alloc, &self.machine, pids.as_slice())?;
         let raised = type_key(&mut self.terminal, byte)?;
@@ -124,6 +129,7 @@ impl Kernel {
         ensures state { (s : KernelState) → StandsAt self.old s
             → StandsAt self.new (after_raising s raised) }
         ensures terminal { self.new.terminal ≡ self.old.terminal }
+        ensures watch { self.new.watch ≡ self.old.watch }
     {
         let Some(signal) = raised else {
             return;
@@ -137,6 +143,7 @@ impl Kernel {
         ensures state { (s : KernelState) → StandsAt self.old s
             → GivesOrLacks result self.new s (broken_pipe s pid) }
         ensures terminal { self.new.terminal ≡ self.old.terminal }
+        ensures watch { self.new.watch ≡ self.old.watch }
     {
         let to = SignalTarget::Process(pid);
         match self.send(&to, Signal::Pipe) {
@@ -156,6 +163,7 @@ impl Kernel {
         ensures room { (s : KernelState) → StandsAt self.old s
             → LacksWhereGiven result (kill_call s to.now signal) }
         ensures terminal { self.new.terminal ≡ self.old.terminal }
+        ensures watch { self.new.watch ≡ self.old.watch }
     {
         if !self.is_any_reached(to) {
             return Err(KernelFault::NoProcess);
@@ -179,7 +187,9 @@ impl Kernel {
         ensures state { (s : KernelState) → StandsAt self.old s
             → StandsAt self.new (after_set_action s pid signal action) }
         ensures terminal { self.new.terminal ≡ self.old.terminal }
+        ensures watch { self.new.watch ≡ self.old.watch }
     {
+        self.is_current = false;
         set_action(&mut self.members, pid, signal, action);
     }
 
@@ -190,7 +200,9 @@ impl Kernel {
         ensures state { (s : KernelState) → StandsAt self.old s
             → StandsAt self.new (after_take_signal s pid) }
         ensures terminal { self.new.terminal ≡ self.old.terminal }
+        ensures watch { self.new.watch ≡ self.old.watch }
     {
+        self.is_current = false;
         take_signal(&mut self.members, pid)
     }
 
@@ -199,7 +211,9 @@ impl Kernel {
         ensures state { (s : KernelState) → StandsAt self.old s
             → StandsAt self.new (after_set_group s pid group) }
         ensures terminal { self.new.terminal ≡ self.old.terminal }
+        ensures watch { self.new.watch ≡ self.old.watch }
     {
+        self.is_current = false;
         set_group(&mut self.members, pid, group);
     }
 
@@ -208,7 +222,9 @@ impl Kernel {
         ensures state { (s : KernelState) → StandsAt self.old s
             → StandsAt self.new (after_set_foreground s group) }
         ensures terminal { self.new.terminal.bytes ≡ self.old.terminal.bytes }
+        ensures watch { self.new.watch ≡ self.old.watch }
     {
+        self.is_current = false;
         self.terminal.set_foreground(group);
     }
 

@@ -11,4 +11,5 @@ returns-in_ok-step-in_default c = record {
       (sym (not_effected c.args.frames.now s c.args.shell.now c.args.active c.in_default.not-Acting)) c.in_ok-step-in_default.ensures;
   state = λ s k. subst (StandsAt c.args.kernel.now) (sym (not_built c.args.frames.now s c.args.shell.now c.args.active c.in_default.not-Acting)) k;
   terminal = refl;
+  watch = refl;
 }

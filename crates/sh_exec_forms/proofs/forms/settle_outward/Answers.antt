@@ -11,4 +11,5 @@ outward-preserved c = (
       (outward c.args.frames.now (with_run s c.args.shell.now (At c.args.active)))
       (c.outward.invariant.0 s k) c.in_ok-next.ensures.state)),
   search rules,
+  search rules,
 )

@@ -9,7 +9,7 @@ abbrev pub invariant-outward : goal.invariant-outward
 invariant-outward l =
     ((s : KernelState) → StandsAt l.initial.kernel s
     → IsOnWay l.kernel l.shell l.frames (Outward l.active) (outward l.initial.frames (with_run s l.initial.shell (At l.initial.active))))
-    × (l.kernel.terminal ≡ l.initial.kernel.terminal)
+    × (l.kernel.terminal ≡ l.initial.kernel.terminal) × (l.kernel.watch ≡ l.initial.kernel.watch)
 
 abbrev pub decreases-outward : goal.decreases-outward
 decreases-outward l = length l.frames

@@ -1,0 +1,86 @@
+//! What a kernel keeps of who lives and who is blocked, so that nobody has to ask each process again.
+ghost use Rattle.std.specs.Prelude.{◌≡◌, ◌++◌, ◌∷◌, [], IfOk, false, if◌then◌else◌, true};
+
+use super::Kernel;
+use crate::next::Next;
+use crate::watch::{BlockedProcess, Cause};
+use sh_base::NoMemory;
+
+impl Kernel {
+    ghost use Rattle.sh_kernel.specs.State.{KernelState, StandsAt};
+    ghost use Rattle.sh_kernel.specs.Watching.{AgreesWith, Holds, is_blocked};
+
+    /// Whether a process can't take a turn for this cause.
+    #[tactic(auto, unfolding(crate::specs::Turns::can_do))]
+    fn is_blocked(&self, pid: u32, cause: Cause) -> bool
+        ensures { (s : KernelState) → AgreesWith self.now.machine self.now.members self.now.terminal s
+            → result ≡ is_blocked s pid cause }
+    {
+        match cause {
+            Cause::Stopped => !self.machine.is_running(pid),
+            Cause::Reading(name) => !self.can_move(pid, Next::Read(name)),
+            Cause::Writing(number, count) => !self.can_move(pid, Next::Write(number, count)),
+        }
+    }
+
+    /// Forgets what was found of processes. From then on what is found of them is kept, and whether it still holds
+    /// ([`Kernel::is_current`]). Takes no memory.
+    pub fn watch_anew(&mut self)
+        ensures state { (s : KernelState) → StandsAt self.old s → StandsAt self.new s }
+        ensures terminal { self.new.terminal ≡ self.old.terminal }
+        ensures watch { self.new.watch ≡ record { living = []; blocked = [] } }
+        ensures current { self.new.is_current ≡ true }
+    {
+        self.watch.clear();
+        self.is_current = true;
+    }
+
+    /// Whether a process lives; if it does, that is kept. The only error is want of memory.
+    pub fn find_living(&mut self, pid: u32) -> Result<bool, NoMemory>
+        ensures state { (s : KernelState) → StandsAt self.old s → StandsAt self.new s }
+        ensures terminal { self.new.terminal ≡ self.old.terminal }
+        ensures watch { IfOk result (λ lives. self.new.watch
+            ≡ (if lives then record self.old.watch { living = self.old.watch.living ++ pid ∷ [] } else self.old.watch)) }
+        ensures current { IfOk result (λ lives. self.new.is_current ≡ self.old.is_current) }
+    {
+        if !self.machine.lives(pid) {
+            return Ok(false);
+        }
+        match self.watch.put_living(pid) {
+            Ok(()) => Ok(true),
+            Err(lack) => {
+                self.is_current = false;
+                Err(lack)
+            },
+        }
+    }
+
+    /// Whether a process can't take a turn for this cause; if so, that is kept. The only error is want of memory.
+    pub fn find_blocked(&mut self, pid: u32, cause: Cause) -> Result<bool, NoMemory>
+        ensures state { (s : KernelState) → StandsAt self.old s → StandsAt self.new s }
+        ensures terminal { self.new.terminal ≡ self.old.terminal }
+        ensures watch { IfOk result (λ blocked. self.new.watch
+            ≡ (if blocked then record self.old.watch { blocked = self.old.watch.blocked ++ (record { pid = pid; cause = cause }) ∷ [] } else self.old.watch)) }
+        ensures current { IfOk result (λ blocked. self.new.is_current ≡ self.old.is_current) }
+    {
+        if !self.is_blocked(pid, cause) {
+            return Ok(false);
+        }
+        match self.watch.put_blocked(BlockedProcess { pid, cause }) {
+            Ok(()) => Ok(true),
+            Err(lack) => {
+                self.is_current = false;
+                Err(lack)
+            },
+        }
+    }
+
+    /// Whether all that was found of processes still holds: it may cease to only where something else happens than that a process writes to the
+    /// terminal. Takes no memory.
+    pub fn is_current(&self) -> bool
+        ensures current { result ≡ self.now.is_current }
+        ensures holds { result ≡ true → (s : KernelState) → StandsAt self.now s → Holds self.now.watch s }
+    {
+        self.is_current
+    }
+}
