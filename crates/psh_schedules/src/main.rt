@@ -175,8 +175,9 @@ fn merge_by(rt: &HostRuntime, asked: &Asked, files: &[Named<'_>]) -> u8 {
     let Some(first) = files.first() else {
         return 2;
     };
-    match joined(rt, files, &asked.settings) {
-        Ok(exploration) => conclude(rt, asked, first.file.image.as_slice(), exploration),
+    let image = first.file.image.as_slice();
+    match joined::<Program>(rt, image, files, &asked.settings) {
+        Ok(exploration) => conclude(rt, asked, image, exploration),
         Err(status) => status,
     }
 }

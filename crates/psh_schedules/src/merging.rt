@@ -1,9 +1,16 @@
 //! The putting together of the files of shards.
-use crate::shard_file::{Kept, ShardFault, ShardFile, read_shard};
+ghost use Rattle.std.specs.Prelude.{◌≡◌, [], IfOk, OnOk, Ok, map};
+ghost use Rattle.sh_files.specs.Image.{read_image};
+ghost use Rattle.sh_files.specs.Nodes.{FileMap};
+ghost use Rattle.sh_exec.specs.State.{start};
+ghost use Rattle.sh_schedules.specs.Merging.{AreJoined, AreJoinedInTurn};
+ghost use Rattle.sh_schedules.specs.Shell.{outcome_of, shell};
+
+use crate::shard_file::{ShardFault, ShardFile, read_shard};
 use crate::{PROGRAM, refuse};
 use psh_common::{lack, read};
-use sh_schedules::{Exploration, Found, join, retrace};
-use sh_stock::Program;
+use sh_schedules::{Exploration, join_kept};
+use sh_stock::Stock;
 use sh_world::Settings;
 use std::str;
 
@@ -147,54 +154,45 @@ pub fn read_all<'a>(rt: &HostRuntime, words: &'a [Vec<u8>]) -> Result<Vec<Named<
     Ok(files)
 }
 
-/// Adds what was found of an outcome to what was found of others.
-fn add_kept(
-    rt: &HostRuntime,
-    found: &mut Vec<Found>,
-    settings: &Settings,
-    image: &[u8],
-    kept: &Kept,
-) -> Result<(), u8> {
-    let places = kept.places.as_slice();
-    let one = match retrace::<Program>(rt.alloc(), image, settings, places, kept.schedules) {
-        Ok(one) => one,
-        Err(fault) => return Err(refuse(rt, fault)),
-    };
-    match join(found, one) {
-        Ok(()) => Ok(()),
-        Err(_) => Err(lack(rt, PROGRAM)),
-    }
-}
-
 /// Adds what one shard found.
-fn add_file(
+fn add_file<S: Stock>(
     rt: &HostRuntime,
+    image: &[u8],
     all: &mut Exploration,
     settings: &Settings,
     file: &ShardFile,
-) -> Result<(), u8> {
-    for kept in &file.kept {
-        add_kept(rt, &mut all.found, settings, file.image.as_slice(), kept)?;
+) -> Result<(), u8>
+    ensures { (nodes : FileMap) → read_image image.now ≡ Ok nodes → OnOk result
+        (AreJoined (shell S.meaning) outcome_of (start nodes settings.now) file.now.kept.items all.old.found.items all.new.found.items) }
+{
+    let kept = file.kept.as_slice();
+    match join_kept::<S>(rt.alloc(), image, settings, kept, &mut all.found) {
+        Ok(()) => {},
+        Err(fault) => return Err(refuse(rt, fault)),
     }
     all.schedules = all.schedules.saturating_add(file.schedules);
     all.is_complete = all.is_complete && file.is_complete;
     Ok(())
 }
 
-/// What the shards found together: their schedules are run again from the start, so that each outcome is that of the script. On an `Err`, which is
-/// the program's exit status, standard error has been told why there is nothing.
-pub fn joined(
+/// What the shards found together, over an image: their schedules are run again from the start, so that each outcome is that of the script. On an
+/// `Err`, which is the program's exit status, standard error has been told why there is nothing.
+pub fn joined<S: Stock>(
     rt: &HostRuntime,
+    image: &[u8],
     files: &[Named<'_>],
     settings: &Settings,
-) -> Result<Exploration, u8> {
+) -> Result<Exploration, u8>
+    ensures { (nodes : FileMap) → read_image image.now ≡ Ok nodes → IfOk result (λ all.
+        AreJoinedInTurn (shell S.meaning) outcome_of (start nodes settings.now) (map (λ named. named.file.kept.items) files.now) [] all.found.items) }
+{
     let mut all = Exploration {
         found: Vec::new(rt.alloc()),
         schedules: 0,
         is_complete: true,
     };
-    for named in files {
-        add_file(rt, &mut all, settings, &named.file)?;
+    'files: for named in files {
+        add_file::<S>(rt, image, &mut all, settings, &named.file)?;
     }
     Ok(all)
 }

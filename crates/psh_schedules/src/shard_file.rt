@@ -5,18 +5,9 @@ use crate::telling::{events_text, put_number};
 use psh_common::{EventFault, read_events};
 use sh_base::NoMemory;
 use sh_base::decimal::{all_digits, limited_value};
-use sh_schedules::{Exploration, Found, Shard};
+use sh_schedules::{Exploration, Found, Kept, Shard};
 use sh_world::Event;
 use std::alloc::{AllocError, AllocFailed, Global};
-
-/// What was found of an outcome.
-#[derive(Drop)]
-pub struct Kept {
-    /// How many schedules come to it.
-    pub schedules: u64,
-    /// The places of the turns of the one that is kept.
-    pub places: Vec<u32>,
-}
 
 /// What the file of a shard holds.
 #[derive(Drop)]

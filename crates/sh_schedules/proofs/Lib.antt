@@ -11,3 +11,5 @@ pub mod Walk
 pub mod Runs
 pub mod Partings
 pub mod Apart
+pub mod Resuming
+pub mod Keeping

@@ -1,12 +1,11 @@
 -- Marks of events, and what of a list of schedules is meant.
-use Rattle.std.proofs.Common.{◌≡◌, ℕ, zero, suc, ◌+◌, ◌-◌, ◌<◌, ◌≤◌, inl, inr, Bool, true, false, nat_eq, Option, Some, None, List, [], ◌∷◌, ◌++◌, length, refl, sym, ap, ◌∙◌, subst, arith, if◌then◌else◌}
-use Rattle.std.proofs.lemmas.Bool.{eqb-true}
+use Rattle.std.proofs.Common.{◌≡◌, ℕ, zero, suc, ◌-◌, ◌<◌, inl, inr, Bool, true, false, nat_eq, Option, List, [], ◌∷◌, ◌++◌, length, refl, sym, ap, ◌∙◌, subst, arith, if◌then◌else◌}
 use Rattle.sh_exec.specs.declared.event.Event.{Event}
 use Rattle.sh_exec.specs.declared.event.Event.TheVariants.{Run, Next, Key}
 use Rattle.sh_schedules.specs.Schedules.{Machine, cost, end_of, last_place}
 use Rattle.sh_schedules.specs.Choices.{In, begun, begun_by, choices, of_choices, schedules}
 use Rattle.sh_schedules.specs.Paths.{event_of, events_of, spare, through, to_try}
-use Rattle.sh_schedules.specs.Shards.{first_mark, grown, is_dealt, is_first_by, is_of_shard, mark_after, marked, may_reach, next_mark, reaching, those, with_next, with_place}
+use Rattle.sh_schedules.specs.Shards.{grown, is_dealt, is_first_by, mark_after, marked, may_reach, next_mark, reaching, those, with_next, with_place}
 use Rattle.sh_schedules.specs.declared.path.Turn.{Turn}
 use Rattle.sh_schedules.specs.declared.shard.Mark.{Mark}
 use Rattle.sh_schedules.specs.declared.shard.Shard.{Shard}

@@ -7,3 +7,5 @@ pub mod Shards
 pub mod Refusals
 pub mod Shell
 pub mod Trying
+pub mod Stops
+pub mod Merging

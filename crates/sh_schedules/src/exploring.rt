@@ -1,5 +1,5 @@
 //! The trying of all schedules.
-ghost use Rattle.std.specs.Prelude.{◌≡◌, ◌+◌, ◌<◌, ◌≤◌, ◌^◌, ℕ, [], false, IfErr, IfOk, OnOk, Ok};
+ghost use Rattle.std.specs.Prelude.{◌≡◌, ◌+◌, ◌<◌, ◌≤◌, ◌^◌, ℕ, List, [], false, IfErr, IfOk, OnOk, Ok};
 ghost use Rattle.sh_files.specs.Image.{read_image};
 ghost use Rattle.sh_files.specs.Nodes.{FileMap};
 ghost use Rattle.sh_world.specs.World.{WorldStands};
@@ -8,6 +8,8 @@ ghost use Rattle.sh_schedules.specs.Paths.{events_of};
 ghost use Rattle.sh_schedules.specs.Found.{Noted};
 ghost use Rattle.sh_schedules.specs.Refusals.{IsRefusal};
 ghost use Rattle.sh_schedules.specs.Shell.{outcome_of, shell};
+ghost use Rattle.sh_schedules.specs.Stops.{AreStops, IsStop};
+ghost use Rattle.sh_schedules.specs.declared.path.Turn.{Turn as PathTurn};
 ghost use Rattle.sh_schedules.specs.Trying.{HasExplored, HasExploredShard, HasWalked, IsShardExploration, IsTrying, IsWithin};
 
 use crate::begin::{begin, files_of};
@@ -16,11 +18,12 @@ use crate::found::{Found, note};
 use crate::look;
 use crate::path::{Turn, advance};
 use crate::shard::{Shard, is_of};
-use crate::turns::{go_to_end, replay};
+use crate::stops::{Stop, first_stop, forget, last_stop};
+use crate::turns::{go_to_end, take_rest};
 use sh_base::NoMemory;
 use sh_base::sequence::Sequence;
 use sh_exec::{Event, Settings};
-use sh_stock::Stock;
+use sh_stock::{CopyStock, Stock};
 use sh_world::World;
 use std::alloc::Global;
 
@@ -73,25 +76,61 @@ fn count<S: Stock>(
     note(found, outcome, events, preemptions)
 }
 
-/// Goes to the end of the schedule that comes next, in a world before all events, and counts it if it is of the shard. It answers how many
-/// were tried then; none where it is of the shard, but as many were tried as may be.
-fn try_next<S: Stock>(
+/// The world in which the next schedule begins: a copy of the last one that is kept, else one before all events.
+fn next_stop<S: CopyStock>(
     alloc: Global,
-    world: &mut World<S>,
+    image: &[u8],
+    settings: &Settings,
+    most: u32,
+    stops: &[Stop<S>],
+) -> Result<Stop<S>, ExploreFault>
+    ensures stands { (files : FileMap) (path : List PathTurn) → read_image image.now ≡ Ok files
+        → AreStops (shell S.meaning) most (start files settings.now) path stops.now
+        → IfOk result (λ stop. IsStop (shell S.meaning) most (start files settings.now) path stop) }
+    ensures refused { IfErr result (λ fault. IsRefusal image.now fault) }
+{
+    if let Some(stop) = last_stop(stops) {
+        return Ok(stop);
+    }
+    let world = begin::<S>(alloc, image, settings)?;
+    Ok(first_stop(world, most))
+}
+
+/// Goes to the end of the schedule that comes next, from a world that has taken some of its turns, and counts it if it is of the shard. It
+/// answers how many were tried then; none where it is of the shard, but as many were tried as may be.
+fn try_next<S: CopyStock>(
+    alloc: Global,
+    begun: &mut Stop<S>,
     bounds: Bounds,
     shard: Shard,
     tried: u64,
     path: &mut Vec<Turn>,
+    stops: &mut Vec<Stop<S>>,
     found: &mut Vec<Found>,
 ) -> Result<Option<u64>, NoMemory>
     requires { tried ≤ bounds.schedules }
-    ensures walked { (s : State S) → WorldStands world.old s
+    ensures walked { (s : State S) → IsStop (shell S.meaning) bounds.preemptions s path.old.items begun.old
+        → AreStops (shell S.meaning) bounds.preemptions s path.old.items stops.old.items
         → IsTrying (shell S.meaning) outcome_of bounds.preemptions bounds.turns s shard path.old.items found.old.items tried
-        → IfOk result (λ after. HasWalked (shell S.meaning) outcome_of bounds.preemptions bounds.turns s shard path.new.items found.new.items tried after) }
+        → IfOk result (λ after. HasWalked (shell S.meaning) outcome_of bounds.preemptions bounds.turns s shard path.new.items found.new.items tried after
+        × AreStops (shell S.meaning) bounds.preemptions s path.new.items stops.new.items) }
     ensures within { IfOk result (λ after. IsWithin bounds.schedules tried after) }
 {
-    let begun = replay(world, path, bounds.preemptions)?;
-    let standing = go_to_end(alloc, world, shard, path, begun, bounds.turns as usize)?;
+    let standing = take_rest(
+        &mut begun.world,
+        path.as_slice(),
+        begun.taken,
+        begun.standing,
+    )?;
+    let standing = go_to_end(
+        alloc,
+        &mut begun.world,
+        shard,
+        path,
+        stops,
+        standing,
+        bounds.turns as usize,
+    )?;
     if !is_of(shard, standing.mark) {
         return Ok(Some(tried));
     }
@@ -99,12 +138,12 @@ fn try_next<S: Stock>(
         return Ok(None);
     }
     let preemptions = bounds.preemptions.saturating_sub(standing.left);
-    count(alloc, world, path, preemptions, found)?;
+    count(alloc, &begun.world, path, preemptions, found)?;
     Ok(Some(tried + 1))
 }
 
 /// Goes to the end of the schedule that comes next, as `try_next` does.
-fn try_one<S: Stock>(
+fn try_one<S: CopyStock>(
     alloc: Global,
     image: &[u8],
     settings: &Settings,
@@ -112,18 +151,21 @@ fn try_one<S: Stock>(
     shard: Shard,
     tried: u64,
     path: &mut Vec<Turn>,
+    stops: &mut Vec<Stop<S>>,
     found: &mut Vec<Found>,
 ) -> Result<Option<u64>, ExploreFault>
     requires { tried ≤ bounds.schedules }
     ensures walked { (files : FileMap) → read_image image.now ≡ Ok files
+        → AreStops (shell S.meaning) bounds.preemptions (start files settings.now) path.old.items stops.old.items
         → IsTrying (shell S.meaning) outcome_of bounds.preemptions bounds.turns (start files settings.now) shard path.old.items found.old.items tried
-        → IfOk result (λ after. HasWalked (shell S.meaning) outcome_of bounds.preemptions bounds.turns (start files settings.now) shard path.new.items found.new.items tried after) }
+        → IfOk result (λ after. HasWalked (shell S.meaning) outcome_of bounds.preemptions bounds.turns (start files settings.now) shard path.new.items found.new.items tried after
+        × AreStops (shell S.meaning) bounds.preemptions (start files settings.now) path.new.items stops.new.items) }
     ensures within { IfOk result (λ after. IsWithin bounds.schedules tried after) }
     ensures refused { IfErr result (λ fault. IsRefusal image.now fault) }
 {
-    let mut world = begin::<S>(alloc, image, settings)?;
-    let after = try_next(alloc, &mut world, bounds, shard, tried, path, found);
-    drop(world);
+    let mut begun = next_stop(alloc, image, settings, bounds.preemptions, stops.as_slice())?;
+    let after = try_next(alloc, &mut begun, bounds, shard, tried, path, stops, found);
+    drop(begun);
     match after {
         Ok(after) => Ok(after),
         Err(lack) => Err(ExploreFault::NoMemory(lack)),
@@ -137,16 +179,18 @@ struct Tried {
     is_complete: bool,
 }
 
-/// Tries the schedules of a shard in order.
-fn try_all<S: Stock>(
+/// Tries the schedules of a shard in order, with worlds that are kept on the way.
+fn try_all<S: CopyStock>(
     alloc: Global,
     image: &[u8],
     settings: &Settings,
     bounds: Bounds,
     shard: Shard,
+    stops: &mut Vec<Stop<S>>,
     found: &mut Vec<Found>,
 ) -> Result<Tried, ExploreFault>
-    requires { found.old.items ≡ [] }
+    requires stops { stops.old.items ≡ [] }
+    requires found { found.old.items ≡ [] }
     ensures explored { (files : FileMap) → read_image image.now ≡ Ok files → IfOk result (λ tried.
         IsShardExploration (shell S.meaning) outcome_of bounds.preemptions bounds.turns (start files settings.now) shard found.new.items tried.schedules tried.is_complete) }
     ensures within { IfOk result (λ tried. tried.schedules ≤ bounds.schedules) }
@@ -157,7 +201,7 @@ fn try_all<S: Stock>(
     let mut tried = 0u64;
     'walks: for _walk in 0..u64::MAX {
         let after = try_one::<S>(
-            alloc, image, settings, bounds, shard, tried, &mut path, found,
+            alloc, image, settings, bounds, shard, tried, &mut path, stops, found,
         )?;
         let Some(more) = after else {
             return Ok(Tried {
@@ -172,6 +216,7 @@ fn try_all<S: Stock>(
                 is_complete: true,
             });
         }
+        forget(stops, path.len());
     }
     Err(ExploreFault::TooMany)
 }
@@ -183,7 +228,7 @@ fn try_all<S: Stock>(
 /// on from the beginnings of others. It tries its own in the order in which `explore` does. After `bounds.schedules` of them the trying
 /// ends, but not before, unless these are all of the shard. The error is that the image is refused, want of memory, or that there were
 /// 2^64 - 1 runs, and more are to come.
-pub fn explore_shard<S: Stock>(
+pub fn explore_shard<S: CopyStock>(
     alloc: Global,
     image: &[u8],
     settings: &Settings,
@@ -196,8 +241,13 @@ pub fn explore_shard<S: Stock>(
 {
     let files = files_of(alloc, image)?;
     drop(files);
+    let mut stops = Vec::new(alloc);
     let mut found = Vec::new(alloc);
-    match try_all::<S>(alloc, image, settings, bounds, shard, &mut found) {
+    let tried = try_all::<S>(
+        alloc, image, settings, bounds, shard, &mut stops, &mut found,
+    );
+    drop(stops);
+    match tried {
         Ok(tried) => Ok(Exploration {
             found,
             schedules: tried.schedules,
@@ -214,10 +264,10 @@ pub fn explore_shard<S: Stock>(
 ///
 /// In each turn one process moves. The one that took the last turn goes on, as long as it can; a turn that is given to another while it
 /// can is a preemption. The schedules are those with at most so many preemptions. A schedule ends where no process can take a turn, or
-/// after as many turns as the bounds allow. Each is run from the start of the world. After `bounds.schedules` of them the trying ends,
+/// after as many turns as the bounds allow. Each is run from a copy of a world on its way, or from the start. After `bounds.schedules` of them the trying ends,
 /// but not before, unless these are all. The error is that the image is refused, want of memory, or that there were 2^64 - 1 runs, and more
 /// are to come.
-pub fn explore<S: Stock>(
+pub fn explore<S: CopyStock>(
     alloc: Global,
     image: &[u8],
     settings: &Settings,

@@ -5,11 +5,13 @@ ghost use Rattle.sh_exec.specs.declared.event.Event.{Event};
 ghost use Rattle.sh_schedules.specs.Schedules.{IsSchedule, end_of};
 ghost use Rattle.sh_schedules.specs.Choices.{AreApart, In, schedules};
 ghost use Rattle.sh_schedules.specs.Found.{IsTally, JoinedAll, JoinedInTurn, Shows};
+ghost use Rattle.sh_schedules.specs.Merging.{AreJoinedInTurn, AreKeptInTurn};
 ghost use Rattle.sh_schedules.specs.Parting.{DifferentSchedulesPart};
 ghost use Rattle.sh_schedules.specs.Shards.{AreAllShards, numbers_up_to, shard_at, shard_of};
 ghost use Rattle.sh_schedules.specs.Shell.{outcome_of, shell};
 ghost use Rattle.sh_schedules.specs.Trying.{IsExploration, IsShardExploration};
 ghost use Rattle.sh_schedules.specs.declared.found.Found.{Found};
+ghost use Rattle.sh_schedules.specs.declared.kept.Kept.{Kept};
 ghost use Rattle.sh_schedules.specs.declared.outcome.Outcome.{Outcome};
 
 use sh_stock::Stock;
@@ -61,6 +63,17 @@ pub fn merged_shards_are_an_exploration<S: Stock>()
         → ((before : ℕ) → before ≤ last
         → IsShardExploration (shell S.meaning) outcome_of k n s (shard_at before last) (found before) (tried before) true)
         → AreAllShards last order → length (schedules (shell S.meaning) k n s) < 2 ^ 64 → JoinedInTurn found order [] new
+        → IsExploration (shell S.meaning) outcome_of k n s new (length (schedules (shell S.meaning) k n s)) true }
+{}
+
+/// Law: where of what each shard found, explored whole, only the counts and one schedule of each outcome is kept, and `join_kept` adds that of all
+/// shards in any order, what comes of it is a whole exploration too. Bounds have less than 2^32 preemptions.
+pub fn kept_shards_are_an_exploration<S: Stock>()
+    ensures { (k n last : ℕ) (s : State S) (found : ℕ → List Found) (tried : ℕ → ℕ) (order : List ℕ) (kept : List (List Kept)) (new : List Found)
+        → k < 2 ^ 32
+        → ((before : ℕ) → before ≤ last → IsShardExploration (shell S.meaning) outcome_of k n s (shard_at before last) (found before) (tried before) true)
+        → AreAllShards last order → length (schedules (shell S.meaning) k n s) < 2 ^ 64 → AreKeptInTurn found order kept
+        → AreJoinedInTurn (shell S.meaning) outcome_of s kept [] new
         → IsExploration (shell S.meaning) outcome_of k n s new (length (schedules (shell S.meaning) k n s)) true }
 {}
 

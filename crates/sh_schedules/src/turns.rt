@@ -1,20 +1,22 @@
 //! The turns of a world by a schedule.
-ghost use Rattle.std.specs.Prelude.{◌≡◌, ◌+◌, ◌-◌, ◌<◌, ◌≤◌, ◌^◌, ℕ, IfOk, OnOk, IsTrue, length};
+ghost use Rattle.std.specs.Prelude.{◌≡◌, ◌+◌, ◌-◌, ◌<◌, ◌≤◌, ◌^◌, ℕ, IfOk, OnOk, IsTrue, length, take};
 ghost use Rattle.sh_world.specs.World.{WorldStands};
 ghost use Rattle.sh_exec.specs.State.{State};
 ghost use Rattle.sh_exec.specs.declared.event.Event.TheVariants.{Run};
 ghost use Rattle.sh_schedules.specs.Schedules.{cost_by, last_place, place_of};
 ghost use Rattle.sh_schedules.specs.Choices.{choices_by};
-ghost use Rattle.sh_schedules.specs.Shards.{is_first_by, next_mark};
+ghost use Rattle.sh_schedules.specs.Shards.{first_mark, is_first_by, next_mark};
 ghost use Rattle.sh_schedules.specs.Shell.{shell};
+ghost use Rattle.sh_schedules.specs.Stops.{AreStops};
 ghost use Rattle.sh_schedules.specs.Trying.{HasEnded, HasGone, HasTaken, IsAfter, IsFirstChoice};
 
 use crate::path::{Turn, first_turn};
 use crate::shard::{Mark, Shard};
+use crate::stops::{Stop, keep};
 use crate::{choices, shard};
 use sh_base::NoMemory;
 use sh_exec::Event;
-use sh_stock::Stock;
+use sh_stock::{CopyStock, Stock};
 use sh_world::World;
 use std::alloc::Global;
 
@@ -113,6 +115,34 @@ fn take_turn<S: Stock>(
     Ok(standing_after(standing, here, place))
 }
 
+/// How things stand before the first turn, with so many preemptions.
+pub(crate) fn first_standing(most: u32) -> Standing
+    ensures left { result.left ≡ most }
+    ensures mark { result.mark ≡ first_mark }
+{
+    Standing {
+        left: most,
+        mark: shard::first_mark(),
+    }
+}
+
+/// Takes the turns of a path behind those that were taken already; it answers how things stand after them.
+pub(crate) fn take_rest<S: Stock>(
+    world: &mut World<S>,
+    path: &[Turn],
+    taken: usize,
+    begun: Standing,
+) -> Result<Standing, NoMemory>
+    ensures { (k : ℕ) (s : State S) → taken ≤ length path.now → HasTaken world.old (shell S.meaning) k s (take taken path.now) begun
+        → IfOk result (λ standing. HasTaken world.new (shell S.meaning) k s path.now standing) }
+{
+    let mut standing = begun;
+    'places: for place in taken..path.len() {
+        standing = take_turn(world, path[place].place, standing)?;
+    }
+    Ok(standing)
+}
+
 /// Takes the turns of a path; it answers how things stand after them.
 pub(crate) fn replay<S: Stock>(
     world: &mut World<S>,
@@ -122,13 +152,7 @@ pub(crate) fn replay<S: Stock>(
     ensures { (s : State S) → WorldStands world.old s → IfOk result (λ standing.
         HasTaken world.new (shell S.meaning) most s path.now standing) }
 {
-    let mut standing = Standing {
-        left: most,
-        mark: shard::first_mark(),
-    };
-    for turn in path {
-        standing = take_turn(world, turn.place, standing)?;
-    }
+    let standing = take_rest(world, path, 0, first_standing(most))?;
     Ok(standing)
 }
 
@@ -171,6 +195,7 @@ fn go_on<S: Stock>(
         → IfOk result (λ more. HasGone world.new (shell S.meaning) k n s shard path.old.items path.new.items standing.new more) }
     ensures longer { IfOk result (λ more.
         IsTrue more → length path.new.items ≡ length path.old.items + 1) }
+    ensures extends { IfOk result (λ more. take (length path.old.items) path.new.items ≡ path.old.items) }
 {
     let who = who_can(world)?;
     let Some(turn) = first_choice(alloc, who, shard, *standing)? else {
@@ -183,21 +208,25 @@ fn go_on<S: Stock>(
     Ok(true)
 }
 
-/// Goes on at the first choice, until there is none or there were as many turns as may be. It answers how things stand then.
-pub(crate) fn go_to_end<S: Stock>(
+/// Goes on at the first choice, until there is none or there were as many turns as may be, and keeps worlds on the way. It answers how
+/// things stand then.
+pub(crate) fn go_to_end<S: CopyStock>(
     alloc: Global,
     world: &mut World<S>,
     shard: Shard,
     path: &mut Vec<Turn>,
+    stops: &mut Vec<Stop<S>>,
     begun: Standing,
     most: usize,
 ) -> Result<Standing, NoMemory>
     ensures { (k : ℕ) (s : State S) → HasTaken world.old (shell S.meaning) k s path.old.items begun
-        → length path.old.items ≤ most
-        → IfOk result (λ standing. HasEnded world.new (shell S.meaning) k most s shard path.old.items path.new.items standing) }
+        → length path.old.items ≤ most → AreStops (shell S.meaning) k s path.old.items stops.old.items
+        → IfOk result (λ standing. HasEnded world.new (shell S.meaning) k most s shard path.old.items path.new.items standing
+        × AreStops (shell S.meaning) k s path.new.items stops.new.items) }
 {
     let mut standing = begun;
     'turns: while path.len() < most {
+        keep(stops, world, path.len(), standing);
         if !go_on(alloc, world, shard, path, &mut standing)? {
             return Ok(standing);
         }

@@ -1,10 +1,14 @@
-use Rattle.std.proofs.Common.{◌≡◌, List, [], sym, subst, arith}
+use Rattle.std.proofs.Common.{◌≡◌, ℕ, List, [], length, nat_lt, sym, subst, arith}
+use Rattle.std.specs.List.{filter}
 use Rattle.sh_exec.specs.State.{start}
 use Rattle.sh_schedules.specs.Shell.{outcome_of, shell}
 use Rattle.sh_schedules.specs.Paths.{IsAdvance}
+use Rattle.sh_schedules.specs.Stops.{AreStops}
 use Rattle.sh_schedules.specs.Trying.{HasWalked, IsTrying, IsWithin}
 use Rattle.sh_schedules.specs.declared.found.Found.{Found}
 use Rattle.sh_schedules.specs.declared.path.Turn.{Turn}
+use Rattle.sh_schedules.specs.declared.stops.Stop.{Stop}
+use Rattle.sh_schedules.proofs.Resuming.{stops_advance}
 use Rattle.sh_schedules.proofs.Walk.{explored, trying_first, trying_next}
 use Rattle.sh_schedules.proofs.exploring.try_all.Goals as goal
 
@@ -13,10 +17,13 @@ walks-init g c = (
   omega arith,
   λ files is.
       let w = shell g.S.Stock.meaning in
+      let k = c.args.bounds.preemptions in
       let s = start files c.args.settings.now in
-      let first = trying_first w outcome_of c.args.bounds.preemptions c.args.bounds.turns s c.args.shard in
-      subst (λ (path : List Turn). IsTrying w outcome_of c.args.bounds.preemptions c.args.bounds.turns s c.args.shard path c.args.found.now.items 0) (sym c.new-path.ensures.items)
-      (subst (λ (found : List Found). IsTrying w outcome_of c.args.bounds.preemptions c.args.bounds.turns s c.args.shard [] found 0) (sym c.requires) first),
+      let first = trying_first w outcome_of k c.args.bounds.turns s c.args.shard in (
+        subst (λ (stops : List (Stop _)). AreStops w k s c.new-path.result.items stops) (sym c.requires.stops) tt,
+        subst (λ (path : List Turn). IsTrying w outcome_of k c.args.bounds.turns s c.args.shard path c.args.found.now.items 0) (sym c.new-path.ensures.items)
+            (subst (λ (found : List Found). IsTrying w outcome_of k c.args.bounds.turns s c.args.shard [] found 0) (sym c.requires.found) first),
+      ),
 )
 
 -- no more may be tried
@@ -24,16 +31,18 @@ pub returns-in_default-clause-explored : goal.returns-in_default-clause-explored
 returns-in_default-clause-explored g c = λ files is.
     let w = shell g.S.Stock.meaning in
     let s = start files c.args.settings.now in
+    let so_far = c.walks.invariant.1 files is in
     subst (HasWalked w outcome_of c.args.bounds.preemptions c.args.bounds.turns s c.args.shard c.try_one.new.path.items c.try_one.new.found.items c.walks.tried) c.in_default.is
-    (c.in_ok-after.ensures.walked files is (c.walks.invariant.1 files is))
+    (c.in_ok-after.ensures.walked files is so_far.0 so_far.1).0
 
 -- no schedule is left
 pub returns-then-not-branch-clause-explored : goal.returns-then-not-branch-clause-explored
 returns-then-not-branch-clause-explored g c = λ files is.
     let w = shell g.S.Stock.meaning in
     let s = start files c.args.settings.now in
+    let so_far = c.walks.invariant.1 files is in
     let tried = subst (HasWalked w outcome_of c.args.bounds.preemptions c.args.bounds.turns s c.args.shard c.try_one.new.path.items c.try_one.new.found.items c.walks.tried) c.in-Some.is
-    (c.in_ok-after.ensures.walked files is (c.walks.invariant.1 files is)) in
+    (c.in_ok-after.ensures.walked files is so_far.0 so_far.1).0 in
     explored w outcome_of c.args.bounds.preemptions c.args.bounds.turns s c.args.shard c.try_one.new.path.items c.advance.new.path.items c.try_one.new.found.items c.in-Some.more tried
     (subst (IsAdvance c.try_one.new.path.items c.advance.new.path.items) c.if-not-branch.true c.in_ok-advance.ensures)
 
@@ -42,9 +51,16 @@ walks-preserved g c = (
   subst (IsWithin c.args.bounds.schedules c.walks.tried) c.in-Some.is c.in_ok-after.ensures.within,
   λ files is.
       let w = shell g.S.Stock.meaning in
+      let k = c.args.bounds.preemptions in
       let s = start files c.args.settings.now in
-      let tried = subst (HasWalked w outcome_of c.args.bounds.preemptions c.args.bounds.turns s c.args.shard c.try_one.new.path.items c.try_one.new.found.items c.walks.tried) c.in-Some.is
-      (c.in_ok-after.ensures.walked files is (c.walks.invariant.1 files is)) in
-      trying_next w outcome_of c.args.bounds.preemptions c.args.bounds.turns s c.args.shard c.try_one.new.path.items c.advance.new.path.items c.try_one.new.found.items c.in-Some.more tried
-      (subst (IsAdvance c.try_one.new.path.items c.advance.new.path.items) c.if-not-branch.false c.in_ok-advance.ensures),
+      let so_far = c.walks.invariant.1 files is in
+      let walked = c.in_ok-after.ensures.walked files is so_far.0 so_far.1 in
+      let tried = subst (HasWalked w outcome_of k c.args.bounds.turns s c.args.shard c.try_one.new.path.items c.try_one.new.found.items c.walks.tried) c.in-Some.is walked.0 in
+      let all : length c.advance.new.path.items ≡ c.len.result = omega arith in
+      let advanced = subst (IsAdvance c.try_one.new.path.items c.advance.new.path.items) c.if-not-branch.false c.in_ok-advance.ensures in (
+        subst (λ (stops : List (Stop _)). AreStops w k s c.advance.new.path.items stops) (sym c.forget.ensures)
+            (subst (λ (n : ℕ). AreStops w k s c.advance.new.path.items (filter (λ (stop : Stop _). nat_lt stop.taken n) c.try_one.new.stops.items)) all
+            (stops_advance w k s c.try_one.new.path.items c.advance.new.path.items c.try_one.new.stops.items advanced walked.1)),
+        trying_next w outcome_of k c.args.bounds.turns s c.args.shard c.try_one.new.path.items c.advance.new.path.items c.try_one.new.found.items c.in-Some.more tried advanced,
+      ),
 )

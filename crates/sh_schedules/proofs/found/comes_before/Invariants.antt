@@ -1,4 +1,4 @@
-use Rattle.std.proofs.Common.{ℕ, length}
+use Rattle.std.proofs.Common.{length}
 use Rattle.sh_schedules.proofs.found.comes_before.Given as goal
 
 abbrev pub decreases-events : goal.decreases-events

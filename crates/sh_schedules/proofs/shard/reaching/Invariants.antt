@@ -1,4 +1,4 @@
-use Rattle.std.proofs.Common.{◌≡◌, ◌++◌, ℕ, length}
+use Rattle.std.proofs.Common.{◌≡◌, ◌++◌, length}
 use Rattle.sh_schedules.specs.Shards.{reaching}
 use Rattle.sh_schedules.proofs.shard.reaching.Given as goal
 

@@ -1,4 +1,5 @@
-use Rattle.std.proofs.Common.{◌≡◌, ℕ, List, [], Option, Some, None, length, ap, ◌∙◌, subst}
+use Rattle.std.proofs.Common.{◌≡◌, ℕ, List, [], ◌∷◌, Option, Some, None, length, take, ap, ◌∙◌, subst}
+use Rattle.std.proofs.Math.Seq.{take-append_seam, take-length}
 use Rattle.sh_schedules.specs.Schedules.{Machine, last_place}
 use Rattle.sh_schedules.specs.Choices.{choices, choices_by}
 use Rattle.sh_schedules.specs.Shards.{reaching}
@@ -43,3 +44,10 @@ returns-clause-gone g c = λ k n s h short.
     (c.in_ok-turn_at.ensures _ h.stands)
     (is_after w _ c.in-Some.turn.place c.in_ok-who.who.here c.args.standing.now c.standing_after.result who.1 c.standing_after.ensures.left c.standing_after.ensures.mark)
     c.in_ok-push.ensures.items
+
+-- the path is as it was, or has one turn more
+pub returns-in_default-clause-extends : goal.returns-in_default-clause-extends
+returns-in_default-clause-extends g c = take-length c.args.path.now.items
+
+pub returns-clause-extends : goal.returns-clause-extends
+returns-clause-extends g c = ap (take (length c.args.path.now.items)) c.in_ok-push.ensures.items ∙ take-append_seam c.args.path.now.items (c.in-Some.turn ∷ [])
