@@ -5,7 +5,7 @@ use Rattle.sh_kernel_processes.specs.Processes.{is_running, lives, status_at}
 use Rattle.sh_kernel_signals.specs.declared.member.Member.{Member}
 use Rattle.sh_tty.specs.Happenings.{entries_of}
 use Rattle.sh_tty.specs.Terminal.{TtyKept}
-use Rattle.sh_kernel.specs.State.{KernelKept, KernelState, StandsAt, WatchKept}
+use Rattle.sh_kernel.specs.State.{KernelState, StandsAt, WatchKept}
 use Rattle.sh_kernel.specs.Turns.{ReadsBy, WritesBy, can_do}
 use Rattle.sh_kernel.specs.declared.watch.BlockedProcess.{BlockedProcess}
 use Rattle.sh_kernel.specs.declared.watch.Cause.{Cause}

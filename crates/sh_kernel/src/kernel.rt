@@ -1,6 +1,6 @@
 //! The kernel.
 ghost use Rattle.sh_base.specs.Memory.{no_memory};
-ghost use Rattle.std.specs.Prelude.{◌≡◌, ◌<◌, ◌∷◌, ◌&&◌, ℕ, List, IfErr, IfOk, OnErr, OnOk, length, not, vec_capacity, vec_len};
+ghost use Rattle.std.specs.Prelude.{◌≡◌, ◌<◌, ◌∷◌, ◌&&◌, ℕ, List, IfErr, IfOk, OnErr, OnOk, length, not, true, vec_capacity, vec_len};
 ghost use Rattle.sh_kernel_descriptors.specs.Waiting.{waits};
 ghost use Rattle.sh_kernel.specs.Turns.{is_any_running, untraced_answer};
 ghost use Rattle.sh_kernel_signals.specs.Changes.{with_fork};
@@ -137,7 +137,7 @@ impl Kernel {
     ghost use Rattle.sh_kernel_descriptors.specs.Kept.{IsCounted, pipe_at};
     ghost use Rattle.sh_kernel_descriptors.specs.Machine.{wait_answer};
     ghost use Rattle.sh_kernel_processes.specs.Processes.{parent_at, status_at};
-    ghost use Rattle.sh_kernel_descriptors.specs.Terminals.{is_terminal};
+    ghost use Rattle.sh_kernel_descriptors.specs.Terminals.{is_terminal, writes_terminal};
     ghost use Rattle.sh_kernel.specs.Changes.{changed_at};
     ghost use Rattle.sh_kernel.specs.Turns.{action_of, action_waits, can_do};
     ghost use Rattle.sh_kernel.specs.Watching.{AgreesWith};
@@ -408,6 +408,9 @@ impl Kernel {
     /// `BadDescriptor` where the process has no such descriptor, or it isn't open for writing; `WouldWait` at
     /// a pipe without room; `BrokenPipe` at a pipe without a reader: the process was sent SIGPIPE, which ends it
     /// unless it ignores or catches that; `File` with `TooLarge` where a file would be too long; else `NoMemory`.
+    ///
+    /// A write to the terminal has no part in which processes can take a turn, so what was found of them goes on
+    /// ([`Kernel::is_current`]).
     pub fn write(&mut self, pid: u32, number: u8, bytes: &[u8]) -> Result<usize, KernelFault>
         ensures state { (s : KernelState) → StandsAt self.old s
             → GivesOrLacks result self.new s (write_call s pid number bytes.now) }
@@ -415,6 +418,9 @@ impl Kernel {
             → LacksWhereDone result (write_call s pid number bytes.now) }
         ensures terminal { Extends self.old.terminal.bytes self.new.terminal.bytes }
         ensures watch { self.new.watch ≡ self.old.watch }
+        ensures current { (s : KernelState) → StandsAt self.old s
+            → writes_terminal s.machine pid (DescriptorRef.Number number) ≡ true
+            → self.new.is_current ≡ self.old.is_current }
     {
         let written = self.machine.write(pid, number, bytes);
         let Some(written) = written else {

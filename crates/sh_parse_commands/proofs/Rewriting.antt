@@ -1,11 +1,10 @@
 -- Reading with aliases is judging the tokens that come of rewriting.
-use Rattle.std.proofs.Common.{◌≡◌, ℕ, suc, ◌+◌, ◌-◌, ◌&&◌, ◌||◌, not, nat_lt, Bool, true, false, List, [], ◌∷◌, ◌++◌, map, Option, Some, None, Result, Ok, Err, refl, sym, ap, subst, ◌∙◌, append_assoc, arith, length, if◌then◌else◌}
+use Rattle.std.proofs.Common.{◌≡◌, ℕ, ◌+◌, ◌-◌, ◌&&◌, ◌||◌, not, nat_lt, Bool, true, false, List, [], ◌∷◌, ◌++◌, map, Option, Some, None, Result, Ok, Err, refl, sym, ap, subst, ◌∙◌, append_assoc, if◌then◌else◌}
 use Rattle.std.specs.Option.{unwrap_or}
 use Rattle.std.proofs.lemmas.List.{append-nil, map-append}
 use Rattle.sh_grammar.specs.declared.Token.{Token as Input}
 use Rattle.sh_grammar.specs.Computed.{is_prefix}
 use Rattle.sh_grammar.specs.Tabulation.{Tabulation}
-use Rattle.sh_token_pieces.specs.declared.here.Delimiter.{Delimiter}
 use Rattle.sh_parse_documents.specs.declared.item.Item.{Item}
 use Rattle.sh_parse_documents.specs.Waiting.{Waiting, behind_token, due_at, nothing}
 use Rattle.sh_parse_words.specs.declared.fault.PartFault.{PartFault}
@@ -14,9 +13,7 @@ use Rattle.sh_syntax.specs.declared.tree.Parts.{Parts}
 use Rattle.sh_parse_actions.specs.declared.leaf.Leaf.{Leaf}
 use Rattle.sh_aliases.specs.declared.alias.Alias.{Alias}
 use Rattle.sh_aliases.specs.Aliases.{AliasTable, ends_in_blank}
-use Rattle.sh_parse_commands.specs.Documents.{bodies_of}
 use Rattle.sh_parse_leaves.specs.Inputs.{input_of}
-use Rattle.sh_parse_leaves.specs.Leaves.{leaf_of}
 use Rattle.sh_parse_leaves.specs.Results.{and_then, fault_moved}
 use Rattle.sh_parse_leaves.specs.Words.{within}
 use Rattle.sh_parse_commands.specs.Judging.{Judged, none_of, with_input, takes, open_in, with_leaf, with_item}

@@ -1,5 +1,5 @@
 -- A turn of one process among others, by its place.
-use Rattle.std.proofs.Common.{◌≡◌, ℕ, ◌≤◌, ◌<◌, suc, List, [], ◌∷◌, Bool, true, false, nat_eq, None, Option, Some, ◌++◌, ◌∙◌, take, length, slice_index_or, slice_set, if◌then◌else◌, refl, ap, subst, arith}
+use Rattle.std.proofs.Common.{◌≡◌, ℕ, ◌≤◌, ◌<◌, suc, List, [], ◌∷◌, Bool, true, false, nat_eq, None, Option, ◌++◌, ◌∙◌, take, length, slice_index_or, slice_set, if◌then◌else◌, refl, ap, subst, arith}
 use Rattle.std.proofs.Math.Seq.{take-append_seam}
 use Rattle.sh_exec.specs.Tasks.{pid_of}
 use Rattle.sh_exec.specs.Turns.{IsTurned, turn}

@@ -1,5 +1,5 @@
 //! What a kernel keeps of who lives and who is blocked, so that nobody has to ask each process again.
-ghost use Rattle.std.specs.Prelude.{◌≡◌, ◌++◌, ◌∷◌, [], IfOk, false, if◌then◌else◌, true};
+ghost use Rattle.std.specs.Prelude.{◌≡◌, ◌++◌, ◌∷◌, [], IfOk, IsErr, false, if◌then◌else◌, true};
 
 use super::Kernel;
 use crate::next::Next;
@@ -35,13 +35,15 @@ impl Kernel {
         self.is_current = true;
     }
 
-    /// Whether a process lives; if it does, that is kept. The only error is want of memory.
+    /// Whether a process lives; if it does, that is kept. The only error is want of memory: then what was found is not
+    /// current any more ([`Kernel::is_current`]), and has to be found anew.
     pub fn find_living(&mut self, pid: u32) -> Result<bool, NoMemory>
         ensures state { (s : KernelState) → StandsAt self.old s → StandsAt self.new s }
         ensures terminal { self.new.terminal ≡ self.old.terminal }
         ensures watch { IfOk result (λ lives. self.new.watch
             ≡ (if lives then record self.old.watch { living = self.old.watch.living ++ pid ∷ [] } else self.old.watch)) }
         ensures current { IfOk result (λ lives. self.new.is_current ≡ self.old.is_current) }
+        ensures lack { IsErr result → self.new.is_current ≡ false }
     {
         if !self.machine.lives(pid) {
             return Ok(false);
@@ -55,13 +57,15 @@ impl Kernel {
         }
     }
 
-    /// Whether a process can't take a turn for this cause; if so, that is kept. The only error is want of memory.
+    /// Whether a process can't take a turn for this cause; if so, that is kept. The only error is want of memory: then what
+    /// was found is not current any more ([`Kernel::is_current`]), and has to be found anew.
     pub fn find_blocked(&mut self, pid: u32, cause: Cause) -> Result<bool, NoMemory>
         ensures state { (s : KernelState) → StandsAt self.old s → StandsAt self.new s }
         ensures terminal { self.new.terminal ≡ self.old.terminal }
         ensures watch { IfOk result (λ blocked. self.new.watch
             ≡ (if blocked then record self.old.watch { blocked = self.old.watch.blocked ++ (record { pid = pid; cause = cause }) ∷ [] } else self.old.watch)) }
         ensures current { IfOk result (λ blocked. self.new.is_current ≡ self.old.is_current) }
+        ensures lack { IsErr result → self.new.is_current ≡ false }
     {
         if !self.is_blocked(pid, cause) {
             return Ok(false);
@@ -75,8 +79,8 @@ impl Kernel {
         }
     }
 
-    /// Whether all that was found of processes still holds: it may cease to only where something else happens than that a process writes to the
-    /// terminal. Takes no memory.
+    /// Whether all that was found of processes since [`Kernel::watch_anew`] is known to hold still. It is not where the kernel was told anything
+    /// since that may change it. A call that only looks, and a write to the terminal, leave this answer as it was. Takes no memory.
     pub fn is_current(&self) -> bool
         ensures current { result ≡ self.now.is_current }
         ensures holds { result ≡ true → (s : KernelState) → StandsAt self.now s → Holds self.now.watch s }
