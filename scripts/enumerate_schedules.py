@@ -68,7 +68,7 @@ CLOCK = b"(yes >/ticks &)\n"
 BEFORE = ["run 0 5", "run 1 3"]
 SHELL, CLOCK_PID = 100, 102
 
-# How many preemptions psh-schedules is asked for; the last is more than any schedule has.
+# How many preemptions psh-schedules is asked for; the last is more than any schedule has, so `--all` asks for it.
 BOUNDS = [0, 1, 2, 1000]
 
 # A run that takes longer than these seconds has failed.
@@ -235,7 +235,8 @@ def enumerated(psh, folder, script, most):
 
 def told_by(schedules, folder, script, most, bound):
     """What psh-schedules tells: its exit status, and of each outcome its ending, its terminal, its count and events."""
-    words = [schedules, "--preemptions", str(bound), "--turns", str(most), "-c", script, f"{folder}/image"]
+    reach = ["--all"] if bound >= most else ["--preemptions", str(bound)]
+    words = [schedules, *reach, "--turns", str(most), "-c", script, f"{folder}/image"]
     done = subprocess.run(words, stdin=subprocess.DEVNULL, stdout=subprocess.PIPE, stderr=subprocess.DEVNULL, timeout=LONGEST)
     found, place = [], 0
     while head := OUTCOME.search(done.stdout, place):

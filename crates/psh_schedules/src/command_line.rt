@@ -1,7 +1,7 @@
 //! The command line.
 use crate::PROGRAM;
 use crate::usage::Asked;
-use clap::{Arg, ArgMatches, Command};
+use clap::{Arg, ArgAction, ArgMatches, Command};
 use psh_common::{
     UsageFault, file_operand, interactive_option, letters_option, matches_of, monitor_option,
     path_of, settings_of, text_option, texts_of, usage, words_operand,
@@ -36,6 +36,12 @@ fn with_bounds<'a>(alloc: Global, command: Command<'a>) -> Result<Command<'a>, A
             "K",
             "How often at most a process gives way that could go on: 2 where not given",
         ))?
+        .arg(
+            Arg::new(alloc, "all")
+                .long("all")
+                .action(ArgAction::SetTrue)
+                .help("However often a process gives way that could go on"),
+        )?
         .arg(value_option(
             alloc,
             "turns",
@@ -102,10 +108,22 @@ fn number_of(alloc: Global, text: Option<&str>, other: u32) -> Result<u32, Usage
     }
 }
 
+/// How many preemptions a schedule has at most that has at most so many turns. `--all` allows one in each turn, so that they bound nothing.
+fn preemptions_of(alloc: Global, matches: &ArgMatches, turns: u32) -> Result<u32, UsageFault> {
+    let text = matches.get_str("preemptions");
+    if !matches.get_flag("all") {
+        return number_of(alloc, text, PREEMPTIONS);
+    }
+    if text.is_some() {
+        return Err(usage(alloc, PROGRAM, "--all allows any number of preemptions"));
+    }
+    Ok(turns)
+}
+
 /// The bounds that the words say.
 fn bounds_of(alloc: Global, matches: &ArgMatches) -> Result<Bounds, UsageFault> {
-    let preemptions = number_of(alloc, matches.get_str("preemptions"), PREEMPTIONS)?;
     let turns = number_of(alloc, matches.get_str("turns"), TURNS)?;
+    let preemptions = preemptions_of(alloc, matches, turns)?;
     let schedules = number_of(alloc, matches.get_str("schedules"), SCHEDULES)?;
     Ok(Bounds {
         preemptions,

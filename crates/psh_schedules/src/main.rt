@@ -11,7 +11,6 @@
 mod command_line;
 mod keeping;
 mod merging;
-mod ordering;
 mod shard_file;
 mod shard_words;
 mod telling;
@@ -20,14 +19,13 @@ mod usage;
 use crate::command_line::asked;
 use crate::keeping::keep;
 use crate::merging::{Named, joined, read_all};
-use crate::ordering::ordered;
 use crate::shard_file::shard_text;
 use crate::shard_words::shard_first;
 use crate::telling::{is_settled, told};
 use crate::usage::Asked;
 use psh_common::{lack, read, tell, words, write};
 use sh_schedules::{
-    Exploration, ExploreFault, Parting, Shard, explore, explore_shard, find_parting,
+    Exploration, ExploreFault, Parting, Shard, explore, explore_shard, find_parting, sort,
 };
 use sh_stock::Program;
 use std::process::ExitCode;
@@ -92,25 +90,13 @@ fn show_all(rt: &HostRuntime, asked: &Asked, image: &[u8], exploration: &Explora
 }
 
 /// Puts the outcomes of an exploration in order, tells of them, and answers the program's exit status.
-fn conclude(rt: &HostRuntime, asked: &Asked, image: &[u8], exploration: Exploration) -> u8 {
-    let Exploration {
-        found,
-        schedules,
-        is_complete,
-    } = exploration;
-    match ordered(rt.alloc(), found) {
-        Ok(found) => {
-            let exploration = Exploration {
-                found,
-                schedules,
-                is_complete,
-            };
-            let status = show_all(rt, asked, image, &exploration);
-            drop(exploration);
-            status
-        },
+fn conclude(rt: &HostRuntime, asked: &Asked, image: &[u8], mut exploration: Exploration) -> u8 {
+    let status = match sort(&mut exploration.found) {
+        Ok(()) => show_all(rt, asked, image, &exploration),
         Err(_) => lack(rt, PROGRAM),
-    }
+    };
+    drop(exploration);
+    status
 }
 
 /// Tries the schedules over an image, tells of them, and answers the program's exit status.

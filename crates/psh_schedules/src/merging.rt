@@ -1,10 +1,11 @@
 //! The putting together of the files of shards.
-ghost use Rattle.std.specs.Prelude.{◌≡◌, [], IfOk, OnOk, Ok, map};
+ghost use Rattle.std.specs.Prelude.{◌≡◌, ◌+◌, ◌<◌, ◌^◌, ◌&&◌, [], IfOk, OnOk, Ok, map};
+ghost use Rattle.std.specs.List.{list_all, sum_by};
 ghost use Rattle.sh_files.specs.Image.{read_image};
 ghost use Rattle.sh_files.specs.Nodes.{FileMap};
 ghost use Rattle.sh_exec.specs.State.{start};
 ghost use Rattle.sh_schedules.specs.Merging.{AreJoined, AreJoinedInTurn};
-ghost use Rattle.sh_schedules.specs.Shell.{outcome_of, shell};
+ghost use Rattle.sh_schedules_outcomes.specs.Shell.{outcome_of, shell};
 
 use crate::shard_file::{ShardFault, ShardFile, read_shard};
 use crate::{PROGRAM, refuse};
@@ -162,8 +163,11 @@ fn add_file<S: Stock>(
     settings: &Settings,
     file: &ShardFile,
 ) -> Result<(), u8>
-    ensures { (nodes : FileMap) → read_image image.now ≡ Ok nodes → OnOk result
+    ensures joined { (nodes : FileMap) → read_image image.now ≡ Ok nodes → OnOk result
         (AreJoined (shell S.meaning) outcome_of (start nodes settings.now) file.now.kept.items all.old.found.items all.new.found.items) }
+    ensures tried { OnOk result (all.old.schedules + file.now.schedules < 2 ^ 64
+        → all.new.schedules ≡ all.old.schedules + file.now.schedules) }
+    ensures complete { OnOk result (all.new.is_complete ≡ (all.old.is_complete && file.now.is_complete)) }
 {
     let kept = file.kept.as_slice();
     match join_kept::<S>(rt.alloc(), image, settings, kept, &mut all.found) {
@@ -175,16 +179,20 @@ fn add_file<S: Stock>(
     Ok(())
 }
 
-/// What the shards found together, over an image: their schedules are run again from the start, so that each outcome is that of the script. On an
-/// `Err`, which is the program's exit status, standard error has been told why there is nothing.
+/// What the shards found together, over an image: the schedules that they kept are run again from the start, so that each outcome is that of the
+/// script. As many schedules were tried as all of them tried, 2^64 - 1 at most, and these are all there are if each of them tried all of its own.
+/// On an `Err`, which is the program's exit status, standard error has been told why there is nothing.
 pub fn joined<S: Stock>(
     rt: &HostRuntime,
     image: &[u8],
     files: &[Named<'_>],
     settings: &Settings,
 ) -> Result<Exploration, u8>
-    ensures { (nodes : FileMap) → read_image image.now ≡ Ok nodes → IfOk result (λ all.
+    ensures joined { (nodes : FileMap) → read_image image.now ≡ Ok nodes → IfOk result (λ all.
         AreJoinedInTurn (shell S.meaning) outcome_of (start nodes settings.now) (map (λ named. named.file.kept.items) files.now) [] all.found.items) }
+    ensures tried { IfOk result (λ all. sum_by (λ named. named.file.schedules) files.now < 2 ^ 64
+        → all.schedules ≡ sum_by (λ named. named.file.schedules) files.now) }
+    ensures complete { IfOk result (λ all. all.is_complete ≡ list_all (λ named. named.file.is_complete) files.now) }
 {
     let mut all = Exploration {
         found: Vec::new(rt.alloc()),

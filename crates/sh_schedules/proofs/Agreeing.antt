@@ -1,14 +1,17 @@
 -- Two whole explorations find the same.
-use Rattle.std.proofs.Common.{◌≡◌, ℕ, ◌≤◌, inl, inr, true, List, [], ◌∷◌, refl, sym, ap, ◌∙◌, subst, arith}
+use Rattle.std.proofs.Common.{◌≡◌, ℕ, inl, inr, true, false, map, List, [], ◌∷◌, refl, sym, ap, ◌∙◌, subst, arith}
 use Rattle.std.proofs.lemmas.List.{take_all}
 use Rattle.sh_exec.specs.declared.event.Event.{Event}
-use Rattle.sh_schedules.specs.Schedules.{Machine, end_of, preemptions}
-use Rattle.sh_schedules.specs.Choices.{In, schedules}
-use Rattle.sh_schedules.specs.Found.{AreFound, HaveAtLeast, IsFound, IsNumber, Shows}
+use Rattle.sh_exec.specs.declared.event.Event.TheVariants.{Run, Next, Key}
+use Rattle.sh_schedules_outcomes.specs.Schedules.{AreTurns, Machine, end_of, preemptions}
+use Rattle.sh_schedules_outcomes.specs.Choices.{In, schedules}
+use Rattle.sh_schedules_outcomes.specs.Found.{AreFound, HaveNoneBefore, IsFound, IsNumber, Shows}
+use Rattle.sh_schedules_outcomes.specs.Preference.{comes_before, place_in}
 use Rattle.sh_schedules.specs.Trying.{IsExploration}
-use Rattle.sh_schedules.specs.declared.found.Found.{Found}
-use Rattle.sh_schedules.specs.declared.outcome.Outcome.{Outcome}
-use Rattle.sh_schedules.proofs.Orders.{complete}
+use Rattle.sh_schedules_outcomes.specs.declared.found.Found.{Found}
+use Rattle.sh_schedules_outcomes.specs.declared.outcome.Outcome.{Outcome}
+use Rattle.sh_schedules_outcomes.proofs.Orders.{complete}
+use Rattle.sh_schedules_outcomes.proofs.Preferring.{same_costs}
 
 one_number : {A : Type 0} (w : Machine A) (outcome : A → Outcome) (s : A) (seen : Outcome) (all : List (List Event)) (a b : ℕ) →
     IsNumber w outcome s seen all a → IsNumber w outcome s seen all b → a ≡ b
@@ -22,12 +25,12 @@ one_number w outcome s seen (es ∷ rest) a b (inr h) (inr g) =
     let second = g.1 in
     omega arith
 
-least_at : {A : Type 0} (w : Machine A) (outcome : A → Outcome) (s : A) (seen : Outcome) (least : ℕ) (all : List (List Event)) (es : List Event) →
-    HaveAtLeast w outcome s seen least all → In all es → outcome (end_of w s es) ≡ seen → least ≤ preemptions w s es
-least_at w outcome s seen least [] es h there is = absurd there
-least_at w outcome s seen least (x ∷ rest) es h (inl e) is =
-    subst (λ (xs : List Event). least ≤ preemptions w s xs) e (h.0 (ap (λ (xs : List Event). outcome (end_of w s xs)) e ∙ is))
-least_at w outcome s seen least (x ∷ rest) es h (inr there) is = least_at w outcome s seen least rest es h.1 there is
+none_at : {A : Type 0} (w : Machine A) (outcome : A → Outcome) (s : A) (seen : Outcome) (c : ℕ) (events : List Event) (all : List (List Event)) (es : List Event) →
+    HaveNoneBefore w outcome s seen c events all → In all es → outcome (end_of w s es) ≡ seen → comes_before (preemptions w s es) es c events ≡ false
+none_at w outcome s seen c events [] es h there is = absurd there
+none_at w outcome s seen c events (x ∷ rest) es h (inl e) is =
+    subst (λ (xs : List Event). comes_before (preemptions w s xs) xs c events ≡ false) e (h.0 (ap (λ (xs : List Event). outcome (end_of w s xs)) e ∙ is))
+none_at w outcome s seen c events (x ∷ rest) es h (inr there) is = none_at w outcome s seen c events rest es h.1 there is
 
 is_found : {A : Type 0} (w : Machine A) (outcome : A → Outcome) (k n : ℕ) (s : A) (done : List (List Event)) (found : List Found) (f : Found) →
     AreFound w outcome k n s done found → In found f → IsFound w outcome k n s done f
@@ -35,7 +38,7 @@ is_found w outcome k n s done [] f each there = absurd there
 is_found w outcome k n s done (x ∷ xs) f each (inl e) = subst (IsFound w outcome k n s done) e each.0
 is_found w outcome k n s done (x ∷ xs) f each (inr there) = is_found w outcome k n s done xs f each.1 there
 
-all_found : {A : Type 0} (w : Machine A) (outcome : A → Outcome) (k n : ℕ) (s : A) (found : List Found) (tried : ℕ) →
+pub all_found : {A : Type 0} (w : Machine A) (outcome : A → Outcome) (k n : ℕ) (s : A) (found : List Found) (tried : ℕ) →
     IsExploration w outcome k n s found tried true → AreFound w outcome k n s (schedules w k n s) found
 all_found w outcome k n s found tried h =
     let number = h.number refl in
@@ -53,23 +56,32 @@ same_outcomes w outcome k n s found new tried more seen one two there =
     shows_each w outcome k n s (schedules w k n s) found new seen (all_found w outcome k n s found tried one)
     (λ f is. subst (λ (o : Outcome). Shows new o) (sym is.outcome_is) (two.complete refl f.events is.schedule)) there
 
-no_more : {A : Type 0} (w : Machine A) (outcome : A → Outcome) (k n : ℕ) (s : A) (f g : Found) → IsFound w outcome k n s (schedules w k n s) f →
-    IsFound w outcome k n s (schedules w k n s) g → f.outcome ≡ g.outcome → f.preemptions ≤ g.preemptions
-no_more w outcome k n s f g one two same =
-    let least =
-    least_at w outcome s f.outcome f.preemptions (schedules w k n s) g.events one.fewest (complete w k n s g.events two.schedule) (sym two.outcome_is ∙ sym same) in
-    let preempts = two.preempts in
-    omega arith
+not_before : {A : Type 0} (w : Machine A) (outcome : A → Outcome) (k n : ℕ) (s : A) (f g : Found) → IsFound w outcome k n s (schedules w k n s) f →
+    IsFound w outcome k n s (schedules w k n s) g → f.outcome ≡ g.outcome → comes_before g.preemptions g.events f.preemptions f.events ≡ false
+not_before w outcome k n s f g one two same =
+    subst (λ (c : ℕ). comes_before c g.events f.preemptions f.events ≡ false) (sym two.preempts)
+    (none_at w outcome s f.outcome f.preemptions f.events (schedules w k n s) g.events one.first (complete w k n s g.events two.schedule) (sym two.outcome_is ∙ sym same))
 
-pub same_numbers : {A : Type 0} (w : Machine A) (outcome : A → Outcome) (k n : ℕ) (s : A) (found new : List Found) (tried more : ℕ) (f g : Found) →
-    IsExploration w outcome k n s found tried true → IsExploration w outcome k n s new more true → In found f → In new g → f.outcome ≡ g.outcome →
-    (f.schedules ≡ g.schedules) × (f.preemptions ≡ g.preemptions)
-same_numbers w outcome k n s found new tried more f g first second here there same =
+-- a schedule is told by its places
+pub by_places : {A : Type 0} (w : Machine A) (s : A) (es : List Event) → AreTurns w s es → map Run (map place_in es) ≡ es
+by_places w s [] turns = refl
+by_places w s (Run place ∷ es) turns = ap (λ (xs : List Event). Run place ∷ xs) (by_places w (w.step s (Run place)) es turns.1)
+by_places w s (Next ∷ es) turns = absurd turns.0
+by_places w s (Key byte ∷ es) turns = absurd turns.0
+
+one_as : (o p : Outcome) (m n i j : ℕ) (es fs : List Event) → o ≡ p → m ≡ n → i ≡ j → es ≡ fs →
+    ◌≡◌ {A = Found} (record { outcome = o; schedules = m; preemptions = i; events = es }) (record { outcome = p; schedules = n; preemptions = j; events = fs })
+one_as o p m n i j es fs a b c d = cc
+
+pub same_found : {A : Type 0} (w : Machine A) (outcome : A → Outcome) (k n : ℕ) (s : A) (found new : List Found) (tried more : ℕ) (f g : Found) →
+    IsExploration w outcome k n s found tried true → IsExploration w outcome k n s new more true → In found f → In new g → f.outcome ≡ g.outcome → f ≡ g
+same_found w outcome k n s found new tried more f g first second here there same =
     let one = is_found w outcome k n s (schedules w k n s) found f (all_found w outcome k n s found tried first) here in
     let two = is_found w outcome k n s (schedules w k n s) new g (all_found w outcome k n s new more second) there in
-    let below = no_more w outcome k n s f g one two same in
-    let above = no_more w outcome k n s g f two one (sym same) in (
-      one_number w outcome s g.outcome (schedules w k n s) f.schedules g.schedules
-          (subst (λ (o : Outcome). IsNumber w outcome s o (schedules w k n s) f.schedules) same one.number) two.number,
-      omega arith,
-    )
+    let both =
+    same_costs f.preemptions g.preemptions f.events g.events (not_before w outcome k n s g f two one (sym same)) (not_before w outcome k n s f g one two same) in
+    one_as f.outcome g.outcome f.schedules g.schedules f.preemptions g.preemptions f.events g.events same
+    (one_number w outcome s g.outcome (schedules w k n s) f.schedules g.schedules
+    (subst (λ (o : Outcome). IsNumber w outcome s o (schedules w k n s) f.schedules) same one.number) two.number)
+    both.0
+    (sym (by_places w s f.events one.schedule.turns) ∙ ap (map Run) both.1 ∙ by_places w s g.events two.schedule.turns)

@@ -3,9 +3,9 @@ use Rattle.std.proofs.Common.{◌≡◌, ℕ, zero, suc, ◌-◌, ◌<◌, inl, 
 use Rattle.std.proofs.lemmas.Bool.{eqb-false}
 use Rattle.sh_exec.specs.declared.event.Event.{Event}
 use Rattle.sh_exec.specs.declared.event.Event.TheVariants.{Run}
-use Rattle.sh_schedules.specs.Schedules.{Machine, cost, last_place}
-use Rattle.sh_schedules.specs.Choices.{AreApart, In, begun, begun_by, choices, choices_by, of_choices, others_below, places_below, schedules}
-use Rattle.sh_schedules.proofs.Orders.{begins, begun_with, below_only, in_either, others_only}
+use Rattle.sh_schedules_outcomes.specs.Schedules.{Machine, cost, last_place}
+use Rattle.sh_schedules_outcomes.specs.Choices.{AreApart, In, begun, begun_by, choices, choices_by, of_choices, others_below, places_below, schedules}
+use Rattle.sh_schedules_outcomes.proofs.Orders.{begins, begun_with, below_only, in_either, others_only}
 
 apart_append : {X : Type 0} (xs ys : List X) → AreApart xs → AreApart ys → ((x : X) → In xs x → In ys x → ⊥) → AreApart (xs ++ ys)
 apart_append [] ys a b differ = b

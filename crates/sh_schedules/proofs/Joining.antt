@@ -1,11 +1,12 @@
 -- What was found in two parts of the schedules, joined, is what is found in both.
-use Rattle.std.proofs.Common.{◌≡◌, ◌≢◌, ℕ, ◌+◌, ◌<◌, ◌≤◌, ◌^◌, min, ◌⊎◌, inl, inr, List, [], ◌∷◌, ◌++◌, length, refl, sym, ap, ◌∙◌, subst, arith, length-append}
+use Rattle.std.proofs.Common.{◌≡◌, ◌≢◌, ℕ, ◌+◌, ◌<◌, ◌^◌, ◌⊎◌, inl, inr, List, [], ◌∷◌, ◌++◌, length, refl, sym, ap, ◌∙◌, subst, arith, length-append}
 use Rattle.sh_exec.specs.declared.event.Event.{Event}
-use Rattle.sh_schedules.specs.Schedules.{IsSchedule, Machine, end_of, preemptions}
-use Rattle.sh_schedules.specs.Found.{AreDistinct, AreFound, AreShown, HaveAtLeast, IsFound, IsNumber, IsSum, IsTally, Joined, JoinedAll, Shows, counted}
-use Rattle.sh_schedules.specs.declared.found.Found.{Found}
-use Rattle.sh_schedules.specs.declared.outcome.Outcome.{Outcome}
-use Rattle.sh_schedules.proofs.Tally.{least_before, none_before}
+use Rattle.sh_schedules_outcomes.specs.Schedules.{IsSchedule, Machine, end_of, preemptions}
+use Rattle.sh_schedules_outcomes.specs.Found.{AreDistinct, AreFound, AreShown, HaveNoneBefore, IsFound, IsNumber, IsPreferred, IsSum, IsTally, Joined, JoinedAll, Shows, counted}
+use Rattle.sh_schedules_outcomes.specs.declared.found.Found.{Found}
+use Rattle.sh_schedules_outcomes.specs.declared.outcome.Outcome.{Outcome}
+use Rattle.sh_schedules_outcomes.proofs.Preferring.{nor_before, nor_behind}
+use Rattle.sh_schedules_outcomes.proofs.Tally.{no_number, none_as, none_come, none_nearer}
 
 -- ---- what is known after one that was found elsewhere was added
 counts_one : (found new : List Found) (one : Found) → Joined found one new → counted found + one.schedules < 2 ^ 64 → counted new ≡ counted found + one.schedules
@@ -76,7 +77,7 @@ distinct_all : (found ones new : List Found) → JoinedAll found ones new → Ar
 distinct_all found [] new h d = subst AreDistinct (sym h) d
 distinct_all found (one ∷ ones) new h d = distinct_all h.0 ones new h.2 (distinct_one found h.0 one h.1 d)
 
--- ---- numbers and least preemptions of both parts
+-- ---- numbers and the first ones of both parts
 number_both : {A : Type 0} (w : Machine A) (outcome : A → Outcome) (s : A) (seen : Outcome) (done others : List (List Event)) (a b : ℕ) →
     IsNumber w outcome s seen done a → IsNumber w outcome s seen others b → IsNumber w outcome s seen (done ++ others) (a + b)
 number_both w outcome s seen [] others a b h g =
@@ -87,15 +88,10 @@ number_both w outcome s seen (d ∷ ds) others a b (inr h) g =
     let less = h.1 in
     inr (h.0 + b, omega arith, h.2, number_both w outcome s seen ds others h.0 b h.3 g)
 
-least_lower : {A : Type 0} (w : Machine A) (outcome : A → Outcome) (s : A) (seen : Outcome) (least lower : ℕ) (done : List (List Event)) →
-    HaveAtLeast w outcome s seen least done → lower ≤ least → HaveAtLeast w outcome s seen lower done
-least_lower w outcome s seen least lower [] h below = tt
-least_lower w outcome s seen least lower (d ∷ ds) h below = ((λ same. let at = h.0 same in omega arith), least_lower w outcome s seen least lower ds h.1 below)
-
-least_both : {A : Type 0} (w : Machine A) (outcome : A → Outcome) (s : A) (seen : Outcome) (lower : ℕ) (done others : List (List Event)) →
-    HaveAtLeast w outcome s seen lower done → HaveAtLeast w outcome s seen lower others → HaveAtLeast w outcome s seen lower (done ++ others)
-least_both w outcome s seen lower [] others h g = g
-least_both w outcome s seen lower (d ∷ ds) others h g = (h.0, least_both w outcome s seen lower ds others h.1 g)
+none_in_both : {A : Type 0} (w : Machine A) (outcome : A → Outcome) (s : A) (seen : Outcome) (c : ℕ) (events : List Event) (done others : List (List Event)) →
+    HaveNoneBefore w outcome s seen c events done → HaveNoneBefore w outcome s seen c events others → HaveNoneBefore w outcome s seen c events (done ++ others)
+none_in_both w outcome s seen c events [] others h g = g
+none_in_both w outcome s seen c events (d ∷ ds) others h g = (h.0, none_in_both w outcome s seen c events ds others h.1 g)
 
 shown_both : {A : Type 0} (w : Machine A) (outcome : A → Outcome) (s : A) (found : List Found) (done others : List (List Event)) →
     AreShown w outcome s found done → AreShown w outcome s found others → AreShown w outcome s found (done ++ others)
@@ -111,14 +107,14 @@ shown_by w outcome s found new (d ∷ ds) more h = (more (outcome (end_of w s d)
 -- none of these schedules comes to its outcome
 record IsNew {A : Type 0} (w : Machine A) (outcome : A → Outcome) (s : A) (done : List (List Event)) (f : Found) : Type 0 where
   none : IsNumber w outcome s f.outcome done 0
-  least : HaveAtLeast w outcome s f.outcome f.preemptions done
+  first : HaveNoneBefore w outcome s f.outcome f.preemptions f.events done
 
 is_new : {A : Type 0} (w : Machine A) (outcome : A → Outcome) (s : A) (done : List (List Event)) (found : List Found) (f : Found) →
     AreShown w outcome s found done → (Shows found f.outcome → ⊥) → IsNew w outcome s done f
 is_new w outcome s done found f shown absent =
     record {
-      none = none_before w outcome s f.outcome found done shown absent;
-      least = least_before w outcome s f.outcome f.preemptions found done shown absent;
+      none = no_number w outcome s f.outcome found done shown absent;
+      first = none_come w outcome s f.outcome f.preemptions f.events found done shown absent;
     }
 
 -- no other schedule comes to it
@@ -131,7 +127,7 @@ found_first w outcome k n s done others f is new =
       outcome_is = is.outcome_is;
       preempts = is.preempts;
       number = subst (IsNumber w outcome s f.outcome (done ++ others)) e (number_both w outcome s f.outcome done others f.schedules 0 is.number new.none);
-      fewest = least_both w outcome s f.outcome f.preemptions done others is.fewest new.least;
+      first = none_in_both w outcome s f.outcome f.preemptions f.events done others is.first new.first;
     }
 
 found_second : {A : Type 0} (w : Machine A) (outcome : A → Outcome) (k n : ℕ) (s : A) (done others : List (List Event)) (f : Found) →
@@ -143,7 +139,7 @@ found_second w outcome k n s done others f is new =
       outcome_is = is.outcome_is;
       preempts = is.preempts;
       number = subst (IsNumber w outcome s f.outcome (done ++ others)) e (number_both w outcome s f.outcome done others 0 f.schedules new.none is.number);
-      fewest = least_both w outcome s f.outcome f.preemptions done others new.least is.fewest;
+      first = none_in_both w outcome s f.outcome f.preemptions f.events done others new.first is.first;
     }
 
 number_sum : {A : Type 0} (w : Machine A) (outcome : A → Outcome) (s : A) (done others : List (List Event)) (f one g : Found) → g.outcome ≡ f.outcome → f.outcome ≡ one.outcome →
@@ -155,33 +151,39 @@ number_sum w outcome s done others f one g seen same sum h i =
     (subst (λ (o : Outcome). IsNumber w outcome s o done f.schedules) (sym seen) h)
     (subst (λ (o : Outcome). IsNumber w outcome s o others one.schedules) (sym (seen ∙ same)) i))
 
-least_sum : {A : Type 0} (w : Machine A) (outcome : A → Outcome) (s : A) (done others : List (List Event)) (f one g : Found) → g.outcome ≡ f.outcome → f.outcome ≡ one.outcome →
-    g.preemptions ≡ min one.preemptions f.preemptions → HaveAtLeast w outcome s f.outcome f.preemptions done → HaveAtLeast w outcome s one.outcome one.preemptions others →
-    HaveAtLeast w outcome s g.outcome g.preemptions (done ++ others)
-least_sum w outcome s done others f one g seen same least h i =
-    least_both w outcome s g.outcome g.preemptions done others
-    (subst (λ (o : Outcome). HaveAtLeast w outcome s o g.preemptions done) (sym seen) (least_lower w outcome s f.outcome f.preemptions g.preemptions done h (omega arith)))
-    (subst (λ (o : Outcome). HaveAtLeast w outcome s o g.preemptions others) (sym (seen ∙ same)) (least_lower w outcome s one.outcome one.preemptions g.preemptions others i (omega arith)))
+first_sum : {A : Type 0} (w : Machine A) (outcome : A → Outcome) (s : A) (done others : List (List Event)) (f one g : Found) → g.outcome ≡ f.outcome → f.outcome ≡ one.outcome →
+    IsPreferred one.preemptions one.events f g → HaveNoneBefore w outcome s f.outcome f.preemptions f.events done → HaveNoneBefore w outcome s one.outcome one.preemptions one.events others →
+    HaveNoneBefore w outcome s g.outcome g.preemptions g.events (done ++ others)
+first_sum w outcome s done others f one g seen same (inl new) h i =
+    none_as w outcome s f.outcome g.outcome one.preemptions g.preemptions one.events g.events (done ++ others) seen new.2 new.1
+    (none_in_both w outcome s f.outcome one.preemptions one.events done others
+    (none_nearer w outcome s f.outcome f.preemptions one.preemptions f.events one.events done (λ b xs not. nor_before b one.preemptions f.preemptions xs one.events f.events not new.0) h)
+    (none_as w outcome s one.outcome f.outcome one.preemptions one.preemptions one.events one.events others same refl refl i))
+first_sum w outcome s done others f one g seen same (inr old) h i =
+    none_as w outcome s f.outcome g.outcome f.preemptions g.preemptions f.events g.events (done ++ others) seen old.2 old.1
+    (none_in_both w outcome s f.outcome f.preemptions f.events done others h
+    (none_nearer w outcome s f.outcome one.preemptions f.preemptions one.events f.events others (λ b xs not. nor_behind b one.preemptions f.preemptions xs one.events f.events not old.0)
+    (none_as w outcome s one.outcome f.outcome one.preemptions one.preemptions one.events one.events others same refl refl i)))
 
 found_sum : {A : Type 0} (w : Machine A) (outcome : A → Outcome) (k n : ℕ) (s : A) (done others : List (List Event)) (f one g : Found) → IsFound w outcome k n s done f →
     IsFound w outcome k n s others one → f.outcome ≡ one.outcome → IsSum f one g → f.schedules + one.schedules < 2 ^ 64 → IsFound w outcome k n s (done ++ others) g
 found_sum w outcome k n s done others f one g old other same sum few =
     let number = number_sum w outcome s done others f one g sum.outcome_is same (sum.counts few) old.number other.number in
-    let fewest = least_sum w outcome s done others f one g sum.outcome_is same sum.fewest old.fewest other.fewest in
+    let first = first_sum w outcome s done others f one g sum.outcome_is same sum.kept old.first other.first in
     elim sum.kept [
       | inl new ↦ record {
-        schedule = subst (IsSchedule w k n s) (sym new.0) other.schedule;
-        outcome_is = sum.outcome_is ∙ same ∙ other.outcome_is ∙ ap (λ (xs : List Event). outcome (end_of w s xs)) (sym new.0);
-        preempts = new.1 ∙ other.preempts ∙ ap (preemptions w s) (sym new.0);
+        schedule = subst (IsSchedule w k n s) (sym new.1) other.schedule;
+        outcome_is = sum.outcome_is ∙ same ∙ other.outcome_is ∙ ap (λ (xs : List Event). outcome (end_of w s xs)) (sym new.1);
+        preempts = new.2 ∙ other.preempts ∙ ap (preemptions w s) (sym new.1);
         number = number;
-        fewest = fewest;
+        first = first;
       }
       | inr kept ↦ record {
-        schedule = subst (IsSchedule w k n s) (sym kept.0) old.schedule;
-        outcome_is = sum.outcome_is ∙ old.outcome_is ∙ ap (λ (xs : List Event). outcome (end_of w s xs)) (sym kept.0);
-        preempts = kept.1 ∙ old.preempts ∙ ap (preemptions w s) (sym kept.0);
+        schedule = subst (IsSchedule w k n s) (sym kept.1) old.schedule;
+        outcome_is = sum.outcome_is ∙ old.outcome_is ∙ ap (λ (xs : List Event). outcome (end_of w s xs)) (sym kept.1);
+        preempts = kept.2 ∙ old.preempts ∙ ap (preemptions w s) (sym kept.1);
         number = number;
-        fewest = fewest;
+        first = first;
       }
     ]
 

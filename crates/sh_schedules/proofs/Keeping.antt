@@ -3,15 +3,15 @@ use Rattle.std.proofs.Common.{◌≡◌, ℕ, ◌+◌, ◌<◌, ◌≤◌, ◌^�
 use Rattle.std.proofs.lemmas.List.{map-append, take_more}
 use Rattle.sh_exec.specs.declared.event.Event.{Event}
 use Rattle.sh_exec.specs.declared.event.Event.TheVariants.{Run}
-use Rattle.sh_schedules.specs.Schedules.{Machine, end_of, preemptions}
-use Rattle.sh_schedules.specs.Choices.{In, schedules}
-use Rattle.sh_schedules.specs.Found.{AreFound, IsFound, IsRetraced, Joined, JoinedAll, JoinedInTurn}
+use Rattle.sh_schedules_outcomes.specs.Schedules.{Machine, end_of, preemptions}
+use Rattle.sh_schedules_outcomes.specs.Choices.{In, schedules}
+use Rattle.sh_schedules_outcomes.specs.Found.{AreFound, IsFound, IsRetraced, Joined, JoinedAll, JoinedInTurn}
 use Rattle.sh_schedules.specs.Merging.{AreJoined, AreJoinedInTurn, AreKept, AreKeptInTurn, IsJoined, IsKept}
 use Rattle.sh_schedules.specs.Shards.{AreAllShards, shard_at, shard_of}
 use Rattle.sh_schedules.specs.Trying.{IsExploration, IsShardExploration}
-use Rattle.sh_schedules.specs.declared.found.Found.{Found}
+use Rattle.sh_schedules_outcomes.specs.declared.found.Found.{Found}
 use Rattle.sh_schedules.specs.declared.kept.Kept.{Kept}
-use Rattle.sh_schedules.specs.declared.outcome.Outcome.{Outcome}
+use Rattle.sh_schedules_outcomes.specs.declared.outcome.Outcome.{Outcome}
 use Rattle.sh_schedules.proofs.Merging.{merged}
 
 -- ---- joining goes on

@@ -1,15 +1,14 @@
 pub mod Stack
 pub mod Shards
 pub mod Sharing
-pub mod Orders
-pub mod Tally
 pub mod Joining
 pub mod Merging
 pub mod Agreeing
-pub mod Looking
 pub mod Walk
 pub mod Runs
 pub mod Partings
 pub mod Apart
 pub mod Resuming
 pub mod Keeping
+pub mod Preempting
+pub mod Ordering

@@ -4,19 +4,19 @@ use Rattle.std.proofs.lemmas.Bool.{eqb-true}
 use Rattle.std.proofs.lemmas.List.{take_all}
 use Rattle.std.proofs.lemmas.Nat.{mod_below}
 use Rattle.sh_exec.specs.declared.event.Event.{Event}
-use Rattle.sh_schedules.specs.Schedules.{Machine, end_of}
-use Rattle.sh_schedules.specs.Choices.{AreApart, In, schedules}
-use Rattle.sh_schedules.specs.Found.{AreFound, AreShown, HaveAtLeast, IsNumber, IsTally, JoinedInTurn, Shows}
+use Rattle.sh_schedules_outcomes.specs.Schedules.{Machine, end_of}
+use Rattle.sh_schedules_outcomes.specs.Choices.{AreApart, In, schedules}
+use Rattle.sh_schedules_outcomes.specs.Found.{AreFound, AreShown, HaveNoneBefore, IsNumber, IsTally, JoinedInTurn, Shows}
 use Rattle.sh_schedules.specs.Shards.{AreAllShards, first_mark, is_of_shard, marked, shard_at, shard_of, those, with_next}
 use Rattle.sh_schedules.specs.Trying.{IsExploration, IsShardExploration}
-use Rattle.sh_schedules.specs.declared.found.Found.{Found}
-use Rattle.sh_schedules.specs.declared.outcome.Outcome.{Outcome}
+use Rattle.sh_schedules_outcomes.specs.declared.found.Found.{Found}
+use Rattle.sh_schedules_outcomes.specs.declared.outcome.Outcome.{Outcome}
 use Rattle.sh_schedules.specs.declared.shard.Shard.{Shard}
 use Rattle.sh_schedules.proofs.Joining.{tally_both}
-use Rattle.sh_schedules.proofs.Orders.{complete, sound}
+use Rattle.sh_schedules_outcomes.proofs.Orders.{complete, sound}
 use Rattle.sh_schedules.proofs.Shards.{those_among}
 use Rattle.sh_schedules.proofs.Sharing.{dealt_is, is_mine, same_number}
-use Rattle.sh_schedules.proofs.Tally.{is_shown}
+use Rattle.sh_schedules_outcomes.proofs.Tally.{is_shown}
 
 -- ---- the same schedules in another order
 -- one is put in somewhere
@@ -61,17 +61,17 @@ number_reordered w outcome s seen xs (y ∷ ys) m h is =
       )
     ]
 
-least_out : {A : Type 0} (w : Machine A) (outcome : A → Outcome) (s : A) (seen : Outcome) (least : ℕ) (es : List Event) (front back : List (List Event)) →
-    HaveAtLeast w outcome s seen least (front ++ es ∷ back) → HaveAtLeast w outcome s seen least (es ∷ front ++ back)
-least_out w outcome s seen least es [] back h = h
-least_out w outcome s seen least es (f ∷ fs) back h = let g = least_out w outcome s seen least es fs back h.1 in (g.0, (h.0, g.1))
+none_out : {A : Type 0} (w : Machine A) (outcome : A → Outcome) (s : A) (seen : Outcome) (c : ℕ) (events es : List Event) (front back : List (List Event)) →
+    HaveNoneBefore w outcome s seen c events (front ++ es ∷ back) → HaveNoneBefore w outcome s seen c events (es ∷ front ++ back)
+none_out w outcome s seen c events es [] back h = h
+none_out w outcome s seen c events es (f ∷ fs) back h = let g = none_out w outcome s seen c events es fs back h.1 in (g.0, (h.0, g.1))
 
-least_reordered : {A : Type 0} (w : Machine A) (outcome : A → Outcome) (s : A) (seen : Outcome) (least : ℕ) (xs ys : List (List Event)) →
-    IsReordered xs ys → HaveAtLeast w outcome s seen least xs → HaveAtLeast w outcome s seen least ys
-least_reordered w outcome s seen least xs [] h is = tt
-least_reordered w outcome s seen least xs (y ∷ ys) h is =
-    let g = least_out w outcome s seen least y h.1.front h.1.back (subst (HaveAtLeast w outcome s seen least) h.1.within is) in
-    (g.0, least_reordered w outcome s seen least h.0 ys h.2 (subst (HaveAtLeast w outcome s seen least) (sym h.1.without) g.1))
+none_reordered : {A : Type 0} (w : Machine A) (outcome : A → Outcome) (s : A) (seen : Outcome) (c : ℕ) (events : List Event) (xs ys : List (List Event)) →
+    IsReordered xs ys → HaveNoneBefore w outcome s seen c events xs → HaveNoneBefore w outcome s seen c events ys
+none_reordered w outcome s seen c events xs [] h is = tt
+none_reordered w outcome s seen c events xs (y ∷ ys) h is =
+    let g = none_out w outcome s seen c events y h.1.front h.1.back (subst (HaveNoneBefore w outcome s seen c events) h.1.within is) in
+    (g.0, none_reordered w outcome s seen c events h.0 ys h.2 (subst (HaveNoneBefore w outcome s seen c events) (sym h.1.without) g.1))
 
 shown_out : {A : Type 0} (w : Machine A) (outcome : A → Outcome) (s : A) (found : List Found) (es : List Event) (front back : List (List Event)) →
     AreShown w outcome s found (front ++ es ∷ back) → AreShown w outcome s found (es ∷ front ++ back)
@@ -104,7 +104,7 @@ found_reordered w outcome k n s xs ys (f ∷ fs) h each = (
     outcome_is = each.0.outcome_is;
     preempts = each.0.preempts;
     number = number_reordered w outcome s f.outcome xs ys f.schedules h each.0.number;
-    fewest = least_reordered w outcome s f.outcome f.preemptions xs ys h each.0.fewest;
+    first = none_reordered w outcome s f.outcome f.preemptions f.events xs ys h each.0.first;
   },
   found_reordered w outcome k n s xs ys fs h each.1,
 )

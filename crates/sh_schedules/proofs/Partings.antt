@@ -4,7 +4,7 @@ use Rattle.sh_exec.specs.declared.event.Event.{Event}
 use Rattle.sh_exec.specs.declared.event.Event.TheVariants.{Run, Next, Key}
 use Rattle.sh_exec.specs.State.{State}
 use Rattle.sh_world.specs.World.{WorldKept, WorldStands}
-use Rattle.sh_schedules.specs.Schedules.{AreTurns, IsTurn, Machine, end_of}
+use Rattle.sh_schedules_outcomes.specs.Schedules.{AreTurns, IsTurn, Machine, end_of}
 use Rattle.sh_schedules.specs.Parting.{DoesPart, is_same_turn, mover, parting, parting_by}
 
 -- a world has taken so many turns that both have in common, and they part where what is left of them parts

@@ -2,8 +2,8 @@
 use Rattle.std.proofs.Common.{◌≡◌, ℕ, zero, suc, ◌-◌, ◌<◌, inl, inr, Bool, true, false, nat_eq, Option, List, [], ◌∷◌, ◌++◌, length, refl, sym, ap, ◌∙◌, subst, arith, if◌then◌else◌}
 use Rattle.sh_exec.specs.declared.event.Event.{Event}
 use Rattle.sh_exec.specs.declared.event.Event.TheVariants.{Run, Next, Key}
-use Rattle.sh_schedules.specs.Schedules.{Machine, cost, end_of, last_place}
-use Rattle.sh_schedules.specs.Choices.{In, begun, begun_by, choices, of_choices, schedules}
+use Rattle.sh_schedules_outcomes.specs.Schedules.{Machine, cost, end_of, last_place}
+use Rattle.sh_schedules_outcomes.specs.Choices.{In, begun, begun_by, choices, of_choices, schedules}
 use Rattle.sh_schedules.specs.Paths.{event_of, events_of, spare, through, to_try}
 use Rattle.sh_schedules.specs.Shards.{grown, is_dealt, is_first_by, mark_after, marked, may_reach, next_mark, reaching, those, with_next, with_place}
 use Rattle.sh_schedules.specs.declared.path.Turn.{Turn}

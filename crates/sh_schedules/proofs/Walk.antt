@@ -7,24 +7,24 @@ use Rattle.sh_exec.specs.declared.event.Event.{Event}
 use Rattle.sh_exec.specs.declared.event.Event.TheVariants.{Run}
 use Rattle.sh_exec.specs.State.{State}
 use Rattle.sh_world.specs.World.{WorldKept, WorldStands}
-use Rattle.sh_schedules.specs.Schedules.{Machine, cost, cost_by, end_of, last_place, preemptions}
-use Rattle.sh_schedules.specs.Choices.{In, choices, schedules}
+use Rattle.sh_schedules_outcomes.specs.Schedules.{Machine, cost, cost_by, end_of, last_place, preemptions}
+use Rattle.sh_schedules_outcomes.specs.Choices.{In, choices, schedules}
 use Rattle.sh_schedules.specs.Paths.{IsAdvance, behind, event_of, events_of, spare, to_try}
 use Rattle.sh_schedules.specs.Paths.IsAdvance.{gives_way, none_left}
-use Rattle.sh_schedules.specs.Found.{AreFound, IsTally, Noted}
+use Rattle.sh_schedules_outcomes.specs.Found.{AreFound, IsTally, Noted}
 use Rattle.sh_schedules.specs.Trying.{HasEnded, HasGone, HasTaken, IsAfter, IsExploration, IsShardExploration, IsTried, IsTrying, left_of}
 use Rattle.sh_schedules.specs.Trying.HasGone.{went_nowhere, went_on}
-use Rattle.sh_schedules.specs.declared.found.Found.{Found}
-use Rattle.sh_schedules.specs.declared.outcome.Outcome.{Outcome}
+use Rattle.sh_schedules_outcomes.specs.declared.found.Found.{Found}
+use Rattle.sh_schedules_outcomes.specs.declared.outcome.Outcome.{Outcome}
 use Rattle.sh_schedules.specs.Shards.{first_mark, is_dealt, is_first_by, is_of_shard, mark_after, marked, may_reach, next_mark, reaching, shard_of, those, with_next}
 use Rattle.sh_schedules.specs.declared.path.Turn.{Turn}
 use Rattle.sh_schedules.specs.declared.shard.Mark.{Mark}
 use Rattle.sh_schedules.specs.declared.shard.Shard.{Shard}
 use Rattle.sh_schedules.specs.declared.turns.Standing.{Standing}
-use Rattle.sh_schedules.proofs.Orders.{complete, in_right, sound}
+use Rattle.sh_schedules_outcomes.proofs.Orders.{complete, in_right, sound}
 use Rattle.sh_schedules.proofs.Stack.{end_of-push, events_of-push, leaf, nothing_behind, over, spare-push, spare_spent}
 use Rattle.sh_schedules.proofs.Shards.{among_those, down_those, marked_append, out_of_reach, those_among}
-use Rattle.sh_schedules.proofs.Tally.{is_shown, tally_more}
+use Rattle.sh_schedules_outcomes.proofs.Tally.{is_shown, tally_more}
 
 pub is_after : {A : Type 0} (w : Machine A) (s : A) (place : ℕ) (here : Option ℕ) (before new : Standing) → here ≡ last_place w s → new.left ≡ before.left - cost_by here place →
     new.mark ≡ next_mark before.mark (is_first_by here place) place → IsAfter w s (Run place) before new

@@ -1,11 +1,6 @@
-pub mod Schedules
-pub mod Choices
 pub mod Parting
 pub mod Paths
-pub mod Found
 pub mod Shards
-pub mod Refusals
-pub mod Shell
 pub mod Trying
-pub mod Stops
+pub mod Checkpoints
 pub mod Merging

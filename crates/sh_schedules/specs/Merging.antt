@@ -1,11 +1,11 @@
 -- What shards kept of the outcomes that they found, put together.
 use Rattle.std.specs.Prelude.{◌≡◌, ℕ, List, [], ◌∷◌, map}
 use Rattle.sh_exec.specs.declared.event.Event.TheVariants.{Run}
-use Rattle.sh_schedules.specs.Schedules.{Machine}
-use Rattle.sh_schedules.specs.Found.{IsRetraced, Joined}
-use Rattle.sh_schedules.specs.declared.found.Found.{Found}
+use Rattle.sh_schedules_outcomes.specs.Schedules.{Machine}
+use Rattle.sh_schedules_outcomes.specs.Found.{IsRetraced, Joined}
+use Rattle.sh_schedules_outcomes.specs.declared.found.Found.{Found}
 use Rattle.sh_schedules.specs.declared.kept.Kept.{Kept}
-use Rattle.sh_schedules.specs.declared.outcome.Outcome.{Outcome}
+use Rattle.sh_schedules_outcomes.specs.declared.outcome.Outcome.{Outcome}
 
 -- what the schedule comes to that is kept is added, for as many schedules as are told
 pub record IsJoined {A : Type 0} (w : Machine A) (outcome : A → Outcome) (s : A) (kept : Kept) (old new : List Found) : Type 0 where

@@ -2,7 +2,7 @@
 use Rattle.std.specs.Prelude.{◌≡◌, ◌≢◌, ℕ, ◌+◌, List, [], ◌∷◌, Bool, true, false, Option, Some, None, if◌then◌else◌, nat_eq, slice_get}
 use Rattle.sh_exec.specs.declared.event.Event.{Event}
 use Rattle.sh_exec.specs.declared.event.Event.TheVariants.{Run, Next, Key}
-use Rattle.sh_schedules.specs.Schedules.{IsSchedule, Machine}
+use Rattle.sh_schedules_outcomes.specs.Schedules.{IsSchedule, Machine}
 use Rattle.sh_schedules.specs.declared.parting.Parting.{Parting}
 
 -- the events name the same place; a schedule has no keys

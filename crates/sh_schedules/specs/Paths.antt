@@ -2,8 +2,8 @@
 use Rattle.std.specs.Prelude.{◌≡◌, ℕ, zero, suc, ◌-◌, List, [], ◌∷◌, ◌++◌, map, Bool, true, false}
 use Rattle.sh_exec.specs.declared.event.Event.{Event}
 use Rattle.sh_exec.specs.declared.event.Event.TheVariants.{Run}
-use Rattle.sh_schedules.specs.Schedules.{Machine, cost}
-use Rattle.sh_schedules.specs.Choices.{begun, begun_by, schedules}
+use Rattle.sh_schedules_outcomes.specs.Schedules.{Machine, cost}
+use Rattle.sh_schedules_outcomes.specs.Choices.{begun, begun_by, schedules}
 use Rattle.sh_schedules.specs.declared.path.Turn.{Turn}
 
 abbrev pub event_of : Turn → Event

@@ -2,8 +2,8 @@
 use Rattle.std.specs.Prelude.{ℕ, zero, suc, ◌+◌, ◌-◌, ◌*◌, ◌%◌, ◌≤◌, List, [], ◌∷◌, Bool, true, false, Option, Some, None, if◌then◌else◌, nat_eq}
 use Rattle.sh_exec.specs.declared.event.Event.{Event}
 use Rattle.sh_exec.specs.declared.event.Event.TheVariants.{Run, Next, Key}
-use Rattle.sh_schedules.specs.Schedules.{Machine, last_place}
-use Rattle.sh_schedules.specs.Choices.{AreApart, In, schedules}
+use Rattle.sh_schedules_outcomes.specs.Schedules.{Machine, last_place}
+use Rattle.sh_schedules_outcomes.specs.Choices.{AreApart, In, schedules}
 use Rattle.sh_schedules.specs.declared.shard.Mark.{Mark}
 use Rattle.sh_schedules.specs.declared.shard.Shard.{Shard}
 

@@ -7,15 +7,15 @@ use Rattle.sh_exec.specs.declared.event.Event.{Event}
 use Rattle.sh_exec.specs.State.{State, start}
 use Rattle.sh_exec.specs.declared.settings.Settings.{Settings}
 use Rattle.sh_world.specs.World.{WorldKept, WorldStands}
-use Rattle.sh_schedules.specs.Schedules.{IsSchedule, Machine, cost, end_of}
-use Rattle.sh_schedules.specs.Choices.{choices, schedules}
+use Rattle.sh_schedules_outcomes.specs.Schedules.{IsSchedule, Machine, cost, end_of}
+use Rattle.sh_schedules_outcomes.specs.Choices.{choices, schedules}
 use Rattle.sh_schedules.specs.Paths.{behind, events_of, spare, to_try}
-use Rattle.sh_schedules.specs.Found.{AreDistinct, AreFound, IsTally, Shows, counted}
+use Rattle.sh_schedules_outcomes.specs.Found.{AreDistinct, AreFound, IsTally, Shows, counted}
 use Rattle.sh_schedules.specs.Shards.{first_mark, is_of_shard, mark_after, marked, reaching, shard_of, those}
-use Rattle.sh_schedules.specs.Shell.{outcome_of, shell}
+use Rattle.sh_schedules_outcomes.specs.Shell.{outcome_of, shell}
 use Rattle.sh_schedules.specs.declared.exploring.Bounds.{Bounds}
-use Rattle.sh_schedules.specs.declared.found.Found.{Found}
-use Rattle.sh_schedules.specs.declared.outcome.Outcome.{Outcome}
+use Rattle.sh_schedules_outcomes.specs.declared.found.Found.{Found}
+use Rattle.sh_schedules_outcomes.specs.declared.outcome.Outcome.{Outcome}
 use Rattle.sh_schedules.specs.declared.path.Turn.{Turn}
 use Rattle.sh_schedules.specs.declared.shard.Shard.{Shard}
 use Rattle.sh_schedules.specs.declared.turns.Standing.{Standing}

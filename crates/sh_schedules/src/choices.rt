@@ -1,7 +1,7 @@
 //! Which processes may take the next turn, in the order in which they are tried.
 ghost use Rattle.std.specs.Prelude.{◌≡◌, ◌==◌, ◌<◌, ◌^◌, ◌++◌, IfOk, IfSome, OnOk, length, position};
-ghost use Rattle.sh_schedules.specs.Schedules.{cost_by, place_of};
-ghost use Rattle.sh_schedules.specs.Choices.{choices_by, others_below, places_below};
+ghost use Rattle.sh_schedules_outcomes.specs.Schedules.{cost_by, place_of};
+ghost use Rattle.sh_schedules_outcomes.specs.Choices.{choices_by, others_below, places_below};
 
 use sh_base::NoMemory;
 use std::alloc::Global;

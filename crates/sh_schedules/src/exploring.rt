@@ -5,24 +5,21 @@ ghost use Rattle.sh_files.specs.Nodes.{FileMap};
 ghost use Rattle.sh_world.specs.World.{WorldStands};
 ghost use Rattle.sh_exec.specs.State.{State, start};
 ghost use Rattle.sh_schedules.specs.Paths.{events_of};
-ghost use Rattle.sh_schedules.specs.Found.{Noted};
-ghost use Rattle.sh_schedules.specs.Refusals.{IsRefusal};
-ghost use Rattle.sh_schedules.specs.Shell.{outcome_of, shell};
-ghost use Rattle.sh_schedules.specs.Stops.{AreStops, IsStop};
+ghost use Rattle.sh_schedules_outcomes.specs.Found.{Noted};
+ghost use Rattle.sh_schedules_outcomes.specs.Refusals.{IsRefusal};
+ghost use Rattle.sh_schedules_outcomes.specs.Shell.{outcome_of, shell};
+ghost use Rattle.sh_schedules.specs.Checkpoints.{AreCheckpoints, IsCheckpoint};
 ghost use Rattle.sh_schedules.specs.declared.path.Turn.{Turn as PathTurn};
 ghost use Rattle.sh_schedules.specs.Trying.{HasExplored, HasExploredShard, HasWalked, IsShardExploration, IsTrying, IsWithin};
 
-use crate::begin::{begin, files_of};
-use crate::fault::ExploreFault;
-use crate::found::{Found, note};
-use crate::look;
+use crate::checkpoints::{Checkpoint, first_checkpoint, forget, last_checkpoint};
 use crate::path::{Turn, advance};
 use crate::shard::{Shard, is_of};
-use crate::stops::{Stop, first_stop, forget, last_stop};
 use crate::turns::{go_to_end, take_rest};
 use sh_base::NoMemory;
 use sh_base::sequence::Sequence;
 use sh_exec::{Event, Settings};
+use sh_schedules_outcomes::{ExploreFault, Found, begin, files_of, note, outcome_of};
 use sh_stock::{CopyStock, Stock};
 use sh_world::World;
 use std::alloc::Global;
@@ -72,48 +69,48 @@ fn count<S: Stock>(
         (Noted found.old.items (outcome_of s) (events_of path.now) preemptions found.new.items) }
 {
     let events = events_of(alloc, path)?;
-    let outcome = look::outcome_of(alloc, world)?;
+    let outcome = outcome_of(alloc, world)?;
     note(found, outcome, events, preemptions)
 }
 
 /// The world in which the next schedule begins: a copy of the last one that is kept, else one before all events.
-fn next_stop<S: CopyStock>(
+fn next_checkpoint<S: CopyStock>(
     alloc: Global,
     image: &[u8],
     settings: &Settings,
     most: u32,
-    stops: &[Stop<S>],
-) -> Result<Stop<S>, ExploreFault>
+    checkpoints: &[Checkpoint<S>],
+) -> Result<Checkpoint<S>, ExploreFault>
     ensures stands { (files : FileMap) (path : List PathTurn) → read_image image.now ≡ Ok files
-        → AreStops (shell S.meaning) most (start files settings.now) path stops.now
-        → IfOk result (λ stop. IsStop (shell S.meaning) most (start files settings.now) path stop) }
+        → AreCheckpoints (shell S.meaning) most (start files settings.now) path checkpoints.now
+        → IfOk result (λ checkpoint. IsCheckpoint (shell S.meaning) most (start files settings.now) path checkpoint) }
     ensures refused { IfErr result (λ fault. IsRefusal image.now fault) }
 {
-    if let Some(stop) = last_stop(stops) {
-        return Ok(stop);
+    if let Some(checkpoint) = last_checkpoint(checkpoints) {
+        return Ok(checkpoint);
     }
     let world = begin::<S>(alloc, image, settings)?;
-    Ok(first_stop(world, most))
+    Ok(first_checkpoint(world, most))
 }
 
 /// Goes to the end of the schedule that comes next, from a world that has taken some of its turns, and counts it if it is of the shard. It
 /// answers how many were tried then; none where it is of the shard, but as many were tried as may be.
 fn try_next<S: CopyStock>(
     alloc: Global,
-    begun: &mut Stop<S>,
+    begun: &mut Checkpoint<S>,
     bounds: Bounds,
     shard: Shard,
     tried: u64,
     path: &mut Vec<Turn>,
-    stops: &mut Vec<Stop<S>>,
+    checkpoints: &mut Vec<Checkpoint<S>>,
     found: &mut Vec<Found>,
 ) -> Result<Option<u64>, NoMemory>
     requires { tried ≤ bounds.schedules }
-    ensures walked { (s : State S) → IsStop (shell S.meaning) bounds.preemptions s path.old.items begun.old
-        → AreStops (shell S.meaning) bounds.preemptions s path.old.items stops.old.items
+    ensures walked { (s : State S) → IsCheckpoint (shell S.meaning) bounds.preemptions s path.old.items begun.old
+        → AreCheckpoints (shell S.meaning) bounds.preemptions s path.old.items checkpoints.old.items
         → IsTrying (shell S.meaning) outcome_of bounds.preemptions bounds.turns s shard path.old.items found.old.items tried
         → IfOk result (λ after. HasWalked (shell S.meaning) outcome_of bounds.preemptions bounds.turns s shard path.new.items found.new.items tried after
-        × AreStops (shell S.meaning) bounds.preemptions s path.new.items stops.new.items) }
+        × AreCheckpoints (shell S.meaning) bounds.preemptions s path.new.items checkpoints.new.items) }
     ensures within { IfOk result (λ after. IsWithin bounds.schedules tried after) }
 {
     let standing = take_rest(
@@ -127,7 +124,7 @@ fn try_next<S: CopyStock>(
         &mut begun.world,
         shard,
         path,
-        stops,
+        checkpoints,
         standing,
         bounds.turns as usize,
     )?;
@@ -151,20 +148,35 @@ fn try_one<S: CopyStock>(
     shard: Shard,
     tried: u64,
     path: &mut Vec<Turn>,
-    stops: &mut Vec<Stop<S>>,
+    checkpoints: &mut Vec<Checkpoint<S>>,
     found: &mut Vec<Found>,
 ) -> Result<Option<u64>, ExploreFault>
     requires { tried ≤ bounds.schedules }
     ensures walked { (files : FileMap) → read_image image.now ≡ Ok files
-        → AreStops (shell S.meaning) bounds.preemptions (start files settings.now) path.old.items stops.old.items
+        → AreCheckpoints (shell S.meaning) bounds.preemptions (start files settings.now) path.old.items checkpoints.old.items
         → IsTrying (shell S.meaning) outcome_of bounds.preemptions bounds.turns (start files settings.now) shard path.old.items found.old.items tried
         → IfOk result (λ after. HasWalked (shell S.meaning) outcome_of bounds.preemptions bounds.turns (start files settings.now) shard path.new.items found.new.items tried after
-        × AreStops (shell S.meaning) bounds.preemptions (start files settings.now) path.new.items stops.new.items) }
+        × AreCheckpoints (shell S.meaning) bounds.preemptions (start files settings.now) path.new.items checkpoints.new.items) }
     ensures within { IfOk result (λ after. IsWithin bounds.schedules tried after) }
     ensures refused { IfErr result (λ fault. IsRefusal image.now fault) }
 {
-    let mut begun = next_stop(alloc, image, settings, bounds.preemptions, stops.as_slice())?;
-    let after = try_next(alloc, &mut begun, bounds, shard, tried, path, stops, found);
+    let mut begun = next_checkpoint(
+        alloc,
+        image,
+        settings,
+        bounds.preemptions,
+        checkpoints.as_slice(),
+    )?;
+    let after = try_next(
+        alloc,
+        &mut begun,
+        bounds,
+        shard,
+        tried,
+        path,
+        checkpoints,
+        found,
+    );
     drop(begun);
     match after {
         Ok(after) => Ok(after),
@@ -186,10 +198,10 @@ fn try_all<S: CopyStock>(
     settings: &Settings,
     bounds: Bounds,
     shard: Shard,
-    stops: &mut Vec<Stop<S>>,
+    checkpoints: &mut Vec<Checkpoint<S>>,
     found: &mut Vec<Found>,
 ) -> Result<Tried, ExploreFault>
-    requires stops { stops.old.items ≡ [] }
+    requires checkpoints { checkpoints.old.items ≡ [] }
     requires found { found.old.items ≡ [] }
     ensures explored { (files : FileMap) → read_image image.now ≡ Ok files → IfOk result (λ tried.
         IsShardExploration (shell S.meaning) outcome_of bounds.preemptions bounds.turns (start files settings.now) shard found.new.items tried.schedules tried.is_complete) }
@@ -201,7 +213,15 @@ fn try_all<S: CopyStock>(
     let mut tried = 0u64;
     'walks: for _walk in 0..u64::MAX {
         let after = try_one::<S>(
-            alloc, image, settings, bounds, shard, tried, &mut path, stops, found,
+            alloc,
+            image,
+            settings,
+            bounds,
+            shard,
+            tried,
+            &mut path,
+            checkpoints,
+            found,
         )?;
         let Some(more) = after else {
             return Ok(Tried {
@@ -216,7 +236,7 @@ fn try_all<S: CopyStock>(
                 is_complete: true,
             });
         }
-        forget(stops, path.len());
+        forget(checkpoints, path.len());
     }
     Err(ExploreFault::TooMany)
 }
@@ -241,12 +261,18 @@ pub fn explore_shard<S: CopyStock>(
 {
     let files = files_of(alloc, image)?;
     drop(files);
-    let mut stops = Vec::new(alloc);
+    let mut checkpoints = Vec::new(alloc);
     let mut found = Vec::new(alloc);
     let tried = try_all::<S>(
-        alloc, image, settings, bounds, shard, &mut stops, &mut found,
+        alloc,
+        image,
+        settings,
+        bounds,
+        shard,
+        &mut checkpoints,
+        &mut found,
     );
-    drop(stops);
+    drop(checkpoints);
     match tried {
         Ok(tried) => Ok(Exploration {
             found,

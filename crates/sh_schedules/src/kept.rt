@@ -4,13 +4,12 @@ ghost use Rattle.sh_files.specs.Image.{read_image};
 ghost use Rattle.sh_files.specs.Nodes.{FileMap};
 ghost use Rattle.sh_exec.specs.State.{start};
 ghost use Rattle.sh_schedules.specs.Merging.{AreJoined, IsJoined};
-ghost use Rattle.sh_schedules.specs.Refusals.{IsRefusal};
-ghost use Rattle.sh_schedules.specs.Shell.{outcome_of, shell};
+ghost use Rattle.sh_schedules_outcomes.specs.Refusals.{IsRefusal};
+ghost use Rattle.sh_schedules_outcomes.specs.Shell.{outcome_of, shell};
 
-use crate::fault::ExploreFault;
-use crate::found::{Found, join};
 use crate::retracing::retrace;
 use sh_exec::Settings;
+use sh_schedules_outcomes::{ExploreFault, Found, join};
 use sh_stock::Stock;
 use std::alloc::Global;
 

@@ -1,31 +1,26 @@
 //! The schedules of a script: what it comes to by each of them.
 #![tactic(auto)]
 
-mod begin;
+mod checkpoints;
 mod choices;
 mod exploring;
-mod fault;
-mod found;
 mod kept;
 mod laws;
-mod look;
-mod outcome;
 mod parting;
 mod path;
 mod retracing;
 mod shard;
-mod stops;
 mod turns;
 
 pub use exploring::{Bounds, Exploration, explore, explore_shard};
-pub use fault::ExploreFault;
-pub use found::{Found, join};
 pub use kept::{Kept, join_kept};
 pub use laws::{
-    different_schedules_part, ends_are_runs, kept_shards_are_an_exploration, schedules_are_listed,
-    shards_share_out,
+    as_many_preemptions_as_turns_bound_nothing, different_schedules_part, ends_are_runs,
+    joins_are_tallies, kept_shards_are_an_exploration, merged_shards_are_an_exploration,
+    ordered_explorations_are_the_same, schedules_are_listed, shards_share_out,
+    whole_explorations_agree,
 };
-pub use outcome::{Ending, Outcome, Waiter};
 pub use parting::{Parting, find_parting};
 pub use retracing::retrace;
+pub use sh_schedules_outcomes::{Ending, ExploreFault, Found, Outcome, Waiter, join, sort};
 pub use shard::Shard;

@@ -5,14 +5,13 @@ ghost use Rattle.sh_files.specs.Nodes.{FileMap};
 ghost use Rattle.sh_world.specs.World.{WorldStands};
 ghost use Rattle.sh_exec.specs.State.{State, start};
 ghost use Rattle.sh_schedules.specs.Parting.{is_same_turn, mover, parting, parting_by};
-ghost use Rattle.sh_schedules.specs.Refusals.{IsRefusal};
-ghost use Rattle.sh_schedules.specs.Shell.{shell};
+ghost use Rattle.sh_schedules_outcomes.specs.Refusals.{IsRefusal};
+ghost use Rattle.sh_schedules_outcomes.specs.Shell.{shell};
 
-use crate::begin::begin;
-use crate::fault::ExploreFault;
 use crate::turns::{runnable, turn_of};
 use sh_base::NoMemory;
 use sh_exec::{Event, Settings};
+use sh_schedules_outcomes::{ExploreFault, begin};
 use sh_stock::Stock;
 use sh_world::World;
 use std::alloc::Global;

@@ -5,20 +5,17 @@ ghost use Rattle.sh_files.specs.Nodes.{FileMap};
 ghost use Rattle.sh_world.specs.World.{WorldStands};
 ghost use Rattle.sh_exec.specs.State.{State, start};
 ghost use Rattle.sh_exec.specs.declared.event.Event.TheVariants.{Run};
-ghost use Rattle.sh_schedules.specs.Found.{IsRetraced};
+ghost use Rattle.sh_schedules_outcomes.specs.Found.{IsRetraced};
 ghost use Rattle.sh_schedules.specs.Paths.{events_of};
-ghost use Rattle.sh_schedules.specs.Refusals.{IsRefusal};
-ghost use Rattle.sh_schedules.specs.Shell.{outcome_of, shell};
+ghost use Rattle.sh_schedules_outcomes.specs.Refusals.{IsRefusal};
+ghost use Rattle.sh_schedules_outcomes.specs.Shell.{outcome_of, shell};
 
-use crate::begin::begin;
 use crate::exploring::events_of;
-use crate::fault::ExploreFault;
-use crate::found::Found;
-use crate::look;
 use crate::path::Turn;
 use crate::turns::replay;
 use sh_base::NoMemory;
 use sh_exec::Settings;
+use sh_schedules_outcomes::{ExploreFault, Found, begin, outcome_of};
 use sh_stock::Stock;
 use sh_world::World;
 use std::alloc::Global;
@@ -56,7 +53,7 @@ fn retrace_in<S: Stock>(
 {
     let standing = replay(world, path, u32::MAX)?;
     let events = events_of(alloc, path)?;
-    let outcome = look::outcome_of(alloc, world)?;
+    let outcome = outcome_of(alloc, world)?;
     Ok(Found {
         outcome,
         schedules,

@@ -3,16 +3,16 @@ ghost use Rattle.std.specs.Prelude.{◌≡◌, ◌+◌, ◌-◌, ◌<◌, ◌≤
 ghost use Rattle.sh_world.specs.World.{WorldStands};
 ghost use Rattle.sh_exec.specs.State.{State};
 ghost use Rattle.sh_exec.specs.declared.event.Event.TheVariants.{Run};
-ghost use Rattle.sh_schedules.specs.Schedules.{cost_by, last_place, place_of};
-ghost use Rattle.sh_schedules.specs.Choices.{choices_by};
+ghost use Rattle.sh_schedules_outcomes.specs.Schedules.{cost_by, last_place, place_of};
+ghost use Rattle.sh_schedules_outcomes.specs.Choices.{choices_by};
 ghost use Rattle.sh_schedules.specs.Shards.{first_mark, is_first_by, next_mark};
-ghost use Rattle.sh_schedules.specs.Shell.{shell};
-ghost use Rattle.sh_schedules.specs.Stops.{AreStops};
+ghost use Rattle.sh_schedules_outcomes.specs.Shell.{shell};
+ghost use Rattle.sh_schedules.specs.Checkpoints.{AreCheckpoints};
 ghost use Rattle.sh_schedules.specs.Trying.{HasEnded, HasGone, HasTaken, IsAfter, IsFirstChoice};
 
+use crate::checkpoints::{Checkpoint, keep};
 use crate::path::{Turn, first_turn};
 use crate::shard::{Mark, Shard};
-use crate::stops::{Stop, keep};
 use crate::{choices, shard};
 use sh_base::NoMemory;
 use sh_exec::Event;
@@ -31,7 +31,7 @@ struct CanMove {
 const MOST_PLACES: usize = 4_294_967_295;
 
 /// The processes that can take a turn.
-#[tactic(auto, unfolding(crate::specs::Shell::shell))]
+#[tactic(auto, unfolding(sh_schedules_outcomes::specs::Shell::shell))]
 pub(crate) fn runnable<S: Stock>(world: &World<S>) -> Result<Vec<u32>, NoMemory>
     ensures pids { (s : State S) → WorldStands world.now s → IfOk result (λ pids.
         pids.items ≡ (shell S.meaning).runnable s) }
@@ -55,7 +55,7 @@ fn who_of(last: Option<u32>, pids: &[u32]) -> CanMove
 }
 
 /// Who can take a turn of a world.
-#[tactic(auto, unfolding(crate::specs::Shell::shell))]
+#[tactic(auto, unfolding(sh_schedules_outcomes::specs::Shell::shell))]
 fn who_can<S: Stock>(world: &World<S>) -> Result<CanMove, NoMemory>
     ensures { (s : State S) → WorldStands world.now s → IfOk result (λ who.
         (who.count ≡ length ((shell S.meaning).runnable s)) × (who.here ≡ last_place (shell S.meaning) s)) }
@@ -65,7 +65,7 @@ fn who_can<S: Stock>(world: &World<S>) -> Result<CanMove, NoMemory>
 }
 
 /// The turn that an event gives.
-#[tactic(auto, unfolding(crate::specs::Shell::shell))]
+#[tactic(auto, unfolding(sh_schedules_outcomes::specs::Shell::shell))]
 pub(crate) fn turn_of<S: Stock>(world: &mut World<S>, event: Event) -> Result<(), NoMemory>
     ensures { (s : State S) → WorldStands world.old s
         → OnOk result (WorldStands world.new ((shell S.meaning).step s event)) }
@@ -215,18 +215,18 @@ pub(crate) fn go_to_end<S: CopyStock>(
     world: &mut World<S>,
     shard: Shard,
     path: &mut Vec<Turn>,
-    stops: &mut Vec<Stop<S>>,
+    checkpoints: &mut Vec<Checkpoint<S>>,
     begun: Standing,
     most: usize,
 ) -> Result<Standing, NoMemory>
     ensures { (k : ℕ) (s : State S) → HasTaken world.old (shell S.meaning) k s path.old.items begun
-        → length path.old.items ≤ most → AreStops (shell S.meaning) k s path.old.items stops.old.items
+        → length path.old.items ≤ most → AreCheckpoints (shell S.meaning) k s path.old.items checkpoints.old.items
         → IfOk result (λ standing. HasEnded world.new (shell S.meaning) k most s shard path.old.items path.new.items standing
-        × AreStops (shell S.meaning) k s path.new.items stops.new.items) }
+        × AreCheckpoints (shell S.meaning) k s path.new.items checkpoints.new.items) }
 {
     let mut standing = begun;
     'turns: while path.len() < most {
-        keep(stops, world, path.len(), standing);
+        keep(checkpoints, world, path.len(), standing);
         if !go_on(alloc, world, shard, path, &mut standing)? {
             return Ok(standing);
         }

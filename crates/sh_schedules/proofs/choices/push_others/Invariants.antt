@@ -1,5 +1,5 @@
 use Rattle.std.proofs.Common.{◌≡◌, ◌++◌}
-use Rattle.sh_schedules.specs.Choices.{others_below}
+use Rattle.sh_schedules_outcomes.specs.Choices.{others_below}
 use Rattle.sh_schedules.proofs.choices.push_others.Given as goal
 
 abbrev pub invariant-places : goal.invariant-places

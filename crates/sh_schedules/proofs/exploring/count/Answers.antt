@@ -1,8 +1,8 @@
 use Rattle.std.proofs.Common.{List, OnOk, subst}
 use Rattle.sh_exec.specs.declared.event.Event.{Event}
-use Rattle.sh_schedules.specs.Found.{Noted}
+use Rattle.sh_schedules_outcomes.specs.Found.{Noted}
 use Rattle.sh_schedules.specs.Paths.{events_of}
-use Rattle.sh_schedules.specs.declared.outcome.Outcome.{Outcome}
+use Rattle.sh_schedules_outcomes.specs.declared.outcome.Outcome.{Outcome}
 use Rattle.sh_schedules.proofs.exploring.count.Goals as goal
 
 pub returns : goal.returns

@@ -1,14 +1,14 @@
 use Rattle.std.proofs.Common.{◌≡◌, ℕ, List, [], length, nat_lt, sym, subst, arith}
 use Rattle.std.specs.List.{filter}
 use Rattle.sh_exec.specs.State.{start}
-use Rattle.sh_schedules.specs.Shell.{outcome_of, shell}
+use Rattle.sh_schedules_outcomes.specs.Shell.{outcome_of, shell}
 use Rattle.sh_schedules.specs.Paths.{IsAdvance}
-use Rattle.sh_schedules.specs.Stops.{AreStops}
+use Rattle.sh_schedules.specs.Checkpoints.{AreCheckpoints}
 use Rattle.sh_schedules.specs.Trying.{HasWalked, IsTrying, IsWithin}
-use Rattle.sh_schedules.specs.declared.found.Found.{Found}
+use Rattle.sh_schedules_outcomes.specs.declared.found.Found.{Found}
 use Rattle.sh_schedules.specs.declared.path.Turn.{Turn}
-use Rattle.sh_schedules.specs.declared.stops.Stop.{Stop}
-use Rattle.sh_schedules.proofs.Resuming.{stops_advance}
+use Rattle.sh_schedules.specs.declared.checkpoints.Checkpoint.{Checkpoint}
+use Rattle.sh_schedules.proofs.Resuming.{checkpoints_advance}
 use Rattle.sh_schedules.proofs.Walk.{explored, trying_first, trying_next}
 use Rattle.sh_schedules.proofs.exploring.try_all.Goals as goal
 
@@ -20,7 +20,7 @@ walks-init g c = (
       let k = c.args.bounds.preemptions in
       let s = start files c.args.settings.now in
       let first = trying_first w outcome_of k c.args.bounds.turns s c.args.shard in (
-        subst (λ (stops : List (Stop _)). AreStops w k s c.new-path.result.items stops) (sym c.requires.stops) tt,
+        subst (λ (checkpoints : List (Checkpoint _)). AreCheckpoints w k s c.new-path.result.items checkpoints) (sym c.requires.checkpoints) tt,
         subst (λ (path : List Turn). IsTrying w outcome_of k c.args.bounds.turns s c.args.shard path c.args.found.now.items 0) (sym c.new-path.ensures.items)
             (subst (λ (found : List Found). IsTrying w outcome_of k c.args.bounds.turns s c.args.shard [] found 0) (sym c.requires.found) first),
       ),
@@ -58,9 +58,9 @@ walks-preserved g c = (
       let tried = subst (HasWalked w outcome_of k c.args.bounds.turns s c.args.shard c.try_one.new.path.items c.try_one.new.found.items c.walks.tried) c.in-Some.is walked.0 in
       let all : length c.advance.new.path.items ≡ c.len.result = omega arith in
       let advanced = subst (IsAdvance c.try_one.new.path.items c.advance.new.path.items) c.if-not-branch.false c.in_ok-advance.ensures in (
-        subst (λ (stops : List (Stop _)). AreStops w k s c.advance.new.path.items stops) (sym c.forget.ensures)
-            (subst (λ (n : ℕ). AreStops w k s c.advance.new.path.items (filter (λ (stop : Stop _). nat_lt stop.taken n) c.try_one.new.stops.items)) all
-            (stops_advance w k s c.try_one.new.path.items c.advance.new.path.items c.try_one.new.stops.items advanced walked.1)),
+        subst (λ (checkpoints : List (Checkpoint _)). AreCheckpoints w k s c.advance.new.path.items checkpoints) (sym c.forget.ensures)
+            (subst (λ (n : ℕ). AreCheckpoints w k s c.advance.new.path.items (filter (λ (checkpoint : Checkpoint _). nat_lt checkpoint.taken n) c.try_one.new.checkpoints.items)) all
+            (checkpoints_advance w k s c.try_one.new.path.items c.advance.new.path.items c.try_one.new.checkpoints.items advanced walked.1)),
         trying_next w outcome_of k c.args.bounds.turns s c.args.shard c.try_one.new.path.items c.advance.new.path.items c.try_one.new.found.items c.in-Some.more tried advanced,
       ),
 )

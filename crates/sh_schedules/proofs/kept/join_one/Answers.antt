@@ -1,8 +1,8 @@
 use Rattle.std.proofs.Common.{ℕ, List, map, subst}
 use Rattle.sh_exec.specs.declared.event.Event.TheVariants.{Run}
 use Rattle.sh_exec.specs.State.{start}
-use Rattle.sh_schedules.specs.Found.{IsRetraced}
-use Rattle.sh_schedules.specs.Shell.{outcome_of, shell}
+use Rattle.sh_schedules_outcomes.specs.Found.{IsRetraced}
+use Rattle.sh_schedules_outcomes.specs.Shell.{outcome_of, shell}
 use Rattle.sh_schedules.proofs.kept.join_one.Goals as goal
 
 pub returns-in-Ok-clause-joined : goal.returns-in-Ok-clause-joined

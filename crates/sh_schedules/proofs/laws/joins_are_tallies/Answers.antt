@@ -1,4 +1,4 @@
-use Rattle.sh_schedules.specs.Shell.{outcome_of, shell}
+use Rattle.sh_schedules_outcomes.specs.Shell.{outcome_of, shell}
 use Rattle.sh_schedules.proofs.Joining.{tally_both}
 use Rattle.sh_schedules.proofs.laws.joins_are_tallies.Goals as goal
 

@@ -1,4 +1,4 @@
-use Rattle.sh_schedules.specs.Shell.{outcome_of, shell}
+use Rattle.sh_schedules_outcomes.specs.Shell.{outcome_of, shell}
 use Rattle.sh_schedules.proofs.Keeping.{kept_merged}
 use Rattle.sh_schedules.proofs.laws.kept_shards_are_an_exploration.Goals as goal
 

@@ -1,4 +1,4 @@
-use Rattle.sh_schedules.specs.Shell.{outcome_of, shell}
+use Rattle.sh_schedules_outcomes.specs.Shell.{outcome_of, shell}
 use Rattle.sh_schedules.proofs.Merging.{merged}
 use Rattle.sh_schedules.proofs.laws.merged_shards_are_an_exploration.Goals as goal
 

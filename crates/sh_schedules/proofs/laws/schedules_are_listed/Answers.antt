@@ -1,6 +1,6 @@
-use Rattle.sh_schedules.specs.Shell.{shell}
+use Rattle.sh_schedules_outcomes.specs.Shell.{shell}
 use Rattle.sh_schedules.proofs.Apart.{once}
-use Rattle.sh_schedules.proofs.Orders.{complete, sound}
+use Rattle.sh_schedules_outcomes.proofs.Orders.{complete, sound}
 use Rattle.sh_schedules.proofs.laws.schedules_are_listed.Goals as goal
 
 pub returns-clause-all : goal.returns-clause-all

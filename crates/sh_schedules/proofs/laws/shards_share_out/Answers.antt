@@ -1,4 +1,4 @@
-use Rattle.sh_schedules.specs.Shell.{shell}
+use Rattle.sh_schedules_outcomes.specs.Shell.{shell}
 use Rattle.sh_schedules.proofs.Sharing.{numbers_add, of_no_other, of_one}
 use Rattle.sh_schedules.proofs.laws.shards_share_out.Goals as goal
 

@@ -1,5 +1,5 @@
 use Rattle.std.proofs.Common.{◌≡◌, IfOk, Option, sym, ◌∙◌, subst, arith}
-use Rattle.sh_schedules.specs.Shell.{shell}
+use Rattle.sh_schedules_outcomes.specs.Shell.{shell}
 use Rattle.sh_schedules.specs.declared.parting.Parting.{Parting}
 use Rattle.sh_schedules.proofs.Partings.{parts_later, parts_no_more, parts_not_here, parts_now, stands_first}
 use Rattle.sh_schedules.proofs.parting.parting_in.Goals as goal

@@ -1,7 +1,7 @@
 use Rattle.std.proofs.Common.{◌≡◌, ◌+◌, length}
 use Rattle.sh_exec.specs.State.{State}
 use Rattle.sh_world.specs.World.{WorldStands}
-use Rattle.sh_schedules.specs.Shell.{shell}
+use Rattle.sh_schedules_outcomes.specs.Shell.{shell}
 use Rattle.sh_schedules.proofs.Partings.{StandsHere}
 use Rattle.sh_schedules.proofs.parting.parting_in.Given as goal
 

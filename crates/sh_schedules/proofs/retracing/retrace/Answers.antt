@@ -1,8 +1,8 @@
 use Rattle.std.proofs.Common.{ap, subst, ◌∙◌}
 use Rattle.sh_exec.specs.State.{start}
-use Rattle.sh_schedules.specs.Found.{IsRetraced}
+use Rattle.sh_schedules_outcomes.specs.Found.{IsRetraced}
 use Rattle.sh_schedules.specs.Paths.{events_of}
-use Rattle.sh_schedules.specs.Shell.{outcome_of, shell}
+use Rattle.sh_schedules_outcomes.specs.Shell.{outcome_of, shell}
 use Rattle.sh_schedules.proofs.retracing.retrace.Goals as goal
 
 -- the world that was begun comes to that by the turns of the path

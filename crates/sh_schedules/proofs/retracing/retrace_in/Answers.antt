@@ -1,6 +1,6 @@
 use Rattle.std.proofs.Common.{refl, arith}
 use Rattle.sh_schedules.specs.Paths.{events_of}
-use Rattle.sh_schedules.specs.Shell.{shell}
+use Rattle.sh_schedules_outcomes.specs.Shell.{shell}
 use Rattle.sh_schedules.proofs.Stack.{spare_spent}
 use Rattle.sh_schedules.proofs.retracing.retrace_in.Goals as goal
 

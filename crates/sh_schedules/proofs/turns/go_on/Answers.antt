@@ -1,9 +1,9 @@
 use Rattle.std.proofs.Common.{◌≡◌, ℕ, List, [], ◌∷◌, Option, Some, None, length, take, ap, ◌∙◌, subst}
 use Rattle.std.proofs.Math.Seq.{take-append_seam, take-length}
-use Rattle.sh_schedules.specs.Schedules.{Machine, last_place}
-use Rattle.sh_schedules.specs.Choices.{choices, choices_by}
+use Rattle.sh_schedules_outcomes.specs.Schedules.{Machine, last_place}
+use Rattle.sh_schedules_outcomes.specs.Choices.{choices, choices_by}
 use Rattle.sh_schedules.specs.Shards.{reaching}
-use Rattle.sh_schedules.specs.Shell.{shell}
+use Rattle.sh_schedules_outcomes.specs.Shell.{shell}
 use Rattle.sh_schedules.specs.Trying.{IsFirstChoice}
 use Rattle.sh_schedules.specs.declared.path.Turn.{Turn}
 use Rattle.sh_schedules.specs.declared.shard.Shard.{Shard}

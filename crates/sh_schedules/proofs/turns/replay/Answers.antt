@@ -1,5 +1,5 @@
 use Rattle.std.proofs.Common.{arith}
-use Rattle.sh_schedules.specs.Shell.{shell}
+use Rattle.sh_schedules_outcomes.specs.Shell.{shell}
 use Rattle.sh_schedules.proofs.Resuming.{none_taken}
 use Rattle.sh_schedules.proofs.turns.replay.Goals as goal
 

@@ -1,5 +1,5 @@
 use Rattle.std.proofs.Common.{ℕ, List, take, ap, ◌∙◌}
-use Rattle.sh_schedules.specs.Shell.{shell}
+use Rattle.sh_schedules_outcomes.specs.Shell.{shell}
 use Rattle.sh_schedules.proofs.turns.runnable.Goals as goal
 
 pub returns-clause-pids : goal.returns-clause-pids

@@ -2,8 +2,8 @@ use Rattle.std.proofs.Common.{◌≤◌, List, length, take, sym, subst, take_al
 use Rattle.sh_exec.specs.declared.event.Event.TheVariants.{Run}
 use Rattle.sh_world.specs.World.{WorldStands}
 use Rattle.sh_schedules.specs.Paths.{events_of}
-use Rattle.sh_schedules.specs.Schedules.{end_of}
-use Rattle.sh_schedules.specs.Shell.{shell}
+use Rattle.sh_schedules_outcomes.specs.Schedules.{end_of}
+use Rattle.sh_schedules_outcomes.specs.Shell.{shell}
 use Rattle.sh_schedules.specs.Trying.{HasTaken, IsAfter}
 use Rattle.sh_schedules.specs.declared.path.Turn.{Turn}
 use Rattle.sh_schedules.proofs.Walk.{taken_more}

@@ -1,4 +1,4 @@
-use Rattle.sh_schedules.specs.Shell.{shell}
+use Rattle.sh_schedules_outcomes.specs.Shell.{shell}
 use Rattle.sh_schedules.proofs.Walk.{is_after}
 use Rattle.sh_schedules.proofs.turns.take_turn.Goals as goal
 

@@ -1,4 +1,4 @@
-use Rattle.sh_schedules.specs.Shell.{shell}
+use Rattle.sh_schedules_outcomes.specs.Shell.{shell}
 use Rattle.sh_schedules.proofs.turns.turn_of.Goals as goal
 
 pub returns : goal.returns

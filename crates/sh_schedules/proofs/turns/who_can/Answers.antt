@@ -1,6 +1,6 @@
 use Rattle.std.proofs.Common.{◌≡◌, ℕ, List, Option, length, ap, ◌∙◌}
-use Rattle.sh_schedules.specs.Schedules.{place_of}
-use Rattle.sh_schedules.specs.Shell.{shell}
+use Rattle.sh_schedules_outcomes.specs.Schedules.{place_of}
+use Rattle.sh_schedules_outcomes.specs.Shell.{shell}
 use Rattle.sh_schedules.proofs.turns.who_can.Goals as goal
 
 count_is : (count : ℕ) (pids these those : List ℕ) → count ≡ length pids → pids ≡ these → these ≡ those → count ≡ length those

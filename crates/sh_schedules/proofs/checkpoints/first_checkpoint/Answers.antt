@@ -1,0 +1,10 @@
+use Rattle.std.proofs.Common.{arith}
+use Rattle.sh_schedules_outcomes.specs.Shell.{shell}
+use Rattle.sh_schedules.proofs.Resuming.{none_taken}
+use Rattle.sh_schedules.proofs.checkpoints.first_checkpoint.Goals as goal
+
+pub returns : goal.returns
+returns g c = λ s path h. record {
+  within = omega arith;
+  has_taken = none_taken (shell g.S.Stock.meaning) c.args.most s c.args.world c.first_standing.result h c.first_standing.ensures.left c.first_standing.ensures.mark;
+}

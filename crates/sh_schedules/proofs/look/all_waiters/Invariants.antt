@@ -1,6 +1,0 @@
-use Rattle.std.proofs.Common.{◌≡◌, map, take}
-use Rattle.sh_schedules.specs.Shell.{waiter_of}
-use Rattle.sh_schedules.proofs.look.all_waiters.Given as goal
-
-abbrev pub invariant-loop-task : goal.invariant-loop-task
-invariant-loop-task g l = l.waiters ≡ map waiter_of (take l.task-index l.tasks)

@@ -1,0 +1,4 @@
+pub mod Orders
+pub mod Preferring
+pub mod Tally
+pub mod Looking

@@ -1,0 +1,6 @@
+pub mod Schedules
+pub mod Choices
+pub mod Preference
+pub mod Found
+pub mod Refusals
+pub mod Shell
